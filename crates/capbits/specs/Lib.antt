@@ -1,0 +1,4 @@
+pub mod Table
+pub mod Caps
+pub mod SetNumbers
+pub mod Caller

@@ -1,0 +1,50 @@
+//! One capability, and the part of an inode that it covers.
+
+/// A part of an inode's metadata, with a lock of its own ("Capabilities in CephFS" in the Ceph documentation).
+#[derive(Clone, Copy, PartialEq, Eq, PartialOrd, Ord, Hash, Debug)]
+pub enum Part {
+    /// Auth: owner, group and mode.
+    A,
+    /// Link: the link count.
+    L,
+    /// Xattr: extended attributes.
+    X,
+    /// File: file data with size and times.
+    F,
+}
+
+/// One of the fifteen capabilities that a client may hold on an inode ("Capabilities in CephFS" in the Ceph
+/// documentation). A capital names the part that is covered, and a small letter what the client may do with it.
+#[derive(Clone, Copy, PartialEq, Eq, PartialOrd, Ord, Hash, Debug)]
+pub enum Cap {
+    /// Pin: the inode stays known to the client.
+    P,
+    /// Owner, group and mode, shared: the client may read and keep them.
+    As,
+    /// Owner, group and mode, exclusive: the client may also change them.
+    Ax,
+    /// The link count, shared.
+    Ls,
+    /// The link count, exclusive.
+    Lx,
+    /// Extended attributes, shared.
+    Xs,
+    /// Extended attributes, exclusive.
+    Xx,
+    /// Size and times, shared.
+    Fs,
+    /// Size and times, exclusive.
+    Fx,
+    /// The client may keep file data that it read.
+    Fc,
+    /// The client may read file data.
+    Fr,
+    /// The client may write file data.
+    Fw,
+    /// The client may keep file data that it is to write.
+    Fb,
+    /// The client may extend the file.
+    Fa,
+    /// The client may do lazy io.
+    Fl,
+}

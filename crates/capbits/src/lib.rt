@@ -1,0 +1,18 @@
+//! The small types that every crate of the server speaks of: the numbers that name clients and inodes, a caller
+//! with its groups, a file mode, the capabilities and sets of them, and the numbers that a text writes.
+#![tactic(auto)]
+
+mod bits;
+mod caller;
+mod cap;
+mod ids;
+mod mode;
+mod numbers;
+mod set;
+
+pub use caller::{Caller, Groups, MAX_GROUPS, TooManyGroups};
+pub use cap::{Cap, Part};
+pub use ids::{ClientId, Ino, PassId, Ticket};
+pub use mode::{MAX_MODE, Mode};
+pub use numbers::{read_mode, read_u32, read_u64, split_digits};
+pub use set::CapSet;

@@ -1,0 +1,131 @@
+//! The numbers that the words of a text write: ASCII digits and nothing else, so no sign and no white space.
+ghost use Rattle.std.specs.Prelude.{◌≡◌, ◌^◌, ◌<◌, ◌≤◌, ◌++◌, length, IfSome, slice_get};
+ghost use Rattle.std.specs.Char.{digit_value};
+ghost use Rattle.std.specs.Option.{SomeIff};
+ghost use Rattle.std.specs.Str.Parse.{AllDigits, IsNumeral, digits_value};
+
+use crate::mode::Mode;
+
+/// The longest front of ASCII decimal digits, and the rest. Either may be empty.
+pub fn split_digits(text: &[u8]) -> (&[u8], &[u8])
+    ensures whole { text.now ≡ result.0.now ++ result.1.now }
+    ensures digits { AllDigits 10 result.0.now }
+
+    // The rest is empty, or begins with a byte that is no digit.
+    ensures longest { IfSome (slice_get result.1.now 0) (λ byte. 10 ≤ digit_value byte) }
+{
+    let end = text
+        .iter()
+        .position(|byte| !byte.is_ascii_digit())
+        .unwrap_or(text.len());
+    text.split_at(end)
+}
+
+/// The number that one or more decimal digits write, if it fits 32 bits. Leading zeros are allowed.
+pub fn read_u32(text: &[u8]) -> Option<u32>
+    ensures { SomeIff result
+        (IsNumeral 10 text.now × (digits_value 10 text.now < 2 ^ 32))
+        (digits_value 10 text.now) }
+{
+    u32::try_from(read_u64(text)?).ok()
+}
+
+/// The number that one or more decimal digits write, if it fits 64 bits. Leading zeros are allowed.
+pub fn read_u64(text: &[u8]) -> Option<u64>
+    ensures { SomeIff result
+        (IsNumeral 10 text.now × (digits_value 10 text.now < 2 ^ 64))
+        (digits_value 10 text.now) }
+{
+    read_number(text, 10)
+}
+
+/// The mode that one to four octal digits write.
+#[tactic(auto, using(crate::proofs::Digits::mode_fits))]
+pub fn read_mode(text: &[u8]) -> Option<Mode>
+    ensures { SomeIff result (IsNumeral 8 text.now × (length text.now ≤ 4)) (digits_value 8 text.now) }
+{
+    if text.len() > 4 {
+        return None;
+    }
+    Mode::new(u16::try_from(read_number(text, 8)?).ok()?)
+}
+
+// The number that the digits of a radix write, if it fits 64 bits.
+#[tactic(auto, using(crate::proofs::Digits::numbers))]
+fn read_number(text: &[u8], radix: u32) -> Option<u64>
+    requires low { 2 ≤ radix }
+    requires high { radix ≤ 36 }
+    ensures { SomeIff result
+        (IsNumeral radix text.now × (digits_value radix text.now < 2 ^ 64))
+        (digits_value radix text.now) }
+{
+    let mut number: u64 = 0;
+    for byte in text {
+        let digit = char::from(*byte).to_digit(radix)?;
+        number = number
+            .checked_mul(u64::from(radix))?
+            .checked_add(u64::from(digit))?;
+    }
+    if text.is_empty() { None } else { Some(number) }
+}
+
+#[cfg(test)]
+mod tests {
+    use super::*;
+
+    #[test]
+    fn reads_decimal_numbers(rt: HostRuntime) {
+        let cases = [
+            ("0", Some(0), Some(0)),
+            ("4294967295", Some(4294967295), Some(4294967295)),
+            ("4294967296", None, Some(4294967296)),
+            (
+                "00000000000000000000004294967295",
+                Some(4294967295),
+                Some(4294967295),
+            ),
+            ("18446744073709551615", None, Some(18446744073709551615)),
+            ("18446744073709551616", None, None),
+            ("99999999999999999999999999", None, None),
+            ("", None, None),
+            ("+5", None, None),
+            ("-5", None, None),
+            (" 5", None, None),
+            ("5 ", None, None),
+            ("5a", None, None),
+        ];
+        for (text, short, long) in cases {
+            assert_eq!(rt; read_u32(text.as_bytes()), short, "at {text}");
+            assert_eq!(rt; read_u64(text.as_bytes()), long, "at {text}");
+        }
+    }
+
+    #[test]
+    fn reads_octal_modes(rt: HostRuntime) {
+        for (text, bits) in [("0644", 0o644), ("644", 0o644), ("0", 0), ("7777", 0o7777)] {
+            assert_eq!(rt;
+                read_mode(text.as_bytes()).map(Mode::bits),
+                Some(bits),
+                "at {text}"
+            );
+        }
+        for text in ["", "00644", "10000", "8", "0o64", "+64", "64 "] {
+            assert_eq!(rt; read_mode(text.as_bytes()), None, "at {text}");
+        }
+    }
+
+    #[test]
+    fn splits_where_the_digits_end(rt: HostRuntime) {
+        let cases = [
+            ("1,2", "1", ",2"),
+            ("12", "12", ""),
+            ("a1", "", "a1"),
+            ("", "", ""),
+        ];
+        for (text, digits, rest) in cases {
+            let (front, back) = split_digits(text.as_bytes());
+            assert_eq!(rt; front, digits.as_bytes(), "at {text}");
+            assert_eq!(rt; back, rest.as_bytes(), "at {text}");
+        }
+    }
+}

@@ -1,0 +1,18 @@
+-- Names of file systems, and paths as lists of names.
+use Rattle.std.specs.Prelude.{ℕ, ◌==◌, ◌<◌, ◌≤◌, nat_lt, nat_le, ◌&&◌, Bool, List, length, filter, IsTrue}
+use Rattle.std.specs.List.{list_all, slice_split}
+use Rattle.capspec.specs.Bytes.{is_fs_name_byte}
+
+-- 1 to 64 bytes, each one that the name of a file system may have
+pub record IsFsName (bytes : List ℕ) : Type 0 where
+  pub some : 0 < length bytes
+  pub short : length bytes ≤ 64
+  pub all_in : IsTrue (list_all is_fs_name_byte bytes)
+
+-- the names between the slashes; two slashes in a row, or one at an end, have no name between them
+abbrev pub names_of : List ℕ → List (List ℕ)
+names_of path = filter (λ name. nat_lt 0 (length name)) (slice_split (λ b. b == 47) path)
+
+-- at most 32 names of at most 255 bytes each
+abbrev pub are_few_and_short : List (List ℕ) → Bool
+are_few_and_short names = nat_le (length names) 32 && list_all (λ name. nat_le (length name) 255) names

@@ -1,0 +1,67 @@
+//! A grant as far as its text was read.
+
+use crate::flags::Flags4;
+use crate::fsname::FsName;
+use crate::gids::Gids;
+use crate::grant::Grant;
+use crate::items::Key;
+use crate::path::GrantPath;
+use std::alloc::{AllocError, Global};
+
+/// What the items of one grant have said so far. It takes no memory: its path is still a part of the text.
+#[derive(Drop)]
+pub(crate) struct Draft<'a> {
+    pub flags: Flags4,
+    pub fsname: Option<Option<FsName>>,
+    pub path: Option<&'a [u8]>,
+    pub uid: Option<u32>,
+    pub gids: Option<Gids>,
+    pub root_squash: bool,
+}
+
+impl<'a> Draft<'a> {
+    ghost use Rattle.std.specs.Prelude.{◌≡◌, IfOk};
+    ghost use Rattle.capspec.specs.Draft.{has, no_items, grant_of};
+
+    /// A grant with these flags, before its items.
+    pub fn new(flags: Flags4) -> Draft<'a>
+        ensures { result ≡ no_items flags }
+    {
+        Draft {
+            flags,
+            fsname: None,
+            path: None,
+            uid: None,
+            gids: None,
+            root_squash: false,
+        }
+    }
+
+    /// Whether an item with this key was read.
+    pub fn has(&self, key: Key) -> bool
+        ensures { result ≡ has self.now key }
+    {
+        match key {
+            Key::FsName => self.fsname.is_some(),
+            Key::Path => self.path.is_some(),
+            Key::Uid => self.uid.is_some(),
+            Key::Gids => self.gids.is_some(),
+            Key::RootSquash => self.root_squash,
+        }
+    }
+
+    /// The grant, with its path copied out of the text.
+    pub fn into_grant(self, alloc: Global) -> Result<Grant, AllocError>
+        ensures { IfOk result (λ grant. grant ≡ grant_of self.entry) }
+    {
+        let path = GrantPath::from_text(alloc, self.path.unwrap_or(&[]))?;
+        Ok(Grant {
+            flags: self.flags,
+            fsname: self.fsname.flatten(),
+            path,
+            uid: self.uid,
+            gids: self.gids.unwrap_or_default(),
+            root_squash: self.root_squash,
+        })
+    }
+}

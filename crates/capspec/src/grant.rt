@@ -1,0 +1,95 @@
+//! Grants, and lists of them.
+
+use crate::fault::{SpecFault, SpecFaultKind};
+use crate::flags::Flags4;
+use crate::fsname::FsName;
+use crate::gids::Gids;
+use crate::path::GrantPath;
+use std::alloc::AllocError;
+use std::marker::Model;
+
+/// How many grants a text may have.
+pub const MAX_GRANTS: usize = 16;
+
+/// What one grant allows, and to whom.
+#[derive(Debug, Drop)]
+pub struct Grant {
+    /// Reading, and of writing, `ceph.` attributes and snapshots what the flag word names.
+    pub flags: Flags4,
+    /// The file system that the grant is for; none is every file system.
+    pub fsname: Option<FsName>,
+    /// The directory that the grant is for, with all below it.
+    pub path: GrantPath,
+    /// The one uid that the grant is for, whose owner, group and mode bits then decide too; none is every caller.
+    pub uid: Option<u32>,
+    /// The groups that count for the grant; none where it lists none.
+    pub gids: Gids,
+    /// Whether the grant lets root, by uid or by gid, do no more than read.
+    pub root_squash: bool,
+}
+
+/// The grants of one client, at most 16, in the order of their text.
+#[derive(Debug, Drop)]
+pub struct Grants {
+    grants: Vec<Grant>,
+}
+
+impl Model for Grants {
+    ghost use Rattle.std.specs.Prelude.{List, length, ◌≤◌};
+    ghost use Rattle.capspec.specs.declared.grant.Grant.{Grant};
+
+    ghost Value = { List Grant };
+
+    ghost view = { λ list. list.grants.items };
+
+    ghost invariant = { λ list. length list.grants.items ≤ 16 };
+}
+
+impl Grants {
+    ghost use Rattle.std.specs.Prelude.{◌≡◌, ◌≤◌, ◌↔◌, [], length, slice_get, IsTrue, IsErr, IfOk, IsOkAnd, MatchResult};
+    ghost use Rattle.capspec.specs.declared.fault.SpecFaultKind.TheVariants.{NoMemory};
+    ghost use Rattle.std.specs.Option.{option_copied};
+
+    // The grants that a text gave, if there was memory for them.
+    pub(crate) fn from_gathered(grants: Result<Vec<Grant>, AllocError>) -> Result<Grants, SpecFault>
+        requires { IfOk grants (λ grants. length grants.items ≤ MAX_GRANTS) }
+        ensures { MatchResult result (λ kept. IsOkAnd grants (λ grants. kept ≡ grants.items)) (λ fault. (fault ≡ record { at = 0; kind = NoMemory }) × IsErr grants) }
+    {
+        match grants {
+            Ok(grants) => Ok(Grants { grants }),
+            Err(AllocError) => Err(SpecFault {
+                at: 0,
+                kind: SpecFaultKind::NoMemory,
+            }),
+        }
+    }
+
+    /// How many grants there are: at most 16.
+    pub fn len(&self) -> usize
+        ensures length { result ≡ length self.now }
+        ensures few { length self.now ≤ 16 }
+    {
+        self.grants.len()
+    }
+
+    /// Whether there is no grant: then nothing is allowed.
+    pub fn is_empty(&self) -> bool
+        ensures { IsTrue result ↔ (self.now ≡ []) }
+    {
+        self.grants.is_empty()
+    }
+
+    /// The grant at a place, the first at 0.
+    pub fn get(&self, place: usize) -> Option<&Grant>
+        ensures { option_copied result ≡ slice_get self.now place }
+    {
+        self.grants.get(place)
+    }
+
+    /// The grants, in the order of their text.
+    pub fn as_slice(&self) -> &[Grant]
+        ensures { result.now ≡ self.now }
+    {
+        self.grants.as_slice()
+    }
+}

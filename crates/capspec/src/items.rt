@@ -1,0 +1,107 @@
+//! The items of a grant: the words behind its flags.
+
+ghost use Rattle.std.specs.Prelude.{◌≡◌, ◌++◌, IsTrue, IfOk, IfSome};
+ghost use Rattle.capspec.specs.Bytes.{ends_word};
+ghost use Rattle.capspec.specs.Draft.{AddsValue, AddsItem};
+ghost use Rattle.capspec.specs.Items.{key_text};
+
+use crate::bytes::{ends_word, strip};
+use crate::draft::Draft;
+use crate::fault::SpecFaultKind;
+use crate::values::{read_fsname, read_gids, read_path, read_uid};
+
+/// What an item speaks of.
+#[derive(Clone, Copy, Debug, PartialEq, Eq)]
+pub(crate) enum Key {
+    FsName,
+    Path,
+    Uid,
+    Gids,
+    RootSquash,
+}
+
+impl Key {
+    const ALL: [Key; 5] = [Key::FsName, Key::Path, Key::Uid, Key::Gids, Key::RootSquash];
+
+    // How the word of an item begins that has this key; that of `root_squash` is the whole word.
+    fn text(self) -> &'static [u8]
+        ensures { result.now ≡ key_text self }
+    {
+        match self {
+            Key::FsName => b"fsname=",
+            Key::Path => b"path=",
+            Key::Uid => b"uid=",
+            Key::Gids => b"gids=",
+            Key::RootSquash => b"root_squash",
+        }
+    }
+}
+
+// The key at the front of a text, and what stands behind it.
+fn split_key(text: &[u8]) -> Option<(Key, &[u8])>
+    ensures parts { IfSome result (λ found. text.now ≡ key_text found.0 ++ found.1.now) }
+    ensures whole { IfSome result (λ found. found.0 ≡ Key.RootSquash → IsTrue (ends_word found.1.now)) }
+{
+    for key in Key::ALL {
+        if let Some(value) = strip(text, key.text())
+            && (key != Key::RootSquash || ends_word(value))
+        {
+            return Some((key, value));
+        }
+    }
+    None
+}
+
+// What is wrong with a word that begins with no key.
+fn other_word(text: &[u8]) -> SpecFaultKind {
+    match strip(text, b"network") {
+        Some(rest) if ends_word(rest) => SpecFaultKind::LeftOut,
+        _ => SpecFaultKind::BadItem,
+    }
+}
+
+// Reads the value behind a key.
+fn read_value<'a>(draft: &mut Draft<'a>, key: Key, text: &'a [u8]) -> Result<&'a [u8], SpecFaultKind>
+    requires { key ≡ Key.RootSquash → IsTrue (ends_word text.now) }
+    ensures { IfOk result (λ rest. AddsValue draft.old key text.now rest.now draft.new) }
+{
+    match key {
+        Key::FsName => {
+            let (name, rest) = read_fsname(text)?;
+            draft.fsname = Some(name);
+            Ok(rest)
+        }
+        Key::Path => {
+            let (path, rest) = read_path(text)?;
+            draft.path = Some(path);
+            Ok(rest)
+        }
+        Key::Uid => {
+            let (uid, rest) = read_uid(text)?;
+            draft.uid = Some(uid);
+            Ok(rest)
+        }
+        Key::Gids => {
+            let (gids, rest) = read_gids(text)?;
+            draft.gids = Some(gids);
+            Ok(rest)
+        }
+        Key::RootSquash => {
+            draft.root_squash = true;
+            Ok(text)
+        }
+    }
+}
+
+/// Reads the item at the front of a text into a draft, and gives the text behind it.
+pub(crate) fn read_item<'a>(draft: &mut Draft<'a>, text: &'a [u8]) -> Result<&'a [u8], SpecFaultKind>
+    ensures { IfOk result (λ rest. AddsItem draft.old text.now rest.now draft.new) }
+{
+    let Some((key, value)) = split_key(text) else {
+        return Err(other_word(text));
+    };
+    if draft.has(key) {
+        return Err(SpecFaultKind::Twice);
+    }
+    read_value(draft, key, value)
+}

@@ -1,0 +1,134 @@
+//! Worked texts with their grants, and with their first faults.
+
+use crate::{Flags4, FsName, Grants, SpecFault, SpecFaultKind, read_grants};
+use std::alloc::Global;
+use std::process::Abort;
+use std::test::Fail;
+
+fn fault_in(alloc: Global, text: &str) -> Option<(SpecFaultKind, usize)> {
+    match read_grants(alloc, text.as_bytes()) {
+        Ok(_) => None,
+        Err(SpecFault { at, kind }) => Some((kind, at)),
+    }
+}
+
+#[test]
+fn each_fault_has_its_place(rt: HostRuntime) {
+    use SpecFaultKind::*;
+    let cases = [
+        ("", Empty, 0),
+        ("   ", Empty, 3),
+        ("allow rwsp", BadFlags, 6),
+        ("allow rwf", LeftOut, 6),
+        ("allow rw network 10.0.0.0/8", LeftOut, 9),
+        ("allow rw path=\"/a", OpenQuote, 9),
+        ("allow r,", NotAllow, 8),
+        ("allow rw gids=1", GidsWithoutUid, 9),
+        ("allow rw uid=1 uid=2", Twice, 15),
+        ("allow rw uid=4294967296", BadNumber, 9),
+        ("allow rw path=/a*", BadPath, 9),
+        ("allow rw pa", BadItem, 9),
+        ("allow rw path=", BadPath, 9),
+        ("allow rw path=/a,", NotAllow, 17),
+        ("allow rw path=/a, allow", BadFlags, 23),
+        ("allo", NotAllow, 0),
+        ("allow rw path=\"/a\"b", BadItem, 9),
+        ("allow rw uid=1 gids=1,", NotAllow, 22),
+        ("allow", BadFlags, 5),
+        ("allow  ", BadFlags, 7),
+        ("allow r, ", NotAllow, 9),
+        ("allow rff", BadFlags, 6),
+        ("allow path=\"a b\"", BadFlags, 6),
+        ("allow rw fsname=* fsname=a", Twice, 18),
+        ("allow rw root_squash root_squashed", BadItem, 21),
+        ("allow rw gids=1 root_squash", GidsWithoutUid, 9),
+        ("allow rw uid=1 gids=1,2x", BadNumber, 15),
+        ("allow rw uid=1 gids=", BadNumber, 15),
+        ("allow rw path='/a\"", OpenQuote, 9),
+        ("allow rw path=\"\"", BadPath, 9),
+    ];
+    for (text, kind, at) in cases {
+        assert_eq!(rt; fault_in(rt.alloc(), text), Some((kind, at)), "at {text}");
+    }
+}
+
+#[test]
+fn sixteen_is_the_most(rt: HostRuntime) -> Result<(), Fail> {
+    let mut grants = String::new(rt.alloc());
+    let mut gids = String::from_str(rt.alloc(), "allow r uid=1 gids=0")?;
+    let mut names = String::from_str(rt.alloc(), "allow r path=")?;
+    for _ in 0..16 {
+        assert_eq!(rt; fault_in(rt.alloc(), gids.as_str()), None);
+        assert_eq!(rt; fault_in(rt.alloc(), names.as_str()).is_some(), grants.is_empty());
+        grants.push_str("allow r,")?;
+        gids.push_str(",1")?;
+        names.push_str("/a//b")?;
+    }
+    assert_eq!(rt; fault_in(rt.alloc(), grants.as_str()), Some((SpecFaultKind::TooMany, 128)));
+    grants.push_str("allow r")?;
+    assert_eq!(rt; fault_in(rt.alloc(), grants.as_str()), Some((SpecFaultKind::TooMany, 128)));
+    assert_eq!(rt; fault_in(rt.alloc(), gids.as_str()), Some((SpecFaultKind::TooMany, 14)));
+    assert_eq!(rt; fault_in(rt.alloc(), names.as_str()), None);
+    names.push_str("/c")?;
+    assert_eq!(rt; fault_in(rt.alloc(), names.as_str()), Some((SpecFaultKind::BadPath, 8)));
+    Ok(())
+}
+
+#[test]
+fn a_name_has_at_most_255_bytes(rt: HostRuntime) -> Result<(), Fail> {
+    let mut text = String::from_str(rt.alloc(), "allow r path=/")?;
+    for _ in 0..255 {
+        text.push_str("n")?;
+    }
+    assert_eq!(rt; fault_in(rt.alloc(), text.as_str()), None);
+    text.push_str("n")?;
+    assert_eq!(rt; fault_in(rt.alloc(), text.as_str()), Some((SpecFaultKind::BadPath, 8)));
+    Ok(())
+}
+
+fn has_path(rt: &impl Abort, grants: &Grants, place: usize, names: &[&[u8]], other: &[&[u8]]) {
+    let grant = grants.get(place).expect(rt, "a grant");
+    assert!(rt; grant.path.is_prefix_of(names), "the path of grant {place}");
+    assert!(rt; !grant.path.is_prefix_of(other), "no other path of grant {place}");
+}
+
+#[test]
+fn grants_have_their_fields(rt: HostRuntime) -> Result<(), Fail> {
+    let text = b" allow rw path=/a//b/ uid=7 gids=50,0051 fsname=cephfs;allow * path='a b,c' root_squash , allow r\n";
+    let grants = read_grants(rt.alloc(), text)?;
+    assert_eq!(rt; grants.len(), 3);
+    assert!(rt; grants.get(3).is_none());
+    has_path(&rt, &grants, 0, &[b"a", b"b", b"c"], &[b"a"]);
+    has_path(&rt, &grants, 1, &[b"a b,c"], &[b"a b"]);
+    assert!(rt; grants.get(2).expect(&rt, "a grant").path.is_prefix_of(&[]));
+    let first = grants.get(0).expect(&rt, "a grant");
+    assert_eq!(rt; first.flags, Flags4::Rw);
+    assert_eq!(rt; first.fsname, FsName::read(b"cephfs"));
+    assert_eq!(rt; first.uid, Some(7));
+    assert_eq!(rt; first.gids.as_slice(), [50, 51].as_slice());
+    assert!(rt; !first.root_squash);
+    let second = grants.get(1).expect(&rt, "a grant");
+    assert_eq!(rt; second.flags, Flags4::Rwps);
+    assert_eq!(rt; second.fsname, None);
+    assert_eq!(rt; second.uid, None);
+    assert!(rt; second.root_squash);
+    Ok(())
+}
+
+#[test]
+fn a_prefix_is_one_of_names(rt: HostRuntime) -> Result<(), Fail> {
+    let grants = read_grants(rt.alloc(), b"allow rw path=/foo")?;
+    has_path(&rt, &grants, 0, &[b"foo"], &[b"food"]);
+    has_path(&rt, &grants, 0, &[b"foo", b"d"], &[b"d", b"foo"]);
+    has_path(&rt, &grants, 0, &[b"foo"], &[]);
+    Ok(())
+}
+
+#[test]
+fn a_file_system_has_a_name(rt: HostRuntime) {
+    assert!(rt; FsName::read(b"a.B_9-").is_some());
+    for bad in [b"".as_slice(), b"a b", b"a/b", b"*", &[b'a'; 65]] {
+        assert!(rt; FsName::read(bad).is_none());
+    }
+    assert!(rt; FsName::read(&[b'a'; 64]).is_some());
+}
