@@ -1,12 +1,12 @@
 -- Items that are added to a draft, one after the other.
-use Rattle.std.proofs.Common.{◌≡◌, ℕ, Bool, true, false, List, [], ◌∷◌, ◌++◌, Result, Ok, Err, refl, sym, ap, subst, ◌∙◌, append_assoc, Bor}
+use Rattle.std.proofs.Common.{◌≡◌, ℕ, false, List, [], ◌++◌, Result, Ok, Err, refl, sym, ap, subst, ◌∙◌, append_assoc, Bor}
 use Rattle.std.specs.Prelude.{IfOk, IsTrue}
 use Rattle.capspec.specs.declared.draft.Draft.{Draft}
 use Rattle.capspec.specs.declared.fault.SpecFaultKind.{SpecFaultKind}
 use Rattle.capspec.specs.declared.items.Key.{Key}
-use Rattle.capspec.specs.Bytes.{ends_word, Takes, TakesWord}
+use Rattle.capspec.specs.Bytes.{ends_word, TakesWord}
 use Rattle.capspec.specs.Names.{names_of}
-use Rattle.capspec.specs.Items.{Item, key_of, key_text, IsPath, IsValue, IsItem}
+use Rattle.capspec.specs.Items.{key_text, IsPath, IsValue}
 use Rattle.capspec.specs.Items.Item.{Path, RootSquash}
 use Rattle.capspec.specs.Draft.{has, AddsValue, AddsItem}
 
@@ -22,11 +22,14 @@ pub adds_item : (old new : Draft) (key : Key) (text value : List ℕ) (r : Resul
 adds_item old new key text value (Ok rest) parts unseen added = record {
   item = added.item;
   new_key = subst (λ (k : Key). has old k ≡ false) (sym added.key_is) unseen;
-  takes = (record {
-    front = key_text key ++ added.takes.0.front;
-    parts = parts ∙ ap (λ (s : List ℕ). key_text key ++ s) added.takes.0.parts ∙ sym (append_assoc (key_text key) added.takes.0.front rest.now);
-    holds = (added.takes.0.front, ap (λ (k : Key). key_text k ++ added.takes.0.front) (sym added.key_is), added.takes.0.holds);
-  }, added.takes.1);
+  takes = (
+    record {
+      front = key_text key ++ added.takes.0.front;
+      parts = parts ∙ ap (λ (s : List ℕ). key_text key ++ s) added.takes.0.parts ∙ sym (append_assoc (key_text key) added.takes.0.front rest.now);
+      holds = (added.takes.0.front, ap (λ (k : Key). key_text k ++ added.takes.0.front) (sym added.key_is), added.takes.0.holds);
+    },
+    added.takes.1,
+  );
   adds = added.adds;
 }
 adds_item old new key text value (Err kind) parts unseen added = tt

@@ -1,6 +1,6 @@
 -- Whole grants, read from the left.
-use Rattle.std.proofs.Common.{◌≡◌, ℕ, ◌+◌, ◌<◌, ◌≤◌, suc, Bool, true, false, not, ◌||◌, ◌&&◌, List, [], ◌∷◌, ◌++◌, length, Result, Ok, Err, refl, sym, ap, subst, ◌∙◌, append_assoc, arith, length-append, inl, inr}
-use Rattle.std.specs.Prelude.{IsTrue, IsFalse, IfOk, IsOkAnd, IsErr, MatchResult, codes}
+use Rattle.std.proofs.Common.{◌≡◌, ℕ, ◌+◌, ◌<◌, ◌≤◌, true, false, not, ◌||◌, List, [], ◌∷◌, ◌++◌, length, Result, Ok, Err, refl, sym, ap, subst, ◌∙◌, append_assoc, arith, length-append, inl, inr}
+use Rattle.std.specs.Prelude.{IsTrue, IfOk, IsOkAnd, MatchResult, codes}
 use Rattle.std.specs.Global.{Vec}
 use Rattle.std.specs.declared.alloc.AllocError.{AllocError}
 use Rattle.std.proofs.lemmas.Bool.{true≢false, and_parts, not-true}
@@ -11,7 +11,7 @@ use Rattle.capspec.specs.declared.fault.SpecFault.{SpecFault}
 use Rattle.capspec.specs.declared.flags.Flags4.{Flags4}
 use Rattle.capspec.specs.declared.flags.Flags4.TheVariants.{R, Rw, Rwp, Rws, Rwps}
 use Rattle.capspec.specs.declared.grant.Grant.{Grant}
-use Rattle.capspec.specs.Bytes.{is_white, is_mark, is_in, ends_word, ends_grant, SplitsWhile}
+use Rattle.capspec.specs.Bytes.{is_white, is_mark, ends_word, ends_grant, SplitsWhile}
 use Rattle.capspec.specs.Draft.{no_items, grant_of}
 use Rattle.capspec.specs.Flags.{IsFlags}
 use Rattle.capspec.specs.Grants.{IsGrant, Reads}
@@ -45,7 +45,12 @@ reads_grant text before first behind gap second word items rest flags draft cut 
       front = before ++ (codes "allow" ++ (gap ++ (word ++ (read.words ++ read.after))));
       parts = cut.parts ∙ ap (λ (t : List ℕ). before ++ t) allow ∙ ap f cut_gap.parts ∙ ap (λ (t : List ℕ). f (gap ++ t)) (cut_word.parts ∙ ap (λ (t : List ℕ). word ++ t) read.parts) ∙ simp append_assoc;
       is_grant = record {
-        before = before; gap = gap; flags = word; words = read.words; after = read.after; items = read.items;
+        before = before;
+        gap = gap;
+        flags = word;
+        words = read.words;
+        after = read.after;
+        items = read.items;
         parts = refl;
         blank_before = cut.all_in;
         is_gap = (cut_gap.all_in, flags_gap behind gap second word items ends cut_gap cut_word (flags_are_long word flags are_flags));
@@ -98,8 +103,8 @@ has_more_grants text rest after more mark count kept new draft so_far read after
 reads_all : (text rest : List ℕ) (count : ℕ) (kept : Result (Vec Grant) AllocError) (draft : Draft) (so_far : HasGrants text rest count kept) → ReadsGrant rest draft [] → count < 16 → Reads text (so_far.found ++ grant_of draft ∷ [])
 reads_all text rest count kept draft so_far read few = record {
   are_grants = subst (λ (t : List ℕ). AreSeparated is_mark IsGrant t (so_far.found ++ grant_of draft ∷ []))
-    (sym (so_far.parts ∙ ap (λ (t : List ℕ). so_far.done ++ t) (read.parts ∙ append-nil read.front)))
-    (joined is_mark IsGrant so_far.done read.front so_far.found (grant_of draft) so_far.before read.is_grant);
+      (sym (so_far.parts ∙ ap (λ (t : List ℕ). so_far.done ++ t) (read.parts ∙ append-nil read.front)))
+      (joined is_mark IsGrant so_far.done read.front so_far.found (grant_of draft) so_far.before read.is_grant);
   few = omega (arith, length-append so_far.found (grant_of draft ∷ []), so_far.counted);
 }
 

@@ -70,9 +70,11 @@ more_gids text rest after more all_fit pushed gid old new so_far taken comma roo
 pub all_gids : (text rest after : List ℕ) (all_fit pushed : Bool) (gid : ℕ) (old new : List ℕ) → HasGids text rest all_fit old → Takes (λ digits. IsNumber digits gid) rest after → ends_word after ≡ true
     → IsTrue pushed ↔ (length old < 16) → OnTrue pushed (new ≡ old ++ gid ∷ []) → OnFalse pushed (new ≡ old) → (all_fit && pushed) ≡ true → TakesWord (λ value. IsValue value (Gids new)) text after
 all_gids text rest after all_fit pushed gid old new so_far taken ends room added full fit =
-    let same : new ≡ so_far.numbers ++ gid ∷ [] = kept_more all_fit pushed gid old new so_far.numbers so_far.kept added fit in
-    (record {
-      front = so_far.done ++ taken.front;
-      parts = so_far.parts ∙ ap (λ (s : List ℕ). so_far.done ++ s) taken.parts ∙ sym (append_assoc so_far.done taken.front after);
-      holds = (subst (λ (ns : List ℕ). AreSeparated is_comma IsNumber (so_far.done ++ taken.front) ns) (sym same) (joined is_comma IsNumber so_far.done taken.front so_far.numbers gid so_far.before taken.holds), few_more pushed gid old new room added full so_far.few);
-    }, ends)
+    let same : new ≡ so_far.numbers ++ gid ∷ [] = kept_more all_fit pushed gid old new so_far.numbers so_far.kept added fit in (
+      record {
+        front = so_far.done ++ taken.front;
+        parts = so_far.parts ∙ ap (λ (s : List ℕ). so_far.done ++ s) taken.parts ∙ sym (append_assoc so_far.done taken.front after);
+        holds = (subst (λ (ns : List ℕ). AreSeparated is_comma IsNumber (so_far.done ++ taken.front) ns) (sym same) (joined is_comma IsNumber so_far.done taken.front so_far.numbers gid so_far.before taken.holds), few_more pushed gid old new room added full so_far.few);
+      },
+      ends,
+    )

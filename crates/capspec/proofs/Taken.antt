@@ -1,12 +1,11 @@
 -- Values of items, taken from the front of a text.
-use Rattle.std.proofs.Common.{◌≡◌, ℕ, Bool, true, false, not, eqb, List, [], ◌∷◌, ◌++◌, Result, Ok, Err, refl, sym, ap, subst, ◌∙◌, inl, inr, append_assoc, Bor}
+use Rattle.std.proofs.Common.{◌≡◌, ℕ, true, false, eqb, List, [], ◌∷◌, ◌++◌, Result, Ok, Err, refl, sym, ap, subst, ◌∙◌, inl, inr, append_assoc, Bor}
 use Rattle.std.specs.Prelude.{IfOk}
 use Rattle.std.specs.List.{list_any}
 use Rattle.std.proofs.lemmas.Bool.{not-false, eqb-true}
-use Rattle.capspec.specs.declared.bytes.ByteSet.{ByteSet}
 use Rattle.capspec.specs.declared.bytes.ByteSet.TheVariants.{AllBut}
 use Rattle.capspec.specs.declared.fault.SpecFaultKind.{SpecFaultKind}
-use Rattle.capspec.specs.Bytes.{is_in, begins, ends_word, SplitsWhile, Takes, TakesWord}
+use Rattle.capspec.specs.Bytes.{is_in, begins, ends_word, SplitsWhile, TakesWord}
 use Rattle.capspec.specs.Items.{is_control, IsQuotedBy, IsPlainOrQuoted}
 
 -- a path up to its closing quote

@@ -1,6 +1,6 @@
 -- The items of a grant as words, read from the left.
-use Rattle.std.proofs.Common.{◌≡◌, ℕ, ◌+◌, ◌<◌, ◌≤◌, Bool, true, false, not, ◌||◌, ◌&&◌, List, [], ◌∷◌, ◌++◌, length, Option, Some, None, refl, sym, ap, subst, ◌∙◌, append_assoc, arith, length-append}
-use Rattle.std.specs.Prelude.{IsTrue, IsFalse, filter_map, unwrap_or, is_some, is_none, if◌then◌else◌}
+use Rattle.std.proofs.Common.{◌≡◌, ℕ, ◌<◌, ◌≤◌, Bool, true, false, not, ◌||◌, ◌&&◌, List, [], ◌∷◌, ◌++◌, length, Option, Some, None, refl, sym, ap, subst, ◌∙◌, append_assoc, arith, length-append}
+use Rattle.std.specs.Prelude.{IsTrue, filter_map, unwrap_or, is_some, if◌then◌else◌}
 use Rattle.std.specs.Option.{option_map, option_to_list}
 use Rattle.std.proofs.lemmas.Bool.{true≢false}
 use Rattle.std.proofs.lemmas.List.{append-nil}
@@ -8,10 +8,10 @@ use Rattle.std.proofs.lemmas.List.Elements.{filter_map-append}
 use Rattle.capspec.specs.declared.bytes.ByteSet.TheVariants.{White}
 use Rattle.capspec.specs.declared.draft.Draft.{Draft}
 use Rattle.capspec.specs.declared.flags.Flags4.{Flags4}
-use Rattle.capspec.specs.Bytes.{is_white, is_mark, ends_word, ends_grant, SplitsWhile, Takes, TakesWord}
+use Rattle.capspec.specs.Bytes.{is_white, is_mark, ends_word, ends_grant, SplitsWhile}
 use Rattle.capspec.specs.Draft.{no_items, has, names_in, Adds, AddsItem, grant_of}
-use Rattle.capspec.specs.Grants.{fsname_in, path_in, uid_in, gids_in, root_squash_in, IsSaidOnce, AreItemsOf, IsBlank, IsGap, AreWordsOf}
-use Rattle.capspec.specs.Items.{Item, key_of, key_text, IsItem}
+use Rattle.capspec.specs.Grants.{fsname_in, path_in, uid_in, gids_in, root_squash_in, IsSaidOnce, AreItemsOf, IsGap, AreWordsOf}
+use Rattle.capspec.specs.Items.{Item, key_of, IsItem}
 use Rattle.capspec.specs.Items.Item.{FsName, Path, Uid, Gids, RootSquash}
 use Rattle.capspec.specs.Names.{names_of}
 use Rattle.capspec.specs.Parts.{ReadsItems}
@@ -157,9 +157,14 @@ pub record IsDrafting (old : Draft) (text rest gids_item : List ℕ) (draft : Dr
 
 pub drafting_none : (old : Draft) (text : List ℕ) → old ≡ no_items old.flags → IsTrue (ends_word text) → IsDrafting old text text text old
 drafting_none old text new ends = record {
-  words = []; items = []; parts = refl; are_words = refl;
+  words = [];
+  items = [];
+  parts = refl;
+  are_words = refl;
   has_items = subst (HasItems []) (sym new) (has_none old.flags);
-  same_flags = refl; ends = ends; within = omega arith;
+  same_flags = refl;
+  ends = ends;
+  within = omega arith;
 }
 
 adds_flags : (old new : Draft) (item : Item) → Adds old item new → new.flags ≡ old.flags

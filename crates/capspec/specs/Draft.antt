@@ -1,6 +1,6 @@
 -- What the items of a grant have said so far.
-use Rattle.std.specs.Prelude.{◌≡◌, ℕ, Bool, true, false, Option, Some, None, List, [], ◌∷◌, filter_map, unwrap_or, is_some, IsFalse}
-use Rattle.std.specs.Option.{option_map, option_to_list}
+use Rattle.std.specs.Prelude.{◌≡◌, ℕ, Bool, true, false, Option, Some, None, List, [], unwrap_or, is_some, IsFalse}
+use Rattle.std.specs.Option.{option_map}
 use Rattle.capspec.specs.declared.draft.Draft.{Draft}
 use Rattle.capspec.specs.declared.flags.Flags4.{Flags4}
 use Rattle.capspec.specs.declared.grant.Grant.{Grant}

@@ -1,5 +1,5 @@
 -- What the readers of a grant's parts take from the front of a text.
-use Rattle.std.specs.Prelude.{◌≡◌, ℕ, List, [], ◌∷◌, ◌++◌, IsTrue}
+use Rattle.std.specs.Prelude.{◌≡◌, ℕ, List, ◌++◌, IsTrue}
 use Rattle.capspec.specs.declared.draft.Draft.{Draft}
 use Rattle.capspec.specs.Bytes.{ends_grant}
 use Rattle.capspec.specs.Draft.{grant_of}

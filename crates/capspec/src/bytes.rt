@@ -29,7 +29,8 @@ impl ByteSet {
     {
         let is_white = matches!(byte, b' ' | b'\t' | b'\n');
         let is_mark = matches!(byte, b',' | b';');
-        let is_fs_name_byte = matches!(byte, b'A'..=b'Z' | b'a'..=b'z' | b'0'..=b'9' | b'_' | b'.' | b'-');
+        let is_fs_name_byte =
+            matches!(byte, b'A'..=b'Z' | b'a'..=b'z' | b'0'..=b'9' | b'_' | b'.' | b'-');
         match self {
             ByteSet::White => is_white,
             ByteSet::FsName => is_fs_name_byte,

@@ -61,7 +61,11 @@ fn other_word(text: &[u8]) -> SpecFaultKind {
 }
 
 // Reads the value behind a key.
-fn read_value<'a>(draft: &mut Draft<'a>, key: Key, text: &'a [u8]) -> Result<&'a [u8], SpecFaultKind>
+fn read_value<'a>(
+    draft: &mut Draft<'a>,
+    key: Key,
+    text: &'a [u8],
+) -> Result<&'a [u8], SpecFaultKind>
     requires { key ≡ Key.RootSquash → IsTrue (ends_word text.now) }
     ensures { IfOk result (λ rest. AddsValue draft.old key text.now rest.now draft.new) }
 {
@@ -94,7 +98,10 @@ fn read_value<'a>(draft: &mut Draft<'a>, key: Key, text: &'a [u8]) -> Result<&'a
 }
 
 /// Reads the item at the front of a text into a draft, and gives the text behind it.
-pub(crate) fn read_item<'a>(draft: &mut Draft<'a>, text: &'a [u8]) -> Result<&'a [u8], SpecFaultKind>
+pub(crate) fn read_item<'a>(
+    draft: &mut Draft<'a>,
+    text: &'a [u8],
+) -> Result<&'a [u8], SpecFaultKind>
     ensures { IfOk result (λ rest. AddsItem draft.old text.now rest.now draft.new) }
 {
     let Some((key, value)) = split_key(text) else {

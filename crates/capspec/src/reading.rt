@@ -119,7 +119,11 @@ fn read_grant(text: &[u8]) -> Result<(Draft<'_>, &[u8]), Refusal>
 }
 
 // Adds a grant to those so far, while there is memory.
-fn gather(alloc: Global, grants: Result<Vec<Grant>, AllocError>, draft: Draft<'_>) -> Result<Vec<Grant>, AllocError>
+fn gather(
+    alloc: Global,
+    grants: Result<Vec<Grant>, AllocError>,
+    draft: Draft<'_>,
+) -> Result<Vec<Grant>, AllocError>
     ensures { IfOk result (λ new. IsOkAnd grants (λ old. new.items ≡ old.items ++ grant_of draft.entry ∷ [])) }
 {
     let mut grants = grants?;

@@ -59,18 +59,33 @@ fn sixteen_is_the_most(rt: HostRuntime) -> Result<(), Fail> {
     let mut names = String::from_str(rt.alloc(), "allow r path=")?;
     for _ in 0..16 {
         assert_eq!(rt; fault_in(rt.alloc(), gids.as_str()), None);
-        assert_eq!(rt; fault_in(rt.alloc(), names.as_str()).is_some(), grants.is_empty());
+        assert_eq!(rt;
+            fault_in(rt.alloc(), names.as_str()).is_some(),
+            grants.is_empty()
+        );
         grants.push_str("allow r,")?;
         gids.push_str(",1")?;
         names.push_str("/a//b")?;
     }
-    assert_eq!(rt; fault_in(rt.alloc(), grants.as_str()), Some((SpecFaultKind::TooMany, 128)));
+    assert_eq!(rt;
+        fault_in(rt.alloc(), grants.as_str()),
+        Some((SpecFaultKind::TooMany, 128))
+    );
     grants.push_str("allow r")?;
-    assert_eq!(rt; fault_in(rt.alloc(), grants.as_str()), Some((SpecFaultKind::TooMany, 128)));
-    assert_eq!(rt; fault_in(rt.alloc(), gids.as_str()), Some((SpecFaultKind::TooMany, 14)));
+    assert_eq!(rt;
+        fault_in(rt.alloc(), grants.as_str()),
+        Some((SpecFaultKind::TooMany, 128))
+    );
+    assert_eq!(rt;
+        fault_in(rt.alloc(), gids.as_str()),
+        Some((SpecFaultKind::TooMany, 14))
+    );
     assert_eq!(rt; fault_in(rt.alloc(), names.as_str()), None);
     names.push_str("/c")?;
-    assert_eq!(rt; fault_in(rt.alloc(), names.as_str()), Some((SpecFaultKind::BadPath, 8)));
+    assert_eq!(rt;
+        fault_in(rt.alloc(), names.as_str()),
+        Some((SpecFaultKind::BadPath, 8))
+    );
     Ok(())
 }
 
@@ -82,19 +97,26 @@ fn a_name_has_at_most_255_bytes(rt: HostRuntime) -> Result<(), Fail> {
     }
     assert_eq!(rt; fault_in(rt.alloc(), text.as_str()), None);
     text.push_str("n")?;
-    assert_eq!(rt; fault_in(rt.alloc(), text.as_str()), Some((SpecFaultKind::BadPath, 8)));
+    assert_eq!(rt;
+        fault_in(rt.alloc(), text.as_str()),
+        Some((SpecFaultKind::BadPath, 8))
+    );
     Ok(())
 }
 
 fn has_path(rt: &impl Abort, grants: &Grants, place: usize, names: &[&[u8]], other: &[&[u8]]) {
     let grant = grants.get(place).expect(rt, "a grant");
     assert!(rt; grant.path.is_prefix_of(names), "the path of grant {place}");
-    assert!(rt; !grant.path.is_prefix_of(other), "no other path of grant {place}");
+    assert!(rt;
+        !grant.path.is_prefix_of(other),
+        "no other path of grant {place}"
+    );
 }
 
 #[test]
 fn grants_have_their_fields(rt: HostRuntime) -> Result<(), Fail> {
-    let text = b" allow rw path=/a//b/ uid=7 gids=50,0051 fsname=cephfs;allow * path='a b,c' root_squash , allow r\n";
+    let text =
+        b" allow rw path=/a//b/ uid=7 gids=50,0051 fsname=cephfs;allow * path='a b,c' root_squash , allow r\n";
     let grants = read_grants(rt.alloc(), text)?;
     assert_eq!(rt; grants.len(), 3);
     assert!(rt; grants.get(3).is_none());
