@@ -1,0 +1,36 @@
+-- What kinds of access there are.
+use Rattle.std.specs.Prelude.{ℕ, Bool, true, false, Option, Some, None}
+use Rattle.capgrant.specs.declared.access.Access.{Access}
+use Rattle.capgrant.specs.declared.access.Access.TheVariants.{Read, SetVxattr, Snapshot, Chmod, Chown, Chgrp}
+
+-- to read, and so to change nothing
+abbrev pub is_read : Access → Bool
+is_read Read = true
+is_read access = false
+
+-- to set or remove an attribute whose name begins with `ceph.`
+abbrev pub is_set_vxattr : Access → Bool
+is_set_vxattr SetVxattr = true
+is_set_vxattr access = false
+
+-- to make or remove a snapshot
+abbrev pub is_snapshot : Access → Bool
+is_snapshot Snapshot = true
+is_snapshot access = false
+
+-- to change the mode, the owner or the group
+abbrev pub changes_attr : Access → Bool
+changes_attr Chmod = true
+changes_attr (Chown uid) = true
+changes_attr (Chgrp gid) = true
+changes_attr access = false
+
+-- the owner that a Chown gives the inode
+abbrev pub new_owner : Access → Option ℕ
+new_owner (Chown uid) = Some uid
+new_owner access = None
+
+-- the group that a Chgrp gives the inode
+abbrev pub new_group : Access → Option ℕ
+new_group (Chgrp gid) = Some gid
+new_group access = None

@@ -1,0 +1,6 @@
+pub mod Rule
+pub mod Access
+pub mod Class
+pub mod Question
+pub mod Failing
+pub mod Verdict

@@ -1,0 +1,19 @@
+//! Who may do what: the grants of a client judged against an inode, by eleven rules tested in order.
+#![tactic(auto)]
+
+mod access;
+mod answer;
+mod class;
+mod policy;
+mod question;
+mod rule;
+mod rules;
+
+#[cfg(test)]
+mod tests;
+
+pub use access::{Access, Attr};
+pub use answer::Verdict;
+pub use policy::verdict;
+pub use rule::Rule;
+pub use rules::Rules;

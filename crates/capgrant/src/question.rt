@@ -1,0 +1,209 @@
+//! The rules of a grant, tested on one question.
+ghost use Rattle.std.specs.Prelude.{◌≡◌};
+ghost use Rattle.std.specs.List.{list_any};
+ghost use Rattle.capbits.specs.Caller.{gids_of};
+ghost use Rattle.capgrant.specs.Question.{listed_gids, contains};
+
+use crate::access::{Access, Attr};
+use crate::class::Class;
+use crate::rule::Rule;
+use capbits::Caller;
+use capspec::{FsName, Grant};
+use std::marker::Model;
+
+/// What is asked of each grant: whether, on this file system, this caller may make this access to an inode.
+#[derive(Drop)]
+pub(crate) struct Question<'a> {
+    pub(crate) fs: &'a FsName,
+    pub(crate) caller: &'a Caller,
+    /// The names of the inode's path, from the root down.
+    pub(crate) path: &'a [&'a [u8]],
+    pub(crate) attr: &'a Attr,
+    pub(crate) access: Access,
+}
+
+impl<'a> Model for Question<'a> {
+    ghost use Rattle.capgrant.specs.Question.{Question as Asked, question};
+
+    ghost Value = { Asked };
+
+    ghost view = { λ q. question q.fs.now q.caller.now q.path.now q.attr.now q.access };
+}
+
+impl Question<'_> {
+    ghost use Rattle.std.specs.Prelude.{◌≡◌};
+    ghost use Rattle.capgrant.specs.Access.{is_read};
+    ghost use Rattle.capgrant.specs.Question.{class_of};
+    ghost use Rattle.capgrant.specs.Failing.{fails_fsname, fails_uid, fails_gids, fails_path, fails_no_write, fails_root_squash, fails_no_p, fails_no_s, fails_not_owner, fails_not_own_group, fails_mode_bits, first_failing};
+
+    /// The first rule by which the grant fails, if it does not allow the access.
+    #[tactic(auto, unfolding(crate::specs::Failing::first_failing))]
+    pub(crate) fn first_failing(&self, grant: &Grant) -> Option<Rule>
+        ensures { result ≡ first_failing self.now grant.now }
+    {
+        if self.fails_fsname(grant) {
+            Some(Rule::FsName)
+        } else if self.fails_uid(grant) {
+            Some(Rule::Uid)
+        } else if self.fails_gids(grant) {
+            Some(Rule::Gids)
+        } else if self.fails_path(grant) {
+            Some(Rule::Path)
+        } else if self.fails_no_write(grant) {
+            Some(Rule::NoWrite)
+        } else if self.fails_root_squash(grant) {
+            Some(Rule::RootSquash)
+        } else if self.fails_no_p(grant) {
+            Some(Rule::NoP)
+        } else if self.fails_no_s(grant) {
+            Some(Rule::NoS)
+        } else if self.fails_not_owner(grant) {
+            Some(Rule::NotOwner)
+        } else if self.fails_not_own_group(grant) {
+            Some(Rule::NotOwnGroup)
+        } else if self.fails_mode_bits(grant) {
+            Some(Rule::ModeBits)
+        } else {
+            None
+        }
+    }
+
+    #[tactic(auto, unfolding(crate::specs::Failing::fails_fsname))]
+    fn fails_fsname(&self, grant: &Grant) -> bool
+        ensures { result ≡ fails_fsname self.now grant.now }
+    {
+        match &grant.fsname {
+            Some(name) => name.as_bytes() != self.fs.as_bytes(),
+            None => false,
+        }
+    }
+
+    #[tactic(auto, unfolding(crate::specs::Failing::fails_uid))]
+    fn fails_uid(&self, grant: &Grant) -> bool
+        ensures { result ≡ fails_uid self.now grant.now }
+    {
+        grant.uid.is_some_and(|uid| uid != self.caller.uid)
+    }
+
+    #[tactic(auto, using(crate::proofs::Listed::length_listed), unfolding(crate::specs::Failing::fails_gids))]
+    fn fails_gids(&self, grant: &Grant) -> bool
+        ensures { result ≡ fails_gids self.now grant.now }
+    {
+        !grant.gids.as_slice().is_empty() && !has_listed_gid(self.caller, grant)
+    }
+
+    #[tactic(auto, unfolding(crate::specs::Failing::fails_path))]
+    fn fails_path(&self, grant: &Grant) -> bool
+        ensures { result ≡ fails_path self.now grant.now }
+    {
+        !grant.path.is_prefix_of(self.path)
+    }
+
+    #[tactic(auto, unfolding(crate::specs::Failing::fails_no_write))]
+    fn fails_no_write(&self, grant: &Grant) -> bool
+        ensures { result ≡ fails_no_write self.now grant.now }
+    {
+        !self.is_read() && !grant.flags.has_w()
+    }
+
+    #[tactic(auto, unfolding(crate::specs::Failing::fails_root_squash))]
+    fn fails_root_squash(&self, grant: &Grant) -> bool
+        ensures { result ≡ fails_root_squash self.now grant.now }
+    {
+        !self.is_read() && grant.root_squash && (self.caller.uid == 0 || self.caller.gid == 0)
+    }
+
+    #[tactic(auto, unfolding(crate::specs::Failing::fails_no_p))]
+    fn fails_no_p(&self, grant: &Grant) -> bool
+        ensures { result ≡ fails_no_p self.now grant.now }
+    {
+        matches!(self.access, Access::SetVxattr) && !grant.flags.has_p()
+    }
+
+    #[tactic(auto, unfolding(crate::specs::Failing::fails_no_s))]
+    fn fails_no_s(&self, grant: &Grant) -> bool
+        ensures { result ≡ fails_no_s self.now grant.now }
+    {
+        matches!(self.access, Access::Snapshot) && !grant.flags.has_s()
+    }
+
+    #[tactic(auto, unfolding(crate::specs::Failing::fails_not_owner))]
+    fn fails_not_owner(&self, grant: &Grant) -> bool
+        ensures { result ≡ fails_not_owner self.now grant.now }
+    {
+        let is_owner = self.caller.uid == self.attr.uid;
+        let is_refused = match self.access {
+            Access::Chmod | Access::Chgrp(_) => !is_owner,
+            Access::Chown(uid) => !is_owner || uid != self.caller.uid,
+            Access::Read | Access::Write | Access::SetVxattr | Access::Snapshot => false,
+        };
+        grant.uid.is_some() && is_refused
+    }
+
+    #[tactic(auto, unfolding(crate::specs::Failing::fails_not_own_group))]
+    fn fails_not_own_group(&self, grant: &Grant) -> bool
+        ensures { result ≡ fails_not_own_group self.now grant.now }
+    {
+        match self.access {
+            Access::Chgrp(gid) => grant.uid.is_some() && !is_listed_gid(self.caller, grant, gid),
+            _ => false,
+        }
+    }
+
+    #[tactic(auto, unfolding(crate::specs::Failing::fails_mode_bits))]
+    fn fails_mode_bits(&self, grant: &Grant) -> bool
+        ensures { result ≡ fails_mode_bits self.now grant.now }
+    {
+        if grant.uid.is_none() {
+            return false;
+        }
+        let needed = match self.access {
+            Access::Read => self.class(grant).read_bit(),
+            Access::Write | Access::SetVxattr | Access::Snapshot => self.class(grant).write_bit(),
+            Access::Chmod | Access::Chown(_) | Access::Chgrp(_) => return false,
+        };
+        self.attr.mode.bits() & needed == 0
+    }
+
+    fn is_read(&self) -> bool
+        ensures { result ≡ is_read self.now.access }
+    {
+        matches!(self.access, Access::Read)
+    }
+
+    // Which bits of the inode's mode speak of the caller.
+    fn class(&self, grant: &Grant) -> Class
+        ensures { result ≡ class_of self.now grant.now }
+    {
+        if self.caller.uid == self.attr.uid {
+            Class::Owner
+        } else if is_listed_gid(self.caller, grant, self.attr.gid) {
+            Class::Group
+        } else {
+            Class::Other
+        }
+    }
+}
+
+// Whether the grant lists one of the caller's gids.
+fn has_listed_gid(caller: &Caller, grant: &Grant) -> bool
+    ensures { result ≡ list_any (contains grant.now.gids) (gids_of caller.now) }
+{
+    let listed = grant.gids.as_slice();
+    listed.contains(&caller.gid) || contains_any(listed, caller.groups.as_slice())
+}
+
+// Whether one of the gids is listed.
+fn contains_any(listed: &[u32], gids: &[u32]) -> bool
+    ensures { result ≡ list_any (contains listed.now) gids.now }
+{
+    gids.iter().any(|gid| listed.contains(gid))
+}
+
+// Whether this is one of the caller's gids that the grant lists.
+#[tactic(auto, using(crate::proofs::Listed::contains_listed))]
+fn is_listed_gid(caller: &Caller, grant: &Grant, gid: u32) -> bool
+    ensures { result ≡ contains (listed_gids caller.now grant.now) gid }
+{
+    grant.gids.as_slice().contains(&gid) && caller.has_gid(gid)
+}
