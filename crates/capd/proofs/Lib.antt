@@ -1,0 +1,3 @@
+pub mod Pieces
+pub mod Printing
+pub mod FirstBad

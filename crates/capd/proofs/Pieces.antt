@@ -1,0 +1,93 @@
+-- Texts cut into pieces: what a loop over the pieces knows of the whole text.
+use Rattle.std.proofs.Common.{◌≡◌, ℕ, ◌+◌, ◌<◌, ◌≤◌, ◌^◌, suc, zero, Bool, true, false, not, ◌&&◌, eqb, leb, ltb, List, [], ◌∷◌, length, map, get_or, refl, sym, ap, subst, ◌∙◌, arith}
+use Rattle.std.proofs.lemmas.List.{length-map}
+use Rattle.std.specs.Prelude.{IsTrue, All}
+use Rattle.std.specs.Borrow.{Bor}
+use Rattle.std.specs.List.{list_all, AllByRecursion}
+use Rattle.std.specs.Str.Parse.{IsNumeral, digits_value}
+use Rattle.std.proofs.lemmas.Bool.Decides.{nat_tests}
+use Rattle.std.proofs.lemmas.Bool.{false≢true, and_parts, leb-true, le-leb}
+use Rattle.std.proofs.lemmas.List.Elements.{All-map, All-get_or, All-same, All-from_recursion, recursion_from_All}
+use Rattle.std.specs.Prelude.{Option, Some, None, Result, Ok, Err, IsOk}
+use Rattle.std.specs.Result.{result_ok}
+use Rattle.std.specs.Iterator.{Yields}
+use Rattle.std.proofs.lemmas.Iterator.{YieldsList}
+use Rattle.std.proofs.lemmas.Iterator.Consumers.{YieldsList-turn, YieldsList-end}
+use Rattle.std.proofs.lemmas.Simd.{map-map}
+use Rattle.capspec.specs.Names.{are_few_and_short}
+use Rattle.capd.specs.Values.{between_commas, groups_of, AreGroups, IsSmallNumeral}
+
+-- where the item of this turn of a loop stands in the list that the loop goes over
+pub item_of_turn : {S A B : Type 0} {steps : S → Option A → S → Type 0} {v : A → B} {s : S} {all : List B} (xs : List A) (t : S) (y : Yields steps s xs t) (r : Option A) (u : S) (x : A) → r ≡ Some x → steps t r u → YieldsList steps v s all → (length xs < length all) × (v x ≡ get_or all (length xs) (v x))
+item_of_turn xs t y r u x is step road = YieldsList-turn road xs t y r u x is step
+
+-- at its end a loop went over the whole list
+pub items_at_end : {S A B : Type 0} {steps : S → Option A → S → Type 0} {v : A → B} {s : S} {all : List B} (xs : List A) (t : S) (y : Yields steps s xs t) (r : Option A) (u : S) → r ≡ None → steps t r u → YieldsList steps v s all → map v xs ≡ all
+items_at_end xs t y r u is step road = (YieldsList-end road xs t y r u is step).0
+
+-- what can't take one more is full
+pub is_full : {T E : Type 0} (r : Result T E) (o : Option T) (n cap : ℕ) → o ≡ None → o ≡ result_ok r → (n < cap → IsOk r) → cap ≤ n
+is_full (Ok x) o n cap none ok room = let bad : None ≡ Some x = sym none ∙ ok in absurd (cc)
+is_full (Err e) o n cap none ok room = let full : n < cap → ⊥ = λ below. false≢true (room below) in omega (arith, full)
+
+-- one piece is no number
+pub not_groups : (text : List ℕ) (k : ℕ) (digits : List ℕ) → k < length (between_commas text) → digits ≡ get_or (between_commas text) k digits → ¬ (IsNumeral 10 digits × (digits_value 10 digits < 2 ^ 32)) → ¬ AreGroups text
+not_groups text k digits inside same unread groups =
+    let small : IsSmallNumeral digits = subst (λ (t : List ℕ). IsSmallNumeral t) (sym same) (groups.numbers k digits inside) in
+    unread (small.numeral, small.small)
+
+-- there are more than sixteen pieces
+pub many_groups : (text : List ℕ) (k : ℕ) → k < length (between_commas text) → 16 ≤ k → ¬ AreGroups text
+many_groups text k inside many groups = omega (arith, groups.few)
+
+-- every piece was read
+pub all_groups : (text : List ℕ) (pieces : List (Bor (List ℕ))) (gids : List ℕ) → map (λ t. t.now) pieces ≡ between_commas text → All (λ t. IsSmallNumeral t.now) pieces → length pieces ≤ 16
+    → gids ≡ map (λ t. digits_value 10 t.now) pieces → AreGroups text × (gids ≡ groups_of text)
+all_groups text pieces gids whole small few same =
+    let now : Bor (List ℕ) → List ℕ = λ t. t.now in
+    let count : length (between_commas text) ≡ length pieces = ap length (sym whole) ∙ length-map pieces now in (
+      record {
+        numbers = All-same IsSmallNumeral (between_commas text) (map now pieces) (sym whole) (All-map IsSmallNumeral now pieces small);
+        few = omega (arith, count);
+      },
+      same ∙ sym (map-map (digits_value 10) now pieces) ∙ ap (map (digits_value 10)) whole,
+    )
+
+abbrev is_short : List ℕ → Bool
+is_short name = leb (length name) 255
+
+list_all-true : (names : List (List ℕ)) → list_all is_short names ≡ true → AllByRecursion (λ name. length name ≤ 255) names
+list_all-true [] all = tt
+list_all-true (name ∷ names) all =
+    let both = and_parts (is_short name) (list_all is_short names) all in
+    (leb-true (length name) 255 both.0, list_all-true names both.1)
+
+true-list_all : (names : List (List ℕ)) → AllByRecursion (λ name. length name ≤ 255) names → list_all is_short names ≡ true
+true-list_all [] all = refl
+true-list_all (name ∷ names) all = rw (le-leb (length name) 255 all.0) (true-list_all names all.1)
+
+-- one name is too long
+pub long_name : (names : List (List ℕ)) (k : ℕ) (name : List ℕ) → k < length names → name ≡ get_or names k name → 255 < length name → ¬ IsTrue (are_few_and_short names)
+long_name names k name inside same long fit =
+    let both = and_parts (leb (length names) 32) (list_all is_short names) fit in
+    let short : length (get_or names k name) ≤ 255 = All-from_recursion (λ n. length n ≤ 255) names (list_all-true names both.1) k name inside in
+    omega (arith, short, ap length same)
+
+-- there are more than 32 names
+pub many_names : (names : List (List ℕ)) (k : ℕ) → k < length names → 32 ≤ k → ¬ IsTrue (are_few_and_short names)
+many_names names k inside many fit =
+    let both = and_parts (leb (length names) 32) (list_all is_short names) fit in
+    omega (arith, leb-true (length names) 32 both.0)
+
+-- every name was kept
+pub all_names : (names : List (List ℕ)) (pieces : List (Bor (List ℕ))) → map (λ t. t.now) pieces ≡ names → All (λ t. length t.now ≤ 255) pieces → length pieces ≤ 32 → IsTrue (are_few_and_short names)
+all_names names pieces whole short few =
+    let now : Bor (List ℕ) → List ℕ = λ t. t.now in
+    let P : List ℕ → Type 0 = λ name. length name ≤ 255 in
+    let count : length names ≤ 32 = omega (arith, ap length (sym whole) ∙ length-map pieces now) in
+    let all : All P names = All-same P names (map now pieces) (sym whole) (All-map P now pieces short) in
+    rw (le-leb (length names) 32 count) (true-list_all names (recursion_from_All P names all))
+
+-- the two ways to say that a name has bytes
+pub has_bytes : (name : List ℕ) → not (eqb (length name) 0) ≡ ltb 0 (length name)
+has_bytes name = grind (arith, nat_tests)

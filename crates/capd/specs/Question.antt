@@ -1,0 +1,69 @@
+-- A question on the command line, and its answer.
+use Rattle.std.specs.Prelude.{◌≡◌, ◌≢◌, ℕ, Option, List, [], ◌∷◌, ◌++◌, map, All}
+use Rattle.capbits.specs.declared.caller.Caller.{Caller}
+use Rattle.capspec.specs.declared.fault.SpecFaultKind.TheVariants as kinds
+use Rattle.capspec.specs.declared.grant.Grant.{Grant}
+use Rattle.capspec.specs.Grants.{Reads}
+use Rattle.capspec.specs.Items.{IsNumber}
+use Rattle.capgrant.specs.declared.access.Access.{Access as AnAccess}
+use Rattle.capgrant.specs.Question.{question}
+use Rattle.capgrant.specs.Verdict.{verdict_of}
+use Rattle.capd.specs.declared.fault.Fault.{Fault}
+use Rattle.capd.specs.declared.fault.Fault.TheVariants as faults
+use Rattle.capd.specs.declared.options.Opt.{Opt}
+use Rattle.capd.specs.declared.options.Opt.TheVariants.{Grants, Fs, Uid, Gid, Groups, Path, Owner, Group, Mode, Access}
+use Rattle.capd.specs.declared.question.Values.{Values}
+use Rattle.capd.specs.declared.question.Question.{Question}
+use Rattle.capd.specs.Access.{IsAccessWord}
+use Rattle.capd.specs.Line.{explain_text}
+use Rattle.capd.specs.Options.{all_options}
+use Rattle.capd.specs.Values.{IsFs, AreGroupsIf, ArePathNames, IsModeText}
+
+-- the names of the inode's path
+abbrev pub names_in : Question → List (List ℕ)
+names_in q = map (λ name. name.now) q.path.items
+
+-- the values ask the question
+pub record AsksFor (v : Values) (q : Question) : Type 0 where
+  pub grants : Reads v.grants.now q.grants
+  pub fs : IsFs v.fs.now q.fs
+  pub uid : IsNumber v.uid.now q.caller.uid
+  pub gid : IsNumber v.gid.now q.caller.gid
+  pub groups : AreGroupsIf v.groups q.caller.groups
+  pub path : ArePathNames v.path.now (names_in q)
+  pub owner : IsNumber v.owner.now q.attr.uid
+  pub group : IsNumber v.group.now q.attr.gid
+  pub mode : IsModeText v.mode.now q.attr.mode
+  pub access : IsAccessWord v.access.now q.access
+
+-- the value of the option means something
+abbrev pub IsGood : Values → Opt → Type 0
+IsGood v Grants = (grants : List Grant) × Reads v.grants.now grants
+IsGood v Fs = (name : List ℕ) × IsFs v.fs.now name
+IsGood v Uid = (uid : ℕ) × IsNumber v.uid.now uid
+IsGood v Gid = (gid : ℕ) × IsNumber v.gid.now gid
+IsGood v Groups = (gids : List ℕ) × AreGroupsIf v.groups gids
+IsGood v Path = (names : List (List ℕ)) × ArePathNames v.path.now names
+IsGood v Owner = (uid : ℕ) × IsNumber v.owner.now uid
+IsGood v Group = (gid : ℕ) × IsNumber v.group.now gid
+IsGood v Mode = (mode : ℕ) × IsModeText v.mode.now mode
+IsGood v Access = (access : AnAccess) × IsAccessWord v.access.now access
+
+-- the value of the option means nothing, and those that are tested before it are good
+pub record IsFirstBad (v : Values) (option : Opt) : Type 0 where
+  pub before : List Opt
+  pub after : List Opt
+  pub order : all_options ≡ before ++ option ∷ after
+  pub good_before : All (IsGood v) before
+  pub bad : ¬ IsGood v option
+
+-- why the values ask no question
+abbrev pub IsFaultIn : Values → Fault → Type 0
+IsFaultIn v (faults.Grants refused) = refused.kind ≢ kinds.NoMemory
+IsFaultIn v (faults.BadValue option) = IsFirstBad v option
+IsFaultIn v faults.NoMemory = Unit {0}
+IsFaultIn v faults.WriteFailed = ⊥
+
+-- the line that answers the question: what its grants say
+abbrev pub answer_text : Question → List ℕ
+answer_text q = explain_text q.access (names_in q) (verdict_of (question q.fs q.caller q.path.items q.attr q.access) q.grants)

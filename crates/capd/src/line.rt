@@ -1,0 +1,83 @@
+//! The line that answers a question.
+ghost use Rattle.std.specs.Prelude.{◌≡◌, ◌++◌, map, IfOk, IfSome, OnOk};
+ghost use Rattle.capd.specs.Line.{explain_text, path_text, failure_text, failures_text};
+
+use crate::access::AccessWord;
+use crate::fault::NoMemory;
+use capgrant::{Access, Rule, Verdict};
+use std::alloc::Global;
+use std::fmt::Display;
+use std::io::Write;
+
+/// The line that says what the verdict is on the access to the inode with this path (its names from the root down), and
+/// by which grant or rules. It has no line feed.
+pub fn explain_line(
+    alloc: Global,
+    access: Access,
+    path: &[&[u8]],
+    verdict: &Verdict,
+) -> Result<Vec<u8>, NoMemory>
+    ensures { IfOk result (λ line. line.items ≡ explain_text access (map (λ name. name.now) path.now) verdict.now) }
+{
+    let access = AccessWord(access);
+    let mut line = Vec::new(alloc);
+    match verdict {
+        Verdict::Allowed { grant } => {
+            print(&mut line, format_args!("allowed {access} "))?;
+            print_path(&mut line, path)?;
+            print(&mut line, format_args!(" grant {grant}"))?;
+        }
+        Verdict::Denied { rules } => {
+            print(&mut line, format_args!("denied {access} "))?;
+            print_path(&mut line, path)?;
+            print(&mut line, " ")?;
+            print_failures(&mut line, rules.as_slice())?;
+        }
+    }
+    Ok(line)
+}
+
+// Appends what a value prints. Only memory can be missing.
+fn print<D: Display + Drop>(line: &mut Vec<u8>, text: D) -> Result<(), NoMemory>
+    ensures { OnOk result (IfSome (D.output text) (λ bytes. line.new.items ≡ line.old.items ++ bytes)) }
+{
+    line.write_fmt(text).map_err(|_| NoMemory)
+}
+
+fn print_path(line: &mut Vec<u8>, path: &[&[u8]]) -> Result<(), NoMemory>
+    ensures { OnOk result (line.new.items ≡ line.old.items ++ path_text (map (λ name. name.now) path.now)) }
+{
+    if path.is_empty() {
+        line.push(b'/')?;
+    }
+    for name in path {
+        line.push(b'/')?;
+        line.extend_from_slice(name)?;
+    }
+    Ok(())
+}
+
+fn print_failures(line: &mut Vec<u8>, rules: &[Rule]) -> Result<(), NoMemory>
+    ensures { OnOk result (line.new.items ≡ line.old.items ++ failures_text rules.now) }
+{
+    if rules.is_empty() {
+        print(line, "no grants")?;
+    }
+    for (place, rule) in rules.iter().enumerate() {
+        if place > 0 {
+            print(line, ", ")?;
+        }
+        print_failure(line, place + 1, *rule)?;
+    }
+    Ok(())
+}
+
+fn print_failure(line: &mut Vec<u8>, number: usize, rule: Rule) -> Result<(), NoMemory>
+    ensures { OnOk result (line.new.items ≡ line.old.items ++ failure_text (number, rule)) }
+{
+    let rule_number = rule.number();
+    print(
+        line,
+        format_args!("grant {number} rule {rule_number} {rule}"),
+    )
+}

@@ -1,0 +1,124 @@
+//! What a command line asks.
+ghost use Rattle.std.specs.Prelude.{◌≡◌, ℕ, List, MatchResult};
+ghost use Rattle.capspec.specs.Items.{IsNumber};
+ghost use Rattle.capd.specs.Values.{AreGroupsIf};
+
+use crate::access::read_access;
+use crate::fault::{Fault, NoMemory};
+use crate::line::explain_line;
+use crate::lists::{MAX_NAMES, read_groups, split_path};
+use crate::options::Opt;
+use arrayvec::ArrayVec;
+use capbits::{Caller, Groups, read_mode, read_u32};
+use capgrant::{Access, Attr, verdict};
+use capspec::{FsName, Grants, read_grants};
+use std::alloc::Global;
+
+/// The values of the options as they stand on the command line.
+#[derive(Clone, Copy, Debug)]
+pub struct Values<'a> {
+    /// The client's grants.
+    pub grants: &'a str,
+    /// The name of the file system.
+    pub fs: &'a str,
+    /// The caller's uid.
+    pub uid: &'a str,
+    /// The caller's gid.
+    pub gid: &'a str,
+    /// The caller's other groups, if they are given.
+    pub groups: Option<&'a str>,
+    /// The place of the inode.
+    pub path: &'a str,
+    /// The inode's owner.
+    pub owner: &'a str,
+    /// The inode's group.
+    pub group: &'a str,
+    /// The inode's mode.
+    pub mode: &'a str,
+    /// What is asked for.
+    pub access: &'a str,
+}
+
+/// Whether these grants let a caller make an access to an inode.
+#[derive(Debug, Drop)]
+pub struct Question<'a> {
+    /// The grants of the client.
+    pub grants: Grants,
+    /// The file system of the inode.
+    pub fs: FsName,
+    /// Who asks.
+    pub caller: Caller,
+    /// The names of the inode's path, from the root down.
+    pub path: ArrayVec<&'a [u8], MAX_NAMES>,
+    /// The inode's owner, group and mode.
+    pub attr: Attr,
+    /// What is asked for.
+    pub access: Access,
+}
+
+impl<'a> Question<'a> {
+    ghost use Rattle.std.specs.Prelude.{◌≡◌, IfOk, IfErr};
+    ghost use Rattle.capd.specs.Question.{AsksFor, IsFaultIn, answer_text};
+
+    /// Reads the values, in the order of `Opt::ALL`, up to the first bad one.
+    pub fn read(alloc: Global, values: &Values<'a>) -> Result<Question<'a>, Fault>
+        ensures ok { IfOk result (AsksFor values.now) }
+        ensures err { IfErr result (IsFaultIn values.now) }
+    {
+        let grants = read_grants(alloc, values.grants.as_bytes())?;
+        let fs = FsName::read(values.fs.as_bytes()).ok_or(Fault::BadValue(Opt::Fs))?;
+        let caller = Caller {
+            uid: read_number(Opt::Uid, values.uid)?,
+            gid: read_number(Opt::Gid, values.gid)?,
+            groups: read_given_groups(values.groups)?,
+        };
+        let path = split_path(values.path.as_bytes()).ok_or(Fault::BadValue(Opt::Path))?;
+        let attr = Attr {
+            uid: read_number(Opt::Owner, values.owner)?,
+            gid: read_number(Opt::Group, values.group)?,
+            mode: read_mode(values.mode.as_bytes()).ok_or(Fault::BadValue(Opt::Mode))?,
+        };
+        let access = read_access(values.access.as_bytes()).ok_or(Fault::BadValue(Opt::Access))?;
+        Ok(Question {
+            grants,
+            fs,
+            caller,
+            path,
+            attr,
+            access,
+        })
+    }
+
+    /// The line that answers the question, without a line feed.
+    pub fn answer(&self, alloc: Global) -> Result<Vec<u8>, NoMemory>
+        ensures { IfOk result (λ line. line.items ≡ answer_text self.now) }
+    {
+        let path = self.path.as_slice();
+        let verdict = verdict(
+            &self.grants,
+            &self.fs,
+            &self.caller,
+            path,
+            &self.attr,
+            self.access,
+        );
+        explain_line(alloc, self.access, path, &verdict)
+    }
+}
+
+// The number that the value of an option writes.
+fn read_number(option: Opt, text: &str) -> Result<u32, Fault>
+    ensures { MatchResult result (IsNumber text.now) (λ fault. (fault ≡ Fault.BadValue option) × ((n : ℕ) → ¬ IsNumber text.now n)) }
+{
+    read_u32(text.as_bytes()).ok_or(Fault::BadValue(option))
+}
+
+// The groups that are given, or none.
+fn read_given_groups(groups: Option<&str>) -> Result<Groups, Fault>
+    ensures { MatchResult result (AreGroupsIf groups.entry) (λ fault. (fault ≡ Fault.BadValue Opt.Groups) × ((gids : List ℕ) → ¬ AreGroupsIf groups.entry gids)) }
+{
+    match groups {
+        Some(text) => read_groups(text.as_bytes()).ok_or(Fault::BadValue(Opt::Groups)),
+        None => Ok(Groups::new()),
+    }
+}

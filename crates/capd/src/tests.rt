@@ -1,0 +1,408 @@
+//! Whole command lines: the words in, the bytes out, the status.
+
+use crate::commands::dispatch;
+use crate::line::explain_line;
+use arrayvec::ArrayVec;
+use capgrant::{Access, Rules, Verdict};
+use std::io;
+use std::io::{ErrorKind, Write};
+use std::process::Abort;
+use std::test::Fail;
+
+/// A question with all it needs: each option with its value.
+const QUESTION: [(&str, &str); 9] = [
+    ("--fs", "cephfs"),
+    (
+        "--grants",
+        "allow rw fsname=cephfs path=/a, allow r fsname=cephfs",
+    ),
+    ("--uid", "9"),
+    ("--gid", "50"),
+    ("--path", "/b/x"),
+    ("--owner", "7"),
+    ("--group", "50"),
+    ("--mode", "0640"),
+    ("--access", "write"),
+];
+
+const ANSWER: &str = "denied write /b/x grant 1 rule 4 path, grant 2 rule 5 no-write\n";
+
+// The words of the question, with these options changed, or added to it at the end.
+fn words<'a>(rt: &impl AllocGlobal, changes: &[(&'a str, &'a str)]) -> Result<Vec<&'a str>, Fail> {
+    let mut words = vec![in rt.alloc(); "explain"]?;
+    for (name, value) in QUESTION {
+        if !changes.iter().any(|change| change.0 == name) {
+            words.push(name)?;
+            words.push(value)?;
+        }
+    }
+    for (name, value) in changes {
+        words.push(*name)?;
+        words.push(*value)?;
+    }
+    Ok(words)
+}
+
+// Runs `capd` on the words, and tests what it writes and its status.
+fn expect(rt: &(impl AllocGlobal + Abort), words: &[&str], out: &str, faults: &str, status: u8) {
+    let mut reader: &[u8] = b"never read";
+    let (mut writer, mut fault_writer) = (Vec::new(rt.alloc()), Vec::new(rt.alloc()));
+    let got = dispatch(rt, words, &mut reader, &mut writer, &mut fault_writer);
+    assert_eq!(rt; writer.as_slice(), out.as_bytes(), "output of {words:?}");
+    assert_eq!(rt;
+        fault_writer.as_slice(),
+        faults.as_bytes(),
+        "faults of {words:?}"
+    );
+    assert_eq!(rt; got, status, "status of {words:?}");
+}
+
+#[test]
+fn answers_with_one_line(rt: HostRuntime) -> Result<(), Fail> {
+    let foo = ("--grants", "allow rw path=/foo");
+    let squash = ("--grants", "allow rw root_squash");
+    let own = ("--grants", "allow rw uid=9 gids=50");
+    let (root_uid, root_gid) = (("--uid", "0"), ("--gid", "0"));
+    let read = ("--access", "read");
+    let cases: [(&[(&str, &str)], &str); 17] = [
+        (&[], ANSWER),
+        (
+            &[foo, ("--path", "/food")],
+            "denied write /food grant 1 rule 4 path\n",
+        ),
+        (&[foo, ("--path", "/foo")], "allowed write /foo grant 1\n"),
+        (
+            &[foo, ("--path", "//foo/bar/")],
+            "allowed write /foo/bar grant 1\n",
+        ),
+        (
+            &[foo, ("--path", "/")],
+            "denied write / grant 1 rule 4 path\n",
+        ),
+        (
+            &[foo, ("--path", "")],
+            "denied write / grant 1 rule 4 path\n",
+        ),
+        (
+            &[squash, root_uid, ("--gid", "5"), ("--path", "/f"), read],
+            "allowed read /f grant 1\n",
+        ),
+        (
+            &[squash, root_uid, ("--gid", "5"), ("--path", "/f")],
+            "denied write /f grant 1 rule 6 root-squash\n",
+        ),
+        (
+            &[squash, ("--uid", "5"), root_gid, ("--path", "/f"), read],
+            "allowed read /f grant 1\n",
+        ),
+        (
+            &[squash, ("--uid", "5"), root_gid, ("--path", "/f")],
+            "denied write /f grant 1 rule 6 root-squash\n",
+        ),
+        (&[own, read], "allowed read /b/x grant 1\n"),
+        (&[own], "denied write /b/x grant 1 rule 11 mode-bits\n"),
+        (
+            &[("--grants", "allow rw uid=9"), read],
+            "denied read /b/x grant 1 rule 11 mode-bits\n",
+        ),
+        (
+            &[("--access", "chown:9")],
+            "denied chown:9 /b/x grant 1 rule 4 path, grant 2 rule 5 no-write\n",
+        ),
+        (
+            &[("--access", "chgrp:007")],
+            "denied chgrp:7 /b/x grant 1 rule 4 path, grant 2 rule 5 no-write\n",
+        ),
+        // The class is that of a gid that the caller has and the grant lists.
+        (
+            &[own, read, ("--gid", "1")],
+            "denied read /b/x grant 1 rule 3 gids\n",
+        ),
+        (
+            &[own, read, ("--gid", "1"), ("--groups", "2,050")],
+            "allowed read /b/x grant 1\n",
+        ),
+    ];
+    for (changes, line) in cases {
+        expect(&rt, words(&rt, changes)?.as_slice(), line, "", 0);
+    }
+    Ok(())
+}
+
+#[test]
+fn names_the_fault_of_the_grants(rt: HostRuntime) -> Result<(), Fail> {
+    let cases = [
+        ("allow rw path=\"/a", "OpenQuote at 9"),
+        ("allow rwsp", "BadFlags at 6"),
+        ("allow rwf", "LeftOut at 6"),
+        ("", "Empty at 0"),
+        ("   ", "Empty at 3"),
+        ("allow rw network 10.0.0.0/8", "LeftOut at 9"),
+        ("allow r,", "NotAllow at 8"),
+        ("allow rw gids=1", "GidsWithoutUid at 9"),
+        ("allow rw uid=1 uid=2", "Twice at 15"),
+        ("allow rw uid=4294967296", "BadNumber at 9"),
+        ("allow rw path=/a*", "BadPath at 9"),
+        (
+            "allow r,allow r,allow r,allow r,allow r,allow r,allow r,allow r,allow r,allow r,allow r,allow r,allow r,allow r,allow r,allow r,allow r",
+            "TooMany at 128",
+        ),
+    ];
+    for (grants, fault) in cases {
+        let faults = format!(in rt.alloc(); "capd: grants: {fault}\n")?;
+        // A bad file system comes after bad grants.
+        let changes = [("--grants", grants), ("--fs", "*")];
+        expect(
+            &rt,
+            words(&rt, &changes)?.as_slice(),
+            "",
+            faults.as_str(),
+            1,
+        );
+    }
+    Ok(())
+}
+
+#[test]
+fn names_the_first_bad_value(rt: HostRuntime) -> Result<(), Fail> {
+    let bad = [
+        ("--fs", "*"),
+        ("--uid", "4294967296"),
+        ("--gid", "+5"),
+        ("--groups", ""),
+        (
+            "--path",
+            "/1/2/3/4/5/6/7/8/9/10/11/12/13/14/15/16/17/18/19/20/21/22/23/24/25/26/27/28/29/30/31/32/33",
+        ),
+        ("--owner", ""),
+        ("--group", "x"),
+        ("--mode", "00640"),
+        ("--access", "fly"),
+    ];
+    for (first, change) in bad.iter().enumerate() {
+        let faults = format!(in rt.alloc(); "capd: bad value of {}\n", change.0)?;
+        // All from this one on are bad.
+        expect(
+            &rt,
+            words(&rt, &bad[first..])?.as_slice(),
+            "",
+            faults.as_str(),
+            1,
+        );
+    }
+    Ok(())
+}
+
+#[test]
+fn reads_groups(rt: HostRuntime) -> Result<(), Fail> {
+    let good = [
+        "4294967295",
+        "1,2",
+        "1,2,3,4,5,6,7,8,9,10,11,12,13,14,15,16",
+    ];
+    for groups in good {
+        expect(
+            &rt,
+            words(&rt, &[("--groups", groups)])?.as_slice(),
+            ANSWER,
+            "",
+            0,
+        );
+    }
+    let bad = [
+        "",
+        "-",
+        "1,",
+        ",1",
+        "1,,2",
+        "1, 2",
+        "4294967296",
+        "1,2,3,4,5,6,7,8,9,10,11,12,13,14,15,16,17",
+    ];
+    for groups in bad {
+        let faults = "capd: bad value of --groups\n";
+        expect(
+            &rt,
+            words(&rt, &[("--groups", groups)])?.as_slice(),
+            "",
+            faults,
+            1,
+        );
+    }
+    Ok(())
+}
+
+#[test]
+fn names_have_255_bytes_at_most(rt: HostRuntime) -> Result<(), Fail> {
+    let mut path = String::new(rt.alloc());
+    for _ in 0..255 {
+        path.push('n')?;
+    }
+    let line = format!(in rt.alloc();
+        "denied write /{path} grant 1 rule 4 path, grant 2 rule 5 no-write\n"
+    )?;
+    expect(
+        &rt,
+        words(&rt, &[("--path", path.as_str())])?.as_slice(),
+        line.as_str(),
+        "",
+        0,
+    );
+    path.push('n')?;
+    let faults = "capd: bad value of --path\n";
+    expect(
+        &rt,
+        words(&rt, &[("--path", path.as_str())])?.as_slice(),
+        "",
+        faults,
+        1,
+    );
+    Ok(())
+}
+
+// Runs `capd` on words that are wrong, or that ask for help: which of its outputs has a text is told by the status.
+fn expect_text(rt: &(impl AllocGlobal + Abort), words: &[&str], part: &str, status: u8) {
+    let mut reader: &[u8] = b"";
+    let (mut writer, mut faults) = (Vec::new(rt.alloc()), Vec::new(rt.alloc()));
+    let got = dispatch(rt, words, &mut reader, &mut writer, &mut faults);
+    assert_eq!(rt; got, status, "status of {words:?}");
+    let (text, other) = if status == 0 {
+        (writer, faults)
+    } else {
+        (faults, writer)
+    };
+    assert!(rt; other.is_empty(), "both outputs of {words:?}");
+    let found = text
+        .as_slice()
+        .windows(part.len().max(1))
+        .any(|window| window == part.as_bytes());
+    assert!(rt; found, "no {part:?} at {words:?}");
+}
+
+#[test]
+fn refuses_wrong_command_lines(rt: HostRuntime) -> Result<(), Fail> {
+    let cases: [(&[&str], &str); 6] = [
+        (&[], "requires a subcommand"),
+        (&["fly"], "unrecognized subcommand"),
+        (&["explain", "--grants", "allow r"], "--path <PATH>"),
+        (&["explain", "--fs", "a", "--fs=b"], "multiple times"),
+        (&["explain", "--fast"], "unexpected argument"),
+        (&["explain", "left", "over"], "unexpected argument"),
+    ];
+    for (words, part) in cases {
+        expect_text(&rt, words, part, 2);
+    }
+    // A value that begins with `-` needs the other form.
+    expect_text(
+        &rt,
+        words(&rt, &[("--uid", "-5")])?.as_slice(),
+        "unexpected argument",
+        2,
+    );
+    let mut joined = words(&rt, &[])?;
+    joined.push("--groups=-5")?;
+    expect(
+        &rt,
+        joined.as_slice(),
+        "",
+        "capd: bad value of --groups\n",
+        1,
+    );
+    Ok(())
+}
+
+#[test]
+fn shows_help(rt: HostRuntime) {
+    let cases: [(&[&str], &str); 4] = [
+        (&["--help"], "Usage: capd <COMMAND>"),
+        (&["explain", "--help"], "Usage: capd explain [OPTIONS]"),
+        (&["explain", "-h"], "--mode <OCTAL>"),
+        (&["help", "explain"], "grant 2 rule 11 mode-bits"),
+    ];
+    for (words, part) in cases {
+        expect_text(&rt, words, part, 0);
+    }
+}
+
+// The question of the help's example.
+#[test]
+fn the_example_of_the_help_is_right(rt: HostRuntime) -> Result<(), Fail> {
+    let changes = [
+        (
+            "--grants",
+            "allow r path=/pub, allow rw path=/data uid=1001 gids=200",
+        ),
+        ("--uid", "1001"),
+        ("--gid", "1001"),
+        ("--groups", "200,300"),
+        ("--path", "/data/report"),
+        ("--owner", "1002"),
+        ("--group", "200"),
+    ];
+    let line = "denied write /data/report grant 1 rule 4 path, grant 2 rule 11 mode-bits\n";
+    expect(&rt, words(&rt, &changes)?.as_slice(), line, "", 0);
+    Ok(())
+}
+
+/// A stream that takes some bytes, and then fails.
+#[derive(Drop)]
+struct Failing {
+    room: usize,
+}
+
+impl Write for Failing {
+    fn write(&mut self, bytes: &[u8]) -> io::Result<usize> {
+        let taken = bytes.len().min(self.room);
+        if taken == 0 {
+            return Err(io::Error::from(ErrorKind::BrokenPipe));
+        }
+        self.room -= taken;
+        Ok(taken)
+    }
+
+    fn flush(&mut self) -> io::Result<()> {
+        Ok(())
+    }
+}
+
+#[test]
+fn a_failing_writer_is_a_fault(rt: HostRuntime) -> Result<(), Fail> {
+    let question = words(&rt, &[])?;
+    let help = ["--help"];
+    for words in [question.as_slice(), help.as_slice()] {
+        for room in [0, 7] {
+            let mut reader: &[u8] = b"";
+            let mut faults = Vec::new(rt.alloc());
+            let status = dispatch(&rt, words, &mut reader, &mut Failing { room }, &mut faults);
+            assert_eq!(rt; status, 1);
+            assert_eq!(rt; faults.as_slice(), b"capd: write failed\n".as_slice());
+        }
+    }
+    Ok(())
+}
+
+#[test]
+fn a_fault_that_can_not_be_written_keeps_its_status(rt: HostRuntime) -> Result<(), Fail> {
+    let bad = words(&rt, &[("--mode", "8")])?;
+    let unknown = ["fly"];
+    for (words, want) in [(bad.as_slice(), 1), (unknown.as_slice(), 2)] {
+        for room in [0, 7] {
+            let mut reader: &[u8] = b"";
+            let mut writer = Vec::new(rt.alloc());
+            let status = dispatch(&rt, words, &mut reader, &mut writer, &mut Failing { room });
+            assert_eq!(rt; status, want, "at {words:?}");
+            assert!(rt; writer.is_empty());
+        }
+    }
+    Ok(())
+}
+
+#[test]
+fn a_client_without_grants_is_denied(rt: HostRuntime) -> Result<(), Fail> {
+    let denied = Verdict::Denied {
+        rules: Rules::from(ArrayVec::new()),
+    };
+    let line = explain_line(rt.alloc(), Access::Read, &[], &denied)?;
+    assert_eq!(rt; line.as_slice(), b"denied read / no grants".as_slice());
+    Ok(())
+}
