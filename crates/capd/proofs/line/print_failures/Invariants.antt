@@ -1,4 +1,4 @@
-use Rattle.std.proofs.Common.{◌≡◌, ◌++◌, ℕ, List, map, take, codes}
+use Rattle.std.proofs.Common.{◌≡◌, ◌++◌, take, codes}
 use Rattle.std.specs.List.{join_by, enumerate_from}
 use Rattle.capd.specs.Line.{failure_text}
 use Rattle.capd.proofs.line.print_failures.Given as goal

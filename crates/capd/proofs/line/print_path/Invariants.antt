@@ -1,4 +1,4 @@
-use Rattle.std.proofs.Common.{◌≡◌, ◌++◌, ℕ, List, map, take, codes}
+use Rattle.std.proofs.Common.{◌≡◌, ◌++◌, map, take, codes}
 use Rattle.std.specs.List.{flat_map}
 use Rattle.capd.proofs.line.print_path.Given as goal
 

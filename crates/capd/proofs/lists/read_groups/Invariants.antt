@@ -1,4 +1,4 @@
-use Rattle.std.proofs.Common.{◌≡◌, ℕ, List, map, length, ◌≤◌}
+use Rattle.std.proofs.Common.{◌≡◌, map, length, ◌≤◌}
 use Rattle.std.specs.Str.Parse.{digits_value}
 use Rattle.std.specs.Prelude.{All}
 use Rattle.capd.specs.Values.{IsSmallNumeral}
