@@ -8,7 +8,6 @@ mod policy;
 mod question;
 mod rule;
 mod rules;
-
 #[cfg(test)]
 mod tests;
 
