@@ -1,4 +1,6 @@
 pub mod Table
 pub mod Caps
+pub mod Sets
 pub mod SetNumbers
+pub mod Text
 pub mod Caller

@@ -1,13 +1,17 @@
 -- A set and its number, each from the other.
-use Rattle.std.specs.Prelude.{◌≡◌, ◌≢◌, ℕ, ◌+◌, ◌*◌, ◌<◌, ◌≤◌, ◌^◌, ◌==◌, Bool, true, false, cond, zero, suc}
+use Rattle.std.specs.Prelude.{◌≡◌, ◌≢◌, ℕ, ◌+◌, ◌*◌, ◌<◌, ◌≤◌, ◌^◌, ◌==◌, ◌↔◌, IsTrue, Bool, true, false, cond, zero, suc, refl}
 use Rattle.std.specs.Int.{bit_at}
 use Rattle.std.specs.Int.RustNames.{bit_and}
-use Rattle.std.proofs.Common.{arith, lit<, subst, ap}
+use Rattle.std.proofs.Common.{arith, lit<, subst, ap, sym, ◌∙◌}
+use Rattle.std.proofs.lemmas.Bool.Decides.{nat_tests}
 use Rattle.std.proofs.lemmas.Nat.{and_le_r, and-not, and_comm}
 use Rattle.std.proofs.lemmas.Nat.Bits.{bit_at-lt, bit_at_and, and_pow}
 use Rattle.bitflags.specs.Sets.{known_bits, known_from}
 use Rattle.capbits.specs.Table.{cap_table}
-use Rattle.capbits.specs.Caps.{Caps, IsCaps, has, caps_where, caps_of, bits_of}
+use Rattle.capbits.specs.declared.cap.Cap.{Cap}
+use Rattle.capbits.specs.declared.cap.Cap.TheVariants.{P, As, Ax, Ls, Lx, Xs, Xx, Fs, Fx, Fc, Fr, Fw, Fb, Fa, Fl}
+use Rattle.capbits.specs.Caps.{Caps, IsCaps, has, caps_where, caps_of, bits_of, place_of}
+use Rattle.capbits.specs.Sets.{has-where, same_caps, true_eq}
 
 -- a bit's value, where it is set
 bit_value : (b v : ℕ) → b < 2 → cond (b == 1) v 0 ≡ v * b
@@ -39,7 +43,7 @@ one_small true = omega arith
 one_small false = omega arith
 
 -- a set's number has none but the bits of capabilities
-IsCaps-bits_of : (s : Caps) → IsCaps (bits_of s)
+pub IsCaps-bits_of : (s : Caps) → IsCaps (bits_of s)
 unfolding bits_of has
 IsCaps-bits_of s = record {
   sixteen_bits = omega (arith, one_value, one_small);
@@ -64,5 +68,47 @@ no_number n h s e = h (let P : ℕ → Type 0 = λ n. bit_and n (known_bits cap_
 pub too_large : (n : ℕ) → 2 ^ 16 ≤ n → (s : Caps) → bits_of s ≢ n
 too_large n h s e = omega (arith, (IsCaps-bits_of s).sixteen_bits)
 
+-- the bit of a capability in the number of a set
+one_bit : (b : Bool) → (cond b 1 0 == 1) ≡ b
+one_bit true = refl
+one_bit false = refl
+
+bit-bits_of : (s : Caps) (c : Cap) → bit_at (bits_of s) (place_of c) ≡ cond (has s c) 1 0
+unfolding bits_of has
+bit-bits_of s P = omega (arith, one_value, one_small)
+bit-bits_of s As = omega (arith, one_value, one_small)
+bit-bits_of s Ax = omega (arith, one_value, one_small)
+bit-bits_of s Ls = omega (arith, one_value, one_small)
+bit-bits_of s Lx = omega (arith, one_value, one_small)
+bit-bits_of s Xs = omega (arith, one_value, one_small)
+bit-bits_of s Xx = omega (arith, one_value, one_small)
+bit-bits_of s Fs = omega (arith, one_value, one_small)
+bit-bits_of s Fx = omega (arith, one_value, one_small)
+bit-bits_of s Fc = omega (arith, one_value, one_small)
+bit-bits_of s Fr = omega (arith, one_value, one_small)
+bit-bits_of s Fw = omega (arith, one_value, one_small)
+bit-bits_of s Fb = omega (arith, one_value, one_small)
+bit-bits_of s Fa = omega (arith, one_value, one_small)
+bit-bits_of s Fl = omega (arith, one_value, one_small)
+
+-- the number of a set gives that set back
+pub caps_of-bits_of : (s : Caps) → caps_of (bits_of s) ≡ s
+unfolding caps_of
+caps_of-bits_of s = same_caps _ s (λ c. has-where _ c ∙ ap (λ n. n == 1) (bit-bits_of s c) ∙ one_bit (has s c))
+
+-- so sets with the same number are equal
+pub bits_of-injective : (a b : Caps) → bits_of a ≡ bits_of b → a ≡ b
+bits_of-injective a b e = sym (caps_of-bits_of a) ∙ ap caps_of e ∙ caps_of-bits_of b
+
+pub eq_true : (a b : ℕ) → a ≡ b → IsTrue (a == b)
+eq_true a b e = grind (arith, nat_tests)
+
+-- `==` of two `CapSet`s, which compares their numbers, tells whether the sets are equal
+pub same_bits : (a b : Caps) → IsTrue (bits_of a == bits_of b) ↔ (a ≡ b)
+same_bits a b = ((λ t. bits_of-injective a b (true_eq _ _ t)), (λ e. eq_true _ _ (ap bits_of e)))
+
+-- for code that compares sets by `==`
+pub ruleset equal_sets = (same_bits)
+
 -- what the functions of a set need of its number
-pub ruleset set_numbers = (bits_of-caps_of, known-IsCaps, no_number, too_large)
+pub ruleset set_numbers = (bits_of-caps_of, known-IsCaps, no_number, too_large, same_bits)

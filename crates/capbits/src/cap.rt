@@ -1,4 +1,6 @@
 //! One capability, and the part of an inode that it covers.
+ghost use Rattle.std.specs.Prelude.{◌≡◌};
+ghost use Rattle.capbits.specs.Sets.{caps_of_part};
 
 /// A part of an inode's metadata, with a lock of its own ("Capabilities in CephFS" in the Ceph documentation).
 #[derive(Clone, Copy, PartialEq, Eq, PartialOrd, Ord, Hash, Debug)]
@@ -11,6 +13,29 @@ pub enum Part {
     X,
     /// File: file data with size and times.
     F,
+}
+
+impl Part {
+    /// The capabilities that cover this part, in the order of their letters in a text.
+    pub fn caps(self) -> &'static [Cap]
+        ensures { result.now ≡ caps_of_part self }
+    {
+        match self {
+            Part::A => &[Cap::As, Cap::Ax],
+            Part::L => &[Cap::Ls, Cap::Lx],
+            Part::X => &[Cap::Xs, Cap::Xx],
+            Part::F => &[
+                Cap::Fs,
+                Cap::Fx,
+                Cap::Fc,
+                Cap::Fr,
+                Cap::Fw,
+                Cap::Fb,
+                Cap::Fa,
+                Cap::Fl,
+            ],
+        }
+    }
 }
 
 /// One of the fifteen capabilities that a client may hold on an inode ("Capabilities in CephFS" in the Ceph

@@ -9,6 +9,7 @@ mod ids;
 mod mode;
 mod numbers;
 mod set;
+mod text;
 
 pub use caller::{Caller, Groups, MAX_GROUPS, TooManyGroups};
 pub use cap::{Cap, Part};
@@ -16,3 +17,4 @@ pub use ids::{ClientId, Ino, PassId, Ticket};
 pub use mode::{MAX_MODE, Mode};
 pub use numbers::{read_mode, read_u32, read_u64, split_digits};
 pub use set::CapSet;
+pub use text::{CapBytes, MAX_CAP_BYTES, write_caps};

@@ -5,3 +5,9 @@ pub mod Taken
 pub mod Drafting
 pub mod Words
 pub mod Granting
+pub mod Fronts
+pub mod Valued
+pub mod Righting
+pub mod Determined
+pub mod Complete
+pub mod OneReading

@@ -1,13 +1,21 @@
 -- The items of a grant as words, read from the left.
-use Rattle.std.proofs.Common.{◌≡◌, ℕ, ◌<◌, ◌≤◌, Bool, true, false, not, ◌||◌, ◌&&◌, List, [], ◌∷◌, ◌++◌, length, Option, Some, None, refl, sym, ap, subst, ◌∙◌, append_assoc, arith, length-append}
+use Rattle.std.proofs.Common.{◌≡◌, ℕ, ◌<◌, ◌≤◌, Bool, true, false, not, ◌||◌, ◌&&◌, List, [], ◌∷◌, ◌++◌, length, Option, Some, None, Result, Ok, Err, refl, sym, ap, subst, ◌∙◌, inl, inr, append_assoc, arith, length-append, Bor}
 use Rattle.std.specs.Prelude.{IsTrue, filter_map, unwrap_or, is_some, if◌then◌else◌}
 use Rattle.std.specs.Option.{option_map, option_to_list}
-use Rattle.std.proofs.lemmas.Bool.{true≢false}
+use Rattle.std.proofs.lemmas.Bool.{true≢false, not-false}
 use Rattle.std.proofs.lemmas.List.{append-nil}
 use Rattle.std.proofs.lemmas.List.Elements.{filter_map-append}
 use Rattle.capspec.specs.declared.bytes.ByteSet.TheVariants.{White}
 use Rattle.capspec.specs.declared.draft.Draft.{Draft}
+use Rattle.capspec.specs.declared.fault.SpecFaultKind.{SpecFaultKind}
+use Rattle.capspec.specs.declared.fault.SpecFaultKind.TheVariants as kinds
 use Rattle.capspec.specs.declared.flags.Flags4.{Flags4}
+use Rattle.capspec.specs.declared.items.Key.{Key}
+use Rattle.capspec.specs.declared.items.Key.TheVariants as keys
+use Rattle.capspec.specs.declared.reading.Refusal.{Refusal}
+use Rattle.capspec.specs.Words.{next, BeginsWithItem, IsWrongItem}
+use Rattle.capspec.specs.Faults.{fault_at, is_said, stood, gids_item, grant_end, ItemsGive, grant_ends, wrong_item, next_item}
+use Rattle.capspec.proofs.Fronts.{which, split_rest}
 use Rattle.capspec.specs.Bytes.{is_white, is_mark, ends_word, ends_grant, SplitsWhile}
 use Rattle.capspec.specs.Draft.{no_items, has, names_in, Adds, AddsItem, grant_of}
 use Rattle.capspec.specs.Grants.{fsname_in, path_in, uid_in, gids_in, root_squash_in, IsSaidOnce, AreItemsOf, IsGap, AreWordsOf}
@@ -52,7 +60,7 @@ pub record HasItems (items : List Item) (draft : Draft) : Type 0 where
 has_none : (flags : Flags4) → HasItems [] (no_items flags)
 has_none flags = record { fsname = refl; path = refl; uid = refl; gids = refl; root_squash = refl }
 
-kept : {A : Type 0} (says : Item → Option A) (items : List Item) (item : Item) (said : List A) → says item ≡ None → filter_map says items ≡ said → filter_map says (items ++ item ∷ []) ≡ said
+pub kept : {A : Type 0} (says : Item → Option A) (items : List Item) (item : Item) (said : List A) → says item ≡ None → filter_map says items ≡ said → filter_map says (items ++ item ∷ []) ≡ said
 kept says items item said none so_far = filter_map-append says items (item ∷ []) ∙ rw none (append-nil (filter_map says items) ∙ so_far)
 
 added : {A : Type 0} (says : Item → Option A) (items : List Item) (item : Item) (value : A) → says item ≡ Some value → filter_map says items ≡ [] → filter_map says (items ++ item ∷ []) ≡ value ∷ []
@@ -144,6 +152,48 @@ all_items items draft has_them both = record {
 
 -- ---- the loop over the items of a grant
 
+said_of : {A : Type 0} (o : Option A) (said : List A) → said ≡ option_to_list o → is_said said ≡ is_some o
+said_of None said e = ap is_said e
+said_of (Some x) said e = ap is_said e
+
+uid_said_of : (o : Option ℕ) (said : List (Option ℕ)) → said ≡ option_to_list (option_map (λ uid. Some uid) o) → is_said said ≡ is_some o
+uid_said_of None said e = ap is_said e
+uid_said_of (Some x) said e = ap is_said e
+
+path_said_of : (o : Option (Bor (List ℕ))) (said : List (List (List ℕ))) → said ≡ option_to_list (option_map (λ path. names_of path.now) o) → is_said said ≡ is_some o
+path_said_of None said e = ap is_said e
+path_said_of (Some x) said e = ap is_said e
+
+squash_said_of : (b : Bool) (said : List Bool) → said ≡ (if b then true ∷ [] else []) → is_said said ≡ b
+squash_said_of true said e = ap is_said e
+squash_said_of false said e = ap is_said e
+
+-- the draft has the keys that stood
+pub stood_is : (items : List Item) (draft : Draft) → HasItems items draft → (key : Key) → stood items key ≡ has draft key
+stood_is items draft has_them keys.FsName = said_of draft.fsname _ has_them.fsname
+stood_is items draft has_them keys.Path = path_said_of draft.path _ has_them.path
+stood_is items draft has_them keys.Uid = uid_said_of draft.uid _ has_them.uid
+stood_is items draft has_them keys.Gids = said_of draft.gids _ has_them.gids
+stood_is items draft has_them keys.RootSquash = squash_said_of draft.root_squash _ has_them.root_squash
+
+-- the text from the gids item on, if the draft has one
+abbrev pub place_of_gids : Draft → List ℕ → Option (List ℕ)
+place_of_gids draft from = if is_some draft.gids then Some from else None
+
+same_place : (draft new : Draft) (before after : List ℕ) → new.gids ≡ draft.gids → (is_some draft.gids ≡ true → after ≡ before) → place_of_gids new after ≡ place_of_gids draft before
+same_place draft new before after same stays = elim (which (is_some draft.gids)) [
+  | inl e ↦ ap (λ (g : Option (List ℕ)). if is_some g then Some after else None) same ∙ rw e (ap Some (stays e))
+  | inr e ↦ ap (λ (g : Option (List ℕ)). if is_some g then Some after else None) same ∙ rw e refl
+]
+
+place_more : (draft new : Draft) (item : Item) (from before after : List ℕ) → Adds draft item new → has draft (key_of item) ≡ false → (is_some draft.gids ≡ true → after ≡ before) → (is_some draft.gids ≡ false → after ≡ from)
+    → place_of_gids new after ≡ gids_item (place_of_gids draft before) item from
+place_more draft new (FsName name) from before after adds unseen stays moves = same_place draft new before after (ap (λ (d : Draft). d.gids) adds) stays
+place_more draft new (Path names) from before after adds unseen stays moves = same_place draft new before after (ap (λ (d : Draft). d.gids) adds.1) stays
+place_more draft new (Uid uid) from before after adds unseen stays moves = same_place draft new before after (ap (λ (d : Draft). d.gids) adds) stays
+place_more draft new (Gids gids) from before after adds unseen stays moves = ap (λ (d : Draft). place_of_gids d after) adds ∙ ap Some (moves unseen)
+place_more draft new RootSquash from before after adds unseen stays moves = same_place draft new before after (ap (λ (d : Draft). d.gids) adds) stays
+
 -- what was read of them, up to a place where a word can end
 pub record IsDrafting (old : Draft) (text rest gids_item : List ℕ) (draft : Draft) : Type 0 where
   pub words : List ℕ
@@ -154,6 +204,7 @@ pub record IsDrafting (old : Draft) (text rest gids_item : List ℕ) (draft : Dr
   pub same_flags : draft.flags ≡ old.flags
   pub ends : IsTrue (ends_word rest)
   pub within : length gids_item ≤ length text
+  pub gives : (result : Result (List Item × List ℕ) Refusal) → ItemsGive items (place_of_gids draft gids_item) rest result → ItemsGive [] None text result
 
 pub drafting_none : (old : Draft) (text : List ℕ) → old ≡ no_items old.flags → IsTrue (ends_word text) → IsDrafting old text text text old
 drafting_none old text new ends = record {
@@ -165,6 +216,7 @@ drafting_none old text new ends = record {
   same_flags = refl;
   ends = ends;
   within = omega arith;
+  gives = λ result on. subst (λ (o : Option (List ℕ)). ItemsGive [] o text result) (ap (λ (d : Draft). place_of_gids d text) new) on;
 }
 
 adds_flags : (old new : Draft) (item : Item) → Adds old item new → new.flags ≡ old.flags
@@ -179,21 +231,43 @@ item_within text rest gap item old draft gids_item so_far cut =
     omega (arith, ap length so_far.parts, ap length cut.parts, length-append so_far.words rest, length-append gap item)
 
 pub drafting_more : (old draft new : Draft) (text rest gap item after gids_item gids_item' : List ℕ) → IsDrafting old text rest gids_item draft → SplitsWhile White rest gap item → ends_grant item ≡ false
-    → AddsItem draft item after new → length gids_item' ≤ length text → IsDrafting old text after gids_item' new
-drafting_more old draft new text rest gap item after gids_item gids_item' so_far cut goes_on adds within = record {
-  words = so_far.words ++ (gap ++ adds.takes.0.front);
+    → AddsItem draft item after new → length gids_item' ≤ length text → (is_some draft.gids ≡ true → gids_item' ≡ gids_item) → (is_some draft.gids ≡ false → gids_item' ≡ item) → IsDrafting old text after gids_item' new
+drafting_more old draft new text rest gap item after place place' so_far cut goes_on adds within stays moves = record {
+  words = so_far.words ++ (gap ++ adds.begins.takes.0.front);
   items = so_far.items ++ adds.item ∷ [];
-  parts = so_far.parts ∙ ap (λ (t : List ℕ). so_far.words ++ t) (cut.parts ∙ ap (λ (t : List ℕ). gap ++ t) adds.takes.0.parts) ∙ simp append_assoc;
-  are_words = words_more so_far.words gap adds.takes.0.front so_far.items adds.item so_far.are_words (cut.all_in, some_gap rest gap item cut so_far.ends goes_on) adds.takes.0.holds;
+  parts = so_far.parts ∙ ap (λ (t : List ℕ). so_far.words ++ t) (cut.parts ∙ ap (λ (t : List ℕ). gap ++ t) adds.begins.takes.0.parts) ∙ simp append_assoc;
+  are_words = words_more so_far.words gap adds.begins.takes.0.front so_far.items adds.item so_far.are_words (cut.all_in, some_gap rest gap item cut so_far.ends goes_on) adds.begins.takes.0.holds;
   has_items = has_more so_far.items adds.item draft new so_far.has_items adds.new_key adds.adds;
   same_flags = adds_flags draft new adds.item adds.adds ∙ so_far.same_flags;
-  ends = adds.takes.1;
+  ends = adds.begins.takes.1;
   within = within;
+  gives = λ result on.
+      let here : next rest ≡ item = split_rest White rest gap item cut in
+      let moved : place_of_gids new place' ≡ gids_item (place_of_gids draft place) adds.item (next rest) =
+      place_more draft new adds.item item place place' adds.adds adds.new_key stays moves ∙ ap (gids_item (place_of_gids draft place) adds.item) (sym here) in
+      so_far.gives result
+      (next_item adds.item after (ap ends_grant here ∙ goes_on) (stood_is so_far.items draft so_far.has_items (key_of adds.item) ∙ adds.new_key)
+      (subst (λ (t : List ℕ). BeginsWithItem t adds.item after) (sym here) adds.begins)
+      (subst (λ (o : Option (List ℕ)). ItemsGive (so_far.items ++ adds.item ∷ []) o after result) moved on));
 }
 
 pub drafting_shrinks : (draft new : Draft) (rest gap item after : List ℕ) → SplitsWhile White rest gap item → AddsItem draft item after new → length after < length rest
 drafting_shrinks draft new rest gap item after cut adds =
-    omega (arith, ap length cut.parts, ap length adds.takes.0.parts, length-append gap item, length-append adds.takes.0.front after, item_is_long adds.takes.0.front adds.item adds.takes.0.holds)
+    omega (arith, ap length cut.parts, ap length adds.begins.takes.0.parts, length-append gap item, length-append adds.begins.takes.0.front after, item_is_long adds.begins.takes.0.front adds.item adds.begins.takes.0.holds)
+
+right_end : (draft : Draft) (items : List Item) (place rest : List ℕ) → stood items keys.Uid ≡ is_some draft.uid → (is_some draft.gids && not (is_some draft.uid)) ≡ false → grant_end items (place_of_gids draft place) rest ≡ Ok (items, rest)
+right_end draft items place rest same both = elim (which (is_some draft.gids)) [
+  | inl e ↦
+      let uid : is_some draft.uid ≡ true = not-false _ (rw e at both) in
+      rw (e, same, uid) refl
+  | inr e ↦ rw e refl
+]
+
+wrong_end : (draft : Draft) (items : List Item) (place rest : List ℕ) → stood items keys.Uid ≡ is_some draft.uid → is_some draft.gids ≡ true → is_some draft.uid ≡ false → grant_end items (place_of_gids draft place) rest ≡ Err (fault_at place kinds.GidsWithoutUid)
+wrong_end draft items place rest same listed alone = rw (listed, same, alone) refl
+
+ends_give : (items : List Item) (place : Option (List ℕ)) (rest item : List ℕ) → next rest ≡ item → ends_grant item ≡ true → (result : Result (List Item × List ℕ) Refusal) → grant_end items place item ≡ result → ItemsGive items place rest result
+ends_give items place rest item here ends result is = subst (ItemsGive items place rest) (ap (grant_end items place) here ∙ is) (grant_ends (ap ends_grant here ∙ ends))
 
 pub drafting_done : (old draft : Draft) (text rest gap item gids_item : List ℕ) → IsDrafting old text rest gids_item draft → SplitsWhile White rest gap item → ends_grant item ≡ true
     → (is_some draft.gids && not (is_some draft.uid)) ≡ false → ReadsItems old text item draft
@@ -207,4 +281,24 @@ drafting_done old draft text rest gap item gids_item so_far cut ends both = reco
   ends = ends;
   same_flags = so_far.same_flags;
   are_items = all_items so_far.items draft so_far.has_items both;
+  gives = so_far.gives (Ok (so_far.items, item)) (ends_give so_far.items (place_of_gids draft gids_item) rest item (split_rest White rest gap item cut) ends
+      (Ok (so_far.items, item)) (right_end draft so_far.items gids_item item (stood_is so_far.items draft so_far.has_items keys.Uid) both));
 }
+
+-- a grant that lists gids beside no uid
+pub gids_alone_wrong : (old draft : Draft) (text rest gap item gids_item : List ℕ) → IsDrafting old text rest gids_item draft → SplitsWhile White rest gap item → ends_grant item ≡ true
+    → is_some draft.gids ≡ true → is_some draft.uid ≡ false → ItemsGive [] None text (Err (fault_at gids_item kinds.GidsWithoutUid))
+gids_alone_wrong old draft text rest gap item place so_far cut ends listed alone =
+    so_far.gives (Err (fault_at place kinds.GidsWithoutUid)) (ends_give so_far.items (place_of_gids draft place) rest item (split_rest White rest gap item cut) ends
+    (Err (fault_at place kinds.GidsWithoutUid)) (wrong_end draft so_far.items place item (stood_is so_far.items draft so_far.has_items keys.Uid) listed alone))
+
+same_tests : (stands other : Key → Bool) (text : List ℕ) (kind : SpecFaultKind) → ((key : Key) → stands key ≡ other key) → IsWrongItem other text kind → IsWrongItem stands text kind
+same_tests stands other text kind same (inl unknown) = inl unknown
+same_tests stands other text kind same (inr (key, value, keyed, wrong)) = inr (key, value, keyed, rw same wrong)
+
+pub item_wrong : (old draft : Draft) (text rest gap item gids_item : List ℕ) (kind : SpecFaultKind) → IsDrafting old text rest gids_item draft → SplitsWhile White rest gap item → ends_grant item ≡ false
+    → IsWrongItem (has draft) item kind → ItemsGive [] None text (Err (fault_at item kind))
+item_wrong old draft text rest gap item place kind so_far cut goes_on wrong =
+    let here : next rest ≡ item = split_rest White rest gap item cut in
+    so_far.gives (Err (fault_at item kind)) (subst (λ (t : List ℕ). ItemsGive so_far.items (place_of_gids draft place) rest (Err (fault_at t kind))) here
+    (wrong_item (ap ends_grant here ∙ goes_on) (subst (λ (t : List ℕ). IsWrongItem (stood so_far.items) t kind) (sym here) (same_tests (stood so_far.items) (has draft) item kind (stood_is so_far.items draft so_far.has_items) wrong))))

@@ -8,7 +8,8 @@ use Rattle.capspec.specs.declared.items.Key.{Key}
 use Rattle.capspec.specs.declared.items.Key.TheVariants as keys
 use Rattle.capspec.specs.Names.{names_of}
 use Rattle.capspec.specs.Bytes.{TakesWord}
-use Rattle.capspec.specs.Items.{Item, key_of, IsValue, IsItem}
+use Rattle.capspec.specs.Words.{goes_on, BeginsWithItem}
+use Rattle.capspec.specs.Items.{Item, key_of, IsValue}
 use Rattle.capspec.specs.Items.Item.{FsName, Path, Uid, Gids, RootSquash}
 
 -- a draft with these flags, before the items
@@ -40,13 +41,14 @@ pub record AddsValue (old : Draft) (key : Key) (text rest : List ℕ) (new : Dra
   pub item : Item
   pub key_is : key_of item ≡ key
   pub takes : TakesWord (λ value. IsValue value item) text rest
+  pub whole : key_of item ≡ keys.Gids → IsFalse (goes_on rest)
   pub adds : Adds old item new
 
 -- The text begins with an item of which old had nothing, and new is old with what it says.
 pub record AddsItem (old : Draft) (text rest : List ℕ) (new : Draft) : Type 0 where
   pub item : Item
   pub new_key : IsFalse (has old (key_of item))
-  pub takes : TakesWord (λ word. IsItem word item) text rest
+  pub begins : BeginsWithItem text item rest
   pub adds : Adds old item new
 
 -- the grant, with the default where no item spoke

@@ -1,5 +1,5 @@
 -- The items of a grant text, and the word that each is.
-use Rattle.std.specs.Prelude.{◌≡◌, ◌⊎◌, ℕ, ◌<◌, ◌≤◌, ◌^◌, ◌==◌, ◌||◌, nat_le, not, Option, Some, None, Bool, List, [], ◌∷◌, ◌++◌, length, codes, IsTrue, IsFalse}
+use Rattle.std.specs.Prelude.{◌≡◌, ◌⊎◌, ℕ, ◌<◌, ◌≤◌, ◌^◌, ◌==◌, ◌||◌, ◌&&◌, nat_le, not, Option, Some, None, Bool, List, [], ◌∷◌, ◌++◌, length, codes, IsTrue}
 use Rattle.std.specs.List.{list_all, list_any}
 use Rattle.std.specs.Str.Parse.{IsNumeral, digits_value}
 use Rattle.capspec.specs.declared.items.Key.{Key}
@@ -50,7 +50,6 @@ is_control b = nat_le b 31 || (b == 127)
 pub record IsQuotedBy (quote : ℕ) (value path : List ℕ) : Type 0 where
   pub parts : value ≡ quote ∷ path ++ quote ∷ []
   pub none_inside : IsTrue (list_all (λ b. not (b == quote)) path)
-  pub no_control : IsFalse (list_any is_control path)
 
 -- the value is a path without quotes
 pub record IsBare (value path : List ℕ) : Type 0 where
@@ -61,11 +60,14 @@ pub record IsBare (value path : List ℕ) : Type 0 where
 abbrev pub IsPlainOrQuoted : List ℕ → List ℕ → Type 0
 IsPlainOrQuoted value path = IsBare value path ⊎ IsQuotedBy 34 value path ⊎ IsQuotedBy 39 value path
 
+-- a grant may have the path: it is not empty, has no control byte, and has few and short names
+abbrev pub can_be_path : List ℕ → Bool
+can_be_path path = not (length path == 0) && not (list_any is_control path) && are_few_and_short (names_of path)
+
 -- the value writes the path, and a grant may have that path
 pub record IsPath (value path : List ℕ) : Type 0 where
   pub written : IsPlainOrQuoted value path
-  pub some : 0 < length path
-  pub fit : IsTrue (are_few_and_short (names_of path))
+  pub fit : IsTrue (can_be_path path)
 
 -- the text of the item's value, behind its key
 abbrev pub IsValue : List ℕ → Item → Type 0

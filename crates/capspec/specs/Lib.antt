@@ -6,3 +6,5 @@ pub mod Items
 pub mod Grants
 pub mod Draft
 pub mod Parts
+pub mod Words
+pub mod Faults

@@ -1,11 +1,12 @@
 //! The items of a grant: the words behind its flags.
 
-ghost use Rattle.std.specs.Prelude.{◌≡◌, ◌++◌, IsTrue, IfOk, IfSome};
+ghost use Rattle.std.specs.Prelude.{◌≡◌, ℕ, List, IsTrue, IfOk, IfErr, MatchOption};
 ghost use Rattle.capspec.specs.Bytes.{ends_word};
-ghost use Rattle.capspec.specs.Draft.{AddsValue, AddsItem};
+ghost use Rattle.capspec.specs.Draft.{has, AddsValue, AddsItem};
 ghost use Rattle.capspec.specs.Items.{key_text};
+ghost use Rattle.capspec.specs.Words.{plain_word, IsKeyed, IsWrongOther, IsWrongValue, IsWrongItem};
 
-use crate::bytes::{ends_word, strip};
+use crate::bytes::{ByteSet, ends_word, split_while, strip};
 use crate::draft::Draft;
 use crate::fault::SpecFaultKind;
 use crate::values::{read_fsname, read_gids, read_path, read_uid};
@@ -35,17 +36,25 @@ impl Key {
             Key::RootSquash => b"root_squash",
         }
     }
+
+    // What stands behind the key, if the text begins with it.
+    fn strip_from(self, text: &[u8]) -> Option<&[u8]>
+        ensures { MatchOption result ((value : List ℕ) → IsKeyed self text.now value → ⊥) (λ value. IsKeyed self text.now value.now) }
+    {
+        let value = strip(text, self.text())?;
+        if self == Key::RootSquash && !ends_word(value) {
+            return None;
+        }
+        Some(value)
+    }
 }
 
 // The key at the front of a text, and what stands behind it.
 fn split_key(text: &[u8]) -> Option<(Key, &[u8])>
-    ensures parts { IfSome result (λ found. text.now ≡ key_text found.0 ++ found.1.now) }
-    ensures whole { IfSome result (λ found. found.0 ≡ Key.RootSquash → IsTrue (ends_word found.1.now)) }
+    ensures { MatchOption result ((key : Key) (value : List ℕ) → IsKeyed key text.now value → ⊥) (λ found. IsKeyed found.0 text.now found.1.now) }
 {
     for key in Key::ALL {
-        if let Some(value) = strip(text, key.text())
-            && (key != Key::RootSquash || ends_word(value))
-        {
+        if let Some(value) = key.strip_from(text) {
             return Some((key, value));
         }
     }
@@ -53,10 +62,14 @@ fn split_key(text: &[u8]) -> Option<(Key, &[u8])>
 }
 
 // What is wrong with a word that begins with no key.
-fn other_word(text: &[u8]) -> SpecFaultKind {
-    match strip(text, b"network") {
-        Some(rest) if ends_word(rest) => SpecFaultKind::LeftOut,
-        _ => SpecFaultKind::BadItem,
+fn other_word(text: &[u8]) -> SpecFaultKind
+    ensures { IsWrongOther (plain_word text.now) result }
+{
+    let (word, _) = split_while(ByteSet::Plain, text);
+    if word == b"network".as_slice() {
+        SpecFaultKind::LeftOut
+    } else {
+        SpecFaultKind::BadItem
     }
 }
 
@@ -67,7 +80,8 @@ fn read_value<'a>(
     text: &'a [u8],
 ) -> Result<&'a [u8], SpecFaultKind>
     requires { key ≡ Key.RootSquash → IsTrue (ends_word text.now) }
-    ensures { IfOk result (λ rest. AddsValue draft.old key text.now rest.now draft.new) }
+    ensures ok { IfOk result (λ rest. AddsValue draft.old key text.now rest.now draft.new) }
+    ensures err { IfErr result (IsWrongValue key text.now) }
 {
     match key {
         Key::FsName => {
@@ -102,7 +116,8 @@ pub(crate) fn read_item<'a>(
     draft: &mut Draft<'a>,
     text: &'a [u8],
 ) -> Result<&'a [u8], SpecFaultKind>
-    ensures { IfOk result (λ rest. AddsItem draft.old text.now rest.now draft.new) }
+    ensures ok { IfOk result (λ rest. AddsItem draft.old text.now rest.now draft.new) }
+    ensures err { IfErr result (IsWrongItem (has draft.old) text.now) }
 {
     let Some((key, value)) = split_key(text) else {
         return Err(other_word(text));

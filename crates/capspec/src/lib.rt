@@ -11,6 +11,7 @@ mod fsname;
 mod gids;
 mod grant;
 mod items;
+mod laws;
 mod path;
 mod reading;
 mod values;
@@ -20,6 +21,7 @@ pub use flags::Flags4;
 pub use fsname::FsName;
 pub use gids::Gids;
 pub use grant::{Grant, Grants};
+pub use laws::{no_fault_where_it_reads, one_fault, one_list_of_grants};
 pub use path::GrantPath;
 pub use reading::read_grants;
 

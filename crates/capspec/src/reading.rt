@@ -1,11 +1,16 @@
 //! Reading of whole grant texts.
 
-ghost use Rattle.std.specs.Prelude.{◌≡◌, ◌≤◌, ◌-◌, ◌++◌, ◌∷◌, [], length, IsTrue, IfOk, IfErr, IfSome, IsOkAnd};
+ghost use Rattle.std.specs.Prelude.{◌≡◌, ◌⊎◌, ℕ, ◌<◌, ◌≤◌, ◌-◌, ◌++◌, ◌∷◌, List, [], length, IsTrue, IfOk, IfErr, IfSome, IsOkAnd, MatchOption, MatchResult, None, Err};
+ghost use Rattle.std.specs.List.{list_all};
 ghost use Rattle.capspec.specs.Bytes.{ends_word, ends_grant};
 ghost use Rattle.capspec.specs.Draft.{grant_of, no_items};
+ghost use Rattle.capspec.specs.Faults.{ItemsGive, GrantGives, IsFault, IsNoMemory};
 ghost use Rattle.capspec.specs.Flags.{IsFlags};
 ghost use Rattle.capspec.specs.Grants.{Reads};
 ghost use Rattle.capspec.specs.Parts.{ReadsItems, ReadsGrant};
+ghost use Rattle.capspec.specs.Words.{is_flag, count_of, is_left_out, IsWrongSecond};
+ghost use Rattle.capspec.specs.declared.flags.Flags4.{Flags4};
+ghost use Rattle.capspec.specs.declared.grant.Grant.{Grant};
 
 use crate::bytes::{ByteSet, ends_grant, ends_word, split_while, strip};
 use crate::draft::Draft;
@@ -45,27 +50,53 @@ impl Refusal {
     }
 }
 
-// The flags that a word names.
-fn read_flags(word: &[u8]) -> Result<Flags4, SpecFaultKind>
-    ensures { IfOk result (IsFlags word.now) }
+// The flags that a word names, if it is a flag word.
+fn named_flags(word: &[u8]) -> Option<Flags4>
+    ensures { MatchOption result ((flags : Flags4) → IsFlags word.now flags → ⊥) (IsFlags word.now) }
 {
     match word {
-        b"r" => Ok(Flags4::R),
-        b"rw" => Ok(Flags4::Rw),
-        b"rwp" => Ok(Flags4::Rwp),
-        b"rws" => Ok(Flags4::Rws),
-        b"rwps" | b"*" | b"all" => Ok(Flags4::Rwps),
-        _ if is_left_out(word) => Err(SpecFaultKind::LeftOut),
-        _ => Err(SpecFaultKind::BadFlags),
+        b"r" => Some(Flags4::R),
+        b"rw" => Some(Flags4::Rw),
+        b"rwp" => Some(Flags4::Rwp),
+        b"rws" => Some(Flags4::Rws),
+        b"rwps" | b"*" | b"all" => Some(Flags4::Rwps),
+        _ => None,
+    }
+}
+
+fn read_flags(word: &[u8]) -> Result<Flags4, SpecFaultKind>
+    ensures ok { IfOk result (IsFlags word.now) }
+    ensures err { IfErr result (IsWrongSecond word.now) }
+{
+    match named_flags(word) {
+        Some(flags) => Ok(flags),
+        None if is_left_out(word) => Err(SpecFaultKind::LeftOut),
+        None => Err(SpecFaultKind::BadFlags),
     }
 }
 
 // Whether a word has the flag f, and else only flags of this profile, none of them twice.
-fn is_left_out(word: &[u8]) -> bool {
-    let flags = b"rwpsf";
-    let known = word.iter().all(|letter| flags.contains(letter));
-    let once = flags.iter().all(|flag| word.iter().filter(|letter| *letter == flag).count() <= 1);
-    known && once && word.contains(&b'f')
+fn is_left_out(word: &[u8]) -> bool
+    ensures { result ≡ is_left_out word.now }
+{
+    has_flags_alone(word)
+        && count_of(b'r', word) <= 1
+        && count_of(b'w', word) <= 1
+        && count_of(b'p', word) <= 1
+        && count_of(b's', word) <= 1
+        && count_of(b'f', word) == 1
+}
+
+fn has_flags_alone(word: &[u8]) -> bool
+    ensures { result ≡ list_all is_flag word.now }
+{
+    word.iter().all(|letter| matches!(letter, b'r' | b'w' | b'p' | b's' | b'f'))
+}
+
+fn count_of(byte: u8, word: &[u8]) -> usize
+    ensures { result ≡ count_of byte word.now }
+{
+    word.iter().filter(|other| **other == byte).count()
 }
 
 // Reads the items of a grant into its draft, up to the mark or the end behind them.
@@ -73,7 +104,8 @@ fn read_items<'a>(draft: &mut Draft<'a>, text: &'a [u8]) -> Result<&'a [u8], Ref
     requires new { draft.old ≡ no_items draft.old.flags }
     requires ends { IsTrue (ends_word text.now) }
     ensures ok { IfOk result (λ rest. ReadsItems draft.old text.now rest.now draft.new) }
-    ensures err { IfErr result (λ refusal. refusal.left ≤ length text.now) }
+    ensures err { IfErr result (λ refusal. ItemsGive [] None text.now (Err refusal)) }
+    ensures within { IfErr result (λ refusal. refusal.left ≤ length text.now) }
 {
     let mut rest = text;
     let mut gids_item = text;
@@ -98,7 +130,8 @@ fn read_items<'a>(draft: &mut Draft<'a>, text: &'a [u8]) -> Result<&'a [u8], Ref
 // Reads one grant with the white space round it, up to the mark or the end behind it.
 fn read_grant(text: &[u8]) -> Result<(Draft<'_>, &[u8]), Refusal>
     ensures ok { IfOk result (λ found. ReadsGrant text.now found.0 found.1.now) }
-    ensures err { IfErr result (λ refusal. refusal.left ≤ length text.now) }
+    ensures err { IfErr result (λ refusal. (before : ℕ) → before < 16 → GrantGives before text.now (Err refusal)) }
+    ensures within { IfErr result (λ refusal. refusal.left ≤ length text.now) }
 {
     let (_, first) = split_while(ByteSet::White, text);
     let Some(behind) = strip(first, b"allow") else {
@@ -136,7 +169,12 @@ fn gather(
 /// Reading itself takes no memory. So `NoMemory`, at 0, comes only for a text without a fault, whose grants found no
 /// memory to be kept in. Every other fault stands at the first byte of the word that failed.
 pub fn read_grants(alloc: Global, text: &[u8]) -> Result<Grants, SpecFault>
-    ensures { IfOk result (Reads text.now) }
+    // What is read is what the text means.
+    ensures ok { IfOk result (Reads text.now) }
+    // What the text means is read, unless memory runs out.
+    ensures only { (grants : List Grant) → Reads text.now grants → MatchResult result (λ read. read ≡ grants) IsNoMemory }
+    // Which fault it is; memory is missed only where the text has none.
+    ensures fault { IfErr result (λ fault. IsFault text.now fault ⊎ (IsNoMemory fault × (grants : List Grant) × Reads text.now grants)) }
 {
     let (_, first) = split_while(ByteSet::White, text);
     if first.is_empty() {

@@ -46,6 +46,12 @@ fn each_fault_has_its_place(rt: HostRuntime) {
         ("allow rw uid=1 gids=", BadNumber, 15),
         ("allow rw path='/a\"", OpenQuote, 9),
         ("allow rw path=\"\"", BadPath, 9),
+        (",allow r", NotAllow, 0),
+        ("allow rw uid=1 gids=1,2 ,3", NotAllow, 25),
+        ("allow rw uid=1 uid=x", Twice, 15),
+        ("allow rw uid=1 gids=4294967296,1", BadNumber, 15),
+        ("allow rw path=\"/a\u{7}\"x", BadItem, 9),
+        ("allow rw root_squash=1", BadItem, 9),
     ];
     for (text, kind, at) in cases {
         assert_eq!(rt; fault_in(rt.alloc(), text), Some((kind, at)), "at {text}");

@@ -1,10 +1,12 @@
 //! The values of items: each reader takes one value from the front of a text, whose word has to end behind it.
 
-ghost use Rattle.std.specs.Prelude.{◌≡◌, ◌∷◌, IfOk, IfSome};
+ghost use Rattle.std.specs.Prelude.{◌≡◌, ◌∷◌, ℕ, IfOk, IfErr, IfSome, IfNone, IsTrue, IsFalse};
 ghost use Rattle.std.specs.List.{list_any};
-ghost use Rattle.capspec.specs.Bytes.{Takes, TakesWord};
-ghost use Rattle.capspec.specs.Items.{IsNumber, IsPath, IsBare, IsQuotedBy, IsPlainOrQuoted, is_control, IsValue};
+ghost use Rattle.capspec.specs.Bytes.{begins, TakesWord};
+ghost use Rattle.capspec.specs.Items.{IsNumber, IsPath, is_control, can_be_path, IsValue};
 ghost use Rattle.capspec.specs.Items.Item.{FsName as FsNameItem, Gids as GidsItem};
+ghost use Rattle.capspec.specs.Words.{front_while, rest_while, is_digit, is_quote, goes_on, IsWrongPath, IsWrongValue};
+ghost use Rattle.capspec.specs.declared.items.Key.TheVariants.{FsName as FsNameKey, Uid as UidKey, Gids as GidsKey};
 
 use crate::bytes::{ByteSet, ends_word, split_while};
 use crate::fault::SpecFaultKind;
@@ -15,18 +17,14 @@ use capbits::{read_u32, split_digits};
 
 /// The name of a file system, or none for `*`, which stands for every one.
 pub(crate) fn read_fsname(text: &[u8]) -> Result<(Option<FsName>, &[u8]), SpecFaultKind>
-    ensures { IfOk result (λ found. TakesWord (λ value. IsValue value (FsNameItem found.0)) text.now found.1.now) }
+    ensures ok { IfOk result (λ found. TakesWord (λ value. IsValue value (FsNameItem found.0)) text.now found.1.now) }
+    ensures err { IfErr result (IsWrongValue FsNameKey text.now) }
 {
-    if let Some((b'*', rest)) = text.split_first()
-        && ends_word(rest)
-    {
+    let (word, rest) = split_while(ByteSet::Plain, text);
+    if word == b"*".as_slice() {
         return Ok((None, rest));
     }
-    let (name, rest) = split_while(ByteSet::FsName, text);
-    if !ends_word(rest) {
-        return Err(SpecFaultKind::BadItem);
-    }
-    match FsName::read(name) {
+    match FsName::read(word) {
         Some(name) => Ok((Some(name), rest)),
         None => Err(SpecFaultKind::BadItem),
     }
@@ -34,39 +32,39 @@ pub(crate) fn read_fsname(text: &[u8]) -> Result<(Option<FsName>, &[u8]), SpecFa
 
 /// The text of a path, without its quotes if it has them.
 pub(crate) fn read_path(text: &[u8]) -> Result<(&[u8], &[u8]), SpecFaultKind>
-    ensures { IfOk result (λ found. TakesWord (λ value. IsPath value found.0.now) text.now found.1.now) }
+    ensures ok { IfOk result (λ found. TakesWord (λ value. IsPath value found.0.now) text.now found.1.now) }
+    ensures err { IfErr result (IsWrongPath text.now) }
 {
-    let (path, rest) = read_written(text)?;
-    if path.is_empty() || !has_few_short_names(path) {
+    match text.split_first() {
+        Some((quote, inside)) if is_quote(*quote) => read_quoted(*quote, inside),
+        _ => read_bare(text),
+    }
+}
+
+fn is_quote(byte: u8) -> bool
+    ensures { result ≡ is_quote byte }
+{
+    matches!(byte, b'"' | b'\'')
+}
+
+fn read_bare(text: &[u8]) -> Result<(&[u8], &[u8]), SpecFaultKind>
+    requires { IsFalse (begins is_quote text.now) }
+    ensures ok { IfOk result (λ found. TakesWord (λ value. IsPath value found.0.now) text.now found.1.now) }
+    ensures err { IfErr result (IsWrongPath text.now) }
+{
+    let (path, rest) = split_while(ByteSet::Plain, text);
+    let (_, other) = split_while(ByteSet::BarePath, path);
+    if !other.is_empty() || !can_be_path(path) {
         return Err(SpecFaultKind::BadPath);
     }
     Ok((path, rest))
 }
 
-fn read_written(text: &[u8]) -> Result<(&[u8], &[u8]), SpecFaultKind>
-    ensures { IfOk result (λ found. TakesWord (λ value. IsPlainOrQuoted value found.0.now) text.now found.1.now) }
-{
-    match text.split_first() {
-        Some((b'"', inside)) => read_quoted(b'"', inside),
-        Some((b'\'', inside)) => read_quoted(b'\'', inside),
-        _ => read_bare(text),
-    }
-}
-
-fn read_bare(text: &[u8]) -> Result<(&[u8], &[u8]), SpecFaultKind>
-    ensures { IfOk result (λ found. TakesWord (λ value. IsBare value found.0.now) text.now found.1.now) }
-{
-    let (path, rest) = split_while(ByteSet::BarePath, text);
-    if ends_word(rest) {
-        Ok((path, rest))
-    } else {
-        Err(SpecFaultKind::BadPath)
-    }
-}
-
 // Reads up to the closing quote. An open quote is found before what is wrong with the path inside.
 fn read_quoted(quote: u8, inside: &[u8]) -> Result<(&[u8], &[u8]), SpecFaultKind>
-    ensures { IfOk result (λ found. TakesWord (λ value. IsQuotedBy quote (quote ∷ value) found.0.now) inside.now found.1.now) }
+    requires { IsTrue (is_quote quote) }
+    ensures ok { IfOk result (λ found. TakesWord (λ value. IsPath (quote ∷ value) found.0.now) inside.now found.1.now) }
+    ensures err { IfErr result (IsWrongPath (quote ∷ inside.now)) }
 {
     let (path, closing) = split_while(ByteSet::AllBut(quote), inside);
     let Some((_, rest)) = closing.split_first() else {
@@ -75,10 +73,17 @@ fn read_quoted(quote: u8, inside: &[u8]) -> Result<(&[u8], &[u8]), SpecFaultKind
     if !ends_word(rest) {
         return Err(SpecFaultKind::BadItem);
     }
-    if has_control(path) {
+    if !can_be_path(path) {
         return Err(SpecFaultKind::BadPath);
     }
     Ok((path, rest))
+}
+
+// Whether a grant may have the path, as far as no quotes say.
+fn can_be_path(path: &[u8]) -> bool
+    ensures { result ≡ can_be_path path.now }
+{
+    !path.is_empty() && !has_control(path) && has_few_short_names(path)
 }
 
 fn has_control(path: &[u8]) -> bool
@@ -87,9 +92,23 @@ fn has_control(path: &[u8]) -> bool
     path.iter().any(|byte| *byte <= 31 || *byte == 127)
 }
 
-/// A number of 32 bits.
+/// The one number of a uid.
+pub(crate) fn read_uid(text: &[u8]) -> Result<(u32, &[u8]), SpecFaultKind>
+    ensures ok { IfOk result (λ found. TakesWord (λ value. IsNumber value found.0) text.now found.1.now) }
+    ensures err { IfErr result (IsWrongValue UidKey text.now) }
+{
+    let (word, rest) = split_while(ByteSet::Plain, text);
+    match read_u32(word) {
+        Some(uid) => Ok((uid, rest)),
+        None => Err(SpecFaultKind::BadNumber),
+    }
+}
+
+// The longest front of digits as a number of 32 bits, and what follows it.
 fn read_number(text: &[u8]) -> Option<(u32, &[u8])>
-    ensures { IfSome result (λ found. Takes (λ digits. IsNumber digits found.0) text.now found.1.now) }
+    ensures none { IfNone result ((n : ℕ) → IsNumber (front_while is_digit text.now) n → ⊥) }
+    ensures number { IfSome result (λ found. IsNumber (front_while is_digit text.now) found.0) }
+    ensures rest { IfSome result (λ found. found.1.now ≡ rest_while is_digit text.now) }
 {
     let (digits, rest) = split_digits(text);
     match read_u32(digits) {
@@ -98,19 +117,11 @@ fn read_number(text: &[u8]) -> Option<(u32, &[u8])>
     }
 }
 
-/// The one number of a uid.
-pub(crate) fn read_uid(text: &[u8]) -> Result<(u32, &[u8]), SpecFaultKind>
-    ensures { IfOk result (λ found. TakesWord (λ value. IsNumber value found.0) text.now found.1.now) }
-{
-    match read_number(text) {
-        Some((uid, rest)) if ends_word(rest) => Ok((uid, rest)),
-        _ => Err(SpecFaultKind::BadNumber),
-    }
-}
-
 /// The numbers of a gids item. A comma belongs to it where a digit follows, and ends it elsewhere.
 pub(crate) fn read_gids(text: &[u8]) -> Result<(Gids, &[u8]), SpecFaultKind>
-    ensures { IfOk result (λ found. TakesWord (λ value. IsValue value (GidsItem found.0)) text.now found.1.now) }
+    ensures ok { IfOk result (λ found. TakesWord (λ value. IsValue value (GidsItem found.0)) text.now found.1.now) }
+    ensures whole { IfOk result (λ found. IsFalse (goes_on found.1.now)) }
+    ensures err { IfErr result (IsWrongValue GidsKey text.now) }
 {
     let mut gids = Gids::new();
     let mut all_fit = true;
@@ -135,7 +146,9 @@ pub(crate) fn read_gids(text: &[u8]) -> Result<(Gids, &[u8]), SpecFaultKind>
 
 // What stands behind a comma that a digit follows.
 fn behind_comma(text: &[u8]) -> Option<&[u8]>
-    ensures { IfSome result (λ more. text.now ≡ 44 ∷ more.now) }
+    ensures none { IfNone result (IsFalse (goes_on text.now)) }
+    ensures comma { IfSome result (λ more. text.now ≡ 44 ∷ more.now) }
+    ensures digit { IfSome result (λ more. IsTrue (begins is_digit more.now)) }
 {
     match text.split_first() {
         Some((b',', more)) if matches!(more, [b'0'..=b'9', ..]) => Some(more),

@@ -1,0 +1,22 @@
+//! Laws of grant texts, for texts of any length. No program needs to call them.
+
+ghost use Rattle.std.specs.Prelude.{◌≡◌, ℕ, List};
+ghost use Rattle.capspec.specs.Faults.{IsFault};
+ghost use Rattle.capspec.specs.Grants.{Reads};
+ghost use Rattle.capspec.specs.declared.fault.SpecFault.{SpecFault};
+ghost use Rattle.capspec.specs.declared.grant.Grant.{Grant};
+
+/// A text that reads has no fault.
+pub fn no_fault_where_it_reads()
+    ensures { (text : List ℕ) (grants : List Grant) (fault : SpecFault) → Reads text grants → IsFault text fault → ⊥ }
+{}
+
+/// A text has at most one fault: the first.
+pub fn one_fault()
+    ensures { (text : List ℕ) (fault other : SpecFault) → IsFault text fault → IsFault text other → fault ≡ other }
+{}
+
+/// A text reads as at most one list of grants.
+pub fn one_list_of_grants()
+    ensures { (text : List ℕ) (grants others : List Grant) → Reads text grants → Reads text others → grants ≡ others }
+{}

@@ -1,0 +1,99 @@
+-- Each change of the table keeps it sound.
+use Rattle.std.proofs.Common.{◌≡◌, ℕ, ◌+◌, ◌-◌, ◌<◌, ◌≤◌, Bool, true, false, cond, not, ◌||◌, ◌&&◌, Option, Some, None, is_some, refl, sym, ap, subst, ◌∙◌, arith}
+use Rattle.std.specs.Cmp.{nat_cmp_total, Equal-is}
+use Rattle.std.specs.FinMap as map
+use Rattle.std.specs.FinSet as set
+use Rattle.std.specs.FinSet.{FinSet}
+use Rattle.std.specs.Option.{option_map_or}
+use Rattle.std.specs.Ordering.{nat_cmp, eq_by_cmp}
+use Rattle.sessiontab.specs.declared.table.TheConstants.{MAX_SESSIONS, MAX_BLOCKED}
+use Rattle.sessiontab.specs.declared.session.Session.{Session}
+use Rattle.sessiontab.specs.Connected.{SessionMap, change_session}
+use Rattle.sessiontab.specs.Table.{IsSound}
+
+same_key : (q k : ℕ) → eq_by_cmp nat_cmp q k ≡ true → q ≡ k
+same_key q k e = map.nat_cmp-IsAntisymmetric q k ((Equal-is (nat_cmp q k)).0 e)
+
+one_more : (b : Bool) (n limit : ℕ) → n < limit → cond b n (n + 1) ≤ limit
+one_more true n limit h = omega arith
+one_more false n limit h = omega arith
+
+as_many : (b : Bool) (n limit : ℕ) → b ≡ true → n ≤ limit → cond b n (n + 1) ≤ limit
+as_many true n limit e h = h
+as_many false n limit e h = cc
+
+one_less : (b : Bool) (n limit : ℕ) → n ≤ limit → cond b (n - 1) n ≤ limit
+one_less true n limit h = omega arith
+one_less false n limit h = h
+
+none_or : {X : Type 0} (b : Bool) (o : Option X) → o ≡ None → cond b None o ≡ None
+none_or true o e = refl
+none_or false o e = e
+
+-- nobody is connected or blocked
+pub sound-empty : IsSound (record { sessions = map.empty; blocked = set.empty })
+sound-empty = record {
+  sessions = subst (λ n. n ≤ MAX_SESSIONS) (sym (map.len-empty nat_cmp Session)) (omega arith);
+  blocked = subst (λ n. n ≤ MAX_BLOCKED) (sym (set.len-empty nat_cmp)) (omega arith);
+  apart = λ q _. map.get-empty nat_cmp q;
+}
+
+module _ (m : SessionMap) (b : FinSet nat_cmp) (k : ℕ) (was : IsSound (record { sessions = m; blocked = b })) where
+  len_without : map.len (map.remove m k) ≤ MAX_SESSIONS
+  len_without = subst (λ n. n ≤ MAX_SESSIONS) (sym (map.len-remove nat_cmp_total m k)) (one_less (map.contains_key m k) (map.len m) MAX_SESSIONS was.sessions)
+
+  -- the client that is connected isn't blocked
+  pub sound-insert : (s : Session) → set.contains b k ≡ false → map.len m < MAX_SESSIONS → IsSound (record { sessions = map.insert m k s; blocked = b })
+  sound-insert s out room = record {
+    sessions = subst (λ n. n ≤ MAX_SESSIONS) (sym (map.len-insert nat_cmp_total m k s)) (one_more (map.contains_key m k) (map.len m) MAX_SESSIONS room);
+    blocked = was.blocked;
+    apart = λ q blocked. map.get-insert nat_cmp_total m k s q ∙ (elim (eq_by_cmp nat_cmp q k) as (λ e. eq_by_cmp nat_cmp q k ≡ e → cond e (Some s) (map.get m q) ≡ None) [
+      | true ↦ λ e. let there : set.contains b k ≡ true = subst (λ x. set.contains b x ≡ true) (same_key q k e) blocked in cc
+      | false ↦ λ _. was.apart q blocked
+    ] refl);
+  }
+
+  -- a session ends
+  pub sound-remove : IsSound (record { sessions = map.remove m k; blocked = b })
+  sound-remove = record {
+    sessions = len_without;
+    blocked = was.blocked;
+    apart = λ q blocked. map.get-remove nat_cmp_total m k q ∙ none_or (eq_by_cmp nat_cmp q k) _ (was.apart q blocked);
+  }
+
+  -- a session changes
+  pub sound-change : (f : Session → Session) → IsSound (record { sessions = change_session f m k; blocked = b })
+  sound-change f =
+      elim (map.get m k) as (λ o. map.get m k ≡ o → IsSound (record { sessions = option_map_or (λ s. map.insert m k (f s)) o m; blocked = b })) [
+        | None ↦ λ _. was
+        | Some s ↦ λ e. record {
+          sessions = subst (λ n. n ≤ MAX_SESSIONS) (sym (map.len-insert nat_cmp_total m k (f s))) (as_many (map.contains_key m k) (map.len m) MAX_SESSIONS (ap is_some e) was.sessions);
+          blocked = was.blocked;
+          apart = λ q blocked. map.get-insert nat_cmp_total m k (f s) q ∙ (elim (eq_by_cmp nat_cmp q k) as (λ t. eq_by_cmp nat_cmp q k ≡ t → cond t (Some (f s)) (map.get m q) ≡ None) [
+            | true ↦ λ t. let here : map.get m k ≡ None = subst (λ x. map.get m x ≡ None) (same_key q k t) (was.apart q blocked) in cc
+            | false ↦ λ _. was.apart q blocked
+          ] refl);
+        }
+      ] refl
+
+  -- a session ends, and its client is blocked
+  pub sound-evict : set.len b < MAX_BLOCKED → IsSound (record { sessions = map.remove m k; blocked = set.insert b k })
+  sound-evict room = record {
+    sessions = len_without;
+    blocked = subst (λ n. n ≤ MAX_BLOCKED) (sym (set.len-insert nat_cmp_total b k)) (one_more (set.contains b k) (set.len b) MAX_BLOCKED room);
+    apart = λ q blocked. map.get-remove nat_cmp_total m k q ∙ (elim (eq_by_cmp nat_cmp q k) as (λ e. (e || set.contains b q) ≡ true → cond e None (map.get m q) ≡ None) [
+      | true ↦ λ _. refl
+      | false ↦ λ there. was.apart q there
+    ] (sym (set.contains-insert nat_cmp_total b k q) ∙ blocked));
+  }
+
+  -- a client is blocked no more
+  pub sound-unblock : IsSound (record { sessions = m; blocked = set.remove b k })
+  sound-unblock = record {
+    sessions = was.sessions;
+    blocked = subst (λ n. n ≤ MAX_BLOCKED) (sym (set.len-remove nat_cmp_total b k)) (one_less (set.contains b k) (set.len b) MAX_BLOCKED was.blocked);
+    apart = λ q blocked. was.apart q (elim (eq_by_cmp nat_cmp q k) as (λ e. (not e && set.contains b q) ≡ true → set.contains b q ≡ true) [
+      | true ↦ λ none. cc
+      | false ↦ λ there. there
+    ] (sym (set.contains-remove nat_cmp_total b k q) ∙ blocked));
+  }

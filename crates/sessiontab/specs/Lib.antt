@@ -1,0 +1,3 @@
+pub mod Connected
+pub mod Table
+pub mod Calls

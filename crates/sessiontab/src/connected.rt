@@ -1,0 +1,83 @@
+//! The sessions, by client.
+ghost use Rattle.std.specs.Prelude.{◌≡◌, IsTrue, OnOk, OnErr};
+ghost use Rattle.std.specs.Bool.{OnFalse};
+ghost use Rattle.std.specs.Option.{option_copied};
+ghost use Rattle.std.specs.FinMap as map;
+ghost use Rattle.sessiontab.specs.Connected.{change_session};
+
+use crate::fault::NoMemory;
+use crate::session::{Session, Status};
+use capbits::ClientId;
+use std::alloc::Global;
+use std::collections::BTreeMap;
+use std::marker::Model;
+
+// The session of each client that is connected.
+#[derive(Debug, Drop)]
+pub(crate) struct Connected {
+    // By the client's number.
+    sessions: BTreeMap<u32, Session>,
+}
+
+impl Model for Connected {
+    ghost use Rattle.std.specs.FinMap as map;
+    ghost use Rattle.sessiontab.specs.Connected.{SessionMap, session_map_code};
+
+    ghost Value = { SessionMap };
+
+    ghost coded = { session_map_code };
+
+    ghost view = { λ c. map.from_entries c.sessions.entries };
+}
+
+impl Connected {
+    // Nobody is connected.
+    pub(crate) fn new(alloc: Global) -> Connected
+        ensures { result ≡ map.empty }
+    {
+        Connected {
+            sessions: BTreeMap::new(alloc),
+        }
+    }
+
+    // How many clients are connected.
+    pub(crate) fn len(&self) -> usize
+        ensures { result ≡ map.len self.now }
+    {
+        self.sessions.len()
+    }
+
+    // The client's session, where it has one.
+    pub(crate) fn get(&self, client: ClientId) -> Option<&Session>
+        ensures { option_copied result ≡ map.get self.now client.0 }
+    {
+        self.sessions.get(&client.0)
+    }
+
+    // Gives the client this session.
+    pub(crate) fn insert(&mut self, client: ClientId, session: Session) -> Result<(), NoMemory>
+        ensures ok { OnOk result (self.new ≡ map.insert self.old client.0 session) }
+        ensures err { OnErr result (self.new ≡ self.old) }
+    {
+        self.sessions.insert(client.0, session)?;
+        Ok(())
+    }
+
+    // Ends the client's session, and answers whether it had one.
+    pub(crate) fn remove(&mut self, client: ClientId) -> bool
+        ensures had { result ≡ map.contains_key self.old client.0 }
+        ensures ended { self.new ≡ map.remove self.old client.0 }
+        ensures kept { OnFalse result (self.new ≡ self.old) }
+    {
+        self.sessions.remove(&client.0).is_some()
+    }
+
+    // Gives the client's session this status, where it has one.
+    pub(crate) fn set_status(&mut self, client: ClientId, status: Status)
+        ensures { self.new ≡ change_session (λ session. record session { status = status }) self.old client.0 }
+    {
+        if let Some(session) = self.sessions.get_mut(&client.0) {
+            session.status = status;
+        }
+    }
+}

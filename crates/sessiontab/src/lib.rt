@@ -1,0 +1,17 @@
+//! The clients that are connected to the server, and those that were thrown out.
+//!
+//! Public source: "Ceph file system client eviction" in the Ceph documentation.
+#![tactic(auto)]
+
+mod blocklist;
+mod connected;
+mod fault;
+mod session;
+mod table;
+
+pub use fault::{EvictFault, NoMemory, NoSession, NotBlocked, OpenFault, RenewFault, StaleFault};
+pub use session::{Session, Status};
+pub use table::{MAX_BLOCKED, MAX_SESSIONS, Sessions};
+
+#[cfg(test)]
+mod tests;

@@ -1,0 +1,24 @@
+//! The session of one client.
+
+use capbits::Caller;
+use capspec::Grants;
+
+/// Whether a client is still heard of.
+#[derive(Clone, Copy, Debug, PartialEq, Eq)]
+pub enum Status {
+    /// The client renews its session, and its requests are taken.
+    Open,
+    /// The client was not heard of in time. It keeps its caps, and little is taken from it until its session is renewed.
+    Stale,
+}
+
+/// What the server keeps of a client while it is connected.
+#[derive(Debug, Drop)]
+pub struct Session {
+    /// Whether the client is still heard of.
+    pub status: Status,
+    /// The user for whom the client asks.
+    pub caller: Caller,
+    /// What the client may do, and where.
+    pub grants: Grants,
+}
