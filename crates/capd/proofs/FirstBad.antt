@@ -1,18 +1,23 @@
 -- Each option in turn is the first bad one.
-use Rattle.std.proofs.Common.{◌≡◌, ℕ, List, [], ◌∷◌, ◌++◌, refl}
-use Rattle.std.specs.Prelude.{Result, Err, IfErr}
+use Rattle.std.proofs.Common.{◌≡◌, ℕ, List, [], ◌∷◌, ◌++◌, ap, sym, subst, inl, inr, refl}
+use Rattle.std.specs.Prelude.{◌≢◌, ◌⊎◌, Result, Ok, Err, IfErr, IsErrAnd}
 use Rattle.std.specs.List.{AllByRecursion}
 use Rattle.std.proofs.lemmas.List.Elements.{All-from_recursion}
 use Rattle.capspec.specs.declared.grant.Grant.{Grant}
+use Rattle.capspec.specs.declared.fault.SpecFault.{SpecFault}
+use Rattle.capspec.specs.Faults.{IsFault, IsNoMemory}
 use Rattle.capspec.specs.Grants.{Reads}
+use Rattle.capspec.proofs.Told.{fault_told}
 use Rattle.capspec.specs.Items.{IsNumber}
 use Rattle.capgrant.specs.declared.access.Access.{Access as AnAccess}
 use Rattle.capd.specs.declared.fault.Fault.{Fault}
+use Rattle.capd.specs.declared.fault.Fault.TheVariants as faults
 use Rattle.capd.specs.declared.fault.Fault.TheVariants.{BadValue}
 use Rattle.capd.specs.declared.options.Opt.{Opt}
 use Rattle.capd.specs.declared.options.Opt.TheVariants.{Grants, Fs, Uid, Gid, Groups, Path, Owner, Group, Mode, Access}
 use Rattle.capd.specs.declared.question.Values.{Values}
 use Rattle.capd.specs.Access.{IsAccessWord}
+use Rattle.capd.specs.Fault.{IsFaultOf}
 use Rattle.capd.specs.Options.{all_options}
 use Rattle.capd.specs.Question.{IsGood, IsFirstBad, IsFaultIn}
 use Rattle.capd.specs.Values.{IsFs, AreGroupsIf, ArePathNames, IsModeText}
@@ -27,32 +32,45 @@ first_bad v option before after order good bad = record {
 }
 
 -- the error that names it
-pub names_first_bad : {T : Type 0} (v : Values) (option : Opt) (r : Result T Fault) → IsFirstBad v option → r ≡ Err (BadValue option) → IfErr r (IsFaultIn v)
-names_first_bad v option r first is = rw is first
+pub names_first_bad : {T : Type 0} (v : Values) (option : Opt) (r : Result T Fault) → option ≢ Grants → IsFirstBad v option → r ≡ Err (BadValue option) → IfErr r (IsFaultIn v)
+names_first_bad v option r later first is = rw is (later, first)
 
-pub bad_fs : (v : Values) (g : List Grant) → Reads v.grants.now g → ((fs : List ℕ) → ¬ IsFs v.fs.now fs) → IsFirstBad v Fs
+pub bad_fs : (v : Values) (g : List Grant) → Reads v.grants.items g → ((fs : List ℕ) → ¬ IsFs v.fs.items fs) → IsFirstBad v Fs
 bad_fs v g is_g none = first_bad v Fs (Grants ∷ []) (Uid ∷ Gid ∷ Groups ∷ Path ∷ Owner ∷ Group ∷ Mode ∷ Access ∷ []) refl ((g, is_g), tt) (λ found. none found.0 found.1)
 
-pub bad_uid : (v : Values) (g : List Grant) (fs : List ℕ) → Reads v.grants.now g → IsFs v.fs.now fs → ((uid : ℕ) → ¬ IsNumber v.uid.now uid) → IsFirstBad v Uid
+pub bad_uid : (v : Values) (g : List Grant) (fs : List ℕ) → Reads v.grants.items g → IsFs v.fs.items fs → ((uid : ℕ) → ¬ IsNumber v.uid.items uid) → IsFirstBad v Uid
 bad_uid v g fs is_g is_fs none = first_bad v Uid (Grants ∷ Fs ∷ []) (Gid ∷ Groups ∷ Path ∷ Owner ∷ Group ∷ Mode ∷ Access ∷ []) refl ((g, is_g), ((fs, is_fs), tt)) (λ found. none found.0 found.1)
 
-pub bad_gid : (v : Values) (g : List Grant) (fs : List ℕ) (uid : ℕ) → Reads v.grants.now g → IsFs v.fs.now fs → IsNumber v.uid.now uid → ((gid : ℕ) → ¬ IsNumber v.gid.now gid) → IsFirstBad v Gid
+pub bad_gid : (v : Values) (g : List Grant) (fs : List ℕ) (uid : ℕ) → Reads v.grants.items g → IsFs v.fs.items fs → IsNumber v.uid.items uid → ((gid : ℕ) → ¬ IsNumber v.gid.items gid) → IsFirstBad v Gid
 bad_gid v g fs uid is_g is_fs is_uid none = first_bad v Gid (Grants ∷ Fs ∷ Uid ∷ []) (Groups ∷ Path ∷ Owner ∷ Group ∷ Mode ∷ Access ∷ []) refl ((g, is_g), ((fs, is_fs), ((uid, is_uid), tt))) (λ found. none found.0 found.1)
 
-pub bad_groups : (v : Values) (g : List Grant) (fs : List ℕ) (uid : ℕ) (gid : ℕ) → Reads v.grants.now g → IsFs v.fs.now fs → IsNumber v.uid.now uid → IsNumber v.gid.now gid → ((gids : List ℕ) → ¬ AreGroupsIf v.groups gids) → IsFirstBad v Groups
+pub bad_groups : (v : Values) (g : List Grant) (fs : List ℕ) (uid : ℕ) (gid : ℕ) → Reads v.grants.items g → IsFs v.fs.items fs → IsNumber v.uid.items uid → IsNumber v.gid.items gid → ((gids : List ℕ) → ¬ AreGroupsIf v.groups gids) → IsFirstBad v Groups
 bad_groups v g fs uid gid is_g is_fs is_uid is_gid none = first_bad v Groups (Grants ∷ Fs ∷ Uid ∷ Gid ∷ []) (Path ∷ Owner ∷ Group ∷ Mode ∷ Access ∷ []) refl ((g, is_g), ((fs, is_fs), ((uid, is_uid), ((gid, is_gid), tt)))) (λ found. none found.0 found.1)
 
-pub bad_path : (v : Values) (g : List Grant) (fs : List ℕ) (uid : ℕ) (gid : ℕ) (gids : List ℕ) → Reads v.grants.now g → IsFs v.fs.now fs → IsNumber v.uid.now uid → IsNumber v.gid.now gid → AreGroupsIf v.groups gids → ((names : List (List ℕ)) → ¬ ArePathNames v.path.now names) → IsFirstBad v Path
+pub bad_path : (v : Values) (g : List Grant) (fs : List ℕ) (uid : ℕ) (gid : ℕ) (gids : List ℕ) → Reads v.grants.items g → IsFs v.fs.items fs → IsNumber v.uid.items uid → IsNumber v.gid.items gid → AreGroupsIf v.groups gids → ((names : List (List ℕ)) → ¬ ArePathNames v.path.items names) → IsFirstBad v Path
 bad_path v g fs uid gid gids is_g is_fs is_uid is_gid is_gids none = first_bad v Path (Grants ∷ Fs ∷ Uid ∷ Gid ∷ Groups ∷ []) (Owner ∷ Group ∷ Mode ∷ Access ∷ []) refl ((g, is_g), ((fs, is_fs), ((uid, is_uid), ((gid, is_gid), ((gids, is_gids), tt))))) (λ found. none found.0 found.1)
 
-pub bad_owner : (v : Values) (g : List Grant) (fs : List ℕ) (uid : ℕ) (gid : ℕ) (gids : List ℕ) (names : List (List ℕ)) → Reads v.grants.now g → IsFs v.fs.now fs → IsNumber v.uid.now uid → IsNumber v.gid.now gid → AreGroupsIf v.groups gids → ArePathNames v.path.now names → ((owner : ℕ) → ¬ IsNumber v.owner.now owner) → IsFirstBad v Owner
+pub bad_owner : (v : Values) (g : List Grant) (fs : List ℕ) (uid : ℕ) (gid : ℕ) (gids : List ℕ) (names : List (List ℕ)) → Reads v.grants.items g → IsFs v.fs.items fs → IsNumber v.uid.items uid → IsNumber v.gid.items gid → AreGroupsIf v.groups gids → ArePathNames v.path.items names → ((owner : ℕ) → ¬ IsNumber v.owner.items owner) → IsFirstBad v Owner
 bad_owner v g fs uid gid gids names is_g is_fs is_uid is_gid is_gids is_names none = first_bad v Owner (Grants ∷ Fs ∷ Uid ∷ Gid ∷ Groups ∷ Path ∷ []) (Group ∷ Mode ∷ Access ∷ []) refl ((g, is_g), ((fs, is_fs), ((uid, is_uid), ((gid, is_gid), ((gids, is_gids), ((names, is_names), tt)))))) (λ found. none found.0 found.1)
 
-pub bad_group : (v : Values) (g : List Grant) (fs : List ℕ) (uid : ℕ) (gid : ℕ) (gids : List ℕ) (names : List (List ℕ)) (owner : ℕ) → Reads v.grants.now g → IsFs v.fs.now fs → IsNumber v.uid.now uid → IsNumber v.gid.now gid → AreGroupsIf v.groups gids → ArePathNames v.path.now names → IsNumber v.owner.now owner → ((group : ℕ) → ¬ IsNumber v.group.now group) → IsFirstBad v Group
+pub bad_group : (v : Values) (g : List Grant) (fs : List ℕ) (uid : ℕ) (gid : ℕ) (gids : List ℕ) (names : List (List ℕ)) (owner : ℕ) → Reads v.grants.items g → IsFs v.fs.items fs → IsNumber v.uid.items uid → IsNumber v.gid.items gid → AreGroupsIf v.groups gids → ArePathNames v.path.items names → IsNumber v.owner.items owner → ((group : ℕ) → ¬ IsNumber v.group.items group) → IsFirstBad v Group
 bad_group v g fs uid gid gids names owner is_g is_fs is_uid is_gid is_gids is_names is_owner none = first_bad v Group (Grants ∷ Fs ∷ Uid ∷ Gid ∷ Groups ∷ Path ∷ Owner ∷ []) (Mode ∷ Access ∷ []) refl ((g, is_g), ((fs, is_fs), ((uid, is_uid), ((gid, is_gid), ((gids, is_gids), ((names, is_names), ((owner, is_owner), tt))))))) (λ found. none found.0 found.1)
 
-pub bad_mode : (v : Values) (g : List Grant) (fs : List ℕ) (uid : ℕ) (gid : ℕ) (gids : List ℕ) (names : List (List ℕ)) (owner : ℕ) (group : ℕ) → Reads v.grants.now g → IsFs v.fs.now fs → IsNumber v.uid.now uid → IsNumber v.gid.now gid → AreGroupsIf v.groups gids → ArePathNames v.path.now names → IsNumber v.owner.now owner → IsNumber v.group.now group → ((mode : ℕ) → ¬ IsModeText v.mode.now mode) → IsFirstBad v Mode
+pub bad_mode : (v : Values) (g : List Grant) (fs : List ℕ) (uid : ℕ) (gid : ℕ) (gids : List ℕ) (names : List (List ℕ)) (owner : ℕ) (group : ℕ) → Reads v.grants.items g → IsFs v.fs.items fs → IsNumber v.uid.items uid → IsNumber v.gid.items gid → AreGroupsIf v.groups gids → ArePathNames v.path.items names → IsNumber v.owner.items owner → IsNumber v.group.items group → ((mode : ℕ) → ¬ IsModeText v.mode.items mode) → IsFirstBad v Mode
 bad_mode v g fs uid gid gids names owner group is_g is_fs is_uid is_gid is_gids is_names is_owner is_group none = first_bad v Mode (Grants ∷ Fs ∷ Uid ∷ Gid ∷ Groups ∷ Path ∷ Owner ∷ Group ∷ []) (Access ∷ []) refl ((g, is_g), ((fs, is_fs), ((uid, is_uid), ((gid, is_gid), ((gids, is_gids), ((names, is_names), ((owner, is_owner), ((group, is_group), tt)))))))) (λ found. none found.0 found.1)
 
-pub bad_access : (v : Values) (g : List Grant) (fs : List ℕ) (uid : ℕ) (gid : ℕ) (gids : List ℕ) (names : List (List ℕ)) (owner : ℕ) (group : ℕ) (mode : ℕ) → Reads v.grants.now g → IsFs v.fs.now fs → IsNumber v.uid.now uid → IsNumber v.gid.now gid → AreGroupsIf v.groups gids → ArePathNames v.path.now names → IsNumber v.owner.now owner → IsNumber v.group.now group → IsModeText v.mode.now mode → ((access : AnAccess) → ¬ IsAccessWord v.access.now access) → IsFirstBad v Access
+pub bad_access : (v : Values) (g : List Grant) (fs : List ℕ) (uid : ℕ) (gid : ℕ) (gids : List ℕ) (names : List (List ℕ)) (owner : ℕ) (group : ℕ) (mode : ℕ) → Reads v.grants.items g → IsFs v.fs.items fs → IsNumber v.uid.items uid → IsNumber v.gid.items gid → AreGroupsIf v.groups gids → ArePathNames v.path.items names → IsNumber v.owner.items owner → IsNumber v.group.items group → IsModeText v.mode.items mode → ((access : AnAccess) → ¬ IsAccessWord v.access.items access) → IsFirstBad v Access
 bad_access v g fs uid gid gids names owner group mode is_g is_fs is_uid is_gid is_gids is_names is_owner is_group is_mode none = first_bad v Access (Grants ∷ Fs ∷ Uid ∷ Gid ∷ Groups ∷ Path ∷ Owner ∷ Group ∷ Mode ∷ []) ([]) refl ((g, is_g), ((fs, is_fs), ((uid, is_uid), ((gid, is_gid), ((gids, is_gids), ((names, is_names), ((owner, is_owner), ((group, is_group), ((mode, is_mode), tt))))))))) (λ found. none found.0 found.1)
+
+grants_fault : (v : Values) (refused : SpecFault) (fault : Fault) → IsFault v.grants.items refused ⊎ (IsNoMemory refused × (g : List Grant) × Reads v.grants.items g) → IsFaultOf refused fault → IsFaultIn v fault
+grants_fault v refused (faults.Grants same) (inl is) passed = subst (λ (f : SpecFault). IsFault v.grants.items f) (sym passed.0) is
+grants_fault v refused (faults.Grants same) (inr missed) passed = absurd (passed.1 (ap (λ (f : SpecFault). f.kind) missed.0))
+grants_fault v refused (BadValue option) found passed = absurd passed
+grants_fault v refused faults.NoMemory (inl is) passed = absurd (fault_told v.grants.items refused is passed)
+grants_fault v refused faults.NoMemory (inr missed) passed = (missed.1, missed.2)
+grants_fault v refused faults.WriteFailed found passed = absurd passed
+
+-- the fault of the grants, or want of memory for good ones
+pub bad_grants : {T : Type 0} (v : Values) (refused : SpecFault) (r : Result T Fault) → IsFault v.grants.items refused ⊎ (IsNoMemory refused × (g : List Grant) × Reads v.grants.items g) → IsErrAnd r (IsFaultOf refused) → IfErr r (IsFaultIn v)
+bad_grants v refused (Ok x) found passed = tt
+bad_grants v refused (Err fault) found passed = grants_fault v refused fault found passed

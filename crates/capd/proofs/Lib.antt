@@ -1,3 +1,4 @@
 pub mod Pieces
 pub mod Printing
 pub mod FirstBad
+pub mod Spelling

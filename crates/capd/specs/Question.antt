@@ -1,7 +1,7 @@
 -- A question on the command line, and its answer.
 use Rattle.std.specs.Prelude.{◌≡◌, ◌≢◌, ℕ, List, ◌∷◌, ◌++◌, map, All}
-use Rattle.capspec.specs.declared.fault.SpecFaultKind.TheVariants as kinds
 use Rattle.capspec.specs.declared.grant.Grant.{Grant}
+use Rattle.capspec.specs.Faults.{IsFault}
 use Rattle.capspec.specs.Grants.{Reads}
 use Rattle.capspec.specs.Items.{IsNumber}
 use Rattle.capgrant.specs.declared.access.Access.{Access as AnAccess}
@@ -24,29 +24,29 @@ names_in q = map (λ name. name.now) q.path.items
 
 -- the values ask the question
 pub record AsksFor (v : Values) (q : Question) : Type 0 where
-  pub grants : Reads v.grants.now q.grants
-  pub fs : IsFs v.fs.now q.fs
-  pub uid : IsNumber v.uid.now q.caller.uid
-  pub gid : IsNumber v.gid.now q.caller.gid
+  pub grants : Reads v.grants.items q.grants
+  pub fs : IsFs v.fs.items q.fs
+  pub uid : IsNumber v.uid.items q.caller.uid
+  pub gid : IsNumber v.gid.items q.caller.gid
   pub groups : AreGroupsIf v.groups q.caller.groups
-  pub path : ArePathNames v.path.now (names_in q)
-  pub owner : IsNumber v.owner.now q.attr.uid
-  pub group : IsNumber v.group.now q.attr.gid
-  pub mode : IsModeText v.mode.now q.attr.mode
-  pub access : IsAccessWord v.access.now q.access
+  pub path : ArePathNames v.path.items (names_in q)
+  pub owner : IsNumber v.owner.items q.attr.uid
+  pub group : IsNumber v.group.items q.attr.gid
+  pub mode : IsModeText v.mode.items q.attr.mode
+  pub access : IsAccessWord v.access.items q.access
 
 -- the value of the option means something
 abbrev pub IsGood : Values → Opt → Type 0
-IsGood v Grants = (grants : List Grant) × Reads v.grants.now grants
-IsGood v Fs = (name : List ℕ) × IsFs v.fs.now name
-IsGood v Uid = (uid : ℕ) × IsNumber v.uid.now uid
-IsGood v Gid = (gid : ℕ) × IsNumber v.gid.now gid
+IsGood v Grants = (grants : List Grant) × Reads v.grants.items grants
+IsGood v Fs = (name : List ℕ) × IsFs v.fs.items name
+IsGood v Uid = (uid : ℕ) × IsNumber v.uid.items uid
+IsGood v Gid = (gid : ℕ) × IsNumber v.gid.items gid
 IsGood v Groups = (gids : List ℕ) × AreGroupsIf v.groups gids
-IsGood v Path = (names : List (List ℕ)) × ArePathNames v.path.now names
-IsGood v Owner = (uid : ℕ) × IsNumber v.owner.now uid
-IsGood v Group = (gid : ℕ) × IsNumber v.group.now gid
-IsGood v Mode = (mode : ℕ) × IsModeText v.mode.now mode
-IsGood v Access = (access : AnAccess) × IsAccessWord v.access.now access
+IsGood v Path = (names : List (List ℕ)) × ArePathNames v.path.items names
+IsGood v Owner = (uid : ℕ) × IsNumber v.owner.items uid
+IsGood v Group = (gid : ℕ) × IsNumber v.group.items gid
+IsGood v Mode = (mode : ℕ) × IsModeText v.mode.items mode
+IsGood v Access = (access : AnAccess) × IsAccessWord v.access.items access
 
 -- the value of the option means nothing, and those that are tested before it are good
 pub record IsFirstBad (v : Values) (option : Opt) : Type 0 where
@@ -56,11 +56,11 @@ pub record IsFirstBad (v : Values) (option : Opt) : Type 0 where
   pub good_before : All (IsGood v) before
   pub bad : ¬ IsGood v option
 
--- why the values ask no question
+-- why the values got no question: the first of their faults, or want of memory for grants that are good
 abbrev pub IsFaultIn : Values → Fault → Type 0
-IsFaultIn v (faults.Grants refused) = refused.kind ≢ kinds.NoMemory
-IsFaultIn v (faults.BadValue option) = IsFirstBad v option
-IsFaultIn v faults.NoMemory = Unit {0}
+IsFaultIn v (faults.Grants refused) = IsFault v.grants.items refused
+IsFaultIn v (faults.BadValue option) = (option ≢ Grants) × IsFirstBad v option
+IsFaultIn v faults.NoMemory = IsGood v Grants
 IsFaultIn v faults.WriteFailed = ⊥
 
 -- the line that answers the question: what its grants say

@@ -1,6 +1,6 @@
 -- What the values of the options mean.
 use Rattle.std.specs.Prelude.{◌≡◌, ℕ, ◌<◌, ◌≤◌, ◌^◌, Option, Some, None, List, [], length, map, All, IsTrue}
-use Rattle.std.specs.Borrow.{Bor}
+use Rattle.std.specs.Global.{Vec}
 use Rattle.std.specs.List.{slice_split}
 use Rattle.std.specs.Str.Parse.{IsNumeral, digits_value}
 use Rattle.capspec.specs.Items.{is_comma}
@@ -30,9 +30,9 @@ abbrev pub groups_of : List ℕ → List ℕ
 groups_of text = map (digits_value 10) (between_commas text)
 
 -- the groups that are given, or none
-abbrev pub AreGroupsIf : Option (Bor (List ℕ)) → List ℕ → Type 0
+abbrev pub AreGroupsIf : Option (Vec ℕ) → List ℕ → Type 0
 AreGroupsIf None gids = gids ≡ []
-AreGroupsIf (Some text) gids = AreGroups text.now × (gids ≡ groups_of text.now)
+AreGroupsIf (Some text) gids = AreGroups text.items × (gids ≡ groups_of text.items)
 
 -- the names between the slashes, at most 32 of at most 255 bytes
 pub record ArePathNames (text : List ℕ) (names : List (List ℕ)) : Type 0 where

@@ -2,10 +2,10 @@
 
 use crate::options::Opt;
 use crate::question::Values;
+use crate::words::{spell, spelled};
 use clap::error::ErrorKind;
 use clap::{Arg, ArgAction, ArgMatches, Command, Error};
 use std::alloc::{AllocError, Global};
-use std::convert::AsStr;
 
 const CAPD: &str = "capd";
 
@@ -20,13 +20,17 @@ prints
   denied write /data/report grant 1 rule 4 path, grant 2 rule 11 mode-bits";
 
 /// The values of the options, out of the words behind the program's name. The error's text says what is wrong with the
-/// words, or it is the help that they ask for.
-pub fn parse<'a, S: AsStr>(alloc: Global, words: &'a [S]) -> Result<Values<'a>, Error> {
+/// words, or it is the help that they ask for; `words::spelled` gives its bytes.
+pub fn parse(alloc: Global, words: &[Vec<u8>]) -> Result<Values, Error> {
+    let mut texts = Vec::new(alloc);
+    for word in words {
+        texts.push(spell(alloc, word.as_slice())?)?;
+    }
     let mut command = capd(alloc)?;
-    let matches = command.try_get_matches_from_mut(words)?;
-    match explain_values(&matches) {
-        Some(values) => Ok(values),
-        None => Err(command.error(ErrorKind::MissingRequiredArgument, "an option is missing")?),
+    let matches = command.try_get_matches_from_mut(texts.as_slice())?;
+    match explain_values(alloc, &matches) {
+        Ok(values) => Ok(values),
+        Err(kind) => Err(command.error(kind, "an option is missing")?),
     }
 }
 
@@ -58,19 +62,39 @@ fn explain<'a>(alloc: Global) -> Result<Command<'a>, AllocError> {
     Ok(command)
 }
 
-fn explain_values<'a>(matches: &ArgMatches<'a>) -> Option<Values<'a>> {
-    let matches = matches.subcommand_matches(EXPLAIN)?;
-    let value = |option: Opt| matches.get_str(option.name());
-    Some(Values {
-        grants: value(Opt::Grants)?,
-        fs: value(Opt::Fs)?,
-        uid: value(Opt::Uid)?,
-        gid: value(Opt::Gid)?,
-        groups: value(Opt::Groups),
-        path: value(Opt::Path)?,
-        owner: value(Opt::Owner)?,
-        group: value(Opt::Group)?,
-        mode: value(Opt::Mode)?,
-        access: value(Opt::Access)?,
+fn explain_values(alloc: Global, matches: &ArgMatches<'_>) -> Result<Values, ErrorKind> {
+    let matches = matches
+        .subcommand_matches(EXPLAIN)
+        .ok_or(ErrorKind::MissingSubcommand)?;
+    Ok(Values {
+        grants: value(alloc, matches, Opt::Grants)?,
+        fs: value(alloc, matches, Opt::Fs)?,
+        uid: value(alloc, matches, Opt::Uid)?,
+        gid: value(alloc, matches, Opt::Gid)?,
+        groups: given_value(alloc, matches, Opt::Groups)?,
+        path: value(alloc, matches, Opt::Path)?,
+        owner: value(alloc, matches, Opt::Owner)?,
+        group: value(alloc, matches, Opt::Group)?,
+        mode: value(alloc, matches, Opt::Mode)?,
+        access: value(alloc, matches, Opt::Access)?,
     })
+}
+
+fn value(alloc: Global, matches: &ArgMatches<'_>, option: Opt) -> Result<Vec<u8>, ErrorKind> {
+    given_value(alloc, matches, option)?.ok_or(ErrorKind::MissingRequiredArgument)
+}
+
+// The value of an option, if it is given.
+fn given_value(
+    alloc: Global,
+    matches: &ArgMatches<'_>,
+    option: Opt,
+) -> Result<Option<Vec<u8>>, ErrorKind> {
+    match matches.get_str(option.name()) {
+        Some(text) => match spelled(alloc, text) {
+            Ok(value) => Ok(Some(value)),
+            Err(_) => Err(ErrorKind::OutOfMemory),
+        },
+        None => Ok(None),
+    }
 }

@@ -7,9 +7,9 @@ ghost use Rattle.capd.specs.Question.{AsksFor, answer_text};
 use crate::command_line::parse;
 use crate::fault::{Fault, NoMemory};
 use crate::question::{Question, Values};
+use crate::words::spelled;
 use clap::error::ErrorKind;
 use std::alloc::Global;
-use std::convert::AsStr;
 use std::io;
 use std::io::{Read, Write};
 
@@ -24,9 +24,9 @@ pub const USAGE: u8 = 2;
 
 /// Does what the words behind the program's name ask for, and returns the status. What is wrong is written to `faults`;
 /// where that fails, nothing else can be said, and the status stays. No command reads from `_reader` yet.
-pub fn dispatch<R: AllocGlobal, S: AsStr>(
+pub fn dispatch<R: AllocGlobal>(
     rt: &R,
-    words: &[S],
+    words: &[Vec<u8>],
     _reader: &mut impl Read,
     writer: &mut impl Write,
     faults: &mut impl Write,
@@ -35,7 +35,7 @@ pub fn dispatch<R: AllocGlobal, S: AsStr>(
 {
     let values = match parse(rt.alloc(), words) {
         Ok(values) => values,
-        Err(error) => return show(&error, writer, faults),
+        Err(error) => return show(rt.alloc(), &error, writer, faults),
     };
     match explain(rt.alloc(), &values, writer) {
         Ok(()) => DONE,
@@ -44,7 +44,7 @@ pub fn dispatch<R: AllocGlobal, S: AsStr>(
 }
 
 // Writes the answer to a question, as a line.
-fn explain<W: Write>(alloc: Global, values: &Values<'_>, writer: &mut W) -> Result<(), Fault>
+fn explain<W: Write>(alloc: Global, values: &Values, writer: &mut W) -> Result<(), Fault>
     ensures { OnOk result ((asked : Asked) × AsksFor values.now asked
         × Appends (W.contents writer.old) (W.contents writer.new) (answer_text asked ++ codes "\n")) }
 {
@@ -56,21 +56,34 @@ fn explain<W: Write>(alloc: Global, values: &Values<'_>, writer: &mut W) -> Resu
         .map_err(|_| Fault::WriteFailed)
 }
 
-// Shows what the parser of the command line says.
-fn show(error: &clap::Error, writer: &mut impl Write, faults: &mut impl Write) -> u8
+// Shows what the parser of the command line says, with the words in it as they came.
+fn show(
+    alloc: Global,
+    error: &clap::Error,
+    writer: &mut impl Write,
+    faults: &mut impl Write,
+) -> u8
     ensures { result ≤ USAGE }
 {
     if error.kind() == ErrorKind::OutOfMemory {
         return report(Fault::NoMemory, faults);
     }
+    let Ok(text) = shown(alloc, error) else {
+        return report(Fault::NoMemory, faults);
+    };
     if error.use_stderr() {
-        let _ = write!(faults, "{error}");
+        let _ = faults.write_all(text.as_slice());
         return USAGE;
     }
-    match write!(writer, "{error}") {
+    match writer.write_all(text.as_slice()) {
         Ok(()) => DONE,
         Err(_) => report(Fault::WriteFailed, faults),
     }
+}
+
+fn shown(alloc: Global, error: &clap::Error) -> Result<Vec<u8>, NoMemory> {
+    let text = format!(in alloc; "{error}").map_err(|_| NoMemory)?;
+    Ok(spelled(alloc, text.as_str())?)
 }
 
 /// Writes the fault as a line, and returns its status.

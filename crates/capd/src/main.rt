@@ -11,27 +11,18 @@ mod options;
 mod question;
 #[cfg(test)]
 mod tests;
+mod words;
 
-use crate::commands::{USAGE, dispatch, report};
+use crate::commands::{dispatch, report};
 use crate::fault::Fault;
-use std::io;
-use std::io::ErrorKind;
+use crate::words::words;
 use std::process::ExitCode;
 
 fn main(rt: HostRuntime) -> ExitCode {
     let (mut reader, mut writer, mut faults) = (rt.stdin(), rt.stdout(), rt.stderr());
-    let status = match words(&rt) {
+    let status = match words(&rt, rt.alloc()) {
         Ok(words) => dispatch(&rt, words.as_slice(), &mut reader, &mut writer, &mut faults),
-        Err(error) if error.kind() == ErrorKind::InvalidData => {
-            let _ = eprintln!(rt; "error: the words of the command line are not UTF-8");
-            USAGE
-        }
         Err(_) => report(Fault::NoMemory, &mut faults),
     };
     ExitCode::from(status)
-}
-
-// The words behind the program's name.
-fn words(rt: &HostRuntime) -> io::Result<Vec<String>> {
-    Ok(std::env::args(rt)?.skip(1).collect(rt.alloc())?)
 }

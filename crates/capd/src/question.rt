@@ -14,29 +14,29 @@ use capgrant::{Access, Attr, verdict};
 use capspec::{FsName, Grants, read_grants};
 use std::alloc::Global;
 
-/// The values of the options as they stand on the command line.
-#[derive(Clone, Copy, Debug)]
-pub struct Values<'a> {
+/// The values of the options as they stand on the command line, as bytes.
+#[derive(Debug, Drop)]
+pub struct Values {
     /// The client's grants.
-    pub grants: &'a str,
+    pub grants: Vec<u8>,
     /// The name of the file system.
-    pub fs: &'a str,
+    pub fs: Vec<u8>,
     /// The caller's uid.
-    pub uid: &'a str,
+    pub uid: Vec<u8>,
     /// The caller's gid.
-    pub gid: &'a str,
+    pub gid: Vec<u8>,
     /// The caller's other groups, if they are given.
-    pub groups: Option<&'a str>,
+    pub groups: Option<Vec<u8>>,
     /// The place of the inode.
-    pub path: &'a str,
+    pub path: Vec<u8>,
     /// The inode's owner.
-    pub owner: &'a str,
+    pub owner: Vec<u8>,
     /// The inode's group.
-    pub group: &'a str,
+    pub group: Vec<u8>,
     /// The inode's mode.
-    pub mode: &'a str,
+    pub mode: Vec<u8>,
     /// What is asked for.
-    pub access: &'a str,
+    pub access: Vec<u8>,
 }
 
 /// Whether these grants let a caller make an access to an inode.
@@ -61,24 +61,24 @@ impl<'a> Question<'a> {
     ghost use Rattle.capd.specs.Question.{AsksFor, IsFaultIn, answer_text};
 
     /// Reads the values, in the order of `Opt::ALL`, up to the first bad one.
-    pub fn read(alloc: Global, values: &Values<'a>) -> Result<Question<'a>, Fault>
+    pub fn read(alloc: Global, values: &'a Values) -> Result<Question<'a>, Fault>
         ensures ok { IfOk result (AsksFor values.now) }
         ensures err { IfErr result (IsFaultIn values.now) }
     {
-        let grants = read_grants(alloc, values.grants.as_bytes())?;
-        let fs = FsName::read(values.fs.as_bytes()).ok_or(Fault::BadValue(Opt::Fs))?;
+        let grants = read_grants(alloc, values.grants.as_slice())?;
+        let fs = FsName::read(values.fs.as_slice()).ok_or(Fault::BadValue(Opt::Fs))?;
         let caller = Caller {
-            uid: read_number(Opt::Uid, values.uid)?,
-            gid: read_number(Opt::Gid, values.gid)?,
-            groups: read_given_groups(values.groups)?,
+            uid: read_number(Opt::Uid, values.uid.as_slice())?,
+            gid: read_number(Opt::Gid, values.gid.as_slice())?,
+            groups: read_given_groups(&values.groups)?,
         };
-        let path = split_path(values.path.as_bytes()).ok_or(Fault::BadValue(Opt::Path))?;
+        let path = split_path(values.path.as_slice()).ok_or(Fault::BadValue(Opt::Path))?;
         let attr = Attr {
-            uid: read_number(Opt::Owner, values.owner)?,
-            gid: read_number(Opt::Group, values.group)?,
-            mode: read_mode(values.mode.as_bytes()).ok_or(Fault::BadValue(Opt::Mode))?,
+            uid: read_number(Opt::Owner, values.owner.as_slice())?,
+            gid: read_number(Opt::Group, values.group.as_slice())?,
+            mode: read_mode(values.mode.as_slice()).ok_or(Fault::BadValue(Opt::Mode))?,
         };
-        let access = read_access(values.access.as_bytes()).ok_or(Fault::BadValue(Opt::Access))?;
+        let access = read_access(values.access.as_slice()).ok_or(Fault::BadValue(Opt::Access))?;
         Ok(Question {
             grants,
             fs,
@@ -107,18 +107,18 @@ impl<'a> Question<'a> {
 }
 
 // The number that the value of an option writes.
-fn read_number(option: Opt, text: &str) -> Result<u32, Fault>
+fn read_number(option: Opt, text: &[u8]) -> Result<u32, Fault>
     ensures { MatchResult result (IsNumber text.now) (λ fault. (fault ≡ Fault.BadValue option) × ((n : ℕ) → ¬ IsNumber text.now n)) }
 {
-    read_u32(text.as_bytes()).ok_or(Fault::BadValue(option))
+    read_u32(text).ok_or(Fault::BadValue(option))
 }
 
 // The groups that are given, or none.
-fn read_given_groups(groups: Option<&str>) -> Result<Groups, Fault>
-    ensures { MatchResult result (AreGroupsIf groups.entry) (λ fault. (fault ≡ Fault.BadValue Opt.Groups) × ((gids : List ℕ) → ¬ AreGroupsIf groups.entry gids)) }
+fn read_given_groups(groups: &Option<Vec<u8>>) -> Result<Groups, Fault>
+    ensures { MatchResult result (AreGroupsIf groups.now) (λ fault. (fault ≡ Fault.BadValue Opt.Groups) × ((gids : List ℕ) → ¬ AreGroupsIf groups.now gids)) }
 {
     match groups {
-        Some(text) => read_groups(text.as_bytes()).ok_or(Fault::BadValue(Opt::Groups)),
+        Some(text) => read_groups(text.as_slice()).ok_or(Fault::BadValue(Opt::Groups)),
         None => Ok(Groups::new()),
     }
 }

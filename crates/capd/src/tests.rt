@@ -25,10 +25,31 @@ const QUESTION: [(&str, &str); 9] = [
     ("--access", "write"),
 ];
 
+/// The words of a question but for its grants and its path.
+const WITHOUT_PLACE: [&str; 8] = [
+    "explain",
+    "--fs=cephfs",
+    "--uid=9",
+    "--gid=50",
+    "--owner=7",
+    "--group=50",
+    "--mode=0640",
+    "--access=write",
+];
+
 const ANSWER: &str = "denied write /b/x grant 1 rule 4 path, grant 2 rule 5 no-write\n";
 
+// The words as a program gets them.
+fn as_bytes(rt: &impl AllocGlobal, words: &[&str]) -> Result<Vec<Vec<u8>>, Fail> {
+    let mut all = Vec::new(rt.alloc());
+    for word in words {
+        all.push(word.as_bytes().to_vec(rt.alloc())?)?;
+    }
+    Ok(all)
+}
+
 // The words of the question, with these options changed, or added to it at the end.
-fn words<'a>(rt: &impl AllocGlobal, changes: &[(&'a str, &'a str)]) -> Result<Vec<&'a str>, Fail> {
+fn words(rt: &impl AllocGlobal, changes: &[(&str, &str)]) -> Result<Vec<Vec<u8>>, Fail> {
     let mut words = vec![in rt.alloc(); "explain"]?;
     for (name, value) in QUESTION {
         if !changes.iter().any(|change| change.0 == name) {
@@ -40,11 +61,17 @@ fn words<'a>(rt: &impl AllocGlobal, changes: &[(&'a str, &'a str)]) -> Result<Ve
         words.push(*name)?;
         words.push(*value)?;
     }
-    Ok(words)
+    as_bytes(rt, words.as_slice())
 }
 
 // Runs `capd` on the words, and tests what it writes and its status.
-fn expect(rt: &(impl AllocGlobal + Abort), words: &[&str], out: &str, faults: &str, status: u8) {
+fn expect(
+    rt: &(impl AllocGlobal + Abort),
+    words: &[Vec<u8>],
+    out: &str,
+    faults: &str,
+    status: u8,
+) {
     let mut reader: &[u8] = b"never read";
     let (mut writer, mut fault_writer) = (Vec::new(rt.alloc()), Vec::new(rt.alloc()));
     let got = dispatch(rt, words, &mut reader, &mut writer, &mut fault_writer);
@@ -260,8 +287,47 @@ fn names_have_255_bytes_at_most(rt: HostRuntime) -> Result<(), Fail> {
     Ok(())
 }
 
+// A byte that is no UTF-8 comes out as it came in, in the answer and in what is said of a wrong word.
+#[test]
+fn a_word_may_hold_any_byte(rt: HostRuntime) -> Result<(), Fail> {
+    let cases: [(&[u8], &[u8], &[u8]); 3] = [
+        (
+            b"--grants=allow rw path=/a",
+            b"--path=/\xff",
+            b"denied write /\xff grant 1 rule 4 path\n",
+        ),
+        (
+            b"--grants=allow rw path=\"/\xff\xc3\xa9\"",
+            b"--path=/\xff\xc3\xa9/x",
+            b"allowed write /\xff\xc3\xa9/x grant 1\n",
+        ),
+        (
+            b"--grants=allow rw path='/\xc3\xa9'",
+            b"--path=/\xe9",
+            b"denied write /\xe9 grant 1 rule 4 path\n",
+        ),
+    ];
+    for (grants, path, line) in cases {
+        let mut words = as_bytes(&rt, &WITHOUT_PLACE)?;
+        words.push(grants.to_vec(rt.alloc())?)?;
+        words.push(path.to_vec(rt.alloc())?)?;
+        expect_text(&rt, words.as_slice(), line, 0);
+    }
+    let unknown = vec![in rt.alloc(); b"fl\xff".to_vec(rt.alloc())?]?;
+    expect_text(&rt, unknown.as_slice(), b"unrecognized subcommand 'fl\xff'", 2);
+    let mut words = words(&rt, &[])?;
+    words.push(b"--groups=1\xff".to_vec(rt.alloc())?)?;
+    expect_text(&rt, words.as_slice(), b"capd: bad value of --groups\n", 1);
+    Ok(())
+}
+
 // Runs `capd` on words that are wrong, or that ask for help: which of its outputs has a text is told by the status.
-fn expect_text(rt: &(impl AllocGlobal + Abort), words: &[&str], part: &str, status: u8) {
+fn expect_text(
+    rt: &(impl AllocGlobal + Abort),
+    words: &[Vec<u8>],
+    part: &[u8],
+    status: u8,
+) {
     let mut reader: &[u8] = b"";
     let (mut writer, mut faults) = (Vec::new(rt.alloc()), Vec::new(rt.alloc()));
     let got = dispatch(rt, words, &mut reader, &mut writer, &mut faults);
@@ -275,7 +341,7 @@ fn expect_text(rt: &(impl AllocGlobal + Abort), words: &[&str], part: &str, stat
     let found = text
         .as_slice()
         .windows(part.len().max(1))
-        .any(|window| window == part.as_bytes());
+        .any(|window| window == part);
     assert!(rt; found, "no {part:?} at {words:?}");
 }
 
@@ -290,17 +356,18 @@ fn refuses_wrong_command_lines(rt: HostRuntime) -> Result<(), Fail> {
         (&["explain", "left", "over"], "unexpected argument"),
     ];
     for (words, part) in cases {
-        expect_text(&rt, words, part, 2);
+        let words = as_bytes(&rt, words)?;
+        expect_text(&rt, words.as_slice(), part.as_bytes(), 2);
     }
     // A value that begins with `-` needs the other form.
     expect_text(
         &rt,
         words(&rt, &[("--uid", "-5")])?.as_slice(),
-        "unexpected argument",
+        b"unexpected argument",
         2,
     );
     let mut joined = words(&rt, &[])?;
-    joined.push("--groups=-5")?;
+    joined.push(b"--groups=-5".to_vec(rt.alloc())?)?;
     expect(
         &rt,
         joined.as_slice(),
@@ -312,7 +379,7 @@ fn refuses_wrong_command_lines(rt: HostRuntime) -> Result<(), Fail> {
 }
 
 #[test]
-fn shows_help(rt: HostRuntime) {
+fn shows_help(rt: HostRuntime) -> Result<(), Fail> {
     let cases: [(&[&str], &str); 4] = [
         (&["--help"], "Usage: capd <COMMAND>"),
         (&["explain", "--help"], "Usage: capd explain [OPTIONS]"),
@@ -320,8 +387,10 @@ fn shows_help(rt: HostRuntime) {
         (&["help", "explain"], "grant 2 rule 11 mode-bits"),
     ];
     for (words, part) in cases {
-        expect_text(&rt, words, part, 0);
+        let words = as_bytes(&rt, words)?;
+        expect_text(&rt, words.as_slice(), part.as_bytes(), 0);
     }
+    Ok(())
 }
 
 // The question of the help's example.
@@ -368,7 +437,7 @@ impl Write for Failing {
 #[test]
 fn a_failing_writer_is_a_fault(rt: HostRuntime) -> Result<(), Fail> {
     let question = words(&rt, &[])?;
-    let help = ["--help"];
+    let help = as_bytes(&rt, &["--help"])?;
     for words in [question.as_slice(), help.as_slice()] {
         for room in [0, 7] {
             let mut reader: &[u8] = b"";
@@ -384,7 +453,7 @@ fn a_failing_writer_is_a_fault(rt: HostRuntime) -> Result<(), Fail> {
 #[test]
 fn a_fault_that_can_not_be_written_keeps_its_status(rt: HostRuntime) -> Result<(), Fail> {
     let bad = words(&rt, &[("--mode", "8")])?;
-    let unknown = ["fly"];
+    let unknown = as_bytes(&rt, &["fly"])?;
     for (words, want) in [(bad.as_slice(), 1), (unknown.as_slice(), 2)] {
         for room in [0, 7] {
             let mut reader: &[u8] = b"";

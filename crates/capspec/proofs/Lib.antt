@@ -11,3 +11,4 @@ pub mod Righting
 pub mod Determined
 pub mod Complete
 pub mod OneReading
+pub mod Told

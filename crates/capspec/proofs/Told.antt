@@ -1,0 +1,99 @@
+-- No test of a text is about memory.
+use Rattle.std.proofs.Common.{◌≡◌, ℕ, Bool, true, false, List, [], ◌∷◌, Option, None, Some, Result, Ok, Err, sym, ap, subst, ◌∙◌, inl, inr}
+use Rattle.std.specs.Prelude.{◌≢◌, MatchBool, IfErr, if◌then◌else◌}
+use Rattle.capspec.specs.declared.fault.SpecFault.{SpecFault}
+use Rattle.capspec.specs.declared.fault.SpecFaultKind.{SpecFaultKind}
+use Rattle.capspec.specs.declared.fault.SpecFaultKind.TheVariants as kinds
+use Rattle.capspec.specs.declared.grant.Grant.{Grant}
+use Rattle.capspec.specs.declared.items.Key.{Key}
+use Rattle.capspec.specs.declared.items.Key.TheVariants as keys
+use Rattle.capspec.specs.declared.reading.Refusal.{Refusal}
+use Rattle.capspec.specs.Bytes.{ends_word, is_in}
+use Rattle.capspec.specs.declared.bytes.ByteSet.TheVariants.{AllBut}
+use Rattle.capspec.specs.Items.{Item}
+use Rattle.capspec.specs.Words.{next, front_while, rest_while, is_quote, is_left_out, plain_word, IsWrongFirst, IsWrongSecond, IsWrongOther, IsWrongQuoted, IsWrongPath, IsWrongGids, IsWrongValue, IsWrongItem}
+use Rattle.capspec.specs.Faults.{stood, grant_end, ItemsGive, grant_ends, wrong_item, next_item, GrantGives, wrong_first, wrong_second, wrong_items, right_grant, GrantsGive, wrong_grant, last_grant, next_grant, TestsGive, IsFault}
+
+abbrev IsTold : SpecFaultKind → Type 0
+IsTold kind = kind ≢ kinds.NoMemory
+
+abbrev IsToldAtErr : {A : Type 0} → Result A Refusal → Type 0
+IsToldAtErr result = IfErr result (λ refusal. IsTold refusal.kind)
+
+-- a kind that is known
+told : (kind known : SpecFaultKind) → IsTold known → kind ≡ known → IsTold kind
+told kind known is same memory = is (sym same ∙ memory)
+
+either : {R : Type 0} (b : Bool) (P Q : Type 0) → (P → R) → (Q → R) → MatchBool b P Q → R
+either true P Q f g m = f m
+either false P Q f g m = g m
+
+first_told : (before : ℕ) (word : List ℕ) (kind : SpecFaultKind) → IsWrongFirst before word kind → IsTold kind
+first_told before word kind (inl w) = told kind kinds.TooMany (λ e. cc) w.1
+first_told before word kind (inr w) = told kind kinds.NotAllow (λ e. cc) w.2
+
+left_out_told : (b : Bool) → IsTold (if b then kinds.LeftOut else kinds.BadFlags)
+left_out_told true e = cc
+left_out_told false e = cc
+
+second_told : (word : List ℕ) (kind : SpecFaultKind) → IsWrongSecond word kind → IsTold kind
+second_told word kind w = told kind (if is_left_out word then kinds.LeftOut else kinds.BadFlags) (left_out_told (is_left_out word)) w.1
+
+other_told : (word : List ℕ) (kind : SpecFaultKind) → IsWrongOther word kind → IsTold kind
+other_told word kind (inl w) = told kind kinds.LeftOut (λ e. cc) w.1
+other_told word kind (inr w) = told kind kinds.BadItem (λ e. cc) w.1
+
+quoted_told : (quote : ℕ) (path rest : List ℕ) (kind : SpecFaultKind) → IsWrongQuoted quote path rest kind → IsTold kind
+quoted_told quote path [] kind w = told kind kinds.OpenQuote (λ e. cc) w
+quoted_told quote path (closing ∷ behind) kind w = either (ends_word behind) _ _ (λ p. told kind kinds.BadPath (λ e. cc) p.1) (λ q. told kind kinds.BadItem (λ e. cc) q) w
+
+path_told : (text : List ℕ) (kind : SpecFaultKind) → IsWrongPath text kind → IsTold kind
+path_told [] kind w = told kind kinds.BadPath (λ e. cc) w
+path_told (b ∷ bs) kind w = either (is_quote b) _ _ (λ p. quoted_told b (front_while (is_in (AllBut b)) bs) (rest_while (is_in (AllBut b)) bs) kind p) (λ q. told kind kinds.BadPath (λ e. cc) q.1) w
+
+gids_told : (value : List ℕ) (kind : SpecFaultKind) → IsWrongGids value kind → IsTold kind
+gids_told value kind (inl w) = told kind kinds.BadNumber (λ e. cc) w.1
+gids_told value kind (inr w) = told kind kinds.TooMany (λ e. cc) w.3
+
+value_told : (key : Key) (text : List ℕ) (kind : SpecFaultKind) → IsWrongValue key text kind → IsTold kind
+value_told keys.FsName text kind w = told kind kinds.BadItem (λ e. cc) w.1
+value_told keys.Path text kind w = path_told text kind w
+value_told keys.Uid text kind w = told kind kinds.BadNumber (λ e. cc) w.1
+value_told keys.Gids text kind w = gids_told _ kind w
+value_told keys.RootSquash text kind w = absurd w
+
+item_told : (stands : Key → Bool) (text : List ℕ) (kind : SpecFaultKind) → IsWrongItem stands text kind → IsTold kind
+item_told stands text kind (inl w) = other_told (plain_word text) kind w.1
+item_told stands text kind (inr w) = either (stands w.0) _ _ (λ p. told kind kinds.Twice (λ e. cc) p) (λ q. value_told w.0 w.1 kind q) w.3
+
+unless_told : (b : Bool) (found : List Item × List ℕ) (refusal : Refusal) → IsTold refusal.kind → IsToldAtErr (if b then Ok found else Err refusal)
+unless_told true found refusal is = tt
+unless_told false found refusal is = is
+
+end_told : (items : List Item) (gids : Option (List ℕ)) (rest : List ℕ) → IsToldAtErr (grant_end items gids rest)
+end_told items None rest = tt
+end_told items (Some gids) rest = unless_told (stood items keys.Uid) (items, rest) _ (λ e. cc)
+
+items_told : {items : List Item} {gids : Option (List ℕ)} {text : List ℕ} {result : Result (List Item × List ℕ) Refusal} → ItemsGive items gids text result → IsToldAtErr result
+items_told {items} {gids} {text} (grant_ends ends) = end_told items gids (next text)
+items_told {items} {gids} {text} (wrong_item {kind = kind} goes w) = item_told (stood items) (next text) kind w
+items_told (next_item item rest goes unseen begins on) = items_told on
+
+grant_told : {before : ℕ} {text : List ℕ} {result : Result (Grant × List ℕ) Refusal} → GrantGives before text result → IsToldAtErr result
+grant_told {before} {text} (wrong_first {kind = kind} w) = first_told before _ kind w
+grant_told (wrong_second {kind = kind} ok w) = second_told _ kind w
+grant_told (wrong_items flags ok is w) = items_told w
+grant_told (right_grant items ok is read are) = tt
+
+grants_told : {grants : List Grant} {text : List ℕ} {result : Result (List Grant) Refusal} → GrantsGive grants text result → IsToldAtErr result
+grants_told (wrong_grant w) = grant_told w
+grants_told (last_grant g) = tt
+grants_told (next_grant grant mark rest g on) = grants_told on
+
+tests_told : (text : List ℕ) (result : Result (List Grant) Refusal) → TestsGive text result → IsToldAtErr result
+tests_told text result (inl blank) = subst (λ (r : Result (List Grant) Refusal). IsToldAtErr r) (sym blank.1) (λ e. cc)
+tests_told text result (inr gives) = grants_told gives.1
+
+-- a fault of a text is not want of memory
+pub fault_told : (text : List ℕ) (fault : SpecFault) → IsFault text fault → fault.kind ≢ kinds.NoMemory
+fault_told text fault is = told fault.kind is.0.kind (tests_told text (Err is.0) is.1) (ap (λ (f : SpecFault). f.kind) is.2)
