@@ -1,8 +1,9 @@
 //! The commands of the program, over streams that the caller passes.
-ghost use Rattle.std.specs.Prelude.{◌≡◌, ◌≤◌, ◌++◌, codes, OnOk};
-ghost use Rattle.std.specs.Io.KnownBytes.{Appends};
+ghost use Rattle.std.specs.Prelude.{◌≡◌, ◌≤◌, ◌⊎◌, ◌++◌, codes, OnOk, IfErr};
+ghost use Rattle.std.specs.Io.KnownBytes.{Appends, Keeps};
+ghost use Rattle.capd.specs.declared.fault.Fault.TheVariants as faults;
 ghost use Rattle.capd.specs.declared.question.Question.{Question as Asked};
-ghost use Rattle.capd.specs.Question.{AsksFor, answer_text};
+ghost use Rattle.capd.specs.Question.{AsksFor, IsFaultIn, answer_text};
 
 use crate::command_line::parse;
 use crate::fault::{Fault, NoMemory};
@@ -45,8 +46,11 @@ pub fn dispatch<R: AllocGlobal>(
 
 // Writes the answer to a question, as a line.
 fn explain<W: Write>(alloc: Global, values: &Values, writer: &mut W) -> Result<(), Fault>
-    ensures { OnOk result ((asked : Asked) × AsksFor values.now asked
+    ensures answer { OnOk result ((asked : Asked) × AsksFor values.now asked
         × Appends (W.contents writer.old) (W.contents writer.new) (answer_text asked ++ codes "\n")) }
+    // A fault of the values, or want of memory, comes before anything is written.
+    ensures fault { IfErr result (λ fault. (fault ≡ faults.WriteFailed)
+        ⊎ (IsFaultIn values.now fault × Keeps (W.contents writer.old) (W.contents writer.new))) }
 {
     let question = Question::read(alloc, values)?;
     let mut line = question.answer(alloc)?;

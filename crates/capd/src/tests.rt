@@ -1,6 +1,8 @@
 //! Whole command lines: the words in, the bytes out, the status.
 
-use crate::commands::dispatch;
+use crate::access::read_access;
+use crate::commands::{dispatch, report};
+use crate::fault::Fault;
 use crate::line::explain_line;
 use arrayvec::ArrayVec;
 use capgrant::{Access, Rules, Verdict};
@@ -170,6 +172,7 @@ fn names_the_fault_of_the_grants(rt: HostRuntime) -> Result<(), Fail> {
         ("allow rw uid=1 uid=2", "Twice at 15"),
         ("allow rw uid=4294967296", "BadNumber at 9"),
         ("allow rw path=/a*", "BadPath at 9"),
+        ("allow rw pa", "BadItem at 9"),
         (
             "allow r,allow r,allow r,allow r,allow r,allow r,allow r,allow r,allow r,allow r,allow r,allow r,allow r,allow r,allow r,allow r,allow r",
             "TooMany at 128",
@@ -285,6 +288,60 @@ fn names_have_255_bytes_at_most(rt: HostRuntime) -> Result<(), Fail> {
         1,
     );
     Ok(())
+}
+
+// Each option but `--groups` is needed, and is named where it is missing.
+#[test]
+fn a_missing_option_is_a_wrong_command_line(rt: HostRuntime) -> Result<(), Fail> {
+    for (missing, _) in QUESTION {
+        let mut words = vec![in rt.alloc(); "explain"]?;
+        for (name, value) in QUESTION.iter().filter(|option| option.0 != missing) {
+            words.push(*name)?;
+            words.push(*value)?;
+        }
+        let words = as_bytes(&rt, words.as_slice())?;
+        expect_text(&rt, words.as_slice(), missing.as_bytes(), 2);
+    }
+    Ok(())
+}
+
+#[test]
+fn reads_the_words_of_accesses(rt: HostRuntime) {
+    let good = [
+        ("read", Access::Read),
+        ("write", Access::Write),
+        ("vxattr", Access::SetVxattr),
+        ("snapshot", Access::Snapshot),
+        ("chmod", Access::Chmod),
+        ("chown:0", Access::Chown(0)),
+        ("chown:4294967295", Access::Chown(4_294_967_295)),
+        ("chgrp:0050", Access::Chgrp(50)),
+    ];
+    for (word, access) in good {
+        assert_eq!(rt; read_access(word.as_bytes()), Some(access), "at {word}");
+    }
+    let bad = [
+        "",
+        "Read",
+        "reads",
+        "chown",
+        "chown:",
+        "chown:-1",
+        "chown:4294967296",
+        "chgrp:x",
+        "chgrp: 5",
+    ];
+    for word in bad {
+        assert_eq!(rt; read_access(word.as_bytes()), None, "at {word}");
+    }
+}
+
+// No command line of a test lacks memory.
+#[test]
+fn want_of_memory_has_its_line(rt: HostRuntime) {
+    let mut faults = Vec::new(rt.alloc());
+    assert_eq!(rt; report(Fault::NoMemory, &mut faults), 1);
+    assert_eq!(rt; faults.as_slice(), b"capd: no memory\n".as_slice());
 }
 
 // A byte that is no UTF-8 comes out as it came in, in the answer and in what is said of a wrong word.

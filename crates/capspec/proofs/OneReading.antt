@@ -1,11 +1,11 @@
 -- Of each text: it has no fault where it reads, at most one fault, and at most one list of grants.
-use Rattle.std.proofs.Common.{◌≡◌, ℕ, List, Result, Ok, Err, refl, sym, ap, ◌∙◌}
-use Rattle.std.specs.Prelude.{◌-◌, length}
+use Rattle.std.proofs.Common.{◌≡◌, ℕ, List, Result, Ok, Err, IfOk, refl, sym, ap, inl, inr, ◌∙◌}
+use Rattle.std.specs.Prelude.{◌-◌, ◌⊎◌, length, IfErr}
 use Rattle.capspec.specs.declared.fault.SpecFault.{SpecFault}
 use Rattle.capspec.specs.declared.grant.Grant.{Grant}
 use Rattle.capspec.specs.declared.reading.Refusal.{Refusal}
 use Rattle.capspec.specs.Grants.{Reads}
-use Rattle.capspec.specs.Faults.{IsFault}
+use Rattle.capspec.specs.Faults.{IsFault, IsNoMemory}
 use Rattle.capspec.proofs.Determined.{tests_once}
 use Rattle.capspec.proofs.Complete.{reads_give}
 
@@ -28,3 +28,10 @@ one_fault text fault other a b =
 
 pub reads_once : (text : List ℕ) (grants others : List Grant) → Reads text grants → Reads text others → grants ≡ others
 reads_once text grants others a b = same_grants grants others (Ok grants) refl (tests_once text (Ok grants) (Ok others) (reads_give text grants a) (reads_give text others b))
+
+-- where nothing is read, a reader's answer is the fault
+pub unread_has_fault : (text : List ℕ) (answer : Result (List Grant) SpecFault) → IfOk answer (Reads text) → IfErr answer (λ fault. IsFault text fault ⊎ (IsNoMemory fault × (grants : List Grant) × Reads text grants))
+    → ((grants : List Grant) → Reads text grants → ⊥) → (fault : SpecFault) × IsFault text fault
+unread_has_fault text (Ok grants) ok err none = absurd (none grants ok)
+unread_has_fault text (Err fault) ok (inl is) none = (fault, is)
+unread_has_fault text (Err fault) ok (inr missed) none = absurd (none missed.1 missed.2)

@@ -1,10 +1,13 @@
-//! Laws of grant texts, for texts of any length. No program needs to call them.
+//! Laws of grant texts. No program needs to call them. But for the last, they speak of texts of any length.
 
 ghost use Rattle.std.specs.Prelude.{◌≡◌, ℕ, List};
 ghost use Rattle.capspec.specs.Faults.{IsFault};
 ghost use Rattle.capspec.specs.Grants.{Reads};
 ghost use Rattle.capspec.specs.declared.fault.SpecFault.{SpecFault};
 ghost use Rattle.capspec.specs.declared.grant.Grant.{Grant};
+
+use crate::reading::read_grants;
+use std::alloc::Global;
 
 /// A text that reads has no fault.
 pub fn no_fault_where_it_reads()
@@ -20,3 +23,11 @@ pub fn one_fault()
 pub fn one_list_of_grants()
     ensures { (text : List ℕ) (grants others : List Grant) → Reads text grants → Reads text others → grants ≡ others }
 {}
+
+/// A text that reads as no grants has a fault.
+pub fn fault_where_nothing_reads(alloc: Global, text: &[u8])
+    ensures { ((grants : List Grant) → Reads text.now grants → ⊥) → (fault : SpecFault) × IsFault text.now fault }
+{
+    // What the reader answers is the fault.
+    let _ = read_grants(alloc, text);
+}

@@ -52,6 +52,14 @@ fn each_fault_has_its_place(rt: HostRuntime) {
         ("allow rw uid=1 gids=4294967296,1", BadNumber, 15),
         ("allow rw path=\"/a\u{7}\"x", BadItem, 9),
         ("allow rw root_squash=1", BadItem, 9),
+        ("allowr r", NotAllow, 0),
+        ("allow rw gids=1 uid=x", BadNumber, 16),
+        (
+            "allow rw uid=1 gids=0,1,2,3,4,5,6,7,8,9,10,11,12,13,14,15,16x",
+            BadNumber,
+            15,
+        ),
+        ("allow, allow r", BadFlags, 5),
     ];
     for (text, kind, at) in cases {
         assert_eq!(rt; fault_in(rt.alloc(), text), Some((kind, at)), "at {text}");
@@ -122,7 +130,7 @@ fn has_path(rt: &impl Abort, grants: &Grants, place: usize, names: &[&[u8]], oth
 #[test]
 fn grants_have_their_fields(rt: HostRuntime) -> Result<(), Fail> {
     let text =
-        b" allow rw path=/a//b/ uid=7 gids=50,0051 fsname=cephfs;allow * path='a b,c' root_squash , allow r\n";
+        b" allow rw path=/a//b/ gids=50,0051 uid=7 fsname=cephfs;allow\tall path='a b,c' root_squash , allow r\n";
     let grants = read_grants(rt.alloc(), text)?;
     assert_eq!(rt; grants.len(), 3);
     assert!(rt; grants.get(3).is_none());
