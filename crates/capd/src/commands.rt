@@ -61,12 +61,7 @@ fn explain<W: Write>(alloc: Global, values: &Values, writer: &mut W) -> Result<(
 }
 
 // Shows what the parser of the command line says, with the words in it as they came.
-fn show(
-    alloc: Global,
-    error: &clap::Error,
-    writer: &mut impl Write,
-    faults: &mut impl Write,
-) -> u8
+fn show(alloc: Global, error: &clap::Error, writer: &mut impl Write, faults: &mut impl Write) -> u8
     ensures { result ≤ USAGE }
 {
     if error.kind() == ErrorKind::OutOfMemory {

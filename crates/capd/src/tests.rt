@@ -67,13 +67,7 @@ fn words(rt: &impl AllocGlobal, changes: &[(&str, &str)]) -> Result<Vec<Vec<u8>>
 }
 
 // Runs `capd` on the words, and tests what it writes and its status.
-fn expect(
-    rt: &(impl AllocGlobal + Abort),
-    words: &[Vec<u8>],
-    out: &str,
-    faults: &str,
-    status: u8,
-) {
+fn expect(rt: &(impl AllocGlobal + Abort), words: &[Vec<u8>], out: &str, faults: &str, status: u8) {
     let mut reader: &[u8] = b"never read";
     let (mut writer, mut fault_writer) = (Vec::new(rt.alloc()), Vec::new(rt.alloc()));
     let got = dispatch(rt, words, &mut reader, &mut writer, &mut fault_writer);
@@ -371,7 +365,12 @@ fn a_word_may_hold_any_byte(rt: HostRuntime) -> Result<(), Fail> {
         expect_text(&rt, words.as_slice(), line, 0);
     }
     let unknown = vec![in rt.alloc(); b"fl\xff".to_vec(rt.alloc())?]?;
-    expect_text(&rt, unknown.as_slice(), b"unrecognized subcommand 'fl\xff'", 2);
+    expect_text(
+        &rt,
+        unknown.as_slice(),
+        b"unrecognized subcommand 'fl\xff'",
+        2,
+    );
     let mut words = words(&rt, &[])?;
     words.push(b"--groups=1\xff".to_vec(rt.alloc())?)?;
     expect_text(&rt, words.as_slice(), b"capd: bad value of --groups\n", 1);
@@ -379,12 +378,7 @@ fn a_word_may_hold_any_byte(rt: HostRuntime) -> Result<(), Fail> {
 }
 
 // Runs `capd` on words that are wrong, or that ask for help: which of its outputs has a text is told by the status.
-fn expect_text(
-    rt: &(impl AllocGlobal + Abort),
-    words: &[Vec<u8>],
-    part: &[u8],
-    status: u8,
-) {
+fn expect_text(rt: &(impl AllocGlobal + Abort), words: &[Vec<u8>], part: &[u8], status: u8) {
     let mut reader: &[u8] = b"";
     let (mut writer, mut faults) = (Vec::new(rt.alloc()), Vec::new(rt.alloc()));
     let got = dispatch(rt, words, &mut reader, &mut writer, &mut faults);

@@ -21,9 +21,7 @@ pub use flags::Flags4;
 pub use fsname::FsName;
 pub use gids::Gids;
 pub use grant::{Grant, Grants};
-pub use laws::{
-    fault_where_nothing_reads, no_fault_where_it_reads, one_fault, one_list_of_grants,
-};
+pub use laws::{fault_where_nothing_reads, no_fault_where_it_reads, one_fault, one_list_of_grants};
 pub use path::GrantPath;
 pub use reading::read_grants;
 
