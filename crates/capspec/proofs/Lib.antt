@@ -11,3 +11,6 @@ pub mod Righting
 pub mod Determined
 pub mod Complete
 pub mod OneReading
+pub mod Slashed
+pub mod Written
+pub mod Joining
