@@ -301,8 +301,8 @@ words_written : (text : List ℕ) (g : Grant) → IsGrant text g → AreWordsOf 
 words_written text g is =
     words_append (fsname_text g.fsname) _ (fsname_items g.fsname) _ (fsname_words is.words is.items g.fsname is.are_words is.are_items.fsname)
     (words_append (path_text g.path) _ (path_items g.path) _ (path_words is.words is.items g.path is.are_words is.are_items.path)
-      (words_append (uid_text g.uid) _ (uid_items g.uid) _ (uid_words is.words is.items g.uid is.are_words is.are_items.uid)
-        (words_append (gids_text g.gids) _ (gids_items g.gids) _ (gids_words is.words is.items g.gids is.are_words is.are_items.gids) (root_squash_words g.root_squash))))
+    (words_append (uid_text g.uid) _ (uid_items g.uid) _ (uid_words is.words is.items g.uid is.are_words is.are_items.uid)
+    (words_append (gids_text g.gids) _ (gids_items g.gids) _ (gids_words is.words is.items g.gids is.are_words is.are_items.gids) (root_squash_words g.root_squash))))
 
 regrouped : (g : Grant) → grant_text g ≡ codes "allow " ++ (flags_text g.flags ++ words_text g)
 regrouped g = simp append_assoc
@@ -374,8 +374,3 @@ text_reads_once text grants others (inl none) same other =
     absurd (nothing_reads others (subst (λ (t : List ℕ). Reads t others) (same ∙ ap written none) other))
 text_reads_once text grants others (inr (from, reads)) same other =
     reads_once text others grants other (subst (λ (t : List ℕ). Reads t grants) (sym same) (written_reads from grants reads))
-
--- at most sixteen
-pub few_given : (grants : List Grant) → AreNoneOrRead grants → length grants ≤ 16
-few_given grants (inl none) = rw none (omega arith)
-few_given grants (inr (from, reads)) = reads.few

@@ -22,9 +22,7 @@ pub use flags::Flags4;
 pub use fsname::FsName;
 pub use gids::Gids;
 pub use grant::{Grant, Grants};
-pub use laws::{
-    no_fault_where_it_reads, one_fault, one_list_of_grants, the_written_form_reads,
-};
+pub use laws::{no_fault_where_it_reads, one_fault, one_list_of_grants, the_written_form_reads};
 pub use path::GrantPath;
 pub use reading::read_grants;
 pub use writing::write_grants;

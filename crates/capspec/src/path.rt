@@ -93,7 +93,11 @@ fn write_value(text: &mut Vec<u8>, path: &[u8]) -> Result<(), NoMemory>
     if can_be_bare(path) {
         return write_names(text, path);
     }
-    let quote = if has_no_double_quote(path) { b'"' } else { b'\'' };
+    let quote = if has_no_double_quote(path) {
+        b'"'
+    } else {
+        b'\''
+    };
     text.push(quote)?;
     write_names(text, path)?;
     text.push(quote)?;
