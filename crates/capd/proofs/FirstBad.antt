@@ -1,5 +1,5 @@
 -- Each option in turn is the first bad one.
-use Rattle.std.proofs.Common.{◌≡◌, ℕ, List, [], ◌∷◌, ◌++◌, ap, sym, subst, inl, inr, refl}
+use Rattle.std.proofs.Common.{◌≡◌, ℕ, List, [], ◌∷◌, ◌++◌, refl}
 use Rattle.std.specs.Prelude.{◌≢◌, ◌⊎◌, Result, Ok, Err, IfErr, IsErrAnd}
 use Rattle.std.specs.List.{AllByRecursion}
 use Rattle.std.proofs.lemmas.List.Elements.{All-from_recursion}
@@ -7,7 +7,6 @@ use Rattle.capspec.specs.declared.grant.Grant.{Grant}
 use Rattle.capspec.specs.declared.fault.SpecFault.{SpecFault}
 use Rattle.capspec.specs.Faults.{IsFault, IsNoMemory}
 use Rattle.capspec.specs.Grants.{Reads}
-use Rattle.capspec.proofs.Told.{fault_told}
 use Rattle.capspec.specs.Items.{IsNumber}
 use Rattle.capgrant.specs.declared.access.Access.{Access as AnAccess}
 use Rattle.capd.specs.declared.fault.Fault.{Fault}
@@ -16,8 +15,9 @@ use Rattle.capd.specs.declared.fault.Fault.TheVariants.{BadValue}
 use Rattle.capd.specs.declared.options.Opt.{Opt}
 use Rattle.capd.specs.declared.options.Opt.TheVariants.{Grants, Fs, Uid, Gid, Groups, Path, Owner, Group, Mode, Access}
 use Rattle.capd.specs.declared.question.Values.{Values}
+use Rattle.capd.proofs.TextFault.{text_fault}
 use Rattle.capd.specs.Access.{IsAccessWord}
-use Rattle.capd.specs.Fault.{IsFaultOf}
+use Rattle.capd.specs.Fault.{IsFaultOf, IsFaultOfText}
 use Rattle.capd.specs.Options.{all_options}
 use Rattle.capd.specs.Question.{IsGood, IsFirstBad, IsFaultIn}
 use Rattle.capd.specs.Values.{IsFs, AreGroupsIf, ArePathNames, IsModeText}
@@ -62,15 +62,14 @@ bad_mode v g fs uid gid gids names owner group is_g is_fs is_uid is_gid is_gids 
 pub bad_access : (v : Values) (g : List Grant) (fs : List ℕ) (uid : ℕ) (gid : ℕ) (gids : List ℕ) (names : List (List ℕ)) (owner : ℕ) (group : ℕ) (mode : ℕ) → Reads v.grants.items g → IsFs v.fs.items fs → IsNumber v.uid.items uid → IsNumber v.gid.items gid → AreGroupsIf v.groups gids → ArePathNames v.path.items names → IsNumber v.owner.items owner → IsNumber v.group.items group → IsModeText v.mode.items mode → ((access : AnAccess) → ¬ IsAccessWord v.access.items access) → IsFirstBad v Access
 bad_access v g fs uid gid gids names owner group mode is_g is_fs is_uid is_gid is_gids is_names is_owner is_group is_mode none = first_bad v Access (Grants ∷ Fs ∷ Uid ∷ Gid ∷ Groups ∷ Path ∷ Owner ∷ Group ∷ Mode ∷ []) ([]) refl ((g, is_g), ((fs, is_fs), ((uid, is_uid), ((gid, is_gid), ((gids, is_gids), ((names, is_names), ((owner, is_owner), ((group, is_group), ((mode, is_mode), tt))))))))) (λ found. none found.0 found.1)
 
-grants_fault : (v : Values) (refused : SpecFault) (fault : Fault) → IsFault v.grants.items refused ⊎ (IsNoMemory refused × (g : List Grant) × Reads v.grants.items g) → IsFaultOf refused fault → IsFaultIn v fault
-grants_fault v refused (faults.Grants same) (inl is) passed = subst (λ (f : SpecFault). IsFault v.grants.items f) (sym passed.0) is
-grants_fault v refused (faults.Grants same) (inr missed) passed = absurd (passed.1 (ap (λ (f : SpecFault). f.kind) missed.0))
-grants_fault v refused (BadValue option) found passed = absurd passed
-grants_fault v refused faults.NoMemory (inl is) passed = absurd (fault_told v.grants.items refused is passed)
-grants_fault v refused faults.NoMemory (inr missed) passed = (missed.1, missed.2)
-grants_fault v refused faults.WriteFailed found passed = absurd passed
+-- what is told of the grants' text is a fault of the values
+of_values : (v : Values) (fault : Fault) → IsFaultOfText v.grants.items fault → IsFaultIn v fault
+of_values v (faults.Grants refused) is = is
+of_values v (BadValue option) is = absurd is
+of_values v faults.NoMemory is = is
+of_values v faults.WriteFailed is = absurd is
 
 -- the fault of the grants, or want of memory for good ones
 pub bad_grants : {T : Type 0} (v : Values) (refused : SpecFault) (r : Result T Fault) → IsFault v.grants.items refused ⊎ (IsNoMemory refused × (g : List Grant) × Reads v.grants.items g) → IsErrAnd r (IsFaultOf refused) → IfErr r (IsFaultIn v)
 bad_grants v refused (Ok x) found passed = tt
-bad_grants v refused (Err fault) found passed = grants_fault v refused fault found passed
+bad_grants v refused (Err fault) found passed = of_values v fault (text_fault v.grants.items refused fault found passed)

@@ -2,3 +2,4 @@ pub mod Pieces
 pub mod Printing
 pub mod FirstBad
 pub mod Spelling
+pub mod TextFault

@@ -1,5 +1,8 @@
 -- How a refused grant text is answered.
-use Rattle.std.specs.Prelude.{◌≡◌, ◌≢◌}
+use Rattle.std.specs.Prelude.{◌≡◌, ◌≢◌, ℕ, List}
+use Rattle.capspec.specs.Faults.{IsFault}
+use Rattle.capspec.specs.Grants.{Reads}
+use Rattle.capspec.specs.declared.grant.Grant.{Grant}
 use Rattle.capspec.specs.declared.fault.SpecFault.{SpecFault}
 use Rattle.capspec.specs.declared.fault.SpecFaultKind.TheVariants as kinds
 use Rattle.capd.specs.declared.fault.Fault.{Fault}
@@ -11,3 +14,10 @@ IsFaultOf refused (Grants same) = (same ≡ refused) × (refused.kind ≢ kinds.
 IsFaultOf refused (BadValue option) = ⊥
 IsFaultOf refused NoMemory = refused.kind ≡ kinds.NoMemory
 IsFaultOf refused WriteFailed = ⊥
+
+-- why the text gave no grants: its first fault, or want of memory where it has none
+abbrev pub IsFaultOfText : List ℕ → Fault → Type 0
+IsFaultOfText text (Grants refused) = IsFault text refused
+IsFaultOfText text (BadValue option) = ⊥
+IsFaultOfText text NoMemory = (grants : List Grant) × Reads text grants
+IsFaultOfText text WriteFailed = ⊥

@@ -11,6 +11,10 @@ const CAPD: &str = "capd";
 
 const EXPLAIN: &str = "explain";
 
+const GRANTS: &str = "grants";
+
+const TEXT: &str = "text";
+
 const EXAMPLE: &str = "Example:
   capd explain \\
     --grants 'allow r path=/pub, allow rw path=/data uid=1001 gids=200' \\
@@ -19,18 +23,32 @@ const EXAMPLE: &str = "Example:
 prints
   denied write /data/report grant 1 rule 4 path, grant 2 rule 11 mode-bits";
 
-/// The values of the options, out of the words behind the program's name. The error's text says what is wrong with the
-/// words, or it is the help that they ask for; `words::spelled` gives its bytes.
-pub fn parse(alloc: Global, words: &[Vec<u8>]) -> Result<Values, Error> {
+const GRANTS_EXAMPLE: &str = "Example:
+  capd grants 'allow * path=data/ gids=0200,300 uid=1001'
+prints
+  allow rwps path=/data uid=1001 gids=200,300";
+
+/// What a command line asks for.
+#[derive(Debug, Drop)]
+pub enum Ask {
+    /// Whether grants allow an access.
+    Explain(Values),
+    /// The written form of the grants in a text.
+    Grants(Vec<u8>),
+}
+
+/// What the words behind the program's name ask for. The error's text says what is wrong with the words, or it is the
+/// help that they ask for; `words::spelled` gives its bytes.
+pub fn parse(alloc: Global, words: &[Vec<u8>]) -> Result<Ask, Error> {
     let mut texts = Vec::new(alloc);
     for word in words {
         texts.push(spell(alloc, word.as_slice())?)?;
     }
     let mut command = capd(alloc)?;
     let matches = command.try_get_matches_from_mut(texts.as_slice())?;
-    match explain_values(alloc, &matches) {
-        Ok(values) => Ok(values),
-        Err(kind) => Err(command.error(kind, "an option is missing")?),
+    match asked(alloc, &matches) {
+        Ok(ask) => Ok(ask),
+        Err(kind) => Err(command.error(kind, "a word is missing")?),
     }
 }
 
@@ -40,7 +58,8 @@ fn capd<'a>(alloc: Global) -> Result<Command<'a>, AllocError> {
         .bin_name(CAPD)?
         .about("What the grants of a CephFS client allow")
         .subcommand_required(true)
-        .subcommand(explain(alloc)?)
+        .subcommand(explain(alloc)?)?
+        .subcommand(grants(alloc)?)
 }
 
 fn explain<'a>(alloc: Global) -> Result<Command<'a>, AllocError> {
@@ -62,35 +81,55 @@ fn explain<'a>(alloc: Global) -> Result<Command<'a>, AllocError> {
     Ok(command)
 }
 
+fn grants<'a>(alloc: Global) -> Result<Command<'a>, AllocError> {
+    let text = Arg::new(alloc, TEXT)
+        .value_name("TEXT")
+        .help("The grants: 1 to 16 of them, as `ceph fs authorize` writes them")
+        .required(true)
+        .action(ArgAction::Set);
+    Command::new(alloc, GRANTS)
+        .about("Writes grants in their one form, with all that means nothing left out")
+        .after_help(GRANTS_EXAMPLE)
+        .arg(text)
+}
+
+fn asked(alloc: Global, matches: &ArgMatches<'_>) -> Result<Ask, ErrorKind> {
+    if let Some(matches) = matches.subcommand_matches(EXPLAIN) {
+        Ok(Ask::Explain(explain_values(alloc, matches)?))
+    } else if let Some(matches) = matches.subcommand_matches(GRANTS) {
+        Ok(Ask::Grants(value(alloc, matches, TEXT)?))
+    } else {
+        Err(ErrorKind::MissingSubcommand)
+    }
+}
+
 fn explain_values(alloc: Global, matches: &ArgMatches<'_>) -> Result<Values, ErrorKind> {
-    let matches = matches
-        .subcommand_matches(EXPLAIN)
-        .ok_or(ErrorKind::MissingSubcommand)?;
+    let value = |option: Opt| value(alloc, matches, option.name());
     Ok(Values {
-        grants: value(alloc, matches, Opt::Grants)?,
-        fs: value(alloc, matches, Opt::Fs)?,
-        uid: value(alloc, matches, Opt::Uid)?,
-        gid: value(alloc, matches, Opt::Gid)?,
-        groups: given_value(alloc, matches, Opt::Groups)?,
-        path: value(alloc, matches, Opt::Path)?,
-        owner: value(alloc, matches, Opt::Owner)?,
-        group: value(alloc, matches, Opt::Group)?,
-        mode: value(alloc, matches, Opt::Mode)?,
-        access: value(alloc, matches, Opt::Access)?,
+        grants: value(Opt::Grants)?,
+        fs: value(Opt::Fs)?,
+        uid: value(Opt::Uid)?,
+        gid: value(Opt::Gid)?,
+        groups: given_value(alloc, matches, Opt::Groups.name())?,
+        path: value(Opt::Path)?,
+        owner: value(Opt::Owner)?,
+        group: value(Opt::Group)?,
+        mode: value(Opt::Mode)?,
+        access: value(Opt::Access)?,
     })
 }
 
-fn value(alloc: Global, matches: &ArgMatches<'_>, option: Opt) -> Result<Vec<u8>, ErrorKind> {
-    given_value(alloc, matches, option)?.ok_or(ErrorKind::MissingRequiredArgument)
+fn value(alloc: Global, matches: &ArgMatches<'_>, name: &str) -> Result<Vec<u8>, ErrorKind> {
+    given_value(alloc, matches, name)?.ok_or(ErrorKind::MissingRequiredArgument)
 }
 
-// The value of an option, if it is given.
+// The value of a word of the command line, if it is given.
 fn given_value(
     alloc: Global,
     matches: &ArgMatches<'_>,
-    option: Opt,
+    name: &str,
 ) -> Result<Option<Vec<u8>>, ErrorKind> {
-    match matches.get_str(option.name()) {
+    match matches.get_str(name) {
         Some(text) => match spelled(alloc, text) {
             Ok(value) => Ok(Some(value)),
             Err(_) => Err(ErrorKind::OutOfMemory),

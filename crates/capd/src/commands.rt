@@ -1,14 +1,19 @@
 //! The commands of the program, over streams that the caller passes.
-ghost use Rattle.std.specs.Prelude.{◌≡◌, ◌≤◌, ◌⊎◌, ◌++◌, codes, OnOk, IfErr};
+ghost use Rattle.std.specs.Prelude.{◌≡◌, ◌≤◌, ◌⊎◌, ◌++◌, List, codes, OnOk, IfErr, MatchResult};
 ghost use Rattle.std.specs.Io.KnownBytes.{Appends, Keeps};
+ghost use Rattle.capspec.specs.Grants.{Reads};
+ghost use Rattle.capspec.specs.Written.{written};
+ghost use Rattle.capspec.specs.declared.grant.Grant.{Grant};
+ghost use Rattle.capd.specs.Fault.{IsFaultOfText};
 ghost use Rattle.capd.specs.declared.fault.Fault.TheVariants as faults;
 ghost use Rattle.capd.specs.declared.question.Question.{Question as Asked};
 ghost use Rattle.capd.specs.Question.{AsksFor, IsFaultIn, answer_text};
 
-use crate::command_line::parse;
+use crate::command_line::{Ask, parse};
 use crate::fault::{Fault, NoMemory};
 use crate::question::{Question, Values};
 use crate::words::spelled;
+use capspec::{read_grants, write_grants};
 use clap::error::ErrorKind;
 use std::alloc::Global;
 use std::io;
@@ -34,11 +39,12 @@ pub fn dispatch<R: AllocGlobal>(
 ) -> u8
     ensures { result ≤ USAGE }
 {
-    let values = match parse(rt.alloc(), words) {
-        Ok(values) => values,
+    let done = match parse(rt.alloc(), words) {
+        Ok(Ask::Explain(values)) => explain(rt.alloc(), &values, writer),
+        Ok(Ask::Grants(text)) => grants(rt.alloc(), text.as_slice(), writer),
         Err(error) => return show(rt.alloc(), &error, writer, faults),
     };
-    match explain(rt.alloc(), &values, writer) {
+    match done {
         Ok(()) => DONE,
         Err(fault) => report(fault, faults),
     }
@@ -53,8 +59,29 @@ fn explain<W: Write>(alloc: Global, values: &Values, writer: &mut W) -> Result<(
         ⊎ (IsFaultIn values.now fault × Keeps (W.contents writer.old) (W.contents writer.new))) }
 {
     let question = Question::read(alloc, values)?;
-    let mut line = question.answer(alloc)?;
-    line.push(b'\n').map_err(|_| Fault::NoMemory)?;
+    let line = question.answer(alloc)?;
+    write_line(line, writer)
+}
+
+// Writes the grants that a text means in their written form, as a line.
+fn grants<W: Write>(alloc: Global, text: &[u8], writer: &mut W) -> Result<(), Fault>
+    ensures form { OnOk result ((grants : List Grant) × Reads text.now grants
+        × Appends (W.contents writer.old) (W.contents writer.new) (written grants ++ codes "\n")) }
+    ensures fault { IfErr result (λ fault. (fault ≡ faults.WriteFailed)
+        ⊎ (IsFaultOfText text.now fault × Keeps (W.contents writer.old) (W.contents writer.new))) }
+{
+    let grants = read_grants(alloc, text)?;
+    let line = write_grants(alloc, &grants).map_err(|_| NoMemory)?;
+    write_line(line, writer)
+}
+
+// Writes the line and a line feed behind it, or nothing where memory is missing.
+fn write_line<W: Write>(mut line: Vec<u8>, writer: &mut W) -> Result<(), Fault>
+    ensures { MatchResult result
+        (λ _. Appends (W.contents writer.old) (W.contents writer.new) (line.entry.items ++ codes "\n"))
+        (λ fault. (fault ≡ faults.WriteFailed) ⊎ ((fault ≡ faults.NoMemory) × Keeps (W.contents writer.old) (W.contents writer.new))) }
+{
+    line.push(b'\n').map_err(|_| NoMemory)?;
     writer
         .write_all(line.as_slice())
         .map_err(|_| Fault::WriteFailed)

@@ -188,6 +188,33 @@ fn names_the_fault_of_the_grants(rt: HostRuntime) -> Result<(), Fail> {
 }
 
 #[test]
+fn writes_grants_in_their_one_form(rt: HostRuntime) -> Result<(), Fail> {
+    let cases = [
+        (
+            "allow rw uid=1 gids=1,2,allow r",
+            "allow rw uid=1 gids=1,2, allow r\n",
+        ),
+        ("allow rwps", "allow rwps\n"),
+        ("allow *", "allow rwps\n"),
+    ];
+    for (text, line) in cases {
+        let words = as_bytes(&rt, &["grants", text])?;
+        expect(&rt, words.as_slice(), line, "", 0);
+    }
+    let refused = [
+        ("allow rwsp", "BadFlags at 6"),
+        ("allow rwf", "LeftOut at 6"),
+        ("", "Empty at 0"),
+    ];
+    for (text, fault) in refused {
+        let words = as_bytes(&rt, &["grants", text])?;
+        let faults = format!(in rt.alloc(); "capd: grants: {fault}\n")?;
+        expect(&rt, words.as_slice(), "", faults.as_str(), 1);
+    }
+    Ok(())
+}
+
+#[test]
 fn names_the_first_bad_value(rt: HostRuntime) -> Result<(), Fail> {
     let bad = [
         ("--fs", "*"),
@@ -398,8 +425,10 @@ fn expect_text(rt: &(impl AllocGlobal + Abort), words: &[Vec<u8>], part: &[u8], 
 
 #[test]
 fn refuses_wrong_command_lines(rt: HostRuntime) -> Result<(), Fail> {
-    let cases: [(&[&str], &str); 6] = [
+    let cases: [(&[&str], &str); 8] = [
         (&[], "requires a subcommand"),
+        (&["grants"], "<TEXT>"),
+        (&["grants", "allow r", "allow r"], "unexpected argument"),
         (&["fly"], "unrecognized subcommand"),
         (&["explain", "--grants", "allow r"], "--path <PATH>"),
         (&["explain", "--fs", "a", "--fs=b"], "multiple times"),
@@ -431,8 +460,9 @@ fn refuses_wrong_command_lines(rt: HostRuntime) -> Result<(), Fail> {
 
 #[test]
 fn shows_help(rt: HostRuntime) -> Result<(), Fail> {
-    let cases: [(&[&str], &str); 4] = [
+    let cases: [(&[&str], &str); 5] = [
         (&["--help"], "Usage: capd <COMMAND>"),
+        (&["grants", "--help"], "allow rwps path=/data uid=1001"),
         (&["explain", "--help"], "Usage: capd explain [OPTIONS]"),
         (&["explain", "-h"], "--mode <OCTAL>"),
         (&["help", "explain"], "grant 2 rule 11 mode-bits"),

@@ -22,7 +22,7 @@ use Rattle.capspec.specs.declared.grant.Grant.{Grant}
 use Rattle.capspec.specs.Bytes.{is_in, is_white, is_mark, ends_word, ends_grant, SplitsWhile}
 use Rattle.capspec.specs.Draft.{no_items, grant_of}
 use Rattle.capspec.specs.Flags.{IsFlags}
-use Rattle.capspec.specs.Grants.{IsGrant, Reads}
+use Rattle.capspec.specs.Grants.{IsGrant, Reads, AreNoneOrRead}
 use Rattle.capspec.specs.Parts.{ReadsItems, ReadsGrant}
 use Rattle.capspec.specs.Separated.{AreSeparated}
 use Rattle.capspec.proofs.Separating.{IsBefore, joined, marked}
@@ -178,14 +178,15 @@ reads_all text rest count kept draft so_far read few = record {
   few = omega (arith, length-append so_far.found (grant_of draft ∷ []), so_far.counted);
 }
 
-few_kept : (new : Result (Vec Grant) AllocError) (found : List Grant) → IfOk new (λ grants. grants.items ≡ found) → length found ≤ 16 → IfOk new (λ grants. length grants.items ≤ 16)
-few_kept (Ok grants) found is few = rw is few
-few_kept (Err e) found is few = tt
+kept_read : (text : List ℕ) (new : Result (Vec Grant) AllocError) (found : List Grant) → IfOk new (λ grants. grants.items ≡ found) → Reads text found → IfOk new (λ grants. AreNoneOrRead grants.items)
+kept_read text (Ok grants) found is reads = inr (text, subst (Reads text) (sym is) reads)
+kept_read text (Err e) found is reads = tt
 
-pub few_grants : (text rest : List ℕ) (count : ℕ) (kept new : Result (Vec Grant) AllocError) (draft : Draft) → HasGrants text rest count kept → count < 16
-    → IfOk new (λ now. IsOkAnd kept (λ old. now.items ≡ old.items ++ grant_of draft ∷ [])) → IfOk new (λ grants. length grants.items ≤ 16)
-few_grants text rest count kept new draft so_far few gathered =
-    few_kept new (so_far.found ++ grant_of draft ∷ []) (keeps_more kept new so_far.found (grant_of draft) so_far.are_kept gathered) (omega (arith, length-append so_far.found (grant_of draft ∷ []), so_far.counted))
+-- what was kept of a whole text are the grants that it means
+pub all_kept : (text rest after : List ℕ) (count : ℕ) (kept new : Result (Vec Grant) AllocError) (draft : Draft) → HasGrants text rest count kept → ReadsGrant rest draft after → after ≡ [] → count < 16
+    → IfOk new (λ now. IsOkAnd kept (λ old. now.items ≡ old.items ++ grant_of draft ∷ [])) → IfOk new (λ grants. AreNoneOrRead grants.items)
+all_kept text rest after count kept new draft so_far read none few gathered =
+    kept_read text new (so_far.found ++ grant_of draft ∷ []) (keeps_more kept new so_far.found (grant_of draft) so_far.are_kept gathered) (reads_all text rest count kept draft so_far (subst (ReadsGrant rest draft) none read) few)
 
 -- ---- the text
 

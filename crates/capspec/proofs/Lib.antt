@@ -12,3 +12,6 @@ pub mod Determined
 pub mod Complete
 pub mod OneReading
 pub mod Told
+pub mod Slashed
+pub mod Written
+pub mod Joining

@@ -18,7 +18,7 @@ abbrev has_bytes : List ℕ → Bool
 has_bytes name = ltb 0 (length name)
 
 -- slashes in front have no name between them
-names_of-slashes : (front rest : List ℕ) → list_all (is_in (Only 47)) front ≡ true → names_of (front ++ rest) ≡ names_of rest
+pub names_of-slashes : (front rest : List ℕ) → list_all (is_in (Only 47)) front ≡ true → names_of (front ++ rest) ≡ names_of rest
 names_of-slashes [] rest all = refl
 names_of-slashes (b ∷ bs) rest all =
     let both = and_parts (is_slash b) (list_all (is_in (Only 47)) bs) all in
@@ -34,7 +34,7 @@ kept : (name : List ℕ) (names : List (List ℕ)) → 0 < length name → filte
 kept name names some = rw (lt-ltb 0 (length name) some) refl
 
 -- a name, and what follows it
-names_of-name : (front rest : List ℕ) → 0 < length front → list_all (is_in (AllBut 47)) front ≡ true → begins (is_in (AllBut 47)) rest ≡ false → names_of (front ++ rest) ≡ front ∷ names_of rest
+pub names_of-name : (front rest : List ℕ) → 0 < length front → list_all (is_in (AllBut 47)) front ≡ true → begins (is_in (AllBut 47)) rest ≡ false → names_of (front ++ rest) ≡ front ∷ names_of rest
 names_of-name front [] some all ends =
     ap names_of (append-nil front) ∙ ap (filter has_bytes) (slice_split_none is_slash front (All-from_recursion _ front (no_slash front all))) ∙ kept front [] some
 names_of-name front (b ∷ bs) some all ends =

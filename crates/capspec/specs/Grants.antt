@@ -1,5 +1,5 @@
 -- Which text means which grants.
-use Rattle.std.specs.Prelude.{◌≡◌, ℕ, ◌<◌, ◌≤◌, Option, Some, None, Bool, true, false, List, [], ◌∷◌, ◌++◌, length, codes, filter_map, IsTrue}
+use Rattle.std.specs.Prelude.{◌≡◌, ◌⊎◌, ℕ, ◌<◌, ◌≤◌, Option, Some, None, Bool, true, false, List, [], ◌∷◌, ◌++◌, length, codes, filter_map, IsTrue}
 use Rattle.std.specs.List.{list_all}
 use Rattle.capspec.specs.declared.grant.Grant.{Grant}
 use Rattle.capspec.specs.Bytes.{is_white, is_mark}
@@ -77,3 +77,7 @@ pub record IsGrant (text : List ℕ) (grant : Grant) : Type 0 where
 pub record Reads (text : List ℕ) (grants : List Grant) : Type 0 where
   pub are_grants : AreSeparated is_mark IsGrant text grants
   pub few : length grants ≤ 16
+
+-- There is no grant, or some text means these grants.
+abbrev pub AreNoneOrRead : List Grant → Type 0
+AreNoneOrRead grants = (grants ≡ []) ⊎ ((text : List ℕ) × Reads text grants)

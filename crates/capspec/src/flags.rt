@@ -18,6 +18,7 @@ pub enum Flags4 {
 impl Flags4 {
     ghost use Rattle.std.specs.Prelude.{◌≡◌};
     ghost use Rattle.capspec.specs.Flags.{has_w, has_p, has_s};
+    ghost use Rattle.capspec.specs.Written.{flags_text};
 
     /// Whether w is among the flags: the grant is for more than reading.
     pub fn has_w(self) -> bool
@@ -38,5 +39,18 @@ impl Flags4 {
         ensures { result ≡ has_s self }
     {
         matches!(self, Flags4::Rws | Flags4::Rwps)
+    }
+
+    // The letters of the flags.
+    pub(crate) fn text(self) -> &'static [u8]
+        ensures { result.now ≡ flags_text self }
+    {
+        match self {
+            Flags4::R => b"r",
+            Flags4::Rw => b"rw",
+            Flags4::Rwp => b"rwp",
+            Flags4::Rws => b"rws",
+            Flags4::Rwps => b"rwps",
+        }
     }
 }

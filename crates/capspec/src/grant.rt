@@ -1,11 +1,11 @@
 //! Grants, and lists of them.
 
-use crate::fault::{SpecFault, SpecFaultKind};
+use crate::fault::{NoMemory, SpecFault, SpecFaultKind};
 use crate::flags::Flags4;
 use crate::fsname::FsName;
 use crate::gids::Gids;
 use crate::path::GrantPath;
-use std::alloc::AllocError;
+use std::alloc::{AllocError, Global};
 use std::marker::Model;
 
 /// How many grants a text may have.
@@ -28,32 +28,53 @@ pub struct Grant {
     pub root_squash: bool,
 }
 
-/// The grants of one client, at most 16, in the order of their text.
+impl Grant {
+    ghost use Rattle.std.specs.Prelude.{◌≡◌, IfOk};
+
+    // The same grant, in memory of its own.
+    pub(crate) fn copy(&self) -> Result<Grant, NoMemory>
+        ensures { IfOk result (λ copy. copy ≡ self.now) }
+    {
+        Ok(Grant {
+            flags: self.flags,
+            fsname: self.fsname.clone()?,
+            path: self.path.copy()?,
+            uid: self.uid,
+            gids: self.gids.clone()?,
+            root_squash: self.root_squash,
+        })
+    }
+}
+
+/// The grants of one client, at most 16, in the order of their text: none, or grants that a text can say.
 #[derive(Debug, Drop)]
 pub struct Grants {
     grants: Vec<Grant>,
 }
 
 impl Model for Grants {
-    ghost use Rattle.std.specs.Prelude.{List, length, ◌≤◌};
+    ghost use Rattle.std.specs.Prelude.{List};
     ghost use Rattle.capspec.specs.declared.grant.Grant.{Grant};
 
     ghost Value = { List Grant };
 
+    ghost use Rattle.capspec.specs.Grants.{AreNoneOrRead};
+
     ghost view = { λ list. list.grants.items };
 
-    ghost invariant = { λ list. length list.grants.items ≤ 16 };
+    ghost invariant = { λ list. AreNoneOrRead list.grants.items };
 }
 
 impl Grants {
     ghost use Rattle.std.specs.Prelude.{◌≡◌, ◌≤◌, ◌↔◌, [], length, slice_get, IsTrue, IsErr, IfOk, IsOkAnd, MatchResult};
-    ghost use Rattle.capspec.specs.declared.fault.SpecFaultKind.TheVariants.{NoMemory};
+    ghost use Rattle.capspec.specs.declared.fault.SpecFaultKind.TheVariants as kinds;
     ghost use Rattle.std.specs.Option.{option_copied};
+    ghost use Rattle.capspec.specs.Grants.{AreNoneOrRead};
 
     // The grants that a text gave, if there was memory for them.
     pub(crate) fn from_gathered(grants: Result<Vec<Grant>, AllocError>) -> Result<Grants, SpecFault>
-        requires { IfOk grants (λ grants. length grants.items ≤ MAX_GRANTS) }
-        ensures { MatchResult result (λ kept. IsOkAnd grants (λ grants. kept ≡ grants.items)) (λ fault. (fault ≡ record { at = 0; kind = NoMemory }) × IsErr grants) }
+        requires { IfOk grants (λ grants. AreNoneOrRead grants.items) }
+        ensures { MatchResult result (λ kept. IsOkAnd grants (λ grants. kept ≡ grants.items)) (λ fault. (fault ≡ record { at = 0; kind = kinds.NoMemory }) × IsErr grants) }
     {
         match grants {
             Ok(grants) => Ok(Grants { grants }),
@@ -62,6 +83,26 @@ impl Grants {
                 kind: SpecFaultKind::NoMemory,
             }),
         }
+    }
+
+    /// No grant: nothing is allowed. It takes no memory, so it does not fail.
+    pub fn none(alloc: Global) -> Result<Grants, NoMemory>
+        ensures { IsOkAnd result (λ none. none ≡ []) }
+    {
+        Ok(Grants {
+            grants: Vec::new(alloc),
+        })
+    }
+
+    /// The same grants, in memory of their own.
+    pub fn copy(&self) -> Result<Grants, NoMemory>
+        ensures { IfOk result (λ copy. copy ≡ self.now) }
+    {
+        let mut grants = Vec::new(*self.grants.allocator());
+        for grant in &self.grants {
+            grants.push(grant.copy()?)?;
+        }
+        Ok(Grants { grants })
     }
 
     /// How many grants there are: at most 16.
@@ -88,7 +129,9 @@ impl Grants {
 
     /// The grants, in the order of their text.
     pub fn as_slice(&self) -> &[Grant]
-        ensures { result.now ≡ self.now }
+        ensures same { result.now ≡ self.now }
+        // There are none, or some text means them.
+        ensures read { AreNoneOrRead self.now }
     {
         self.grants.as_slice()
     }

@@ -3,6 +3,7 @@
 ghost use Rattle.std.specs.Prelude.{◌≡◌, ℕ, List};
 ghost use Rattle.capspec.specs.Faults.{IsFault};
 ghost use Rattle.capspec.specs.Grants.{Reads};
+ghost use Rattle.capspec.specs.Written.{written};
 ghost use Rattle.capspec.specs.declared.fault.SpecFault.{SpecFault};
 ghost use Rattle.capspec.specs.declared.grant.Grant.{Grant};
 
@@ -22,6 +23,11 @@ pub fn one_fault()
 /// A text reads as at most one list of grants.
 pub fn one_list_of_grants()
     ensures { (text : List ℕ) (grants others : List Grant) → Reads text grants → Reads text others → grants ≡ others }
+{}
+
+/// Where some text means grants, their written form means them too.
+pub fn the_written_form_reads()
+    ensures { (text : List ℕ) (grants : List Grant) → Reads text grants → Reads (written grants) grants }
 {}
 
 /// A text that reads as no grants has a fault.

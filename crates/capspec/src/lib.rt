@@ -1,4 +1,4 @@
-//! Grant texts: what `ceph fs authorize` writes, read into the grants that it means.
+//! Grant texts: what `ceph fs authorize` writes, read into the grants that it means, and written from them.
 //!
 //! Public source: "CephFS Client Capabilities" in the Ceph documentation.
 #![tactic(auto)]
@@ -15,15 +15,20 @@ mod laws;
 mod path;
 mod reading;
 mod values;
+mod writing;
 
-pub use fault::{SpecFault, SpecFaultKind};
+pub use fault::{NoMemory, SpecFault, SpecFaultKind};
 pub use flags::Flags4;
 pub use fsname::FsName;
 pub use gids::Gids;
 pub use grant::{Grant, Grants};
-pub use laws::{fault_where_nothing_reads, no_fault_where_it_reads, one_fault, one_list_of_grants};
+pub use laws::{
+    fault_where_nothing_reads, no_fault_where_it_reads, one_fault, one_list_of_grants,
+    the_written_form_reads,
+};
 pub use path::GrantPath;
 pub use reading::read_grants;
+pub use writing::write_grants;
 
 #[cfg(test)]
 mod tests;

@@ -1,9 +1,11 @@
 //! The path of a grant.
 
-ghost use Rattle.std.specs.Prelude.{◌≡◌, [], ◌∷◌, MatchOption};
+ghost use Rattle.std.specs.Prelude.{◌≡◌, [], ◌∷◌, ◌++◌, MatchOption, OnOk};
 ghost use Rattle.capspec.specs.Names.{names_of, are_few_and_short};
+ghost use Rattle.capspec.specs.Written.{slashed, can_be_bare, has_no_double_quote, written_path};
 
 use crate::bytes::{ByteSet, split_while};
+use crate::fault::NoMemory;
 use std::alloc::{AllocError, Global};
 use std::marker::Model;
 
@@ -31,10 +33,11 @@ impl Model for GrantPath {
 }
 
 impl GrantPath {
-    ghost use Rattle.std.specs.Prelude.{◌≡◌, IfOk, map};
+    ghost use Rattle.std.specs.Prelude.{◌≡◌, ◌++◌, IfOk, OnOk, map};
     ghost use Rattle.std.specs.List.{starts_with};
     ghost use Rattle.std.specs.Str.{bytes_eq};
     ghost use Rattle.capspec.specs.Names.{names_of};
+    ghost use Rattle.capspec.specs.Written.{path_text};
 
     // The path that the text of a grant names.
     pub(crate) fn from_text(alloc: Global, text: &[u8]) -> Result<GrantPath, AllocError>
@@ -61,6 +64,73 @@ impl GrantPath {
         }
         split_name(text).is_none()
     }
+
+    // The same path, in memory of its own.
+    pub(crate) fn copy(&self) -> Result<GrantPath, NoMemory>
+        ensures { IfOk result (λ copy. copy ≡ self.now) }
+    {
+        Ok(GrantPath {
+            text: self.text.clone()?,
+        })
+    }
+
+    // Appends the item that says the path, behind a space; nothing if the path restricts nothing.
+    pub(crate) fn write(&self, text: &mut Vec<u8>) -> Result<(), NoMemory>
+        ensures { OnOk result (text.new.items ≡ text.old.items ++ path_text self.now) }
+    {
+        if split_name(&self.text).is_none() {
+            return Ok(());
+        }
+        text.extend_from_slice(b" path=")?;
+        write_value(text, &self.text)
+    }
+}
+
+// Appends the names of a path's text, in quotes where they need them.
+fn write_value(text: &mut Vec<u8>, path: &[u8]) -> Result<(), NoMemory>
+    ensures { OnOk result (text.new.items ≡ text.old.items ++ written_path (slashed (names_of path.now))) }
+{
+    if can_be_bare(path) {
+        return write_names(text, path);
+    }
+    let quote = if has_no_double_quote(path) {
+        b'"'
+    } else {
+        b'\''
+    };
+    text.push(quote)?;
+    write_names(text, path)?;
+    text.push(quote)?;
+    Ok(())
+}
+
+// Appends the names of a path's text, with a slash before each.
+fn write_names(text: &mut Vec<u8>, path: &[u8]) -> Result<(), NoMemory>
+    ensures { OnOk result (text.new.items ≡ text.old.items ++ slashed (names_of path.now)) }
+{
+    let mut rest = path;
+    while let Some((name, after)) = split_name(rest) {
+        text.push(b'/')?;
+        text.extend_from_slice(name)?;
+        rest = after;
+    }
+    Ok(())
+}
+
+// Whether the names of a path's text can stand without quotes.
+fn can_be_bare(path: &[u8]) -> bool
+    ensures { result ≡ can_be_bare (slashed (names_of path.now)) }
+{
+    let (_, other) = split_while(ByteSet::BarePath, path);
+    other.is_empty()
+}
+
+// Whether the names of a path's text have no `"`.
+fn has_no_double_quote(path: &[u8]) -> bool
+    ensures { result ≡ has_no_double_quote (slashed (names_of path.now)) }
+{
+    let (_, other) = split_while(ByteSet::AllBut(b'"'), path);
+    other.is_empty()
 }
 
 // The first name of a path's text, and the text behind it.

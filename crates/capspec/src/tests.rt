@@ -1,6 +1,8 @@
-//! Worked texts with their grants, and with their first faults.
+//! Worked texts with their grants, with their first faults, and as they are written.
 
-use crate::{Flags4, FsName, Grants, SpecFault, SpecFaultKind, read_grants};
+use crate::{
+    Flags4, FsName, Grants, NoMemory, SpecFault, SpecFaultKind, read_grants, write_grants,
+};
 use std::alloc::Global;
 use std::process::Abort;
 use std::test::Fail;
@@ -167,4 +169,147 @@ fn a_file_system_has_a_name(rt: HostRuntime) {
         assert!(rt; FsName::read(bad).is_none());
     }
     assert!(rt; FsName::read(&[b'a'; 64]).is_some());
+}
+
+#[test]
+fn grants_have_one_written_form(rt: HostRuntime) -> Result<(), Fail> {
+    let cases = [
+        (
+            "allow rw uid=1 gids=1,2,allow r",
+            "allow rw uid=1 gids=1,2, allow r",
+        ),
+        ("allow rwps", "allow rwps"),
+        ("allow *", "allow rwps"),
+        ("allow all", "allow rwps"),
+        (
+            " allow r ;\tallow rw\n,allow rwp;allow rws ",
+            "allow r, allow rw, allow rwp, allow rws",
+        ),
+        (
+            "allow rw root_squash gids=5 path=srv//www uid=0005;allow r",
+            "allow rw path=/srv/www uid=5 gids=5 root_squash, allow r",
+        ),
+        (
+            "allow r root_squash gids=7 uid=8 path=/p fsname=f",
+            "allow r fsname=f path=/p uid=8 gids=7 root_squash",
+        ),
+        ("allow rw fsname=*", "allow rw"),
+        ("allow rw fsname=A.b_9-", "allow rw fsname=A.b_9-"),
+        ("allow r uid=0000", "allow r uid=0"),
+        ("allow r uid=4294967295", "allow r uid=4294967295"),
+        (
+            "allow r uid=10 gids=020,0,020",
+            "allow r uid=10 gids=20,0,20",
+        ),
+    ];
+    for (text, form) in cases {
+        let grants = read_grants(rt.alloc(), text.as_bytes())?;
+        let written = write_grants(rt.alloc(), &grants)?;
+        assert_eq!(rt; written.as_slice(), form.as_bytes(), "of {text}");
+        let again = write_grants(rt.alloc(), &read_grants(rt.alloc(), &written)?)?;
+        assert_eq!(rt; again.as_slice(), form.as_bytes(), "again, of {text}");
+    }
+    Ok(())
+}
+
+#[test]
+fn a_path_is_bare_where_it_can_be(rt: HostRuntime) -> Result<(), Fail> {
+    let cases = [
+        ("/", ""),
+        ("\"//\"", ""),
+        ("a", " path=/a"),
+        ("//a//b/", " path=/a/b"),
+        ("A.b_9-/..", " path=/A.b_9-/.."),
+        ("\"/a\"", " path=/a"),
+        ("'a/b'", " path=/a/b"),
+        ("'/a b'", " path=\"/a b\""),
+        ("\"/a,b;c\"", " path=\"/a,b;c\""),
+        ("'/a*'", " path=\"/a*\""),
+        ("\"/\u{e9}\"", " path=\"/\u{e9}\""),
+        ("\"it's\"", " path=\"/it's\""),
+        ("'say \"x\"'", " path='/say \"x\"'"),
+        ("'\"'", " path='/\"'"),
+        ("\"'\"", " path=\"/'\""),
+        ("' / a/'", " path=\"/ / a\""),
+        ("\" path=/x\"", " path=\"/ path=/x\""),
+    ];
+    for (path, form) in cases {
+        let text = format!(in rt.alloc(); "allow r path={path}")?;
+        let form = format!(in rt.alloc(); "allow r{form}")?;
+        let grants = read_grants(rt.alloc(), text.as_bytes())?;
+        let written = write_grants(rt.alloc(), &grants)?;
+        assert_eq!(rt; written.as_slice(), form.as_bytes(), "of {text}");
+        let again = write_grants(rt.alloc(), &read_grants(rt.alloc(), &written)?)?;
+        assert_eq!(rt; again.as_slice(), form.as_bytes(), "again, of {text}");
+    }
+    Ok(())
+}
+
+#[test]
+fn the_longest_grants_are_written_back(rt: HostRuntime) -> Result<(), Fail> {
+    let mut text = String::new(rt.alloc());
+    for quote in ["", "\"", "'"] {
+        text.clear();
+        for number in 0..16 {
+            if number > 0 {
+                text.push_str(", ")?;
+            }
+            text.push_str("allow rwps fsname=")?;
+            text.push_str(&"f".repeat(rt.alloc(), 64)?)?;
+            text.push_str(" path=")?;
+            text.push_str(quote)?;
+            let name = match quote {
+                "\"" => "'",
+                "'" => "\"",
+                _ => "n",
+            };
+            for _ in 0..32 {
+                text.push_str("/")?;
+                text.push_str(&name.repeat(rt.alloc(), 255)?)?;
+            }
+            text.push_str(quote)?;
+            text.push_str(" uid=4294967295 gids=4294967295")?;
+            text.push_str(&",4294967295".repeat(rt.alloc(), 15)?)?;
+            text.push_str(" root_squash")?;
+        }
+        let grants = read_grants(rt.alloc(), text.as_bytes())?;
+        let written = write_grants(rt.alloc(), &grants)?;
+        assert!(rt; written.as_slice() == text.as_bytes(), "in {quote}");
+    }
+    Ok(())
+}
+
+#[test]
+fn none_has_no_grant(rt: HostRuntime) -> Result<(), NoMemory> {
+    let none = Grants::none(rt.alloc())?;
+    assert!(rt; none.is_empty());
+    assert!(rt; none.copy()?.is_empty());
+    assert!(rt; write_grants(rt.alloc(), &none)?.is_empty());
+    Ok(())
+}
+
+#[test]
+fn a_copy_equals_its_source(rt: HostRuntime) -> Result<(), Fail> {
+    let text = b"allow rws fsname=f path='a \"/b' uid=7 gids=50,51 root_squash, allow r";
+    let source = read_grants(rt.alloc(), text)?;
+    let copy = source.copy()?;
+    assert_eq!(rt; copy.len(), 2);
+    for (own, other) in copy.as_slice().iter().zip(source.as_slice()) {
+        assert_eq!(rt; own.flags, other.flags);
+        assert_eq!(rt; own.fsname, other.fsname);
+        assert_eq!(rt; own.uid, other.uid);
+        assert_eq!(rt; own.gids, other.gids);
+        assert_eq!(rt; own.root_squash, other.root_squash);
+    }
+    // The copy needs nothing of its source.
+    drop(source);
+    has_path(&rt, &copy, 0, &[b"a \"", b"b", b"c"], &[b"a \""]);
+    let second = copy.get(1).expect(&rt, "a grant");
+    assert!(rt; second.path.is_prefix_of(&[]));
+    let written = write_grants(rt.alloc(), &copy)?;
+    assert_eq!(rt;
+        written.as_slice(),
+        b"allow rws fsname=f path='/a \"/b' uid=7 gids=50,51 root_squash, allow r".as_slice()
+    );
+    Ok(())
 }

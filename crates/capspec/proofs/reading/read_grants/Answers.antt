@@ -1,12 +1,12 @@
 use Rattle.std.proofs.Common.{sym, ◌∙◌, inl}
 use Rattle.std.proofs.lemmas.List.{nil_from_length}
 use Rattle.capspec.specs.Faults.{IsFault}
-use Rattle.capspec.proofs.Granting.{IsAnswered, has_more_grants, reads_grants, few_grants, only_fault, only_read, empty_fault, grant_fault, many_fault}
+use Rattle.capspec.proofs.Granting.{IsAnswered, has_more_grants, reads_grants, all_kept, only_fault, only_read, empty_fault, grant_fault, many_fault}
 use Rattle.capspec.proofs.reading.read_grants.Goals as goal
 
 pub from_gathered-requires : goal.from_gathered-requires
 from_gathered-requires c =
-    few_grants c.args.text.now c.loop.rest.now c.loop.counter c.loop.grants c.gather-grants.result c.in-Ok.found.0 c.loop.invariant c.loop-test.true c.gather-grants.ensures
+    all_kept c.args.text.now c.loop.rest.now c.in-Ok.found.1.now c.loop.counter c.loop.grants c.gather-grants.result c.in-Ok.found.0 c.loop.invariant c.in-Ok.ensures.ok (nil_from_length _ c.in-None.ensures.cases) c.loop-test.true c.gather-grants.ensures
 
 -- a text of white space alone
 
