@@ -1,5 +1,6 @@
 -- What is told of a grant text that was refused.
-use Rattle.std.proofs.Common.{◌≡◌, ℕ, List, ap, sym, subst, inl, inr}
+use Rattle.std.proofs.Common.{◌≡◌, ℕ, List, Option, None, Some, ap, sym, subst, inl, inr, refl}
+use Rattle.std.specs.Io.KnownBytes.{Keeps}
 use Rattle.std.specs.Prelude.{◌⊎◌, Result, Ok, Err, IfErr, IsErrAnd}
 use Rattle.capspec.specs.declared.fault.SpecFault.{SpecFault}
 use Rattle.capspec.specs.declared.grant.Grant.{Grant}
@@ -18,7 +19,12 @@ text_fault text refused NoMemory (inl is) passed = absurd (fault_told text refus
 text_fault text refused NoMemory (inr missed) passed = (missed.1, missed.2)
 text_fault text refused WriteFailed found passed = absurd passed
 
--- the error of a call that passes it on
-pub passed_on : {T : Type 0} (text : List ℕ) (refused : SpecFault) (answer : Result T Fault) → IsFault text refused ⊎ (IsNoMemory refused × (grants : List Grant) × Reads text grants) → IsErrAnd answer (IsFaultOf refused) → IfErr answer (IsFaultOfText text)
-passed_on text refused (Ok x) found passed = tt
-passed_on text refused (Err fault) found passed = text_fault text refused fault found passed
+unchanged : (known : Option (List ℕ)) → Keeps known known
+unchanged None = tt
+unchanged (Some bytes) = refl
+
+-- a text that is refused, before anything is written
+pub refused_unwritten : {T : Type 0} (text : List ℕ) (known : Option (List ℕ)) (refused : SpecFault) (answer : Result T Fault) → IsFault text refused ⊎ (IsNoMemory refused × (grants : List Grant) × Reads text grants)
+    → IsErrAnd answer (IsFaultOf refused) → IfErr answer (λ fault. (fault ≡ WriteFailed) ⊎ (IsFaultOfText text fault × Keeps known known))
+refused_unwritten text known refused (Ok x) found passed = tt
+refused_unwritten text known refused (Err fault) found passed = inr (text_fault text refused fault found passed, unchanged known)

@@ -78,7 +78,7 @@ fn grants<W: Write>(alloc: Global, text: &[u8], writer: &mut W) -> Result<(), Fa
 // Writes the line and a line feed behind it, or nothing where memory is missing.
 fn write_line<W: Write>(mut line: Vec<u8>, writer: &mut W) -> Result<(), Fault>
     ensures { MatchResult result
-        (λ _. Appends (W.contents writer.old) (W.contents writer.new) (line.entry.items ++ codes "\n"))
+        (λ _. Appends (W.contents writer.old) (W.contents writer.new) (line.items ++ codes "\n"))
         (λ fault. (fault ≡ faults.WriteFailed) ⊎ ((fault ≡ faults.NoMemory) × Keeps (W.contents writer.old) (W.contents writer.new))) }
 {
     line.push(b'\n').map_err(|_| NoMemory)?;

@@ -1,4 +1,4 @@
-use Rattle.std.proofs.Common.{rules, arith}
+use Rattle.std.proofs.Common.{rules}
 use Rattle.std.specs.String.{string_bytes}
 use Rattle.capd.proofs.Spelling.{spells_one_more}
 use Rattle.capd.proofs.words.spell.Goals as goal

@@ -1,0 +1,7 @@
+use Rattle.std.proofs.Common.{rules}
+use Rattle.capd.proofs.TextFault.{refused_unwritten}
+use Rattle.capd.proofs.commands.grants.Goals as goal
+
+pub returns-in_err-grants-clause-fault : goal.returns-in_err-grants-clause-fault
+returns-in_err-grants-clause-fault g c =
+    refused_unwritten c.args.text.now (g.W.Write.contents c.args.writer.now) c.in_err-grants.field-0.0 c.from_residual.result (search rules) c.from_residual.ensures.1
