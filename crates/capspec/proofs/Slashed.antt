@@ -1,14 +1,14 @@
 -- Paths as they are written: a slash before each name.
-use Rattle.std.proofs.Common.{◌≡◌, ◌⊎◌, ℕ, suc, ◌<◌, Bool, true, false, ◌&&◌, not, eqb, ltb, leb, List, [], ◌∷◌, ◌++◌, length, refl, sym, ap, subst, ◌∙◌, inl, inr, arith}
+use Rattle.std.proofs.Common.{◌≡◌, ℕ, suc, Bool, true, false, ◌&&◌, not, eqb, ltb, List, [], ◌∷◌, ◌++◌, length, refl, sym, ap, ◌∙◌, inl, inr, arith}
 use Rattle.std.specs.Prelude.{filter}
 use Rattle.std.specs.List.{list_all, list_any, slice_split, onto_first}
-use Rattle.std.proofs.lemmas.Bool.{and_parts, eqb-true, ltb-true, lt-ltb, ne_eqb, not-true, not_from_false, or_parts, or_from, true≢false}
+use Rattle.std.proofs.lemmas.Bool.{and_parts, eqb-true, ltb-true, lt-ltb, ne_eqb, not-true, or_parts, or_from, true≢false}
 use Rattle.std.proofs.lemmas.List.Folds.{list_all-append}
 use Rattle.std.proofs.lemmas.List.Splits.{slice_split-cons_yes, slice_split-cons_no}
 use Rattle.capspec.specs.declared.bytes.ByteSet.{ByteSet}
 use Rattle.capspec.specs.declared.bytes.ByteSet.TheVariants.{BarePath, AllBut}
 use Rattle.capspec.specs.Bytes.{is_in, is_bare_path_byte, begins, SplitsWhile}
-use Rattle.capspec.specs.Items.{is_control, can_be_path, IsBare, IsQuotedBy, IsPlainOrQuoted, IsPath, IsValue}
+use Rattle.capspec.specs.Items.{is_control, can_be_path, IsPlainOrQuoted, IsPath, IsValue}
 use Rattle.capspec.specs.Items.Item.{Path}
 use Rattle.capspec.specs.Names.{names_of, are_few_and_short}
 use Rattle.capspec.specs.Written.{slashed, can_be_bare, has_no_double_quote, written_path}

@@ -15,6 +15,9 @@ use std::io::Write;
 
 /// Writes grants in the one form that they have: joined by a comma and a space, each as `allow`, its flags, and of
 /// `fsname`, `path`, `uid`, `gids` and `root_squash` what it has, in this order. No grants are written as no bytes.
+///
+/// Only memory can be missing. Ceph takes the items in any order ("CephFS Client Capabilities" in its documentation); the
+/// order here, the quotes round a path and the space behind a comma are this project's.
 pub fn write_grants(alloc: Global, grants: &Grants) -> Result<Vec<u8>, NoMemory>
     ensures form { IfOk result (λ text. text.items ≡ written grants.now) }
     // It reads as these grants.
@@ -32,6 +35,7 @@ pub fn write_grants(alloc: Global, grants: &Grants) -> Result<Vec<u8>, NoMemory>
     Ok(text)
 }
 
+// Appends a grant.
 fn write_grant(text: &mut Vec<u8>, grant: &Grant) -> Result<(), NoMemory>
     ensures { OnOk result (text.new.items ≡ text.old.items ++ grant_text grant.now) }
 {
@@ -43,6 +47,8 @@ fn write_grant(text: &mut Vec<u8>, grant: &Grant) -> Result<(), NoMemory>
     write_gids(text, grant.gids.as_slice())?;
     write_root_squash(text, grant.root_squash)
 }
+
+// Each of these appends an item behind a space, or nothing where the grant does not have it.
 
 fn write_fsname(text: &mut Vec<u8>, fsname: &Option<FsName>) -> Result<(), NoMemory>
     ensures { OnOk result (text.new.items ≡ text.old.items ++ fsname_text fsname.now) }

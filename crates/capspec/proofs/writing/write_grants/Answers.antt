@@ -1,8 +1,6 @@
-use Rattle.std.proofs.Common.{◌≡◌, ◌<◌, ◌++◌, List, [], get_or, length, arith, sym, ap, ◌∙◌}
+use Rattle.std.proofs.Common.{◌≡◌, ◌<◌, ◌++◌, [], get_or, length, arith, ap, ◌∙◌}
 use Rattle.std.proofs.lemmas.List.{take_all}
 use Rattle.std.specs.Prelude.{codes}
-use Rattle.std.specs.List.{join_by}
-use Rattle.capspec.specs.declared.grant.Grant.{Grant}
 use Rattle.capspec.specs.Written.{grant_text, written}
 use Rattle.capspec.proofs.Joining.{written_first, written_more}
 use Rattle.capspec.proofs.Written.{text_reads, text_reads_once}
