@@ -1,6 +1,6 @@
 -- The spelling of a set from a place on: the letters of some capabilities, then the groups of some parts. What its first byte can
 -- be, and what that byte says of the set.
-use Rattle.std.specs.Prelude.{◌≡◌, ◌≢◌, ◌==◌, ℕ, Bool, true, false, not, ◌||◌, List, [], ◌∷◌, ◌++◌, map, filter, refl, IsTrue, IsFalse}
+use Rattle.std.specs.Prelude.{◌≡◌, ◌≢◌, ◌==◌, ℕ, Bool, true, false, ◌||◌, List, [], ◌∷◌, ◌++◌, map, filter, refl, IsTrue, IsFalse}
 use Rattle.std.specs.List.{list_any}
 use Rattle.std.proofs.Common.{◌∙◌, sym, ap, true≢false, append_assoc}
 use Rattle.std.proofs.lemmas.List.{map-append}
@@ -330,7 +330,7 @@ groups_agree s t [] a e = λ d h. absurd (true≢false (sym h))
 groups_agree s t (part ∷ parts) a e =
     rest_agrees s t parts (groups_agree s t parts a.2) (caps_of_part part) a.1
     (elim (letters_in s (caps_of_part part)) as (λ ls. headed (capital_of part) ls ++ groups_in s parts ≡ headed (capital_of part) (letters_in t (caps_of_part part)) ++ groups_in t parts
-      → ls ++ groups_in s parts ≡ letters_in t (caps_of_part part) ++ groups_in t parts) [
+    → ls ++ groups_in s parts ≡ letters_in t (caps_of_part part) ++ groups_in t parts) [
       | [] ↦
           elim (letters_in t (caps_of_part part)) as (λ lt. groups_in s parts ≡ headed (capital_of part) lt ++ groups_in t parts → groups_in s parts ≡ lt ++ groups_in t parts) [
             | [] ↦ λ e. e

@@ -1,5 +1,5 @@
 -- What is known of the spellings that begin with the bytes that were read.
-use Rattle.std.specs.Prelude.{◌≡◌, ◌≢◌, ℕ, ◌+◌, ◌<◌, ◌≤◌, ◌==◌, Bool, true, false, ◌||◌, ◌-◌, List, [], ◌∷◌, ◌++◌, length, take, zero, suc, refl, IsTrue, IsFalse, Result, Ok, Err, IfOk, IfErr}
+use Rattle.std.specs.Prelude.{◌≡◌, ◌≢◌, ℕ, ◌+◌, ◌<◌, ◌≤◌, Bool, true, false, ◌||◌, ◌-◌, List, [], ◌∷◌, ◌++◌, length, take, zero, suc, refl, IsTrue, IsFalse}
 use Rattle.std.specs.List.{list_any}
 use Rattle.std.proofs.Common.{◌∙◌, sym, ap, subst, true≢false, arith, append_assoc, append-nil, length-drop, drop, get_or}
 use Rattle.std.proofs.lemmas.List.{take_more, take-append-drop, take_all}
@@ -12,8 +12,8 @@ use Rattle.capbits.specs.declared.cap.Part.TheVariants.{A, L, X, F}
 use Rattle.capbits.specs.Caps.{Caps, has, caps_where}
 use Rattle.capbits.specs.Sets.{no_caps, caps_in, union, caps_of_part, covers, same_cap, same_cap-eq, has-none, has-union, has-caps_in}
 use Rattle.capbits.specs.Text.{capital_of, letter_of, letters_in, group_of, groups_in, text_of, BeginsText, IsLongestBeginning}
-use Rattle.capbits.proofs.Spelling.{letters_in-none, text_of-some}
-use Rattle.capbits.proofs.Following.{in_parts, in_rest, is_letter, is_capital, rest_of, letters_of, Apart, ApartParts, apart_parts, apart_caps, or_left, or_right, or_false, neither, clash, tail_eq, nil_cons, same_self, in_rest-cons, in_rest-append, letters_in-with, letters_in-lacking, groups_in-lacking, letters_in-split, groups_in-split, first_capital, no_letter, behind_letter, behind_capital, apart_behind, apart_parts_behind, passed_caps, outside, behind_parts, passed_parts, letters_of_text, dash_alone, text_some, text_of-injective}
+use Rattle.capbits.proofs.Spelling.{text_of-some}
+use Rattle.capbits.proofs.Following.{in_parts, in_rest, is_letter, is_capital, rest_of, letters_of, Apart, ApartParts, apart_parts, apart_caps, or_left, or_right, or_false, neither, clash, nil_cons, same_self, in_rest-cons, in_rest-append, letters_in-with, letters_in-lacking, groups_in-lacking, letters_in-split, groups_in-split, first_capital, no_letter, behind_letter, behind_capital, apart_behind, apart_parts_behind, passed_caps, outside, behind_parts, passed_parts, letters_of_text, dash_alone}
 
 -- bytes were read, and with them these capabilities: what can follow is letters of `caps` and groups of `parts`, and a letter has to
 -- where the last byte was a capital
@@ -21,13 +21,10 @@ pub record HasRead (bytes : List ℕ) (got : Caps) (needs : Bool) (caps : List C
   pub caps_apart : Apart caps parts
   pub parts_apart : ApartParts parts
   pub some_caps : IsTrue needs → caps ≢ []
-
   -- nothing of what can follow was read
   pub lacks : (d : Cap) → IsTrue (in_rest d caps parts) → IsFalse (has got d)
-
   -- a set with the same capabilities apart from these has a spelling that begins with the bytes
   pub sound : (s : Caps) → ((d : Cap) → IsFalse (in_rest d caps parts) → has s d ≡ has got d) → (IsTrue needs → letters_in s caps ≢ []) → letters_of s ≡ bytes ++ rest_of s caps parts
-
   -- a spelling that begins with the bytes goes on so
   pub complete : (s : Caps) (w : List ℕ) → letters_of s ≡ bytes ++ w → (rest_of s caps parts ≡ w) × (IsTrue needs → letters_in s caps ≢ [])
 
@@ -76,8 +73,8 @@ after_letter bytes got needs front c caps parts h =
       sound = λ s agree _.
           let there : IsTrue (has s c) = agree c behind.0.2 ∙ has_more got c c ∙ or_right (has got c) (same_cap c c) (same_self c) in
           let passed : (d : Cap) → IsTrue (list_any (same_cap d) front) → IsFalse (has s d) = λ d r.
-              (let o = out d (passed_caps front c caps parts h.caps_apart d r) in
-              agree d o.1 ∙ has_more got c d ∙ neither (has got d) (same_cap d c) (h.lacks d (in_rest-append d front (c ∷ caps) parts ∙ or_left (list_any (same_cap d) front) (in_rest d (c ∷ caps) parts) r)) o.0) in
+          (let o = out d (passed_caps front c caps parts h.caps_apart d r) in
+          agree d o.1 ∙ has_more got c d ∙ neither (has got d) (same_cap d c) (h.lacks d (in_rest-append d front (c ∷ caps) parts ∙ or_left (list_any (same_cap d) front) (in_rest d (c ∷ caps) parts) r)) o.0) in
           let letters : letters_in s (front ++ c ∷ caps) ≡ letter_of c ∷ letters_in s caps = letters_in-split s front c caps passed there in
           h.sound s (λ d r. (let o = out d (or_false (list_any (same_cap d) front) (in_rest d (c ∷ caps) parts) (sym (in_rest-append d front (c ∷ caps) parts) ∙ r)).1 in
           agree d o.1 ∙ has_more got c d ∙ ap (λ b. has got d || b) o.0 ∙ or_nothing (has got d))) (λ _ none. nil_cons _ _ (sym none ∙ letters))
@@ -99,9 +96,9 @@ after_capital bytes got caps front part parts other h =
     let behind : ApartParts (part ∷ parts) = apart_parts_behind front part parts h.parts_apart in
     let split : (d : Cap) → in_parts d (front ++ part ∷ parts) ≡ (in_parts d front || in_rest d (caps_of_part part) parts) = λ d. list_any-append (covers d) front (part ∷ parts) in
     let in_front : (d : Cap) → IsTrue (in_parts d front) → IsTrue (in_rest d caps (front ++ part ∷ parts)) = λ d r.
-        or_right (list_any (same_cap d) caps) (in_parts d (front ++ part ∷ parts)) (split d ∙ or_left (in_parts d front) (in_rest d (caps_of_part part) parts) r) in
+    or_right (list_any (same_cap d) caps) (in_parts d (front ++ part ∷ parts)) (split d ∙ or_left (in_parts d front) (in_rest d (caps_of_part part) parts) r) in
     let later : (d : Cap) → IsTrue (in_rest d (caps_of_part part) parts) → IsTrue (in_rest d caps (front ++ part ∷ parts)) = λ d r.
-        or_right (list_any (same_cap d) caps) (in_parts d (front ++ part ∷ parts)) (split d ∙ or_right (in_parts d front) (in_rest d (caps_of_part part) parts) r) in
+    or_right (list_any (same_cap d) caps) (in_parts d (front ++ part ∷ parts)) (split d ∙ or_right (in_parts d front) (in_rest d (caps_of_part part) parts) r) in
     record {
       caps_apart = behind.1;
       parts_apart = behind.2;
@@ -145,8 +142,8 @@ read_begins bytes got true caps parts h =
     let more : (d : Cap) → has t d ≡ (has got d || list_any (same_cap d) caps) = λ d. has-union got (caps_in caps) d ∙ ap (λ b. has got d || b) (has-caps_in caps d) in
     front_begins bytes t (rest_of t caps parts)
     (h.sound t
-      (λ d r. more d ∙ ap (λ b. has got d || b) (or_false (list_any (same_cap d) caps) (in_parts d parts) r).0 ∙ or_nothing (has got d))
-      (λ _. some_letters t caps (h.some_caps refl) (λ d r. more d ∙ or_right (has got d) (list_any (same_cap d) caps) r)))
+    (λ d r. more d ∙ ap (λ b. has got d || b) (or_false (list_any (same_cap d) caps) (in_parts d parts) r).0 ∙ or_nothing (has got d))
+    (λ _. some_letters t caps (h.some_caps refl) (λ d r. more d ∙ or_right (has got d) (list_any (same_cap d) caps) r)))
 read_begins bytes got false caps parts h = front_begins bytes got (rest_of got caps parts) (h.sound got (λ d _. refl) (λ w. absurd (true≢false (sym w))))
 
 -- all of a text was read, and no letter is missing: it is the text of what was read
@@ -264,11 +261,10 @@ more_behind_dash (x ∷ y ∷ text) some e = subst (λ x. IsLongestBeginning (x 
 -- an element of a list, with what stands before and behind it
 pub split_at : {T : Type 0} → (xs : List T) (i : ℕ) (x : T) → i < length xs → (front : List T) × (xs ≡ front ++ get_or xs i x ∷ take (length xs - (i + 1)) (drop (i + 1) xs))
 split_at xs i x lt =
-    let all : length (drop (i + 1) xs) ≤ length xs - (i + 1) = omega (arith, length-drop (i + 1) xs) in
-    (
+    let all : length (drop (i + 1) xs) ≤ length xs - (i + 1) = omega (arith, length-drop (i + 1) xs) in (
       take i xs,
       sym (take-append-drop (i + 1) xs)
-      ∙ ap (λ front. front ++ drop (i + 1) xs) (take_more xs i x lt)
-      ∙ append_assoc (take i xs) (get_or xs i x ∷ []) (drop (i + 1) xs)
-      ∙ ap (λ rest. take i xs ++ get_or xs i x ∷ rest) (sym (take_all (length xs - (i + 1)) (drop (i + 1) xs) all)),
+          ∙ ap (λ front. front ++ drop (i + 1) xs) (take_more xs i x lt)
+          ∙ append_assoc (take i xs) (get_or xs i x ∷ []) (drop (i + 1) xs)
+          ∙ ap (λ rest. take i xs ++ get_or xs i x ∷ rest) (sym (take_all (length xs - (i + 1)) (drop (i + 1) xs) all)),
     )

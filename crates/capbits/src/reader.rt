@@ -99,7 +99,6 @@ fn find_capital(parts: &[Part], byte: u8) -> Option<(Part, &[Part])>
 #[cfg(test)]
 mod tests {
     use super::*;
-    use crate::text::write_caps;
     use std::test::Fail;
 
     #[test]
@@ -115,12 +114,11 @@ mod tests {
             ("pAsxLsxXsxFsxcrwbal", 65533),
         ];
         for (text, bits) in cases {
-            let read = read_caps(text.as_bytes());
-            assert_eq!(rt; read.map(CapSet::bits), Ok(bits), "at {text}");
-            let written = read.map(write_caps);
-            if let Ok(bytes) = written {
-                assert_eq!(rt; bytes.as_slice(), text.as_bytes(), "at {text}");
-            }
+            assert_eq!(rt;
+                read_caps(text.as_bytes()).map(CapSet::bits),
+                Ok(bits),
+                "at {text}"
+            );
         }
     }
 
@@ -146,7 +144,11 @@ mod tests {
             ("pFs ", 3),
         ];
         for (text, at) in cases {
-            assert_eq!(rt; read_caps(text.as_bytes()), Err(CapText { at }), "at {text}");
+            assert_eq!(rt;
+                read_caps(text.as_bytes()),
+                Err(CapText { at }),
+                "at {text}"
+            );
         }
     }
 

@@ -1,5 +1,4 @@
-use Rattle.std.proofs.Common.{◌≡◌, ◌≤◌, [], ◌∷◌, length, get_or, Ok, arith, subst, ap, sym, ◌∙◌}
-use Rattle.capbits.specs.Sets.{no_caps}
+use Rattle.std.proofs.Common.{◌≡◌, ◌≤◌, length, get_or, Ok, arith, subst, ap, sym, ◌∙◌}
 use Rattle.capbits.specs.Text.{IsLongestBeginning, text_of}
 use Rattle.capbits.proofs.Following.{text_some, text_of-injective}
 use Rattle.capbits.proofs.Reading.{no_bytes, one_byte, more_behind_dash, empty_text, text_of-empty, fault_inside}

@@ -1,8 +1,7 @@
-use Rattle.std.proofs.Common.{◌≡◌, ◌∷◌, [], sym, ap, subst, true≢false, false, Ok, length, take, ◌≤◌, arith, ◌∙◌}
+use Rattle.std.proofs.Common.{◌∷◌, [], sym, ap, subst, true≢false, false, Ok, length, ◌≤◌, ◌∙◌}
 use Rattle.std.proofs.lemmas.List.{take_all}
 use Rattle.capbits.specs.declared.cap.Cap.TheVariants.{P}
 use Rattle.capbits.specs.declared.cap.Part.TheVariants.{A, L, X, F}
-use Rattle.capbits.specs.Text.{IsLongestBeginning}
 use Rattle.capbits.proofs.Following.{text_of-injective}
 use Rattle.capbits.proofs.Reading.{HasRead, read_nothing, wrong_byte, fault_inside, not_a_text, letter_missing, all_read, letter_step, capital_step}
 use Rattle.capbits.proofs.reader.read_letters.Goals as goal
