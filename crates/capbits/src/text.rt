@@ -96,7 +96,7 @@ fn write_letters(out: &mut ArrayVec<u8, MAX_CAP_BYTES>, set: CapSet, caps: &[Cap
 }
 
 // The capital of a part.
-fn capital(part: Part) -> u8
+pub(crate) fn capital(part: Part) -> u8
     ensures { result ≡ capital_of part }
 {
     match part {
@@ -108,7 +108,7 @@ fn capital(part: Part) -> u8
 }
 
 // The letter of a capability.
-fn letter(cap: Cap) -> u8
+pub(crate) fn letter(cap: Cap) -> u8
     ensures { result ≡ letter_of cap }
 {
     match cap {

@@ -4,3 +4,4 @@ pub mod Class
 pub mod Question
 pub mod Failing
 pub mod Verdict
+pub mod Permitted

@@ -13,6 +13,6 @@ mod tests;
 
 pub use access::{Access, Attr};
 pub use answer::Verdict;
-pub use policy::verdict;
+pub use policy::{permitted, verdict};
 pub use rule::Rule;
 pub use rules::Rules;

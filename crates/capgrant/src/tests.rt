@@ -2,7 +2,7 @@
 
 use super::*;
 use arrayvec::ArrayVec;
-use capbits::{Caller, Groups, Mode};
+use capbits::{Caller, CapBytes, Groups, Mode, write_caps};
 use capspec::{FsName, read_grants};
 use std::alloc::Global;
 use std::test::Fail;
@@ -41,18 +41,35 @@ fn says(
     let fs = FsName::read(b"cephfs").ok_or("no name")?;
     let caller = caller(who)?;
     let (text, uid, gid, mode) = inode;
-    let mut path = Vec::new(alloc);
-    for name in text.split('/') {
-        if !name.is_empty() {
-            path.push(name.as_bytes())?;
-        }
-    }
+    let path = names(alloc, text)?;
     let mode = Mode::new(mode).ok_or("no mode")?;
     let attr = Attr { uid, gid, mode };
     match verdict(&grants, &fs, &caller, &path, &attr, access) {
         Verdict::Allowed { grant } => Ok(format!(in alloc; "allowed by grant {grant}")?),
         Verdict::Denied { rules } => Ok(denial(alloc, &rules)?),
     }
+}
+
+// What the grants permit, on the file system `cephfs`, as text.
+fn permits(alloc: Global, grants: &str, who: Who, inode: Inode) -> Result<CapBytes, Fail> {
+    let grants = read_grants(alloc, grants.as_bytes())?;
+    let fs = FsName::read(b"cephfs").ok_or("no name")?;
+    let caller = caller(who)?;
+    let (text, uid, gid, mode) = inode;
+    let path = names(alloc, text)?;
+    let mode = Mode::new(mode).ok_or("no mode")?;
+    let attr = Attr { uid, gid, mode };
+    Ok(write_caps(permitted(&grants, &fs, &caller, &path, &attr)))
+}
+
+fn names(alloc: Global, path: &str) -> Result<Vec<&[u8]>, Fail> {
+    let mut names = Vec::new(alloc);
+    for name in path.split('/') {
+        if !name.is_empty() {
+            names.push(name.as_bytes())?;
+        }
+    }
+    Ok(names)
 }
 
 fn denial(alloc: Global, rules: &Rules) -> Result<String, Fail> {
@@ -342,4 +359,31 @@ fn a_list_of_rules_gives_its_vector_back(rt: HostRuntime) {
         rules.into_inner().as_slice(),
         [Rule::Path, Rule::NoWrite].as_slice()
     );
+}
+
+#[test]
+fn reading_and_writing_permit_their_capabilities(rt: HostRuntime) -> Result<(), Fail> {
+    let (pin, reads) = ("p", "pAsLsXsFscrl");
+    let (writes, both) = ("pAxLxXxFxwb", "pAsxLsxXsxFsxcrwbl");
+    let cases = [
+        ("allow rw", ANA, 7, 0o000, both),
+        ("allow rwps", ANA, 7, 0o000, both),
+        ("allow r", ANA, 7, 0o777, reads),
+        // No grant is for this inode.
+        ("allow rw path=/a", ANA, 7, 0o777, pin),
+        ("allow rw fsname=other", ANA, 7, 0o777, pin),
+        ("allow rw path=/a, allow r path=/b", ANA, 7, 0o777, reads),
+        ("allow r path=/b, allow rw path=/b", ANA, 7, 0o777, both),
+        // Reading is never squashed.
+        ("allow rw root_squash", ROOT, 7, 0o777, reads),
+        // A grant with a uid goes by the mode.
+        ("allow rw uid=9 gids=50", ANA, 7, 0o640, reads),
+        ("allow rw uid=9", ANA, 7, 0o640, pin),
+        ("allow rw uid=9", ANA, 9, 0o200, writes),
+    ];
+    for (grants, who, owner, mode, wanted) in cases {
+        let found = permits(rt.alloc(), grants, who, ("/b/x", owner, 50, mode))?;
+        assert_eq!(rt; found.as_slice(), wanted.as_bytes(), "{grants}");
+    }
+    Ok(())
 }

@@ -113,32 +113,50 @@ mod tests {
         }
     }
 
+    // For each gather what client 1 and what client 2 may hold.
     #[test]
     fn a_gather_allows_what_both_rows_have(rt: HostRuntime) {
-        let cases: [(Part, State, State, &[Cap]); 5] = [
+        let nothing: &[Cap] = &[];
+        let own = State::Excl(HOLDER);
+        let cases: [(Part, State, State, &[Cap], &[Cap]); 10] = [
+            (Part::F, own, State::Mix, &[Cap::Fr, Cap::Fw], nothing),
             (
                 Part::F,
-                State::Excl(HOLDER),
-                State::Mix,
-                &[Cap::Fr, Cap::Fw],
-            ),
-            (
-                Part::F,
-                State::Excl(HOLDER),
+                own,
                 State::Sync,
                 &[Cap::Fs, Cap::Fc, Cap::Fr],
+                nothing,
             ),
-            (Part::F, State::Mix, State::Sync, &[Cap::Fr, Cap::Fl]),
-            (Part::A, State::Sync, State::Excl(HOLDER), &[Cap::As]),
-            (Part::A, State::Sync, State::Lock, &[]),
+            (Part::F, own, State::Excl(OTHER), nothing, nothing),
+            (
+                Part::F,
+                State::Sync,
+                State::Mix,
+                &[Cap::Fr, Cap::Fl],
+                &[Cap::Fr, Cap::Fl],
+            ),
+            (
+                Part::F,
+                State::Mix,
+                State::Sync,
+                &[Cap::Fr, Cap::Fl],
+                &[Cap::Fr, Cap::Fl],
+            ),
+            (Part::F, State::Mix, State::Lock, nothing, nothing),
+            (Part::A, State::Sync, own, &[Cap::As], nothing),
+            (Part::A, own, State::Sync, &[Cap::As], nothing),
+            (Part::A, State::Sync, State::Lock, nothing, nothing),
+            (Part::X, State::Lock, own, nothing, nothing),
         ];
-        for (part, from, to, caps) in cases {
+        for (part, from, to, mine, theirs) in cases {
             let lock = LockState::Gather { from, to };
-            assert_eq!(rt;
-                allowed(part, lock, HOLDER),
-                CapSet::of(caps),
-                "at {lock:?}"
-            );
+            for (client, caps) in [(HOLDER, mine), (OTHER, theirs)] {
+                assert_eq!(rt;
+                    allowed(part, lock, client),
+                    CapSet::of(caps),
+                    "at {part:?} {lock:?} {client}"
+                );
+            }
         }
     }
 }

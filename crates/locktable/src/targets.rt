@@ -133,49 +133,92 @@ mod tests {
             (State::Excl(ONE), Head::Read(ONE), State::Excl(ONE)),
             (State::Excl(ONE), Head::Read(TWO), State::Sync),
         ];
-        let writes = CapSet::of(&[Cap::P, Cap::Fx, Cap::Fw, Cap::Fb]);
+        let writes = CapSet::of(&[Cap::P, Cap::Ax, Cap::Fx, Cap::Fw, Cap::Fb]);
         for part in [Part::A, Part::F] {
             for (state, head, to) in cases {
-                let reached = target(part, state, head, Some((TWO, writes)), writes);
-                assert_eq!(rt; reached, to, "at {part:?} {state:?} {head:?}");
+                for loner in [None, Some((TWO, writes))] {
+                    let reached = target(part, state, head, loner, writes);
+                    assert_eq!(rt; reached, to, "at {part:?} {state:?} {head:?}");
+                }
             }
         }
     }
 
     #[test]
-    fn what_clients_want_decides_for_an_empty_queue(rt: HostRuntime) {
+    fn what_nobody_wants_stays(rt: HostRuntime) {
+        let pin = CapSet::of(&[Cap::P]);
         let owner = CapSet::of(&[Cap::P, Cap::As, Cap::Ax]);
-        let reads = CapSet::of(&[Cap::P, Cap::Fs, Cap::Fc, Cap::Fr]);
-        let writes = CapSet::of(&[Cap::P, Cap::Fx, Cap::Fw, Cap::Fb]);
-        let keeps = CapSet::of(&[Cap::P, Cap::Fx]);
-        let both = reads.union(writes);
-        let alone = |wants: CapSet| Some((ONE, wants));
-        let cases = [
-            // nobody wants the part
-            (Part::F, State::Lock, None, CapSet::empty(), State::Lock),
-            (Part::F, State::Mix, alone(owner), owner, State::Mix),
-            (
-                Part::A,
-                State::Excl(TWO),
-                alone(both),
-                both,
-                State::Excl(TWO),
-            ),
-            // a loner
-            (Part::F, State::Sync, alone(both), both, State::Excl(ONE)),
-            (Part::F, State::Sync, alone(keeps), keeps, State::Excl(ONE)),
-            (Part::F, State::Excl(ONE), alone(reads), reads, State::Sync),
-            (Part::A, State::Sync, alone(owner), owner, State::Excl(ONE)),
-            (Part::L, State::Sync, alone(owner), owner, State::Sync),
-            // several clients
-            (Part::F, State::Excl(ONE), None, both, State::Mix),
-            (Part::F, State::Mix, None, reads, State::Sync),
-            (Part::F, State::Lock, None, keeps, State::Sync),
-            (Part::A, State::Excl(ONE), None, owner, State::Sync),
+        let writer = CapSet::of(&[Cap::P, Cap::Fx, Cap::Fw, Cap::Fb]);
+        let states = [State::Sync, State::Lock, State::Excl(ONE), State::Excl(TWO)];
+        for (part, wanted) in [(Part::F, owner), (Part::A, writer), (Part::L, writer)] {
+            for state in states {
+                let alone = target(part, state, Head::Empty, Some((ONE, wanted)), wanted);
+                assert_eq!(rt; alone, state, "at {part:?} {wanted:?}");
+                let several = target(part, state, Head::Empty, None, wanted);
+                assert_eq!(rt; several, state, "at {part:?} {wanted:?}");
+            }
+        }
+        for part in [Part::A, Part::L, Part::X, Part::F] {
+            for state in states {
+                let pinned = target(part, state, Head::Empty, None, pin);
+                assert_eq!(rt; pinned, state, "at {part:?}");
+            }
+        }
+        let mixed = target(Part::F, State::Mix, Head::Empty, None, owner);
+        assert_eq!(rt; mixed, State::Mix);
+    }
+
+    // A part, what a loner wants of it, and where its lock is to go, from wherever it is.
+    #[test]
+    fn a_loner_that_changes_a_part_has_it(rt: HostRuntime) {
+        let own = State::Excl(ONE);
+        let cases: [(Part, &[Cap], State); 12] = [
+            (Part::F, &[Cap::Fx], own),
+            (Part::F, &[Cap::Fw], own),
+            (Part::F, &[Cap::Fb], own),
+            (Part::F, &[Cap::Fs, Cap::Fc, Cap::Fr, Cap::Fw], own),
+            (Part::F, &[Cap::Fs, Cap::Fc, Cap::Fr], State::Sync),
+            (Part::F, &[Cap::Fl], State::Sync),
+            (Part::A, &[Cap::Ax], own),
+            (Part::A, &[Cap::As], State::Sync),
+            (Part::L, &[Cap::Ls, Cap::Lx], own),
+            (Part::L, &[Cap::Ls], State::Sync),
+            (Part::X, &[Cap::Xx, Cap::Fw], own),
+            (Part::X, &[Cap::Xs, Cap::Ax], State::Sync),
         ];
-        for (part, state, loner, wanted, to) in cases {
-            let reached = target(part, state, Head::Empty, loner, wanted);
-            assert_eq!(rt; reached, to, "at {part:?} {state:?} {wanted:?}");
+        for (part, caps, to) in cases {
+            let wants = CapSet::of(caps);
+            for state in [State::Sync, State::Lock, own, State::Excl(TWO)] {
+                let reached = target(part, state, Head::Empty, Some((ONE, wants)), wants);
+                assert_eq!(rt; reached, to, "at {part:?} {caps:?} {state:?}");
+            }
+        }
+    }
+
+    // A part, what several clients want of it together, and where its lock is to go, from wherever it is.
+    #[test]
+    fn several_clients_share_a_part(rt: HostRuntime) {
+        let cases: [(Part, &[Cap], State); 10] = [
+            (
+                Part::F,
+                &[Cap::Fs, Cap::Fx, Cap::Fc, Cap::Fr, Cap::Fw, Cap::Fb],
+                State::Mix,
+            ),
+            (Part::F, &[Cap::Fw], State::Mix),
+            (Part::F, &[Cap::Fs, Cap::Fc, Cap::Fr], State::Sync),
+            (Part::F, &[Cap::Fx], State::Sync),
+            (Part::F, &[Cap::Fb], State::Sync),
+            (Part::F, &[Cap::Fa], State::Sync),
+            (Part::A, &[Cap::As], State::Sync),
+            (Part::A, &[Cap::As, Cap::Ax], State::Sync),
+            (Part::L, &[Cap::Lx], State::Sync),
+            (Part::X, &[Cap::Xx], State::Sync),
+        ];
+        for (part, caps, to) in cases {
+            for state in [State::Sync, State::Lock, State::Excl(ONE)] {
+                let reached = target(part, state, Head::Empty, None, CapSet::of(caps));
+                assert_eq!(rt; reached, to, "at {part:?} {caps:?} {state:?}");
+            }
         }
     }
 }

@@ -1,0 +1,31 @@
+-- What a list of grants permits a client to hold of an inode.
+use Rattle.std.specs.Prelude.{Bool, if◌then◌else◌, List, [], ◌∷◌}
+use Rattle.capbits.specs.declared.cap.Cap.{Cap}
+use Rattle.capbits.specs.declared.cap.Cap.TheVariants.{P, As, Ax, Ls, Lx, Xs, Xx, Fs, Fx, Fc, Fr, Fw, Fb, Fl}
+use Rattle.capbits.specs.Caps.{Caps}
+use Rattle.capbits.specs.Sets.{no_caps, caps_in, union}
+use Rattle.capspec.specs.declared.grant.Grant.{Grant}
+use Rattle.capgrant.specs.declared.access.Access.{Access}
+use Rattle.capgrant.specs.declared.access.Access.TheVariants.{Read, Write}
+use Rattle.capgrant.specs.Question.{Question}
+use Rattle.capgrant.specs.Verdict.{granted}
+
+-- what a client may hold whatever its grants
+abbrev pub for_all : List Cap
+for_all = P ∷ []
+
+-- what a client that may read may hold
+abbrev pub for_readers : List Cap
+for_readers = As ∷ Ls ∷ Xs ∷ Fs ∷ Fc ∷ Fr ∷ Fl ∷ []
+
+-- what a client that may write may hold
+abbrev pub for_writers : List Cap
+for_writers = Ax ∷ Lx ∷ Xx ∷ Fx ∷ Fw ∷ Fb ∷ []
+
+-- some capabilities on a condition
+abbrev pub caps_if : Bool → List Cap → Caps
+caps_if condition caps = if condition then caps_in caps else no_caps
+
+-- what the grants permit, by what they answer to a question about each access
+unfoldable pub permitted_of : (Access → Question) → List Grant → Caps
+permitted_of ask grants = union (caps_in for_all) (union (caps_if (granted (ask Read) grants) for_readers) (caps_if (granted (ask Write) grants) for_writers))
