@@ -1,8 +1,7 @@
 //! The values of options that are lists.
-ghost use Rattle.std.specs.Prelude.{◌≡◌, ◌↔◌, map, IsSome, IfSome, IsTrue};
-ghost use Rattle.std.specs.Option.{SomeIff};
+ghost use Rattle.std.specs.Prelude.{◌≡◌, ◌↔◌, ℕ, List, map, IsSome, IfSome, IsTrue, MatchOption};
 ghost use Rattle.capspec.specs.Names.{names_of, are_few_and_short};
-ghost use Rattle.capd.specs.Values.{AreGroups, groups_of};
+ghost use Rattle.capd.specs.Values.{AreGroups};
 
 use arrayvec::ArrayVec;
 use capbits::{Groups, read_u32};
@@ -34,7 +33,7 @@ pub fn split_path(text: &[u8]) -> Option<ArrayVec<&[u8], MAX_NAMES>>
 
 /// The group ids between the commas: 1 to 16 decimal numbers of 32 bits.
 pub fn read_groups(text: &[u8]) -> Option<Groups>
-    ensures { SomeIff result (AreGroups text.now) (groups_of text.now) }
+    ensures { MatchOption result ((gids : List ℕ) → ¬ AreGroups text.now gids) (AreGroups text.now) }
 {
     let mut groups = Groups::new();
     for digits in text.split(|byte| *byte == b',') {
