@@ -1,0 +1,3 @@
+pub mod Names
+pub mod Maps
+pub mod Node

@@ -1,0 +1,14 @@
+//! The tree of inodes of a file system, in memory.
+//!
+//! Public source: "CephFS" in the Ceph documentation.
+#![tactic(auto)]
+
+mod attributes;
+mod fault;
+mod name;
+mod snapshots;
+
+pub use attributes::{Attributes, MAX_ATTRIBUTES, MAX_VALUE, Value};
+pub use fault::{NoMemory, TreeFault};
+pub use name::{MAX_NAME, Name, is_bad_attribute, is_bad_name};
+pub use snapshots::{MAX_SNAPSHOTS, Snapshots};
