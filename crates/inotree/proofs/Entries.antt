@@ -3,7 +3,7 @@ use Rattle.std.proofs.Common.{◌≡◌, ℕ, ◌+◌, Bool, true, false, cond, 
 use Rattle.std.specs.declared.cmp.Ordering.{Ordering}
 use Rattle.std.specs.declared.cmp.Ordering.TheVariants.{Less}
 use Rattle.std.specs.BTreeMap.{is_at}
-use Rattle.std.specs.Cmp.{IsTotalOrder, eq_by_cmp_equiv}
+use Rattle.std.specs.Cmp.{IsTotalOrder, eq_by_cmp_equiv, Equal-is}
 use Rattle.std.specs.FinMap as map
 use Rattle.std.specs.FinSet as set
 use Rattle.std.specs.List.{list_any, AllByRecursion}
@@ -54,10 +54,21 @@ module _ {K : Type 0} {R : K → K → Ordering} (o : IsTotalOrder R) (same : ma
         get-entries fs q ∙ h q ∙ flip k q None (at_key es q)
         ∙ sym (map.get-remove o (map.from_entries es) k q ∙ ap (cond (eq_by_cmp R q k) None) (get-entries es q)))
 
-    -- entries whose value x at k was changed by f make the map with it changed
-    pub change-entries : (f : X → X) (es fs : List (K × X)) (k : K) (x : X) → at_key es k ≡ Some x → ((q : K) → at_key fs q ≡ cond (is_at (R k) q) (Some (f x)) (at_key es q)) → map.from_entries {R = R} fs ≡ change_at f (map.from_entries es) k
-    change-entries f es fs k x here h =
-        insert-entries es fs k (f x) h ∙ ap (λ o. option_map_or (λ y. map.insert (map.from_entries es) k (f y)) o (map.from_entries es)) (sym (get-entries es k ∙ here))
+    -- entries whose value x at k was changed to y, as f does, make the map with it changed
+    pub change-entries : (f : X → X) (es fs : List (K × X)) (k : K) (x y : X) → y ≡ f x → at_key es k ≡ Some x → ((q : K) → at_key fs q ≡ cond (is_at (R k) q) (Some y) (at_key es q)) → map.from_entries {R = R} fs ≡ change_at f (map.from_entries es) k
+    change-entries f es fs k x y is here h =
+        insert-entries es fs k y h ∙ ap (map.insert (map.from_entries es) k) is
+        ∙ ap (λ o. option_map_or (λ y. map.insert (map.from_entries es) k (f y)) o (map.from_entries es)) (sym (get-entries es k ∙ here))
+
+    -- entries whose value x at k was written again make the same map
+    pub same-entries : (es fs : List (K × X)) (k : K) (x y : X) → y ≡ x → at_key es k ≡ Some x → ((q : K) → at_key fs q ≡ cond (is_at (R k) q) (Some y) (at_key es q)) → map.from_entries {R = R} fs ≡ map.from_entries es
+    same-entries es fs k x y is here h = map.same_map o same _ _ (λ q.
+        get-entries fs q ∙ h q ∙ flip k q (Some y) (at_key es q)
+        ∙ (elim (eq_by_cmp R q k) as (λ b. eq_by_cmp R q k ≡ b → cond b (Some y) (at_key es q) ≡ at_key es q) [
+            | true ↦ λ e. ap Some is ∙ sym here ∙ ap (at_key es) (sym (same q k ((Equal-is (R q k)).0 e)))
+            | false ↦ λ _. refl
+          ] refl)
+        ∙ sym (get-entries es q))
 
     -- where there is no value to change, the map stays
     pub change-no_entry : (f : X → X) (es : List (K × X)) (k : K) → at_key es k ≡ None → map.from_entries {R = R} es ≡ change_at f (map.from_entries es) k

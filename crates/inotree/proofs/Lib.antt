@@ -1,2 +1,5 @@
 pub mod Entries
 pub mod Order
+pub mod Reaching
+pub mod Results
+pub mod Slots

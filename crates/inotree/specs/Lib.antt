@@ -1,3 +1,5 @@
 pub mod Names
 pub mod Maps
 pub mod Node
+pub mod Inodes
+pub mod Index

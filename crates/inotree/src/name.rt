@@ -1,5 +1,5 @@
 //! Names: of inodes in their directory, of snapshots, and of extended attributes.
-ghost use Rattle.std.specs.Prelude.{◌≡◌, ◌≤◌, ◌↔◌, length, IsSome, IfSome, IsTrue};
+ghost use Rattle.std.specs.Prelude.{◌≡◌, [], ◌≤◌, ◌↔◌, length, IsSome, IfSome, IsTrue};
 ghost use Rattle.inotree.specs.Names.{is_bad_name, is_bad_attribute};
 
 use arrayvec::ArrayVec;
@@ -33,6 +33,15 @@ impl Name {
     {
         let bytes = ArrayVec::try_from(bytes).ok()?;
         Some(Name { bytes })
+    }
+
+    // The name without a byte, which is the first in the order of names.
+    pub(crate) fn empty() -> Name
+        ensures { result ≡ [] }
+    {
+        Name {
+            bytes: ArrayVec::new(),
+        }
     }
 
     /// The bytes of the name.

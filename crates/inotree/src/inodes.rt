@@ -1,0 +1,135 @@
+//! The inodes, by number.
+ghost use Rattle.std.specs.Prelude.{◌≡◌, OnOk, OnErr};
+ghost use Rattle.std.specs.Option.{option_copied};
+ghost use Rattle.std.specs.FinMap as map;
+ghost use Rattle.inotree.specs.Maps.{change_at};
+ghost use Rattle.inotree.specs.Inodes.{with_setting, with_site, with_attribute, without_attribute, with_snapshot, without_snapshot};
+
+use crate::attributes::Value;
+use crate::fault::NoMemory;
+use crate::name::Name;
+use crate::node::{Node, Setting, Site};
+use std::alloc::Global;
+use std::collections::BTreeMap;
+use std::marker::Model;
+
+// The inodes, by number.
+#[derive(Debug, Drop)]
+pub(crate) struct Inodes {
+    nodes: BTreeMap<u64, Node>,
+}
+
+impl Model for Inodes {
+    ghost use Rattle.std.specs.FinMap as map;
+    ghost use Rattle.inotree.specs.Inodes.{InodeMap, inode_map_code};
+
+    ghost Value = { InodeMap };
+
+    ghost coded = { inode_map_code };
+
+    ghost view = { λ i. map.from_entries i.nodes.entries };
+}
+
+impl Inodes {
+    // No inodes.
+    pub(crate) fn new(alloc: Global) -> Inodes
+        ensures { result ≡ map.empty }
+    {
+        Inodes {
+            nodes: BTreeMap::new(alloc),
+        }
+    }
+
+    // How many there are.
+    pub(crate) fn len(&self) -> usize
+        ensures { result ≡ map.len self.now }
+    {
+        self.nodes.len()
+    }
+
+    // The inode of this number, if there is one.
+    pub(crate) fn get(&self, ino: u64) -> Option<&Node>
+        ensures { option_copied result ≡ map.get self.now ino }
+    {
+        self.nodes.get(&ino)
+    }
+
+    // Puts an inode under this number.
+    pub(crate) fn insert(&mut self, ino: u64, node: Node) -> Result<(), NoMemory>
+        ensures ok { OnOk result (self.new ≡ map.insert self.old ino node) }
+        ensures err { OnErr result (self.new ≡ self.old) }
+    {
+        self.nodes.insert(ino, node)?;
+        Ok(())
+    }
+
+    // Takes the inode of this number out.
+    pub(crate) fn remove(&mut self, ino: u64)
+        ensures { self.new ≡ map.remove self.old ino }
+    {
+        self.nodes.remove(&ino);
+    }
+
+    // Moves an inode, if there is one of this number.
+    pub(crate) fn set_site(&mut self, ino: u64, site: Site)
+        ensures { self.new ≡ change_at (with_site site) self.old ino }
+    {
+        if let Some(node) = self.nodes.get_mut(&ino) {
+            node.site = site;
+        }
+    }
+
+    // Sets a field of an inode, if there is one of this number.
+    pub(crate) fn set(&mut self, ino: u64, setting: Setting)
+        ensures { self.new ≡ change_at (with_setting setting) self.old ino }
+    {
+        if let Some(node) = self.nodes.get_mut(&ino) {
+            node.set(setting);
+        }
+    }
+
+    // Sets an attribute of an inode, if there is one of this number.
+    pub(crate) fn set_attribute(
+        &mut self,
+        ino: u64,
+        name: Name,
+        value: Value,
+    ) -> Result<(), NoMemory>
+        ensures ok { OnOk result (self.new ≡ change_at (with_attribute name value) self.old ino) }
+        ensures err { OnErr result (self.new ≡ self.old) }
+    {
+        match self.nodes.get_mut(&ino) {
+            Some(node) => node.attributes.insert(name, value),
+            None => Ok(()),
+        }
+    }
+
+    // Takes an attribute from an inode, if there is one of this number.
+    pub(crate) fn remove_attribute(&mut self, ino: u64, name: &Name)
+        ensures { self.new ≡ change_at (without_attribute name.now) self.old ino }
+    {
+        if let Some(node) = self.nodes.get_mut(&ino) {
+            node.attributes.remove(name);
+        }
+    }
+
+    // Adds a snapshot name to an inode, if there is one of this number.
+    pub(crate) fn add_snapshot(&mut self, ino: u64, name: Name) -> Result<(), NoMemory>
+        ensures ok { OnOk result (self.new ≡ change_at (with_snapshot name) self.old ino) }
+        ensures err { OnErr result (self.new ≡ self.old) }
+    {
+        match self.nodes.get_mut(&ino) {
+            Some(node) => node.snapshots.insert(name),
+            None => Ok(()),
+        }
+    }
+
+    // Takes a snapshot name from an inode, if there is one of this number.
+    pub(crate) fn remove_snapshot(&mut self, ino: u64, name: &Name)
+        ensures { self.new ≡ change_at (without_snapshot name.now) self.old ino }
+    {
+        if let Some(node) = self.nodes.get_mut(&ino) {
+            node.snapshots.remove(name);
+        }
+    }
+}
