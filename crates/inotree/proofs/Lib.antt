@@ -1,5 +1,9 @@
 pub mod Entries
+pub mod Maps
 pub mod Order
 pub mod Reaching
 pub mod Results
+pub mod Shape
 pub mod Slots
+pub mod Turning
+pub mod Walks

@@ -1,5 +1,5 @@
 -- From what a call says of its `Ok` or of its `Err` to what follows from it.
-use Rattle.std.proofs.Common.{◌≡◌, Result, Ok, Err, OnOk, OnErr, sym, subst}
+use Rattle.std.proofs.Common.{Result, Ok, Err, OnOk, OnErr}
 
 pub on_ok : {T E : Type 0} {P Q : Type 0} (r : Result T E) → OnOk r P → (P → Q) → OnOk r Q
 on_ok (Ok x) p f = f p
@@ -13,5 +13,6 @@ pub ok_of : {T E : Type 0} {P : Type 0} (r : Result T E) → P → OnOk r P
 ok_of (Ok x) p = p
 ok_of (Err e) p = tt
 
-pub no_err : {T E : Type 0} {P : Type 0} (r : Result T E) (x : T) → r ≡ Ok x → OnErr r P
-no_err {P = P} r x is = subst (λ s. OnErr s P) (sym is) tt
+pub err_of : {T E : Type 0} {P : Type 0} (r : Result T E) → P → OnErr r P
+err_of (Ok x) p = tt
+err_of (Err e) p = p

@@ -1,13 +1,16 @@
 -- What each call on the tree changes, and which of its tests fails first.
-use Rattle.std.specs.Prelude.{ℕ, ◌+◌, ◌-◌, ◌==◌, Bool, true, false, not, nat_le, nat_lt, ◌||◌, ◌&&◌, List, length, Option, None, Some, is_some, option_map_or, if◌then◌else◌}
+use Rattle.std.specs.Prelude.{ℕ, ◌+◌, ◌-◌, ◌==◌, Bool, true, false, not, nat_le, nat_lt, ◌||◌, ◌&&◌, List, length, Option, None, Some, is_some, if◌then◌else◌}
+use Rattle.std.specs.Option.{option_map_or}
 use Rattle.std.specs.FinMap as map
 use Rattle.std.specs.FinSet as set
 use Rattle.capgrant.specs.declared.access.Attr.{Attr}
 use Rattle.inotree.specs.declared.attributes.TheConstants.{MAX_ATTRIBUTES, MAX_VALUE}
 use Rattle.inotree.specs.declared.snapshots.TheConstants.{MAX_SNAPSHOTS}
-use Rattle.inotree.specs.declared.tree.TheConstants.{MAX_NAMES, MAX_INODES}
+use Rattle.inotree.specs.declared.tree.TheConstants.{MAX_INODES}
+use Rattle.inotree.specs.declared.names.TheConstants.{MAX_NAMES}
 use Rattle.inotree.specs.declared.node.Node.{Node}
 use Rattle.inotree.specs.declared.node.Kind.{Kind}
+use Rattle.inotree.specs.declared.node.Kind.TheVariants.{Directory}
 use Rattle.inotree.specs.declared.node.Site.{Site}
 use Rattle.inotree.specs.declared.node.Site.TheVariants.{Root, Under, Stray}
 use Rattle.inotree.specs.declared.node.Place.{Place}
@@ -136,6 +139,13 @@ snap_remove_fault tree ino name =
     or_next (inode_fault tree ino) (
     or_next (fails (is_no_directory tree ino) NotDir) (
     fails (test_at (λ n. not (set.contains n.snapshots name)) tree ino) NoEnt))
+
+-- a root alone
+abbrev pub first_tree : Attr → Nodes
+first_tree attr = record {
+  nodes = map.insert map.empty 1 (record { kind = Directory; site = Root; attr = attr; size = 0; time = 0; attributes = map.empty; snapshots = set.empty });
+  last = 1;
+}
 
 -- a new inode in a directory, under a name
 abbrev pub new_node : Kind → ℕ → List ℕ → Attr → Node

@@ -3,3 +3,5 @@ pub mod Maps
 pub mod Node
 pub mod Inodes
 pub mod Index
+pub mod Tree
+pub mod Calls

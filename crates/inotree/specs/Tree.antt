@@ -1,7 +1,7 @@
 -- The tree: where each inode stands, what is a child of what, and the paths.
-use Rattle.std.specs.Prelude.{◌≡◌, ℕ, zero, suc, ◌≤◌, ◌<◌, ◌^◌, ◌==◌, ◌&&◌, ◌||◌, Bool, true, false, List, [], ◌∷◌, length, Option, None, Some, IsSome, if◌then◌else◌, refl}
+use Rattle.std.specs.Prelude.{◌≡◌, ℕ, zero, suc, ◌≤◌, ◌<◌, ◌^◌, ◌==◌, ◌&&◌, ◌||◌, Bool, true, false, List, [], ◌∷◌, length, reverse, Option, None, Some, IsSome, if◌then◌else◌, refl}
 use Rattle.std.specs.Coded.{Coded, code_by, coded×, coded_ℕ}
-use Rattle.std.specs.List.{list_any, reverse}
+use Rattle.std.specs.List.{list_any}
 use Rattle.std.specs.Option.{option_map}
 use Rattle.std.specs.Str.{bytes_eq}
 use Rattle.std.specs.FinMap as map
@@ -10,6 +10,7 @@ use Rattle.inotree.specs.declared.node.Kind.{Kind}
 use Rattle.inotree.specs.declared.node.Kind.TheVariants.{Directory, File}
 use Rattle.inotree.specs.declared.node.Site.{Site}
 use Rattle.inotree.specs.declared.node.Site.TheVariants.{Root, Under, Stray}
+use Rattle.inotree.specs.declared.index.Slot.{Slot}
 use Rattle.inotree.specs.declared.node.Place.{Place}
 use Rattle.inotree.specs.declared.node.Place.TheVariants.{NoIno, Gone, Here}
 use Rattle.inotree.specs.Names.{is_bad_name}
@@ -65,6 +66,13 @@ dir_at (Some (Under dir name)) = Some dir.0
 
 abbrev pub parent : InodeMap → ℕ → Option ℕ
 parent nodes ino = dir_at (site_of nodes ino)
+
+-- the place in the index of an inode's name
+abbrev pub slot_at : Option Site → Option Slot
+slot_at None = None
+slot_at (Some Root) = None
+slot_at (Some Stray) = None
+slot_at (Some (Under dir name)) = Some (record { dir = dir.0; name = name })
 
 -- a site in a directory, under a name
 abbrev pub is_at : ℕ → List ℕ → Site → Bool
@@ -152,8 +160,8 @@ pub record IsTree (tree : Nodes) : Type 0 where
   pub names : (ino dir : ℕ) (name : List ℕ) → IsUnder tree.nodes ino dir name → is_bad_name name ≡ false
   -- the root is reached in at most 32 steps
   pub reached : (ino : ℕ) → place tree.nodes ino ≡ Here → (up : List (List ℕ)) × (length up ≤ 32) × Climbs tree.nodes ino up 1
-  -- no number above the last has been given
-  pub given : (ino : ℕ) → IsSome (map.get tree.nodes ino) → ino ≤ tree.last
+  -- no inode has a number above the last
+  pub given : (ino : ℕ) → tree.last < ino → map.get tree.nodes ino ≡ None
 
 -- The index has each name of the tree, and no other.
 pub record IsIndexed (nodes : InodeMap) (index : NameIndex) : Type 0 where

@@ -1,14 +1,18 @@
 //! The inodes, by number.
 ghost use Rattle.std.specs.Prelude.{◌≡◌, OnOk, OnErr};
-ghost use Rattle.std.specs.Option.{option_copied};
+ghost use Rattle.std.specs.Option.{option_copied, option_map};
 ghost use Rattle.std.specs.FinMap as map;
 ghost use Rattle.inotree.specs.Maps.{change_at};
 ghost use Rattle.inotree.specs.Inodes.{with_setting, with_site, with_attribute, without_attribute, with_snapshot, without_snapshot};
+ghost use Rattle.inotree.specs.Tree.{site_of, slot_at, parent, is_within, names_up};
 
 use crate::attributes::Value;
 use crate::fault::NoMemory;
 use crate::name::Name;
+use crate::index::Slot;
+use crate::names::{MAX_NAMES, Names};
 use crate::node::{Node, Setting, Site};
+use capbits::Ino;
 use std::alloc::Global;
 use std::collections::BTreeMap;
 use std::marker::Model;
@@ -61,6 +65,65 @@ impl Inodes {
     {
         self.nodes.insert(ino, node)?;
         Ok(())
+    }
+
+    // Where the inode's name stands, if it has one.
+    pub(crate) fn slot_of(&self, ino: u64) -> Option<Slot>
+        ensures { result ≡ slot_at (site_of self.now ino) }
+    {
+        match &self.get(ino)?.site {
+            Site::Under { dir, name } => Some(Slot {
+                dir: dir.0,
+                name: name.copy(),
+            }),
+            Site::Root | Site::Stray => None,
+        }
+    }
+
+    // The directory that an inode stands in, if it stands in one.
+    pub(crate) fn parent(&self, ino: u64) -> Option<Ino>
+        ensures { option_map (λ i. i.0) result ≡ parent self.now ino }
+    {
+        match &self.get(ino)?.site {
+            Site::Under { dir, .. } => Some(*dir),
+            Site::Root | Site::Stray => None,
+        }
+    }
+
+    // Whether the inode is the other or lies below it.
+    pub(crate) fn is_within(&self, ino: u64, above: u64) -> bool
+        ensures { result ≡ is_within self.now ino above }
+    {
+        let mut at = ino;
+        for _ in 0..MAX_NAMES {
+            if at == above {
+                return true;
+            }
+            match self.parent(at) {
+                Some(dir) => at = dir.0,
+                None => return false,
+            }
+        }
+        at == above
+    }
+
+    // The names from the inode up to the root, or as far as they lead.
+    pub(crate) fn names_up(&self, ino: u64) -> Names<'_>
+        ensures { result ≡ names_up MAX_NAMES self.now ino }
+    {
+        let mut names = Names::new();
+        let mut at = ino;
+        for _ in 0..MAX_NAMES {
+            let Some(node) = self.get(at) else {
+                break;
+            };
+            let Site::Under { dir, name } = &node.site else {
+                break;
+            };
+            names.push(name.as_bytes());
+            at = dir.0;
+        }
+        names
     }
 
     // Takes the inode of this number out.

@@ -44,6 +44,24 @@ impl Name {
         }
     }
 
+    // The name with these bytes, which are not too many.
+    pub(crate) fn of(bytes: &[u8]) -> Name
+        requires { length bytes.now ≤ MAX_NAME }
+        ensures { result ≡ bytes.now }
+    {
+        match Name::read(bytes) {
+            Some(name) => name,
+            None => unreachable!(),
+        }
+    }
+
+    // The same name once more, which takes no memory.
+    pub(crate) fn copy(&self) -> Name
+        ensures { result ≡ self.now }
+    {
+        Name::of(self.bytes.as_slice())
+    }
+
     /// The bytes of the name.
     pub fn as_bytes(&self) -> &[u8]
         ensures { result.now ≡ self.now }

@@ -5,7 +5,7 @@ use Rattle.inotree.specs.declared.node.Node.{Node}
 use Rattle.inotree.specs.Maps.{change_at}
 use Rattle.inotree.specs.Inodes.{InodeMap, with_attribute}
 use Rattle.inotree.proofs.Entries.{change-entries, change-no_entry, same-entries}
-use Rattle.inotree.proofs.Results.{on_ok, on_err, ok_of, no_err}
+use Rattle.inotree.proofs.Results.{on_ok, on_err, ok_of, err_of}
 use Rattle.inotree.proofs.inodes.Inodes.set_attribute.Goals as goal
 use Rattle.inotree.proofs.inodes.Inodes.set_attribute.Goals.{in-Some, in-None}
 
@@ -41,5 +41,5 @@ returns-clause-err c =
             ap (λ i. map.from_entries i.nodes.entries) w.self-inside-is
             ∙ same-entries nat_cmp_total map.nat_cmp-IsAntisymmetric c.self.inside.nodes.entries _ c.args.ino was written (ap (λ m. record was { attributes = m }) same) (sym here) ((c.get_mut.follows.holds written).3 (subst IsSome here refl)).0
             ∙ c.self.view_is))
-      | in-None w ↦ no_err _ _ w.result-is
+      | in-None w ↦ err_of _ (ap (λ i. map.from_entries i.nodes.entries) w.self-inside-is ∙ ap (λ m. map.from_entries m.entries) c.get_mut.follows.holds-at-none ∙ c.self.view_is)
     ]
