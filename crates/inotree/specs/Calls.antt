@@ -60,15 +60,21 @@ is_no_directory tree ino = not (is_directory tree.nodes ino)
 abbrev pub test_at : (Node → Bool) → Nodes → ℕ → Bool
 test_at test tree ino = option_map_or test (map.get tree.nodes ino) false
 
+-- the inode is there, no stray, and a directory
+abbrev pub directory_fault : Nodes → ℕ → Option TreeFault
+directory_fault tree dir = or_next (inode_fault tree dir) (fails (is_no_directory tree dir) NotDir)
+
+-- the name can be given, and is free
+abbrev pub name_fault : Nodes → ℕ → List ℕ → Option TreeFault
+name_fault tree dir name = or_next (fails (is_bad_name name) NameBad) (fails (is_some (child tree.nodes dir name)) Exists)
+
 -- the first test that fails, of a new inode
 abbrev pub create_fault : Nodes → ℕ → List ℕ → Option TreeFault
 create_fault tree dir name =
-    or_next (inode_fault tree dir) (
-    or_next (fails (is_no_directory tree dir) NotDir) (
-    or_next (fails (is_bad_name name) NameBad) (
-    or_next (fails (is_some (child tree.nodes dir name)) Exists) (
+    or_next (directory_fault tree dir) (
+    or_next (name_fault tree dir name) (
     or_next (fails (nat_le MAX_NAMES (depth tree.nodes dir)) TooDeep) (
-    fails (nat_le MAX_INODES (map.len tree.nodes) || (tree.last == 18446744073709551615)) Limit)))))
+    fails (nat_le MAX_INODES (map.len tree.nodes) || (tree.last == 18446744073709551615)) Limit)))
 
 -- of an unlinked file
 abbrev pub unlink_fault : Nodes → ℕ → Option TreeFault
@@ -90,12 +96,10 @@ abbrev pub rename_fault : Nodes → ℕ → ℕ → List ℕ → Option TreeFaul
 rename_fault tree ino dir name =
     or_next (inode_fault tree ino) (
     or_next (fails (is_root tree ino) IsRoot) (
-    or_next (inode_fault tree dir) (
-    or_next (fails (is_no_directory tree dir) NotDir) (
-    or_next (fails (is_bad_name name) NameBad) (
-    or_next (fails (is_some (child tree.nodes dir name)) Exists) (
+    or_next (directory_fault tree dir) (
+    or_next (name_fault tree dir name) (
     or_next (fails (is_within tree.nodes dir ino) Loop) (
-    fails (reaches (MAX_NAMES - depth tree.nodes dir) tree.nodes ino) TooDeep)))))))
+    fails (reaches (MAX_NAMES - depth tree.nodes dir) tree.nodes ino) TooDeep)))))
 
 -- a size is asked for
 abbrev pub is_size : Setting → Bool

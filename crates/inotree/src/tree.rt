@@ -1,18 +1,18 @@
 //! The tree of inodes.
-ghost use Rattle.std.specs.Prelude.{◌≡◌, ◌↔◌, ◌+◌, IsOk, IfOk, IfErr, IfSome, IsSome, OnOk, OnErr, MatchOption, unwrap_or, map as each};
+ghost use Rattle.std.specs.Prelude.{◌≡◌, ◌+◌, ◌≤◌, IfOk, IfErr, OnOk, OnErr, unwrap_or, map as each};
 ghost use Rattle.std.specs.Option.{option_copied, option_map};
 ghost use Rattle.std.specs.Result.{result_err};
 ghost use Rattle.std.specs.FinMap as map;
 ghost use Rattle.inotree.specs.Inodes.{with_setting, with_attribute, without_attribute, with_snapshot, without_snapshot};
-ghost use Rattle.inotree.specs.Tree.{IsTree, place, parent, child, follow, path_of};
-ghost use Rattle.inotree.specs.Calls.{first_tree, inode_fault, create_fault, unlink_fault, rmdir_fault, rename_fault, set_fault, set_xattr_fault, remove_xattr_fault, snap_add_fault, snap_remove_fault, with_new, changed, unlinked, moved, forgotten};
+ghost use Rattle.inotree.specs.Tree.{IsTree, place, parent, child, follow, path_of, depth, reaches};
+ghost use Rattle.inotree.specs.Calls.{first_tree, inode_fault, directory_fault, name_fault, create_fault, unlink_fault, rmdir_fault, rename_fault, set_fault, set_xattr_fault, remove_xattr_fault, snap_add_fault, snap_remove_fault, with_new, changed, unlinked, moved, forgotten};
 
 use crate::attributes::Attributes;
 use crate::fault::{NoMemory, TreeFault};
 use crate::index::{Index, Slot};
 use crate::inodes::Inodes;
-use crate::name::Name;
-use crate::names::Names;
+use crate::name::{Name, is_bad_name};
+use crate::names::{MAX_NAMES, Names};
 use crate::node::{Kind, Node, Place, Setting, Site};
 use crate::snapshots::Snapshots;
 use capbits::Ino;
@@ -99,5 +99,314 @@ impl Tree {
         ensures { option_map (λ i. i.0) result ≡ parent self.now.nodes ino.0 }
     {
         self.inodes.parent(ino.0)
+    }
+
+    /// The inode that a directory has under a name.
+    pub fn child(&self, dir: Ino, name: &[u8]) -> Option<Ino>
+        ensures { option_map (λ i. i.0) result ≡ child self.now.nodes dir.0 name.now }
+    {
+        let name = Name::read(name)?;
+        let ino = self.names.get(&Slot { dir: dir.0, name })?;
+        Some(Ino(ino))
+    }
+
+    /// The inode to which the names lead from the root.
+    pub fn resolve(&self, names: &[&[u8]]) -> Option<Ino>
+        ensures { option_map (λ i. i.0) result ≡ follow self.now.nodes (Some 1) (each (λ name. name.now) names.now) }
+    {
+        let mut ino = ROOT;
+        for name in names {
+            ino = self.child(ino, name)?;
+        }
+        Some(ino)
+    }
+
+    /// The names from the root to an inode; none for a stray, and where there is no inode.
+    pub fn path_of(&self, ino: Ino) -> Option<Names<'_>>
+        ensures { result ≡ path_of self.now.nodes ino.0 }
+    {
+        match self.place(ino) {
+            Place::NoIno | Place::Gone => None,
+            Place::Here => {
+                let mut names = self.inodes.names_up(ino.0);
+                names.reverse();
+                Some(names)
+            }
+        }
+    }
+
+    // The inode, if it is there and no stray.
+    fn living(&self, ino: Ino) -> Result<&Node, TreeFault>
+        ensures fault { result_err result ≡ inode_fault self.now ino.0 }
+        ensures node { IfOk result (λ node. map.get self.now.nodes ino.0 ≡ Some node.now) }
+    {
+        match self.inodes.get(ino.0) {
+            None => Err(TreeFault::NoIno),
+            Some(node) => match &node.site {
+                Site::Stray => Err(TreeFault::Gone),
+                Site::Root | Site::Under { .. } => Ok(node),
+            },
+        }
+    }
+
+    // The inode, if it is there, no stray and a directory.
+    fn living_directory(&self, ino: Ino) -> Result<&Node, TreeFault>
+        ensures fault { result_err result ≡ directory_fault self.now ino.0 }
+        ensures node { IfOk result (λ node. map.get self.now.nodes ino.0 ≡ Some node.now) }
+    {
+        let node = self.living(ino)?;
+        match node.kind {
+            Kind::Directory => Ok(node),
+            Kind::File => Err(TreeFault::NotDir),
+        }
+    }
+
+    // How many names the path of an inode has.
+    fn depth(&self, ino: Ino) -> usize
+        ensures value { result ≡ depth self.now.nodes ino.0 }
+        ensures fits { result ≤ MAX_NAMES }
+    {
+        self.inodes.names_up(ino.0).len()
+    }
+
+    // Whether something lies so many steps below an inode.
+    fn reaches(&self, ino: Ino, steps: usize) -> bool
+        ensures { result ≡ reaches steps self.now.nodes ino.0 }
+    {
+        let _last = self.last;
+        self.names.reaches(ino.0, steps)
+    }
+
+    // The tests of a new name in a directory.
+    fn check_name(&self, dir: Ino, name: &[u8]) -> Result<(), TreeFault>
+        ensures { result_err result ≡ name_fault self.now dir.0 name.now }
+    {
+        if is_bad_name(name) {
+            return Err(TreeFault::NameBad);
+        }
+        if self.child(dir, name).is_some() {
+            return Err(TreeFault::Exists);
+        }
+        Ok(())
+    }
+
+    // The tests of a new inode.
+    fn check_create(&self, dir: Ino, name: &[u8]) -> Result<(), TreeFault>
+        ensures { result_err result ≡ create_fault self.now dir.0 name.now }
+    {
+        self.living_directory(dir)?;
+        self.check_name(dir, name)?;
+        if self.depth(dir) >= MAX_NAMES {
+            return Err(TreeFault::TooDeep);
+        }
+        if self.inodes.len() >= MAX_INODES || self.last == u64::MAX {
+            return Err(TreeFault::Limit);
+        }
+        Ok(())
+    }
+
+    // The tests of a file that is unlinked.
+    fn check_unlink(&self, ino: Ino) -> Result<(), TreeFault>
+        ensures { result_err result ≡ unlink_fault self.now ino.0 }
+    {
+        let node = self.living(ino)?;
+        if matches!(&node.site, Site::Root) {
+            return Err(TreeFault::Root);
+        }
+        match node.kind {
+            Kind::Directory => Err(TreeFault::IsDir),
+            Kind::File => Ok(()),
+        }
+    }
+
+    // The tests of a directory that is removed.
+    fn check_rmdir(&self, ino: Ino) -> Result<(), TreeFault>
+        ensures { result_err result ≡ rmdir_fault self.now ino.0 }
+    {
+        let node = self.living(ino)?;
+        if matches!(&node.site, Site::Root) {
+            return Err(TreeFault::Root);
+        }
+        if node.kind == Kind::File {
+            return Err(TreeFault::NotDir);
+        }
+        if self.reaches(ino, 1) || node.snapshots.len() > 0 {
+            return Err(TreeFault::NotEmpty);
+        }
+        Ok(())
+    }
+
+    // The tests of a move.
+    fn check_rename(&self, ino: Ino, dir: Ino, name: &[u8]) -> Result<(), TreeFault>
+        ensures { result_err result ≡ rename_fault self.now ino.0 dir.0 name.now }
+    {
+        let node = self.living(ino)?;
+        if matches!(&node.site, Site::Root) {
+            return Err(TreeFault::Root);
+        }
+        self.living_directory(dir)?;
+        self.check_name(dir, name)?;
+        if self.inodes.is_within(dir.0, ino.0) {
+            return Err(TreeFault::Loop);
+        }
+        if self.reaches(ino, MAX_NAMES - self.depth(dir)) {
+            return Err(TreeFault::TooDeep);
+        }
+        Ok(())
+    }
+
+    /// Why `rmdir` would be refused now, if it would.
+    pub fn rmdir_fault(&self, ino: Ino) -> Option<TreeFault>
+        ensures { result ≡ rmdir_fault self.now ino.0 }
+    {
+        self.check_rmdir(ino).err()
+    }
+
+    /// Why `rename` would be refused now, if it would. Want of memory is not foreseen.
+    pub fn rename_fault(&self, ino: Ino, dir: Ino, name: &[u8]) -> Option<TreeFault>
+        ensures { result ≡ rename_fault self.now ino.0 dir.0 name.now }
+    {
+        self.check_rename(ino, dir, name).err()
+    }
+
+    /// Makes a file in a directory, with this owner, group and mode, and answers its number.
+    pub fn create(&mut self, dir: Ino, name: &[u8], attr: Attr) -> Result<Ino, TreeFault>
+        ensures passed { OnOk result (create_fault self.old dir.0 name.now ≡ None) }
+        ensures ok { OnOk result (self.new ≡ with_new self.old Kind.File dir.0 name.now attr) }
+        ensures ino { IfOk result (λ ino. ino.0 ≡ self.old.last + 1) }
+        // The first test that fails, and for want of memory only where none does.
+        ensures fault { IfErr result (λ fault. fault ≡ unwrap_or (create_fault self.old dir.0 name.now) TreeFault.NoMemory) }
+        ensures err { OnErr result (self.new ≡ self.old) }
+    {
+        self.add(Kind::File, dir, name, attr)
+    }
+
+    /// Makes a directory in a directory, with this owner, group and mode, and answers its number.
+    pub fn mkdir(&mut self, dir: Ino, name: &[u8], attr: Attr) -> Result<Ino, TreeFault>
+        ensures passed { OnOk result (create_fault self.old dir.0 name.now ≡ None) }
+        ensures ok { OnOk result (self.new ≡ with_new self.old Kind.Directory dir.0 name.now attr) }
+        ensures ino { IfOk result (λ ino. ino.0 ≡ self.old.last + 1) }
+        // The first test that fails, and for want of memory only where none does.
+        ensures fault { IfErr result (λ fault. fault ≡ unwrap_or (create_fault self.old dir.0 name.now) TreeFault.NoMemory) }
+        ensures err { OnErr result (self.new ≡ self.old) }
+    {
+        self.add(Kind::Directory, dir, name, attr)
+    }
+
+    // Makes an inode of this kind.
+    fn add(&mut self, kind: Kind, dir: Ino, name: &[u8], attr: Attr) -> Result<Ino, TreeFault>
+        ensures passed { OnOk result (create_fault self.old dir.0 name.now ≡ None) }
+        ensures ok { OnOk result (self.new ≡ with_new self.old kind dir.0 name.now attr) }
+        ensures ino { IfOk result (λ ino. ino.0 ≡ self.old.last + 1) }
+        ensures fault { IfErr result (λ fault. fault ≡ unwrap_or (create_fault self.old dir.0 name.now) TreeFault.NoMemory) }
+        ensures err { OnErr result (self.new ≡ self.old) }
+    {
+        self.check_create(dir, name)?;
+        let ino = self.last + 1;
+        let node = Node {
+            kind,
+            site: Site::Under {
+                dir,
+                name: Name::of(name),
+            },
+            attr,
+            size: 0,
+            time: 0,
+            attributes: Attributes::new(self.alloc),
+            snapshots: Snapshots::new(self.alloc),
+        };
+        let slot = Slot {
+            dir: dir.0,
+            name: Name::of(name),
+        };
+        if self.inodes.insert(ino, node).is_err() {
+            return Err(TreeFault::NoMemory);
+        }
+        if self.names.insert(slot, ino).is_err() {
+            self.inodes.remove(ino);
+            return Err(TreeFault::NoMemory);
+        }
+        self.last = ino;
+        Ok(Ino(ino))
+    }
+
+    /// Unlinks a file, which stays as a stray until it is forgotten. A refusal changes nothing.
+    pub fn unlink(&mut self, ino: Ino) -> Result<(), TreeFault>
+        ensures fault { result_err result ≡ unlink_fault self.old ino.0 }
+        ensures ok { OnOk result (self.new ≡ unlinked self.old ino.0) }
+        ensures err { OnErr result (self.new ≡ self.old) }
+    {
+        self.check_unlink(ino)?;
+        let Some(slot) = self.inodes.slot_of(ino.0) else {
+            unreachable!()
+        };
+        self.names.remove(&slot);
+        self.inodes.set_site(ino.0, Site::Stray);
+        Ok(())
+    }
+
+    /// Removes an empty directory, which stays as a stray until it is forgotten. A refusal changes nothing.
+    pub fn rmdir(&mut self, ino: Ino) -> Result<(), TreeFault>
+        ensures fault { result_err result ≡ rmdir_fault self.old ino.0 }
+        ensures ok { OnOk result (self.new ≡ unlinked self.old ino.0) }
+        ensures err { OnErr result (self.new ≡ self.old) }
+    {
+        self.check_rmdir(ino)?;
+        let Some(slot) = self.inodes.slot_of(ino.0) else {
+            unreachable!()
+        };
+        self.names.remove(&slot);
+        self.inodes.set_site(ino.0, Site::Stray);
+        Ok(())
+    }
+
+    /// Moves an inode into a directory, under a name. A refusal changes nothing.
+    pub fn rename(&mut self, ino: Ino, dir: Ino, name: &[u8]) -> Result<(), TreeFault>
+        ensures passed { OnOk result (rename_fault self.old ino.0 dir.0 name.now ≡ None) }
+        ensures ok { OnOk result (self.new ≡ moved self.old ino.0 dir.0 name.now) }
+        // The first test that fails, and for want of memory only where none does.
+        ensures fault { IfErr result (λ fault. fault ≡ unwrap_or (rename_fault self.old ino.0 dir.0 name.now) TreeFault.NoMemory) }
+        ensures err { OnErr result (self.new ≡ self.old) }
+    {
+        self.check_rename(ino, dir, name)?;
+        let Some(old) = self.inodes.slot_of(ino.0) else {
+            unreachable!()
+        };
+        let slot = Slot {
+            dir: dir.0,
+            name: Name::of(name),
+        };
+        if self.names.insert(slot, ino.0).is_err() {
+            return Err(TreeFault::NoMemory);
+        }
+        self.names.remove(&old);
+        let site = Site::Under {
+            dir,
+            name: Name::of(name),
+        };
+        self.inodes.set_site(ino.0, site);
+        Ok(())
+    }
+
+    /// Sets a field of an inode. A refusal changes nothing.
+    pub fn set(&mut self, ino: Ino, setting: Setting) -> Result<(), TreeFault>
+        ensures fault { result_err result ≡ set_fault self.old ino.0 setting }
+        ensures ok { OnOk result (self.new ≡ changed (with_setting setting) self.old ino.0) }
+        ensures err { OnErr result (self.new ≡ self.old) }
+    {
+        let node = self.living(ino)?;
+        if matches!(setting, Setting::Size(_)) && node.kind == Kind::Directory {
+            return Err(TreeFault::IsDir);
+        }
+        self.inodes.set(ino.0, setting);
+        Ok(())
+    }
+
+    /// Forgets a stray. Its number is not given again.
+    pub fn forget(&mut self, ino: Ino)
+        requires { place self.old.nodes ino.0 ≡ Place.Gone }
+        ensures { self.new ≡ forgotten self.old ino.0 }
+    {
+        self.inodes.remove(ino.0);
     }
 }
