@@ -1,5 +1,8 @@
 pub mod Entries
+pub mod Found
+pub mod Growing
 pub mod Maps
+pub mod Named
 pub mod Order
 pub mod Reaching
 pub mod Results

@@ -9,10 +9,10 @@ use Rattle.std.specs.Ordering.{eq_by_cmp}
 use Rattle.inotree.specs.Maps.{change_at}
 
 module _ {K : Type 0} {R : K → K → Ordering} (o : IsTotalOrder R) (same : map.IsAntisymmetric R) where
-  tied : (q k : K) → eq_by_cmp R q k ≡ true → q ≡ k
+  pub tied : (q k : K) → eq_by_cmp R q k ≡ true → q ≡ k
   tied q k e = same q k ((Equal-is (R q k)).0 e)
 
-  tied_here : (k : K) → eq_by_cmp R k k ≡ true
+  pub tied_here : (k : K) → eq_by_cmp R k k ≡ true
   tied_here k = (eq_by_cmp_equiv o).refl k
 
   apart : (q k : K) → (q ≡ k → ⊥) → eq_by_cmp R q k ≡ false

@@ -19,7 +19,7 @@ use Rattle.inotree.proofs.Slots.{slot_total, slot_same}
 pub same_ino : (i k : ℕ) → (i ≡ k) ⊎ (i ≡ k → ⊥)
 same_ino = same_or_other nat_cmp_total map.nat_cmp-IsAntisymmetric
 
-pub slot : ℕ → List ℕ → Slot
+abbrev pub slot : ℕ → List ℕ → Slot
 slot d name = record { dir = d; name = name }
 
 module _ (m : InodeMap) (i d e : ℕ) (a b : List ℕ) (one : IsUnder m i d a) (two : IsUnder m i e b) where
@@ -104,7 +104,6 @@ module _ (m n : InodeMap) (last k : ℕ) (index : NameIndex) (t : IsTree (record
 
   -- the inode's name is taken out
   pub index-unlinked : (d : ℕ) (a : List ℕ) → IsUnder m k d a → IsIndexed n (map.remove index (slot d a))
-  unfolding slot
   index-unlinked d a was = record {
     taken = λ i e b u.
       let off = (stays i e b u).0 in

@@ -58,3 +58,6 @@ pub not_under : (s : Site) → ((dir : Ino) (name : List ℕ) → s ≡ Under di
 not_under Root h = refl
 not_under Stray h = refl
 not_under (Under dir name) h = absurd (h dir name refl)
+
+pub test_same : (a b : ℕ) → (a == b) ≡ true → a ≡ b
+test_same a b e = grind (arith, nat_tests)

@@ -3,7 +3,7 @@ use Rattle.std.specs.Prelude.{◌≡◌, ℕ, zero, suc, ◌≤◌, ◌<◌, ◌
 use Rattle.std.specs.Coded.{Coded, code_by, coded×, coded_ℕ}
 use Rattle.std.specs.List.{list_any}
 use Rattle.std.specs.Option.{option_map}
-use Rattle.std.specs.Str.{bytes_eq}
+use Rattle.std.specs.Ordering.{eq_by_cmp}
 use Rattle.std.specs.FinMap as map
 use Rattle.inotree.specs.declared.node.Node.{Node}
 use Rattle.inotree.specs.declared.node.Kind.{Kind}
@@ -13,7 +13,7 @@ use Rattle.inotree.specs.declared.node.Site.TheVariants.{Root, Under, Stray}
 use Rattle.inotree.specs.declared.index.Slot.{Slot}
 use Rattle.inotree.specs.declared.node.Place.{Place}
 use Rattle.inotree.specs.declared.node.Place.TheVariants.{NoIno, Gone, Here}
-use Rattle.inotree.specs.Names.{is_bad_name}
+use Rattle.inotree.specs.Names.{name_cmp, is_bad_name}
 use Rattle.inotree.specs.Inodes.{InodeMap, inode_map_code}
 use Rattle.inotree.specs.Index.{NameIndex}
 
@@ -78,7 +78,7 @@ slot_at (Some (Under dir name)) = Some (record { dir = dir.0; name = name })
 abbrev pub is_at : ℕ → List ℕ → Site → Bool
 is_at dir name Root = false
 is_at dir name Stray = false
-is_at dir name (Under d n) = (d.0 == dir) && bytes_eq n name
+is_at dir name (Under d n) = (d.0 == dir) && eq_by_cmp name_cmp n name
 
 -- a site in a directory
 abbrev pub is_in : ℕ → Site → Bool
