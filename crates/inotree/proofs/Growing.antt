@@ -4,6 +4,7 @@ use Rattle.std.specs.Cmp.{nat_cmp_total}
 use Rattle.std.specs.FinMap as map
 use Rattle.std.specs.Option.{option_map}
 use Rattle.capbits.specs.declared.ids.Ino.{Ino}
+use Rattle.inotree.specs.declared.index.Slot.{Slot}
 use Rattle.inotree.specs.declared.node.Node.{Node}
 use Rattle.inotree.specs.declared.node.Site.{Site}
 use Rattle.inotree.specs.declared.node.Site.TheVariants.{Root, Under, Stray}
@@ -35,14 +36,14 @@ pub depth-climb : (m : InodeMap) (up : List (List ℕ)) (i : ℕ) → site_of m 
 unfolding depth
 depth-climb m up i root fits c = ap length (climb-names m up i 32 root fits c)
 
-off_here : (n : ℕ) (m : InodeMap) (i k : ℕ) → lies_below n m i k ≡ false → i ≡ k → ⊥
+pub off_here : (n : ℕ) (m : InodeMap) (i k : ℕ) → lies_below n m i k ≡ false → i ≡ k → ⊥
 off_here zero m i k out same = let t : (i == k) ≡ true = same_test i k same in let f : (i == k) ≡ false = sym (lies_below-none m i k) ∙ out in cc
 off_here (suc n) m i k out same =
     let t = same_test i k same in
     let f = sym (lies_below-step (suc n) m i k (omega arith)) ∙ out in
     let g = ap (λ b. b || upward (site_of m i) false (λ dir name. lies_below (suc n - 1) m dir k)) t in cc
 
-off_next : (n : ℕ) (m : InodeMap) (i k d : ℕ) (a : List ℕ) → 0 < n → lies_below n m i k ≡ false → IsUnder m i d a → lies_below (n - 1) m d k ≡ false
+pub off_next : (n : ℕ) (m : InodeMap) (i k d : ℕ) (a : List ℕ) → 0 < n → lies_below n m i k ≡ false → IsUnder m i d a → lies_below (n - 1) m d k ≡ false
 off_next n m i k d a some out u =
     or_false (i == k) _ (ap (λ s. (i == k) || upward s false (λ dir name. lies_below (n - 1) m dir k)) (sym u) ∙ sym (lies_below-step n m i k some) ∙ out) where
   or_false : (a b : Bool) → (a || b) ≡ false → b ≡ false
@@ -129,3 +130,102 @@ module _ (m n : InodeMap) (last next k d : ℕ) (a : List ℕ) (index : NameInde
       reached = reached;
       given = fresh;
     }
+
+  slots_same : (e f : ℕ) (b c : List ℕ) → e ≡ f → b ≡ c → slot e b ≡ slot f c
+  slots_same e f b c p q = λ i. record { dir = p i; name = q i }
+
+  mine : (i e : ℕ) (b : List ℕ) → IsUnder n i e b → i ≡ k → slot e b ≡ slot d a
+  mine i e b u same =
+      let v = subst (λ y. IsUnder n y e b) same u in
+      slots_same e d b a (one_dir n k e d b a v now) (one_name n k e d b a v now)
+
+  not_free : (i e : ℕ) (b : List ℕ) → IsUnder m i e b → slot e b ≡ slot d a → ⊥
+  not_free i e b u same =
+      let got : map.get index (slot d a) ≡ Some i = ap (map.get index) (sym same) ∙ x.taken i e b u in cc
+
+  new_real : (i e : ℕ) (b : List ℕ) → slot e b ≡ slot d a → map.get (map.insert index (slot d a) k) (slot e b) ≡ Some i → IsUnder n i e b
+  new_real i e b same g =
+      let here = insert-here slot_total slot_same index (slot d a) k in
+      let got : map.get (map.insert index (slot d a) k) (slot d a) ≡ Some i = ap (map.get (map.insert index (slot d a) k)) (sym same) ∙ g in
+      let is : k ≡ i = cc in
+      let dirs : d ≡ e = ap (λ (s : Slot). s.dir) (sym same) in
+      let names : a ≡ b = ap (λ (s : Slot). s.name) (sym same) in
+      subst (λ y. IsUnder n y e b) is (now ∙ (λ j. Some (Under (record { 0 = dirs j }) (names j))))
+
+  -- the inode had no name before
+  pub index-added : ((e : ℕ) (b : List ℕ) → IsUnder m k e b → ⊥) → IsIndexed n (map.insert index (slot d a) k)
+  index-added nowhere = record {
+    taken = λ i e b u. elim (same_ino i k) [
+      | inl same ↦ ap (map.get (map.insert index (slot d a) k)) (mine i e b u same) ∙ insert-here slot_total slot_same index (slot d a) k ∙ ap Some (sym same)
+      | inr off ↦ insert-other slot_total slot_same index (slot d a) k (slot e b) (not_free i e b (stays i e b u off)) ∙ x.taken i e b (stays i e b u off)
+    ];
+    real = λ i e b g. elim (same_or_other slot_total slot_same (slot e b) (slot d a)) [
+      | inl same ↦ new_real i e b same g
+      | inr off ↦
+          let u = x.real i e b (sym (insert-other slot_total slot_same index (slot d a) k (slot e b) off) ∙ g) in
+          other i (λ same. nowhere e b (subst (λ y. IsUnder m y e b) same u)) ∙ u
+    ];
+  }
+
+  -- the inode had another name before, which is taken out
+  pub index-moved : (e : ℕ) (b : List ℕ) → IsUnder m k e b → IsIndexed n (map.remove (map.insert index (slot d a) k) (slot e b))
+  index-moved d0 a0 old =
+      let more = map.insert index (slot d a) k in
+      record {
+        taken = λ i e b u. elim (same_ino i k) [
+          | inl same ↦
+              remove-other slot_total slot_same more (slot d0 a0) (slot e b) (λ is. not_free k d0 a0 old (sym is ∙ mine i e b u same))
+              ∙ ap (map.get more) (mine i e b u same) ∙ insert-here slot_total slot_same index (slot d a) k ∙ ap Some (sym same)
+          | inr off ↦
+              let was = stays i e b u off in
+              remove-other slot_total slot_same more (slot d0 a0) (slot e b) (λ is.
+                let mine : map.get index (slot d0 a0) ≡ Some k = x.taken k d0 a0 old in
+                let his : map.get index (slot d0 a0) ≡ Some i = ap (map.get index) (sym is) ∙ x.taken i e b was in
+                let both : i ≡ k = cc in off both)
+              ∙ insert-other slot_total slot_same index (slot d a) k (slot e b) (not_free i e b was) ∙ x.taken i e b was
+        ];
+        real = λ i e b g. elim (same_or_other slot_total slot_same (slot e b) (slot d0 a0)) [
+          | inl same ↦
+              let gone = remove-here slot_total slot_same more (slot d0 a0) in
+              let got : map.get (map.remove more (slot d0 a0)) (slot d0 a0) ≡ Some i = ap (map.get (map.remove more (slot d0 a0))) (sym same) ∙ g in cc
+          | inr off ↦
+              let g2 : map.get more (slot e b) ≡ Some i = sym (remove-other slot_total slot_same more (slot d0 a0) (slot e b) off) ∙ g in
+              elim (same_or_other slot_total slot_same (slot e b) (slot d a)) [
+                | inl same ↦ new_real i e b same g2
+                | inr still ↦
+                    let u = x.real i e b (sym (insert-other slot_total slot_same index (slot d a) k (slot e b) still) ∙ g2) in
+                    other i (λ same.
+                      let v : IsUnder m k e b = subst (λ y. IsUnder m y e b) same u in
+                      off (slots_same e d0 b a0 (one_dir m k e d0 b a0 v old) (one_name m k e d0 b a0 v old))) ∙ u
+              ]
+        ];
+      }
+
+-- No site and no kind changes.
+module _ (m n : InodeMap) (last : ℕ) (index : NameIndex) (t : IsTree (record { nodes = m; last = last })) (x : IsIndexed m index)
+  (sites : (i : ℕ) → site_of n i ≡ site_of m i)
+  (kinds : (i : ℕ) → kind_of n i ≡ kind_of m i)
+  (fresh : (i : ℕ) → last < i → map.get n i ≡ None) where
+  still_climbs : (i : ℕ) (up : List (List ℕ)) (top : ℕ) → Climbs m i up top → Climbs n i up top
+  still_climbs i [] top c = c
+  still_climbs i (a ∷ up) top c = (c.0, sites i ∙ c.1, still_climbs c.0 up top c.2)
+
+  pub tree-same : IsTree (record { nodes = n; last = last })
+  tree-same = record {
+    root = sites 1 ∙ t.root;
+    root_kind = ap is_directory_kind (kinds 1) ∙ t.root_kind;
+    one_root = λ i e. t.one_root i (sym (sites i) ∙ e);
+    parents = λ i d a u.
+      let was = t.parents i d a (sym (sites i) ∙ u) in
+      (ap is_directory_kind (kinds d) ∙ was.0, ap place_at (sites d) ∙ was.1);
+    siblings = λ i j d a u v. t.siblings i j d a (sym (sites i) ∙ u) (sym (sites j) ∙ v);
+    names = λ i d a u. t.names i d a (sym (sites i) ∙ u);
+    reached = λ i h. let r = t.reached i (sym (ap place_at (sites i)) ∙ h) in (r.0, r.1, still_climbs i r.0 1 r.2);
+    given = fresh;
+  }
+
+  pub index-same : IsIndexed n index
+  index-same = record {
+    taken = λ i d a u. x.taken i d a (sym (sites i) ∙ u);
+    real = λ i d a g. sites i ∙ x.real i d a g;
+  }

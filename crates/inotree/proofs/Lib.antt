@@ -1,9 +1,11 @@
+pub mod Changes
 pub mod Entries
 pub mod Found
 pub mod Growing
 pub mod Maps
 pub mod Named
 pub mod Order
+pub mod Passing
 pub mod Reaching
 pub mod Results
 pub mod Shape
