@@ -4,7 +4,8 @@ use Rattle.std.specs.Cmp.{nat_cmp_total}
 use Rattle.std.proofs.lemmas.Bool.{cases_lt}
 use Rattle.std.specs.FinMap as map
 use Rattle.std.specs.FinSet as set
-use Rattle.std.specs.Option.{option_map}
+use Rattle.std.specs.Option.{option_map, option_map_or}
+use Rattle.std.specs.Ordering.{nat_cmp}
 use Rattle.capgrant.specs.declared.access.Attr.{Attr}
 use Rattle.inotree.specs.declared.node.Kind.{Kind}
 use Rattle.inotree.specs.declared.node.Kind.TheVariants.{Directory}
@@ -14,10 +15,12 @@ use Rattle.inotree.specs.declared.node.Site.TheVariants.{Root, Under, Stray}
 use Rattle.inotree.specs.declared.node.Place.TheVariants.{NoIno, Gone, Here}
 use Rattle.inotree.specs.Names.{is_bad_name}
 use Rattle.inotree.specs.Maps.{change_at}
-use Rattle.inotree.specs.Inodes.{InodeMap, with_site}
-use Rattle.inotree.specs.Index.{NameIndex}
+use Rattle.inotree.specs.declared.node.Setting.{Setting}
+use Rattle.inotree.specs.declared.node.Setting.TheVariants.{Mode, Uid, Gid, Size, Time}
+use Rattle.inotree.specs.Inodes.{InodeMap, with_site, with_setting}
+use Rattle.inotree.specs.Index.{NameIndex, slot_cmp}
 use Rattle.inotree.specs.Tree.{Nodes, IsTree, IsIndexed, IsUnder, Climbs, site_of, kind_of, place, place_at, is_directory, is_directory_kind, depth, reaches, is_within, lies_below}
-use Rattle.inotree.specs.Calls.{first_tree, new_node, with_new, moved, unlinked, forgotten}
+use Rattle.inotree.specs.Calls.{first_tree, new_node}
 use Rattle.inotree.proofs.Maps.{insert-here, insert-other, remove-here, remove-other, change-is}
 use Rattle.inotree.proofs.Named.{node_of}
 use Rattle.inotree.proofs.Shape.{same_ino, slot, tree-buried, index-forgotten, index-unlinked, climb_keep, climb_split, climb_on}
@@ -179,3 +182,62 @@ kept-moved m last k d e a b index t ix was dir_kind dir_here good free apart sha
     | inl less ↦ less
     | inr le ↦ let deep : reaches c m k ≡ true = reach_up c m i below k le climb in cc
   ]
+
+-- the same, for equal maps
+pub kept_at : (m n : InodeMap) (last : ℕ) (x y : NameIndex) → n ≡ m → y ≡ x → IsTree (record { nodes = m; last = last }) × IsIndexed m x → IsTree (record { nodes = n; last = last }) × IsIndexed n y
+kept_at m n last x y p q kept =
+    subst (λ z. IsTree (record { nodes = n; last = last }) × IsIndexed n z) (sym q) (subst (λ (k : InodeMap). IsTree (record { nodes = k; last = last }) × IsIndexed k x) (sym p) kept)
+
+-- a change of fields, of an inode that may be there
+pub kept-any : (m : InodeMap) (last k : ℕ) (f : Node → Node) (index : NameIndex) → IsTree (record { nodes = m; last = last }) → IsIndexed m index → ((y : Node) → (f y).kind ≡ y.kind) → ((y : Node) → (f y).site ≡ y.site)
+  → IsTree (record { nodes = change_at f m k; last = last }) × IsIndexed (change_at f m k) index
+kept-any m last k f index t ix kind site = go (map.get m k) refl where
+  go : (o : Option Node) → map.get m k ≡ o → IsTree (record { nodes = change_at f m k; last = last }) × IsIndexed (change_at f m k) index
+  go None none = kept_at m (change_at f m k) last index index (ap (λ o. option_map_or (λ (y : Node). map.insert m k (f y)) o m) none) refl (t, ix)
+  go (Some x) here = kept-changed m last k x f here index t ix (kind x) (site x)
+
+pub setting_kind : (s : Setting) (y : Node) → (with_setting s y).kind ≡ y.kind
+setting_kind (Mode mode) y = refl
+setting_kind (Uid uid) y = refl
+setting_kind (Gid gid) y = refl
+setting_kind (Size size) y = refl
+setting_kind (Time time) y = refl
+
+pub setting_site : (s : Setting) (y : Node) → (with_setting s y).site ≡ y.site
+setting_site (Mode mode) y = refl
+setting_site (Uid uid) y = refl
+setting_site (Gid gid) y = refl
+setting_site (Size size) y = refl
+setting_site (Time time) y = refl
+
+-- a root alone
+pub kept-first : (attr : Attr) → IsTree (first_tree attr) × IsIndexed (first_tree attr).nodes map.empty
+kept-first attr =
+    let root : Node = record { kind = Directory; site = Root; attr = attr; size = 0; time = 0; attributes = map.empty; snapshots = set.empty } in
+    let n : InodeMap = map.insert map.empty 1 root in
+    let here : map.get n 1 ≡ Some root = insert-here nat_cmp_total map.nat_cmp-IsAntisymmetric map.empty 1 root in
+    let none : (i : ℕ) → (i ≡ 1 → ⊥) → map.get n i ≡ None = λ i off. insert-other nat_cmp_total map.nat_cmp-IsAntisymmetric map.empty 1 root i off ∙ map.get-empty nat_cmp i in
+    let site : site_of n 1 ≡ Some Root = ap (option_map (λ (n : Node). n.site)) here in
+    let nowhere : (i d : ℕ) (a : List ℕ) → IsUnder n i d a → ⊥ = λ i d a u. elim (same_ino i 1) [
+      | inl same ↦ let v : IsUnder n 1 d a = subst (λ y. IsUnder n y d a) same u in cc
+      | inr off ↦ let v : site_of n i ≡ None = ap (option_map (λ (n : Node). n.site)) (none i off) in cc
+    ] in
+    (record {
+      root = site;
+      root_kind = ap (λ o. is_directory_kind (option_map (λ (n : Node). n.kind) o)) here;
+      one_root = λ i e. elim (same_ino i 1) [
+        | inl same ↦ same
+        | inr off ↦ let v : site_of n i ≡ None = ap (option_map (λ (n : Node). n.site)) (none i off) in cc
+      ];
+      parents = λ i d a u. absurd (nowhere i d a u);
+      siblings = λ i j d a u v. absurd (nowhere i d a u);
+      names = λ i d a u. absurd (nowhere i d a u);
+      reached = λ i h. elim (same_ino i 1) [
+        | inl same ↦ ([], omega arith, same)
+        | inr off ↦ let v : place n i ≡ NoIno = ap (λ o. place_at (option_map (λ (n : Node). n.site) o)) (none i off) in cc
+      ];
+      given = λ i above. none i (λ same. absurd (omega arith));
+    }, record {
+      taken = λ i d a u. absurd (nowhere i d a u);
+      real = λ i d a g. let v = map.get-empty {X = ℕ} slot_cmp (slot d a) in cc;
+    })

@@ -7,17 +7,17 @@ ghost use Rattle.inotree.specs.Inodes.{with_setting, with_attribute, without_att
 ghost use Rattle.inotree.specs.Tree.{IsTree, place, parent, child, follow, path_of, depth, reaches};
 ghost use Rattle.inotree.specs.Calls.{first_tree, inode_fault, directory_fault, name_fault, create_fault, unlink_fault, rmdir_fault, rename_fault, set_fault, set_xattr_fault, remove_xattr_fault, snap_add_fault, snap_remove_fault, with_new, changed, unlinked, moved, forgotten};
 
-use crate::attributes::Attributes;
+use crate::attributes::{Attributes, MAX_ATTRIBUTES, MAX_VALUE, Value};
 use crate::fault::{NoMemory, TreeFault};
 use crate::index::{Index, Slot};
 use crate::inodes::Inodes;
-use crate::name::{Name, is_bad_name};
+use crate::name::{Name, is_bad_attribute, is_bad_name};
 use crate::names::{MAX_NAMES, Names};
 use crate::node::{Kind, Node, Place, Setting, Site};
-use crate::snapshots::Snapshots;
+use crate::snapshots::{MAX_SNAPSHOTS, Snapshots};
 use capbits::Ino;
 use capgrant::Attr;
-use std::alloc::Global;
+use std::alloc::{AllocError, Global};
 use std::marker::Model;
 
 /// How many inodes there may be at a time, with the root and the strays.
@@ -105,8 +105,9 @@ impl Tree {
     pub fn child(&self, dir: Ino, name: &[u8]) -> Option<Ino>
         ensures { option_map (λ i. i.0) result ≡ child self.now.nodes dir.0 name.now }
     {
+        let names = &self.names;
         let name = Name::read(name)?;
-        let ino = self.names.get(&Slot { dir: dir.0, name })?;
+        let ino = names.get(&Slot { dir: dir.0, name })?;
         Some(Ino(ino))
     }
 
@@ -399,6 +400,107 @@ impl Tree {
             return Err(TreeFault::IsDir);
         }
         self.inodes.set(ino.0, setting);
+        Ok(())
+    }
+
+    // The tests of a new value of an attribute.
+    fn check_set_xattr(&self, ino: Ino, name: &[u8], value: &[u8]) -> Result<(), TreeFault>
+        ensures { result_err result ≡ set_xattr_fault self.now ino.0 name.now value.now }
+    {
+        let node = self.living(ino)?;
+        if is_bad_attribute(name) {
+            return Err(TreeFault::NameBad);
+        }
+        let name = Name::of(name);
+        let is_new = node.attributes.get(&name).is_none();
+        if value.len() > MAX_VALUE || (is_new && node.attributes.len() >= MAX_ATTRIBUTES) {
+            return Err(TreeFault::Limit);
+        }
+        Ok(())
+    }
+
+    /// Gives an attribute of an inode a value, in place of the one that it may have. A refusal changes nothing.
+    pub fn set_xattr(&mut self, ino: Ino, name: &[u8], value: &[u8]) -> Result<(), TreeFault>
+        ensures passed { OnOk result (set_xattr_fault self.old ino.0 name.now value.now ≡ None) }
+        ensures ok { OnOk result (self.new ≡ changed (with_attribute name.now value.now) self.old ino.0) }
+        // The first test that fails, and for want of memory only where none does.
+        ensures fault { IfErr result (λ fault. fault ≡ unwrap_or (set_xattr_fault self.old ino.0 name.now value.now) TreeFault.NoMemory) }
+        ensures err { OnErr result (self.new ≡ self.old) }
+    {
+        self.check_set_xattr(ino, name, value)?;
+        let value = match Value::read(self.alloc, value) {
+            Ok(value) => value,
+            Err(AllocError) => return Err(TreeFault::NoMemory),
+        };
+        match self.inodes.set_attribute(ino.0, Name::of(name), value) {
+            Ok(()) => Ok(()),
+            Err(NoMemory) => Err(TreeFault::NoMemory),
+        }
+    }
+
+    /// Takes an attribute from an inode. A refusal changes nothing.
+    pub fn remove_xattr(&mut self, ino: Ino, name: &[u8]) -> Result<(), TreeFault>
+        ensures fault { result_err result ≡ remove_xattr_fault self.old ino.0 name.now }
+        ensures ok { OnOk result (self.new ≡ changed (without_attribute name.now) self.old ino.0) }
+        ensures err { OnErr result (self.new ≡ self.old) }
+    {
+        let node = self.living(ino)?;
+        let Some(name) = Name::read(name) else {
+            return Err(TreeFault::NoXattr);
+        };
+        if node.attributes.get(&name).is_none() {
+            return Err(TreeFault::NoXattr);
+        }
+        self.inodes.remove_attribute(ino.0, &name);
+        Ok(())
+    }
+
+    // The tests of a new snapshot name.
+    fn check_snap_add(&self, ino: Ino, name: &[u8]) -> Result<(), TreeFault>
+        ensures { result_err result ≡ snap_add_fault self.now ino.0 name.now }
+    {
+        let node = self.living_directory(ino)?;
+        if is_bad_name(name) {
+            return Err(TreeFault::NameBad);
+        }
+        if node.snapshots.contains(&Name::of(name)) {
+            return Err(TreeFault::Exists);
+        }
+        if node.snapshots.len() >= MAX_SNAPSHOTS {
+            return Err(TreeFault::Limit);
+        }
+        Ok(())
+    }
+
+    /// Gives a directory a snapshot of this name. A refusal changes nothing.
+    pub fn snap_add(&mut self, ino: Ino, name: &[u8]) -> Result<(), TreeFault>
+        ensures passed { OnOk result (snap_add_fault self.old ino.0 name.now ≡ None) }
+        ensures ok { OnOk result (self.new ≡ changed (with_snapshot name.now) self.old ino.0) }
+        // The first test that fails, and for want of memory only where none does.
+        ensures fault { IfErr result (λ fault. fault ≡ unwrap_or (snap_add_fault self.old ino.0 name.now) TreeFault.NoMemory) }
+        ensures err { OnErr result (self.new ≡ self.old) }
+    {
+        self.check_snap_add(ino, name)?;
+        match self.inodes.add_snapshot(ino.0, Name::of(name)) {
+            Ok(()) => Ok(()),
+            Err(NoMemory) => Err(TreeFault::NoMemory),
+        }
+    }
+
+    /// Takes a snapshot name from a directory. A refusal changes nothing.
+    pub fn snap_remove(&mut self, ino: Ino, name: &[u8]) -> Result<(), TreeFault>
+        ensures fault { result_err result ≡ snap_remove_fault self.old ino.0 name.now }
+        ensures ok { OnOk result (self.new ≡ changed (without_snapshot name.now) self.old ino.0) }
+        ensures err { OnErr result (self.new ≡ self.old) }
+    {
+        let node = self.living_directory(ino)?;
+        let Some(name) = Name::read(name) else {
+            return Err(TreeFault::NoEnt);
+        };
+        if !node.snapshots.contains(&name) {
+            return Err(TreeFault::NoEnt);
+        }
+        self.inodes.remove_snapshot(ino.0, &name);
         Ok(())
     }
 
