@@ -15,7 +15,7 @@ module _ {K : Type 0} {R : K → K → Ordering} (o : IsTotalOrder R) (same : ma
   pub tied_here : (k : K) → eq_by_cmp R k k ≡ true
   tied_here k = (eq_by_cmp_equiv o).refl k
 
-  apart : (q k : K) → (q ≡ k → ⊥) → eq_by_cmp R q k ≡ false
+  pub apart : (q k : K) → (q ≡ k → ⊥) → eq_by_cmp R q k ≡ false
   apart q k off = elim (eq_by_cmp R q k) as (λ b. eq_by_cmp R q k ≡ b → b ≡ false) [
     | true ↦ λ e. absurd (off (tied q k e))
     | false ↦ λ e. refl

@@ -31,12 +31,13 @@ impl Model for Value {
 
 impl Value {
     // A value with these bytes.
-    pub(crate) fn read(alloc: Global, bytes: &[u8]) -> Result<Value, AllocError>
+    pub(crate) fn read(alloc: Global, bytes: &[u8]) -> Result<Value, NoMemory>
         ensures { IfOk result (λ value. value ≡ bytes.now) }
     {
-        Ok(Value {
-            bytes: Vec::from_slice(alloc, bytes)?,
-        })
+        match Vec::from_slice(alloc, bytes) {
+            Ok(bytes) => Ok(Value { bytes }),
+            Err(AllocError) => Err(NoMemory),
+        }
     }
 
     /// The bytes of the value.
@@ -93,6 +94,18 @@ impl Attributes {
         ensures { result ≡ map.entries self.now }
     {
         self.values.iter()
+    }
+
+    // The same attributes once more.
+    pub(crate) fn copy(&self, alloc: Global) -> Result<Attributes, NoMemory>
+        ensures { IfOk result (λ copy. copy ≡ self.now) }
+    {
+        let mut made = Attributes::new(alloc);
+        for (name, value) in self.iter() {
+            let value = Value::read(alloc, value.as_bytes())?;
+            made.insert(name.copy(), value)?;
+        }
+        Ok(made)
     }
 
     // Gives the attribute this value, in place of one that is there.

@@ -1,5 +1,5 @@
 //! The names of the tree: which inode each directory has under each name.
-ghost use Rattle.std.specs.Prelude.{◌≡◌, OnOk, OnErr};
+ghost use Rattle.std.specs.Prelude.{◌≡◌, IfOk, OnOk, OnErr};
 ghost use Rattle.std.specs.FinMap as map;
 ghost use Rattle.inotree.specs.Index.{names_in, AreInodes, index_reaches};
 
@@ -16,6 +16,18 @@ pub(crate) struct Slot {
     // The number of the directory. It comes first, so that a directory's names stand together.
     pub(crate) dir: u64,
     pub(crate) name: Name,
+}
+
+impl Slot {
+    // The same place once more, which takes no memory.
+    pub(crate) fn copy(&self) -> Slot
+        ensures { result ≡ self.now }
+    {
+        Slot {
+            dir: self.dir,
+            name: self.name.copy(),
+        }
+    }
 }
 
 // Which inode stands at each name.
@@ -43,6 +55,24 @@ impl Index {
         Index {
             inodes: BTreeMap::new(alloc),
         }
+    }
+
+    // The names with their inodes, directory by directory.
+    pub(crate) fn iter(&self) -> btree_map::Iter<'_, Slot, u64>
+        ensures { result ≡ map.entries self.now }
+    {
+        self.inodes.iter()
+    }
+
+    // The same names once more.
+    pub(crate) fn copy(&self, alloc: Global) -> Result<Index, NoMemory>
+        ensures { IfOk result (λ copy. copy ≡ self.now) }
+    {
+        let mut made = Index::new(alloc);
+        for (slot, ino) in self.iter() {
+            made.insert(slot.copy(), *ino)?;
+        }
+        Ok(made)
     }
 
     // The inode at a name.

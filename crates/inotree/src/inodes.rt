@@ -1,5 +1,5 @@
 //! The inodes, by number.
-ghost use Rattle.std.specs.Prelude.{◌≡◌, OnOk, OnErr};
+ghost use Rattle.std.specs.Prelude.{◌≡◌, IfOk, OnOk, OnErr};
 ghost use Rattle.std.specs.Option.{option_copied, option_map};
 ghost use Rattle.std.specs.FinMap as map;
 ghost use Rattle.inotree.specs.Maps.{change_at};
@@ -14,7 +14,7 @@ use crate::names::{MAX_NAMES, Names};
 use crate::node::{Node, Setting, Site};
 use capbits::Ino;
 use std::alloc::Global;
-use std::collections::BTreeMap;
+use std::collections::{BTreeMap, btree_map};
 use std::marker::Model;
 
 // The inodes, by number.
@@ -42,6 +42,24 @@ impl Inodes {
         Inodes {
             nodes: BTreeMap::new(alloc),
         }
+    }
+
+    // The inodes with their numbers, in the order of the numbers.
+    pub(crate) fn iter(&self) -> btree_map::Iter<'_, u64, Node>
+        ensures { result ≡ map.entries self.now }
+    {
+        self.nodes.iter()
+    }
+
+    // The same inodes once more.
+    pub(crate) fn copy(&self, alloc: Global) -> Result<Inodes, NoMemory>
+        ensures { IfOk result (λ copy. copy ≡ self.now) }
+    {
+        let mut made = Inodes::new(alloc);
+        for (ino, node) in self.iter() {
+            made.insert(*ino, node.copy(alloc)?)?;
+        }
+        Ok(made)
     }
 
     // How many there are.

@@ -1,12 +1,14 @@
 //! What the tree keeps of one inode.
 
-ghost use Rattle.std.specs.Prelude.{◌≡◌};
+ghost use Rattle.std.specs.Prelude.{◌≡◌, IfOk};
 
 use crate::attributes::Attributes;
+use crate::fault::NoMemory;
 use crate::name::Name;
 use crate::snapshots::Snapshots;
 use capbits::{Ino, Mode};
 use capgrant::Attr;
+use std::alloc::Global;
 
 /// What an inode is.
 #[derive(Clone, Copy, Debug, PartialEq, Eq)]
@@ -52,8 +54,39 @@ pub struct Node {
     pub snapshots: Snapshots,
 }
 
+impl Site {
+    // The same site once more, which takes no memory.
+    pub(crate) fn copy(&self) -> Site
+        ensures { result ≡ self.now }
+    {
+        match self {
+            Site::Root => Site::Root,
+            Site::Under { dir, name } => Site::Under {
+                dir: *dir,
+                name: name.copy(),
+            },
+            Site::Stray => Site::Stray,
+        }
+    }
+}
+
 impl Node {
     ghost use Rattle.inotree.specs.Inodes.{with_setting};
+
+    // The same node once more.
+    pub(crate) fn copy(&self, alloc: Global) -> Result<Node, NoMemory>
+        ensures { IfOk result (λ copy. copy ≡ self.now) }
+    {
+        Ok(Node {
+            kind: self.kind,
+            site: self.site.copy(),
+            attr: self.attr,
+            size: self.size,
+            time: self.time,
+            attributes: self.attributes.copy(alloc)?,
+            snapshots: self.snapshots.copy(alloc)?,
+        })
+    }
 
     // Gives one field a new value.
     pub(crate) fn set(&mut self, setting: Setting)

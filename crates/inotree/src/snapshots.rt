@@ -1,5 +1,5 @@
 //! The names of the snapshots of a directory.
-ghost use Rattle.std.specs.Prelude.{◌≡◌, ℕ, List, OnOk, OnErr};
+ghost use Rattle.std.specs.Prelude.{◌≡◌, ℕ, List, IfOk, OnOk, OnErr};
 ghost use Rattle.std.specs.List.{list_any};
 ghost use Rattle.std.specs.List.Sorted.{IsStrictlySortedBy};
 ghost use Rattle.std.specs.Ordering.{eq_by_cmp};
@@ -62,6 +62,17 @@ impl Snapshots {
         ensures ordered { IsStrictlySortedBy name_cmp result }
     {
         self.names.iter()
+    }
+
+    // The same names once more.
+    pub(crate) fn copy(&self, alloc: Global) -> Result<Snapshots, NoMemory>
+        ensures { IfOk result (λ copy. copy ≡ self.now) }
+    {
+        let mut made = Snapshots::new(alloc);
+        for name in self.iter() {
+            made.insert(name.copy())?;
+        }
+        Ok(made)
     }
 
     // Takes the name in.

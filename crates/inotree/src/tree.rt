@@ -17,7 +17,7 @@ use crate::node::{Kind, Node, Place, Setting, Site};
 use crate::snapshots::{MAX_SNAPSHOTS, Snapshots};
 use capbits::Ino;
 use capgrant::Attr;
-use std::alloc::{AllocError, Global};
+use std::alloc::Global;
 use std::marker::Model;
 
 /// How many inodes there may be at a time, with the root and the strays.
@@ -70,6 +70,18 @@ impl Tree {
             names: Index::new(alloc),
             last: 1,
             alloc,
+        })
+    }
+
+    /// The same tree once more.
+    pub fn copy(&self) -> Result<Tree, NoMemory>
+        ensures { IfOk result (λ copy. copy ≡ self.now) }
+    {
+        Ok(Tree {
+            inodes: self.inodes.copy(self.alloc)?,
+            names: self.names.copy(self.alloc)?,
+            last: self.last,
+            alloc: self.alloc,
         })
     }
 
@@ -430,7 +442,7 @@ impl Tree {
         self.check_set_xattr(ino, name, value)?;
         let value = match Value::read(self.alloc, value) {
             Ok(value) => value,
-            Err(AllocError) => return Err(TreeFault::NoMemory),
+            Err(NoMemory) => return Err(TreeFault::NoMemory),
         };
         match self.inodes.set_attribute(ino.0, Name::of(name), value) {
             Ok(()) => Ok(()),
