@@ -1,0 +1,15 @@
+pub mod Changes
+pub mod Copies
+pub mod Entries
+pub mod Found
+pub mod Growing
+pub mod Maps
+pub mod Named
+pub mod Order
+pub mod Passing
+pub mod Reaching
+pub mod Results
+pub mod Shape
+pub mod Slots
+pub mod Turning
+pub mod Walks

@@ -1,0 +1,25 @@
+use Rattle.std.proofs.Common.{◌≡◌, ℕ, ◌-◌, suc, ◌++◌, Bool, true, false, map, refl, sym, ap, ◌∙◌, subst, arith}
+use Rattle.std.specs.List.{list_any}
+use Rattle.std.specs.Map.Iter.{deref_pair}
+use Rattle.std.proofs.lemmas.Map.Iter.{rest_so_far, rest_more, iter_end}
+use Rattle.inotree.specs.declared.index.Slot.{Slot}
+use Rattle.inotree.specs.Index.{names_in, index_reaches}
+use Rattle.inotree.proofs.Reaching.{reaches-zero, reaches-step, any_found, any-map}
+use Rattle.inotree.proofs.index.Index.+reaches.Goals as goal
+
+pub returns-then-steps-eq0 : goal.returns-then-steps-eq0
+returns-then-steps-eq0 t c = sym (reaches-zero _ _ _ c.if-steps-eq0.true)
+
+pub returns-then-reaches : goal.returns-then-reaches
+returns-then-reaches t c =
+    let start = c.into_iter-child-iterator.ensures.into_iter_gives ∙ c.names_in-child-items.ensures in
+    let parts = sym start ∙ rest_so_far deref_pair c.loop-child.yielded _ _ c.loop-child.yielded_by ∙ ap (λ rest. map deref_pair c.loop-child.yielded ++ rest) (rest_more deref_pair _ _ _ _ c.in-Some.is c.next.ensures.steps) in
+    let below : Slot × ℕ → Bool = λ e. index_reaches (c.args.steps - 1) c.args.self.now e.1 in
+    sym (reaches-step _ _ _ c.if-steps-eq0.false ∙ ap (list_any below) parts ∙ any_found below _ _ _ (sym c.if-reaches.ensures))
+
+pub returns : goal.returns
+returns t c =
+    let start = c.into_iter-child-iterator.ensures.into_iter_gives ∙ c.names_in-child-items.ensures in
+    let whole = (iter_end deref_pair _ c.loop-child.yielded _ _ _ _ start c.loop-child.yielded_by c.in-None.is c.next.ensures.steps).0 in
+    let below : Slot × ℕ → Bool = λ e. index_reaches (c.args.steps - 1) c.args.self.now e.1 in
+    sym (reaches-step _ _ _ c.if-steps-eq0.false ∙ ap (list_any below) (sym whole) ∙ any-map below deref_pair c.loop-child.yielded ∙ c.loop-child.invariant)

@@ -1,0 +1,9 @@
+use Rattle.std.proofs.Common.{sym, ap, ◌∙◌}
+use Rattle.std.specs.FinMap as map
+use Rattle.inotree.proofs.Entries.{entries-entries}
+use Rattle.inotree.proofs.Slots.{slot_total, slot_same}
+use Rattle.inotree.proofs.index.Index.iter.Goals as goal
+
+pub returns : goal.returns
+returns c =
+    c.iter.ensures.rest ∙ sym (entries-entries slot_total slot_same c.self.inside.inodes.entries c.iter.ensures.ordered) ∙ ap map.entries c.self.view_is

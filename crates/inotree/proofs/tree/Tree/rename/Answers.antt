@@ -1,0 +1,33 @@
+use Rattle.std.proofs.Common.{◌≡◌, ℕ, List, None, sym, ap, subst, ◌∙◌}
+use Rattle.std.specs.FinMap as map
+use Rattle.inotree.specs.declared.node.Site.TheVariants.{Under}
+use Rattle.inotree.specs.Maps.{change_at}
+use Rattle.inotree.specs.Inodes.{InodeMap, with_site}
+use Rattle.inotree.specs.Index.{NameIndex}
+use Rattle.inotree.specs.Tree.{Nodes, IsUnder, site_of}
+use Rattle.inotree.specs.Calls.{rename_fault}
+use Rattle.inotree.proofs.Changes.{kept-moved, kept_at}
+use Rattle.inotree.proofs.Named.{child-index}
+use Rattle.inotree.proofs.Passing.{slot_site, passed-rename}
+use Rattle.inotree.proofs.Results.{at_ok}
+use Rattle.inotree.proofs.tree.Tree.rename.Goals as goal
+
+pub invariant_of-self-2 : goal.invariant_of-self-2
+invariant_of-self-2 c =
+    let m : InodeMap = c.self.inside.inodes in
+    let index : NameIndex = c.self.inside.names in
+    let k : ℕ = c.args.ino.0 in
+    let d : ℕ = c.args.dir.0 in
+    let a : List ℕ = c.args.name.now in
+    let before : Nodes = record { nodes = m; last = c.self.inside.last } in
+    let no_fault : rename_fault before k d a ≡ None = subst (λ (t : Nodes). rename_fault t k d a ≡ None) (sym c.self.view_is) (sym c.in_ok-check_rename.ensures) in
+    let passed = passed-rename before k d a no_fault in
+    let under : IsUnder m k c.in-Some.old.dir c.in-Some.old.name = slot_site (site_of m k) c.in-Some.old (sym c.in-Some.ensures) in
+    let free : map.get index (record { dir = d; name = a }) ≡ None = sym (child-index m index c.self.invariant.1 d a) ∙ passed.0.free in
+    let added : c.insert.new.self ≡ map.insert index (record { dir = d; name = a }) k =
+      at_ok c.insert.result c.if-is_err.ensures.value c.insert.ensures.ok ∙ ap (λ b. map.insert index (record { dir = d; name = b }) k) c.of.ensures in
+    kept_at _ _ c.self.inside.last _ _
+      (c.set_site.ensures ∙ ap (λ b. change_at (with_site (Under c.args.dir b)) m k) c.of-2.ensures)
+      (c.remove.ensures ∙ ap (λ (x : NameIndex). map.remove x c.in-Some.old) added)
+      (kept-moved m c.self.inside.last k d c.in-Some.old.dir a c.in-Some.old.name index c.self.invariant.0 c.self.invariant.1 under
+        passed.0.kind passed.0.here passed.0.good free passed.1 passed.2)

@@ -1,0 +1,36 @@
+-- The names of the tree: which inode each directory has under each name.
+use Rattle.std.specs.Prelude.{ℕ, zero, suc, ◌==◌, ◌<◌, ◌^◌, Bool, true, List, filter}
+use Rattle.std.specs.Coded.{Coded, coded_ℕ}
+use Rattle.std.specs.declared.cmp.Ordering.{Ordering}
+use Rattle.std.specs.Ordering.{nat_cmp, ordering_then}
+use Rattle.std.specs.List.{list_any, AllByRecursion}
+use Rattle.std.specs.FinMap as map
+use Rattle.std.specs.FinMap.{FinMap}
+use Rattle.inotree.specs.declared.index.Slot.{Slot}
+use Rattle.inotree.specs.contracts.index.Slot as slot
+use Rattle.inotree.specs.Names.{name_cmp}
+
+-- places for names are ordered by directory, then by name
+abbrev pub slot_cmp : Slot → Slot → Ordering
+slot_cmp a b = ordering_then (nat_cmp a.dir b.dir) (name_cmp a.name b.name)
+
+-- the number of the inode in each place that is taken
+abbrev pub NameIndex : Type 0
+NameIndex = FinMap slot_cmp ℕ
+
+-- an index is stored as its entries
+abbrev pub index_code : Coded NameIndex
+index_code = map.code slot.the_row.coded coded_ℕ
+
+-- the names in one directory
+abbrev pub names_in : ℕ → NameIndex → List (Slot × ℕ)
+names_in dir index = filter (λ e. e.0.dir == dir) (map.entries index)
+
+-- the directories have numbers of 64 bits
+abbrev pub AreInodes : NameIndex → Type 0
+AreInodes index = AllByRecursion (λ e. e.0.dir < 2 ^ 64) (map.entries index)
+
+-- something lies so many steps below
+unfoldable pub index_reaches : ℕ → NameIndex → ℕ → Bool
+index_reaches zero index dir = true
+index_reaches (suc n) index dir = list_any (λ e. index_reaches n index e.1) (names_in dir index)

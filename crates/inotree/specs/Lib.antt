@@ -1,0 +1,7 @@
+pub mod Names
+pub mod Maps
+pub mod Node
+pub mod Inodes
+pub mod Index
+pub mod Tree
+pub mod Calls

@@ -1,0 +1,135 @@
+//! The names of the tree: which inode each directory has under each name.
+ghost use Rattle.std.specs.Prelude.{◌≡◌, IfOk, OnOk, OnErr};
+ghost use Rattle.std.specs.FinMap as map;
+ghost use Rattle.inotree.specs.Index.{names_in, AreInodes, index_reaches};
+
+use crate::fault::NoMemory;
+use crate::name::Name;
+use std::alloc::Global;
+use std::collections::{BTreeMap, btree_map};
+use std::marker::Model;
+use std::ops::Bound;
+
+// A name in a directory, which is there or not.
+#[derive(Debug, PartialEq, Eq, PartialOrd, Ord, Drop)]
+pub(crate) struct Slot {
+    // The number of the directory. It comes first, so that a directory's names stand together.
+    pub(crate) dir: u64,
+    pub(crate) name: Name,
+}
+
+impl Slot {
+    // The same place once more, which takes no memory.
+    pub(crate) fn copy(&self) -> Slot
+        ensures { result ≡ self.now }
+    {
+        Slot {
+            dir: self.dir,
+            name: self.name.copy(),
+        }
+    }
+}
+
+// Which inode stands at each name.
+#[derive(Debug, Drop)]
+pub(crate) struct Index {
+    inodes: BTreeMap<Slot, u64>,
+}
+
+impl Model for Index {
+    ghost use Rattle.std.specs.FinMap as map;
+    ghost use Rattle.inotree.specs.Index.{NameIndex, index_code};
+
+    ghost Value = { NameIndex };
+
+    ghost coded = { index_code };
+
+    ghost view = { λ i. map.from_entries i.inodes.entries };
+}
+
+impl Index {
+    // No names.
+    pub(crate) fn new(alloc: Global) -> Index
+        ensures { result ≡ map.empty }
+    {
+        Index {
+            inodes: BTreeMap::new(alloc),
+        }
+    }
+
+    // The names with their inodes, directory by directory.
+    pub(crate) fn iter(&self) -> btree_map::Iter<'_, Slot, u64>
+        ensures { result ≡ map.entries self.now }
+    {
+        self.inodes.iter()
+    }
+
+    // The same names once more.
+    pub(crate) fn copy(&self, alloc: Global) -> Result<Index, NoMemory>
+        ensures { IfOk result (λ copy. copy ≡ self.now) }
+    {
+        let mut made = Index::new(alloc);
+        for (slot, ino) in self.iter() {
+            made.insert(slot.copy(), *ino)?;
+        }
+        Ok(made)
+    }
+
+    // The inode at a name.
+    pub(crate) fn get(&self, slot: &Slot) -> Option<u64>
+        ensures { result ≡ map.get self.now slot.now }
+    {
+        self.inodes.get(slot).copied()
+    }
+
+    // Puts an inode at a name.
+    pub(crate) fn insert(&mut self, slot: Slot, ino: u64) -> Result<(), NoMemory>
+        ensures ok { OnOk result (self.new ≡ map.insert self.old slot ino) }
+        ensures err { OnErr result (self.new ≡ self.old) }
+    {
+        self.inodes.insert(slot, ino)?;
+        Ok(())
+    }
+
+    // Takes a name out.
+    pub(crate) fn remove(&mut self, slot: &Slot)
+        ensures { self.new ≡ map.remove self.old slot.now }
+    {
+        self.inodes.remove(slot);
+    }
+
+    // The names in a directory.
+    pub(crate) fn names_in(&self, dir: u64) -> btree_map::Range<'_, Slot, u64>
+        requires { AreInodes self.now }
+        ensures { result ≡ names_in dir self.now }
+    {
+        let first = Slot {
+            dir,
+            name: Name::empty(),
+        };
+        let end = match dir.checked_add(1) {
+            Some(next) => Bound::Excluded(Slot {
+                dir: next,
+                name: Name::empty(),
+            }),
+            None => Bound::Unbounded,
+        };
+        self.inodes.range((Bound::Included(first), end))
+    }
+
+    // Whether something lies so many steps below a directory.
+    pub(crate) fn reaches(&self, dir: u64, steps: usize) -> bool
+        requires { AreInodes self.now }
+        ensures { result ≡ index_reaches steps self.now dir }
+    {
+        if steps == 0 {
+            return true;
+        }
+        for (_, child) in self.names_in(dir) {
+            if self.reaches(*child, steps - 1) {
+                return true;
+            }
+        }
+        false
+    }
+}

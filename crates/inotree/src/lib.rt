@@ -1,0 +1,25 @@
+//! The tree of inodes of a file system, in memory.
+//!
+//! Public source: "CephFS" in the Ceph documentation.
+#![tactic(auto)]
+
+mod attributes;
+mod fault;
+mod index;
+mod inodes;
+mod name;
+mod names;
+mod node;
+mod snapshots;
+mod tree;
+
+pub use attributes::{Attributes, MAX_ATTRIBUTES, MAX_VALUE, Value};
+pub use fault::{NoMemory, TreeFault};
+pub use name::{MAX_NAME, Name, is_bad_attribute, is_bad_name};
+pub use names::{MAX_NAMES, Names};
+pub use node::{Kind, Node, Place, Setting, Site};
+pub use snapshots::{MAX_SNAPSHOTS, Snapshots};
+pub use tree::{MAX_INODES, ROOT, Tree};
+
+#[cfg(test)]
+mod tests;
