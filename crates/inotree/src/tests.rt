@@ -1,7 +1,6 @@
 //! Worked cases and limits, with values that no clause gives.
 use crate::{
-    Kind, MAX_INODES, MAX_NAMES, Place, ROOT, Setting, Site, Tree, TreeFault,
-    is_bad_name,
+    Kind, MAX_INODES, MAX_NAMES, Place, ROOT, Setting, Site, Tree, TreeFault, is_bad_name,
 };
 use capbits::{Ino, Mode};
 use capgrant::Attr;
@@ -66,7 +65,10 @@ fn no_path_has_more_than_thirty_two_names(rt: HostRuntime) -> Result<(), Fail> {
     // What lies below counts too: a directory with one inode in it needs two names.
     let pair = tree.mkdir(ROOT, b"pair", attr())?;
     let inner = tree.create(pair, b"inner", attr())?;
-    assert_eq!(rt; tree.rename_fault(pair, above, b"p"), Some(TreeFault::TooDeep));
+    assert_eq!(rt;
+        tree.rename_fault(pair, above, b"p"),
+        Some(TreeFault::TooDeep)
+    );
     assert_eq!(rt; tree.rename(pair, above, b"p"), Err(TreeFault::TooDeep));
     assert_eq!(rt; tree.unlink(inner), Ok(()));
     assert_eq!(rt; tree.rename(pair, above, b"p"), Ok(()));
@@ -127,8 +129,14 @@ fn attributes_are_kept_by_name(rt: HostRuntime) -> Result<(), Fail> {
     assert_eq!(rt; tree.set_xattr(file, b"user.a", b"1"), Ok(()));
     assert_eq!(rt; tree.set_xattr(file, b"user.a", b"2"), Ok(()));
     assert_eq!(rt; tree.set_xattr(file, b"", b"2"), Err(TreeFault::NameBad));
-    assert_eq!(rt; tree.set_xattr(file, &[b'n'; 256], b"2"), Err(TreeFault::NameBad));
-    assert_eq!(rt; tree.set_xattr(file, b"user.c", &[0; 4097]), Err(TreeFault::Limit));
+    assert_eq!(rt;
+        tree.set_xattr(file, &[b'n'; 256], b"2"),
+        Err(TreeFault::NameBad)
+    );
+    assert_eq!(rt;
+        tree.set_xattr(file, b"user.c", &[0; 4097]),
+        Err(TreeFault::Limit)
+    );
     assert_eq!(rt; tree.set_xattr(file, b"user.c", &[0; 4096]), Ok(()));
     assert_eq!(rt; tree.remove_xattr(file, b"user.d"), Err(TreeFault::NoXattr));
     assert_eq!(rt; tree.remove_xattr(file, b"user.c"), Ok(()));
@@ -139,9 +147,16 @@ fn attributes_are_kept_by_name(rt: HostRuntime) -> Result<(), Fail> {
     assert_eq!(rt; node.attributes.len(), 2);
     for n in 0..62 {
         let name = format!(in rt.alloc(); "more.{n}")?;
-        assert_eq!(rt; tree.set_xattr(file, name.as_bytes(), b""), Ok(()), "at {n}");
+        assert_eq!(rt;
+            tree.set_xattr(file, name.as_bytes(), b""),
+            Ok(()),
+            "at {n}"
+        );
     }
-    assert_eq!(rt; tree.set_xattr(file, b"more.62", b""), Err(TreeFault::Limit));
+    assert_eq!(rt;
+        tree.set_xattr(file, b"more.62", b""),
+        Err(TreeFault::Limit)
+    );
     assert_eq!(rt; tree.set_xattr(file, b"more.61", b"x"), Ok(()));
     Ok(())
 }
@@ -161,7 +176,10 @@ fn fields_are_set_one_by_one(rt: HostRuntime) -> Result<(), Fail> {
         assert_eq!(rt; tree.set(file, setting), Ok(()));
     }
     let node = tree.node(file).expect(&rt, "it is there");
-    assert_eq!(rt; (node.attr.mode, node.attr.uid, node.attr.gid), (mode, 1, 2));
+    assert_eq!(rt;
+        (node.attr.mode, node.attr.uid, node.attr.gid),
+        (mode, 1, 2)
+    );
     assert_eq!(rt; (node.kind, node.size, node.time), (Kind::File, 3, 4));
     assert!(rt; matches!(&node.site, Site::Under { dir: ROOT, .. }));
     assert_eq!(rt; tree.set(ROOT, Setting::Size(3)), Err(TreeFault::IsDir));
@@ -177,7 +195,10 @@ fn names_have_up_to_255_bytes(rt: HostRuntime) -> Result<(), Fail> {
     assert_eq!(rt; tree.create(ROOT, &long, attr()), Ok(Ino(2)));
     assert_eq!(rt; tree.child(ROOT, &long), Some(Ino(2)));
     assert_eq!(rt; tree.child(ROOT, &[b'n'; 256]), None);
-    assert_eq!(rt; tree.create(ROOT, &[b'n'; 256], attr()), Err(TreeFault::NameBad));
+    assert_eq!(rt;
+        tree.create(ROOT, &[b'n'; 256], attr()),
+        Err(TreeFault::NameBad)
+    );
     assert_eq!(rt; tree.rename(Ino(2), ROOT, b"a/b"), Err(TreeFault::NameBad));
     for bad in [b"".as_slice(), b".", b"..", b"a/b", b"a\0b"] {
         assert!(rt; is_bad_name(bad));
@@ -201,5 +222,31 @@ fn one_directory_holds_all_inodes(rt: HostRuntime) -> Result<(), Fail> {
     assert_eq!(rt; tree.create(ROOT, b"more", attr()), Err(TreeFault::Limit));
     tree.forget(Ino(65536));
     assert_eq!(rt; tree.create(ROOT, b"more", attr()), Ok(Ino(65537)));
+    Ok(())
+}
+
+#[test]
+fn a_copy_equals_its_source_and_goes_its_own_way(rt: HostRuntime) -> Result<(), Fail> {
+    let mut tree = Tree::new(rt.alloc(), attr())?;
+    let dir = tree.mkdir(ROOT, b"d", attr())?;
+    let file = tree.create(dir, b"f", attr())?;
+    tree.set_xattr(file, b"user.a", b"1")?;
+    tree.snap_add(dir, b"s")?;
+    let copy = tree.copy()?;
+    assert_eq!(rt; tree.unlink(file), Ok(()));
+    assert_eq!(rt;
+        copy.resolve(&[b"d".as_slice(), b"f".as_slice()]),
+        Some(file)
+    );
+    let path = copy.path_of(file).expect(&rt, "it is there");
+    assert_eq!(rt; copy.resolve(path.as_slice()), Some(file));
+    let node = copy.node(file).expect(&rt, "it is there");
+    let (name, value) = node.attributes.iter().next().expect(&rt, "there is one");
+    assert_eq!(rt; name.as_bytes(), b"user.a".as_slice());
+    assert_eq!(rt; value.as_bytes(), b"1".as_slice());
+    let parent = copy.node(dir).expect(&rt, "it is there");
+    assert_eq!(rt; (parent.kind, parent.snapshots.len()), (Kind::Directory, 1));
+    let mut copy = copy;
+    assert_eq!(rt; copy.create(ROOT, b"f", attr()), Ok(Ino(4)));
     Ok(())
 }
