@@ -1,5 +1,5 @@
 -- Each change that a call makes keeps what every tree keeps, and the index in step with it.
-use Rattle.std.proofs.Common.{◌≡◌, ℕ, zero, suc, ◌+◌, ◌-◌, ◌<◌, ◌≤◌, Bool, true, false, ◌||◌, List, [], ◌∷◌, ◌++◌, length, Option, Some, None, ◌⊎◌, inl, inr, refl, sym, ap, subst, ◌∙◌, arith, length-append}
+use Rattle.std.proofs.Common.{◌≡◌, ℕ, ◌+◌, ◌-◌, ◌<◌, ◌≤◌, true, false, List, [], ◌∷◌, ◌++◌, length, Option, Some, None, inl, inr, refl, sym, ap, subst, ◌∙◌, arith, length-append}
 use Rattle.std.specs.Cmp.{nat_cmp_total}
 use Rattle.std.proofs.lemmas.Bool.{cases_lt}
 use Rattle.std.specs.FinMap as map
@@ -19,7 +19,7 @@ use Rattle.inotree.specs.declared.node.Setting.{Setting}
 use Rattle.inotree.specs.declared.node.Setting.TheVariants.{Mode, Uid, Gid, Size, Time}
 use Rattle.inotree.specs.Inodes.{InodeMap, with_site, with_setting}
 use Rattle.inotree.specs.Index.{NameIndex, slot_cmp}
-use Rattle.inotree.specs.Tree.{Nodes, IsTree, IsIndexed, IsUnder, Climbs, site_of, kind_of, place, place_at, is_directory, is_directory_kind, depth, reaches, is_within, lies_below}
+use Rattle.inotree.specs.Tree.{IsTree, IsIndexed, IsUnder, Climbs, site_of, kind_of, place, place_at, is_directory, is_directory_kind, depth, reaches, is_within, lies_below}
 use Rattle.inotree.specs.Calls.{first_tree, new_node}
 use Rattle.inotree.proofs.Maps.{insert-here, insert-other, remove-here, remove-other, change-is}
 use Rattle.inotree.proofs.Named.{node_of}
@@ -46,7 +46,7 @@ module _ (m : InodeMap) (last k : ℕ) (x : Node) (f : Node → Node) (here : ma
 
   -- a field that is no site and no kind
   pub kept-changed : (index : NameIndex) → IsTree (record { nodes = m; last = last }) → IsIndexed m index → (f x).kind ≡ x.kind → (f x).site ≡ x.site
-    → IsTree (record { nodes = change_at f m k; last = last }) × IsIndexed (change_at f m k) index
+      → IsTree (record { nodes = change_at f m k; last = last }) × IsIndexed (change_at f m k) index
   kept-changed index t ix kind site =
       let sites : (i : ℕ) → site_of (change_at f m k) i ≡ site_of m i = λ i. elim (same_ino i k) [
         | inl is ↦ subst (λ y. site_of (change_at f m k) y ≡ site_of m y) (sym is) (ap (option_map (λ (n : Node). n.site)) changed_at ∙ ap Some site ∙ ap (option_map (λ (n : Node). n.site)) (sym here))
@@ -56,7 +56,7 @@ module _ (m : InodeMap) (last k : ℕ) (x : Node) (f : Node → Node) (here : ma
 
 -- an inode under a name, with nothing below it, becomes a stray
 pub kept-unlinked : (m : InodeMap) (last k d : ℕ) (a : List ℕ) (index : NameIndex) → IsTree (record { nodes = m; last = last }) → IsIndexed m index → IsUnder m k d a → ((i : ℕ) (b : List ℕ) → IsUnder m i k b → ⊥)
-  → IsTree (record { nodes = change_at (with_site Stray) m k; last = last }) × IsIndexed (change_at (with_site Stray) m k) (map.remove index (slot d a))
+    → IsTree (record { nodes = change_at (with_site Stray) m k; last = last }) × IsIndexed (change_at (with_site Stray) m k) (map.remove index (slot d a))
 kept-unlinked m last k d a index t ix u childless =
     let node = node_of m k _ u in
     let n : InodeMap = change_at (with_site Stray) m k in
@@ -68,13 +68,14 @@ kept-unlinked m last k d a index t ix u childless =
     let no_root : site_of n k ≡ Some Root → ⊥ = λ v. cc in
     let gone : place n k ≡ Gone = ap place_at now in
     let not_here : place n k ≡ Here → ⊥ = λ v. cc in
-    let was_no_root : site_of m k ≡ Some Root → ⊥ = λ v. cc in
-    (tree-buried m n last k index t ix other kinds fresh no_site no_root not_here was_no_root childless,
-     index-unlinked m n last k index t ix other kinds fresh no_site no_root not_here was_no_root childless d a u)
+    let was_no_root : site_of m k ≡ Some Root → ⊥ = λ v. cc in (
+      tree-buried m n last k index t ix other kinds fresh no_site no_root not_here was_no_root childless,
+      index-unlinked m n last k index t ix other kinds fresh no_site no_root not_here was_no_root childless d a u,
+    )
 
 -- a stray is forgotten
 pub kept-forgotten : (m : InodeMap) (last k : ℕ) (index : NameIndex) → IsTree (record { nodes = m; last = last }) → IsIndexed m index → site_of m k ≡ Some Stray
-  → IsTree (record { nodes = map.remove m k; last = last }) × IsIndexed (map.remove m k) index
+    → IsTree (record { nodes = map.remove m k; last = last }) × IsIndexed (map.remove m k) index
 kept-forgotten m last k index t ix was =
     let n : InodeMap = map.remove m k in
     let off_get : (i : ℕ) → (i ≡ k → ⊥) → map.get n i ≡ map.get m i = remove-other nat_cmp_total map.nat_cmp-IsAntisymmetric m k in
@@ -93,14 +94,15 @@ kept-forgotten m last k index t ix was =
     let was_no_root : site_of m k ≡ Some Root → ⊥ = λ v. cc in
     let was_gone : place m k ≡ Gone = ap place_at was in
     let childless : (i : ℕ) (b : List ℕ) → IsUnder m i k b → ⊥ = λ i b v. let up = (t.parents i k b v).1 in cc in
-    let nowhere : (e : ℕ) (b : List ℕ) → IsUnder m k e b → ⊥ = λ e b v. cc in
-    (tree-buried m n last k index t ix other kinds fresh no_site no_root not_here was_no_root childless,
-     index-forgotten m n last k index t ix other kinds fresh no_site no_root not_here was_no_root childless nowhere)
+    let nowhere : (e : ℕ) (b : List ℕ) → IsUnder m k e b → ⊥ = λ e b v. cc in (
+      tree-buried m n last k index t ix other kinds fresh no_site no_root not_here was_no_root childless,
+      index-forgotten m n last k index t ix other kinds fresh no_site no_root not_here was_no_root childless nowhere,
+    )
 
 -- a new inode
 pub kept-added : (m : InodeMap) (last d : ℕ) (a : List ℕ) (kind : Kind) (attr : Attr) (index : NameIndex) → IsTree (record { nodes = m; last = last }) → IsIndexed m index
-  → is_directory m d ≡ true → place m d ≡ Here → is_bad_name a ≡ false → map.get index (slot d a) ≡ None → depth m d < 32
-  → IsTree (record { nodes = map.insert m (last + 1) (new_node kind d a attr); last = last + 1 }) × IsIndexed (map.insert m (last + 1) (new_node kind d a attr)) (map.insert index (slot d a) (last + 1))
+    → is_directory m d ≡ true → place m d ≡ Here → is_bad_name a ≡ false → map.get index (slot d a) ≡ None → depth m d < 32
+    → IsTree (record { nodes = map.insert m (last + 1) (new_node kind d a attr); last = last + 1 }) × IsIndexed (map.insert m (last + 1) (new_node kind d a attr)) (map.insert index (slot d a) (last + 1))
 kept-added m last d a kind attr index t ix dir_kind dir_here good free low =
     let k : ℕ = last + 1 in
     let n : InodeMap = map.insert m k (new_node kind d a attr) in
@@ -116,9 +118,9 @@ kept-added m last d a kind attr index t ix dir_kind dir_here good free low =
     let dir_off : d ≡ k → ⊥ = λ same. let here : place m k ≡ Here = subst (λ y. place m y ≡ Here) same dir_here in cc in
     let avoid : (y : ℕ) (b : List ℕ) → IsUnder m y k b → ⊥ = λ y b v. let here = (t.parents y k b v).1 in cc in
     let dir_still : (i e : ℕ) (b : List ℕ) → IsUnder m i e b → (is_directory n e ≡ true) × (place n e ≡ Here) = λ i e b v.
-      let off : e ≡ k → ⊥ = λ same. avoid i b (subst (λ y. IsUnder m i y b) same v) in
-      let was = t.parents i e b v in
-      (ap is_directory_kind (kinds e off) ∙ was.0, ap place_at (other e off) ∙ was.1) in
+    let off : e ≡ k → ⊥ = λ same. avoid i b (subst (λ y. IsUnder m i y b) same v) in
+    let was = t.parents i e b v in
+    (ap is_directory_kind (kinds e off) ∙ was.0, ap place_at (other e off) ∙ was.1) in
     let reached : (i : ℕ) → place n i ≡ Here → (up : List (List ℕ)) × (length up ≤ 32) × Climbs n i up 1 = λ i h. elim (same_ino i k) [
       | inl same ↦
           let r = t.reached d dir_here in
@@ -126,9 +128,10 @@ kept-added m last d a kind attr index t ix dir_kind dir_here good free low =
           (a ∷ r.0, omega arith, (d, subst (λ y. IsUnder n y d a) (sym same) now, climb_keep m n k other avoid d r.0 1 dir_off r.2))
       | inr off ↦ let r = t.reached i (sym (ap place_at (other i off)) ∙ h) in (r.0, r.1, climb_keep m n k other avoid i r.0 1 off r.2)
     ] in
-    let nowhere : (e : ℕ) (b : List ℕ) → IsUnder m k e b → ⊥ = λ e b v. cc in
-    (tree-placed m n last k k d a index t ix other kinds fresh now was_no_root dir_kind dir_here dir_off good free dir_still reached,
-     index-added m n last k k d a index t ix other kinds fresh now was_no_root dir_kind dir_here dir_off good free nowhere)
+    let nowhere : (e : ℕ) (b : List ℕ) → IsUnder m k e b → ⊥ = λ e b v. cc in (
+      tree-placed m n last k k d a index t ix other kinds fresh now was_no_root dir_kind dir_here dir_off good free dir_still reached,
+      index-added m n last k k d a index t ix other kinds fresh now was_no_root dir_kind dir_here dir_off good free nowhere,
+    )
 
 -- a climb that meets no inode that moves
 climb_off : (m n : InodeMap) (k : ℕ) → ((i : ℕ) → (i ≡ k → ⊥) → site_of n i ≡ site_of m i) → (up : List (List ℕ)) (i c top : ℕ) → length up ≤ c → lies_below c m i k ≡ false → Climbs m i up top → Climbs n i up top
@@ -138,8 +141,8 @@ climb_off m n k other (a ∷ up) i c top fits out climb =
 
 -- an inode moves
 pub kept-moved : (m : InodeMap) (last k d e : ℕ) (a b : List ℕ) (index : NameIndex) → IsTree (record { nodes = m; last = last }) → IsIndexed m index
-  → IsUnder m k e b → is_directory m d ≡ true → place m d ≡ Here → is_bad_name a ≡ false → map.get index (slot d a) ≡ None → is_within m d k ≡ false → reaches (32 - depth m d) m k ≡ false
-  → IsTree (record { nodes = change_at (with_site (Under (record { 0 = d }) a)) m k; last = last })
+    → IsUnder m k e b → is_directory m d ≡ true → place m d ≡ Here → is_bad_name a ≡ false → map.get index (slot d a) ≡ None → is_within m d k ≡ false → reaches (32 - depth m d) m k ≡ false
+    → IsTree (record { nodes = change_at (with_site (Under (record { 0 = d }) a)) m k; last = last })
     × IsIndexed (change_at (with_site (Under (record { 0 = d }) a)) m k) (map.remove (map.insert index (slot d a) k) (slot e b))
 kept-moved m last k d e a b index t ix was dir_kind dir_here good free apart shallow =
     let site : Site = Under (record { 0 = d }) a in
@@ -155,11 +158,13 @@ kept-moved m last k d e a b index t ix was dir_kind dir_here good free apart sha
     let dir_off : d ≡ k → ⊥ = off_here 32 m d k out in
     let here_now : place n k ≡ Here = ap place_at now in
     let dir_still : (i f : ℕ) (c : List ℕ) → IsUnder m i f c → (is_directory n f ≡ true) × (place n f ≡ Here) = λ i f c v.
-      let before = t.parents i f c v in
-      (ap is_directory_kind (all_kinds f) ∙ before.0, elim (same_ino f k) [
+    let before = t.parents i f c v in (
+      ap is_directory_kind (all_kinds f) ∙ before.0,
+      elim (same_ino f k) [
         | inl same ↦ subst (λ y. place n y ≡ Here) (sym same) here_now
         | inr off ↦ ap place_at (other f off) ∙ before.1
-      ]) in
+      ],
+    ) in
     let was_here : (i : ℕ) → place n i ≡ Here → place m i ≡ Here = λ i h. elim (same_ino i k) [
       | inl same ↦ subst (λ y. place m y ≡ Here) (sym same) (ap place_at was)
       | inr off ↦ sym (ap place_at (other i off)) ∙ h
@@ -168,20 +173,21 @@ kept-moved m last k d e a b index t ix was dir_kind dir_here good free apart sha
     let long : depth m d ≡ length top.0 = depth-climb m top.0 d t.root top.1 top.2 in
     let above : Climbs n d top.0 1 = climb_off m n k other top.0 d 32 1 top.1 out top.2 in
     let reached : (i : ℕ) → place n i ≡ Here → (up : List (List ℕ)) × (length up ≤ 32) × Climbs n i up 1 = λ i h.
-      let r = t.reached i (was_here i h) in
-      elim (climb_split m n k other i r.0 1 r.2) [
-        | inl still ↦ (r.0, r.1, still)
-        | inr found ↦
-            let short : length found.0 < 32 - depth m d = short_of m i found.0 k (32 - depth m d) shallow found.1 in
-            (found.0 ++ a ∷ top.0, omega (arith, length-append found.0 (a ∷ top.0)), climb_on n i found.0 k (a ∷ top.0) 1 found.2 (d, now, above))
-      ] in
-    (tree-placed m n last last k d a index t ix other kinds fresh now was_no_root dir_kind dir_here dir_off good free dir_still reached,
-     index-moved m n last last k d a index t ix other kinds fresh now was_no_root dir_kind dir_here dir_off good free e b was) where
-  short_of : (m : InodeMap) (i : ℕ) (below : List (List ℕ)) (k c : ℕ) → reaches c m k ≡ false → Climbs m i below k → length below < c
-  short_of m i below k c shallow climb = elim (cases_lt (length below) c) [
-    | inl less ↦ less
-    | inr le ↦ let deep : reaches c m k ≡ true = reach_up c m i below k le climb in cc
-  ]
+    let r = t.reached i (was_here i h) in
+    elim (climb_split m n k other i r.0 1 r.2) [
+      | inl still ↦ (r.0, r.1, still)
+      | inr found ↦
+          let short : length found.0 < 32 - depth m d = short_of m i found.0 k (32 - depth m d) shallow found.1 in
+          (found.0 ++ a ∷ top.0, omega (arith, length-append found.0 (a ∷ top.0)), climb_on n i found.0 k (a ∷ top.0) 1 found.2 (d, now, above))
+    ] in (
+      tree-placed m n last last k d a index t ix other kinds fresh now was_no_root dir_kind dir_here dir_off good free dir_still reached,
+      index-moved m n last last k d a index t ix other kinds fresh now was_no_root dir_kind dir_here dir_off good free e b was,
+    ) where
+      short_of : (m : InodeMap) (i : ℕ) (below : List (List ℕ)) (k c : ℕ) → reaches c m k ≡ false → Climbs m i below k → length below < c
+      short_of m i below k c shallow climb = elim (cases_lt (length below) c) [
+        | inl less ↦ less
+        | inr le ↦ let deep : reaches c m k ≡ true = reach_up c m i below k le climb in cc
+      ]
 
 -- the same, for equal maps
 pub kept_at : (m n : InodeMap) (last : ℕ) (x y : NameIndex) → n ≡ m → y ≡ x → IsTree (record { nodes = m; last = last }) × IsIndexed m x → IsTree (record { nodes = n; last = last }) × IsIndexed n y
@@ -190,7 +196,7 @@ kept_at m n last x y p q kept =
 
 -- a change of fields, of an inode that may be there
 pub kept-any : (m : InodeMap) (last k : ℕ) (f : Node → Node) (index : NameIndex) → IsTree (record { nodes = m; last = last }) → IsIndexed m index → ((y : Node) → (f y).kind ≡ y.kind) → ((y : Node) → (f y).site ≡ y.site)
-  → IsTree (record { nodes = change_at f m k; last = last }) × IsIndexed (change_at f m k) index
+    → IsTree (record { nodes = change_at f m k; last = last }) × IsIndexed (change_at f m k) index
 kept-any m last k f index t ix kind site = go (map.get m k) refl where
   go : (o : Option Node) → map.get m k ≡ o → IsTree (record { nodes = change_at f m k; last = last }) × IsIndexed (change_at f m k) index
   go None none = kept_at m (change_at f m k) last index index (ap (λ o. option_map_or (λ (y : Node). map.insert m k (f y)) o m) none) refl (t, ix)
@@ -221,23 +227,25 @@ kept-first attr =
     let nowhere : (i d : ℕ) (a : List ℕ) → IsUnder n i d a → ⊥ = λ i d a u. elim (same_ino i 1) [
       | inl same ↦ let v : IsUnder n 1 d a = subst (λ y. IsUnder n y d a) same u in cc
       | inr off ↦ let v : site_of n i ≡ None = ap (option_map (λ (n : Node). n.site)) (none i off) in cc
-    ] in
-    (record {
-      root = site;
-      root_kind = ap (λ o. is_directory_kind (option_map (λ (n : Node). n.kind) o)) here;
-      one_root = λ i e. elim (same_ino i 1) [
-        | inl same ↦ same
-        | inr off ↦ let v : site_of n i ≡ None = ap (option_map (λ (n : Node). n.site)) (none i off) in cc
-      ];
-      parents = λ i d a u. absurd (nowhere i d a u);
-      siblings = λ i j d a u v. absurd (nowhere i d a u);
-      names = λ i d a u. absurd (nowhere i d a u);
-      reached = λ i h. elim (same_ino i 1) [
-        | inl same ↦ ([], omega arith, same)
-        | inr off ↦ let v : place n i ≡ NoIno = ap (λ o. place_at (option_map (λ (n : Node). n.site) o)) (none i off) in cc
-      ];
-      given = λ i above. none i (λ same. absurd (omega arith));
-    }, record {
-      taken = λ i d a u. absurd (nowhere i d a u);
-      real = λ i d a g. let v = map.get-empty {X = ℕ} slot_cmp (slot d a) in cc;
-    })
+    ] in (
+      record {
+        root = site;
+        root_kind = ap (λ o. is_directory_kind (option_map (λ (n : Node). n.kind) o)) here;
+        one_root = λ i e. elim (same_ino i 1) [
+          | inl same ↦ same
+          | inr off ↦ let v : site_of n i ≡ None = ap (option_map (λ (n : Node). n.site)) (none i off) in cc
+        ];
+        parents = λ i d a u. absurd (nowhere i d a u);
+        siblings = λ i j d a u v. absurd (nowhere i d a u);
+        names = λ i d a u. absurd (nowhere i d a u);
+        reached = λ i h. elim (same_ino i 1) [
+          | inl same ↦ ([], omega arith, same)
+          | inr off ↦ let v : place n i ≡ NoIno = ap (λ o. place_at (option_map (λ (n : Node). n.site) o)) (none i off) in cc
+        ];
+        given = λ i above. none i (λ same. absurd (omega arith));
+      },
+      record {
+        taken = λ i d a u. absurd (nowhere i d a u);
+        real = λ i d a g. let v = map.get-empty {X = ℕ} slot_cmp (slot d a) in cc;
+      },
+    )

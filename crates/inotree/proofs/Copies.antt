@@ -1,5 +1,5 @@
 -- A copy of a finite map or a finite set, made entry by entry.
-use Rattle.std.proofs.Common.{◌≡◌, ℕ, Bool, true, false, cond, ◌||◌, List, [], ◌∷◌, ◌++◌, map as each, Option, Some, None, is_some, inl, inr, refl, sym, ap, subst, ◌∙◌}
+use Rattle.std.proofs.Common.{◌≡◌, Bool, true, false, cond, ◌||◌, List, [], ◌∷◌, ◌++◌, map as each, Option, Some, None, is_some, inl, inr, refl, sym, ap, subst, ◌∙◌}
 use Rattle.std.specs.declared.cmp.Ordering.{Ordering}
 use Rattle.std.specs.Cmp.{IsTotalOrder}
 use Rattle.std.specs.FinMap as map
@@ -59,12 +59,12 @@ module _ {K : Type 0} {R : K → K → Ordering} (o : IsTotalOrder R) (same : ma
 
     -- a turn of a loop over the entries
     pub copied_turn : {A : Type 0} (shows : A → K × X) (m made next : FinMap R X) (ys : List A) (y : A) (rest : List (K × X)) → map.entries m ≡ each shows ys ++ shows y ∷ rest → next ≡ map.insert made (shows y).0 (shows y).1
-      → IsCopied m (each shows ys) made → IsCopied m (each shows (ys ++ y ∷ [])) next
+        → IsCopied m (each shows ys) made → IsCopied m (each shows (ys ++ y ∷ [])) next
     copied_turn shows m made next ys y rest split added so_far =
         let P : K × X → Type 0 = λ e. map.get m e.0 ≡ Some e.1 in
         let here : map.get m (shows y).0 ≡ Some (shows y).1 = all_at P (each shows ys) rest (shows y) (subst (AllByRecursion P) split (found o same m)) in
         subst (λ es. IsCopied m es next) (sym (each-push shows ys y))
-          (subst (IsCopied m (each shows ys ++ shows y ∷ [])) (sym added) (copied_more m made (each shows ys) (shows y) here so_far))
+        (subst (IsCopied m (each shows ys ++ shows y ∷ [])) (sym added) (copied_more m made (each shows ys) (shows y) here so_far))
 
     pub copied_end : (m made : FinMap R X) (es : List (K × X)) → es ≡ map.entries m → IsCopied m es made → made ≡ m
     copied_end m made es whole so_far = copied_all m made (subst (λ fs. IsCopied m fs made) whole so_far)

@@ -65,9 +65,9 @@ module _ {K : Type 0} {R : K → K → Ordering} (o : IsTotalOrder R) (same : ma
     same-entries es fs k x y is here h = map.same_map o same _ _ (λ q.
         get-entries fs q ∙ h q ∙ flip k q (Some y) (at_key es q)
         ∙ (elim (eq_by_cmp R q k) as (λ b. eq_by_cmp R q k ≡ b → cond b (Some y) (at_key es q) ≡ at_key es q) [
-            | true ↦ λ e. ap Some is ∙ sym here ∙ ap (at_key es) (sym (same q k ((Equal-is (R q k)).0 e)))
-            | false ↦ λ _. refl
-          ] refl)
+          | true ↦ λ e. ap Some is ∙ sym here ∙ ap (at_key es) (sym (same q k ((Equal-is (R q k)).0 e)))
+          | false ↦ λ _. refl
+        ] refl)
         ∙ sym (get-entries es q))
 
     -- where there is no value to change, the map stays

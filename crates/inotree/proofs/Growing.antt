@@ -1,30 +1,28 @@
 -- A new inode, an inode that moves, and a change that moves none keep what every tree keeps.
-use Rattle.std.proofs.Common.{◌≡◌, ℕ, zero, suc, ◌+◌, ◌-◌, ◌<◌, ◌≤◌, Bool, true, false, ◌||◌, ◌&&◌, ◌==◌, List, [], ◌∷◌, ◌++◌, length, Option, Some, None, ◌⊎◌, inl, inr, refl, sym, ap, subst, ◌∙◌, arith, length-append}
+use Rattle.std.proofs.Common.{◌≡◌, ℕ, zero, suc, ◌-◌, ◌<◌, ◌≤◌, Bool, true, false, ◌||◌, ◌&&◌, ◌==◌, List, [], ◌∷◌, length, Some, None, inl, inr, refl, sym, ap, subst, ◌∙◌, arith}
 use Rattle.std.specs.Cmp.{nat_cmp_total}
 use Rattle.std.specs.FinMap as map
-use Rattle.std.specs.Option.{option_map}
-use Rattle.capbits.specs.declared.ids.Ino.{Ino}
 use Rattle.inotree.specs.declared.index.Slot.{Slot}
 use Rattle.inotree.specs.declared.node.Node.{Node}
-use Rattle.inotree.specs.declared.node.Site.{Site}
-use Rattle.inotree.specs.declared.node.Site.TheVariants.{Root, Under, Stray}
-use Rattle.inotree.specs.declared.node.Place.TheVariants.{NoIno, Gone, Here}
+use Rattle.inotree.specs.declared.node.Site.TheVariants.{Root, Under}
+use Rattle.inotree.specs.declared.node.Place.TheVariants.{Here}
 use Rattle.inotree.specs.Names.{is_bad_name}
 use Rattle.inotree.specs.Inodes.{InodeMap}
-use Rattle.inotree.specs.Index.{NameIndex, slot_cmp}
-use Rattle.inotree.specs.Tree.{Nodes, IsTree, IsIndexed, IsUnder, Climbs, site_of, kind_of, place, place_at, is_directory, is_directory_kind, is_in, upward, names_up, lies_below, is_within, depth, reaches}
+use Rattle.inotree.specs.Index.{NameIndex}
+use Rattle.inotree.specs.Tree.{IsTree, IsIndexed, IsUnder, Climbs, site_of, kind_of, place, place_at, is_directory, is_directory_kind, is_in, upward, names_up, lies_below, depth, reaches}
 use Rattle.inotree.proofs.Found.{and_true, any_found}
 use Rattle.inotree.proofs.Maps.{same_or_other, insert-here, insert-other, remove-here, remove-other}
 use Rattle.inotree.proofs.Named.{node_of}
-use Rattle.inotree.proofs.Shape.{same_ino, slot, one_dir, one_name, under_here, climb_keep, climb_split, climb_on}
+use Rattle.inotree.proofs.Shape.{same_ino, slot, one_dir, one_name}
 use Rattle.inotree.proofs.Slots.{slot_total, slot_same}
 use Rattle.inotree.proofs.Walks.{names_up-none, names_up-step, lies_below-none, lies_below-step, same_test}
 
 -- the names on the way up are those of the path
-climb-names : (m : InodeMap) (up : List (List ℕ)) (i n : ℕ) → site_of m 1 ≡ Some Root → length up ≤ n → Climbs m i up 1 → names_up n m i ≡ up
+pub climb-names : (m : InodeMap) (up : List (List ℕ)) (i n : ℕ) → site_of m 1 ≡ Some Root → length up ≤ n → Climbs m i up 1 → names_up n m i ≡ up
 climb-names m [] i n root fits c = at_root n where
   site : site_of m i ≡ Some Root
   site = subst (λ k. site_of m k ≡ Some Root) (sym c) root
+
   at_root : (k : ℕ) → names_up k m i ≡ []
   at_root zero = names_up-none m i
   at_root (suc k) = names_up-step (suc k) m i (omega arith) ∙ ap (λ s. upward s [] (λ dir name. name ∷ names_up (suc k - 1) m dir)) site
@@ -46,9 +44,9 @@ off_here (suc n) m i k out same =
 pub off_next : (n : ℕ) (m : InodeMap) (i k d : ℕ) (a : List ℕ) → 0 < n → lies_below n m i k ≡ false → IsUnder m i d a → lies_below (n - 1) m d k ≡ false
 off_next n m i k d a some out u =
     or_false (i == k) _ (ap (λ s. (i == k) || upward s false (λ dir name. lies_below (n - 1) m dir k)) (sym u) ∙ sym (lies_below-step n m i k some) ∙ out) where
-  or_false : (a b : Bool) → (a || b) ≡ false → b ≡ false
-  or_false true b e = cc
-  or_false false b e = e
+      or_false : (a b : Bool) → (a || b) ≡ false → b ≡ false
+      or_false true b e = cc
+      or_false false b e = e
 
 -- the last step of a climb
 last_step : (m : InodeMap) (j : ℕ) (a : List ℕ) (up : List (List ℕ)) (k : ℕ) → Climbs m j (a ∷ up) k → (x : ℕ) × (b : List ℕ) × (front : List (List ℕ)) × IsUnder m x k b × Climbs m j front x × (length front ≡ length up)
@@ -67,17 +65,17 @@ reach_up (suc c) m j (a ∷ below) k le climb =
     let deeper : reaches c m r.0 ≡ true = reach_up c m j r.2 r.0 (omega (arith, r.5)) r.4 in
     let node = node_of m r.0 _ r.3 in
     any_found nat_cmp_total map.nat_cmp-IsAntisymmetric (λ (e : ℕ × Node). is_in k e.1.site && reaches c m e.0) m r.0 node.0 node.1
-      (and_true _ _ (ap (is_in k) node.2 ∙ same_test k k refl) deeper)
+    (and_true _ _ (ap (is_in k) node.2 ∙ same_test k k refl) deeper)
 
 -- An inode gets this name in this directory, where the name is free.
 module _ (m n : InodeMap) (last next k d : ℕ) (a : List ℕ) (index : NameIndex) (t : IsTree (record { nodes = m; last = last })) (x : IsIndexed m index)
-  (other : (i : ℕ) → (i ≡ k → ⊥) → site_of n i ≡ site_of m i)
-  (kinds : (i : ℕ) → (i ≡ k → ⊥) → kind_of n i ≡ kind_of m i)
-  (fresh : (i : ℕ) → next < i → map.get n i ≡ None)
-  (now : IsUnder n k d a)
-  (was_no_root : site_of m k ≡ Some Root → ⊥)
-  (dir_kind : is_directory m d ≡ true) (dir_here : place m d ≡ Here) (dir_off : d ≡ k → ⊥)
-  (good : is_bad_name a ≡ false) (free : map.get index (slot d a) ≡ None) where
+    (other : (i : ℕ) → (i ≡ k → ⊥) → site_of n i ≡ site_of m i)
+    (kinds : (i : ℕ) → (i ≡ k → ⊥) → kind_of n i ≡ kind_of m i)
+    (fresh : (i : ℕ) → next < i → map.get n i ≡ None)
+    (now : IsUnder n k d a)
+    (was_no_root : site_of m k ≡ Some Root → ⊥)
+    (dir_kind : is_directory m d ≡ true) (dir_here : place m d ≡ Here) (dir_off : d ≡ k → ⊥)
+    (good : is_bad_name a ≡ false) (free : map.get index (slot d a) ≡ None) where
   one_off : (1 ≡ k) → ⊥
   one_off e = was_no_root (subst (λ y. site_of m y ≡ Some Root) e t.root)
 
@@ -100,12 +98,12 @@ module _ (m n : InodeMap) (last next k d : ℕ) (a : List ℕ) (index : NameInde
   ] where
     taken : (j e : ℕ) (b : List ℕ) → IsUnder n k e b → IsUnder m j e b → ⊥
     taken j e b mine his =
-      let dirs : e ≡ d = one_dir n k e d b a mine now in
-      let names : b ≡ a = one_name n k e d b a mine now in
-      free_under j (subst (λ y. IsUnder m j y a) dirs (subst (λ y. IsUnder m j e y) names his))
+        let dirs : e ≡ d = one_dir n k e d b a mine now in
+        let names : b ≡ a = one_name n k e d b a mine now in
+        free_under j (subst (λ y. IsUnder m j y a) dirs (subst (λ y. IsUnder m j e y) names his))
 
   module _ (dir_still : (i e : ℕ) (b : List ℕ) → IsUnder m i e b → (is_directory n e ≡ true) × (place n e ≡ Here))
-    (reached : (i : ℕ) → place n i ≡ Here → (up : List (List ℕ)) × (length up ≤ 32) × Climbs n i up 1) where
+      (reached : (i : ℕ) → place n i ≡ Here → (up : List (List ℕ)) × (length up ≤ 32) × Climbs n i up 1) where
     pub tree-placed : IsTree (record { nodes = n; last = next })
     tree-placed = record {
       root = other 1 one_off ∙ t.root;
@@ -179,9 +177,9 @@ module _ (m n : InodeMap) (last next k d : ℕ) (a : List ℕ) (index : NameInde
           | inr off ↦
               let was = stays i e b u off in
               remove-other slot_total slot_same more (slot d0 a0) (slot e b) (λ is.
-                let mine : map.get index (slot d0 a0) ≡ Some k = x.taken k d0 a0 old in
-                let his : map.get index (slot d0 a0) ≡ Some i = ap (map.get index) (sym is) ∙ x.taken i e b was in
-                let both : i ≡ k = cc in off both)
+              let mine : map.get index (slot d0 a0) ≡ Some k = x.taken k d0 a0 old in
+              let his : map.get index (slot d0 a0) ≡ Some i = ap (map.get index) (sym is) ∙ x.taken i e b was in
+              let both : i ≡ k = cc in off both)
               ∙ insert-other slot_total slot_same index (slot d a) k (slot e b) (not_free i e b was) ∙ x.taken i e b was
         ];
         real = λ i e b g. elim (same_or_other slot_total slot_same (slot e b) (slot d0 a0)) [
@@ -195,17 +193,17 @@ module _ (m n : InodeMap) (last next k d : ℕ) (a : List ℕ) (index : NameInde
                 | inr still ↦
                     let u = x.real i e b (sym (insert-other slot_total slot_same index (slot d a) k (slot e b) still) ∙ g2) in
                     other i (λ same.
-                      let v : IsUnder m k e b = subst (λ y. IsUnder m y e b) same u in
-                      off (slots_same e d0 b a0 (one_dir m k e d0 b a0 v old) (one_name m k e d0 b a0 v old))) ∙ u
+                    let v : IsUnder m k e b = subst (λ y. IsUnder m y e b) same u in
+                    off (slots_same e d0 b a0 (one_dir m k e d0 b a0 v old) (one_name m k e d0 b a0 v old))) ∙ u
               ]
         ];
       }
 
 -- No site and no kind changes.
 module _ (m n : InodeMap) (last : ℕ) (index : NameIndex) (t : IsTree (record { nodes = m; last = last })) (x : IsIndexed m index)
-  (sites : (i : ℕ) → site_of n i ≡ site_of m i)
-  (kinds : (i : ℕ) → kind_of n i ≡ kind_of m i)
-  (fresh : (i : ℕ) → last < i → map.get n i ≡ None) where
+    (sites : (i : ℕ) → site_of n i ≡ site_of m i)
+    (kinds : (i : ℕ) → kind_of n i ≡ kind_of m i)
+    (fresh : (i : ℕ) → last < i → map.get n i ≡ None) where
   still_climbs : (i : ℕ) (up : List (List ℕ)) (top : ℕ) → Climbs m i up top → Climbs n i up top
   still_climbs i [] top c = c
   still_climbs i (a ∷ up) top c = (c.0, sites i ∙ c.1, still_climbs c.0 up top c.2)
@@ -216,8 +214,8 @@ module _ (m n : InodeMap) (last : ℕ) (index : NameIndex) (t : IsTree (record {
     root_kind = ap is_directory_kind (kinds 1) ∙ t.root_kind;
     one_root = λ i e. t.one_root i (sym (sites i) ∙ e);
     parents = λ i d a u.
-      let was = t.parents i d a (sym (sites i) ∙ u) in
-      (ap is_directory_kind (kinds d) ∙ was.0, ap place_at (sites d) ∙ was.1);
+        let was = t.parents i d a (sym (sites i) ∙ u) in
+        (ap is_directory_kind (kinds d) ∙ was.0, ap place_at (sites d) ∙ was.1);
     siblings = λ i j d a u v. t.siblings i j d a (sym (sites i) ∙ u) (sym (sites j) ∙ v);
     names = λ i d a u. t.names i d a (sym (sites i) ∙ u);
     reached = λ i h. let r = t.reached i (sym (ap place_at (sites i)) ∙ h) in (r.0, r.1, still_climbs i r.0 1 r.2);

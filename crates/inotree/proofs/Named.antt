@@ -1,28 +1,25 @@
 -- The index against the tree: a child is what the index has, and a walk down the one is a walk down the other.
-use Rattle.std.proofs.Common.{◌≡◌, ℕ, zero, suc, ◌+◌, ◌-◌, ◌<◌, ◌≤◌, ◌^◌, Bool, true, false, cond, ◌||◌, ◌&&◌, ◌==◌, List, [], ◌∷◌, length, Option, Some, None, ◌⊎◌, inl, inr, refl, sym, ap, subst, ◌∙◌, arith}
+use Rattle.std.proofs.Common.{◌≡◌, ℕ, zero, suc, ◌<◌, ◌^◌, Bool, true, false, cond, ◌||◌, ◌&&◌, ◌==◌, List, [], ◌∷◌, Option, Some, None, inl, inr, refl, sym, ap, subst, ◌∙◌, arith}
 use Rattle.std.specs.Cmp.{nat_cmp_total}
 use Rattle.std.proofs.lemmas.Bool.{cases_lt}
 use Rattle.std.specs.FinMap as map
 use Rattle.std.specs.List.{list_any, AllByRecursion}
 use Rattle.std.specs.Option.{option_map}
-use Rattle.std.specs.Ordering.{nat_cmp, eq_by_cmp}
-use Rattle.capbits.specs.declared.ids.Ino.{Ino}
 use Rattle.inotree.specs.declared.index.Slot.{Slot}
 use Rattle.inotree.specs.declared.node.Node.{Node}
 use Rattle.inotree.specs.declared.node.Site.{Site}
 use Rattle.inotree.specs.declared.node.Site.TheVariants.{Root, Under, Stray}
-use Rattle.inotree.specs.declared.node.Place.TheVariants.{NoIno, Gone, Here}
-use Rattle.inotree.specs.Names.{name_cmp}
+use Rattle.inotree.specs.declared.node.Place.TheVariants.{NoIno, Here}
 use Rattle.inotree.specs.Inodes.{InodeMap}
-use Rattle.inotree.specs.Index.{NameIndex, slot_cmp, names_in, index_reaches, AreInodes}
-use Rattle.inotree.specs.Tree.{Nodes, IsTree, IsIndexed, IsUnder, site_of, place, place_at, is_at, is_in, child, first_where, reaches}
+use Rattle.inotree.specs.Index.{NameIndex, index_reaches, AreInodes}
+use Rattle.inotree.specs.Tree.{IsTree, IsIndexed, IsUnder, site_of, place, place_at, is_at, is_in, child, first_where, reaches}
 use Rattle.inotree.proofs.Found.{both_true, and_true, same_bool, all_map, any_some, any-filter, found, any_found}
 use Rattle.inotree.proofs.Maps.{tied, tied_here}
 use Rattle.inotree.proofs.Order.{name_total, name_same}
 use Rattle.inotree.proofs.Slots.{slot_total, slot_same}
 use Rattle.inotree.proofs.Walks.{same_test, test_same}
 
-at_under : (d : ℕ) (a : List ℕ) (s : Site) → is_at d a s ≡ true → s ≡ Under (record { 0 = d }) a
+pub at_under : (d : ℕ) (a : List ℕ) (s : Site) → is_at d a s ≡ true → s ≡ Under (record { 0 = d }) a
 at_under d a Root e = cc
 at_under d a Stray e = cc
 at_under d a (Under e b) is =
@@ -31,7 +28,7 @@ at_under d a (Under e b) is =
     let names : b ≡ a = tied name_total name_same b a both.1 in
     λ i. Under (record { 0 = dirs i }) (names i)
 
-under_at : (d : ℕ) (a : List ℕ) → is_at d a (Under (record { 0 = d }) a) ≡ true
+pub under_at : (d : ℕ) (a : List ℕ) → is_at d a (Under (record { 0 = d }) a) ≡ true
 under_at d a = and_true _ _ (same_test d d refl) (tied_here name_total name_same a)
 
 in_under : (i : ℕ) (s : Site) → is_in i s ≡ true → (a : List ℕ) × (s ≡ Under (record { 0 = i }) a)
@@ -46,14 +43,14 @@ node_of m i s e = go (map.get m i) refl e where
   go None g e = cc
   go (Some x) g e = (x, g, cc)
 
-first_some : (m : InodeMap) (test : Node → Bool) (es : List (ℕ × Node)) (i : ℕ) → AllByRecursion (λ (e : ℕ × Node). map.get m e.0 ≡ Some e.1) es → first_where test es ≡ Some i → (x : Node) × (map.get m i ≡ Some x) × (test x ≡ true)
+pub first_some : (m : InodeMap) (test : Node → Bool) (es : List (ℕ × Node)) (i : ℕ) → AllByRecursion (λ (e : ℕ × Node). map.get m e.0 ≡ Some e.1) es → first_where test es ≡ Some i → (x : Node) × (map.get m i ≡ Some x) × (test x ≡ true)
 first_some m test [] i h e = cc
 first_some m test (f ∷ fs) i h e = elim (test f.1) as (λ b. test f.1 ≡ b → cond b (Some f.0) (first_where test fs) ≡ Some i → (x : Node) × (map.get m i ≡ Some x) × (test x ≡ true)) [
   | true ↦ λ t is. let here : f.0 ≡ i = cc in (f.1, subst (λ k. map.get m k ≡ Some f.1) here h.0, t)
   | false ↦ λ _ is. first_some m test fs i h.1 is
 ] refl e
 
-first_none : (test : Node → Bool) (es : List (ℕ × Node)) → first_where test es ≡ None → list_any (λ (e : ℕ × Node). test e.1) es ≡ false
+pub first_none : (test : Node → Bool) (es : List (ℕ × Node)) → first_where test es ≡ None → list_any (λ (e : ℕ × Node). test e.1) es ≡ false
 first_none test [] e = refl
 first_none test (f ∷ fs) e = elim (test f.1) as (λ b. cond b (Some f.0) (first_where test fs) ≡ None → (b || list_any (λ (e : ℕ × Node). test e.1) fs) ≡ false) [
   | true ↦ λ is. cc
@@ -82,26 +79,26 @@ module _ (m : InodeMap) (index : NameIndex) (x : IsIndexed m index) where
       let below : ℕ × Node → Bool = λ e. is_in i e.1.site && reaches n m e.0 in
       let named : Slot × ℕ → Bool = λ e. (e.0.dir == i) && index_reaches n index e.1 in
       same_bool _ _
-        (λ h.
-          let e = any_some below (map.entries m) (found nat_cmp_total map.nat_cmp-IsAntisymmetric m) h in
-          let parts = both_true _ _ e.2 in
-          let s = in_under i e.0.1.site parts.0 in
-          let u : IsUnder m e.0.0 i s.0 = ap (option_map (λ (n : Node). n.site)) e.1 ∙ ap Some s.1 in
-          any-filter (λ e. index_reaches n index e.1) (λ e. e.0.dir == i) (map.entries index)
-          ∙ any_found slot_total slot_same named index (record { dir = i; name = s.0 }) e.0.0 (x.taken e.0.0 i s.0 u) (and_true _ _ (same_test i i refl) (sym (reaches-index n e.0.0) ∙ parts.1)))
-        (λ h.
-          let e = any_some named (map.entries index) (found slot_total slot_same index) (sym (any-filter (λ e. index_reaches n index e.1) (λ e. e.0.dir == i) (map.entries index)) ∙ h) in
-          let parts = both_true _ _ e.2 in
-          let node = node_of m e.0.1 _ (x.real e.0.1 e.0.0.dir e.0.0.name e.1) in
-          any_found nat_cmp_total map.nat_cmp-IsAntisymmetric below m e.0.1 node.0 node.1 (and_true _ _ (ap (is_in i) node.2 ∙ parts.0) (reaches-index n e.0.1 ∙ parts.1)))
+      (λ h.
+      let e = any_some below (map.entries m) (found nat_cmp_total map.nat_cmp-IsAntisymmetric m) h in
+      let parts = both_true _ _ e.2 in
+      let s = in_under i e.0.1.site parts.0 in
+      let u : IsUnder m e.0.0 i s.0 = ap (option_map (λ (n : Node). n.site)) e.1 ∙ ap Some s.1 in
+      any-filter (λ e. index_reaches n index e.1) (λ e. e.0.dir == i) (map.entries index)
+      ∙ any_found slot_total slot_same named index (record { dir = i; name = s.0 }) e.0.0 (x.taken e.0.0 i s.0 u) (and_true _ _ (same_test i i refl) (sym (reaches-index n e.0.0) ∙ parts.1)))
+      (λ h.
+      let e = any_some named (map.entries index) (found slot_total slot_same index) (sym (any-filter (λ e. index_reaches n index e.1) (λ e. e.0.dir == i) (map.entries index)) ∙ h) in
+      let parts = both_true _ _ e.2 in
+      let node = node_of m e.0.1 _ (x.real e.0.1 e.0.0.dir e.0.0.name e.1) in
+      any_found nat_cmp_total map.nat_cmp-IsAntisymmetric below m e.0.1 node.0 node.1 (and_true _ _ (ap (is_in i) node.2 ∙ parts.0) (reaches-index n e.0.1 ∙ parts.1)))
 
   -- the directories of the index are inodes of the tree
   pub index_inodes : (last : ℕ) → IsTree (record { nodes = m; last = last }) → last < 2 ^ 64 → AreInodes index
   index_inodes last t fits = all_map (map.entries index) (λ e h.
       let u : IsUnder m e.1 e.0.dir e.0.name = x.real e.1 e.0.dir e.0.name h in
       within e.0.dir (t.parents e.1 e.0.dir e.0.name u).1) (found slot_total slot_same index) where
-    within : (d : ℕ) → place m d ≡ Here → d < 2 ^ 64
-    within d here = elim (cases_lt last d) [
-      | inl above ↦ let none : place m d ≡ NoIno = ap (λ o. place_at (option_map (λ (n : Node). n.site) o)) (t.given d above) in cc
-      | inr le ↦ omega arith
-    ]
+        within : (d : ℕ) → place m d ≡ Here → d < 2 ^ 64
+        within d here = elim (cases_lt last d) [
+          | inl above ↦ let none : place m d ≡ NoIno = ap (λ o. place_at (option_map (λ (n : Node). n.site) o)) (t.given d above) in cc
+          | inr le ↦ omega arith
+        ]

@@ -1,6 +1,5 @@
 -- The order of names is total, and only equal names tie.
-use Rattle.std.proofs.Common.{ℕ, List}
-use Rattle.std.specs.Cmp.{IsTotalOrder, nat_cmp_total}
+use Rattle.std.specs.Cmp.{IsTotalOrder}
 use Rattle.std.specs.Cmp.Lexicographic.{nat_list_cmp_total}
 use Rattle.std.specs.FinMap as map
 use Rattle.inotree.specs.Names.{name_cmp}

@@ -1,5 +1,5 @@
 -- What the tests of a call that were passed say of the tree.
-use Rattle.std.proofs.Common.{◌≡◌, ℕ, ◌-◌, Bool, true, false, not, nat_le, nat_lt, ◌<◌, ◌≤◌, ◌||◌, ◌&&◌, ◌==◌, List, [], ◌∷◌, length, Option, Some, None, is_some, ◌⊎◌, inl, inr, refl, sym, ap, subst, ◌∙◌, arith}
+use Rattle.std.proofs.Common.{◌≡◌, ℕ, ◌-◌, Bool, true, false, not, nat_le, nat_lt, ◌<◌, ◌||◌, ◌==◌, List, [], ◌∷◌, length, Option, Some, None, is_some, ◌⊎◌, inl, inr, refl, ap, ◌∙◌, arith}
 use Rattle.std.proofs.lemmas.Bool.Decides.{nat_tests}
 use Rattle.std.specs.FinMap as map
 use Rattle.inotree.specs.declared.fault.TreeFault.{TreeFault}
@@ -125,10 +125,13 @@ long_child m last index t x d a long = child-index m index x d a ∙ go (map.get
   or_here : (p q r s : Bool) → q ≡ true → (((p || q) || r) || s) ≡ true
   or_here true q r s e = refl
   or_here false q r s e = ap (λ b. (b || r) || s) e
+
   test : nat_lt 255 (length a) ≡ true
   test = grind (arith, nat_tests)
+
   bad : is_bad_name a ≡ true
   bad = or_here (is_dots a) _ (has_byte 47 a) (has_byte 0 a) test
+
   go : (o : Option ℕ) → map.get index (record { dir = d; name = a }) ≡ o → o ≡ None
   go None g = refl
   go (Some i) g = let good = t.names i d a (x.real i d a g) in let wrong : is_bad_name a ≡ true = bad in cc

@@ -1,19 +1,15 @@
 -- Each change of the tree keeps what every tree keeps.
-use Rattle.std.proofs.Common.{◌≡◌, ℕ, ◌+◌, ◌-◌, ◌<◌, ◌≤◌, Bool, true, false, List, [], ◌∷◌, ◌++◌, length, Option, Some, None, ◌⊎◌, inl, inr, ⊎_elim, refl, sym, ap, subst, ◌∙◌, arith, length-append}
+use Rattle.std.proofs.Common.{◌≡◌, ℕ, ◌<◌, List, [], ◌∷◌, ◌++◌, Some, None, ◌⊎◌, inl, inr, sym, ap, subst, ◌∙◌}
 use Rattle.std.specs.Cmp.{nat_cmp_total}
 use Rattle.std.specs.FinMap as map
-use Rattle.std.specs.Option.{option_map}
 use Rattle.capbits.specs.declared.ids.Ino.{Ino}
 use Rattle.inotree.specs.declared.index.Slot.{Slot}
-use Rattle.inotree.specs.declared.node.Kind.{Kind}
-use Rattle.inotree.specs.declared.node.Site.{Site}
-use Rattle.inotree.specs.declared.node.Site.TheVariants.{Root, Under, Stray}
-use Rattle.inotree.specs.declared.node.Place.TheVariants.{NoIno, Gone, Here}
-use Rattle.inotree.specs.Names.{is_bad_name}
+use Rattle.inotree.specs.declared.node.Site.TheVariants.{Root}
+use Rattle.inotree.specs.declared.node.Place.TheVariants.{Here}
 use Rattle.inotree.specs.Inodes.{InodeMap}
-use Rattle.inotree.specs.Index.{NameIndex, slot_cmp}
-use Rattle.inotree.specs.Tree.{Nodes, IsTree, IsIndexed, IsUnder, Climbs, site_of, kind_of, place, place_at, is_directory, is_directory_kind}
-use Rattle.inotree.proofs.Maps.{same_or_other, insert-here, insert-other, remove-here, remove-other}
+use Rattle.inotree.specs.Index.{NameIndex}
+use Rattle.inotree.specs.Tree.{IsTree, IsIndexed, IsUnder, Climbs, site_of, kind_of, place, place_at, is_directory_kind}
+use Rattle.inotree.proofs.Maps.{same_or_other, remove-here, remove-other}
 use Rattle.inotree.proofs.Slots.{slot_total, slot_same}
 
 pub same_ino : (i k : ℕ) → (i ≡ k) ⊎ (i ≡ k → ⊥)
@@ -57,14 +53,14 @@ climb_on m i (x ∷ up) k more top a b = (a.0, a.1, climb_on m a.0 up k more top
 
 -- An inode that stood somewhere, with nothing below it, stands nowhere: as a stray, or not at all.
 module _ (m n : InodeMap) (last k : ℕ) (index : NameIndex) (t : IsTree (record { nodes = m; last = last })) (x : IsIndexed m index)
-  (other : (i : ℕ) → (i ≡ k → ⊥) → site_of n i ≡ site_of m i)
-  (kinds : (i : ℕ) → (i ≡ k → ⊥) → kind_of n i ≡ kind_of m i)
-  (fresh : (i : ℕ) → last < i → map.get n i ≡ None)
-  (no_site : (d : ℕ) (a : List ℕ) → IsUnder n k d a → ⊥)
-  (no_root : site_of n k ≡ Some Root → ⊥)
-  (not_here : place n k ≡ Here → ⊥)
-  (was_no_root : site_of m k ≡ Some Root → ⊥)
-  (childless : (i : ℕ) (a : List ℕ) → IsUnder m i k a → ⊥) where
+    (other : (i : ℕ) → (i ≡ k → ⊥) → site_of n i ≡ site_of m i)
+    (kinds : (i : ℕ) → (i ≡ k → ⊥) → kind_of n i ≡ kind_of m i)
+    (fresh : (i : ℕ) → last < i → map.get n i ≡ None)
+    (no_site : (d : ℕ) (a : List ℕ) → IsUnder n k d a → ⊥)
+    (no_root : site_of n k ≡ Some Root → ⊥)
+    (not_here : place n k ≡ Here → ⊥)
+    (was_no_root : site_of m k ≡ Some Root → ⊥)
+    (childless : (i : ℕ) (a : List ℕ) → IsUnder m i k a → ⊥) where
   stays : (i d : ℕ) (a : List ℕ) → IsUnder n i d a → (i ≡ k → ⊥) × IsUnder m i d a
   stays i d a u = elim (same_ino i k) [
     | inl same ↦ absurd (no_site d a (subst (λ y. IsUnder n y d a) same u))
@@ -83,9 +79,9 @@ module _ (m n : InodeMap) (last k : ℕ) (index : NameIndex) (t : IsTree (record
       | inr off ↦ t.one_root i (sym (other i off) ∙ e)
     ];
     parents = λ i d a u.
-      let was = (stays i d a u).1 in
-      let off : d ≡ k → ⊥ = λ same. childless i a (subst (λ y. IsUnder m i y a) same was) in
-      (ap is_directory_kind (kinds d off) ∙ (t.parents i d a was).0, ap place_at (other d off) ∙ (t.parents i d a was).1);
+        let was = (stays i d a u).1 in
+        let off : d ≡ k → ⊥ = λ same. childless i a (subst (λ y. IsUnder m i y a) same was) in
+        (ap is_directory_kind (kinds d off) ∙ (t.parents i d a was).0, ap place_at (other d off) ∙ (t.parents i d a was).1);
     siblings = λ i j d a u v. t.siblings i j d a (stays i d a u).1 (stays j d a v).1;
     names = λ i d a u. t.names i d a (stays i d a u).1;
     reached = λ i h. elim (same_ino i k) [
@@ -106,9 +102,9 @@ module _ (m n : InodeMap) (last k : ℕ) (index : NameIndex) (t : IsTree (record
   pub index-unlinked : (d : ℕ) (a : List ℕ) → IsUnder m k d a → IsIndexed n (map.remove index (slot d a))
   index-unlinked d a was = record {
     taken = λ i e b u.
-      let off = (stays i e b u).0 in
-      let before = (stays i e b u).1 in
-      remove-other slot_total slot_same index (slot d a) (slot e b) (λ same.
+        let off = (stays i e b u).0 in
+        let before = (stays i e b u).1 in
+        remove-other slot_total slot_same index (slot d a) (slot e b) (λ same.
         let mine = x.taken k d a was in
         let his : map.get index (slot d a) ≡ Some i = subst (λ s. map.get index s ≡ Some i) same (x.taken i e b before) in
         let both : i ≡ k = cc in off both) ∙ x.taken i e b before;
@@ -118,8 +114,8 @@ module _ (m n : InodeMap) (last k : ℕ) (index : NameIndex) (t : IsTree (record
       | inr off ↦
           let u = x.real i e b (sym (remove-other slot_total slot_same index (slot d a) (slot e b) off) ∙ g) in
           other i (λ same. let mine : IsUnder m k e b = subst (λ y. IsUnder m y e b) same u in
-            let dirs : e ≡ d = one_dir m k e d b a mine was in
-            let names : b ≡ a = one_name m k e d b a mine was in
-            off (λ i. record { dir = dirs i; name = names i })) ∙ u
+          let dirs : e ≡ d = one_dir m k e d b a mine was in
+          let names : b ≡ a = one_name m k e d b a mine was in
+          off (λ i. record { dir = dirs i; name = names i })) ∙ u
     ];
   }

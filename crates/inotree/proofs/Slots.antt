@@ -1,8 +1,6 @@
 -- The order of places for names is total, only equal places tie, and the places of a directory stand together.
-use Rattle.std.proofs.Common.{◌≡◌, ℕ, ◌+◌, ◌^◌, ◌<◌, Bool, true, false, cond, not, ◌&&◌, nat_le, nat_lt, ◌==◌, List, [], ◌∷◌, ap, refl, sym, ◌∙◌, arith}
+use Rattle.std.proofs.Common.{◌≡◌, ℕ, ◌+◌, ◌^◌, ◌<◌, Bool, true, cond, not, ◌&&◌, nat_le, ◌==◌, List, [], ◌∷◌, ap, refl, ◌∙◌, arith}
 use Rattle.std.proofs.lemmas.Bool.Decides.{nat_tests}
-use Rattle.std.proofs.lemmas.Grind.{common_steps}
-use Rattle.std.specs.declared.ops.Bound.{Bound}
 use Rattle.std.specs.declared.ops.Bound.TheVariants.{Included, Excluded, Unbounded}
 use Rattle.std.specs.BTreeMap.Range.{entries_between}
 use Rattle.std.specs.List.{filter, AllByRecursion}

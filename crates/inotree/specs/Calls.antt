@@ -22,7 +22,7 @@ use Rattle.inotree.specs.declared.fault.TreeFault.{TreeFault}
 use Rattle.inotree.specs.declared.fault.TreeFault.TheVariants.{NoIno, Gone, Root as IsRoot, NotDir, IsDir, NoEnt, NameBad, Exists, NotEmpty, Loop, TooDeep, NoXattr, Limit}
 use Rattle.inotree.specs.Names.{is_bad_name, is_bad_attribute}
 use Rattle.inotree.specs.Maps.{change_at}
-use Rattle.inotree.specs.Inodes.{InodeMap, with_setting, with_site, with_attribute, without_attribute, with_snapshot, without_snapshot}
+use Rattle.inotree.specs.Inodes.{with_site}
 use Rattle.inotree.specs.Tree.{Nodes, site_of, place, is_directory, child, reaches, depth, is_within}
 
 -- a test: the fault, where it fails

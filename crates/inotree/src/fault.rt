@@ -1,6 +1,7 @@
 //! Why a call on the tree was refused. Each refusal prints as its name.
 
 ghost use Rattle.std.specs.Prelude.{◌≡◌};
+
 use std::alloc::AllocFailed;
 use thiserror::Error;
 

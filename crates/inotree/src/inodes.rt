@@ -8,8 +8,8 @@ ghost use Rattle.inotree.specs.Tree.{site_of, slot_at, parent, is_within, names_
 
 use crate::attributes::Value;
 use crate::fault::NoMemory;
-use crate::name::Name;
 use crate::index::Slot;
+use crate::name::Name;
 use crate::names::{MAX_NAMES, Names};
 use crate::node::{Node, Setting, Site};
 use capbits::Ino;

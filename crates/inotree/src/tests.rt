@@ -1,11 +1,32 @@
 //! Worked cases and limits, with values that no clause gives.
+
 use crate::{
-    Kind, MAX_INODES, MAX_NAMES, Place, ROOT, Setting, Site, Tree, TreeFault,
+    Kind, MAX_INODES, MAX_NAMES, Place, ROOT, Setting, Tree, TreeFault, is_bad_attribute,
     is_bad_name,
 };
 use capbits::{Ino, Mode};
 use capgrant::Attr;
 use std::test::Fail;
+
+// What is asked of a tree. A number is that of an inode, and the root is 1.
+#[derive(Clone, Copy, Debug)]
+enum Ask {
+    Mkdir(u64, &'static str),
+    Create(u64, &'static str),
+    Unlink(u64),
+    Rmdir(u64),
+    Rename(u64, u64, &'static str),
+    Set(u64, Setting),
+    SetXattr(u64, &'static str, &'static str),
+    RemoveXattr(u64, &'static str),
+    SnapAdd(u64, &'static str),
+    SnapRemove(u64, &'static str),
+}
+
+use Ask::*;
+
+// The number of a new inode, or 0 where the call makes none.
+type Answer = Result<u64, TreeFault>;
 
 // What a new inode of user 10 gets.
 fn attr() -> Attr {
@@ -19,43 +40,155 @@ fn attr() -> Attr {
     }
 }
 
+fn number(answer: Result<Ino, TreeFault>) -> Answer {
+    match answer {
+        Ok(ino) => Ok(ino.0),
+        Err(fault) => Err(fault),
+    }
+}
+
+fn done(answer: Result<(), TreeFault>) -> Answer {
+    match answer {
+        Ok(()) => Ok(0),
+        Err(fault) => Err(fault),
+    }
+}
+
+fn asked(tree: &mut Tree, ask: Ask) -> Answer {
+    match ask {
+        Mkdir(dir, name) => number(tree.mkdir(Ino(dir), name.as_bytes(), attr())),
+        Create(dir, name) => number(tree.create(Ino(dir), name.as_bytes(), attr())),
+        Unlink(ino) => done(tree.unlink(Ino(ino))),
+        Rmdir(ino) => done(tree.rmdir(Ino(ino))),
+        Rename(ino, dir, name) => done(tree.rename(Ino(ino), Ino(dir), name.as_bytes())),
+        Set(ino, setting) => done(tree.set(Ino(ino), setting)),
+        SetXattr(ino, name, value) => {
+            done(tree.set_xattr(Ino(ino), name.as_bytes(), value.as_bytes()))
+        }
+        RemoveXattr(ino, name) => done(tree.remove_xattr(Ino(ino), name.as_bytes())),
+        SnapAdd(ino, name) => done(tree.snap_add(Ino(ino), name.as_bytes())),
+        SnapRemove(ino, name) => done(tree.snap_remove(Ino(ino), name.as_bytes())),
+    }
+}
+
 #[test]
 fn a_directory_moves_neither_into_itself_nor_over_another(rt: HostRuntime) -> Result<(), Fail> {
     let mut tree = Tree::new(rt.alloc(), attr())?;
-    let (a, b) = (Ino(2), Ino(3));
-    assert_eq!(rt; tree.mkdir(ROOT, b"a", attr()), Ok(a));
-    assert_eq!(rt; tree.mkdir(a, b"b", attr()), Ok(b));
-    assert_eq!(rt; tree.rename_fault(a, b, b"c"), Some(TreeFault::Loop));
-    assert_eq!(rt; tree.rename(a, b, b"c"), Err(TreeFault::Loop));
-    assert_eq!(rt; tree.rename(a, a, b"c"), Err(TreeFault::Loop));
-    assert_eq!(rt; tree.rename(ROOT, a, b"z"), Err(TreeFault::Root));
-    assert_eq!(rt; tree.rename(b, a, b"b"), Err(TreeFault::Exists));
-    assert_eq!(rt; tree.rmdir_fault(a), Some(TreeFault::NotEmpty));
-    assert_eq!(rt; tree.rmdir(a), Err(TreeFault::NotEmpty));
-    assert_eq!(rt; tree.rmdir(ROOT), Err(TreeFault::Root));
-    assert_eq!(rt; tree.unlink(a), Err(TreeFault::IsDir));
-    assert_eq!(rt; tree.rename(b, ROOT, b"b"), Ok(()));
-    assert_eq!(rt; tree.child(a, b"b"), None);
-    assert_eq!(rt; tree.child(ROOT, b"b"), Some(b));
-    assert_eq!(rt; tree.parent(b), Some(ROOT));
-    assert_eq!(rt; tree.rename(a, b, b"c"), Ok(()));
-    assert_eq!(rt; tree.resolve(&[b"b".as_slice(), b"c".as_slice()]), Some(a));
-    assert_eq!(rt; tree.rmdir_fault(a), None);
-    assert_eq!(rt; tree.rmdir(a), Ok(()));
-    assert_eq!(rt; tree.place(a), Place::Gone);
-    assert_eq!(rt; tree.rename(b, a, b"d"), Err(TreeFault::Gone));
+    for (ask, want) in [
+        (Mkdir(1, "a"), Ok(2)),
+        (Mkdir(2, "b"), Ok(3)),
+        (Rename(2, 3, "c"), Err(TreeFault::Loop)),
+        (Rename(2, 2, "c"), Err(TreeFault::Loop)),
+        (Rename(1, 2, "z"), Err(TreeFault::Root)),
+        (Rename(3, 2, "b"), Err(TreeFault::Exists)),
+        (Rmdir(2), Err(TreeFault::NotEmpty)),
+        (Rmdir(1), Err(TreeFault::Root)),
+        (Unlink(2), Err(TreeFault::IsDir)),
+        (Rename(3, 1, "b"), Ok(0)),
+        (Mkdir(1, "b"), Err(TreeFault::Exists)),
+        (Rename(2, 3, "c"), Ok(0)),
+        (Mkdir(1, "a"), Ok(4)),
+        (Rmdir(2), Ok(0)),
+        (Rename(3, 2, "d"), Err(TreeFault::Gone)),
+        (Rename(9, 1, "d"), Err(TreeFault::NoIno)),
+    ] {
+        assert_eq!(rt; asked(&mut tree, ask), want, "at {ask:?}");
+    }
     Ok(())
+}
+
+#[test]
+fn an_unlinked_file_is_a_stray_until_it_is_forgotten(rt: HostRuntime) -> Result<(), Fail> {
+    let mut tree = Tree::new(rt.alloc(), attr())?;
+    for (ask, want) in [
+        (Create(1, "f"), Ok(2)),
+        (Create(1, "f"), Err(TreeFault::Exists)),
+        (Mkdir(2, "g"), Err(TreeFault::NotDir)),
+        (Rmdir(2), Err(TreeFault::NotDir)),
+        (Unlink(2), Ok(0)),
+        (Unlink(2), Err(TreeFault::Gone)),
+        (Set(2, Setting::Uid(5)), Err(TreeFault::Gone)),
+    ] {
+        assert_eq!(rt; asked(&mut tree, ask), want, "at {ask:?}");
+    }
+    assert_eq!(rt; tree.place(Ino(2)), Place::Gone);
+    assert!(rt; tree.path_of(Ino(2)).is_none());
+    assert_eq!(rt; tree.child(ROOT, b"f"), None);
+    tree.forget(Ino(2));
+    assert_eq!(rt; tree.place(Ino(2)), Place::NoIno);
+    assert_eq!(rt; asked(&mut tree, Create(1, "f")), Ok(3));
+    assert_eq!(rt; tree.place(Ino(3)), Place::Here);
+    Ok(())
+}
+
+#[test]
+fn a_directory_with_a_snapshot_is_not_empty(rt: HostRuntime) -> Result<(), Fail> {
+    let mut tree = Tree::new(rt.alloc(), attr())?;
+    for (ask, want) in [
+        (Mkdir(1, "d"), Ok(2)),
+        (Create(1, "f"), Ok(3)),
+        (SnapAdd(2, "s1"), Ok(0)),
+        (SnapAdd(2, "s1"), Err(TreeFault::Exists)),
+        (SnapAdd(2, ".."), Err(TreeFault::NameBad)),
+        (SnapAdd(3, "s1"), Err(TreeFault::NotDir)),
+        (Rmdir(2), Err(TreeFault::NotEmpty)),
+        (SnapRemove(2, "s2"), Err(TreeFault::NoEnt)),
+        (SnapRemove(2, "s1"), Ok(0)),
+        (Rmdir(2), Ok(0)),
+    ] {
+        assert_eq!(rt; asked(&mut tree, ask), want, "at {ask:?}");
+    }
+    assert_eq!(rt; tree.child(ROOT, b"e"), None);
+    Ok(())
+}
+
+#[test]
+fn fields_and_attributes_are_set_one_by_one(rt: HostRuntime) -> Result<(), Fail> {
+    let mut tree = Tree::new(rt.alloc(), attr())?;
+    for (ask, want) in [
+        (Create(1, "f"), Ok(2)),
+        (Set(2, Setting::Uid(1)), Ok(0)),
+        (Set(2, Setting::Gid(2)), Ok(0)),
+        (Set(2, Setting::Size(3)), Ok(0)),
+        (Set(2, Setting::Time(4)), Ok(0)),
+        (Set(1, Setting::Size(3)), Err(TreeFault::IsDir)),
+        (Set(1, Setting::Time(3)), Ok(0)),
+        (SetXattr(2, "user.b", "10"), Ok(0)),
+        (SetXattr(2, "user.a", "1"), Ok(0)),
+        (SetXattr(2, "user.a", "2"), Ok(0)),
+        (SetXattr(2, "", "2"), Err(TreeFault::NameBad)),
+        (RemoveXattr(2, "user.c"), Err(TreeFault::NoXattr)),
+        (RemoveXattr(2, "user.b"), Ok(0)),
+    ] {
+        assert_eq!(rt; asked(&mut tree, ask), want, "at {ask:?}");
+    }
+    let node = tree.node(Ino(2)).expect(&rt, "it is there");
+    assert_eq!(rt;
+        (node.attr.uid, node.attr.gid, node.attr.mode),
+        (1, 2, attr().mode)
+    );
+    assert_eq!(rt; (node.kind, node.size, node.time), (Kind::File, 3, 4));
+    let (name, value) = node.attributes.iter().next().expect(&rt, "there is one");
+    assert_eq!(rt; name.as_bytes(), b"user.a".as_slice());
+    assert_eq!(rt; value.as_bytes(), b"2".as_slice());
+    assert_eq!(rt; node.attributes.len(), 1);
+    Ok(())
+}
+
+// A chain of as many directories as a path may have names: the last two.
+fn deep(tree: &mut Tree) -> Result<(Ino, Ino), TreeFault> {
+    let (mut above, mut deepest) = (ROOT, ROOT);
+    for _ in 0..MAX_NAMES {
+        above = deepest;
+        deepest = tree.mkdir(above, b"d", attr())?;
+    }
+    Ok((above, deepest))
 }
 
 #[test]
 fn no_path_has_more_than_thirty_two_names(rt: HostRuntime) -> Result<(), Fail> {
     let mut tree = Tree::new(rt.alloc(), attr())?;
-    let mut deepest = ROOT;
-    let mut above = ROOT;
-    for _ in 0..MAX_NAMES {
-        above = deepest;
-        deepest = tree.mkdir(above, b"d", attr())?;
-    }
+    let (above, deepest) = deep(&mut tree)?;
     let path = tree.path_of(deepest).expect(&rt, "it is there");
     assert_eq!(rt; path.len(), 32);
     assert_eq!(rt; tree.resolve(path.as_slice()), Some(deepest));
@@ -63,110 +196,51 @@ fn no_path_has_more_than_thirty_two_names(rt: HostRuntime) -> Result<(), Fail> {
     let file = tree.create(ROOT, b"f", attr())?;
     assert_eq!(rt; tree.rename(file, deepest, b"f"), Err(TreeFault::TooDeep));
     assert_eq!(rt; tree.rename(file, above, b"f"), Ok(()));
-    // What lies below counts too: a directory with one inode in it needs two names.
+    Ok(())
+}
+
+#[test]
+fn what_lies_below_counts_too(rt: HostRuntime) -> Result<(), Fail> {
+    let mut tree = Tree::new(rt.alloc(), attr())?;
+    let (above, _deepest) = deep(&mut tree)?;
     let pair = tree.mkdir(ROOT, b"pair", attr())?;
     let inner = tree.create(pair, b"inner", attr())?;
-    assert_eq!(rt; tree.rename_fault(pair, above, b"p"), Some(TreeFault::TooDeep));
+    assert_eq!(rt;
+        tree.rename_fault(pair, above, b"p"),
+        Some(TreeFault::TooDeep)
+    );
     assert_eq!(rt; tree.rename(pair, above, b"p"), Err(TreeFault::TooDeep));
+    assert_eq!(rt; tree.rmdir_fault(pair), Some(TreeFault::NotEmpty));
     assert_eq!(rt; tree.unlink(inner), Ok(()));
+    assert_eq!(rt; tree.rmdir_fault(pair), None);
+    assert_eq!(rt; tree.rename_fault(pair, above, b"p"), None);
     assert_eq!(rt; tree.rename(pair, above, b"p"), Ok(()));
+    assert_eq!(rt; tree.parent(pair), Some(above));
     Ok(())
 }
 
 #[test]
-fn an_unlinked_file_is_a_stray_until_it_is_forgotten(rt: HostRuntime) -> Result<(), Fail> {
+fn an_inode_has_sixty_four_attributes_and_snapshots(rt: HostRuntime) -> Result<(), Fail> {
     let mut tree = Tree::new(rt.alloc(), attr())?;
-    let file = tree.create(ROOT, b"f", attr())?;
-    assert_eq!(rt; file, Ino(2));
-    assert_eq!(rt; tree.place(file), Place::Here);
-    assert_eq!(rt; tree.create(ROOT, b"f", attr()), Err(TreeFault::Exists));
-    assert_eq!(rt; tree.mkdir(file, b"g", attr()), Err(TreeFault::NotDir));
-    assert_eq!(rt; tree.rmdir(file), Err(TreeFault::NotDir));
-    assert_eq!(rt; tree.unlink(file), Ok(()));
-    assert_eq!(rt; tree.place(file), Place::Gone);
-    assert!(rt; tree.path_of(file).is_none());
-    assert_eq!(rt; tree.child(ROOT, b"f"), None);
-    assert_eq!(rt; tree.set(file, Setting::Uid(5)), Err(TreeFault::Gone));
-    tree.forget(file);
-    assert_eq!(rt; tree.place(file), Place::NoIno);
-    assert_eq!(rt; tree.unlink(file), Err(TreeFault::NoIno));
-    assert_eq!(rt; tree.create(ROOT, b"f", attr()), Ok(Ino(3)));
-    Ok(())
-}
-
-#[test]
-fn a_directory_with_a_snapshot_is_not_empty(rt: HostRuntime) -> Result<(), Fail> {
-    let mut tree = Tree::new(rt.alloc(), attr())?;
-    let dir = tree.mkdir(ROOT, b"d", attr())?;
-    let file = tree.create(ROOT, b"f", attr())?;
-    assert_eq!(rt; tree.snap_add(dir, b"s1"), Ok(()));
-    assert_eq!(rt; tree.snap_add(dir, b"s1"), Err(TreeFault::Exists));
-    assert_eq!(rt; tree.snap_add(dir, b".."), Err(TreeFault::NameBad));
-    assert_eq!(rt; tree.snap_add(file, b"s1"), Err(TreeFault::NotDir));
-    assert_eq!(rt; tree.rmdir(dir), Err(TreeFault::NotEmpty));
-    assert_eq!(rt; tree.snap_remove(dir, b"s2"), Err(TreeFault::NoEnt));
-    assert_eq!(rt; tree.snap_remove(dir, b"s1"), Ok(()));
-    assert_eq!(rt; tree.rmdir(dir), Ok(()));
-    assert_eq!(rt; tree.child(ROOT, b"e"), None);
     for n in 0..64 {
-        let name = format!(in rt.alloc(); "s{n}")?;
+        let name = format!(in rt.alloc(); "n{n}")?;
+        assert_eq!(rt;
+            tree.set_xattr(ROOT, name.as_bytes(), b""),
+            Ok(()),
+            "at {n}"
+        );
         assert_eq!(rt; tree.snap_add(ROOT, name.as_bytes()), Ok(()), "at {n}");
     }
-    assert_eq!(rt; tree.snap_add(ROOT, b"s64"), Err(TreeFault::Limit));
+    assert_eq!(rt; tree.set_xattr(ROOT, b"n64", b""), Err(TreeFault::Limit));
+    assert_eq!(rt;
+        tree.set_xattr(ROOT, b"n63", &[0; 4097]),
+        Err(TreeFault::Limit)
+    );
+    assert_eq!(rt; tree.set_xattr(ROOT, b"n63", &[0; 4096]), Ok(()));
+    assert_eq!(rt; tree.snap_add(ROOT, b"n64"), Err(TreeFault::Limit));
     let root = tree.node(ROOT).expect(&rt, "it is there");
     let first = root.snapshots.iter().next().expect(&rt, "there are some");
-    assert_eq!(rt; first.as_bytes(), b"s0".as_slice());
-    Ok(())
-}
-
-#[test]
-fn attributes_are_kept_by_name(rt: HostRuntime) -> Result<(), Fail> {
-    let mut tree = Tree::new(rt.alloc(), attr())?;
-    let file = tree.create(ROOT, b"f", attr())?;
-    assert_eq!(rt; tree.set_xattr(file, b"user.b", b"10"), Ok(()));
-    assert_eq!(rt; tree.set_xattr(file, b"user.a", b"1"), Ok(()));
-    assert_eq!(rt; tree.set_xattr(file, b"user.a", b"2"), Ok(()));
-    assert_eq!(rt; tree.set_xattr(file, b"", b"2"), Err(TreeFault::NameBad));
-    assert_eq!(rt; tree.set_xattr(file, &[b'n'; 256], b"2"), Err(TreeFault::NameBad));
-    assert_eq!(rt; tree.set_xattr(file, b"user.c", &[0; 4097]), Err(TreeFault::Limit));
-    assert_eq!(rt; tree.set_xattr(file, b"user.c", &[0; 4096]), Ok(()));
-    assert_eq!(rt; tree.remove_xattr(file, b"user.d"), Err(TreeFault::NoXattr));
-    assert_eq!(rt; tree.remove_xattr(file, b"user.c"), Ok(()));
-    let node = tree.node(file).expect(&rt, "it is there");
-    let (name, value) = node.attributes.iter().next().expect(&rt, "there are some");
-    assert_eq!(rt; name.as_bytes(), b"user.a".as_slice());
-    assert_eq!(rt; value.as_bytes(), b"2".as_slice());
-    assert_eq!(rt; node.attributes.len(), 2);
-    for n in 0..62 {
-        let name = format!(in rt.alloc(); "more.{n}")?;
-        assert_eq!(rt; tree.set_xattr(file, name.as_bytes(), b""), Ok(()), "at {n}");
-    }
-    assert_eq!(rt; tree.set_xattr(file, b"more.62", b""), Err(TreeFault::Limit));
-    assert_eq!(rt; tree.set_xattr(file, b"more.61", b"x"), Ok(()));
-    Ok(())
-}
-
-#[test]
-fn fields_are_set_one_by_one(rt: HostRuntime) -> Result<(), Fail> {
-    let mut tree = Tree::new(rt.alloc(), attr())?;
-    let file = tree.create(ROOT, b"f", attr())?;
-    let mode = Mode::new(0o640).expect(&rt, "it is small");
-    for setting in [
-        Setting::Mode(mode),
-        Setting::Uid(1),
-        Setting::Gid(2),
-        Setting::Size(3),
-        Setting::Time(4),
-    ] {
-        assert_eq!(rt; tree.set(file, setting), Ok(()));
-    }
-    let node = tree.node(file).expect(&rt, "it is there");
-    assert_eq!(rt; (node.attr.mode, node.attr.uid, node.attr.gid), (mode, 1, 2));
-    assert_eq!(rt; (node.kind, node.size, node.time), (Kind::File, 3, 4));
-    assert!(rt; matches!(&node.site, Site::Under { dir: ROOT, .. }));
-    assert_eq!(rt; tree.set(ROOT, Setting::Size(3)), Err(TreeFault::IsDir));
-    assert_eq!(rt; tree.set(ROOT, Setting::Time(3)), Ok(()));
-    assert_eq!(rt; tree.set(Ino(9), Setting::Time(3)), Err(TreeFault::NoIno));
+    assert_eq!(rt; first.as_bytes(), b"n0".as_slice());
     Ok(())
 }
 
@@ -177,14 +251,18 @@ fn names_have_up_to_255_bytes(rt: HostRuntime) -> Result<(), Fail> {
     assert_eq!(rt; tree.create(ROOT, &long, attr()), Ok(Ino(2)));
     assert_eq!(rt; tree.child(ROOT, &long), Some(Ino(2)));
     assert_eq!(rt; tree.child(ROOT, &[b'n'; 256]), None);
-    assert_eq!(rt; tree.create(ROOT, &[b'n'; 256], attr()), Err(TreeFault::NameBad));
+    assert_eq!(rt;
+        tree.create(ROOT, &[b'n'; 256], attr()),
+        Err(TreeFault::NameBad)
+    );
     assert_eq!(rt; tree.rename(Ino(2), ROOT, b"a/b"), Err(TreeFault::NameBad));
-    for bad in [b"".as_slice(), b".", b"..", b"a/b", b"a\0b"] {
-        assert!(rt; is_bad_name(bad));
+    for bad in ["", ".", "..", "a/b", "a\0b"] {
+        assert!(rt; is_bad_name(bad.as_bytes()), "at {bad}");
     }
-    for good in [b"...".as_slice(), b"a", b".a", b"\xff"] {
-        assert!(rt; !is_bad_name(good));
+    for good in ["...", "a", ".a"] {
+        assert!(rt; !is_bad_name(good.as_bytes()), "at {good}");
     }
+    assert!(rt; !is_bad_attribute(b"a/b") && is_bad_attribute(b"a\0b"));
     Ok(())
 }
 
@@ -201,5 +279,31 @@ fn one_directory_holds_all_inodes(rt: HostRuntime) -> Result<(), Fail> {
     assert_eq!(rt; tree.create(ROOT, b"more", attr()), Err(TreeFault::Limit));
     tree.forget(Ino(65536));
     assert_eq!(rt; tree.create(ROOT, b"more", attr()), Ok(Ino(65537)));
+    Ok(())
+}
+
+#[test]
+fn a_copy_equals_its_source_and_goes_its_own_way(rt: HostRuntime) -> Result<(), Fail> {
+    let mut tree = Tree::new(rt.alloc(), attr())?;
+    for ask in [
+        Mkdir(1, "d"),
+        Create(2, "f"),
+        SetXattr(3, "user.a", "1"),
+        SnapAdd(2, "s"),
+    ] {
+        assert!(rt; asked(&mut tree, ask).is_ok(), "at {ask:?}");
+    }
+    let mut copy = tree.copy()?;
+    assert_eq!(rt; asked(&mut tree, Unlink(3)), Ok(0));
+    assert_eq!(rt;
+        copy.resolve(&[b"d".as_slice(), b"f".as_slice()]),
+        Some(Ino(3))
+    );
+    let node = copy.node(Ino(3)).expect(&rt, "it is there");
+    let (name, value) = node.attributes.iter().next().expect(&rt, "there is one");
+    assert_eq!(rt; name.as_bytes(), b"user.a".as_slice());
+    assert_eq!(rt; value.as_bytes(), b"1".as_slice());
+    assert_eq!(rt; asked(&mut copy, SnapAdd(2, "s")), Err(TreeFault::Exists));
+    assert_eq!(rt; asked(&mut copy, Create(1, "f")), Ok(4));
     Ok(())
 }

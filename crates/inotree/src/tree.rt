@@ -1,5 +1,5 @@
 //! The tree of inodes.
-ghost use Rattle.std.specs.Prelude.{◌≡◌, ◌+◌, ◌≤◌, IfOk, IfErr, OnOk, OnErr, unwrap_or, map as each};
+ghost use Rattle.std.specs.Prelude.{◌≡◌, ◌+◌, ◌≤◌, IfOk, IfErr, IfSome, OnOk, OnErr, unwrap_or, map as each};
 ghost use Rattle.std.specs.Option.{option_copied, option_map};
 ghost use Rattle.std.specs.Result.{result_err};
 ghost use Rattle.std.specs.FinMap as map;
@@ -136,7 +136,9 @@ impl Tree {
 
     /// The names from the root to an inode; none for a stray, and where there is no inode.
     pub fn path_of(&self, ino: Ino) -> Option<Names<'_>>
-        ensures { result ≡ path_of self.now.nodes ino.0 }
+        ensures path { result ≡ path_of self.now.nodes ino.0 }
+        // They lead back to the inode.
+        ensures leads { IfSome result (λ names. follow self.now.nodes (Some 1) names ≡ Some ino.0) }
     {
         match self.place(ino) {
             Place::NoIno | Place::Gone => None,

@@ -1,9 +1,9 @@
-use Rattle.std.proofs.Common.{◌≡◌, ◌∷◌, ◌++◌, map as each, subst, sym, ap, ◌∙◌}
+use Rattle.std.proofs.Common.{◌++◌, map as each, sym, ap, ◌∙◌}
 use Rattle.std.specs.FinMap as map
 use Rattle.std.specs.Map.Iter.{deref_pair}
 use Rattle.std.proofs.lemmas.Map.Iter.{rest_so_far, rest_more, iter_end}
 use Rattle.inotree.proofs.Order.{name_total, name_same}
-use Rattle.inotree.proofs.Copies.{IsCopied, copied_none, copied_turn, copied_end}
+use Rattle.inotree.proofs.Copies.{copied_none, copied_turn, copied_end}
 use Rattle.inotree.proofs.attributes.Attributes.copy.Goals as goal
 
 pub loop-name-init : goal.loop-name-init
@@ -14,7 +14,7 @@ loop-name-preserved c =
     let start = c.into_iter-name-iterator.ensures.into_iter_gives ∙ c.iter-name-items.ensures in
     let split = sym start ∙ rest_so_far deref_pair c.loop-name.yielded _ _ c.loop-name.yielded_by ∙ ap (λ rest. each deref_pair c.loop-name.yielded ++ rest) (rest_more deref_pair _ _ _ _ c.in-Some.is c.next.ensures.steps) in
     copied_turn name_total name_same deref_pair c.args.self.now c.loop-name.made c.insert.new.self c.loop-name.yielded (c.in-Some.name, c.in-Some.value) c.next.new.self split
-      (c.in_ok-insert.ensures.ok ∙ ap (λ k. map.insert c.loop-name.made k c.in_ok-value.value) c.copy.ensures ∙ ap (map.insert c.loop-name.made c.in-Some.name.now) (c.in_ok-value.ensures ∙ c.as_bytes.ensures)) c.loop-name.invariant
+    (c.in_ok-insert.ensures.ok ∙ ap (λ k. map.insert c.loop-name.made k c.in_ok-value.value) c.copy.ensures ∙ ap (map.insert c.loop-name.made c.in-Some.name.now) (c.in_ok-value.ensures ∙ c.as_bytes.ensures)) c.loop-name.invariant
 
 pub returns : goal.returns
 returns c =

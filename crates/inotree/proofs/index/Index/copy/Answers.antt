@@ -1,9 +1,9 @@
-use Rattle.std.proofs.Common.{◌≡◌, ◌∷◌, ◌++◌, map as each, subst, sym, ap, ◌∙◌}
+use Rattle.std.proofs.Common.{◌++◌, map as each, sym, ap, ◌∙◌}
 use Rattle.std.specs.FinMap as map
 use Rattle.std.specs.Map.Iter.{deref_pair}
 use Rattle.std.proofs.lemmas.Map.Iter.{rest_so_far, rest_more, iter_end}
 use Rattle.inotree.proofs.Slots.{slot_total, slot_same}
-use Rattle.inotree.proofs.Copies.{IsCopied, copied_none, copied_turn, copied_end}
+use Rattle.inotree.proofs.Copies.{copied_none, copied_turn, copied_end}
 use Rattle.inotree.proofs.index.Index.copy.Goals as goal
 
 pub loop-slot-init : goal.loop-slot-init
@@ -14,7 +14,7 @@ loop-slot-preserved c =
     let start = c.into_iter-slot-iterator.ensures.into_iter_gives ∙ c.iter-slot-items.ensures in
     let split = sym start ∙ rest_so_far deref_pair c.loop-slot.yielded _ _ c.loop-slot.yielded_by ∙ ap (λ rest. each deref_pair c.loop-slot.yielded ++ rest) (rest_more deref_pair _ _ _ _ c.in-Some.is c.next.ensures.steps) in
     copied_turn slot_total slot_same deref_pair c.args.self.now c.loop-slot.made c.insert.new.self c.loop-slot.yielded (c.in-Some.slot, c.in-Some.ino) c.next.new.self split
-      (c.in_ok-insert.ensures.ok ∙ ap (λ k. map.insert c.loop-slot.made k c.in-Some.ino.now) c.copy.ensures) c.loop-slot.invariant
+    (c.in_ok-insert.ensures.ok ∙ ap (λ k. map.insert c.loop-slot.made k c.in-Some.ino.now) c.copy.ensures) c.loop-slot.invariant
 
 pub returns : goal.returns
 returns c =

@@ -1,8 +1,7 @@
-use Rattle.std.proofs.Common.{◌≡◌, ℕ, ◌<◌, ◌^◌, ◌==◌, List, Option, Some, sym, ap, subst, ◌∙◌, arith}
+use Rattle.std.proofs.Common.{◌≡◌, ℕ, ◌<◌, ◌^◌, ◌==◌, sym, ap, subst, ◌∙◌}
 use Rattle.std.specs.List.{filter, AllByRecursion}
 use Rattle.std.specs.FinMap as map
 use Rattle.inotree.specs.declared.index.Slot.{Slot}
-use Rattle.inotree.specs.Index.{names_in, slot_cmp}
 use Rattle.inotree.proofs.Entries.{entries-entries}
 use Rattle.inotree.proofs.Slots.{slot_total, slot_same, up_to_next, up_to_end}
 use Rattle.inotree.proofs.index.Index.names_in.Goals as goal
@@ -11,7 +10,7 @@ use Rattle.inotree.proofs.index.Index.names_in.Goals.{in-Some, in-None}
 pub returns : goal.returns
 returns c =
     let same : map.entries c.args.self.now ≡ c.self.inside.inodes.entries =
-      ap map.entries (sym c.self.view_is) ∙ entries-entries slot_total slot_same c.self.inside.inodes.entries c.range.ensures.ordered in
+    ap map.entries (sym c.self.view_is) ∙ entries-entries slot_total slot_same c.self.inside.inodes.entries c.range.ensures.ordered in
     let fits = subst (AllByRecursion (λ (e : Slot × ℕ). e.0.dir < 2 ^ 64)) same c.requires in
     elim c.match-checked_add.branch [
       | in-Some w ↦ rw (w.end-is, w.empty-in-Some.ensures, c.empty.ensures) at (c.range.ensures.between tt) ∙ up_to_next c.args.dir w.in-Some.next c.self.inside.inodes.entries w.in-Some.ensures.1 ∙ ap (filter (λ (e : Slot × ℕ). e.0.dir == c.args.dir)) (sym same)

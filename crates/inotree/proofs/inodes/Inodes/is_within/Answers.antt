@@ -1,7 +1,7 @@
-use Rattle.std.proofs.Common.{◌≡◌, ℕ, ◌+◌, ◌-◌, Bool, true, false, Option, Some, None, refl, sym, ap, ◌∙◌, arith}
+use Rattle.std.proofs.Common.{◌≡◌, ◌+◌, ◌-◌, Some, None, sym, ap, ◌∙◌, arith}
 use Rattle.std.specs.Option.{option_map}
 use Rattle.capbits.specs.declared.ids.Ino.{Ino}
-use Rattle.inotree.specs.Tree.{is_within, lies_below, upward, site_of, parent}
+use Rattle.inotree.specs.Tree.{lies_below, site_of, parent}
 use Rattle.inotree.proofs.Walks.{is_within-is, lies_below-none, lies_below-step, no_dir, to_dir, or_same, or_first, same_test, other_test}
 use Rattle.inotree.proofs.inodes.Inodes.is_within.Goals as goal
 

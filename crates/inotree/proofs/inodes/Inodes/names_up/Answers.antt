@@ -1,7 +1,6 @@
-use Rattle.std.proofs.Common.{◌≡◌, ℕ, ◌+◌, ◌-◌, List, [], ◌∷◌, ◌++◌, length, Option, Some, None, refl, sym, ap, ◌∙◌, arith, append_assoc, length-append}
-use Rattle.std.specs.Option.{option_copied, option_map}
+use Rattle.std.proofs.Common.{◌≡◌, ℕ, ◌+◌, ◌-◌, List, [], ◌∷◌, ◌++◌, length, Some, None, sym, ap, ◌∙◌, arith, append_assoc, length-append}
+use Rattle.std.specs.Option.{option_map}
 use Rattle.inotree.specs.declared.node.Node.{Node}
-use Rattle.inotree.specs.declared.node.Site.{Site}
 use Rattle.inotree.specs.declared.node.Site.TheVariants.{Under}
 use Rattle.std.proofs.lemmas.List.{append-nil}
 use Rattle.inotree.specs.Tree.{site_of, dir_at, upward, names_up}
@@ -18,8 +17,8 @@ loop-preserved c =
     let rest : List (List ℕ) = names_up (32 - (c.loop.counter + 1)) c.args.self.now c.in-Under.dir.0 in
     let less : n - 1 ≡ 32 - (c.loop.counter + 1) = omega arith in
     let step : names_up n c.args.self.now at ≡ name ∷ rest =
-      names_up-step n c.args.self.now at (omega arith) ∙ ap (λ s. upward s [] (λ dir name. name ∷ names_up (n - 1) c.args.self.now dir)) site
-      ∙ ap (λ k. name ∷ names_up k c.args.self.now c.in-Under.dir.0) less in
+    names_up-step n c.args.self.now at (omega arith) ∙ ap (λ s. upward s [] (λ dir name. name ∷ names_up (n - 1) c.args.self.now dir)) site
+    ∙ ap (λ k. name ∷ names_up k c.args.self.now c.in-Under.dir.0) less in
     let pushed : c.push.new.self ≡ names ++ name ∷ [] = c.push.ensures ∙ ap (λ x. names ++ x ∷ []) c.as_bytes.ensures in
     (c.loop.invariant.0 ∙ ap (λ r. names ++ r) step ∙ sym (append_assoc names (name ∷ []) rest) ∙ ap (λ f. f ++ rest) (sym pushed), omega (arith, ap length pushed, length-append names (name ∷ [])))
 

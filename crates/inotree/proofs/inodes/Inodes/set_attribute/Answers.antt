@@ -19,15 +19,15 @@ returns-clause-ok c =
           let was : Node = w.in-Some.node.now in
           let written : Node = record was { attributes = w.insert.new.self } in
           subst (λ r. OnOk r _) (sym w.result-is) (on_ok _ w.insert.ensures.ok (λ done.
-            ap (λ i. map.from_entries i.nodes.entries) w.self-inside-is
-            ∙ change-entries nat_cmp_total map.nat_cmp-IsAntisymmetric f c.self.inside.nodes.entries _ ino was written (ap (λ m. record was { attributes = m }) done) (sym here) ((c.get_mut.follows.holds written).3 (subst IsSome here refl)).0
-            ∙ ap (λ (m : InodeMap). change_at f m ino) c.self.view_is))
+          ap (λ i. map.from_entries i.nodes.entries) w.self-inside-is
+          ∙ change-entries nat_cmp_total map.nat_cmp-IsAntisymmetric f c.self.inside.nodes.entries _ ino was written (ap (λ m. record was { attributes = m }) done) (sym here) ((c.get_mut.follows.holds written).3 (subst IsSome here refl)).0
+          ∙ ap (λ (m : InodeMap). change_at f m ino) c.self.view_is))
       | in-None w ↦
           ok_of _ (
-            ap (λ i. map.from_entries i.nodes.entries) w.self-inside-is
-            ∙ ap (λ m. map.from_entries m.entries) c.get_mut.follows.holds-at-none
-            ∙ change-no_entry nat_cmp_total map.nat_cmp-IsAntisymmetric f c.self.inside.nodes.entries ino (sym w.in-None.ensures.value)
-            ∙ ap (λ (m : InodeMap). change_at f m ino) c.self.view_is)
+          ap (λ i. map.from_entries i.nodes.entries) w.self-inside-is
+          ∙ ap (λ m. map.from_entries m.entries) c.get_mut.follows.holds-at-none
+          ∙ change-no_entry nat_cmp_total map.nat_cmp-IsAntisymmetric f c.self.inside.nodes.entries ino (sym w.in-None.ensures.value)
+          ∙ ap (λ (m : InodeMap). change_at f m ino) c.self.view_is)
     ]
 
 pub returns-clause-err : goal.returns-clause-err
@@ -38,8 +38,8 @@ returns-clause-err c =
           let was : Node = w.in-Some.node.now in
           let written : Node = record was { attributes = w.insert.new.self } in
           subst (λ r. OnErr r _) (sym w.result-is) (on_err _ w.insert.ensures.err (λ same.
-            ap (λ i. map.from_entries i.nodes.entries) w.self-inside-is
-            ∙ same-entries nat_cmp_total map.nat_cmp-IsAntisymmetric c.self.inside.nodes.entries _ c.args.ino was written (ap (λ m. record was { attributes = m }) same) (sym here) ((c.get_mut.follows.holds written).3 (subst IsSome here refl)).0
-            ∙ c.self.view_is))
+          ap (λ i. map.from_entries i.nodes.entries) w.self-inside-is
+          ∙ same-entries nat_cmp_total map.nat_cmp-IsAntisymmetric c.self.inside.nodes.entries _ c.args.ino was written (ap (λ m. record was { attributes = m }) same) (sym here) ((c.get_mut.follows.holds written).3 (subst IsSome here refl)).0
+          ∙ c.self.view_is))
       | in-None w ↦ err_of _ (ap (λ i. map.from_entries i.nodes.entries) w.self-inside-is ∙ ap (λ m. map.from_entries m.entries) c.get_mut.follows.holds-at-none ∙ c.self.view_is)
     ]

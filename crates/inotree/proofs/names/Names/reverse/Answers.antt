@@ -1,5 +1,4 @@
-use Rattle.std.proofs.Common.{◌≡◌, ℕ, List, [], length, map, reverse, refl, sym, ap, ◌∙◌, arith, Bor}
-use Rattle.std.specs.List.{refill}
+use Rattle.std.proofs.Common.{ℕ, List, length, map, reverse, ap, ◌∙◌, Bor}
 use Rattle.inotree.proofs.Turning.{refill_all, map-reverse}
 use Rattle.inotree.proofs.names.Names.reverse.Goals as goal
 

@@ -1,4 +1,4 @@
-use Rattle.std.proofs.Common.{◌≡◌, ℕ, ◌+◌, List, None, refl, sym, ap, subst, ◌∙◌, arith}
+use Rattle.std.proofs.Common.{◌≡◌, ℕ, ◌+◌, List, None, sym, ap, subst, ◌∙◌, arith}
 use Rattle.std.specs.FinMap as map
 use Rattle.std.specs.Cmp.{nat_cmp_total}
 use Rattle.inotree.specs.declared.node.Node.{Node}
@@ -18,7 +18,7 @@ pub overflow_add-ino : goal.overflow_add-ino
 overflow_add-ino c =
     let before : Nodes = record { nodes = c.self.inside.inodes; last = c.self.inside.last } in
     let no_fault : create_fault before c.args.dir.0 c.args.name.now ≡ None =
-      subst (λ (t : Nodes). create_fault t c.args.dir.0 c.args.name.now ≡ None) (sym c.self.view_is) (sym c.in_ok-check_create.ensures) in
+    subst (λ (t : Nodes). create_fault t c.args.dir.0 c.args.name.now ≡ None) (sym c.self.view_is) (sym c.in_ok-check_create.ensures) in
     let more = (passed-create before c.args.dir.0 c.args.name.now no_fault).2 in
     omega (arith, more)
 
@@ -30,9 +30,9 @@ invariant_of-self-then-is_err-2 c =
     let fresh : map.get m k ≡ None = c.self.invariant.0.given k (omega arith) in
     let added : c.insert.new.self ≡ map.insert m k node = at_ok c.insert.result c.if-is_err.ensures.value c.insert.ensures.ok in
     kept_at m _ c.self.inside.last c.self.inside.names _
-      (c.remove.ensures ∙ ap (λ (n : InodeMap). map.remove n k) added ∙ put_back nat_cmp_total map.nat_cmp-IsAntisymmetric m k node fresh)
-      (at_err c.insert-2.result c.if-is_err-2.ensures.value c.insert-2.ensures.err)
-      (c.self.invariant.0, c.self.invariant.1)
+    (c.remove.ensures ∙ ap (λ (n : InodeMap). map.remove n k) added ∙ put_back nat_cmp_total map.nat_cmp-IsAntisymmetric m k node fresh)
+    (at_err c.insert-2.result c.if-is_err-2.ensures.value c.insert-2.ensures.err)
+    (c.self.invariant.0, c.self.invariant.1)
 
 pub returns-then-is_err-2-clause-err : goal.returns-then-is_err-2-clause-err
 returns-then-is_err-2-clause-err c =
@@ -60,4 +60,4 @@ invariant_of-self-2 c =
     let added : c.insert.new.self ≡ map.insert m k (new_node c.args.kind d a c.args.attr) = at_ok c.insert.result c.if-is_err.ensures.value c.insert.ensures.ok ∙ ap (map.insert m k) same in
     let named : c.insert-2.new.self ≡ map.insert index (record { dir = d; name = a }) k = at_ok c.insert-2.result c.if-is_err-2.ensures.value c.insert-2.ensures.ok ∙ ap (λ b. map.insert index (record { dir = d; name = b }) k) c.of-2.ensures in
     kept_at _ _ k _ _ added named
-      (kept-added m c.self.inside.last d a c.args.kind c.args.attr index c.self.invariant.0 c.self.invariant.1 passed.0.kind passed.0.here passed.0.good free passed.1)
+    (kept-added m c.self.inside.last d a c.args.kind c.args.attr index c.self.invariant.0 c.self.invariant.1 passed.0.kind passed.0.here passed.0.good free passed.1)

@@ -1,4 +1,4 @@
-use Rattle.std.proofs.Common.{◌≡◌, ℕ, sym, ap, ◌∙◌, arith}
+use Rattle.std.proofs.Common.{sym, ap, ◌∙◌, arith}
 use Rattle.inotree.specs.Tree.{Nodes, reaches}
 use Rattle.inotree.proofs.Named.{reaches-index, index_inodes}
 use Rattle.inotree.proofs.tree.Tree.reaches.Goals as goal

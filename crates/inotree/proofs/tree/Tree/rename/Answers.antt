@@ -25,9 +25,9 @@ invariant_of-self-2 c =
     let under : IsUnder m k c.in-Some.old.dir c.in-Some.old.name = slot_site (site_of m k) c.in-Some.old (sym c.in-Some.ensures) in
     let free : map.get index (record { dir = d; name = a }) ≡ None = sym (child-index m index c.self.invariant.1 d a) ∙ passed.0.free in
     let added : c.insert.new.self ≡ map.insert index (record { dir = d; name = a }) k =
-      at_ok c.insert.result c.if-is_err.ensures.value c.insert.ensures.ok ∙ ap (λ b. map.insert index (record { dir = d; name = b }) k) c.of.ensures in
+    at_ok c.insert.result c.if-is_err.ensures.value c.insert.ensures.ok ∙ ap (λ b. map.insert index (record { dir = d; name = b }) k) c.of.ensures in
     kept_at _ _ c.self.inside.last _ _
-      (c.set_site.ensures ∙ ap (λ b. change_at (with_site (Under c.args.dir b)) m k) c.of-2.ensures)
-      (c.remove.ensures ∙ ap (λ (x : NameIndex). map.remove x c.in-Some.old) added)
-      (kept-moved m c.self.inside.last k d c.in-Some.old.dir a c.in-Some.old.name index c.self.invariant.0 c.self.invariant.1 under
-        passed.0.kind passed.0.here passed.0.good free passed.1 passed.2)
+    (c.set_site.ensures ∙ ap (λ b. change_at (with_site (Under c.args.dir b)) m k) c.of-2.ensures)
+    (c.remove.ensures ∙ ap (λ (x : NameIndex). map.remove x c.in-Some.old) added)
+    (kept-moved m c.self.inside.last k d c.in-Some.old.dir a c.in-Some.old.name index c.self.invariant.0 c.self.invariant.1 under
+    passed.0.kind passed.0.here passed.0.good free passed.1 passed.2)

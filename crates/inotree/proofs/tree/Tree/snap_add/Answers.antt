@@ -9,7 +9,7 @@ pub invariant_of-self : goal.invariant_of-self
 invariant_of-self c =
     let m : InodeMap = c.self.inside.inodes in
     either c.add_snapshot.result c.add_snapshot.ensures.ok c.add_snapshot.ensures.err
-      (λ (done : c.add_snapshot.new.self ≡ change_at (with_snapshot c.of.result) m c.args.ino.0).
-        kept_at _ _ c.self.inside.last _ _ done refl
-          (kept-any m c.self.inside.last c.args.ino.0 (with_snapshot c.of.result) c.self.inside.names c.self.invariant.0 c.self.invariant.1 (λ y. refl) (λ y. refl)))
-      (λ (same : c.add_snapshot.new.self ≡ m). kept_at _ _ c.self.inside.last _ _ same refl (c.self.invariant.0, c.self.invariant.1))
+    (λ (done : c.add_snapshot.new.self ≡ change_at (with_snapshot c.of.result) m c.args.ino.0).
+    kept_at _ _ c.self.inside.last _ _ done refl
+    (kept-any m c.self.inside.last c.args.ino.0 (with_snapshot c.of.result) c.self.inside.names c.self.invariant.0 c.self.invariant.1 (λ y. refl) (λ y. refl)))
+    (λ (same : c.add_snapshot.new.self ≡ m). kept_at _ _ c.self.inside.last _ _ same refl (c.self.invariant.0, c.self.invariant.1))

@@ -6,4 +6,4 @@ use Rattle.inotree.proofs.tree.Tree.snap_remove.Goals as goal
 pub invariant_of-self : goal.invariant_of-self
 invariant_of-self c =
     kept_at _ _ c.self.inside.last _ _ c.remove_snapshot.ensures refl
-      (kept-any c.self.inside.inodes c.self.inside.last c.args.ino.0 (without_snapshot c.in-Some.name) c.self.inside.names c.self.invariant.0 c.self.invariant.1 (λ y. refl) (λ y. refl))
+    (kept-any c.self.inside.inodes c.self.inside.last c.args.ino.0 (without_snapshot c.in-Some.name) c.self.inside.names c.self.invariant.0 c.self.invariant.1 (λ y. refl) (λ y. refl))

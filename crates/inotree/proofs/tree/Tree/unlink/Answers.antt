@@ -1,4 +1,4 @@
-use Rattle.std.proofs.Common.{◌≡◌, ℕ, None, sym, subst, ◌∙◌}
+use Rattle.std.proofs.Common.{◌≡◌, ℕ, None, sym, subst}
 use Rattle.inotree.specs.Inodes.{InodeMap}
 use Rattle.inotree.specs.Tree.{Nodes, IsUnder, site_of}
 use Rattle.inotree.specs.Calls.{unlink_fault}
@@ -14,5 +14,5 @@ invariant_of-self c =
     let passed : unlink_fault before k ≡ None = subst (λ (t : Nodes). unlink_fault t k ≡ None) (sym c.self.view_is) (sym c.in_ok-check_unlink.ensures) in
     let under : IsUnder m k c.in-Some.slot.dir c.in-Some.slot.name = slot_site (site_of m k) c.in-Some.slot (sym c.in-Some.ensures) in
     kept_at _ _ c.self.inside.last _ _ c.set_site.ensures c.remove.ensures
-      (kept-unlinked m c.self.inside.last k c.in-Some.slot.dir c.in-Some.slot.name c.self.inside.names c.self.invariant.0 c.self.invariant.1 under
-        (childless_file m c.self.inside.last k c.self.invariant.0 (passed-unlink before k passed)))
+    (kept-unlinked m c.self.inside.last k c.in-Some.slot.dir c.in-Some.slot.name c.self.inside.names c.self.invariant.0 c.self.invariant.1 under
+    (childless_file m c.self.inside.last k c.self.invariant.0 (passed-unlink before k passed)))
