@@ -19,7 +19,7 @@ use std::alloc::Global;
 use std::io;
 use std::io::{Read, Write};
 
-/// The question was answered, or the help was shown. A denial is an answer.
+/// The work was done, or the help was shown. A denial is an answer.
 pub const DONE: u8 = 0;
 
 /// A value is bad, or memory or the output failed.

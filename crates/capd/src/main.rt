@@ -1,4 +1,5 @@
-//! `capd explain` answers whether the grants of a CephFS client allow an access, by which grant, or why not.
+//! `capd` answers questions about the grants of CephFS clients: whether they allow an access, by which grant or why not,
+//! and what their written form is.
 #![tactic(auto)]
 
 mod access;
