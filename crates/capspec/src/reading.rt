@@ -166,9 +166,9 @@ fn gather(
 
 /// Reads a grant text, as `ceph fs authorize` writes it: one to sixteen grants with `,` or `;` between each two.
 ///
-/// Each grant is kept as it is read, which takes memory for the list and for the grant's path. Where that is missing, the
-/// text is read to its end all the same. So `NoMemory`, at 0, is told last, and only of a text without a fault. Every other
-/// fault stands at the first byte of the word that failed.
+/// Each grant is kept as it is read, which takes memory for the list and for the grant's path. Where that is missing,
+/// the text is read to its end all the same. So `NoMemory`, at 0, is told last, and only of a text without a fault.
+/// Every other fault stands at the first byte of the word that failed.
 pub fn read_grants(alloc: Global, text: &[u8]) -> Result<Grants, SpecFault>
     // What is read is what the text means.
     ensures ok { IfOk result (Reads text.now) }

@@ -16,8 +16,8 @@ use std::io::Write;
 /// Writes grants in the one form that they have: joined by a comma and a space, each as `allow`, its flags, and of
 /// `fsname`, `path`, `uid`, `gids` and `root_squash` what it has, in this order. No grants are written as no bytes.
 ///
-/// Only memory can be missing. Ceph takes the items in any order ("CephFS Client Capabilities" in its documentation); the
-/// order here, the quotes round a path and the space behind a comma are this project's.
+/// Only memory can be missing. Ceph takes the items in any order ("CephFS Client Capabilities" in its documentation).
+/// The order here, the quotes round a path and the space behind a comma are this project's.
 pub fn write_grants(alloc: Global, grants: &Grants) -> Result<Vec<u8>, NoMemory>
     ensures form { IfOk result (λ text. text.items ≡ written grants.now) }
     // It reads as these grants.
