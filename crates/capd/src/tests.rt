@@ -51,7 +51,7 @@ fn as_bytes(rt: &impl AllocGlobal, words: &[&str]) -> Result<Vec<Vec<u8>>, Fail>
 }
 
 // The words of the question, with these options changed, or added to it at the end.
-fn words(rt: &impl AllocGlobal, changes: &[(&str, &str)]) -> Result<Vec<Vec<u8>>, Fail> {
+fn words<'a>(rt: &impl AllocGlobal, changes: &[(&'a str, &'a str)]) -> Result<Vec<Vec<u8>>, Fail> {
     let mut words = vec![in rt.alloc(); "explain"]?;
     for (name, value) in QUESTION {
         if !changes.iter().any(|change| change.0 == name) {
