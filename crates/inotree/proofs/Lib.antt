@@ -3,6 +3,7 @@ pub mod Copies
 pub mod Entries
 pub mod Found
 pub mod Growing
+pub mod Inner
 pub mod Leading
 pub mod Maps
 pub mod Named
