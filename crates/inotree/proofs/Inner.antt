@@ -5,7 +5,6 @@ use Rattle.std.specs.Cmp.{nat_cmp_total}
 use Rattle.std.specs.FinMap as map
 use Rattle.std.specs.FinSet as set
 use Rattle.std.specs.Option.{option_map_or}
-use Rattle.std.specs.Ordering.{eq_by_cmp}
 use Rattle.inotree.specs.declared.node.Node.{Node}
 use Rattle.inotree.specs.declared.node.Site.{Site}
 use Rattle.inotree.specs.declared.node.Setting.{Setting}

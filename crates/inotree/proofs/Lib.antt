@@ -15,3 +15,4 @@ pub mod Shape
 pub mod Slots
 pub mod Turning
 pub mod Walks
+pub mod Within

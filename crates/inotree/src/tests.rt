@@ -1,7 +1,7 @@
 //! Worked cases and limits, with values that no clause gives.
 
 use crate::{
-    Kind, MAX_INODES, MAX_NAMES, Place, ROOT, Setting, Tree, TreeFault, is_bad_attribute,
+    Kind, MAX_INODES, MAX_NAMES, Name, Place, ROOT, Setting, Tree, TreeFault, is_bad_attribute,
     is_bad_name,
 };
 use capbits::{Ino, Mode};
@@ -28,15 +28,20 @@ use Ask::*;
 // The number of a new inode, or 0 where the call makes none.
 type Answer = Result<u64, TreeFault>;
 
+// Reading and entering for all, and writing for the owner.
+fn open_mode() -> Mode {
+    match Mode::new(0o755) {
+        Some(mode) => mode,
+        None => unreachable!(),
+    }
+}
+
 // What a new inode of user 10 gets.
 fn attr() -> Attr {
     Attr {
         uid: 10,
         gid: 10,
-        mode: match Mode::new(0o755) {
-            Some(mode) => mode,
-            None => unreachable!(),
-        },
+        mode: open_mode(),
     }
 }
 
@@ -98,6 +103,21 @@ fn a_directory_moves_neither_into_itself_nor_over_another(rt: HostRuntime) -> Re
 }
 
 #[test]
+fn an_inode_moves_only_into_a_directory(rt: HostRuntime) -> Result<(), Fail> {
+    let mut tree = Tree::new(rt.alloc(), attr())?;
+    for (ask, want) in [
+        (Create(1, "f"), Ok(2)),
+        (Create(1, "g"), Ok(3)),
+        (Rename(3, 2, "h"), Err(TreeFault::NotDir)),
+        (Rename(3, 9, "h"), Err(TreeFault::NoIno)),
+        (Rename(3, 1, "h"), Ok(0)),
+    ] {
+        assert_eq!(rt; asked(&mut tree, ask), want, "at {ask:?}");
+    }
+    Ok(())
+}
+
+#[test]
 fn an_unlinked_file_is_a_stray_until_it_is_forgotten(rt: HostRuntime) -> Result<(), Fail> {
     let mut tree = Tree::new(rt.alloc(), attr())?;
     for (ask, want) in [
@@ -145,8 +165,10 @@ fn a_directory_with_a_snapshot_is_not_empty(rt: HostRuntime) -> Result<(), Fail>
 #[test]
 fn fields_and_attributes_are_set_one_by_one(rt: HostRuntime) -> Result<(), Fail> {
     let mut tree = Tree::new(rt.alloc(), attr())?;
+    let private = Mode::new(0o600).expect(&rt, "it is a mode");
     for (ask, want) in [
         (Create(1, "f"), Ok(2)),
+        (Set(2, Setting::Mode(private)), Ok(0)),
         (Set(2, Setting::Uid(1)), Ok(0)),
         (Set(2, Setting::Gid(2)), Ok(0)),
         (Set(2, Setting::Size(3)), Ok(0)),
@@ -165,13 +187,72 @@ fn fields_and_attributes_are_set_one_by_one(rt: HostRuntime) -> Result<(), Fail>
     let node = tree.node(Ino(2)).expect(&rt, "it is there");
     assert_eq!(rt;
         (node.attr.uid, node.attr.gid, node.attr.mode),
-        (1, 2, attr().mode)
+        (1, 2, private)
     );
     assert_eq!(rt; (node.kind, node.size, node.time), (Kind::File, 3, 4));
     let (name, value) = node.attributes.iter().next().expect(&rt, "there is one");
     assert_eq!(rt; name.as_bytes(), b"user.a".as_slice());
     assert_eq!(rt; value.as_bytes(), b"2".as_slice());
     assert_eq!(rt; node.attributes.len(), 1);
+    Ok(())
+}
+
+#[test]
+fn what_an_inode_keeps_is_found_by_name(rt: HostRuntime) -> Result<(), Fail> {
+    let mut tree = Tree::new(rt.alloc(), attr())?;
+    for ask in [
+        SetXattr(1, "user.a", "1"),
+        SnapAdd(1, "s1"),
+        SnapAdd(1, "s2"),
+    ] {
+        assert!(rt; asked(&mut tree, ask).is_ok(), "at {ask:?}");
+    }
+    let root = tree.node(ROOT).expect(&rt, "it is there");
+    let attribute = Name::read(b"user.a").expect(&rt, "it is short");
+    let snapshot = Name::read(b"s2").expect(&rt, "it is short");
+    let value = root.attributes.get(&attribute).expect(&rt, "it is there");
+    assert_eq!(rt; value.as_bytes(), b"1".as_slice());
+    assert!(rt; root.attributes.get(&snapshot).is_none());
+    assert_eq!(rt; root.snapshots.len(), 2);
+    assert!(rt; root.snapshots.contains(&snapshot));
+    assert!(rt; !root.snapshots.contains(&attribute));
+    Ok(())
+}
+
+#[test]
+fn a_path_has_its_names_from_the_root_down(rt: HostRuntime) -> Result<(), Fail> {
+    let mut tree = Tree::new(rt.alloc(), attr())?;
+    for ask in [Mkdir(1, "a"), Mkdir(2, "b"), Create(3, "c")] {
+        assert!(rt; asked(&mut tree, ask).is_ok(), "at {ask:?}");
+    }
+    let path = tree.path_of(Ino(4)).expect(&rt, "it is there");
+    assert_eq!(rt; path.len(), 3);
+    let wanted = [b"a".as_slice(), b"b".as_slice(), b"c".as_slice()];
+    assert_eq!(rt; path.as_slice(), wanted.as_slice());
+    Ok(())
+}
+
+#[test]
+fn a_refusal_prints_as_its_name(rt: HostRuntime) -> Result<(), Fail> {
+    for (fault, name) in [
+        (TreeFault::NoIno, "NoIno"),
+        (TreeFault::Gone, "Gone"),
+        (TreeFault::Root, "Root"),
+        (TreeFault::NotDir, "NotDir"),
+        (TreeFault::IsDir, "IsDir"),
+        (TreeFault::NoEnt, "NoEnt"),
+        (TreeFault::NameBad, "NameBad"),
+        (TreeFault::Exists, "Exists"),
+        (TreeFault::NotEmpty, "NotEmpty"),
+        (TreeFault::Loop, "Loop"),
+        (TreeFault::TooDeep, "TooDeep"),
+        (TreeFault::NoXattr, "NoXattr"),
+        (TreeFault::Limit, "Limit"),
+        (TreeFault::NoMemory, "NoMemory"),
+    ] {
+        let printed = format!(in rt.alloc(); "{fault}")?;
+        assert_eq!(rt; printed.as_str(), name);
+    }
     Ok(())
 }
 
@@ -237,6 +318,7 @@ fn an_inode_has_sixty_four_attributes_and_snapshots(rt: HostRuntime) -> Result<(
         Err(TreeFault::Limit)
     );
     assert_eq!(rt; tree.set_xattr(ROOT, b"n63", &[0; 4096]), Ok(()));
+    assert_eq!(rt; tree.set_xattr(ROOT, b"n0", b"v"), Ok(()));
     assert_eq!(rt; tree.snap_add(ROOT, b"n64"), Err(TreeFault::Limit));
     let root = tree.node(ROOT).expect(&rt, "it is there");
     let first = root.snapshots.iter().next().expect(&rt, "there are some");
@@ -263,6 +345,14 @@ fn names_have_up_to_255_bytes(rt: HostRuntime) -> Result<(), Fail> {
         assert!(rt; !is_bad_name(good.as_bytes()), "at {good}");
     }
     assert!(rt; !is_bad_attribute(b"a/b") && is_bad_attribute(b"a\0b"));
+    assert_eq!(rt; tree.set_xattr(ROOT, &long, b""), Ok(()));
+    assert_eq!(rt;
+        tree.set_xattr(ROOT, &[b'n'; 256], b""),
+        Err(TreeFault::NameBad)
+    );
+    let read = Name::read(&long).expect(&rt, "it is no longer than a name may be");
+    assert_eq!(rt; read.as_bytes(), long.as_slice());
+    assert!(rt; Name::read(&[b'n'; 256]).is_none());
     Ok(())
 }
 
