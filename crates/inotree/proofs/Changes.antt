@@ -19,9 +19,10 @@ use Rattle.inotree.specs.declared.node.Setting.{Setting}
 use Rattle.inotree.specs.declared.node.Setting.TheVariants.{Mode, Uid, Gid, Size, Time}
 use Rattle.inotree.specs.Inodes.{InodeMap, with_site, with_setting}
 use Rattle.inotree.specs.Index.{NameIndex, slot_cmp}
-use Rattle.inotree.specs.Tree.{IsTree, IsIndexed, IsUnder, Climbs, site_of, kind_of, place, place_at, is_directory, is_directory_kind, depth, reaches, is_within, lies_below}
+use Rattle.inotree.specs.Tree.{IsTree, IsIndexed, IsUnder, Climbs, HasGoodNames, AllHaveGoodNames, site_of, kind_of, place, place_at, is_directory, is_directory_kind, depth, reaches, is_within, lies_below}
 use Rattle.inotree.specs.Calls.{first_tree, new_node}
 use Rattle.inotree.proofs.Maps.{insert-here, insert-other, remove-here, remove-other, change-is}
+use Rattle.inotree.proofs.Inner.{some_same, good_none, moved_good, put_inner}
 use Rattle.inotree.proofs.Named.{node_of}
 use Rattle.inotree.proofs.Shape.{same_ino, slot, tree-buried, index-forgotten, index-unlinked, climb_keep, climb_split, climb_on}
 use Rattle.inotree.proofs.Growing.{depth-climb, off_here, off_next, reach_up, tree-placed, index-added, index-moved, tree-same, index-same}
@@ -44,15 +45,24 @@ module _ (m : InodeMap) (last k : ℕ) (x : Node) (f : Node → Node) (here : ma
   changed_fresh : ((i : ℕ) → last < i → map.get m i ≡ None) → (i : ℕ) → last < i → map.get (change_at f m k) i ≡ None
   changed_fresh given i above = changed_off i (λ same. let none = given i above in let some : map.get m i ≡ Some x = subst (λ y. map.get m y ≡ Some x) (sym same) here in cc) ∙ given i above
 
+  changed_inner : AllHaveGoodNames m → (HasGoodNames x → HasGoodNames (f x)) → AllHaveGoodNames (change_at f m k)
+  changed_inner inner good i y got = elim (same_ino i k) [
+    | inl is ↦
+        let now : map.get (change_at f m k) k ≡ Some y = subst (λ j. map.get (change_at f m k) j ≡ Some y) is got in
+        let same : f x ≡ y = some_same (sym changed_at ∙ now) in
+        subst HasGoodNames same (good (inner k x here))
+    | inr off ↦ inner i y (sym (changed_off i off) ∙ got)
+  ]
+
   -- a field that is no site and no kind
-  pub kept-changed : (index : NameIndex) → IsTree (record { nodes = m; last = last }) → IsIndexed m index → (f x).kind ≡ x.kind → (f x).site ≡ x.site
+  pub kept-changed : (index : NameIndex) → IsTree (record { nodes = m; last = last }) → IsIndexed m index → (f x).kind ≡ x.kind → (f x).site ≡ x.site → (HasGoodNames x → HasGoodNames (f x))
       → IsTree (record { nodes = change_at f m k; last = last }) × IsIndexed (change_at f m k) index
-  kept-changed index t ix kind site =
+  kept-changed index t ix kind site good =
       let sites : (i : ℕ) → site_of (change_at f m k) i ≡ site_of m i = λ i. elim (same_ino i k) [
         | inl is ↦ subst (λ y. site_of (change_at f m k) y ≡ site_of m y) (sym is) (ap (option_map (λ (n : Node). n.site)) changed_at ∙ ap Some site ∙ ap (option_map (λ (n : Node). n.site)) (sym here))
         | inr off ↦ ap (option_map (λ (n : Node). n.site)) (changed_off i off)
       ] in
-      (tree-same m (change_at f m k) last index t ix sites (changed_kinds kind) (changed_fresh t.given), index-same m (change_at f m k) last index t ix sites (changed_kinds kind) (changed_fresh t.given))
+      (tree-same m (change_at f m k) last index t ix sites (changed_kinds kind) (changed_fresh t.given) (changed_inner t.inner_names good), index-same m (change_at f m k) last index t ix sites (changed_kinds kind) (changed_fresh t.given))
 
 -- an inode under a name, with nothing below it, becomes a stray
 pub kept-unlinked : (m : InodeMap) (last k d : ℕ) (a : List ℕ) (index : NameIndex) → IsTree (record { nodes = m; last = last }) → IsIndexed m index → IsUnder m k d a → ((i : ℕ) (b : List ℕ) → IsUnder m i k b → ⊥)
@@ -69,7 +79,7 @@ kept-unlinked m last k d a index t ix u childless =
     let gone : place n k ≡ Gone = ap place_at now in
     let not_here : place n k ≡ Here → ⊥ = λ v. cc in
     let was_no_root : site_of m k ≡ Some Root → ⊥ = λ v. cc in (
-      tree-buried m n last k index t ix other kinds fresh no_site no_root not_here was_no_root childless,
+      tree-buried m n last k index t ix other kinds fresh no_site no_root not_here was_no_root childless (changed_inner m last k node.0 (with_site Stray) node.1 t.inner_names (moved_good Stray node.0)),
       index-unlinked m n last k index t ix other kinds fresh no_site no_root not_here was_no_root childless d a u,
     )
 
@@ -94,8 +104,12 @@ kept-forgotten m last k index t ix was =
     let was_no_root : site_of m k ≡ Some Root → ⊥ = λ v. cc in
     let was_gone : place m k ≡ Gone = ap place_at was in
     let childless : (i : ℕ) (b : List ℕ) → IsUnder m i k b → ⊥ = λ i b v. let up = (t.parents i k b v).1 in cc in
-    let nowhere : (e : ℕ) (b : List ℕ) → IsUnder m k e b → ⊥ = λ e b v. cc in (
-      tree-buried m n last k index t ix other kinds fresh no_site no_root not_here was_no_root childless,
+    let nowhere : (e : ℕ) (b : List ℕ) → IsUnder m k e b → ⊥ = λ e b v. cc in
+    let inner : AllHaveGoodNames n = λ i y got. elim (same_ino i k) [
+      | inl is ↦ let absent : map.get n i ≡ None = ap (map.get n) is ∙ none in cc
+      | inr off ↦ t.inner_names i y (sym (off_get i off) ∙ got)
+    ] in (
+      tree-buried m n last k index t ix other kinds fresh no_site no_root not_here was_no_root childless inner,
       index-forgotten m n last k index t ix other kinds fresh no_site no_root not_here was_no_root childless nowhere,
     )
 
@@ -128,8 +142,9 @@ kept-added m last d a kind attr index t ix dir_kind dir_here good free low =
           (a ∷ r.0, omega arith, (d, subst (λ y. IsUnder n y d a) (sym same) now, climb_keep m n k other avoid d r.0 1 dir_off r.2))
       | inr off ↦ let r = t.reached i (sym (ap place_at (other i off)) ∙ h) in (r.0, r.1, climb_keep m n k other avoid i r.0 1 off r.2)
     ] in
-    let nowhere : (e : ℕ) (b : List ℕ) → IsUnder m k e b → ⊥ = λ e b v. cc in (
-      tree-placed m n last k k d a index t ix other kinds fresh now was_no_root dir_kind dir_here dir_off good free dir_still reached,
+    let nowhere : (e : ℕ) (b : List ℕ) → IsUnder m k e b → ⊥ = λ e b v. cc in
+    let inner : AllHaveGoodNames n = put_inner m k (new_node kind d a attr) t.inner_names (good_none _ refl refl) in (
+      tree-placed m n last k k d a index t ix other kinds fresh now was_no_root dir_kind dir_here dir_off good free dir_still reached inner,
       index-added m n last k k d a index t ix other kinds fresh now was_no_root dir_kind dir_here dir_off good free nowhere,
     )
 
@@ -180,7 +195,7 @@ kept-moved m last k d e a b index t ix was dir_kind dir_here good free apart sha
           let short : length found.0 < 32 - depth m d = short_of m i found.0 k (32 - depth m d) shallow found.1 in
           (found.0 ++ a ∷ top.0, omega (arith, length-append found.0 (a ∷ top.0)), climb_on n i found.0 k (a ∷ top.0) 1 found.2 (d, now, above))
     ] in (
-      tree-placed m n last last k d a index t ix other kinds fresh now was_no_root dir_kind dir_here dir_off good free dir_still reached,
+      tree-placed m n last last k d a index t ix other kinds fresh now was_no_root dir_kind dir_here dir_off good free dir_still reached (changed_inner m last k node.0 (with_site site) node.1 t.inner_names (moved_good site node.0)),
       index-moved m n last last k d a index t ix other kinds fresh now was_no_root dir_kind dir_here dir_off good free e b was,
     ) where
       short_of : (m : InodeMap) (i : ℕ) (below : List (List ℕ)) (k c : ℕ) → reaches c m k ≡ false → Climbs m i below k → length below < c
@@ -195,12 +210,12 @@ kept_at m n last x y p q kept =
     subst (λ z. IsTree (record { nodes = n; last = last }) × IsIndexed n z) (sym q) (subst (λ (k : InodeMap). IsTree (record { nodes = k; last = last }) × IsIndexed k x) (sym p) kept)
 
 -- a change of fields, of an inode that may be there
-pub kept-any : (m : InodeMap) (last k : ℕ) (f : Node → Node) (index : NameIndex) → IsTree (record { nodes = m; last = last }) → IsIndexed m index → ((y : Node) → (f y).kind ≡ y.kind) → ((y : Node) → (f y).site ≡ y.site)
+pub kept-any : (m : InodeMap) (last k : ℕ) (f : Node → Node) (index : NameIndex) → IsTree (record { nodes = m; last = last }) → IsIndexed m index → ((y : Node) → (f y).kind ≡ y.kind) → ((y : Node) → (f y).site ≡ y.site) → ((y : Node) → HasGoodNames y → HasGoodNames (f y))
     → IsTree (record { nodes = change_at f m k; last = last }) × IsIndexed (change_at f m k) index
-kept-any m last k f index t ix kind site = go (map.get m k) refl where
+kept-any m last k f index t ix kind site good = go (map.get m k) refl where
   go : (o : Option Node) → map.get m k ≡ o → IsTree (record { nodes = change_at f m k; last = last }) × IsIndexed (change_at f m k) index
   go None none = kept_at m (change_at f m k) last index index (ap (λ o. option_map_or (λ (y : Node). map.insert m k (f y)) o m) none) refl (t, ix)
-  go (Some x) here = kept-changed m last k x f here index t ix (kind x) (site x)
+  go (Some x) here = kept-changed m last k x f here index t ix (kind x) (site x) (good x)
 
 pub setting_kind : (s : Setting) (y : Node) → (with_setting s y).kind ≡ y.kind
 setting_kind (Mode mode) y = refl
@@ -238,6 +253,7 @@ kept-first attr =
         parents = λ i d a u. absurd (nowhere i d a u);
         siblings = λ i j d a u v. absurd (nowhere i d a u);
         names = λ i d a u. absurd (nowhere i d a u);
+        inner_names = put_inner map.empty 1 root (λ i y got. let absent = map.get-empty {X = Node} nat_cmp i in cc) (good_none root refl refl);
         reached = λ i h. elim (same_ino i 1) [
           | inl same ↦ ([], omega arith, same)
           | inr off ↦ let v : place n i ≡ NoIno = ap (λ o. place_at (option_map (λ (n : Node). n.site) o)) (none i off) in cc

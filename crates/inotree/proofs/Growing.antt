@@ -9,7 +9,7 @@ use Rattle.inotree.specs.declared.node.Place.TheVariants.{Here}
 use Rattle.inotree.specs.Names.{is_bad_name}
 use Rattle.inotree.specs.Inodes.{InodeMap}
 use Rattle.inotree.specs.Index.{NameIndex}
-use Rattle.inotree.specs.Tree.{IsTree, IsIndexed, IsUnder, Climbs, site_of, kind_of, place, place_at, is_directory, is_directory_kind, is_in, upward, names_up, lies_below, depth, reaches}
+use Rattle.inotree.specs.Tree.{IsTree, IsIndexed, IsUnder, Climbs, AllHaveGoodNames, site_of, kind_of, place, place_at, is_directory, is_directory_kind, is_in, upward, names_up, lies_below, depth, reaches}
 use Rattle.inotree.proofs.Found.{and_true, any_found}
 use Rattle.inotree.proofs.Maps.{same_or_other, insert-here, insert-other, remove-here, remove-other}
 use Rattle.inotree.proofs.Named.{node_of}
@@ -103,7 +103,8 @@ module _ (m n : InodeMap) (last next k d : ℕ) (a : List ℕ) (index : NameInde
         free_under j (subst (λ y. IsUnder m j y a) dirs (subst (λ y. IsUnder m j e y) names his))
 
   module _ (dir_still : (i e : ℕ) (b : List ℕ) → IsUnder m i e b → (is_directory n e ≡ true) × (place n e ≡ Here))
-      (reached : (i : ℕ) → place n i ≡ Here → (up : List (List ℕ)) × (length up ≤ 32) × Climbs n i up 1) where
+      (reached : (i : ℕ) → place n i ≡ Here → (up : List (List ℕ)) × (length up ≤ 32) × Climbs n i up 1)
+      (inner : AllHaveGoodNames n) where
     pub tree-placed : IsTree (record { nodes = n; last = next })
     tree-placed = record {
       root = other 1 one_off ∙ t.root;
@@ -125,6 +126,7 @@ module _ (m n : InodeMap) (last next k d : ℕ) (a : List ℕ) (index : NameInde
             ap is_bad_name names ∙ good
         | inr off ↦ t.names i e b (stays i e b u off)
       ];
+      inner_names = inner;
       reached = reached;
       given = fresh;
     }
@@ -208,8 +210,8 @@ module _ (m n : InodeMap) (last : ℕ) (index : NameIndex) (t : IsTree (record {
   still_climbs i [] top c = c
   still_climbs i (a ∷ up) top c = (c.0, sites i ∙ c.1, still_climbs c.0 up top c.2)
 
-  pub tree-same : IsTree (record { nodes = n; last = last })
-  tree-same = record {
+  pub tree-same : AllHaveGoodNames n → IsTree (record { nodes = n; last = last })
+  tree-same inner = record {
     root = sites 1 ∙ t.root;
     root_kind = ap is_directory_kind (kinds 1) ∙ t.root_kind;
     one_root = λ i e. t.one_root i (sym (sites i) ∙ e);
@@ -218,6 +220,7 @@ module _ (m n : InodeMap) (last : ℕ) (index : NameIndex) (t : IsTree (record {
         (ap is_directory_kind (kinds d) ∙ was.0, ap place_at (sites d) ∙ was.1);
     siblings = λ i j d a u v. t.siblings i j d a (sym (sites i) ∙ u) (sym (sites j) ∙ v);
     names = λ i d a u. t.names i d a (sym (sites i) ∙ u);
+    inner_names = inner;
     reached = λ i h. let r = t.reached i (sym (ap place_at (sites i)) ∙ h) in (r.0, r.1, still_climbs i r.0 1 r.2);
     given = fresh;
   }

@@ -3,6 +3,7 @@ pub mod Copies
 pub mod Entries
 pub mod Found
 pub mod Growing
+pub mod Inner
 pub mod Leading
 pub mod Maps
 pub mod Named
@@ -14,3 +15,4 @@ pub mod Shape
 pub mod Slots
 pub mod Turning
 pub mod Walks
+pub mod Within

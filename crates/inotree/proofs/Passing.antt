@@ -1,5 +1,5 @@
 -- What the tests of a call that were passed say of the tree.
-use Rattle.std.proofs.Common.{◌≡◌, ℕ, ◌-◌, Bool, true, false, not, nat_le, nat_lt, ◌<◌, ◌||◌, ◌==◌, List, [], ◌∷◌, length, Option, Some, None, is_some, ◌⊎◌, inl, inr, refl, ap, ◌∙◌, arith}
+use Rattle.std.proofs.Common.{◌≡◌, ℕ, ◌-◌, Bool, true, false, not, nat_le, ◌<◌, ◌||◌, ◌==◌, List, [], ◌∷◌, length, Option, Some, None, is_some, ◌⊎◌, inl, inr, refl, sym, ap, ◌∙◌, arith}
 use Rattle.std.proofs.lemmas.Bool.Decides.{nat_tests}
 use Rattle.std.specs.FinMap as map
 use Rattle.inotree.specs.declared.fault.TreeFault.{TreeFault}
@@ -8,12 +8,13 @@ use Rattle.inotree.specs.declared.node.Site.{Site}
 use Rattle.inotree.specs.declared.node.Site.TheVariants.{Root, Under, Stray}
 use Rattle.inotree.specs.declared.node.Place.{Place}
 use Rattle.inotree.specs.declared.node.Place.TheVariants.{NoIno, Gone, Here}
-use Rattle.inotree.specs.Names.{is_bad_name, is_dots, has_byte}
+use Rattle.inotree.specs.Names.{is_bad_name, is_bad_attribute}
 use Rattle.inotree.specs.Inodes.{InodeMap}
 use Rattle.inotree.specs.Index.{NameIndex}
 use Rattle.inotree.specs.Tree.{Nodes, IsTree, IsIndexed, IsUnder, site_of, place, place_at, path_at, slot_at, is_directory, child, depth, reaches, is_within}
-use Rattle.inotree.specs.Calls.{fails, or_next, place_fault, create_fault, unlink_fault, rmdir_fault, rename_fault, directory_fault, name_fault, inode_fault}
+use Rattle.inotree.specs.Calls.{fails, or_next, place_fault, create_fault, unlink_fault, rmdir_fault, rename_fault, set_xattr_fault, snap_add_fault, directory_fault, name_fault, inode_fault}
 use Rattle.inotree.proofs.Growing.{reach_up}
+use Rattle.inotree.proofs.Inner.{long_name}
 use Rattle.inotree.proofs.Named.{child-index}
 
 gone_at : (s : Option Site) → place_at s ≡ Gone → s ≡ Some Stray
@@ -42,6 +43,10 @@ no_path Here names h = elim h [ inl e ↦ cc | inr e ↦ cc ]
 or_none : (a b : Option TreeFault) → or_next a b ≡ None → (a ≡ None) × (b ≡ None)
 or_none None b e = (refl, e)
 or_none (Some f) b e = cc
+
+-- the last test fails, where none before it does
+pub fails_last : (before : Option TreeFault) (b : Bool) (f : TreeFault) → None ≡ before → b ≡ true → Some f ≡ or_next before (fails b f)
+fails_last before b f passed is = sym (ap (λ o. or_next o (fails b f)) (sym passed) ∙ ap (λ x. fails x f) is)
 
 fails_none : (b : Bool) (f : TreeFault) → fails b f ≡ None → b ≡ false
 fails_none true f e = cc
@@ -113,6 +118,12 @@ passed-rename t i d a e =
     let u = or_none _ _ s.1 in
     (placeable t d a r.0 s.0, fails_none _ _ u.0, fails_none _ _ u.1)
 
+pub passed-set_xattr : (t : Nodes) (i : ℕ) (a v : List ℕ) → set_xattr_fault t i a v ≡ None → is_bad_attribute a ≡ false
+passed-set_xattr t i a v e = let p = or_none (inode_fault t i) _ e in let q = or_none _ _ p.1 in fails_none _ _ q.0
+
+pub passed-snap_add : (t : Nodes) (i : ℕ) (a : List ℕ) → snap_add_fault t i a ≡ None → is_bad_name a ≡ false
+passed-snap_add t i a e = let p = or_none (directory_fault t i) _ e in let q = or_none _ _ p.1 in fails_none _ _ q.0
+
 pub childless_file : (m : InodeMap) (last k : ℕ) → IsTree (record { nodes = m; last = last }) → is_directory m k ≡ false → (i : ℕ) (b : List ℕ) → IsUnder m i k b → ⊥
 childless_file m last k t file i b u = let dir = (t.parents i k b u).0 in cc
 
@@ -122,16 +133,6 @@ childless_empty m k none i b u = let some : reaches 1 m k ≡ true = reach_up 1 
 -- a name that is too long is no child's
 pub long_child : (m : InodeMap) (last : ℕ) (index : NameIndex) → IsTree (record { nodes = m; last = last }) → IsIndexed m index → (d : ℕ) (a : List ℕ) → 255 < length a → child m d a ≡ None
 long_child m last index t x d a long = child-index m index x d a ∙ go (map.get index (record { dir = d; name = a })) refl where
-  or_here : (p q r s : Bool) → q ≡ true → (((p || q) || r) || s) ≡ true
-  or_here true q r s e = refl
-  or_here false q r s e = ap (λ b. (b || r) || s) e
-
-  test : nat_lt 255 (length a) ≡ true
-  test = grind (arith, nat_tests)
-
-  bad : is_bad_name a ≡ true
-  bad = or_here (is_dots a) _ (has_byte 47 a) (has_byte 0 a) test
-
   go : (o : Option ℕ) → map.get index (record { dir = d; name = a }) ≡ o → o ≡ None
   go None g = refl
-  go (Some i) g = let good = t.names i d a (x.real i d a g) in let wrong : is_bad_name a ≡ true = bad in cc
+  go (Some i) g = let good = t.names i d a (x.real i d a g) in let bad = long_name a long in cc

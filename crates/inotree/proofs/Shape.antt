@@ -8,7 +8,7 @@ use Rattle.inotree.specs.declared.node.Site.TheVariants.{Root}
 use Rattle.inotree.specs.declared.node.Place.TheVariants.{Here}
 use Rattle.inotree.specs.Inodes.{InodeMap}
 use Rattle.inotree.specs.Index.{NameIndex}
-use Rattle.inotree.specs.Tree.{IsTree, IsIndexed, IsUnder, Climbs, site_of, kind_of, place, place_at, is_directory_kind}
+use Rattle.inotree.specs.Tree.{IsTree, IsIndexed, IsUnder, Climbs, AllHaveGoodNames, site_of, kind_of, place, place_at, is_directory_kind}
 use Rattle.inotree.proofs.Maps.{same_or_other, remove-here, remove-other}
 use Rattle.inotree.proofs.Slots.{slot_total, slot_same}
 
@@ -70,8 +70,8 @@ module _ (m n : InodeMap) (last k : ℕ) (index : NameIndex) (t : IsTree (record
   one_off : (1 ≡ k) → ⊥
   one_off e = was_no_root (subst (λ y. site_of m y ≡ Some Root) e t.root)
 
-  pub tree-buried : IsTree (record { nodes = n; last = last })
-  tree-buried = record {
+  pub tree-buried : AllHaveGoodNames n → IsTree (record { nodes = n; last = last })
+  tree-buried inner = record {
     root = other 1 one_off ∙ t.root;
     root_kind = ap is_directory_kind (kinds 1 one_off) ∙ t.root_kind;
     one_root = λ i e. elim (same_ino i k) [
@@ -84,6 +84,7 @@ module _ (m n : InodeMap) (last k : ℕ) (index : NameIndex) (t : IsTree (record
         (ap is_directory_kind (kinds d off) ∙ (t.parents i d a was).0, ap place_at (other d off) ∙ (t.parents i d a was).1);
     siblings = λ i j d a u v. t.siblings i j d a (stays i d a u).1 (stays j d a v).1;
     names = λ i d a u. t.names i d a (stays i d a u).1;
+    inner_names = inner;
     reached = λ i h. elim (same_ino i k) [
       | inl same ↦ absurd (not_here (subst (λ y. place n y ≡ Here) same h))
       | inr off ↦ let r = t.reached i (sym (ap place_at (other i off)) ∙ h) in (r.0, r.1, climb_keep m n k other childless i r.0 1 off r.2)

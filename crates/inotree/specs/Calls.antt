@@ -7,7 +7,6 @@ use Rattle.capgrant.specs.declared.access.Attr.{Attr}
 use Rattle.inotree.specs.declared.attributes.TheConstants.{MAX_ATTRIBUTES, MAX_VALUE}
 use Rattle.inotree.specs.declared.snapshots.TheConstants.{MAX_SNAPSHOTS}
 use Rattle.inotree.specs.declared.tree.TheConstants.{MAX_INODES}
-use Rattle.inotree.specs.declared.name.TheConstants.{MAX_NAME}
 use Rattle.inotree.specs.declared.names.TheConstants.{MAX_NAMES}
 use Rattle.inotree.specs.declared.node.Node.{Node}
 use Rattle.inotree.specs.declared.node.Kind.{Kind}
@@ -123,11 +122,11 @@ set_xattr_fault tree ino name value =
     or_next (fails (is_bad_attribute name) NameBad) (
     fails (nat_lt MAX_VALUE (length value) || test_at (λ n. not (map.contains_key n.attributes name) && nat_le MAX_ATTRIBUTES (map.len n.attributes)) tree ino) Limit))
 
--- of an attribute that is taken out. No attribute has a longer name than a name may be.
+-- of an attribute that is taken out
 abbrev pub remove_xattr_fault : Nodes → ℕ → List ℕ → Option TreeFault
 remove_xattr_fault tree ino name =
     or_next (inode_fault tree ino) (
-    fails (nat_lt MAX_NAME (length name) || test_at (λ n. not (map.contains_key n.attributes name)) tree ino) NoXattr)
+    fails (test_at (λ n. not (map.contains_key n.attributes name)) tree ino) NoXattr)
 
 -- of a new snapshot name
 abbrev pub snap_add_fault : Nodes → ℕ → List ℕ → Option TreeFault
@@ -137,11 +136,11 @@ snap_add_fault tree ino name =
     or_next (fails (test_at (λ n. set.contains n.snapshots name) tree ino) Exists) (
     fails (test_at (λ n. nat_le MAX_SNAPSHOTS (set.len n.snapshots)) tree ino) Limit)))
 
--- of a snapshot name that is taken out. No snapshot has a longer name than a name may be.
+-- of a snapshot name that is taken out
 abbrev pub snap_remove_fault : Nodes → ℕ → List ℕ → Option TreeFault
 snap_remove_fault tree ino name =
     or_next (directory_fault tree ino) (
-    fails (nat_lt MAX_NAME (length name) || test_at (λ n. not (set.contains n.snapshots name)) tree ino) NoEnt)
+    fails (test_at (λ n. not (set.contains n.snapshots name)) tree ino) NoEnt)
 
 -- a root alone
 abbrev pub first_tree : Attr → Nodes

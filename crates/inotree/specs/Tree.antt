@@ -5,6 +5,7 @@ use Rattle.std.specs.List.{list_any}
 use Rattle.std.specs.Option.{option_map}
 use Rattle.std.specs.Ordering.{eq_by_cmp}
 use Rattle.std.specs.FinMap as map
+use Rattle.std.specs.FinSet as set
 use Rattle.inotree.specs.declared.node.Node.{Node}
 use Rattle.inotree.specs.declared.node.Kind.{Kind}
 use Rattle.inotree.specs.declared.node.Kind.TheVariants.{Directory, File}
@@ -13,7 +14,7 @@ use Rattle.inotree.specs.declared.node.Site.TheVariants.{Root, Under, Stray}
 use Rattle.inotree.specs.declared.index.Slot.{Slot}
 use Rattle.inotree.specs.declared.node.Place.{Place}
 use Rattle.inotree.specs.declared.node.Place.TheVariants.{NoIno, Gone, Here}
-use Rattle.inotree.specs.Names.{name_cmp, is_bad_name}
+use Rattle.inotree.specs.Names.{name_cmp, is_bad_name, is_bad_attribute}
 use Rattle.inotree.specs.Inodes.{InodeMap, inode_map_code}
 use Rattle.inotree.specs.Index.{NameIndex}
 
@@ -146,6 +147,15 @@ abbrev pub Climbs : InodeMap → ℕ → List (List ℕ) → ℕ → Type 0
 Climbs nodes ino [] above = ino ≡ above
 Climbs nodes ino (name ∷ names) above = (dir : ℕ) × IsUnder nodes ino dir name × Climbs nodes dir names above
 
+-- The names of an inode's attributes and of its snapshots are names that can be given.
+pub record HasGoodNames (node : Node) : Type 0 where
+  pub attributes : (name : List ℕ) → map.contains_key node.attributes name ≡ true → is_bad_attribute name ≡ false
+  pub snapshots : (name : List ℕ) → set.contains node.snapshots name ≡ true → is_bad_name name ≡ false
+
+-- each inode's names, of what it keeps by name, can be given
+abbrev pub AllHaveGoodNames : InodeMap → Type 0
+AllHaveGoodNames nodes = (ino : ℕ) (node : Node) → map.get nodes ino ≡ Some node → HasGoodNames node
+
 -- What every tree keeps.
 pub record IsTree (tree : Nodes) : Type 0 where
   -- inode 1 is the root, and a directory
@@ -158,6 +168,8 @@ pub record IsTree (tree : Nodes) : Type 0 where
   pub siblings : (ino other dir : ℕ) (name : List ℕ) → IsUnder tree.nodes ino dir name → IsUnder tree.nodes other dir name → ino ≡ other
   -- names are names that can be given
   pub names : (ino dir : ℕ) (name : List ℕ) → IsUnder tree.nodes ino dir name → is_bad_name name ≡ false
+  -- so are those of attributes and of snapshots
+  pub inner_names : AllHaveGoodNames tree.nodes
   -- the root is reached in at most 32 steps
   pub reached : (ino : ℕ) → place tree.nodes ino ≡ Here → (up : List (List ℕ)) × (length up ≤ 32) × Climbs tree.nodes ino up 1
   -- no inode has a number above the last

@@ -7,6 +7,7 @@ mod attributes;
 mod fault;
 mod index;
 mod inodes;
+mod laws;
 mod name;
 mod names;
 mod node;
@@ -15,6 +16,7 @@ mod tree;
 
 pub use attributes::{Attributes, MAX_ATTRIBUTES, MAX_VALUE, Value};
 pub use fault::{NoMemory, TreeFault};
+pub use laws::{depth_is_the_length_of_the_path, within_is_below};
 pub use name::{MAX_NAME, Name, is_bad_attribute, is_bad_name};
 pub use names::{MAX_NAMES, Names};
 pub use node::{Kind, Node, Place, Setting, Site};

@@ -1,0 +1,74 @@
+-- What lies within an inode is what climbs to it, and the depth counts the names of the path.
+use Rattle.std.proofs.Common.{◌≡◌, ℕ, zero, suc, ◌-◌, ◌≤◌, Bool, true, false, ◌||◌, ◌==◌, ◌↔◌, List, [], ◌∷◌, length, reverse, Option, Some, None, refl, sym, ap, subst, ◌∙◌, arith}
+use Rattle.std.proofs.lemmas.List.{length-reverse}
+use Rattle.inotree.specs.declared.node.Site.{Site}
+use Rattle.inotree.specs.declared.node.Site.TheVariants.{Root, Under, Stray}
+use Rattle.inotree.specs.declared.node.Place.{Place}
+use Rattle.inotree.specs.declared.node.Place.TheVariants.{NoIno, Gone, Here}
+use Rattle.inotree.specs.Inodes.{InodeMap}
+use Rattle.inotree.specs.Tree.{Nodes, IsTree, IsUnder, Climbs, site_of, upward, names_up, lies_below, is_within, depth, path_at, path_of, place}
+use Rattle.inotree.proofs.Shape.{one_dir, under_here}
+use Rattle.inotree.proofs.Walks.{lies_below-none, lies_below-step, is_within-is, same_test, test_same, or_first}
+
+-- a walk up that goes on stands somewhere
+stands : (m : InodeMap) (i n above : ℕ) (s : Option Site) → site_of m i ≡ s → upward s false (λ dir name. lies_below n m dir above) ≡ true → (d : ℕ) × (a : List ℕ) × IsUnder m i d a × (lies_below n m d above ≡ true)
+stands m i n above None is e = cc
+stands m i n above (Some Root) is e = cc
+stands m i n above (Some Stray) is e = cc
+stands m i n above (Some (Under dir name)) is e = (dir.0, name, is, e)
+
+here_or_up : (n : ℕ) (m : InodeMap) (i above : ℕ) → ((d : ℕ) → lies_below n m d above ≡ true → (up : List (List ℕ)) × Climbs m d up above)
+    → (b : Bool) → (i == above) ≡ b → (b || upward (site_of m i) false (λ dir name. lies_below n m dir above)) ≡ true → (up : List (List ℕ)) × Climbs m i up above
+here_or_up n m i above further true is s = ([], test_same i above is)
+here_or_up n m i above further false is s =
+    let at = stands m i n above (site_of m i) refl s in
+    let more = further at.0 at.3 in
+    (at.1 ∷ more.0, (at.0, at.2, more.1))
+
+climb_of : (n : ℕ) (m : InodeMap) (i above : ℕ) → lies_below n m i above ≡ true → (up : List (List ℕ)) × Climbs m i up above
+climb_of zero m i above e = ([], test_same i above (sym (lies_below-none m i above) ∙ e))
+climb_of (suc n) m i above e =
+    let less : suc n - 1 ≡ n = omega arith in
+    let step = subst (λ k. ((i == above) || upward (site_of m i) false (λ dir name. lies_below k m dir above)) ≡ true) less (sym (lies_below-step (suc n) m i above (omega arith)) ∙ e) in
+    here_or_up n m i above (λ d. climb_of n m d above) (i == above) refl step
+
+below_of : (up : List (List ℕ)) (n : ℕ) (m : InodeMap) (i above : ℕ) → length up ≤ n → Climbs m i up above → lies_below n m i above ≡ true
+below_of [] zero m i above fits c = lies_below-none m i above ∙ same_test i above c
+below_of [] (suc n) m i above fits c = lies_below-step (suc n) m i above (omega arith) ∙ or_first (i == above) _ (same_test i above c)
+below_of (a ∷ up) n m i above fits c =
+    lies_below-step n m i above (omega arith) ∙ ap (λ s. (i == above) || upward s false (λ dir name. lies_below (n - 1) m dir above)) c.1
+    ∙ ap (λ b. (i == above) || b) (below_of up (n - 1) m c.0 above (omega arith) c.2) ∙ or_true (i == above) where
+      or_true : (b : Bool) → (b || true) ≡ true
+      or_true true = refl
+      or_true false = refl
+
+-- no climb goes beyond the root
+no_longer : (m : InodeMap) (up full : List (List ℕ)) (i above : ℕ) → site_of m 1 ≡ Some Root → Climbs m i up above → Climbs m i full 1 → length up ≤ length full
+no_longer m [] full i above root c t = omega arith
+no_longer m (a ∷ up) [] i above root c t = let site : site_of m i ≡ Some Root = subst (λ k. site_of m k ≡ Some Root) (sym t) root in let u = c.1 in cc
+no_longer m (a ∷ up) (b ∷ full) i above root c t =
+    let same : c.0 ≡ t.0 = one_dir m i c.0 t.0 a b c.1 t.1 in
+    let rest : length up ≤ length full = no_longer m up full c.0 above root c.2 (subst (λ d. Climbs m d full 1) (sym same) t.2) in
+    omega (arith, rest)
+
+climb_fits : (t : Nodes) → IsTree t → (up : List (List ℕ)) (i above : ℕ) → Climbs t.nodes i up above → length up ≤ 32
+climb_fits t tree [] i above c = omega arith
+climb_fits t tree (a ∷ up) i above c =
+    let full = tree.reached i (under_here t.nodes i c.0 a c.1) in
+    let short : length (a ∷ up) ≤ length full.0 = no_longer t.nodes (a ∷ up) full.0 i above tree.root c full.2 in
+    omega (arith, short, full.1)
+
+pub within-climbs : (t : Nodes) (i above : ℕ) → IsTree t → (is_within t.nodes i above ≡ true) ↔ ((up : List (List ℕ)) × Climbs t.nodes i up above)
+within-climbs t i above tree = (
+  λ e. climb_of 32 t.nodes i above (sym (is_within-is t.nodes i above) ∙ e),
+  λ c. is_within-is t.nodes i above ∙ below_of c.0 32 t.nodes i above (climb_fits t tree c.0 i above c.1) c.1,
+)
+
+names_of : (p : Place) (up names : List (List ℕ)) → path_at p up ≡ Some names → reverse up ≡ names
+names_of NoIno up names e = cc
+names_of Gone up names e = cc
+names_of Here up names e = cc
+
+pub depth-path : (m : InodeMap) (i : ℕ) (names : List (List ℕ)) → path_of m i ≡ Some names → depth m i ≡ length names
+unfolding depth path_of
+depth-path m i names e = sym (length-reverse (names_up 32 m i)) ∙ ap length (names_of (place m i) (names_up 32 m i) names e)
