@@ -27,13 +27,13 @@ change_none (r ∷ rows) k f none =
     elim (same k r.holder) as (λ b. cond b (Some r) (find (is_row_of k) rows) ≡ None → cond b (record r { entry = f r.entry } ∷ rows) (r ∷ change_rows rows k f) ≡ r ∷ rows)
     [ true ↦ λ none. absurd (cc) | false ↦ λ none. ap (λ xs. r ∷ xs) (change_none rows k f none) ] none
 
--- two changes that agree on the entry are one
-change_same : (rows : List EntryRow) (k : Holder) (e : Entry) (f : Entry → Entry) → entry_of (find (is_row_of k) rows) ≡ Some e → change_rows rows k (λ _. f e) ≡ change_rows rows k f
-change_same [] k e f some = refl
-change_same (r ∷ rows) k e f some =
-    elim (same k r.holder) as (λ b. entry_of (cond b (Some r) (find (is_row_of k) rows)) ≡ Some e → cond b (record r { entry = f e } ∷ rows) (r ∷ change_rows rows k (λ _. f e)) ≡ cond b (record r { entry = f r.entry } ∷ rows) (r ∷ change_rows rows k f)) [
-      | true ↦ λ some. let same_entry : e ≡ r.entry = cc in ap (λ x. record r { entry = f x } ∷ rows) same_entry
-      | false ↦ λ some. ap (λ xs. r ∷ xs) (change_same rows k e f some)
+-- where the holder's entry is e, a change that gives f e is the change by f
+change_same : (rows : List EntryRow) (k : Holder) (e x : Entry) (f : Entry → Entry) → entry_of (find (is_row_of k) rows) ≡ Some e → x ≡ f e → change_rows rows k (λ _. x) ≡ change_rows rows k f
+change_same [] k e x f some is = refl
+change_same (r ∷ rows) k e x f some is =
+    elim (same k r.holder) as (λ b. entry_of (cond b (Some r) (find (is_row_of k) rows)) ≡ Some e → cond b (record r { entry = x } ∷ rows) (r ∷ change_rows rows k (λ _. x)) ≡ cond b (record r { entry = f r.entry } ∷ rows) (r ∷ change_rows rows k f)) [
+      | true ↦ λ some. let same_entry : e ≡ r.entry = cc in ap (λ y. record r { entry = y } ∷ rows) (is ∙ ap f same_entry)
+      | false ↦ λ some. ap (λ xs. r ∷ xs) (change_same rows k e x f some is)
     ] some
 
 -- what a position says
@@ -62,8 +62,8 @@ pub unchanged_table : (t : Table) (k : Holder) (f : Entry → Entry) → positio
 unchanged_table t k f none = ap (λ (rows : List EntryRow). record { rows = rows; recall = t.recall }) (sym (change_none t.rows k f (no_position (is_row_of k) t.rows none)))
 
 -- the entry was found, and the holder has the changed one now
-pub put_found : (t : Table) (k : Holder) (e : Entry) (f : Entry → Entry) → entry_at t k ≡ Some e → changed t k (λ _. f e) ≡ changed t k f
-put_found t k e f some = ap (λ (rows : List EntryRow). record { rows = rows; recall = t.recall }) (change_same t.rows k e f some)
+pub put_found : (t : Table) (k : Holder) (e x : Entry) (f : Entry → Entry) → entry_at t k ≡ Some e → x ≡ f e → changed t k (λ _. x) ≡ changed t k f
+put_found t k e x f some is = ap (λ (rows : List EntryRow). record { rows = rows; recall = t.recall }) (change_same t.rows k e x f some is)
 
 -- no entry was found, and none changed
 pub none_found : (t : Table) (k : Holder) (f : Entry → Entry) → entry_at t k ≡ None → t ≡ changed t k f

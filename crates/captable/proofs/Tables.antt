@@ -13,7 +13,7 @@ use Rattle.captable.specs.declared.entry.EntryRow.{EntryRow}
 use Rattle.captable.specs.declared.fault.OpenFault.TheVariants as open_kind
 use Rattle.captable.specs.declared.table.TheConstants.{MAX_ENTRIES}
 use Rattle.captable.specs.Table.{Table, IsTable, same, is_row_of, holders_of_rows, is_among, entry_of, entry_at, empty}
-use Rattle.captable.specs.Calls.{new_entry, opened, open_fault, change_rows, changed, asked_row, recalled}
+use Rattle.captable.specs.Calls.{new_entry, opened, open_fault, change_rows, changed, asked_row}
 
 pub same_equiv : IsEquivalence same
 same_equiv =
@@ -64,8 +64,8 @@ holders-asked named (row ∷ rows) =
     elim (is_among named row.holder) as (λ b. (cond b (record row { entry = record row.entry { asked = true } }) row).holder ∷ holders_of_rows (map (asked_row named) rows) ≡ row.holder ∷ holders_of_rows rows)
     [ true ↦ ap (λ hs. row.holder ∷ hs) rest | false ↦ ap (λ hs. row.holder ∷ hs) rest ]
 
-pub IsTable-recalled : (t : Table) (n : ℕ) → IsTable t → IsTable (recalled t n)
-IsTable-recalled t n is = IsTable-rows t (map (asked_row (take n t.recall)) t.rows) (holders-asked (take n t.recall) t.rows) is
+pub IsTable-asked : (t : Table) (named : List Holder) → IsTable t → IsTable (record { rows = map (asked_row named) t.rows; recall = t.recall })
+IsTable-asked t named is = IsTable-rows t (map (asked_row named) t.rows) (holders-asked named t.rows) is
 
 -- ---- one more
 
@@ -73,7 +73,7 @@ or_false : (b : Bool) → (b || false) ≡ b
 or_false true = refl
 or_false false = refl
 
-is_among-push : (hs : List Holder) (k q : Holder) → is_among (hs ++ k ∷ []) q ≡ (is_among hs q || same q k)
+pub is_among-push : (hs : List Holder) (k q : Holder) → is_among (hs ++ k ∷ []) q ≡ (is_among hs q || same q k)
 is_among-push hs k q = list_any-append (same q) hs (k ∷ []) ∙ ap (λ b. is_among hs q || b) (or_false (same q k))
 
 -- a holder with no entry has no row
@@ -122,7 +122,7 @@ apart-filter p k (h ∷ hs) all =
     elim (p h) as (λ b. AllByRecursion (λ h. same k h ≡ false) (cond b (h ∷ filter p hs) (filter p hs)))
     [ true ↦ (all.0, apart-filter p k hs all.1) | false ↦ apart-filter p k hs all.1 ]
 
-distinct-filter : (p : Holder → Bool) (hs : List Holder) → IsDistinct same hs → IsDistinct same (filter p hs)
+pub distinct-filter : (p : Holder → Bool) (hs : List Holder) → IsDistinct same hs → IsDistinct same (filter p hs)
 unfolding IsDistinct
 distinct-filter p [] all = tt
 distinct-filter p (h ∷ hs) all =

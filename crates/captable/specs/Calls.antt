@@ -1,6 +1,6 @@
 -- What each call on the table changes and answers, and which of its tests fails first.
 use Rattle.std.specs.Prelude.{ℕ, ◌+◌, Bool, true, false, not, ◌||◌, ◌==◌, nat_lt, nat_le, Option, Some, None, List, [], ◌∷◌, ◌++◌, map, filter, length, take, slice_get, if◌then◌else◌}
-use Rattle.std.specs.List.{list_any}
+use Rattle.std.specs.List.{list_all}
 use Rattle.capbits.specs.declared.cap.Cap.TheVariants.{P}
 use Rattle.capbits.specs.declared.ids.ClientId.{ClientId}
 use Rattle.capbits.specs.declared.ids.Ino.{Ino}
@@ -19,8 +19,8 @@ use Rattle.captable.specs.declared.table.TheConstants.{MAX_ENTRIES}
 use Rattle.captable.specs.Table.{Table, same, is_row_of, entry_at, is_among}
 
 -- whether a set has no capability
-abbrev pub is_empty : Caps → Bool
-is_empty s = not (list_any (has s) all_caps)
+unfoldable pub is_empty : Caps → Bool
+is_empty s = list_all (λ c. not (has s c)) all_caps
 
 -- ---- one holder's entry
 

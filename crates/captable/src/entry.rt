@@ -1,5 +1,9 @@
 //! What the table keeps of one client on one inode.
 
+ghost use Rattle.std.specs.Prelude.{◌≡◌, ◌<◌, ◌^◌, ◌-◌};
+ghost use Rattle.captable.specs.Calls as words;
+
+use crate::rows::is_none;
 use capbits::{CapSet, ClientId, Ino};
 
 /// A client on an inode, whose entry stands under both.
@@ -37,4 +41,68 @@ pub struct EntryRow {
     pub holder: Holder,
     /// The entry.
     pub entry: Entry,
+}
+
+impl Entry {
+    // The entry of a client that opens the inode.
+    pub(crate) fn new() -> Entry
+        ensures { result ≡ words.new_entry }
+    {
+        Entry {
+            held: CapSet::empty(),
+            want: CapSet::empty(),
+            seq: 0,
+            revoke_seq: 0,
+            told_seq: 0,
+            asked: false,
+        }
+    }
+
+    // The client holds these too.
+    pub(crate) fn issued(&self, caps: CapSet) -> Entry
+        ensures { result ≡ words.issued caps self.now }
+    {
+        let held = self.held.union(caps);
+        Entry { held, ..*self }
+    }
+
+    // The client holds these no more.
+    pub(crate) fn taken(&self, caps: CapSet) -> Entry
+        ensures { result ≡ words.taken caps self.now }
+    {
+        let held = self.held.minus(caps);
+        Entry { held, ..*self }
+    }
+
+    // The client neither holds nor wants these.
+    pub(crate) fn given_back(&self, caps: CapSet) -> Entry
+        ensures { result ≡ words.given_back caps self.now }
+    {
+        let held = self.held.minus(caps);
+        let want = self.want.minus(caps);
+        Entry { held, want, ..*self }
+    }
+
+    // What the client is to know of changed.
+    pub(crate) fn renumbered(&self, before: CapSet, after: CapSet) -> Entry
+        requires { self.now.seq < 2 ^ 64 - 1 }
+        ensures { result ≡ words.renumbered before after self.now }
+    {
+        let lost = !is_none(before.minus(after));
+        let gained = !is_none(after.minus(before));
+        if lost {
+            let seq = self.seq + 1;
+            let revoke_seq = seq;
+            return Entry {
+                seq,
+                revoke_seq,
+                ..*self
+            };
+        }
+        if gained {
+            let seq = self.seq + 1;
+            return Entry { seq, ..*self };
+        }
+        *self
+    }
 }

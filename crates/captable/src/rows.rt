@@ -1,11 +1,11 @@
 //! The lists that the table is made of.
-ghost use Rattle.std.specs.Prelude.{◌≡◌, ◌==◌, not, filter, map};
+ghost use Rattle.std.specs.Prelude.{◌≡◌, ◌==◌, not, filter, map, slice_get};
 ghost use Rattle.std.specs.List.{position, IsDistinct};
 ghost use Rattle.captable.specs.Table as words;
 ghost use Rattle.captable.specs.Table.{is_row_of, is_among};
 ghost use Rattle.captable.specs.Calls.{is_empty, is_of_client, moved_last, asked_row};
 
-use crate::entry::{EntryRow, Holder};
+use crate::entry::{Entry, EntryRow, Holder};
 use capbits::{CapSet, ClientId};
 
 // Whether two are the same client on the same inode.
@@ -65,9 +65,9 @@ pub(crate) fn drop_holders_of(holders: &mut Vec<Holder>, client: ClientId)
 }
 
 // The holder, if it is one of these, comes last.
-pub(crate) fn move_last(holders: &mut Vec<Holder>, holder: Holder)
-    requires { IsDistinct words.same holders.old.items }
-    ensures { holders.new.items ≡ moved_last holders.old.items holder }
+pub(crate) fn move_last(holders: &mut [Holder], holder: Holder)
+    requires { IsDistinct words.same holders.old }
+    ensures { holders.new ≡ moved_last holders.old holder }
 {
     if let Some(place) = holder_place(holders, holder) {
         holders[place..].rotate_left(1);
@@ -81,13 +81,32 @@ pub(crate) fn is_one_of(holders: &[Holder], holder: Holder) -> bool
     holders.iter().any(|other| is_same(holder, *other))
 }
 
+// The row, which is marked as asked if it is of one of these holders.
+fn as_asked(row: &EntryRow, holders: &[Holder]) -> EntryRow
+    ensures { result ≡ asked_row holders.now row.now }
+{
+    if !is_one_of(holders, row.holder) {
+        return *row;
+    }
+    let entry = Entry {
+        asked: true,
+        ..row.entry
+    };
+    EntryRow { entry, ..*row }
+}
+
 // Marks the rows of these holders as asked.
-pub(crate) fn ask_all(rows: &mut Vec<EntryRow>, holders: &[Holder])
-    ensures { rows.new.items ≡ map (asked_row holders.now) rows.old.items }
+pub(crate) fn ask_all(rows: &mut [EntryRow], holders: &[Holder])
+    ensures { rows.new ≡ map (asked_row holders.now) rows.old }
 {
     for row in rows.iter_mut() {
-        if is_one_of(holders, row.holder) {
-            row.entry.asked = true;
-        }
+        *row = as_asked(row, holders);
     }
+}
+
+// The holder at a place.
+pub(crate) fn holder_at(holders: &[Holder], at: usize) -> Option<Holder>
+    ensures { result ≡ slice_get holders.now at }
+{
+    holders.get(at).copied()
 }

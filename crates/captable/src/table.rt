@@ -6,7 +6,7 @@ use crate::entry::{Entry, EntryRow, Holder};
 use crate::fault::{AckFault, NoMemory, OpenFault, ReleaseFault};
 use crate::holders::{Holders, first_of};
 use crate::rows::{
-    ask_all, drop_holder, drop_holders_of, drop_row, drop_rows_of, holder_place, is_none, is_same, move_last, row_place,
+    ask_all, drop_holder, drop_holders_of, drop_row, drop_rows_of, holder_at, holder_place, is_none, is_same, move_last, row_place,
 };
 use crate::walk::{Sought, Walk};
 use capbits::{Cap, CapSet, ClientId, Ino};
@@ -92,14 +92,7 @@ impl CapTable {
     {
         self.rows.reserve(1)?;
         self.recall.push(holder)?;
-        let entry = Entry {
-            held: CapSet::empty(),
-            want: CapSet::empty(),
-            seq: 0,
-            revoke_seq: 0,
-            told_seq: 0,
-            asked: false,
-        };
+        let entry = Entry::new();
         self.rows.push(EntryRow { holder, entry })?;
         Ok(())
     }
@@ -128,8 +121,7 @@ impl CapTable {
         ensures { self.new ≡ changed self.old (holder client ino) (issued caps) }
     {
         if let Some(entry) = self.find(client, ino) {
-            let held = entry.held.union(caps);
-            self.put(Holder { client, ino }, Entry { held, ..entry });
+            self.put(Holder { client, ino }, entry.issued(caps));
         }
     }
 
@@ -159,8 +151,7 @@ impl CapTable {
         if seq < need {
             return Err(AckFault::OldSeq { need });
         }
-        let held = entry.held.minus(against);
-        self.put(Holder { client, ino }, Entry { held, ..entry });
+        self.put(Holder { client, ino }, entry.taken(against));
         Ok(())
     }
 
@@ -172,21 +163,7 @@ impl CapTable {
         ensures { self.new ≡ changed self.old (holder client ino) (renumbered before after) }
     {
         if let Some(entry) = self.find(client, ino) {
-            let lost = !is_none(before.minus(after));
-            let gained = !is_none(after.minus(before));
-            if lost {
-                let seq = entry.seq + 1;
-                let revoke_seq = seq;
-                let changed = Entry {
-                    seq,
-                    revoke_seq,
-                    ..entry
-                };
-                self.put(Holder { client, ino }, changed);
-            } else if gained {
-                let seq = entry.seq + 1;
-                self.put(Holder { client, ino }, Entry { seq, ..entry });
-            }
+            self.put(Holder { client, ino }, entry.renumbered(before, after));
         }
     }
 
@@ -221,7 +198,7 @@ impl CapTable {
         ensures { result ≡ newer_in self.now.recall (holder client ino) }
     {
         let place = holder_place(&self.recall, Holder { client, ino })?;
-        self.recall.get(place + 1).copied()
+        holder_at(&self.recall, place + 1)
     }
 
     /// The client's entry becomes the last in the order of recall. Where it has no entry, nothing happens.
@@ -253,9 +230,7 @@ impl CapTable {
         if caps.has(Cap::P) {
             self.remove(holder);
         } else {
-            let held = entry.held.minus(caps);
-            let want = entry.want.minus(caps);
-            self.put(holder, Entry { held, want, ..entry });
+            self.put(holder, entry.given_back(caps));
         }
         Ok(())
     }
