@@ -43,8 +43,7 @@ newer_none hs k none = newer_absent hs k (no_position (same k) hs none)
 others : (hs : List Holder) (k : Holder) → AllByRecursion (λ h. same k h ≡ false) hs → (filter (λ h. not (same k h)) hs ≡ hs) × (filter (same k) hs ≡ [])
 others [] k all = (refl, refl)
 others (h ∷ hs) k all =
-    let rest = others hs k all.1 in
-    (
+    let rest = others hs k all.1 in (
       ap (λ b. cond (not b) (h ∷ filter (λ h. not (same k h)) hs) (filter (λ h. not (same k h)) hs)) all.0 ∙ ap (λ hs. h ∷ hs) rest.0,
       ap (λ b. cond b (h ∷ filter (same k) hs) (filter (same k) hs)) all.0 ∙ rest.1,
     )
@@ -74,7 +73,7 @@ parted (h ∷ hs) k d apart inside =
     let P = position_or_len (same k) hs in
     let kept = filter (λ x. not (same k x)) hs in
     elim (same k h) as (λ b. same k h ≡ b → cond (not b) (1 + P) 0 < suc (length hs)
-        → (remove (h ∷ hs) (cond (not b) (1 + P) 0) ≡ cond (not b) (h ∷ kept) kept) × (get_or (h ∷ hs) (cond (not b) (1 + P) 0) d ∷ [] ≡ cond b (h ∷ filter (same k) hs) (filter (same k) hs))) [
+    → (remove (h ∷ hs) (cond (not b) (1 + P) 0) ≡ cond (not b) (h ∷ kept) kept) × (get_or (h ∷ hs) (cond (not b) (1 + P) 0) d ∷ [] ≡ cond b (h ∷ filter (same k) hs) (filter (same k) hs))) [
       | true ↦ λ e inside. let o = others hs k (rw (same-is k h e) apart.0) in (sym o.0, ap (λ hs. h ∷ hs) (sym o.1))
       | false ↦ λ e inside. let rest = parted hs k d apart.1 (omega arith) in rw one-add (ap (λ hs. h ∷ hs) rest.0, rest.1)
     ] refl inside

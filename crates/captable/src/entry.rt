@@ -80,7 +80,11 @@ impl Entry {
     {
         let held = self.held.minus(caps);
         let want = self.want.minus(caps);
-        Entry { held, want, ..*self }
+        Entry {
+            held,
+            want,
+            ..*self
+        }
     }
 
     // What the client is to know of changed.

@@ -14,5 +14,7 @@ pub use entry::{Entry, EntryRow, Holder};
 pub use fault::{AckFault, NoMemory, OpenFault, ReleaseFault};
 pub use holders::Holders;
 pub use table::{CapTable, MAX_ENTRIES};
-
 pub use walk::Walk;
+
+#[cfg(test)]
+mod tests;

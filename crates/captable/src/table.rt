@@ -6,7 +6,8 @@ use crate::entry::{Entry, EntryRow, Holder};
 use crate::fault::{AckFault, NoMemory, OpenFault, ReleaseFault};
 use crate::holders::{Holders, first_of};
 use crate::rows::{
-    ask_all, drop_holder, drop_holders_of, drop_row, drop_rows_of, holder_at, holder_place, is_none, is_same, move_last, row_place,
+    ask_all, drop_holder, drop_holders_of, drop_row, drop_rows_of, holder_at, holder_place,
+    is_none, is_same, move_last, row_place,
 };
 use crate::walk::{Sought, Walk};
 use capbits::{Cap, CapSet, ClientId, Ino};
@@ -210,12 +211,7 @@ impl CapTable {
 
     /// The client gives back these capabilities: it neither holds nor wants them any more. With the pin among them its
     /// whole entry goes, from both orders. A refusal changes nothing.
-    pub fn release(
-        &mut self,
-        client: ClientId,
-        ino: Ino,
-        caps: CapSet,
-    ) -> Result<(), ReleaseFault>
+    pub fn release(&mut self, client: ClientId, ino: Ino, caps: CapSet) -> Result<(), ReleaseFault>
         ensures fault { result_err result ≡ release_fault self.old (holder client ino) caps }
         ensures ok { OnOk result (self.new ≡ released self.old (holder client ino) caps) }
         ensures err { OnErr result (self.new ≡ self.old) }
