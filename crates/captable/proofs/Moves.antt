@@ -1,5 +1,5 @@
 -- The order of recall: the holder after one, and a holder that comes last.
-use Rattle.std.proofs.Common.{◌≡◌, ℕ, ◌+◌, ◌<◌, Bool, true, false, not, ◌&&◌, ◌||◌, cond, Option, Some, None, List, [], ◌∷◌, ◌++◌, length, filter, take, drop, get_or, refl, sym, ap, ◌∙◌, arith, suc, zero, IsTrue, true≢false}
+use Rattle.std.proofs.Common.{◌≡◌, ℕ, ◌+◌, ◌<◌, Bool, true, false, not, ◌&&◌, ◌||◌, cond, Some, None, List, [], ◌∷◌, ◌++◌, length, filter, get_or, refl, sym, ap, ◌∙◌, arith, suc}
 use Rattle.std.specs.List.{find, position, position_or_len, slice_get, remove, AllByRecursion, IsDistinct}
 use Rattle.std.proofs.Math.Numerals.{one-add}
 use Rattle.std.proofs.lemmas.Map.Keys.{IsDistinct-push}
@@ -8,7 +8,7 @@ use Rattle.captable.specs.declared.entry.Holder.{Holder}
 use Rattle.captable.specs.Table.{Table, IsTable, same, is_among}
 use Rattle.captable.specs.Calls.{newer_in, moved_last, touched}
 use Rattle.captable.proofs.Changes.{at_position, no_position}
-use Rattle.captable.proofs.Tables.{same_equiv, same-is, among-filter, distinct-filter, is_among-push}
+use Rattle.captable.proofs.Tables.{same_equiv, same-is, among-filter, distinct-filter}
 
 -- ---- the holder after one
 

@@ -1,5 +1,5 @@
 -- The table of entries as a value: its rows in the order of making, and the order of recall.
-use Rattle.std.specs.Prelude.{◌≡◌, ℕ, ◌≤◌, Bool, ◌&&◌, ◌==◌, Option, Some, None, List, [], map, length}
+use Rattle.std.specs.Prelude.{◌≡◌, ◌≤◌, Bool, ◌&&◌, ◌==◌, Option, Some, None, List, [], map, length}
 use Rattle.std.specs.List.{find, list_any, IsDistinct}
 use Rattle.capbits.specs.declared.ids.ClientId.{ClientId}
 use Rattle.capbits.specs.declared.ids.Ino.{Ino}

@@ -1,4 +1,4 @@
-use Rattle.std.proofs.Common.{◌≡◌, None, List, [], ◌∷◌, ◌++◌, ap, ◌∙◌, sym}
+use Rattle.std.proofs.Common.{◌≡◌, None, [], ◌∷◌, ◌++◌, ap, ◌∙◌}
 use Rattle.captable.specs.Table.{Table, entry_at}
 use Rattle.captable.specs.Calls.{new_entry, open_fault}
 use Rattle.captable.proofs.Tables.{IsTable-opened}

@@ -1,4 +1,4 @@
-use Rattle.std.proofs.Common.{◌≡◌, Some, None, refl, ◌∙◌}
+use Rattle.std.proofs.Common.{◌≡◌, Some, None, ◌∙◌}
 use Rattle.captable.specs.Table.{holder, entry_at}
 use Rattle.captable.specs.Calls.{renumbered}
 use Rattle.captable.proofs.Changes.{put_found, none_found}
