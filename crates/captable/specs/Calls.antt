@@ -1,0 +1,145 @@
+-- What each call on the table changes and answers, and which of its tests fails first.
+use Rattle.std.specs.Prelude.{ℕ, ◌+◌, Bool, true, false, not, ◌==◌, nat_lt, nat_le, Option, Some, None, List, [], ◌∷◌, ◌++◌, map, filter, length, take, slice_get, if◌then◌else◌}
+use Rattle.std.specs.List.{list_all}
+use Rattle.capbits.specs.declared.cap.Cap.TheVariants.{P}
+use Rattle.capbits.specs.declared.ids.ClientId.{ClientId}
+use Rattle.capbits.specs.declared.ids.Ino.{Ino}
+use Rattle.capbits.specs.Caps.{Caps, has, all_caps}
+use Rattle.capbits.specs.Sets.{no_caps, union, meet, minus}
+use Rattle.captable.specs.declared.entry.Holder.{Holder}
+use Rattle.captable.specs.declared.entry.Entry.{Entry}
+use Rattle.captable.specs.declared.entry.EntryRow.{EntryRow}
+use Rattle.captable.specs.declared.fault.OpenFault.{OpenFault}
+use Rattle.captable.specs.declared.fault.OpenFault.TheVariants as open_kind
+use Rattle.captable.specs.declared.fault.AckFault.{AckFault}
+use Rattle.captable.specs.declared.fault.AckFault.TheVariants as ack_kind
+use Rattle.captable.specs.declared.fault.ReleaseFault.{ReleaseFault}
+use Rattle.captable.specs.declared.fault.ReleaseFault.TheVariants as release_kind
+use Rattle.captable.specs.declared.table.TheConstants.{MAX_ENTRIES}
+use Rattle.captable.specs.Table.{Table, same, is_row_of, entry_at, is_among}
+
+-- whether a set has no capability
+unfoldable pub is_empty : Caps → Bool
+is_empty s = list_all (λ c. not (has s c)) all_caps
+
+-- ---- one holder's entry
+
+-- the entry of one that opens an inode
+abbrev pub new_entry : Entry
+new_entry = record { held = no_caps; want = no_caps; seq = 0; revoke_seq = 0; told_seq = 0; asked = false }
+
+-- the table with a new entry for the holder, last in both orders
+abbrev pub opened : Table → Holder → Table
+opened table k = record { rows = table.rows ++ record { holder = k; entry = new_entry } ∷ []; recall = table.recall ++ k ∷ [] }
+
+-- the first test of a new entry that fails
+abbrev pub open_fault : Table → Option OpenFault
+open_fault table = if nat_le MAX_ENTRIES (length table.rows) then Some open_kind.Limit else None
+
+-- the rows, with the holder's entry changed by f
+abbrev pub change_rows : List EntryRow → Holder → (Entry → Entry) → List EntryRow
+change_rows [] k f = []
+change_rows (row ∷ rows) k f = if is_row_of k row then record row { entry = f row.entry } ∷ rows else row ∷ change_rows rows k f
+
+-- the table with the holder's entry changed by f, where it has one
+abbrev pub changed : Table → Holder → (Entry → Entry) → Table
+changed table k f = record table { rows = change_rows table.rows k f }
+
+-- the table without the holder
+abbrev pub without : Table → Holder → Table
+without table k = record {
+  rows = filter (λ row. not (is_row_of k row)) table.rows;
+  recall = filter (λ h. not (same k h)) table.recall;
+}
+
+-- ---- changes of an entry
+
+abbrev pub wanting : Caps → Entry → Entry
+wanting want e = record e { want = want }
+
+-- more is held
+abbrev pub issued : Caps → Entry → Entry
+issued caps e = record e { held = union e.held caps }
+
+-- these are held no more
+abbrev pub taken : Caps → Entry → Entry
+taken caps e = record e { held = minus e.held caps }
+
+-- these are neither held nor wanted
+abbrev pub given_back : Caps → Entry → Entry
+given_back caps e = record e { held = minus e.held caps; want = minus e.want caps }
+
+-- what the client is to know of changed from one set to another: by a new number, which is that of a revocation too if
+-- a capability went
+abbrev pub renumbered : Caps → Caps → Entry → Entry
+renumbered before after e =
+    if not (is_empty (minus before after)) then record e { seq = e.seq + 1; revoke_seq = e.seq + 1 }
+    else if not (is_empty (minus after before)) then record e { seq = e.seq + 1 } else e
+
+-- the client was told of the last change
+abbrev pub told : Entry → Entry
+told e = record e { told_seq = e.seq }
+
+abbrev pub with_asked : Bool → Entry → Entry
+with_asked asked e = record e { asked = asked }
+
+-- ---- acknowledgement and release
+
+-- the first test of an acknowledgement that fails
+abbrev pub ack_fault_of : Option Entry → ℕ → Caps → Option AckFault
+ack_fault_of None seq against = Some ack_kind.NoEntry
+ack_fault_of (Some e) seq against =
+    if is_empty (meet e.held against) then Some ack_kind.NothingToAck else
+    if nat_lt e.told_seq seq then Some ack_kind.BadSeq else
+    if nat_lt seq e.revoke_seq then Some (ack_kind.OldSeq e.revoke_seq) else None
+
+abbrev pub ack_fault : Table → Holder → ℕ → Caps → Option AckFault
+ack_fault table k seq against = ack_fault_of (entry_at table k) seq against
+
+-- the first test of a release that fails
+abbrev pub release_fault_of : Option Entry → Caps → Option ReleaseFault
+release_fault_of None caps = Some release_kind.NoEntry
+release_fault_of (Some e) caps = if is_empty (minus caps e.held) then None else Some release_kind.NotHeld
+
+abbrev pub release_fault : Table → Holder → Caps → Option ReleaseFault
+release_fault table k caps = release_fault_of (entry_at table k) caps
+
+-- the table after a release: with the pin the whole entry goes
+abbrev pub released : Table → Holder → Caps → Table
+released table k caps = if has caps P then without table k else changed table k (given_back caps)
+
+-- ---- the order of recall
+
+-- the holder after this one
+abbrev pub newer_in : List Holder → Holder → Option Holder
+newer_in [] k = None
+newer_in (h ∷ holders) k = if same k h then slice_get holders 0 else newer_in holders k
+
+-- the holder, if it is among these, comes last
+abbrev pub moved_last : List Holder → Holder → List Holder
+moved_last holders k = filter (λ h. not (same k h)) holders ++ filter (same k) holders
+
+abbrev pub touched : Table → Holder → Table
+touched table k = record table { recall = moved_last table.recall k }
+
+-- the first n in the order of recall are asked
+abbrev pub asked_row : List Holder → EntryRow → EntryRow
+asked_row named row = if is_among named row.holder then record row { entry = with_asked true row.entry } else row
+
+abbrev pub recalled : Table → ℕ → Table
+recalled table n = record table { rows = map (asked_row (take n table.recall)) table.rows }
+
+-- ---- the entries of one client, and of one inode
+
+abbrev pub is_of_client : ClientId → EntryRow → Bool
+is_of_client client row = row.holder.client.0 == client.0
+
+abbrev pub is_of_inode : Ino → EntryRow → Bool
+is_of_inode ino row = row.holder.ino.0 == ino.0
+
+-- the table without the client
+abbrev pub without_client : Table → ClientId → Table
+without_client table client = record {
+  rows = filter (λ row. not (is_of_client client row)) table.rows;
+  recall = filter (λ h. not (h.client.0 == client.0)) table.recall;
+}

@@ -1,0 +1,60 @@
+//! A list of holders.
+ghost use Rattle.std.specs.Prelude.{◌≡◌, IfOk, length, take};
+
+use crate::entry::Holder;
+use crate::fault::NoMemory;
+use std::marker::Model;
+
+/// A list of holders.
+#[derive(Debug, Drop)]
+pub struct Holders {
+    list: Vec<Holder>,
+}
+
+impl Model for Holders {
+    ghost use Rattle.std.specs.Prelude.{List};
+    ghost use Rattle.captable.specs.declared.entry.Holder.{Holder};
+
+    ghost Value = { List Holder };
+
+    ghost view = { λ h. h.list.items };
+}
+
+impl Holders {
+    /// The holders of a list.
+    pub fn from_vec(list: Vec<Holder>) -> Holders
+        ensures { result ≡ list.items }
+    {
+        Holders { list }
+    }
+
+    /// The list of these holders.
+    pub fn into_vec(self) -> Vec<Holder>
+        ensures { result.items ≡ self }
+    {
+        self.list
+    }
+
+    /// These holders, in their order.
+    pub fn as_slice(&self) -> &[Holder]
+        ensures { result.now ≡ self.now }
+    {
+        &self.list
+    }
+
+    /// How many there are.
+    pub fn len(&self) -> usize
+        ensures { result ≡ length self.now }
+    {
+        self.list.len()
+    }
+}
+
+// A copy of the first `n` of these.
+pub(crate) fn first_of(holders: &Vec<Holder>, n: u32) -> Result<Holders, NoMemory>
+    ensures { IfOk result (λ named. named ≡ take n holders.now.items) }
+{
+    let count = (n as usize).min(holders.len());
+    let list = holders[..count].to_vec(*holders.allocator())?;
+    Ok(Holders { list })
+}
