@@ -1,0 +1,9 @@
+use Rattle.std.proofs.Common.{ap, ◌∙◌}
+use Rattle.std.specs.FinMap as map
+use Rattle.sessiontab.proofs.Entries.{insert-entries}
+use Rattle.lockmachine.proofs.states.States.insert.Goals as goal
+
+pub returns-clause-ok : goal.returns-clause-ok
+returns-clause-ok c =
+    insert-entries c.self.inside.locks.entries c.insert.new.self.entries c.args.ino.0 c.args.locks c.in_ok-insert.ensures.updates.0
+    ∙ ap (λ m. map.insert m c.args.ino.0 c.args.locks) c.self.view_is

@@ -1,0 +1,37 @@
+-- The locks of each inode.
+use Rattle.std.specs.Coded.{Coded, coded_ℕ}
+use Rattle.std.specs.Ordering.{nat_cmp}
+use Rattle.std.specs.FinMap as map
+use Rattle.std.specs.FinMap.{FinMap}
+use Rattle.capbits.specs.declared.cap.Part.{Part}
+use Rattle.capbits.specs.declared.cap.Part.TheVariants.{A, L, X, F}
+use Rattle.locktable.specs.declared.states.State.TheVariants.{Sync}
+use Rattle.locktable.specs.declared.states.LockState.{LockState}
+use Rattle.locktable.specs.declared.states.LockState.TheVariants.{Stable}
+use Rattle.lockmachine.specs.declared.states.InodeLocks.{InodeLocks}
+use Rattle.lockmachine.specs.contracts.states.InodeLocks as inode_locks
+
+-- the locks of each inode, by its number
+abbrev pub StateMap : Type 0
+StateMap = FinMap nat_cmp InodeLocks
+
+-- a map is stored as its entries
+abbrev pub state_map_code : Coded StateMap
+state_map_code = map.code coded_ℕ inode_locks.the_row.coded
+
+-- the lock of a part
+abbrev pub lock_in : Part → InodeLocks → LockState
+lock_in A locks = locks.auth
+lock_in L locks = locks.link
+lock_in X locks = locks.xattr
+lock_in F locks = locks.file
+
+abbrev pub with_lock_in : Part → LockState → InodeLocks → InodeLocks
+with_lock_in A state locks = record locks { auth = state }
+with_lock_in L state locks = record locks { link = state }
+with_lock_in X state locks = record locks { xattr = state }
+with_lock_in F state locks = record locks { file = state }
+
+-- the locks of a new inode
+abbrev pub in_sync : InodeLocks
+in_sync = record { auth = Stable Sync; link = Stable Sync; xattr = Stable Sync; file = Stable Sync }

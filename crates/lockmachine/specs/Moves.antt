@@ -1,0 +1,130 @@
+-- Which move comes next, what each does to the locks, and when they are at rest.
+use Rattle.std.specs.Prelude.{◌≡◌, ℕ, Bool, true, false, ◌&&◌, not, ◌==◌, List, [], ◌∷◌, Option, Some, None}
+use Rattle.std.specs.List.{find, list_any, flat_map}
+use Rattle.std.specs.Option.{option_map_or}
+use Rattle.std.specs.FinMap as map
+use Rattle.capbits.specs.declared.cap.Part.{Part}
+use Rattle.capbits.specs.declared.cap.Part.TheVariants.{A, L, X, F}
+use Rattle.locktable.specs.declared.states.State.{State}
+use Rattle.locktable.specs.declared.states.State.TheVariants.{Sync, Lock, Mix, Excl}
+use Rattle.locktable.specs.declared.states.LockState.{LockState}
+use Rattle.locktable.specs.declared.states.LockState.TheVariants.{Stable, Gather}
+use Rattle.locktable.specs.declared.targets.Head.{Head}
+use Rattle.locktable.specs.Targets.{is_served}
+use Rattle.captable.specs.Calls.{is_empty}
+use Rattle.lockmachine.specs.declared.request.Request.{Request}
+use Rattle.lockmachine.specs.declared.moves.Move.{Move}
+use Rattle.lockmachine.specs.declared.moves.Move.TheVariants.{Begin, End, Serve, Settled}
+use Rattle.lockmachine.specs.Requests.{first_for, part_of_ask, head_of_ask, is_numbered}
+use Rattle.lockmachine.specs.Locks.{LockMap, lock_at, with_lock}
+use Rattle.lockmachine.specs.Scene.{Scene, rows_on, target, outside}
+
+abbrev pub same_state : State → State → Bool
+same_state Sync Sync = true
+same_state Lock Lock = true
+same_state Mix Mix = true
+same_state (Excl a) (Excl b) = a.0 == b.0
+same_state a b = false
+
+-- some capabilities are still to be told back before the lock can be in its target
+abbrev pub is_open : Scene → ℕ → Part → State → Bool
+is_open s ino part to = list_any (λ row. not (is_empty (outside part to row))) (rows_on s ino)
+
+-- ---- which moves apply
+
+-- a lock, by its inode and part
+abbrev pub LockPlace : Type 0
+LockPlace = ℕ × Part
+
+-- the locks, by inode and then in the order A, L, X, F
+abbrev pub places_of : ℕ → List LockPlace
+places_of ino = (ino, A) ∷ (ino, L) ∷ (ino, X) ∷ (ino, F) ∷ []
+
+abbrev pub places : LockMap → List LockPlace
+places locks = flat_map places_of (map.keys locks.states)
+
+abbrev pub may_end_in : Scene → LockPlace → Option LockState → Bool
+may_end_in s at None = false
+may_end_in s at (Some (Stable state)) = false
+may_end_in s at (Some (Gather from to)) = not (is_open s at.0 at.1 to)
+
+-- the lock is in a gather that is not open
+abbrev pub may_end : Scene → LockPlace → Bool
+may_end s at = may_end_in s at (lock_at s.locks at.0 at.1)
+
+abbrev pub may_begin_in : Scene → LockPlace → Option LockState → Bool
+may_begin_in s at None = false
+may_begin_in s at (Some (Gather from to)) = false
+may_begin_in s at (Some (Stable state)) = not (same_state (target s at.0 at.1 state) state)
+
+-- the lock is stable, and not at its target
+abbrev pub may_begin : Scene → LockPlace → Bool
+may_begin s at = may_begin_in s at (lock_at s.locks at.0 at.1)
+
+abbrev pub is_served_in : Option LockState → Head → Bool
+is_served_in None head = false
+is_served_in (Some (Gather from to)) head = false
+is_served_in (Some (Stable state)) head = is_served state head
+
+-- the request is the first for its lock, which is stable in a state that serves it
+abbrev pub may_serve : LockMap → Request → Bool
+may_serve locks q =
+    let part = part_of_ask q.ask in
+    option_map_or (is_numbered q.ticket.0) (first_for locks.queue q.ino.0 part) false
+    && is_served_in (lock_at locks q.ino.0 part) (head_of_ask q.client q.ask)
+
+-- ---- the first that applies
+
+-- the state that a lock has reached, or leaves in a gather
+abbrev pub present_state : Option LockState → State
+present_state None = Sync
+present_state (Some (Stable state)) = state
+present_state (Some (Gather from to)) = from
+
+-- the state that a lock has reached, or is to reach
+abbrev pub coming_state : Option LockState → State
+coming_state None = Sync
+coming_state (Some (Stable state)) = state
+coming_state (Some (Gather from to)) = to
+
+abbrev pub begin_or_rest : Scene → Option LockPlace → Move
+begin_or_rest s None = Settled
+begin_or_rest s (Some at) = Begin (record { 0 = at.0 }) at.1 (target s at.0 at.1 (present_state (lock_at s.locks at.0 at.1)))
+
+abbrev pub serve_or_begin : Scene → Option Request → Move
+serve_or_begin s None = begin_or_rest s (find (may_begin s) (places s.locks))
+serve_or_begin s (Some q) = Serve q.ticket
+
+abbrev pub end_or_serve : Scene → Option LockPlace → Move
+end_or_serve s None = serve_or_begin s (find (may_serve s.locks) s.locks.queue)
+end_or_serve s (Some at) = End (record { 0 = at.0 }) at.1
+
+-- the least gather that may end; else the oldest request that may be served; else the least lock that may begin
+unfoldable pub first_move : Scene → Move
+first_move s = end_or_serve s (find (may_end s) (places s.locks))
+
+-- ---- what they do
+
+abbrev pub relocked : Scene → ℕ → Part → LockState → Scene
+relocked s ino part lock = record s { locks = with_lock s.locks ino part lock }
+
+-- the lock gathers
+abbrev pub begun : Scene → ℕ → Part → State → Scene
+begun s ino part to = relocked s ino part (Gather (present_state (lock_at s.locks ino part)) to)
+
+-- the lock is stable in the target of its gather
+abbrev pub gathered : Scene → ℕ → Part → Scene
+gathered s ino part = relocked s ino part (Stable (coming_state (lock_at s.locks ino part)))
+
+-- ---- rest
+
+-- the lock is stable at its target and nobody waits for it; or it gathers, and some capabilities are still to be told
+-- back
+abbrev pub IsQuiet : Scene → ℕ → Part → Option LockState → Type 0
+IsQuiet s ino part None = Unit {0}
+IsQuiet s ino part (Some (Stable state)) = (target s ino part state ≡ state) × (first_for s.locks.queue ino part ≡ None)
+IsQuiet s ino part (Some (Gather from to)) = is_open s ino part to ≡ true
+
+-- all locks are
+pub record IsAtRest (s : Scene) : Type 0 where
+  pub each : (ino : ℕ) (part : Part) → IsQuiet s ino part (lock_at s.locks ino part)

@@ -1,0 +1,71 @@
+-- What the grants of a client say of an inode, on a tree and with the sessions of one moment.
+use Rattle.std.specs.Prelude.{ℕ, Bool, true, false, List, [], ◌∷◌, Option, Some, None}
+use Rattle.std.specs.FinMap as map
+use Rattle.capbits.specs.declared.cap.Cap.TheVariants.{P}
+use Rattle.capbits.specs.Caps.{Caps}
+use Rattle.capbits.specs.Sets.{caps_in}
+use Rattle.capgrant.specs.declared.access.Access.{Access}
+use Rattle.capgrant.specs.declared.rule.Rule.{Rule}
+use Rattle.capgrant.specs.Question.{Question}
+use Rattle.capgrant.specs.Verdict.{granted, first_failures}
+use Rattle.capgrant.specs.Permitted.{permitted_of}
+use Rattle.sessiontab.specs.declared.session.Session.{Session}
+use Rattle.sessiontab.specs.declared.session.Status.{Status}
+use Rattle.sessiontab.specs.declared.session.Status.TheVariants.{Open, Stale}
+use Rattle.sessiontab.specs.Table.{SessionTable}
+use Rattle.inotree.specs.declared.node.Node.{Node}
+use Rattle.inotree.specs.Tree.{Nodes, path_of}
+use Rattle.captable.specs.declared.entry.Holder.{Holder}
+
+-- a client's session, and the path of an inode with what the tree keeps of it
+pub record Subject : Type 0 where
+  pub session : Session
+  pub path : List (List ℕ)
+  pub node : Node
+
+abbrev pub subject_of : Option Session → Option (List (List ℕ)) → Option Node → Option Subject
+subject_of None path inode = None
+subject_of (Some session) None inode = None
+subject_of (Some session) (Some path) None = None
+subject_of (Some session) (Some path) (Some node) = Some (record { session = session; path = path; node = node })
+
+-- the client has a session, and the inode a path
+abbrev pub subject : Nodes → SessionTable → Holder → Option Subject
+subject tree sessions k = subject_of (map.get sessions.sessions k.client.0) (path_of tree.nodes k.ino.0) (map.get tree.nodes k.ino.0)
+
+-- may the client make this access to the inode?
+abbrev pub asked : List ℕ → Subject → Access → Question
+asked fs s access = record { fs = fs; caller = s.session.caller; path = s.path; attr = s.node.attr; access = access }
+
+abbrev pub is_granted_to : List ℕ → Option Subject → Access → Bool
+is_granted_to fs None access = false
+is_granted_to fs (Some s) access = granted (asked fs s access) s.session.grants
+
+-- some grant of the client allows the access
+abbrev pub is_granted : List ℕ → Nodes → SessionTable → Holder → Access → Bool
+is_granted fs tree sessions k access = is_granted_to fs (subject tree sessions k) access
+
+abbrev pub failures_of : List ℕ → Option Subject → Access → List Rule
+failures_of fs None access = []
+failures_of fs (Some s) access = first_failures (asked fs s access) s.session.grants
+
+-- the rule by which each grant of the client fails first, in the order of the grants
+abbrev pub failures : List ℕ → Nodes → SessionTable → Holder → Access → List Rule
+failures fs tree sessions k access = failures_of fs (subject tree sessions k) access
+
+-- on a stray, which has no path, the pin alone is permitted
+abbrev pub permitted_to : List ℕ → Option Subject → Caps
+permitted_to fs None = caps_in (P ∷ [])
+permitted_to fs (Some s) = permitted_of (asked fs s) s.session.grants
+
+-- what the grants permit the client to hold
+abbrev pub permitted : List ℕ → Nodes → SessionTable → Holder → Caps
+permitted fs tree sessions k = permitted_to fs (subject tree sessions k)
+
+abbrev pub is_open_session : Option Session → Bool
+is_open_session None = false
+is_open_session (Some session) = is_open session.status
+  where
+    is_open : Status → Bool
+    is_open Open = true
+    is_open Stale = false

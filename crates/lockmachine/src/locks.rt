@@ -1,0 +1,64 @@
+//! The locks by inode, and the queue.
+ghost use Rattle.std.specs.Prelude.{◌≡◌, IsOkAnd, OnOk, OnErr};
+ghost use Rattle.lockmachine.specs.Locks as words;
+
+use crate::fault::NoMemory;
+use crate::request::Request;
+use crate::states::{InodeLocks, States};
+use capbits::{Ino, Part};
+use locktable::LockState;
+use std::alloc::Global;
+use std::marker::Model;
+
+/// The locks of all inodes, and the requests that wait for them.
+#[derive(Debug, Drop)]
+pub struct Locks {
+    states: States,
+    // The oldest first.
+    queue: Vec<Request>,
+}
+
+impl Model for Locks {
+    ghost use Rattle.lockmachine.specs.Locks.{LockMap, lock_map_code};
+
+    ghost Value = { LockMap };
+
+    ghost coded = { lock_map_code };
+
+    ghost view = { λ l. record { states = l.states; queue = l.queue.items } };
+}
+
+impl Locks {
+    /// No locks, and nobody waits. The first inode is the first to take memory, so this is `Ok`.
+    pub fn new(alloc: Global) -> Result<Locks, NoMemory>
+        ensures { IsOkAnd result (λ locks. locks ≡ words.no_locks) }
+    {
+        Ok(Locks {
+            states: States::new(alloc),
+            queue: Vec::new(alloc),
+        })
+    }
+
+    /// Adds the locks of a new inode, each stable in SYNC. For want of memory nothing changes.
+    pub fn add_ino(&mut self, ino: Ino) -> Result<(), NoMemory>
+        ensures ok { OnOk result (self.new ≡ words.with_ino self.old ino.0) }
+        ensures err { OnErr result (self.new ≡ self.old) }
+    {
+        self.states.insert(ino, InodeLocks::new())
+    }
+
+    /// Drops the locks of an inode, where it has any.
+    pub fn drop_ino(&mut self, ino: Ino)
+        ensures { self.new ≡ words.without_ino self.old ino.0 }
+    {
+        self.states.remove(ino);
+    }
+
+    /// The lock of an inode's part, where the inode has locks.
+    pub fn state(&self, ino: Ino, part: Part) -> Option<LockState>
+        ensures { result ≡ words.lock_at self.now ino.0 part }
+    {
+        let locks = self.states.get(ino)?;
+        Some(locks.of_part(part))
+    }
+}

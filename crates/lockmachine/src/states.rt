@@ -1,0 +1,104 @@
+//! The locks of each inode.
+ghost use Rattle.std.specs.Prelude.{◌≡◌, OnOk, OnErr};
+ghost use Rattle.std.specs.Option.{option_copied};
+ghost use Rattle.std.specs.FinMap as map;
+ghost use Rattle.lockmachine.specs.Inodes as words;
+
+use crate::fault::NoMemory;
+use capbits::{Ino, Part};
+use locktable::{LockState, State};
+use std::alloc::Global;
+use std::collections::BTreeMap;
+use std::marker::Model;
+
+/// The four locks of an inode, one for each part.
+#[derive(Clone, Copy, Debug, PartialEq, Eq)]
+pub struct InodeLocks {
+    /// Of its owner, group and mode.
+    pub auth: LockState,
+    /// Of its link count.
+    pub link: LockState,
+    /// Of its extended attributes.
+    pub xattr: LockState,
+    /// Of its data, with size and times.
+    pub file: LockState,
+}
+
+impl InodeLocks {
+    // Those of a new inode.
+    pub(crate) fn new() -> InodeLocks
+        ensures { result ≡ words.in_sync }
+    {
+        let sync = LockState::Stable(State::Sync);
+        InodeLocks {
+            auth: sync,
+            link: sync,
+            xattr: sync,
+            file: sync,
+        }
+    }
+
+    /// The lock of a part.
+    pub fn of_part(&self, part: Part) -> LockState
+        ensures { result ≡ words.lock_in part self.now }
+    {
+        match part {
+            Part::A => self.auth,
+            Part::L => self.link,
+            Part::X => self.xattr,
+            Part::F => self.file,
+        }
+    }
+}
+
+// The locks of each inode that has any.
+#[derive(Debug, Drop)]
+pub(crate) struct States {
+    // By the inode's number.
+    locks: BTreeMap<u64, InodeLocks>,
+}
+
+impl Model for States {
+    ghost use Rattle.std.specs.FinMap as map;
+    ghost use Rattle.lockmachine.specs.Inodes.{StateMap, state_map_code};
+
+    ghost Value = { StateMap };
+
+    ghost coded = { state_map_code };
+
+    ghost view = { λ s. map.from_entries s.locks.entries };
+}
+
+impl States {
+    // Of no inode.
+    pub(crate) fn new(alloc: Global) -> States
+        ensures { result ≡ map.empty }
+    {
+        States {
+            locks: BTreeMap::new(alloc),
+        }
+    }
+
+    // The locks of an inode, where it has any.
+    pub(crate) fn get(&self, ino: Ino) -> Option<&InodeLocks>
+        ensures { option_copied result ≡ map.get self.now ino.0 }
+    {
+        self.locks.get(&ino.0)
+    }
+
+    // Gives an inode these locks.
+    pub(crate) fn insert(&mut self, ino: Ino, locks: InodeLocks) -> Result<(), NoMemory>
+        ensures ok { OnOk result (self.new ≡ map.insert self.old ino.0 locks) }
+        ensures err { OnErr result (self.new ≡ self.old) }
+    {
+        self.locks.insert(ino.0, locks)?;
+        Ok(())
+    }
+
+    // Takes the locks of an inode away.
+    pub(crate) fn remove(&mut self, ino: Ino)
+        ensures { self.new ≡ map.remove self.old ino.0 }
+    {
+        self.locks.remove(&ino.0);
+    }
+}
