@@ -62,10 +62,10 @@ permitted_to fs (Some s) = permitted_of (asked fs s) s.session.grants
 abbrev pub permitted : List ℕ → Nodes → SessionTable → Holder → Caps
 permitted fs tree sessions k = permitted_to fs (subject tree sessions k)
 
+abbrev pub is_open : Status → Bool
+is_open Open = true
+is_open Stale = false
+
 abbrev pub is_open_session : Option Session → Bool
 is_open_session None = false
 is_open_session (Some session) = is_open session.status
-  where
-    is_open : Status → Bool
-    is_open Open = true
-    is_open Stale = false

@@ -1,0 +1,72 @@
+-- What an event does and answers by itself, before any lock moves.
+use Rattle.std.specs.Prelude.{ℕ, ◌+◌, List, [], Option, Some, None}
+use Rattle.std.specs.FinMap as map
+use Rattle.capbits.specs.declared.ids.ClientId.{ClientId}
+use Rattle.capbits.specs.declared.mode.Mode.{Mode}
+use Rattle.capgrant.specs.declared.access.Attr.{Attr}
+use Rattle.inotree.specs.declared.node.Kind.{Kind}
+use Rattle.inotree.specs.declared.node.Kind.TheVariants.{Directory, File}
+use Rattle.inotree.specs.Inodes.{with_snapshot, without_snapshot}
+use Rattle.inotree.specs.Tree.{Nodes, child}
+use Rattle.inotree.specs.Calls.{with_new, changed}
+use Rattle.sessiontab.specs.declared.session.Session.{Session}
+use Rattle.sessiontab.specs.Calls.{with_session}
+use Rattle.lockmachine.specs.Locks.{with_ino}
+use Rattle.capcore.specs.declared.event.Event.{Event}
+use Rattle.capcore.specs.declared.event.Event.TheVariants as event
+use Rattle.capcore.specs.declared.outcome.Ended.{Ended}
+use Rattle.capcore.specs.declared.reply.Reply.{Reply}
+use Rattle.capcore.specs.declared.reply.Reply.TheVariants as reply
+use Rattle.capcore.specs.State.{State}
+use Rattle.capcore.specs.Judge.{judged}
+
+-- what is answered: this reply, whatever the step still does
+pub data Answer : Type 0 where
+  Says : Reply → Answer
+
+-- the state after an event, the answer, and the requests that the event itself ended
+pub record Direct : Type 0 where
+  pub state : State
+  pub answer : Answer
+  pub dropped : List Ended
+
+-- the event changes nothing and answers this
+abbrev pub says : State → Reply → Direct
+says s answer = record { state = s; answer = Says answer; dropped = [] }
+
+abbrev pub with_tree : State → Nodes → State
+with_tree s tree = record s { scene = record s.scene { tree = tree } }
+
+-- the inode that was found; one that a test has found is there
+abbrev pub found : State → Option ℕ → Direct
+found s None = says s reply.Done
+found s (Some ino) = says s (reply.Ino (record { 0 = ino }))
+
+-- an inode that a session's user makes is that user's
+abbrev pub owned_by : Option Session → Mode → Attr
+owned_by None mode = record { uid = 0; gid = 0; mode = mode }
+owned_by (Some session) mode = record { uid = session.caller.uid; gid = session.caller.gid; mode = mode }
+
+-- a new inode, which has the next number, with its locks
+abbrev pub born : State → Kind → ClientId → ℕ → List ℕ → Mode → Direct
+born s kind client dir name mode =
+    let attr = owned_by (map.get s.scene.sessions.sessions client.0) mode in
+    let ino = s.scene.tree.last + 1 in
+    says (record s { scene = record s.scene { tree = with_new s.scene.tree kind dir name attr; locks = with_ino s.scene.locks ino } }) (reply.Ino (record { 0 = ino }))
+
+-- the effect of an event that nothing stops
+abbrev pub effect : State → Event → Direct
+effect s (event.Session client caller grants) = says (record s { scene = record s.scene { sessions = with_session s.scene.sessions client.0 caller grants } }) reply.Done
+effect s (event.Lookup client dir name) = found s (child s.scene.tree.nodes dir.0 name)
+effect s (event.Create client dir name mode) = born s File client dir.0 name mode
+effect s (event.Mkdir client dir name mode) = born s Directory client dir.0 name mode
+effect s (event.MakeSnapshot client ino name) = says (with_tree s (changed (with_snapshot name) s.scene.tree ino.0)) reply.Done
+effect s (event.RemoveSnapshot client ino name) = says (with_tree s (changed (without_snapshot name) s.scene.tree ino.0)) reply.Done
+
+abbrev pub effect_unless : State → Event → Option Reply → Direct
+effect_unless s e (Some refusal) = says s refusal
+effect_unless s e None = effect s e
+
+-- what stops an event is all that it answers, and it has no effect then
+abbrev pub direct : State → Event → Direct
+direct s e = effect_unless s e (judged s.scene e)

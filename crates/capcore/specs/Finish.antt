@@ -1,0 +1,77 @@
+-- What a step does once the locks have settled: it issues what may be held, forgets strays that nobody has an entry on,
+-- and numbers what changed.
+use Rattle.std.specs.Prelude.{ℕ, Bool, not, ◌||◌, [], ◌∷◌, map, Option, Some, None}
+use Rattle.std.specs.List.{find, list_any}
+use Rattle.std.specs.FinMap as finite
+use Rattle.capbits.specs.declared.cap.Cap.TheVariants.{P}
+use Rattle.capbits.specs.declared.cap.Part.{Part}
+use Rattle.capbits.specs.declared.cap.Part.TheVariants.{A, L, X, F}
+use Rattle.capbits.specs.Caps.{Caps}
+use Rattle.capbits.specs.Sets.{no_caps, caps_in, union, meet}
+use Rattle.locktable.specs.declared.states.LockState.{LockState}
+use Rattle.locktable.specs.Rows.{allowed_of}
+use Rattle.inotree.specs.Tree.{place}
+use Rattle.captable.specs.declared.entry.EntryRow.{EntryRow}
+use Rattle.captable.specs.Table.{is_row_of}
+use Rattle.captable.specs.Calls.{issued, renumbered, is_of_inode}
+use Rattle.lockmachine.specs.Locks.{lock_at}
+use Rattle.lockmachine.specs.Wants.{effective_want}
+use Rattle.lockmachine.specs.Scene.{Scene, told_set}
+use Rattle.capcore.specs.Tests.{is_gone}
+
+-- ---- issue
+
+abbrev pub allowed_by : Part → EntryRow → Option LockState → Caps
+allowed_by part row None = no_caps
+allowed_by part row (Some lock) = allowed_of part lock row.holder.client
+
+abbrev pub allowed_part : Scene → EntryRow → Part → Caps
+allowed_part s row part = allowed_by part row (lock_at s.locks row.holder.ino.0 part)
+
+-- what the locks let the entry's client hold, and the pin always
+abbrev pub allowed_to : Scene → EntryRow → Caps
+allowed_to s row = union (caps_in (P ∷ [])) (union (allowed_part s row A) (union (allowed_part s row L) (union (allowed_part s row X) (allowed_part s row F))))
+
+-- what the entry's client effectively wants and the locks allow
+abbrev pub due : Scene → EntryRow → Caps
+due s row = meet (effective_want s.fs s.tree s.sessions row) (allowed_to s row)
+
+-- the entry gains it
+abbrev pub issue_row : Scene → EntryRow → EntryRow
+issue_row s row = record row { entry = issued (due s row) row.entry }
+
+-- and so does each
+abbrev pub issue : Scene → Scene
+issue s = record s { table = record s.table { rows = map (issue_row s) s.table.rows } }
+
+-- ---- forget
+
+-- the inode is no stray, or somebody has an entry on it
+abbrev pub is_kept : Scene → ℕ → Bool
+is_kept s ino = not (is_gone (place s.tree.nodes ino)) || list_any (is_of_inode (record { 0 = ino })) s.table.rows
+
+-- the others go, with their locks
+abbrev pub forget : Scene → Scene
+forget s = record s {
+  tree = record s.tree { nodes = finite.retain_keys s.tree.nodes (is_kept s) };
+  locks = record s.locks { states = finite.retain_keys s.locks.states (is_kept s) };
+}
+
+-- ---- numbers
+
+abbrev pub told_before : Scene → Option EntryRow → Caps
+told_before s None = no_caps
+told_before s (Some row) = told_set s row
+
+-- the entry, whose client was to know of one set after the event, and is to know of another at the end
+abbrev pub number_row : Scene → Scene → EntryRow → EntryRow
+number_row first last row =
+    record row { entry = renumbered (told_before first (find (is_row_of row.holder) first.table.rows)) (told_set last row) row.entry }
+
+-- of each entry
+abbrev pub number : Scene → Scene → Scene
+number first last = record last { table = record last.table { rows = map (number_row first last) last.table.rows } }
+
+-- the end of a step: from the scene after the event, and the scene in which the locks have settled
+abbrev pub finished : Scene → Scene → Scene
+finished first settled = number first (forget (issue settled))

@@ -1,0 +1,74 @@
+-- Histories: what rows lead to, and when they are legal.
+use Rattle.std.specs.Prelude.{◌≡◌, ℕ, ◌+◌, ◌==◌, List, [], ◌∷◌, ◌++◌, refl}
+use Rattle.std.specs.List.{count_by}
+use Rattle.std.specs.Option.{option_map}
+use Rattle.std.specs.FinMap as map
+use Rattle.std.specs.FinSet as set
+use Rattle.std.specs.Coded.{Coded, code_by, coded×, coded_ℕ, coded_list}
+use Rattle.capbits.specs.declared.ids.PassId.{PassId}
+use Rattle.inotree.specs.Tree.{Nodes}
+use Rattle.captable.specs.Table as table
+use Rattle.lockmachine.specs.Inodes.{in_sync}
+use Rattle.capcore.specs.declared.event.Event.{Event}
+use Rattle.capcore.specs.declared.history.Row.{Row}
+use Rattle.capcore.specs.declared.outcome.Ended.{Ended}
+use Rattle.capcore.specs.declared.reply.Reply.{Reply}
+use Rattle.capcore.specs.contracts.history.Row as history_row
+use Rattle.capcore.specs.State.{State, state_code}
+use Rattle.capcore.specs.Step.{Step}
+
+-- a state, the history that led to it, and how many rows it may have
+pub record Told : Type 0 where
+  pub state : State
+  pub rows : List Row
+  pub max_rows : ℕ
+
+abbrev pub told_code : Coded Told
+told_code =
+    code_by (State × (List Row × ℕ)) (coded× state_code (coded× (coded_list history_row.the_row.coded) coded_ℕ))
+    (λ t. (t.state, (t.rows, t.max_rows))) (λ p. record { state = p.0; rows = p.1.0; max_rows = p.1.1 }) (λ _. refl)
+
+-- ---- the opening state
+
+-- on this file system and tree nobody is connected, nobody has an entry, nobody waits, and each lock is in SYNC
+pub record IsOpening (fs : List ℕ) (tree : Nodes) (s : State) : Type 0 where
+  pub fs_is : s.scene.fs ≡ fs
+  pub tree_is : s.scene.tree ≡ tree
+  pub sessions_are : s.scene.sessions ≡ record { sessions = map.empty; blocked = set.empty }
+  pub table_is : s.scene.table ≡ table.empty
+  pub locks_are : (ino : ℕ) → map.get s.scene.locks.states ino ≡ option_map (λ node. in_sync) (map.get tree.nodes ino)
+  pub queue_is : s.scene.locks.queue ≡ []
+  pub ticket_is : s.ticket ≡ 0
+  pub messages_are : s.messages ≡ []
+
+-- ---- histories
+
+-- the rows lead from one state to another, a step each
+abbrev pub Replays : State → List Row → State → Type 0
+Replays first [] last = last ≡ first
+Replays first (row ∷ rows) last = (mid : State) × Step first row.event row.reply row.ended mid × Replays mid rows last
+
+-- how many of the rows are of a pass
+abbrev pub rows_of : PassId → List Row → ℕ
+rows_of pass rows = count_by (λ row. row.pass.0 == pass.0) rows
+
+-- the rows of each pass are numbered 1, 2, 3 and so on
+abbrev pub AreNumbered : List Row → Type 0
+AreNumbered rows = (earlier later : List Row) (row : Row) → rows ≡ earlier ++ row ∷ later → row.nth ≡ rows_of row.pass earlier + 1
+
+-- the rows are legal, and lead from the opening state to the last
+pub record IsLegal (opening : State) (rows : List Row) (last : State) : Type 0 where
+  pub replays : Replays opening rows last
+  pub numbered : AreNumbered rows
+
+-- ---- one more row
+
+abbrev pub made_row : PassId → ℕ → Event → Reply → List Ended → Row
+made_row pass nth e answer ended = record { pass = pass; nth = nth; event = e; reply = answer; ended = ended }
+
+-- the event is one step, and adds its row
+pub record IsNext (old : Told) (pass : PassId) (e : Event) (answer : Reply) (new : Told) : Type 0 where
+  pub ended : List Ended
+  pub step : Step old.state e answer ended new.state
+  pub rows : new.rows ≡ old.rows ++ made_row pass (rows_of pass old.rows + 1) e answer ended ∷ []
+  pub max_rows : new.max_rows ≡ old.max_rows

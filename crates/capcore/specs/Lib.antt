@@ -1,0 +1,11 @@
+pub mod State
+pub mod Tests
+pub mod Judge
+pub mod Direct
+pub mod Serving
+pub mod Settle
+pub mod Finish
+pub mod Messages
+pub mod Step
+pub mod History
+pub mod Headline

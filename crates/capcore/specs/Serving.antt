@@ -1,0 +1,177 @@
+-- How a request that waits for a lock is judged when it is served, and what it does then.
+use Rattle.std.specs.Prelude.{◌≡◌, ℕ, Bool, true, false, List, [], ◌∷◌, ◌++◌, take, Option, Some, None, IsTrue, if◌then◌else◌}
+use Rattle.std.specs.FinMap as map
+use Rattle.std.specs.Ordering.{eq_by_cmp}
+use Rattle.capbits.specs.declared.cap.Part.{Part}
+use Rattle.capbits.specs.declared.cap.Part.TheVariants.{A, L, X, F}
+use Rattle.capgrant.specs.declared.access.Access.{Access}
+use Rattle.capgrant.specs.declared.access.Access.TheVariants as access
+use Rattle.inotree.specs.declared.node.Node.{Node}
+use Rattle.inotree.specs.declared.node.Setting.{Setting}
+use Rattle.inotree.specs.declared.node.Setting.TheVariants.{Mode, Uid, Gid, Size, Time}
+use Rattle.inotree.specs.Names.{name_cmp}
+use Rattle.inotree.specs.Inodes.{with_setting, with_attribute, without_attribute}
+use Rattle.inotree.specs.Tree.{Nodes, parent}
+use Rattle.inotree.specs.Calls.{changed, unlinked, moved}
+use Rattle.lockmachine.specs.declared.request.Change.{Change}
+use Rattle.lockmachine.specs.declared.request.Change.TheVariants.{Set, SetXattr, RemoveXattr}
+use Rattle.lockmachine.specs.declared.request.Ask.{Ask}
+use Rattle.lockmachine.specs.declared.request.Ask.TheVariants.{Get, Alter, Unlink, Rmdir, Rename}
+use Rattle.lockmachine.specs.declared.request.Request.{Request}
+use Rattle.lockmachine.specs.Locks.{without_request}
+use Rattle.lockmachine.specs.Scene.{Scene}
+use Rattle.capcore.specs.declared.outcome.PartValues.{PartValues}
+use Rattle.capcore.specs.declared.outcome.PartValues.TheVariants as values
+use Rattle.capcore.specs.declared.outcome.Outcome.{Outcome}
+use Rattle.capcore.specs.declared.outcome.Outcome.TheVariants as outcome
+use Rattle.capcore.specs.declared.reply.Reply.{Reply}
+use Rattle.capcore.specs.declared.reply.Reply.TheVariants as reply
+use Rattle.capcore.specs.Tests.{Test, inode_tests, root_test, directory_test, file_test, empty_test, new_place_tests, new_attribute_tests, old_attribute_tests}
+use Rattle.capcore.specs.Judge.{Need, need, need_if, stop}
+
+-- ---- by what is asked for
+
+-- `ceph.`
+abbrev pub virtual_prefix : List ℕ
+virtual_prefix = 99 ∷ 101 ∷ 112 ∷ 104 ∷ 46 ∷ []
+
+-- an attribute whose name begins so needs an access of its own
+abbrev pub attribute_access : List ℕ → Access
+attribute_access name = if eq_by_cmp name_cmp (take 5 name) virtual_prefix then access.SetVxattr else access.Write
+
+abbrev pub setting_access : Setting → Access
+setting_access (Mode mode) = access.Chmod
+setting_access (Uid uid) = access.Chown uid
+setting_access (Gid gid) = access.Chgrp gid
+setting_access (Size size) = access.Write
+setting_access (Time time) = access.Write
+
+abbrev pub change_access : Change → Access
+change_access (Set setting) = setting_access setting
+change_access (SetXattr name value) = attribute_access name
+change_access (RemoveXattr name) = attribute_access name
+
+-- the tests before policy, without those of the session
+abbrev pub ask_before : Scene → ℕ → Ask → List Test
+ask_before s ino (Get part) = inode_tests s ino
+ask_before s ino (Alter change) = inode_tests s ino
+ask_before s ino Unlink = inode_tests s ino ++ root_test s ino ∷ []
+ask_before s ino Rmdir = inode_tests s ino ++ root_test s ino ∷ []
+ask_before s ino (Rename dir name) = inode_tests s ino ++ root_test s ino ∷ inode_tests s dir.0
+
+-- the accesses that it needs, in order
+abbrev pub ask_needs : Scene → Request → List Need
+ask_needs s q = needs_of q.ask
+  where
+    needs_of : Ask → List Need
+    needs_of (Get part) = need q.client q.ino.0 access.Read ∷ []
+    needs_of (Alter change) = need q.client q.ino.0 (change_access change) ∷ []
+    needs_of Unlink = need_if q.client (parent s.tree.nodes q.ino.0) access.Write
+    needs_of Rmdir = need_if q.client (parent s.tree.nodes q.ino.0) access.Write
+    needs_of (Rename dir name) = need_if q.client (parent s.tree.nodes q.ino.0) access.Write ++ need q.client dir.0 access.Write ∷ []
+
+abbrev pub setting_tests : Scene → ℕ → Setting → List Test
+setting_tests s ino (Size size) = file_test s ino ∷ []
+setting_tests s ino (Mode mode) = []
+setting_tests s ino (Uid uid) = []
+setting_tests s ino (Gid gid) = []
+setting_tests s ino (Time time) = []
+
+abbrev pub change_tests : Scene → ℕ → Change → List Test
+change_tests s ino (Set setting) = setting_tests s ino setting
+change_tests s ino (SetXattr name value) = new_attribute_tests s ino name value
+change_tests s ino (RemoveXattr name) = old_attribute_tests s ino name
+
+-- the tests behind policy, without that of the queue's room
+abbrev pub ask_after : Scene → ℕ → Ask → List Test
+ask_after s ino (Get part) = []
+ask_after s ino (Alter change) = change_tests s ino change
+ask_after s ino Unlink = file_test s ino ∷ []
+ask_after s ino Rmdir = directory_test s ino ∷ empty_test s ino ∷ []
+ask_after s ino (Rename dir name) = new_place_tests s ino dir.0 name
+
+-- what stops the request now
+abbrev pub judged_again : Scene → Request → Option Reply
+judged_again s q = stop s (ask_before s q.ino.0 q.ask) (ask_needs s q) (ask_after s q.ino.0 q.ask)
+
+-- ---- what it does
+
+abbrev pub values_of : Part → Node → PartValues
+values_of A node = values.Auth node.attr
+values_of L node = values.Link
+values_of X node = values.Xattr node.attributes
+values_of F node = values.File node.size node.time
+
+-- what the inode keeps of a part; one that a test has found is there
+abbrev pub told_of : Part → Option Node → Outcome
+told_of part None = outcome.Done
+told_of part (Some node) = outcome.Values (values_of part node)
+
+abbrev pub passed_as : Scene → ℕ → Ask → Outcome
+passed_as s ino (Get part) = told_of part (map.get s.tree.nodes ino)
+passed_as s ino (Alter change) = outcome.Done
+passed_as s ino Unlink = outcome.Done
+passed_as s ino Rmdir = outcome.Done
+passed_as s ino (Rename dir name) = outcome.Done
+
+-- what stopped it, as its outcome
+abbrev pub stopped_as : Reply → Outcome
+stopped_as (reply.Denied access rules) = outcome.Denied access rules
+stopped_as (reply.Refused refusal) = outcome.Refused refusal
+stopped_as reply.Done = outcome.Done
+stopped_as (reply.Ino ino) = outcome.Done
+
+abbrev pub outcome_unless : Scene → Request → Option Reply → Outcome
+outcome_unless s q (Some stopped) = stopped_as stopped
+outcome_unless s q None = passed_as s q.ino.0 q.ask
+
+-- how the request ends if it is served now and finds its memory
+abbrev pub outcome_of : Scene → Request → Outcome
+outcome_of s q = outcome_unless s q (judged_again s q)
+
+abbrev pub change_takes_memory : Change → Bool
+change_takes_memory (SetXattr name value) = true
+change_takes_memory (Set setting) = false
+change_takes_memory (RemoveXattr name) = false
+
+-- an attribute that is set, a new name and a list of attributes take memory
+abbrev pub takes_memory : Ask → Bool
+takes_memory (Get X) = true
+takes_memory (Get A) = false
+takes_memory (Get L) = false
+takes_memory (Get F) = false
+takes_memory (Alter change) = change_takes_memory change
+takes_memory Unlink = false
+takes_memory Rmdir = false
+takes_memory (Rename dir name) = true
+
+-- how it may end: as it is judged now; or nothing stops it, but it takes memory and finds none
+pub data MayEndAs (s : Scene) (q : Request) : Outcome → Type 0 where
+  As_judged : MayEndAs s q (outcome_of s q)
+  Without_memory : judged_again s q ≡ None → IsTrue (takes_memory q.ask) → MayEndAs s q outcome.OutOfMemory
+
+abbrev pub tree_changed : Nodes → ℕ → Change → Nodes
+tree_changed tree ino (Set setting) = changed (with_setting setting) tree ino
+tree_changed tree ino (SetXattr name value) = changed (with_attribute name value) tree ino
+tree_changed tree ino (RemoveXattr name) = changed (without_attribute name) tree ino
+
+-- the tree with what is asked for
+abbrev pub tree_with : Nodes → ℕ → Ask → Nodes
+tree_with tree ino (Get part) = tree
+tree_with tree ino (Alter change) = tree_changed tree ino change
+tree_with tree ino Unlink = unlinked tree ino
+tree_with tree ino Rmdir = unlinked tree ino
+tree_with tree ino (Rename dir name) = moved tree ino dir.0 name
+
+-- a request that ends otherwise than as done changes nothing
+abbrev pub tree_after : Nodes → Request → Outcome → Nodes
+tree_after tree q outcome.Done = tree_with tree q.ino.0 q.ask
+tree_after tree q (outcome.Values shown) = tree
+tree_after tree q (outcome.Denied access rules) = tree
+tree_after tree q (outcome.Refused refusal) = tree
+tree_after tree q outcome.OutOfMemory = tree
+tree_after tree q outcome.Dropped = tree
+
+-- it waits no more
+abbrev pub served : Scene → Request → Outcome → Scene
+served s q o = record s { tree = tree_after s.tree q o; locks = without_request s.locks q.ticket.0 }

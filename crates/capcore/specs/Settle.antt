@@ -1,0 +1,50 @@
+-- The moves of a step: always the first that applies, until none does.
+use Rattle.std.specs.Prelude.{◌≡◌, List, [], ◌∷◌, Option, Some, None}
+use Rattle.std.specs.List.{filter_map}
+use Rattle.capbits.specs.declared.cap.Part.{Part}
+use Rattle.capbits.specs.declared.ids.Ino.{Ino}
+use Rattle.locktable.specs.declared.states.State.{State as LockGoal}
+use Rattle.lockmachine.specs.declared.request.Request.{Request}
+use Rattle.lockmachine.specs.declared.moves.Move.TheVariants.{Begin, End, Serve, Settled}
+use Rattle.lockmachine.specs.Requests.{is_numbered}
+use Rattle.lockmachine.specs.Scene.{Scene}
+use Rattle.lockmachine.specs.Moves.{first_move, begun, gathered}
+use Rattle.capcore.specs.declared.outcome.Outcome.{Outcome}
+use Rattle.capcore.specs.declared.outcome.Ended.{Ended}
+use Rattle.capcore.specs.Serving.{MayEndAs, served}
+use Rattle.std.specs.List.{find}
+
+-- a move that was made
+pub data Made : Type 0 where
+  Began : Ino → Part → LockGoal → Made
+  Gathered : Ino → Part → Made
+  Served : Request → Outcome → Made
+
+-- the move is the first that applies, and leads from the old scene to the new
+abbrev pub Makes : Scene → Made → Scene → Type 0
+Makes old (Began ino part to) new = (first_move old ≡ Begin ino part to) × (new ≡ begun old ino.0 part to)
+Makes old (Gathered ino part) new = (first_move old ≡ End ino part) × (new ≡ gathered old ino.0 part)
+Makes old (Served q o) new =
+    (first_move old ≡ Serve q.ticket)
+    × (find (is_numbered q.ticket.0) old.locks.queue ≡ Some q)
+    × MayEndAs old q o
+    × (new ≡ served old q o)
+
+-- the moves, one after another
+abbrev pub MakesAll : Scene → List Made → Scene → Type 0
+MakesAll old [] new = new ≡ old
+MakesAll old (m ∷ ms) new = (mid : Scene) × Makes old m mid × MakesAll mid ms new
+
+-- they are made until none applies
+pub record Settles (old : Scene) (moves : List Made) (new : Scene) : Type 0 where
+  pub made : MakesAll old moves new
+  pub settled : first_move new ≡ Settled
+
+abbrev pub ended_by : Made → Option Ended
+ended_by (Began ino part to) = None
+ended_by (Gathered ino part) = None
+ended_by (Served q o) = Some (record { client = q.client; ticket = q.ticket; outcome = o })
+
+-- the requests that the moves ended, in order
+abbrev pub ended_in : List Made → List Ended
+ended_in moves = filter_map ended_by moves

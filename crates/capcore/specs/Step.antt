@@ -1,0 +1,34 @@
+-- One step: the event by itself, the moves, and the end of the step.
+use Rattle.std.specs.Prelude.{◌≡◌, List, ◌++◌}
+use Rattle.lockmachine.specs.Scene.{Scene}
+use Rattle.capcore.specs.declared.event.Event.{Event}
+use Rattle.capcore.specs.declared.outcome.Ended.{Ended}
+use Rattle.capcore.specs.declared.reply.Reply.{Reply}
+use Rattle.capcore.specs.State.{State}
+use Rattle.capcore.specs.Direct.{Answer, Says, Direct, direct}
+use Rattle.capcore.specs.Settle.{Made, Settles, ended_in}
+use Rattle.capcore.specs.Finish.{finished}
+
+-- the requests of earlier steps that this one ended: those that the event dropped, and those that were served
+abbrev pub all_ended : Direct → List Made → List Ended
+all_ended d moves = d.dropped ++ ended_in moves
+
+-- the state at the end
+abbrev pub state_after : Direct → List Made → Scene → State
+state_after d moves settled = record d.state { scene = finished d.state.scene settled; messages = d.state.messages ++ all_ended d moves }
+
+-- what is answered at the end
+abbrev pub reply_of : Answer → Reply
+reply_of (Says answer) = answer
+
+-- a step by these moves
+pub record StepBy (old : State) (e : Event) (moves : List Made) (answer : Reply) (ended : List Ended) (new : State) : Type 0 where
+  pub settled : Scene
+  pub settles : Settles (direct old e).state.scene moves settled
+  pub new_is : new ≡ state_after (direct old e) moves settled
+  pub answer_is : answer ≡ reply_of (direct old e).answer
+  pub ended_is : ended ≡ all_ended (direct old e) moves
+
+-- the event leads from the old state to the new, with this answer, and ends these requests of earlier steps
+abbrev pub Step : State → Event → Reply → List Ended → State → Type 0
+Step old e answer ended new = (moves : List Made) × StepBy old e moves answer ended new

@@ -1,0 +1,80 @@
+//! The history: a row for each event that was answered.
+
+use crate::event::Event;
+use crate::outcome::Ended;
+use crate::reply::Reply;
+use capbits::PassId;
+use std::alloc::{AllocError, Global};
+use std::marker::Model;
+use thiserror::Error;
+
+/// A list of requests that ended, in the order in which they did.
+#[derive(Debug, Drop)]
+pub struct EndedList {
+    items: Vec<Ended>,
+}
+
+impl Model for EndedList {
+    ghost use Rattle.std.specs.Prelude.{List};
+    ghost use Rattle.capcore.specs.declared.outcome.Ended.{Ended};
+    ghost use Rattle.std.specs.Coded.{coded_list};
+    ghost use Rattle.capcore.specs.contracts.outcome.Ended as ended;
+
+    ghost Value = { List Ended };
+
+    ghost coded = { coded_list ended.the_row.coded };
+
+    ghost view = { λ list. list.items.items };
+}
+
+impl EndedList {
+    ghost use Rattle.std.specs.Prelude.{◌≡◌, []};
+
+    // No request.
+    pub(crate) fn new(alloc: Global) -> EndedList
+        ensures { result ≡ [] }
+    {
+        EndedList {
+            items: Vec::new(alloc),
+        }
+    }
+
+    /// The requests.
+    pub fn as_slice(&self) -> &[Ended]
+        ensures { result.now ≡ self.now }
+    {
+        self.items.as_slice()
+    }
+}
+
+/// One event with its answer.
+#[derive(Debug, Drop)]
+pub struct Row {
+    /// The pass by which it was called.
+    pub pass: PassId,
+    /// Its number among the events of that pass, from 1.
+    pub nth: u64,
+    /// What happened.
+    pub event: Event,
+    /// What was answered.
+    pub reply: Reply,
+    /// The requests of earlier rows that it ended.
+    pub ended: EndedList,
+}
+
+/// Why an event was not taken. Nothing has changed, and there is no row of it.
+#[derive(Clone, Copy, Debug, PartialEq, Eq, Error)]
+pub enum Stop {
+    /// There was no memory left.
+    #[error("NoMemory")]
+    NoMemory,
+    /// The history has as many rows as it may have.
+    #[error("Full")]
+    Full,
+}
+
+impl From<AllocError> for Stop {
+    fn from(_refused: AllocError) -> Stop {
+        Stop::NoMemory
+    }
+}

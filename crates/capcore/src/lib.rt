@@ -1,0 +1,21 @@
+//! The core: one event at a time, it decides what a client may do, says so, and keeps the history of what it said.
+//!
+//! Public source: "Capabilities in CephFS" in the Ceph documentation.
+#![tactic(auto)]
+
+mod event;
+mod history;
+mod outcome;
+mod refusal;
+mod reply;
+mod step;
+
+pub use event::Event;
+pub use history::{EndedList, Row, Stop};
+pub use outcome::{Ended, Message, Outcome, PartValues};
+pub use refusal::Refusal;
+pub use reply::Reply;
+pub use step::Core;
+
+#[cfg(test)]
+mod tests;

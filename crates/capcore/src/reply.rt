@@ -1,0 +1,23 @@
+//! What is answered.
+
+use crate::refusal::Refusal;
+use capbits::Ino;
+use capgrant::{Access, Rules};
+
+/// The answer to an event.
+#[derive(Debug, Drop)]
+pub enum Reply {
+    /// It is done.
+    Done,
+    /// The inode that was found or made.
+    Ino(Ino),
+    /// No grant of the client allows an access that the request needs.
+    Denied {
+        /// The first such access.
+        access: Access,
+        /// For each grant, in order, the first rule by which it fails. None for a client without grants.
+        rules: Rules,
+    },
+    /// It was refused, other than by policy.
+    Refused(Refusal),
+}
