@@ -1,7 +1,8 @@
 -- What an event does and answers by itself, before any lock moves.
-use Rattle.std.specs.Prelude.{ℕ, ◌+◌, List, [], Option, Some, None}
+use Rattle.std.specs.Prelude.{◌≡◌, ℕ, ◌+◌, List, [], Option, Some, None}
 use Rattle.std.specs.FinMap as map
 use Rattle.capbits.specs.declared.ids.ClientId.{ClientId}
+use Rattle.capbits.specs.declared.ids.Ino.{Ino}
 use Rattle.capbits.specs.declared.mode.Mode.{Mode}
 use Rattle.capgrant.specs.declared.access.Attr.{Attr}
 use Rattle.inotree.specs.declared.node.Kind.{Kind}
@@ -23,6 +24,10 @@ use Rattle.capcore.specs.Judge.{judged}
 -- what is answered: this reply, whatever the step still does
 pub data Answer : Type 0 where
   Says : Reply → Answer
+
+-- what is answered at the end
+abbrev pub reply_of : Answer → Reply
+reply_of (Says answer) = answer
 
 -- the state after an event, the answer, and the requests that the event itself ended
 pub record Direct : Type 0 where
@@ -70,3 +75,17 @@ effect_unless s e None = effect s e
 -- what stops an event is all that it answers, and it has no effect then
 abbrev pub direct : State → Event → Direct
 direct s e = effect_unless s e (judged s.scene e)
+
+-- what the event answers by itself
+abbrev pub answer_to : State → Event → Reply
+answer_to s e = reply_of (direct s e).answer
+
+-- the event by itself answers this and leads to this state
+pub record IsDirect (old : State) (e : Event) (answer : Reply) (new : State) : Type 0 where
+  pub answer_is : answer ≡ answer_to old e
+  pub state_is : new ≡ (direct old e).state
+
+-- the event that makes an inode of this kind
+abbrev pub made_event : Kind → ClientId → Ino → List ℕ → Mode → Event
+made_event File client dir name mode = event.Create client dir name mode
+made_event Directory client dir name mode = event.Mkdir client dir name mode

@@ -1,5 +1,5 @@
 -- Histories: what rows lead to, and when they are legal.
-use Rattle.std.specs.Prelude.{◌≡◌, ℕ, ◌+◌, ◌==◌, List, [], ◌∷◌, ◌++◌, refl}
+use Rattle.std.specs.Prelude.{length, ◌≤◌, ◌≡◌, ℕ, ◌+◌, ◌==◌, List, [], ◌∷◌, ◌++◌, refl}
 use Rattle.std.specs.List.{count_by}
 use Rattle.std.specs.Option.{option_map}
 use Rattle.std.specs.FinMap as map
@@ -72,3 +72,14 @@ pub record IsNext (old : Told) (pass : PassId) (e : Event) (answer : Reply) (new
   pub step : Step old.state e answer ended new.state
   pub rows : new.rows ≡ old.rows ++ made_row pass (rows_of pass old.rows + 1) e answer ended ∷ []
   pub max_rows : new.max_rows ≡ old.max_rows
+
+-- ---- what every core keeps
+
+-- some legal history from an opening state led here, and there is room for what it has
+pub record IsTold (t : Told) : Type 0 where
+  pub fs : List ℕ
+  pub tree : Nodes
+  pub opening : State
+  pub is_opening : IsOpening fs tree opening
+  pub legal : IsLegal opening t.rows t.state
+  pub room : length t.rows ≤ t.max_rows

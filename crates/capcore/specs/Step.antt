@@ -5,7 +5,7 @@ use Rattle.capcore.specs.declared.event.Event.{Event}
 use Rattle.capcore.specs.declared.outcome.Ended.{Ended}
 use Rattle.capcore.specs.declared.reply.Reply.{Reply}
 use Rattle.capcore.specs.State.{State}
-use Rattle.capcore.specs.Direct.{Answer, Says, Direct, direct}
+use Rattle.capcore.specs.Direct.{Direct, direct, reply_of}
 use Rattle.capcore.specs.Settle.{Made, Settles, ended_in}
 use Rattle.capcore.specs.Finish.{finished}
 
@@ -16,10 +16,6 @@ all_ended d moves = d.dropped ++ ended_in moves
 -- the state at the end
 abbrev pub state_after : Direct → List Made → Scene → State
 state_after d moves settled = record d.state { scene = finished d.state.scene settled; messages = d.state.messages ++ all_ended d moves }
-
--- what is answered at the end
-abbrev pub reply_of : Answer → Reply
-reply_of (Says answer) = answer
 
 -- a step by these moves
 pub record StepBy (old : State) (e : Event) (moves : List Made) (answer : Reply) (ended : List Ended) (new : State) : Type 0 where

@@ -1,48 +1,100 @@
 //! The core and its steps.
+ghost use Rattle.std.specs.Prelude.{◌≡◌, ◌≢◌, ◌↔◌, ◌+◌, ◌<◌, ◌^◌, [], ℕ, length, Err, IfOk, OnErr};
+ghost use Rattle.inotree.specs.Tree.{place};
+ghost use Rattle.inotree.specs.declared.node.Place.TheVariants as place_kind;
+ghost use Rattle.capcore.specs.History.{IsOpening, IsNext, Replays, rows_of, AreNumbered};
+ghost use Rattle.capcore.specs.State.{State};
+ghost use Rattle.capcore.specs.declared.history.Stop.TheVariants as stop_kind;
 
+use crate::copies::copy_of_reply;
 use crate::event::Event;
 use crate::history::{EndedList, Row, Stop};
 use crate::reply::Reply;
+use crate::world::World;
 use capbits::PassId;
 use capspec::FsName;
-use captable::CapTable;
 use inotree::Tree;
-use lockmachine::Locks;
-use sessiontab::Sessions;
+use lockmachine::NoMemory;
 use std::alloc::Global;
 use std::marker::Model;
 
 /// The state of a metadata server's policy, with the history that led to it.
 #[derive(Debug, Drop)]
 pub struct Core {
-    fs: FsName,
-    tree: Tree,
-    sessions: Sessions,
-    table: CapTable,
-    locks: Locks,
-    // The last number that a request was given.
-    ticket: u64,
-    // The requests that ended and that no client was told of.
-    messages: EndedList,
+    world: World,
     rows: Vec<Row>,
     max_rows: u32,
     alloc: Global,
 }
 
 impl Model for Core {
-    ghost use Rattle.capcore.specs.History.{Told, told_code};
+    ghost use Rattle.capcore.specs.History.{Told, told_code, IsTold};
 
     ghost Value = { Told };
 
     ghost coded = { told_code };
 
-    ghost view = { λ c. record {
-      state = record {
-        scene = record { fs = c.fs; tree = c.tree; sessions = c.sessions; table = c.table; locks = c.locks };
-        ticket = c.ticket;
-        messages = c.messages;
-      };
-      rows = c.rows.items;
-      max_rows = c.max_rows;
-    } };
+    ghost view = { λ c. record { state = c.world; rows = c.rows.items; max_rows = c.max_rows } };
+
+    ghost invariant = { λ c. IsTold (record { state = c.world; rows = c.rows.items; max_rows = c.max_rows }) };
+}
+
+impl Core {
+    /// A core on this file system and tree, in which nobody is connected. Its history takes at most `max_rows` rows.
+    pub fn new(alloc: Global, fs: FsName, tree: Tree, max_rows: u32) -> Result<Core, NoMemory>
+        requires strays { (ino : ℕ) → place tree.nodes ino ≢ place_kind.Gone }
+        ensures opening { IfOk result (λ core. IsOpening fs tree core.state) }
+        ensures rows { IfOk result (λ core. core.rows ≡ []) }
+        ensures max_rows { IfOk result (λ core. core.max_rows ≡ max_rows) }
+    {
+        Ok(Core {
+            world: World::new(alloc, fs, tree)?,
+            rows: Vec::new(alloc),
+            max_rows,
+            alloc,
+        })
+    }
+
+    /// Takes one event, called by a pass: makes the step, adds its row to the history and says what is answered.
+    pub fn apply(&mut self, pass: PassId, event: Event) -> Result<Reply, Stop>
+        // One step of the rules, and one row.
+        ensures next { IfOk result (λ answer. IsNext self.old pass event answer self.new) }
+        ensures full { (result ≡ Err stop_kind.Full) ↔ (length self.old.rows ≡ self.old.max_rows) }
+        ensures err { OnErr result (self.new ≡ self.old) }
+    {
+        if self.rows.len() >= self.max_rows as usize {
+            return Err(Stop::Full);
+        }
+        self.rows.reserve(1)?;
+        let nth = next_number(&self.rows, pass);
+        let reply = self.world.step(&event)?;
+        let row = Row {
+            pass,
+            nth,
+            event,
+            reply: copy_of_reply(&reply),
+            ended: EndedList::new(self.alloc),
+        };
+        self.rows.push(row)?;
+        Ok(reply)
+    }
+
+    /// The history: a row for each event that was answered, the first first.
+    pub fn history(&self) -> &[Row]
+        ensures { result.now ≡ self.now.rows }
+    {
+        self.rows.as_slice()
+    }
+}
+
+// The number of a pass's next row.
+fn next_number(rows: &[Row], pass: PassId) -> u64
+    requires numbered { AreNumbered rows.now }
+    requires room { length rows.now < 2 ^ 32 }
+    ensures { result ≡ rows_of pass rows.now + 1 }
+{
+    match rows.iter().rev().find(|row| row.pass == pass) {
+        Some(row) => row.nth + 1,
+        None => 1,
+    }
 }
