@@ -1,0 +1,5 @@
+pub mod Effects
+pub mod Judging
+pub mod Refusals
+pub mod Staying
+pub mod Verdicts

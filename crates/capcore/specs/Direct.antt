@@ -53,11 +53,12 @@ owned_by None mode = record { uid = 0; gid = 0; mode = mode }
 owned_by (Some session) mode = record { uid = session.caller.uid; gid = session.caller.gid; mode = mode }
 
 -- a new inode, which has the next number, with its locks
+abbrev pub with_birth : State → Kind → ℕ → List ℕ → Attr → State
+with_birth s kind dir name attr = record s { scene = record s.scene { tree = with_new s.scene.tree kind dir name attr; locks = with_ino s.scene.locks (s.scene.tree.last + 1) } }
+
 abbrev pub born : State → Kind → ClientId → ℕ → List ℕ → Mode → Direct
 born s kind client dir name mode =
-    let attr = owned_by (map.get s.scene.sessions.sessions client.0) mode in
-    let ino = s.scene.tree.last + 1 in
-    says (record s { scene = record s.scene { tree = with_new s.scene.tree kind dir name attr; locks = with_ino s.scene.locks ino } }) (reply.Ino (record { 0 = ino }))
+    says (with_birth s kind dir name (owned_by (map.get s.scene.sessions.sessions client.0) mode)) (reply.Ino (record { 0 = s.scene.tree.last + 1 }))
 
 -- the effect of an event that nothing stops
 abbrev pub effect : State → Event → Direct

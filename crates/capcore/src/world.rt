@@ -1,6 +1,7 @@
 //! What an event does: all of the core but its history.
-ghost use Rattle.std.specs.Prelude.{◌≡◌, ◌≢◌, ℕ, ◌++◌, [], ◌∷◌, IfOk, OnErr};
+ghost use Rattle.std.specs.Prelude.{◌≡◌, ◌≢◌, ℕ, ◌+◌, ◌++◌, [], ◌∷◌, None, IfOk, IfErr, OnOk, OnErr};
 ghost use Rattle.inotree.specs.Tree.{place, is_directory};
+ghost use Rattle.inotree.specs.Calls.{create_fault, with_new};
 ghost use Rattle.inotree.specs.declared.node.Place.TheVariants as place_kind;
 ghost use Rattle.capcore.specs.Idle.{IsIdle};
 ghost use Rattle.capgrant.specs.Verdict.{is_allowed, IfDenied};
@@ -9,7 +10,7 @@ ghost use Rattle.lockmachine.specs.Policy.{failures};
 ghost use Rattle.capcore.specs.Judge.{stop, need, is_met};
 ghost use Rattle.std.specs.FinMap as map;
 ghost use Rattle.capgrant.specs.declared.answer.Verdict.TheVariants as verdict_kind;
-ghost use Rattle.capcore.specs.Direct.{IsDirect, made_event, answer_to, owned_by};
+ghost use Rattle.capcore.specs.Direct.{IsDirect, made_event, answer_to, owned_by, with_birth};
 ghost use Rattle.capcore.specs.History.{IsOpening};
 ghost use Rattle.capcore.specs.Step.{Step};
 ghost use Rattle.capcore.specs.Tests.{first_failing, session_tests, inode_tests};
@@ -91,6 +92,7 @@ impl World {
     pub(crate) fn step(&mut self, event: &Event) -> Result<Reply, Stop>
         ensures step { IfOk result (λ reply. Step self.old event.now reply [] self.new) }
         ensures err { OnErr result (self.new ≡ self.old) }
+        ensures memory { IfErr result (λ stop. stop ≡ Stop.NoMemory) }
     {
         // Nobody has an entry and nobody waits: no lock moves, and all is done when the event is.
         self.act(event)
@@ -100,6 +102,7 @@ impl World {
     fn act(&mut self, event: &Event) -> Result<Reply, Stop>
         ensures direct { IfOk result (λ reply. IsDirect self.old event.now reply self.new) }
         ensures err { OnErr result (self.new ≡ self.old) }
+        ensures memory { IfErr result (λ stop. stop ≡ Stop.NoMemory) }
     {
         match event {
             Event::Session {
@@ -137,6 +140,7 @@ impl World {
     ) -> Result<Reply, Stop>
         ensures direct { IfOk result (λ reply. IsDirect self.old (event.Session client caller.now grants.now) reply self.new) }
         ensures err { OnErr result (self.new ≡ self.old) }
+        ensures memory { IfErr result (λ stop. stop ≡ Stop.NoMemory) }
     {
         if let Some(fault) = self.sessions.open_fault(client) {
             return no_session(fault);
@@ -180,6 +184,7 @@ impl World {
     ) -> Result<Reply, Stop>
         ensures direct { IfOk result (λ reply. IsDirect self.old (made_event kind client dir name.now mode) reply self.new) }
         ensures err { OnErr result (self.new ≡ self.old) }
+        ensures memory { IfErr result (λ stop. stop ≡ Stop.NoMemory) }
     {
         if let Some(stopped) = self.stop(client, dir, Access::Write) {
             return Ok(stopped);
@@ -188,18 +193,25 @@ impl World {
             return refused(fault);
         }
         let attr = self.owned_by(client, mode);
+        let ino = self.add(kind, dir, name, attr)?;
+        Ok(Reply::Ino(ino))
+    }
+
+    // Adds an inode with its locks. For want of memory nothing changes.
+    fn add(&mut self, kind: Kind, dir: Ino, name: &[u8], attr: Attr) -> Result<Ino, NoMemory>
+        requires passed { create_fault self.old.scene.tree dir.0 name.now ≡ None }
+        ensures ok { OnOk result (self.new ≡ with_birth self.old kind dir.0 name.now attr) }
+        ensures ino { IfOk result (λ ino. ino.0 ≡ self.old.scene.tree.last + 1) }
+        ensures err { OnErr result (self.new ≡ self.old) }
+    {
         // The locks first: they can be dropped again, and a number that was given can't be taken back.
         let ino = Ino(self.tree.last().0 + 1);
         self.locks.add_ino(ino)?;
-        let made = match kind {
-            Kind::File => self.tree.create(dir, name, attr),
-            Kind::Directory => self.tree.mkdir(dir, name, attr),
-        };
-        match made {
-            Ok(ino) => Ok(Reply::Ino(ino)),
-            Err(_no_memory) => {
+        match make_in(&mut self.tree, kind, dir, name, attr) {
+            Ok(()) => Ok(ino),
+            Err(NoMemory) => {
                 self.locks.drop_ino(ino);
-                Err(Stop::NoMemory)
+                Err(NoMemory)
             }
         }
     }
@@ -207,6 +219,7 @@ impl World {
     fn make_snapshot(&mut self, client: ClientId, ino: Ino, name: &[u8]) -> Result<Reply, Stop>
         ensures direct { IfOk result (λ reply. IsDirect self.old (event.MakeSnapshot client ino name.now) reply self.new) }
         ensures err { OnErr result (self.new ≡ self.old) }
+        ensures memory { IfErr result (λ stop. stop ≡ Stop.NoMemory) }
     {
         if let Some(stopped) = self.stop(client, ino, Access::Snapshot) {
             return Ok(stopped);
@@ -220,6 +233,7 @@ impl World {
     fn remove_snapshot(&mut self, client: ClientId, ino: Ino, name: &[u8]) -> Result<Reply, Stop>
         ensures direct { IfOk result (λ reply. IsDirect self.old (event.RemoveSnapshot client ino name.now) reply self.new) }
         ensures err { OnErr result (self.new ≡ self.old) }
+        ensures memory { IfErr result (λ stop. stop ≡ Stop.NoMemory) }
     {
         if let Some(stopped) = self.stop(client, ino, Access::Snapshot) {
             return Ok(stopped);
@@ -318,5 +332,27 @@ fn no_grant() -> Verdict
 {
     Verdict::Denied {
         rules: Rules::from(ArrayVec::new()),
+    }
+}
+
+// Makes an inode of this kind. For want of memory nothing changes.
+fn make_in(
+    tree: &mut Tree,
+    kind: Kind,
+    dir: Ino,
+    name: &[u8],
+    attr: Attr,
+) -> Result<(), NoMemory>
+    requires passed { create_fault tree.old dir.0 name.now ≡ None }
+    ensures ok { OnOk result (tree.new ≡ with_new tree.old kind dir.0 name.now attr) }
+    ensures err { OnErr result (tree.new ≡ tree.old) }
+{
+    let made = match kind {
+        Kind::File => tree.create(dir, name, attr),
+        Kind::Directory => tree.mkdir(dir, name, attr),
+    };
+    match made {
+        Ok(_ino) => Ok(()),
+        Err(_no_memory) => Err(NoMemory),
     }
 }

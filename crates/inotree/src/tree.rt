@@ -87,7 +87,8 @@ impl Tree {
 
     /// The last inode number that was given: 1 in a new tree. The next is one more.
     pub fn last(&self) -> Ino
-        ensures { result.0 ≡ self.now.last }
+        ensures last { result.0 ≡ self.now.last }
+        ensures sound { IsTree self.now }
     {
         Ino(self.last)
     }
