@@ -1,1 +1,2 @@
 pub mod Numbered
+pub mod FirstLocks
