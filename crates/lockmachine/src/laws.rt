@@ -1,0 +1,16 @@
+//! Laws of the locks. No program needs to call them.
+
+ghost use Rattle.std.specs.Prelude.{◌≡◌, ℕ, [], Some};
+ghost use Rattle.std.specs.FinMap as map;
+ghost use Rattle.lockmachine.specs.declared.states.InodeLocks.{InodeLocks};
+ghost use Rattle.lockmachine.specs.declared.moves.Move.TheVariants.{Settled};
+ghost use Rattle.lockmachine.specs.Inodes.{in_sync};
+ghost use Rattle.lockmachine.specs.Scene.{Scene};
+ghost use Rattle.lockmachine.specs.Moves.{first_move};
+
+/// Where nobody has an entry and nobody waits, locks that are in SYNC are settled.
+pub fn nothing_wanted_is_settled()
+    ensures { (s : Scene) → s.table.rows ≡ [] → s.locks.queue ≡ []
+        → ((ino : ℕ) (locks : InodeLocks) → map.get s.locks.states ino ≡ Some locks → locks ≡ in_sync)
+        → first_move s ≡ Settled }
+{}
