@@ -9,11 +9,12 @@ use Rattle.capbits.specs.Caps.{Caps, has, caps_where}
 use Rattle.capbits.specs.Sets.{no_caps}
 use Rattle.locktable.specs.declared.states.State.{State}
 use Rattle.locktable.specs.declared.states.State.TheVariants.{Sync}
+use Rattle.locktable.specs.declared.states.LockState.TheVariants.{Stable}
 use Rattle.locktable.specs.declared.targets.Head.TheVariants.{Empty}
 use Rattle.locktable.specs.Targets.{target_of}
 use Rattle.lockmachine.specs.declared.states.InodeLocks.{InodeLocks}
 use Rattle.lockmachine.specs.declared.moves.Move.TheVariants.{Settled}
-use Rattle.lockmachine.specs.Inodes.{in_sync}
+use Rattle.lockmachine.specs.Inodes.{lock_in, in_sync}
 use Rattle.lockmachine.specs.Scene.{Scene, target}
 use Rattle.lockmachine.specs.Moves.{LockPlace, places, may_end, may_begin, may_serve, serve_or_begin, begin_or_rest, end_or_serve, first_move}
 
@@ -34,23 +35,23 @@ unwanted L state loner = refl
 unwanted X state loner = refl
 unwanted F state loner = refl
 
+each_in_sync : (part : Part) → lock_in part in_sync ≡ Stable Sync
+each_in_sync A = refl
+each_in_sync L = refl
+each_in_sync X = refl
+each_in_sync F = refl
+
 module _ (s : Scene) (rows : s.table.rows ≡ []) (queue : s.locks.queue ≡ []) (sync : InSync s) where
   stays : (ino : ℕ) (part : Part) (state : State) → target s ino part state ≡ state
   stays ino part state = rw (rows, queue) (unwanted part state None)
 
   in_no_gather : (at : LockPlace) (o : Option InodeLocks) → map.get s.locks.states at.0 ≡ o → may_end s at ≡ false
   in_no_gather at None is = rw is refl
-  in_no_gather (ino, A) (Some locks) is = rw (is, sync ino locks is) refl
-  in_no_gather (ino, L) (Some locks) is = rw (is, sync ino locks is) refl
-  in_no_gather (ino, X) (Some locks) is = rw (is, sync ino locks is) refl
-  in_no_gather (ino, F) (Some locks) is = rw (is, sync ino locks is) refl
+  in_no_gather at (Some locks) is = rw (is, sync at.0 locks is, each_in_sync at.1) refl
 
   at_target : (at : LockPlace) (o : Option InodeLocks) → map.get s.locks.states at.0 ≡ o → may_begin s at ≡ false
   at_target at None is = rw is refl
-  at_target (ino, A) (Some locks) is = rw (is, sync ino locks is, stays ino A Sync) refl
-  at_target (ino, L) (Some locks) is = rw (is, sync ino locks is, stays ino L Sync) refl
-  at_target (ino, X) (Some locks) is = rw (is, sync ino locks is, stays ino X Sync) refl
-  at_target (ino, F) (Some locks) is = rw (is, sync ino locks is, stays ino F Sync) refl
+  at_target at (Some locks) is = rw (is, sync at.0 locks is, each_in_sync at.1, stays at.0 at.1 Sync) refl
 
   pub idle : first_move s ≡ Settled
   unfolding first_move
