@@ -35,9 +35,9 @@ abbrev front : Scene → ClientId → Ino → List Test
 front s client ino = session_tests s client ++ inode_tests s ino.0
 
 -- an answer of the tree, where the tests behind policy are those of the tree
-module _ (old : State) (e : Event) (tests more : List Test) (needed : List Need) (splits : judged old.scene e ≡ stop old.scene tests needed more) (open : stop old.scene tests needed [] ≡ None) where
+module _ (old : State) (e : Event) (tests more : List Test) (needed : List Need) (splits : judged old.scene e ≡ stop old.scene tests needed more) (free : stop old.scene tests needed [] ≡ None) where
   rest : judged old.scene e ≡ option_map reply.Refused (first_failing more)
-  rest = splits ∙ passed old.scene tests needed more open
+  rest = splits ∙ passed old.scene tests needed more free
 
   refused_by : (o : Option TreeFault) → Same o (first_failing more) → (f : TreeFault) (x : Reply) → f ≡ unwrap_or o tree.NoMemory → tree_answer f ≡ Ok x → IsDirect old e x old
   refused_by o same f x is ok = direct-stopped old e x (rest ∙ answered o (first_failing more) f x same is ok)
@@ -49,53 +49,53 @@ if_ok : (r : Result Reply Stop) (P : Reply → Type 0) → ((x : Reply) → r �
 if_ok (Ok x) P f = f x refl
 if_ok (Err e) P f = tt
 
-module _ (old : State) (client : ClientId) (ino : Ino) (name : List ℕ) (open : stop old.scene (front old.scene client ino) (need client ino.0 Snapshot ∷ []) [] ≡ None) where
+module _ (old : State) (client : ClientId) (ino : Ino) (name : List ℕ) (free : stop old.scene (front old.scene client ino) (need client ino.0 Snapshot ∷ []) [] ≡ None) where
   pub snapshot-made : snap_add_fault old.scene.tree ino.0 name ≡ None → IsDirect old (event.MakeSnapshot client ino name) reply.Done (with_tree old (changed (with_snapshot name) old.scene.tree ino.0))
   snapshot-made none =
-      let here = is_here old.scene client ino.0 (no_test old.scene (front old.scene client ino) (need client ino.0 Snapshot ∷ []) [] open) in
+      let here = is_here old.scene client ino.0 (no_test old.scene (front old.scene client ino) (need client ino.0 Snapshot ∷ []) [] free) in
       direct-passed old (event.MakeSnapshot client ino name)
-      (nothing old (event.MakeSnapshot client ino name) (front old.scene client ino) (new_snapshot_tests old.scene ino.0 name) (need client ino.0 Snapshot ∷ []) refl open
+      (nothing old (event.MakeSnapshot client ino name) (front old.scene client ino) (new_snapshot_tests old.scene ino.0 name) (need client ino.0 Snapshot ∷ []) refl free
         (snap_add_fault old.scene.tree ino.0 name) (same-snap_add old.scene ino.0 name here) none)
 
   pub snapshot-refused : (f : TreeFault) (r : Result Reply Stop) → f ≡ unwrap_or (snap_add_fault old.scene.tree ino.0 name) tree.NoMemory → r ≡ tree_answer f → IfOk r (λ x. IsDirect old (event.MakeSnapshot client ino name) x old)
   snapshot-refused f r is ok =
-      let here = is_here old.scene client ino.0 (no_test old.scene (front old.scene client ino) (need client ino.0 Snapshot ∷ []) [] open) in
-      if_ok r _ (λ x e. refused_by old (event.MakeSnapshot client ino name) (front old.scene client ino) (new_snapshot_tests old.scene ino.0 name) (need client ino.0 Snapshot ∷ []) refl open
+      let here = is_here old.scene client ino.0 (no_test old.scene (front old.scene client ino) (need client ino.0 Snapshot ∷ []) [] free) in
+      if_ok r _ (λ x e. refused_by old (event.MakeSnapshot client ino name) (front old.scene client ino) (new_snapshot_tests old.scene ino.0 name) (need client ino.0 Snapshot ∷ []) refl free
         (snap_add_fault old.scene.tree ino.0 name) (same-snap_add old.scene ino.0 name here) f x is (sym ok ∙ e))
 
   pub snapshot-removed : snap_remove_fault old.scene.tree ino.0 name ≡ None → IsDirect old (event.RemoveSnapshot client ino name) reply.Done (with_tree old (changed (without_snapshot name) old.scene.tree ino.0))
   snapshot-removed none =
-      let here = is_here old.scene client ino.0 (no_test old.scene (front old.scene client ino) (need client ino.0 Snapshot ∷ []) [] open) in
+      let here = is_here old.scene client ino.0 (no_test old.scene (front old.scene client ino) (need client ino.0 Snapshot ∷ []) [] free) in
       direct-passed old (event.RemoveSnapshot client ino name)
-      (nothing old (event.RemoveSnapshot client ino name) (front old.scene client ino) (old_snapshot_tests old.scene ino.0 name) (need client ino.0 Snapshot ∷ []) refl open
+      (nothing old (event.RemoveSnapshot client ino name) (front old.scene client ino) (old_snapshot_tests old.scene ino.0 name) (need client ino.0 Snapshot ∷ []) refl free
         (snap_remove_fault old.scene.tree ino.0 name) (same-snap_remove old.scene ino.0 name here) none)
 
   pub snapshot-kept : (f : TreeFault) (r : Result Reply Stop) → Some f ≡ snap_remove_fault old.scene.tree ino.0 name → r ≡ tree_answer f → IfOk r (λ x. IsDirect old (event.RemoveSnapshot client ino name) x old)
   snapshot-kept f r is ok =
-      let here = is_here old.scene client ino.0 (no_test old.scene (front old.scene client ino) (need client ino.0 Snapshot ∷ []) [] open) in
-      if_ok r _ (λ x e. refused_by old (event.RemoveSnapshot client ino name) (front old.scene client ino) (old_snapshot_tests old.scene ino.0 name) (need client ino.0 Snapshot ∷ []) refl open
+      let here = is_here old.scene client ino.0 (no_test old.scene (front old.scene client ino) (need client ino.0 Snapshot ∷ []) [] free) in
+      if_ok r _ (λ x e. refused_by old (event.RemoveSnapshot client ino name) (front old.scene client ino) (old_snapshot_tests old.scene ino.0 name) (need client ino.0 Snapshot ∷ []) refl free
         (snap_remove_fault old.scene.tree ino.0 name) (same-snap_remove old.scene ino.0 name here) f x (ap (λ o. unwrap_or o tree.NoMemory) is) (sym ok ∙ e))
 
-module _ (old : State) (client : ClientId) (dir : Ino) (name : List ℕ) (mode : Mode) (open : stop old.scene (front old.scene client dir) (need client dir.0 Write ∷ []) [] ≡ None) where
+module _ (old : State) (client : ClientId) (dir : Ino) (name : List ℕ) (mode : Mode) (free : stop old.scene (front old.scene client dir) (need client dir.0 Write ∷ []) [] ≡ None) where
   here : place old.scene.tree.nodes dir.0 ≡ Here
-  here = is_here old.scene client dir.0 (no_test old.scene (front old.scene client dir) (need client dir.0 Write ∷ []) [] open)
+  here = is_here old.scene client dir.0 (no_test old.scene (front old.scene client dir) (need client dir.0 Write ∷ []) [] free)
 
   pub birth-refused : (kind : Kind) (f : TreeFault) (r : Result Reply Stop) → Some f ≡ create_fault old.scene.tree dir.0 name → r ≡ tree_answer f → IfOk r (λ x. IsDirect old (made_event kind client dir name mode) x old)
   birth-refused File f r is ok =
-      if_ok r _ (λ x e. refused_by old (event.Create client dir name mode) (front old.scene client dir) (new_inode_tests old.scene dir.0 name) (need client dir.0 Write ∷ []) refl open
+      if_ok r _ (λ x e. refused_by old (event.Create client dir name mode) (front old.scene client dir) (new_inode_tests old.scene dir.0 name) (need client dir.0 Write ∷ []) refl free
         (create_fault old.scene.tree dir.0 name) (same-create old.scene dir.0 name here) f x (ap (λ o. unwrap_or o tree.NoMemory) is) (sym ok ∙ e))
   birth-refused Directory f r is ok =
-      if_ok r _ (λ x e. refused_by old (event.Mkdir client dir name mode) (front old.scene client dir) (new_inode_tests old.scene dir.0 name) (need client dir.0 Write ∷ []) refl open
+      if_ok r _ (λ x e. refused_by old (event.Mkdir client dir name mode) (front old.scene client dir) (new_inode_tests old.scene dir.0 name) (need client dir.0 Write ∷ []) refl free
         (create_fault old.scene.tree dir.0 name) (same-create old.scene dir.0 name here) f x (ap (λ o. unwrap_or o tree.NoMemory) is) (sym ok ∙ e))
 
   pub birth-done : (kind : Kind) (ino : Ino) → create_fault old.scene.tree dir.0 name ≡ None → ino.0 ≡ old.scene.tree.last + 1 →
       IsDirect old (made_event kind client dir name mode) (reply.Ino ino) (with_birth old kind dir.0 name (owned_by (map.get old.scene.sessions.sessions client.0) mode))
   birth-done File ino none is =
-      let d = direct-passed old (event.Create client dir name mode) (nothing old (event.Create client dir name mode) (front old.scene client dir) (new_inode_tests old.scene dir.0 name) (need client dir.0 Write ∷ []) refl open
+      let d = direct-passed old (event.Create client dir name mode) (nothing old (event.Create client dir name mode) (front old.scene client dir) (new_inode_tests old.scene dir.0 name) (need client dir.0 Write ∷ []) refl free
                 (create_fault old.scene.tree dir.0 name) (same-create old.scene dir.0 name here) none) in
       record { answer_is = (λ i. reply.Ino (record { 0 = is i })) ∙ d.answer_is; state_is = d.state_is }
   birth-done Directory ino none is =
-      let d = direct-passed old (event.Mkdir client dir name mode) (nothing old (event.Mkdir client dir name mode) (front old.scene client dir) (new_inode_tests old.scene dir.0 name) (need client dir.0 Write ∷ []) refl open
+      let d = direct-passed old (event.Mkdir client dir name mode) (nothing old (event.Mkdir client dir name mode) (front old.scene client dir) (new_inode_tests old.scene dir.0 name) (need client dir.0 Write ∷ []) refl free
                 (create_fault old.scene.tree dir.0 name) (same-create old.scene dir.0 name here) none) in
       record { answer_is = (λ i. reply.Ino (record { 0 = is i })) ∙ d.answer_is; state_is = d.state_is }
 

@@ -13,6 +13,7 @@ use Rattle.inotree.specs.Maps.{change_at}
 use Rattle.inotree.specs.Inodes.{InodeMap}
 use Rattle.inotree.specs.Tree.{Nodes, IsTree, place, place_at}
 use Rattle.inotree.specs.Calls.{with_new, new_node, changed}
+use Rattle.inotree.proofs.Maps.{put_back}
 use Rattle.capgrant.specs.declared.access.Attr.{Attr}
 use Rattle.lockmachine.specs.declared.states.InodeLocks.{InodeLocks}
 use Rattle.lockmachine.specs.Inodes.{StateMap, in_sync}
@@ -92,17 +93,7 @@ idle-born s kind dir name attr was = record {
 -- ---- locks that were added and dropped again
 
 pub added-dropped : (locks : LockMap) (ino : ℕ) → map.get locks.states ino ≡ None → without_ino (with_ino locks ino) ino ≡ locks
-added-dropped locks ino none = ap (λ states. record locks { states = states }) same
-  where
-    gone : (b : Bool) (q : ℕ) → eq_by_cmp nat_cmp q ino ≡ b → cond b None (cond b (Some in_sync) (map.get locks.states q)) ≡ map.get locks.states q
-    gone true q e = sym (ap (map.get locks.states) (same_key q ino e) ∙ none)
-    gone false q e = refl
-
-    same : map.remove (map.insert locks.states ino in_sync) ino ≡ locks.states
-    same = map.same_map nat_cmp_total map.nat_cmp-IsAntisymmetric _ _ (λ q.
-        map.get-remove nat_cmp_total (map.insert locks.states ino in_sync) ino q
-        ∙ ap (cond (eq_by_cmp nat_cmp q ino) None) (map.get-insert nat_cmp_total locks.states ino in_sync q)
-        ∙ gone (eq_by_cmp nat_cmp q ino) q refl)
+added-dropped locks ino none = ap (λ (states : StateMap). record locks { states = states }) (put_back nat_cmp_total map.nat_cmp-IsAntisymmetric locks.states ino in_sync none)
 
 -- a number that was not given has no locks
 pub not_given : (s : Scene) → IsIdle s → IsTree s.tree → map.get s.locks.states (s.tree.last + 1) ≡ None

@@ -15,5 +15,5 @@ returns-clause-states c =
     let last = c.last-last.result.0 in
     let ended : c.loop-number.number ≡ last = omega arith in
     let before = subst (λ n. AreFirstBelow tree.nodes n c.loop-number.locks) ended c.loop-number.invariant in
-    first_of_all tree last c.add_locks-2.new.locks c.add_locks-2.ensures.sound c.last-last.ensures
+    first_of_all tree last c.add_locks-2.new.locks c.add_locks-2.ensures.sound c.last-last.ensures.last
     (first_below_more tree.nodes last c.loop-number.locks c.add_locks-2.new.locks before c.in_ok-add_locks-2.ensures.ok)
