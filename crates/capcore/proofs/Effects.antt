@@ -1,5 +1,5 @@
 -- What each event by itself comes to, from what the calls below answered.
-use Rattle.std.proofs.Common.{◌≡◌, ℕ, ◌+◌, List, [], ◌∷◌, ◌++◌, Option, Some, None, Result, Ok, Err, IfOk, refl, sym, ap, subst, ◌∙◌}
+use Rattle.std.proofs.Common.{◌≡◌, ℕ, ◌+◌, List, [], ◌∷◌, ◌++◌, Option, Some, None, Result, Ok, Err, IfOk, refl, sym, ap, ◌∙◌}
 use Rattle.std.specs.Prelude.{unwrap_or}
 use Rattle.std.specs.Option.{option_map}
 use Rattle.std.specs.FinMap as map
@@ -18,7 +18,6 @@ use Rattle.inotree.specs.Inodes.{with_snapshot, without_snapshot}
 use Rattle.capcore.specs.declared.event.Event.{Event}
 use Rattle.capcore.specs.declared.event.Event.TheVariants as event
 use Rattle.capcore.specs.declared.history.Stop.{Stop}
-use Rattle.capcore.specs.declared.refusal.Refusal.{Refusal}
 use Rattle.capcore.specs.declared.reply.Reply.{Reply}
 use Rattle.capcore.specs.declared.reply.Reply.TheVariants as reply
 use Rattle.lockmachine.specs.Scene.{Scene}
@@ -28,7 +27,7 @@ use Rattle.capcore.specs.Tests.{Test, first_failing, session_tests, inode_tests,
 use Rattle.capcore.specs.Judge.{Need, stop, need, judged}
 use Rattle.capcore.specs.Direct.{IsDirect, with_tree, with_birth, owned_by, made_event}
 use Rattle.capcore.proofs.Judging.{stopped, passed, no_test, is_here, direct-stopped, direct-passed}
-use Rattle.capcore.proofs.Refusals.{Same, same-create, same-snap_add, same-snap_remove, answered, some_same, none_same}
+use Rattle.capcore.proofs.Refusals.{Same, same-create, same-snap_add, same-snap_remove, answered, none_same}
 
 -- the tests of a request that names one inode, up to policy
 abbrev front : Scene → ClientId → Ino → List Test
@@ -55,26 +54,26 @@ module _ (old : State) (client : ClientId) (ino : Ino) (name : List ℕ) (free :
       let here = is_here old.scene client ino.0 (no_test old.scene (front old.scene client ino) (need client ino.0 Snapshot ∷ []) [] free) in
       direct-passed old (event.MakeSnapshot client ino name)
       (nothing old (event.MakeSnapshot client ino name) (front old.scene client ino) (new_snapshot_tests old.scene ino.0 name) (need client ino.0 Snapshot ∷ []) refl free
-        (snap_add_fault old.scene.tree ino.0 name) (same-snap_add old.scene ino.0 name here) none)
+      (snap_add_fault old.scene.tree ino.0 name) (same-snap_add old.scene ino.0 name here) none)
 
   pub snapshot-refused : (f : TreeFault) (r : Result Reply Stop) → f ≡ unwrap_or (snap_add_fault old.scene.tree ino.0 name) tree.NoMemory → r ≡ tree_answer f → IfOk r (λ x. IsDirect old (event.MakeSnapshot client ino name) x old)
   snapshot-refused f r is ok =
       let here = is_here old.scene client ino.0 (no_test old.scene (front old.scene client ino) (need client ino.0 Snapshot ∷ []) [] free) in
       if_ok r _ (λ x e. refused_by old (event.MakeSnapshot client ino name) (front old.scene client ino) (new_snapshot_tests old.scene ino.0 name) (need client ino.0 Snapshot ∷ []) refl free
-        (snap_add_fault old.scene.tree ino.0 name) (same-snap_add old.scene ino.0 name here) f x is (sym ok ∙ e))
+      (snap_add_fault old.scene.tree ino.0 name) (same-snap_add old.scene ino.0 name here) f x is (sym ok ∙ e))
 
   pub snapshot-removed : snap_remove_fault old.scene.tree ino.0 name ≡ None → IsDirect old (event.RemoveSnapshot client ino name) reply.Done (with_tree old (changed (without_snapshot name) old.scene.tree ino.0))
   snapshot-removed none =
       let here = is_here old.scene client ino.0 (no_test old.scene (front old.scene client ino) (need client ino.0 Snapshot ∷ []) [] free) in
       direct-passed old (event.RemoveSnapshot client ino name)
       (nothing old (event.RemoveSnapshot client ino name) (front old.scene client ino) (old_snapshot_tests old.scene ino.0 name) (need client ino.0 Snapshot ∷ []) refl free
-        (snap_remove_fault old.scene.tree ino.0 name) (same-snap_remove old.scene ino.0 name here) none)
+      (snap_remove_fault old.scene.tree ino.0 name) (same-snap_remove old.scene ino.0 name here) none)
 
   pub snapshot-kept : (f : TreeFault) (r : Result Reply Stop) → Some f ≡ snap_remove_fault old.scene.tree ino.0 name → r ≡ tree_answer f → IfOk r (λ x. IsDirect old (event.RemoveSnapshot client ino name) x old)
   snapshot-kept f r is ok =
       let here = is_here old.scene client ino.0 (no_test old.scene (front old.scene client ino) (need client ino.0 Snapshot ∷ []) [] free) in
       if_ok r _ (λ x e. refused_by old (event.RemoveSnapshot client ino name) (front old.scene client ino) (old_snapshot_tests old.scene ino.0 name) (need client ino.0 Snapshot ∷ []) refl free
-        (snap_remove_fault old.scene.tree ino.0 name) (same-snap_remove old.scene ino.0 name here) f x (ap (λ o. unwrap_or o tree.NoMemory) is) (sym ok ∙ e))
+      (snap_remove_fault old.scene.tree ino.0 name) (same-snap_remove old.scene ino.0 name here) f x (ap (λ o. unwrap_or o tree.NoMemory) is) (sym ok ∙ e))
 
 module _ (old : State) (client : ClientId) (dir : Ino) (name : List ℕ) (mode : Mode) (free : stop old.scene (front old.scene client dir) (need client dir.0 Write ∷ []) [] ≡ None) where
   here : place old.scene.tree.nodes dir.0 ≡ Here
@@ -83,20 +82,20 @@ module _ (old : State) (client : ClientId) (dir : Ino) (name : List ℕ) (mode :
   pub birth-refused : (kind : Kind) (f : TreeFault) (r : Result Reply Stop) → Some f ≡ create_fault old.scene.tree dir.0 name → r ≡ tree_answer f → IfOk r (λ x. IsDirect old (made_event kind client dir name mode) x old)
   birth-refused File f r is ok =
       if_ok r _ (λ x e. refused_by old (event.Create client dir name mode) (front old.scene client dir) (new_inode_tests old.scene dir.0 name) (need client dir.0 Write ∷ []) refl free
-        (create_fault old.scene.tree dir.0 name) (same-create old.scene dir.0 name here) f x (ap (λ o. unwrap_or o tree.NoMemory) is) (sym ok ∙ e))
+      (create_fault old.scene.tree dir.0 name) (same-create old.scene dir.0 name here) f x (ap (λ o. unwrap_or o tree.NoMemory) is) (sym ok ∙ e))
   birth-refused Directory f r is ok =
       if_ok r _ (λ x e. refused_by old (event.Mkdir client dir name mode) (front old.scene client dir) (new_inode_tests old.scene dir.0 name) (need client dir.0 Write ∷ []) refl free
-        (create_fault old.scene.tree dir.0 name) (same-create old.scene dir.0 name here) f x (ap (λ o. unwrap_or o tree.NoMemory) is) (sym ok ∙ e))
+      (create_fault old.scene.tree dir.0 name) (same-create old.scene dir.0 name here) f x (ap (λ o. unwrap_or o tree.NoMemory) is) (sym ok ∙ e))
 
   pub birth-done : (kind : Kind) (ino : Ino) → create_fault old.scene.tree dir.0 name ≡ None → ino.0 ≡ old.scene.tree.last + 1 →
       IsDirect old (made_event kind client dir name mode) (reply.Ino ino) (with_birth old kind dir.0 name (owned_by (map.get old.scene.sessions.sessions client.0) mode))
   birth-done File ino none is =
       let d = direct-passed old (event.Create client dir name mode) (nothing old (event.Create client dir name mode) (front old.scene client dir) (new_inode_tests old.scene dir.0 name) (need client dir.0 Write ∷ []) refl free
-                (create_fault old.scene.tree dir.0 name) (same-create old.scene dir.0 name here) none) in
+      (create_fault old.scene.tree dir.0 name) (same-create old.scene dir.0 name here) none) in
       record { answer_is = (λ i. reply.Ino (record { 0 = is i })) ∙ d.answer_is; state_is = d.state_is }
   birth-done Directory ino none is =
       let d = direct-passed old (event.Mkdir client dir name mode) (nothing old (event.Mkdir client dir name mode) (front old.scene client dir) (new_inode_tests old.scene dir.0 name) (need client dir.0 Write ∷ []) refl free
-                (create_fault old.scene.tree dir.0 name) (same-create old.scene dir.0 name here) none) in
+      (create_fault old.scene.tree dir.0 name) (same-create old.scene dir.0 name here) none) in
       record { answer_is = (λ i. reply.Ino (record { 0 = is i })) ∙ d.answer_is; state_is = d.state_is }
 
 -- what stops a request at the inode that it names stops the event

@@ -1,5 +1,5 @@
 -- What stops a request, test by test.
-use Rattle.std.proofs.Common.{◌≡◌, ℕ, Bool, true, false, not, List, [], ◌∷◌, ◌++◌, Option, Some, None, refl, sym, ap, ◌∙◌}
+use Rattle.std.proofs.Common.{◌≡◌, ℕ, Bool, true, false, not, List, [], ◌++◌, Option, Some, None, refl, sym, ap}
 use Rattle.std.specs.Prelude.{if◌then◌else◌}
 use Rattle.std.specs.Option.{option_map}
 use Rattle.capbits.specs.declared.ids.ClientId.{ClientId}
@@ -16,7 +16,7 @@ use Rattle.capcore.specs.declared.reply.Reply.TheVariants.{Refused}
 use Rattle.capcore.specs.State.{State}
 use Rattle.capcore.specs.Tests.{Test, first_failing, session_tests, inode_tests, is_stale, is_no_ino, is_gone}
 use Rattle.capcore.specs.Judge.{Need, stop, stop_by, first_denied, judged}
-use Rattle.capcore.specs.Direct.{Says, effect, effect_unless, direct, reply_of, IsDirect}
+use Rattle.capcore.specs.Direct.{effect, effect_unless, reply_of, IsDirect}
 
 stop_by-stopped : (s : Scene) (o : Option Refusal) (d : Option Need) (l : Option Refusal) (r : Reply) → stop_by s o d None ≡ Some r → stop_by s o d l ≡ Some r
 stop_by-stopped s (Some x) d l r e = e

@@ -1,5 +1,5 @@
 -- The tests of the tree's calls are those of the core, behind the tests of the inode.
-use Rattle.std.proofs.Common.{◌≡◌, ℕ, ◌||◌, ◌==◌, Bool, true, false, not, List, [], ◌∷◌, ◌++◌, Option, Some, None, is_some, Result, Ok, Err, refl, sym, ap, subst, ◌∙◌}
+use Rattle.std.proofs.Common.{◌≡◌, ℕ, ◌||◌, ◌==◌, Bool, true, false, not, List, Option, Some, None, is_some, Ok, refl, sym, subst}
 use Rattle.std.specs.Prelude.{if◌then◌else◌, nat_le, unwrap_or}
 use Rattle.std.specs.Option.{option_map}
 use Rattle.std.specs.FinMap as map
@@ -9,14 +9,11 @@ use Rattle.inotree.specs.declared.fault.TreeFault.TheVariants as tree
 use Rattle.inotree.specs.declared.names.TheConstants.{MAX_NAMES}
 use Rattle.inotree.specs.declared.snapshots.TheConstants.{MAX_SNAPSHOTS}
 use Rattle.inotree.specs.declared.tree.TheConstants.{MAX_INODES}
-use Rattle.inotree.specs.declared.node.Place.{Place}
 use Rattle.inotree.specs.declared.node.Place.TheVariants.{Here}
 use Rattle.inotree.specs.Names.{is_bad_name}
 use Rattle.inotree.specs.Tree.{place, child, depth}
 use Rattle.inotree.specs.Calls.{fails, or_next, place_fault, is_no_directory, test_at, create_fault, snap_add_fault, snap_remove_fault}
 use Rattle.lockmachine.specs.Scene.{Scene}
-use Rattle.capcore.specs.declared.history.Stop.{Stop}
-use Rattle.capcore.specs.declared.history.Stop.TheVariants.{NoMemory}
 use Rattle.capcore.specs.declared.refusal.Refusal.{Refusal}
 use Rattle.capcore.specs.declared.refusal.Refusal.TheVariants.{NotDir, NameBad, Exists, TooDeep, Limit, NoEnt}
 use Rattle.capcore.specs.declared.reply.Reply.{Reply}
@@ -52,8 +49,8 @@ some_same (Some g) None f x same e ok = absurd same
 some_same (Some g) (Some r) f x same e ok = cc
 
 create_by : (b1 b2 b3 b4 b5 : Bool) →
-  Same (or_next (or_next None (fails b1 tree.NotDir)) (or_next (or_next (fails b2 tree.NameBad) (fails b3 tree.Exists)) (or_next (fails b4 tree.TooDeep) (fails b5 tree.Limit))))
-       (if b1 then Some NotDir else if b2 then Some NameBad else if b3 then Some Exists else if b4 then Some TooDeep else if b5 then Some Limit else None)
+    Same (or_next (or_next None (fails b1 tree.NotDir)) (or_next (or_next (fails b2 tree.NameBad) (fails b3 tree.Exists)) (or_next (fails b4 tree.TooDeep) (fails b5 tree.Limit))))
+    (if b1 then Some NotDir else if b2 then Some NameBad else if b3 then Some Exists else if b4 then Some TooDeep else if b5 then Some Limit else None)
 unfolding Same
 create_by true b2 b3 b4 b5 = refl
 create_by false true b3 b4 b5 = refl
@@ -72,8 +69,8 @@ same-create s dir name here =
     (sym here) (create_by (is_no_directory s.tree dir) bad taken deep full)
 
 snap_add_by : (b1 b2 b3 b4 : Bool) →
-  Same (or_next (or_next None (fails b1 tree.NotDir)) (or_next (fails b2 tree.NameBad) (or_next (fails b3 tree.Exists) (fails b4 tree.Limit))))
-       (if b1 then Some NotDir else if b2 then Some NameBad else if b3 then Some Exists else if b4 then Some Limit else None)
+    Same (or_next (or_next None (fails b1 tree.NotDir)) (or_next (fails b2 tree.NameBad) (or_next (fails b3 tree.Exists) (fails b4 tree.Limit))))
+    (if b1 then Some NotDir else if b2 then Some NameBad else if b3 then Some Exists else if b4 then Some Limit else None)
 unfolding Same
 snap_add_by true b2 b3 b4 = refl
 snap_add_by false true b3 b4 = refl

@@ -1,21 +1,18 @@
 -- Events of today leave a state in which nobody has an entry and nobody waits, and all locks in SYNC.
-use Rattle.std.proofs.Common.{◌≡◌, ◌≢◌, ℕ, ◌+◌, ◌<◌, Bool, true, false, cond, List, [], ◌∷◌, Option, Some, None, refl, sym, ap, subst, ◌∙◌, arith}
+use Rattle.std.proofs.Common.{◌≡◌, ℕ, ◌+◌, ◌<◌, Bool, true, false, cond, List, Option, Some, None, refl, sym, ap, ◌∙◌, arith}
 use Rattle.std.specs.Option.{option_map, option_map_or}
 use Rattle.std.specs.Cmp.{nat_cmp_total, Equal-is}
 use Rattle.std.specs.Ordering.{nat_cmp, eq_by_cmp}
 use Rattle.std.specs.FinMap as map
 use Rattle.inotree.specs.declared.node.Node.{Node}
-use Rattle.inotree.specs.declared.node.Site.{Site}
-use Rattle.inotree.specs.declared.node.Place.{Place}
-use Rattle.inotree.specs.declared.node.Place.TheVariants.{Gone, Here}
+use Rattle.inotree.specs.declared.node.Place.TheVariants.{Gone}
 use Rattle.inotree.specs.declared.node.Kind.{Kind}
 use Rattle.inotree.specs.Maps.{change_at}
 use Rattle.inotree.specs.Inodes.{InodeMap}
-use Rattle.inotree.specs.Tree.{Nodes, IsTree, place, place_at}
+use Rattle.inotree.specs.Tree.{IsTree, place_at}
 use Rattle.inotree.specs.Calls.{with_new, new_node, changed}
 use Rattle.inotree.proofs.Maps.{put_back}
 use Rattle.capgrant.specs.declared.access.Attr.{Attr}
-use Rattle.lockmachine.specs.declared.states.InodeLocks.{InodeLocks}
 use Rattle.lockmachine.specs.Inodes.{StateMap, in_sync}
 use Rattle.lockmachine.specs.Locks.{LockMap, with_ino, without_ino}
 use Rattle.lockmachine.specs.Scene.{Scene}

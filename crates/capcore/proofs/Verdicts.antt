@@ -5,7 +5,7 @@ use Rattle.capbits.specs.declared.caller.Caller.{Caller}
 use Rattle.capgrant.specs.declared.access.Access.{Access}
 use Rattle.inotree.specs.declared.node.Node.{Node}
 use Rattle.sessiontab.specs.declared.session.Session.{Session}
-use Rattle.lockmachine.specs.Policy.{Subject, subject_of, failures_of}
+use Rattle.lockmachine.specs.Policy.{subject_of, failures_of}
 use Rattle.capspec.specs.declared.grant.Grant.{Grant}
 use Rattle.capgrant.specs.declared.answer.Verdict.{Verdict}
 use Rattle.capgrant.specs.Question.{Question}
@@ -24,9 +24,9 @@ denial-rules q grants v is = subst (λ v. IfDenied v (λ r. r ≡ first_failures
 
 -- and so it has those of a client whose session is there, on an inode that has a path
 pub rules-of : (fs : List ℕ) (session : Option Session) (way : Option (List (List ℕ))) (inode : Option Node) (access : Access) (grants : List Grant) (caller : Caller) (path : List (List ℕ)) (node : Node) (v : Verdict) →
-  option_map (λ s. s.grants) session ≡ Some grants → option_map (λ s. s.caller) session ≡ Some caller → way ≡ Some path → inode ≡ Some node →
-  v ≡ verdict_of (record { fs = fs; caller = caller; path = path; attr = node.attr; access = access }) grants →
-  IfDenied v (λ r. r ≡ failures_of fs (subject_of session way inode) access)
+    option_map (λ s. s.grants) session ≡ Some grants → option_map (λ s. s.caller) session ≡ Some caller → way ≡ Some path → inode ≡ Some node →
+    v ≡ verdict_of (record { fs = fs; caller = caller; path = path; attr = node.attr; access = access }) grants →
+    IfDenied v (λ r. r ≡ failures_of fs (subject_of session way inode) access)
 rules-of fs None way inode access grants caller path node v g c w i is = cc
 rules-of fs (Some s) None inode access grants caller path node v g c w i is = cc
 rules-of fs (Some s) (Some p) None access grants caller path node v g c w i is = cc

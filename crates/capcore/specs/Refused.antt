@@ -6,7 +6,6 @@ use Rattle.sessiontab.specs.declared.fault.OpenFault.{OpenFault}
 use Rattle.sessiontab.specs.declared.fault.OpenFault.TheVariants as session
 use Rattle.capcore.specs.declared.history.Stop.{Stop}
 use Rattle.capcore.specs.declared.history.Stop.TheVariants.{NoMemory}
-use Rattle.capcore.specs.declared.refusal.Refusal.{Refusal}
 use Rattle.capcore.specs.declared.refusal.Refusal.TheVariants as refusal
 use Rattle.capcore.specs.declared.reply.Reply.{Reply}
 use Rattle.capcore.specs.declared.reply.Reply.TheVariants.{Refused}

@@ -1,17 +1,17 @@
 //! What an event does: all of the core but its history.
-ghost use Rattle.std.specs.Prelude.{◌≡◌, ◌≢◌, ℕ, ◌+◌, ◌++◌, [], ◌∷◌, None, IfOk, IfErr, OnOk, OnErr};
-ghost use Rattle.inotree.specs.Tree.{place, is_directory};
+ghost use Rattle.std.specs.Prelude.{◌≡◌, ◌+◌, ◌++◌, [], ◌∷◌, None, IfOk, IfErr, OnOk, OnErr};
+ghost use Rattle.inotree.specs.Tree.{is_directory};
 ghost use Rattle.inotree.specs.Calls.{create_fault, with_new};
-ghost use Rattle.inotree.specs.declared.node.Place.TheVariants as place_kind;
 ghost use Rattle.capcore.specs.Idle.{IsIdle};
 ghost use Rattle.capgrant.specs.Verdict.{is_allowed, IfDenied};
 ghost use Rattle.captable.specs.Table.{holder};
+ghost use Rattle.sessiontab.specs.Calls.{status_of};
 ghost use Rattle.lockmachine.specs.Policy.{failures};
 ghost use Rattle.capcore.specs.Judge.{stop, need, is_met};
 ghost use Rattle.std.specs.FinMap as map;
 ghost use Rattle.capgrant.specs.declared.answer.Verdict.TheVariants as verdict_kind;
 ghost use Rattle.capcore.specs.Direct.{IsDirect, made_event, answer_to, owned_by, with_birth};
-ghost use Rattle.capcore.specs.History.{IsOpening};
+ghost use Rattle.capcore.specs.History.{IsOpening, HasNoStray};
 ghost use Rattle.capcore.specs.Step.{Step};
 ghost use Rattle.capcore.specs.Tests.{first_failing, session_tests, inode_tests};
 ghost use Rattle.capcore.specs.declared.event.Event.TheVariants as event;
@@ -58,9 +58,9 @@ impl Model for World {
     ghost coded = { state_code };
 
     ghost view = { λ w. record {
-        scene = record { fs = w.fs; tree = w.tree; sessions = w.sessions; table = w.table; locks = w.locks };
-        ticket = w.ticket;
-        messages = w.messages;
+      scene = record { fs = w.fs; tree = w.tree; sessions = w.sessions; table = w.table; locks = w.locks };
+      ticket = w.ticket;
+      messages = w.messages;
     } };
 
     ghost invariant = { λ w. IsIdle (record { fs = w.fs; tree = w.tree; sessions = w.sessions; table = w.table; locks = w.locks }) };
@@ -69,7 +69,7 @@ impl Model for World {
 impl World {
     // Nobody is connected, nobody has an entry, and each lock is in SYNC.
     pub(crate) fn new(alloc: Global, fs: FsName, tree: Tree) -> Result<World, NoMemory>
-        requires strays { (ino : ℕ) → place tree.nodes ino ≢ place_kind.Gone }
+        requires strays { HasNoStray tree }
         ensures { IfOk result (λ world. IsOpening fs tree world) }
     {
         let locks = first_locks(alloc, &tree)?;
@@ -91,11 +91,15 @@ impl World {
     // Makes one step.
     pub(crate) fn step(&mut self, event: &Event) -> Result<Reply, Stop>
         ensures step { IfOk result (λ reply. Step self.old event.now reply [] self.new) }
+        ensures direct { IfOk result (λ reply. IsDirect self.old event.now reply self.new) }
+        ensures idle { OnOk result (IsIdle self.new.scene) }
         ensures err { OnErr result (self.new ≡ self.old) }
         ensures memory { IfErr result (λ stop. stop ≡ Stop.NoMemory) }
     {
         // Nobody has an entry and nobody waits: no lock moves, and all is done when the event is.
-        self.act(event)
+        let reply = self.act(event)?;
+        let _idle = &self.table;
+        Ok(reply)
     }
 
     // The event by itself.
@@ -244,6 +248,20 @@ impl World {
         }
     }
 
+    // The tree.
+    pub(crate) fn tree(&self) -> &Tree
+        ensures { result.now ≡ self.now.scene.tree }
+    {
+        &self.tree
+    }
+
+    // A client's session.
+    pub(crate) fn session(&self, client: ClientId) -> Option<Status>
+        ensures { result ≡ status_of self.now.scene.sessions client.0 }
+    {
+        self.sessions.status(client)
+    }
+
     // ---- what stops a request
 
     // What stops a request that needs one access to an inode that it names, before any other test.
@@ -294,7 +312,14 @@ impl World {
         let (Some(path), Some(node)) = (self.tree.path_of(ino), self.tree.node(ino)) else {
             return no_grant();
         };
-        verdict(grants, &self.fs, caller, path.as_slice(), &node.attr, access)
+        verdict(
+            grants,
+            &self.fs,
+            caller,
+            path.as_slice(),
+            &node.attr,
+            access,
+        )
     }
 
     // Whether the inode is there, and a directory.
@@ -336,13 +361,7 @@ fn no_grant() -> Verdict
 }
 
 // Makes an inode of this kind. For want of memory nothing changes.
-fn make_in(
-    tree: &mut Tree,
-    kind: Kind,
-    dir: Ino,
-    name: &[u8],
-    attr: Attr,
-) -> Result<(), NoMemory>
+fn make_in(tree: &mut Tree, kind: Kind, dir: Ino, name: &[u8], attr: Attr) -> Result<(), NoMemory>
     requires passed { create_fault tree.old dir.0 name.now ≡ None }
     ensures ok { OnOk result (tree.new ≡ with_new tree.old kind dir.0 name.now attr) }
     ensures err { OnErr result (tree.new ≡ tree.old) }

@@ -110,7 +110,7 @@ may_open table client passed = by_tests (set.contains table.blocked client) (has
     below e = grind (arith, nat_tests)
 
     by_tests : (blocked connected full : Bool) → nat_le MAX_SESSIONS (map.len table.sessions) ≡ full →
-      (if blocked then Some Blocklisted else if connected then Some SessionOpen else if full then Some Limit else None) ≡ None → (blocked ≡ false) × (map.len table.sessions < MAX_SESSIONS)
+        (if blocked then Some Blocklisted else if connected then Some SessionOpen else if full then Some Limit else None) ≡ None → (blocked ≡ false) × (map.len table.sessions < MAX_SESSIONS)
     by_tests true connected full e passed = cc
     by_tests false true full e passed = cc
     by_tests false false true e passed = cc

@@ -1,10 +1,7 @@
-use Rattle.std.proofs.Common.{◌≡◌, ℕ, ◌+◌, None, List, ap, sym, ◌∙◌, subst, arith}
-use Rattle.std.specs.FinMap as map
-use Rattle.inotree.specs.Tree.{Nodes}
+use Rattle.std.proofs.Common.{◌≡◌, ◌+◌, None, sym, subst, arith}
 use Rattle.inotree.specs.Calls.{create_fault}
 use Rattle.inotree.proofs.Passing.{passed-create}
 use Rattle.lockmachine.specs.Scene.{Scene}
-use Rattle.lockmachine.specs.Locks.{LockMap, with_ino, without_ino}
 use Rattle.capcore.specs.State.{State}
 use Rattle.capcore.proofs.Staying.{idle-born, added-dropped, not_given}
 use Rattle.capcore.proofs.world.World.add.Goals as goal
@@ -12,7 +9,7 @@ use Rattle.capcore.proofs.world.World.add.Goals as goal
 pub overflow_add-ino : goal.overflow_add-ino
 overflow_add-ino c =
     let no_fault : create_fault c.self.inside.tree c.args.dir.0 c.args.name.now ≡ None =
-        subst (λ (s : State). create_fault s.scene.tree c.args.dir.0 c.args.name.now ≡ None) (sym c.self.view_is) c.requires.passed in
+    subst (λ (s : State). create_fault s.scene.tree c.args.dir.0 c.args.name.now ≡ None) (sym c.self.view_is) c.requires.passed in
     let more = (passed-create c.self.inside.tree c.args.dir.0 c.args.name.now no_fault).2 in
     let last = c.last.ensures.last in
     omega (arith, more, last)

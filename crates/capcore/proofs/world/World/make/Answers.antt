@@ -1,4 +1,4 @@
-use Rattle.std.proofs.Common.{◌≡◌, ap, sym, ◌∙◌}
+use Rattle.std.proofs.Common.{ap, sym, ◌∙◌}
 use Rattle.inotree.specs.Calls.{create_fault}
 use Rattle.capcore.proofs.Effects.{birth-stopped, birth-refused, birth-done}
 use Rattle.capcore.proofs.world.World.make.Goals as goal
@@ -16,5 +16,5 @@ pub returns-clause-direct : goal.returns-clause-direct
 returns-clause-direct c =
     rw (c.in_ok-ino.ensures.ok, c.owned_by-attr.ensures)
     (birth-done c.args.self.now c.args.client c.args.dir c.args.name.now c.args.mode (sym c.stop.ensures ∙ c.in_default.is) c.args.kind c.in_ok-ino.ino
-      (ap (λ s. create_fault s.scene.tree c.args.dir.0 c.args.name.now) (sym c.self.view_is) ∙ sym c.create_fault.ensures ∙ c.in_default-create_fault.is)
-      c.in_ok-ino.ensures.ino)
+    (ap (λ s. create_fault s.scene.tree c.args.dir.0 c.args.name.now) (sym c.self.view_is) ∙ sym c.create_fault.ensures ∙ c.in_default-create_fault.is)
+    c.in_ok-ino.ensures.ino)

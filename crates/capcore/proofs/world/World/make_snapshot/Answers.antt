@@ -1,4 +1,4 @@
-use Rattle.std.proofs.Common.{◌≡◌, ap, sym, ◌∙◌, subst, refl, IfOk}
+use Rattle.std.proofs.Common.{ap, sym, ◌∙◌, subst, refl, IfOk}
 use Rattle.std.specs.Prelude.{unwrap_or}
 use Rattle.inotree.specs.declared.fault.TreeFault.TheVariants as tree
 use Rattle.inotree.specs.Calls.{snap_add_fault, changed}
@@ -33,11 +33,11 @@ returns-clause-direct c =
       | in-Ok w ↦
           rw (w.result-is, w.in-Ok.ensures.ok)
           (subst (λ (s : State). IsDirect c.args.self.now e reply.Done (with_tree s (changed (with_snapshot c.args.name.now) s.scene.tree c.args.ino.0))) (sym view)
-            (snapshot-made c.args.self.now c.args.client c.args.ino c.args.name.now free
-              (ap (λ s. snap_add_fault s.scene.tree c.args.ino.0 c.args.name.now) (sym view) ∙ w.in-Ok.ensures.passed)))
+          (snapshot-made c.args.self.now c.args.client c.args.ino c.args.name.now free
+          (ap (λ s. snap_add_fault s.scene.tree c.args.ino.0 c.args.name.now) (sym view) ∙ w.in-Ok.ensures.passed)))
       | in-Err w ↦
           rw (w.result-is, w.in-Err.ensures.err)
           (subst (λ (s : State). IfOk w.refused.result (λ x. IsDirect c.args.self.now e x s)) (sym view)
-            (snapshot-refused c.args.self.now c.args.client c.args.ino c.args.name.now free
-              w.in-Err.fault w.refused.result (w.in-Err.ensures.fault ∙ ap (λ s. unwrap_or (snap_add_fault s.scene.tree c.args.ino.0 c.args.name.now) tree.NoMemory) view) w.refused.ensures))
+          (snapshot-refused c.args.self.now c.args.client c.args.ino c.args.name.now free
+          w.in-Err.fault w.refused.result (w.in-Err.ensures.fault ∙ ap (λ s. unwrap_or (snap_add_fault s.scene.tree c.args.ino.0 c.args.name.now) tree.NoMemory) view) w.refused.ensures))
     ]

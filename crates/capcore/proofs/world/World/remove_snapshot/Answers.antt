@@ -1,4 +1,4 @@
-use Rattle.std.proofs.Common.{◌≡◌, ap, sym, ◌∙◌, refl}
+use Rattle.std.proofs.Common.{sym, ◌∙◌, refl}
 use Rattle.inotree.specs.Inodes.{without_snapshot}
 use Rattle.capcore.proofs.Effects.{removing-stopped}
 use Rattle.capcore.proofs.Staying.{idle-changed}
