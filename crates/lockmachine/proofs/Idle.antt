@@ -23,7 +23,7 @@ abbrev pub InSync : Scene → Type 0
 InSync s = (ino : ℕ) (locks : InodeLocks) → map.get s.locks.states ino ≡ Some locks → locks ≡ in_sync
 
 -- where no element passes a test, none is found
-find_nothing : {T : Type 0} (p : T → Bool) → ((x : T) → p x ≡ false) → (xs : List T) → find p xs ≡ None
+pub find_nothing : {T : Type 0} (p : T → Bool) → ((x : T) → p x ≡ false) → (xs : List T) → find p xs ≡ None
 find_nothing p fails [] = refl
 find_nothing p fails (x ∷ xs) = ap (λ b. cond b (Some x) (find p xs)) (fails x) ∙ find_nothing p fails xs
 

@@ -1,4 +1,4 @@
--- Where no move applies, each lock is quiet.
+-- Where no move applies and nobody waits where there is no lock, each lock is quiet.
 use Rattle.std.proofs.Common.{◌≡◌, ◌≢◌, ℕ, zero, suc, Bool, true, false, ◌&&◌, ◌||◌, not, ◌==◌, cond, Option, Some, None, List, [], ◌∷◌, refl, sym, ap, ◌∙◌, subst}
 use Rattle.std.specs.List.{find, list_any, flat_map}
 use Rattle.std.specs.Option.{is_some, option_map, option_map_or}
@@ -25,7 +25,7 @@ use Rattle.lockmachine.specs.Requests.{part_place, same_part, part_of_ask, head_
 use Rattle.lockmachine.specs.Inodes.{lock_in}
 use Rattle.lockmachine.specs.Locks.{lock_at}
 use Rattle.lockmachine.specs.Scene.{Scene, target, loner, wanted}
-use Rattle.lockmachine.specs.Moves.{LockPlace, same_state, is_open, places_of, places, may_end, may_begin, may_serve, is_served_in, begin_or_rest, serve_or_begin, end_or_serve, first_move, IsQuiet, IsAtRest}
+use Rattle.lockmachine.specs.Moves.{LockPlace, same_state, is_open, places_of, places, may_end, may_begin, may_serve, is_served_in, begin_or_rest, serve_or_begin, end_or_serve, first_move, IsQuiet, IsAtRest, WaitAtLocks}
 
 -- ---- what is known where no move applies
 
@@ -175,10 +175,10 @@ module _ (s : Scene) (n : NoMove s) (ino : ℕ) (part : Part) (among : list_any 
       let gathers : not (is_open s ino part to) ≡ false = rw is at no in
       not_false (is_open s ino part to) gathers
 
-quiet : (s : Scene) (n : NoMove s) (ino : ℕ) (part : Part) (o : Option InodeLocks) → map.get s.locks.states ino ≡ o → IsQuiet s ino part (option_map (lock_in part) o)
-quiet s n ino part None is = tt
-quiet s n ino part (Some locks) is =
+quiet : (s : Scene) (wait : WaitAtLocks s) (n : NoMove s) (ino : ℕ) (part : Part) (o : Option InodeLocks) → map.get s.locks.states ino ≡ o → IsQuiet s ino part (option_map (lock_in part) o)
+quiet s wait n ino part None is = wait ino part (ap (option_map (lock_in part)) is)
+quiet s wait n ino part (Some locks) is =
     quiet_lock s n ino part (sym (map.contains_key-keys s.locks.states ino) ∙ ap is_some is) (lock_in part locks) (ap (option_map (lock_in part)) is)
 
-pub at_rest : (s : Scene) → first_move s ≡ Settled → IsAtRest s
-at_rest s is = record { each = λ ino part. quiet s (no_move s is) ino part (map.get s.locks.states ino) refl }
+pub at_rest : (s : Scene) → WaitAtLocks s → first_move s ≡ Settled → IsAtRest s
+at_rest s wait is = record { each = λ ino part. quiet s wait (no_move s is) ino part (map.get s.locks.states ino) refl }

@@ -6,12 +6,17 @@ ghost use Rattle.lockmachine.specs.declared.states.InodeLocks.{InodeLocks};
 ghost use Rattle.lockmachine.specs.declared.moves.Move.TheVariants.{Settled};
 ghost use Rattle.lockmachine.specs.Inodes.{in_sync};
 ghost use Rattle.lockmachine.specs.Scene.{Scene};
-ghost use Rattle.lockmachine.specs.Moves.{first_move, IsAtRest};
+ghost use Rattle.lockmachine.specs.Moves.{first_move, IsAtRest, WaitAtLocks};
 
-/// Where no move applies, the locks are at rest: each is stable at its target and nobody waits for it, or it gathers
-/// and some capabilities are still to be told back.
+/// Where no move applies, and who waits, waits for a lock that is there, the locks are at rest: each is stable at its
+/// target and nobody waits for it, or it gathers and some capabilities are still to be told back.
 pub fn settled_is_at_rest()
-    ensures { (s : Scene) → first_move s ≡ Settled → IsAtRest s }
+    ensures { (s : Scene) → WaitAtLocks s → first_move s ≡ Settled → IsAtRest s }
+{}
+
+/// Where the locks are at rest, no move applies.
+pub fn at_rest_is_settled()
+    ensures { (s : Scene) → IsAtRest s → first_move s ≡ Settled }
 {}
 
 /// Where nobody has an entry and nobody waits, locks that are in SYNC are settled.
