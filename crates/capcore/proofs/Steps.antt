@@ -13,6 +13,7 @@ use Rattle.captable.specs.declared.entry.EntryRow.{EntryRow}
 use Rattle.lockmachine.specs.declared.states.InodeLocks.{InodeLocks}
 use Rattle.lockmachine.specs.Inodes.{in_sync}
 use Rattle.lockmachine.specs.Scene.{Scene}
+use Rattle.lockmachine.specs.Requests.{first_for}
 use Rattle.lockmachine.specs.Moves.{IsAtRest}
 use Rattle.lockmachine.proofs.Rest.{at_rest}
 use Rattle.lockmachine.proofs.Idle.{idle}
@@ -119,4 +120,4 @@ whole_step old e answer new is idle = (
 
 -- and is at rest
 pub resting : (s : Scene) → IsIdle s → IsAtRest s
-resting s is = at_rest s (at_once s is).settled
+resting s is = at_rest s (λ ino part none. ap (λ queue. first_for queue ino part) is.nobody_waits) (at_once s is).settled
