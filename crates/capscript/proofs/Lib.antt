@@ -1,0 +1,5 @@
+pub mod Cutting
+pub mod Listed
+pub mod BadWords
+pub mod Commands
+pub mod Meaning

@@ -1,0 +1,5 @@
+pub mod Words
+pub mod Lines
+pub mod Values
+pub mod Events
+pub mod Faults
