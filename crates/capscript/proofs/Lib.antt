@@ -3,3 +3,4 @@ pub mod Listed
 pub mod BadWords
 pub mod Commands
 pub mod Meaning
+pub mod Printing

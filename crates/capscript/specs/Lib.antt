@@ -3,3 +3,4 @@ pub mod Lines
 pub mod Values
 pub mod Events
 pub mod Faults
+pub mod Replies

@@ -1,15 +1,19 @@
 //! Scripts: lines of text that say what happens to a server, and the transcript of what it answers.
 #![tactic(auto)]
 
+mod access;
 mod command;
 mod event;
 mod fault;
 mod line;
+mod reply;
 mod values;
 mod words;
 
-pub use fault::{LineFault, ScriptFault};
+pub use access::AccessWord;
+pub use fault::{LineFault, NoMemory, ScriptFault};
 pub use line::{MAX_LINE, read_line};
+pub use reply::reply_lines;
 
 #[cfg(test)]
 mod tests;
