@@ -4,3 +4,4 @@ pub mod BadWords
 pub mod Commands
 pub mod Meaning
 pub mod Printing
+pub mod Known

@@ -4,3 +4,4 @@ pub mod Values
 pub mod Events
 pub mod Faults
 pub mod Replies
+pub mod Watched
