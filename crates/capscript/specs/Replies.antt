@@ -1,0 +1,62 @@
+-- The texts of replies.
+use Rattle.std.specs.Prelude.{ℕ, List, [], ◌∷◌, ◌++◌, codes}
+use Rattle.std.specs.Fmt.{decimal}
+use Rattle.std.specs.List.{join_by, enumerate_from}
+use Rattle.capgrant.specs.declared.access.Access.{Access}
+use Rattle.capgrant.specs.declared.access.Access.TheVariants.{Read, Write, SetVxattr, Snapshot, Chmod, Chown, Chgrp}
+use Rattle.capgrant.specs.declared.rule.Rule.{Rule}
+use Rattle.capgrant.specs.Rule.{rule_number}
+use Rattle.capcore.specs.declared.refusal.Refusal.{Refusal}
+use Rattle.capcore.specs.declared.refusal.Refusal.TheVariants as refusals
+use Rattle.capcore.specs.declared.reply.Reply.{Reply}
+use Rattle.capcore.specs.declared.reply.Reply.TheVariants.{Done, Ino, Denied, Refused}
+
+-- the word of an access; its number is in decimal, without leading zeros
+abbrev pub access_word : Access → List ℕ
+access_word Read = codes "read"
+access_word Write = codes "write"
+access_word SetVxattr = codes "vxattr"
+access_word Snapshot = codes "snapshot"
+access_word Chmod = codes "chmod"
+access_word (Chown uid) = codes "chown:" ++ decimal uid
+access_word (Chgrp gid) = codes "chgrp:" ++ decimal gid
+
+-- the number of a grant, and that of the rule by which it fails
+abbrev pub rule_text : ℕ × Rule → List ℕ
+rule_text numbered = decimal numbered.0 ++ codes ":" ++ decimal (rule_number numbered.1)
+
+-- the grants by number, from 1, with the rule by which each fails; a dash for a client without grants
+abbrev pub rules_text : List Rule → List ℕ
+rules_text [] = codes "-"
+rules_text (rule ∷ rules) = join_by rule_text (codes ",") (enumerate_from 1 (rule ∷ rules))
+
+-- the name of a refusal
+abbrev pub refusal_word : Refusal → List ℕ
+refusal_word refusals.Blocklisted = codes "Blocklisted"
+refusal_word refusals.SessionOpen = codes "SessionOpen"
+refusal_word refusals.NoSession = codes "NoSession"
+refusal_word refusals.SessionStale = codes "SessionStale"
+refusal_word refusals.NoIno = codes "NoIno"
+refusal_word refusals.Gone = codes "Gone"
+refusal_word refusals.Root = codes "Root"
+refusal_word refusals.NotDir = codes "NotDir"
+refusal_word refusals.IsDir = codes "IsDir"
+refusal_word refusals.NoEnt = codes "NoEnt"
+refusal_word refusals.NameBad = codes "NameBad"
+refusal_word refusals.Exists = codes "Exists"
+refusal_word refusals.NotEmpty = codes "NotEmpty"
+refusal_word refusals.Loop = codes "Loop"
+refusal_word refusals.TooDeep = codes "TooDeep"
+refusal_word refusals.NoXattr = codes "NoXattr"
+refusal_word refusals.Limit = codes "Limit"
+
+-- the line of a reply, without the line feed that ends it
+abbrev pub reply_line : Reply → List ℕ
+reply_line Done = codes "done"
+reply_line (Ino ino) = codes "ino " ++ decimal ino.0
+reply_line (Denied access rules) = codes "denied " ++ access_word access ++ codes " " ++ rules_text rules
+reply_line (Refused refusal) = codes "refused " ++ refusal_word refusal
+
+-- the text of a reply
+abbrev pub reply_text : Reply → List ℕ
+reply_text reply = reply_line reply ++ codes "\n"

@@ -1,0 +1,67 @@
+//! Whole scripts in, texts out.
+ghost use Rattle.std.specs.Prelude.{◌≡◌, ◌≢◌, ◌⊎◌, ◌+◌, ◌<◌, ◌≤◌, ◌++◌, ℕ, List, length, IsTrue, IfOk, IfSome, OnOk, OnErr, Err};
+ghost use Rattle.std.specs.Io.KnownBytes.{Appends, Consumes, IsAtEnd};
+ghost use Rattle.capscript.specs.declared.fault.ScriptFault.TheVariants as stops;
+ghost use Rattle.capscript.specs.Watched.{inner_of, has_failed};
+
+use crate::fault::ScriptFault;
+use crate::watched::Watched;
+use std::alloc::Global;
+use std::io::{Read, Write};
+
+/// How many bytes a script may have.
+pub const MAX_SCRIPT: usize = 16777216;
+
+// How many bytes are read at once.
+const CHUNK: usize = 4096;
+
+// Reads all there is, but no byte behind the first one too many.
+pub(crate) fn read_script<R: Read>(
+    alloc: Global,
+    reader: &mut Watched<R>,
+) -> Result<Vec<u8>, ScriptFault>
+    ensures ok { IfOk result (λ script. Consumes (R.remaining (inner_of reader.old)) (R.remaining (inner_of reader.new)) script.items) }
+    ensures end { OnOk result (IsAtEnd (R.remaining (inner_of reader.new))) }
+    ensures short { IfOk result (λ script. length script.items ≤ MAX_SCRIPT) }
+    ensures taken { (taken : List ℕ) × Consumes (R.remaining (inner_of reader.old)) (R.remaining (inner_of reader.new)) taken × (length taken ≤ MAX_SCRIPT + 1) }
+    // Where it is not too long, a read failed.
+    ensures fault { result ≡ Err stops.ReadFault → IsTrue (has_failed reader.new) ⊎ IfSome (R.remaining (inner_of reader.old)) (λ script. MAX_SCRIPT < length script) }
+    ensures err { OnErr result ((result ≡ Err stops.ReadFault) ⊎ (result ≡ Err stops.NoMemory)) }
+{
+    let mut script = Vec::new(alloc);
+    let mut buffer = [0; CHUNK];
+    while script.len() <= MAX_SCRIPT {
+        let room = CHUNK.min(MAX_SCRIPT + 1 - script.len());
+        let taken = match reader.read(&mut buffer[..room]) {
+            Ok(taken) => taken,
+            Err(_) => return Err(ScriptFault::ReadFault),
+        };
+        if taken == 0 {
+            return Ok(script);
+        }
+        if script.extend_from_slice(&buffer[..taken]).is_err() {
+            return Err(ScriptFault::NoMemory);
+        }
+    }
+    Err(ScriptFault::ReadFault)
+}
+
+// Writes all of a text. Where the writer fails, it took a front of the text.
+pub(crate) fn write_text<W: Write>(writer: &mut Watched<W>, text: &[u8]) -> Result<(), ScriptFault>
+    ensures ok { OnOk result (Appends (W.contents (inner_of writer.old)) (W.contents (inner_of writer.new)) text.now) }
+    ensures err { OnErr result ((taken left : List ℕ) × (text.now ≡ taken ++ left) × Appends (W.contents (inner_of writer.old)) (W.contents (inner_of writer.new)) taken) }
+    ensures failed { OnErr result ((result ≡ Err stops.WriteFault) × IsTrue (has_failed writer.new)) }
+{
+    let mut rest = text;
+    while !rest.is_empty() {
+        let taken = match writer.write(rest) {
+            Ok(taken) => taken,
+            Err(_) => return Err(ScriptFault::WriteFault),
+        };
+        if taken == 0 {
+            return Err(ScriptFault::WriteFault);
+        }
+        rest = &rest[taken..];
+    }
+    Ok(())
+}

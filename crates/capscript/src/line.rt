@@ -1,0 +1,69 @@
+//! Reading a line of a script.
+ghost use Rattle.std.specs.Prelude.{◌≡◌, ◌≢◌, ◌↔◌, ◌⊎◌, None, Some, Ok, Err, IsTrue, IfOk, IfSome};
+ghost use Rattle.capcore.specs.declared.event.Event.{Event as AnEvent};
+ghost use Rattle.capscript.specs.declared.fault.LineFault.{LineFault as AKind};
+ghost use Rattle.capscript.specs.declared.fault.ScriptFault.TheVariants as stops;
+ghost use Rattle.capscript.specs.Events.{Reads, client_of};
+ghost use Rattle.capscript.specs.Faults.{HasFault};
+ghost use Rattle.capscript.specs.Lines.{is_skipped};
+
+use crate::event::read_event;
+use crate::fault::{Refused, ScriptFault};
+use capbits::ClientId;
+use capcore::Event;
+use std::alloc::Global;
+
+/// How many bytes a line may have, without its line feed. A line that is skipped may have more.
+pub const MAX_LINE: usize = 65536;
+
+/// Reads a line, which has no line feed, by its number in the script: the event that it says, with the client who asks.
+/// None for a line that is skipped: it is empty, or begins with `#`.
+///
+/// A line that says no event has one fault, which is told with the line's number. `NoMemory` comes last, and only for a line that
+/// says an event.
+pub fn read_line(
+    alloc: Global,
+    line: u64,
+    text: &[u8],
+) -> Result<Option<(Option<ClientId>, Event)>, ScriptFault>
+    ensures skipped { (result ≡ Ok None) ↔ IsTrue (is_skipped text.now) }
+    // What is read is what the line says.
+    ensures event { IfOk result (λ read. IfSome read (λ said. Reads text.now said.1 × (said.0 ≡ Some (client_of said.1)))) }
+    // What the line says is read, unless memory runs out.
+    ensures only { (event : AnEvent) → Reads text.now event → (result ≡ Err stops.NoMemory) ⊎ (result ≡ Ok (Some (Some (client_of event), event))) }
+    // Which fault it is.
+    ensures fault { (kind : AKind) → (result ≡ Err (stops.LineFault line kind)) ↔ HasFault text.now kind }
+    // Memory is missed only where the line says an event.
+    ensures memory { result ≡ Err stops.NoMemory → (event : AnEvent) × Reads text.now event }
+    // No other fault comes.
+    ensures others { (result ≢ Err stops.ReadFault) × (result ≢ Err stops.WriteFault) }
+{
+    if is_skipped(text) {
+        return Ok(None);
+    }
+    match read_event(alloc, text) {
+        Ok(event) => Ok(Some((Some(client_of(&event)), event))),
+        Err(Refused::Wrong(kind)) => Err(ScriptFault::LineFault { line, kind }),
+        Err(Refused::NoMemory) => Err(ScriptFault::NoMemory),
+    }
+}
+
+fn is_skipped(text: &[u8]) -> bool
+    ensures { result ≡ is_skipped text.now }
+{
+    matches!(text, [] | [b'#', ..])
+}
+
+// The client who asks.
+fn client_of(event: &Event) -> ClientId
+    ensures { result ≡ client_of event.now }
+{
+    match event {
+        Event::Session { client, .. }
+        | Event::Lookup { client, .. }
+        | Event::Create { client, .. }
+        | Event::Mkdir { client, .. }
+        | Event::MakeSnapshot { client, .. }
+        | Event::RemoveSnapshot { client, .. } => *client,
+    }
+}

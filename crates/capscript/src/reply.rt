@@ -1,0 +1,88 @@
+//! The texts of replies.
+ghost use Rattle.std.specs.Prelude.{◌≡◌, ◌++◌, IfOk, IfSome, OnOk};
+ghost use Rattle.capscript.specs.Replies.{reply_text, rules_text, rule_text, refusal_word};
+
+use crate::access::AccessWord;
+use crate::fault::NoMemory;
+use capcore::{Refusal, Reply};
+use capgrant::Rule;
+use std::alloc::Global;
+use std::fmt::Display;
+use std::io::Write;
+
+/// The text of a reply: one line, with its line feed.
+pub fn reply_lines(alloc: Global, reply: &Reply) -> Result<Vec<u8>, NoMemory>
+    ensures { IfOk result (λ text. text.items ≡ reply_text reply.now) }
+{
+    let mut text = Vec::new(alloc);
+    match reply {
+        Reply::Done => print(&mut text, "done")?,
+        Reply::Ino(ino) => print(&mut text, format_args!("ino {ino}"))?,
+        Reply::Denied { access, rules } => {
+            let access = AccessWord(*access);
+            print(&mut text, format_args!("denied {access} "))?;
+            print_rules(&mut text, rules.as_slice())?;
+        }
+        Reply::Refused(refusal) => {
+            let word = refusal_word(*refusal);
+            print(&mut text, format_args!("refused {word}"))?;
+        }
+    }
+    text.push(b'\n')?;
+    Ok(text)
+}
+
+// Appends what a value prints. Only memory can be missing.
+fn print<D: Display + Drop>(text: &mut Vec<u8>, more: D) -> Result<(), NoMemory>
+    ensures { OnOk result (IfSome (D.output more) (λ bytes. text.new.items ≡ text.old.items ++ bytes)) }
+{
+    text.write_fmt(more).map_err(|_| NoMemory)
+}
+
+// The rules by which the grants fail, each behind the number of its grant, from 1.
+fn print_rules(text: &mut Vec<u8>, rules: &[Rule]) -> Result<(), NoMemory>
+    ensures { OnOk result (text.new.items ≡ text.old.items ++ rules_text rules.now) }
+{
+    if rules.is_empty() {
+        print(text, "-")?;
+    }
+    for (place, rule) in rules.iter().enumerate() {
+        if place > 0 {
+            print(text, ",")?;
+        }
+        print_rule(text, place + 1, *rule)?;
+    }
+    Ok(())
+}
+
+fn print_rule(text: &mut Vec<u8>, grant: usize, rule: Rule) -> Result<(), NoMemory>
+    ensures { OnOk result (text.new.items ≡ text.old.items ++ rule_text (grant, rule)) }
+{
+    let rule = rule.number();
+    print(text, format_args!("{grant}:{rule}"))
+}
+
+// The name of a refusal.
+fn refusal_word(refusal: Refusal) -> &'static str
+    ensures { result.now ≡ refusal_word refusal }
+{
+    match refusal {
+        Refusal::Blocklisted => "Blocklisted",
+        Refusal::SessionOpen => "SessionOpen",
+        Refusal::NoSession => "NoSession",
+        Refusal::SessionStale => "SessionStale",
+        Refusal::NoIno => "NoIno",
+        Refusal::Gone => "Gone",
+        Refusal::Root => "Root",
+        Refusal::NotDir => "NotDir",
+        Refusal::IsDir => "IsDir",
+        Refusal::NoEnt => "NoEnt",
+        Refusal::NameBad => "NameBad",
+        Refusal::Exists => "Exists",
+        Refusal::NotEmpty => "NotEmpty",
+        Refusal::Loop => "Loop",
+        Refusal::TooDeep => "TooDeep",
+        Refusal::NoXattr => "NoXattr",
+        Refusal::Limit => "Limit",
+    }
+}
