@@ -6,7 +6,7 @@ use Rattle.capspec.specs.declared.grant.Grant.{Grant}
 use Rattle.capspec.specs.declared.fault.SpecFault.{SpecFault}
 use Rattle.capspec.specs.declared.fault.SpecFaultKind.TheVariants as kinds
 use Rattle.capd.specs.declared.fault.Fault.{Fault}
-use Rattle.capd.specs.declared.fault.Fault.TheVariants.{Grants, BadValue, NoMemory, WriteFailed}
+use Rattle.capd.specs.declared.fault.Fault.TheVariants.{Grants, BadValue, NoMemory, WriteFailed, Script}
 
 -- want of memory stays that; any other fault is passed on as it is
 abbrev pub IsFaultOf : SpecFault → Fault → Type 0
@@ -14,6 +14,7 @@ IsFaultOf refused (Grants same) = (same ≡ refused) × (refused.kind ≢ kinds.
 IsFaultOf refused (BadValue option) = ⊥
 IsFaultOf refused NoMemory = refused.kind ≡ kinds.NoMemory
 IsFaultOf refused WriteFailed = ⊥
+IsFaultOf refused (Script stopped) = ⊥
 
 -- why the text gave no grants: its first fault, or want of memory where it has none
 abbrev pub IsFaultOfText : List ℕ → Fault → Type 0
@@ -21,3 +22,4 @@ IsFaultOfText text (Grants refused) = IsFault text refused
 IsFaultOfText text (BadValue option) = ⊥
 IsFaultOfText text NoMemory = (grants : List Grant) × Reads text grants
 IsFaultOfText text WriteFailed = ⊥
+IsFaultOfText text (Script stopped) = ⊥

@@ -13,6 +13,7 @@ use crate::command_line::{Ask, parse};
 use crate::fault::{Fault, NoMemory};
 use crate::question::{Question, Values};
 use crate::words::spelled;
+use capscript::{Watched, run};
 use capspec::{read_grants, write_grants};
 use clap::error::ErrorKind;
 use std::alloc::Global;
@@ -29,11 +30,11 @@ pub const FAILED: u8 = 1;
 pub const USAGE: u8 = 2;
 
 /// Does what the words behind the program's name ask for, and returns the status. What is wrong is written to `faults`;
-/// where that fails, nothing else can be said, and the status stays. No command reads from `_reader` yet.
+/// where that fails, nothing else can be said, and the status stays.
 pub fn dispatch<R: AllocGlobal>(
     rt: &R,
     words: &[Vec<u8>],
-    _reader: &mut impl Read,
+    reader: &mut impl Read,
     writer: &mut impl Write,
     faults: &mut impl Write,
 ) -> u8
@@ -42,6 +43,7 @@ pub fn dispatch<R: AllocGlobal>(
     let done = match parse(rt.alloc(), words) {
         Ok(Ask::Explain(values)) => explain(rt.alloc(), &values, writer),
         Ok(Ask::Grants(text)) => grants(rt.alloc(), text.as_slice(), writer),
+        Ok(Ask::Run) => run_script(rt.alloc(), reader, writer),
         Err(error) => return show(rt.alloc(), &error, writer, faults),
     };
     match done {
@@ -73,6 +75,19 @@ fn grants<W: Write>(alloc: Global, text: &[u8], writer: &mut W) -> Result<(), Fa
     let grants = read_grants(alloc, text)?;
     let line = write_grants(alloc, &grants).map_err(|_| NoMemory)?;
     write_line(line, writer)
+}
+
+// Writes the transcript of the script that is read.
+fn run_script<R: Read, W: Write>(
+    alloc: Global,
+    reader: &mut R,
+    writer: &mut W,
+) -> Result<(), Fault>
+{
+    let mut reader = Watched::new(reader);
+    let mut writer = Watched::new(writer);
+    run(alloc, &mut reader, &mut writer)?;
+    Ok(())
 }
 
 // Writes the line and a line feed behind it, or nothing where memory is missing.
