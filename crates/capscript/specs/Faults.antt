@@ -12,6 +12,8 @@ use Rattle.capscript.specs.declared.fault.LineFault.{LineFault}
 use Rattle.capscript.specs.declared.fault.LineFault.TheVariants as faults
 use Rattle.capscript.specs.declared.fault.Refused.{Refused}
 use Rattle.capscript.specs.declared.fault.Refused.TheVariants as refusals
+use Rattle.capscript.specs.declared.fault.ScriptFault.{ScriptFault}
+use Rattle.capscript.specs.declared.fault.ScriptFault.TheVariants as stops
 use Rattle.capscript.specs.declared.line.TheConstants.{MAX_LINE}
 use Rattle.capcore.specs.declared.event.Event.{Event}
 use Rattle.capscript.specs.Events.{Reads}
@@ -118,3 +120,10 @@ AreRefused fields arguments refusals.NoMemory = (length arguments ≡ length fie
 abbrev pub IsRefused : List ℕ → Refused → Type 0
 IsRefused text (refusals.Wrong kind) = HasFault text kind
 IsRefused text refusals.NoMemory = (event : Event) × Reads text event
+
+-- why reading the line of this number gave nothing: its fault, or want of memory where it says an event
+abbrev pub IsStop : ℕ → List ℕ → ScriptFault → Type 0
+IsStop number text (stops.LineFault line kind) = (line ≡ number) × HasFault text kind
+IsStop number text stops.NoMemory = (event : Event) × Reads text event
+IsStop number text stops.ReadFault = ⊥
+IsStop number text stops.WriteFault = ⊥

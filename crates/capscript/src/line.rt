@@ -1,10 +1,10 @@
 //! Reading a line of a script.
-ghost use Rattle.std.specs.Prelude.{◌≡◌, ◌≢◌, ◌↔◌, ◌⊎◌, None, Some, Ok, Err, IsTrue, IfOk, IfSome};
+ghost use Rattle.std.specs.Prelude.{◌≡◌, ◌↔◌, ◌⊎◌, None, Some, Ok, Err, IsTrue, IfOk, IfErr, IfSome};
 ghost use Rattle.capcore.specs.declared.event.Event.{Event as AnEvent};
 ghost use Rattle.capscript.specs.declared.fault.LineFault.{LineFault as AKind};
 ghost use Rattle.capscript.specs.declared.fault.ScriptFault.TheVariants as stops;
 ghost use Rattle.capscript.specs.Events.{Reads, client_of};
-ghost use Rattle.capscript.specs.Faults.{HasFault};
+ghost use Rattle.capscript.specs.Faults.{HasFault, IsStop};
 ghost use Rattle.capscript.specs.Lines.{is_skipped};
 
 use crate::event::read_event;
@@ -32,11 +32,9 @@ pub fn read_line(
     // What the line says is read, unless memory runs out.
     ensures only { (event : AnEvent) → Reads text.now event → (result ≡ Err stops.NoMemory) ⊎ (result ≡ Ok (Some (Some (client_of event), event))) }
     // Which fault it is.
-    ensures fault { (kind : AKind) → (result ≡ Err (stops.LineFault line kind)) ↔ HasFault text.now kind }
-    // Memory is missed only where the line says an event.
-    ensures memory { result ≡ Err stops.NoMemory → (event : AnEvent) × Reads text.now event }
-    // No other fault comes.
-    ensures others { (result ≢ Err stops.ReadFault) × (result ≢ Err stops.WriteFault) }
+    ensures err { IfErr result (IsStop line text.now) }
+    // A fault of the line is told, whatever memory there is.
+    ensures told { (kind : AKind) → HasFault text.now kind → result ≡ Err (stops.LineFault line kind) }
 {
     if is_skipped(text) {
         return Ok(None);

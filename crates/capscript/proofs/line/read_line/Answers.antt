@@ -12,18 +12,18 @@ pub returns-in-Ok-clause-only : goal.returns-in-Ok-clause-only
 returns-in-Ok-clause-only c event reads =
     rw c.client_of.ensures (inr (ap (λ (e : Event). Ok (Some (Some (client_of e), e))) (reads_one_event c.args.text.now c.in-Ok.event event c.in-Ok.ensures reads)))
 
-pub returns-in-Ok-clause-fault : goal.returns-in-Ok-clause-fault
-returns-in-Ok-clause-fault c kind = (λ bad. absurd (cc), λ fault. absurd (reads_no_fault c.args.text.now c.in-Ok.event kind c.in-Ok.ensures fault))
+pub returns-in-Ok-clause-told : goal.returns-in-Ok-clause-told
+returns-in-Ok-clause-told c kind fault = absurd (reads_no_fault c.args.text.now c.in-Ok.event kind c.in-Ok.ensures fault)
 
 pub returns-in-Err-Wrong-clause-only : goal.returns-in-Err-Wrong-clause-only
 returns-in-Err-Wrong-clause-only c event reads = absurd (reads_no_fault c.args.text.now event c.in-Err-Wrong.kind reads (subst (IsRefused c.args.text.now) c.in-Err-Wrong.field-0-is c.in-Err-Wrong.ensures))
 
-pub returns-in-Err-Wrong-clause-fault : goal.returns-in-Err-Wrong-clause-fault
-returns-in-Err-Wrong-clause-fault c kind =
+pub returns-in-Err-Wrong-clause-told : goal.returns-in-Err-Wrong-clause-told
+returns-in-Err-Wrong-clause-told c kind fault =
     let here : HasFault c.args.text.now c.in-Err-Wrong.kind = subst (IsRefused c.args.text.now) c.in-Err-Wrong.field-0-is c.in-Err-Wrong.ensures in
-    (λ same. let told : c.in-Err-Wrong.kind ≡ kind = cc in subst (HasFault c.args.text.now) told here, λ fault. ap (λ (k : AKind). Err (stops.LineFault c.args.line k)) (one_fault c.args.text.now c.in-Err-Wrong.kind kind here fault))
+    ap (λ (k : AKind). Err (stops.LineFault c.args.line k)) (one_fault c.args.text.now c.in-Err-Wrong.kind kind here fault)
 
-pub returns-in-Err-NoMemory-clause-fault : goal.returns-in-Err-NoMemory-clause-fault
-returns-in-Err-NoMemory-clause-fault c kind =
+pub returns-in-Err-NoMemory-clause-told : goal.returns-in-Err-NoMemory-clause-told
+returns-in-Err-NoMemory-clause-told c kind fault =
     let said : (event : Event) × Reads c.args.text.now event = subst (IsRefused c.args.text.now) c.in-Err-NoMemory.field-0-is c.in-Err-NoMemory.ensures in
-    (λ bad. absurd (cc), λ fault. absurd (reads_no_fault c.args.text.now said.0 kind said.1 fault))
+    absurd (reads_no_fault c.args.text.now said.0 kind said.1 fault)

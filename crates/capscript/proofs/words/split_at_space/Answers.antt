@@ -9,10 +9,10 @@ pub returns-in_err-end : goal.returns-in_err-end
 returns-in_err-end c =
     let text = c.args.text.now in
     let found = position_from_yields_List is_space _ _ c.position.result c.position.ensures.ran (YieldsList-from_slice text cc) (λ x b q k. search (rules, tests)) in
-    rw c.from_residual.ensures (cut_none text c.position.result found c.in_err-end.was)
+    rw c.from_residual.ensures (cut_none is_space text c.position.result found c.in_err-end.was)
 
 pub returns : goal.returns
 returns c =
     let text = c.args.text.now in
     let found = position_from_yields_List is_space _ _ c.position.result c.position.ensures.ran (YieldsList-from_slice text cc) (λ x b q k. search (rules, tests)) in
-    cut_some text c.position.result c.in_ok-end.end found c.in_ok-end.was
+    cut_some is_space text c.position.result c.in_ok-end.end found c.in_ok-end.was
