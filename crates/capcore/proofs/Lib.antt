@@ -1,5 +1,6 @@
 pub mod Effects
 pub mod FirstLocks
+pub mod Fresh
 pub mod Growing
 pub mod Judging
 pub mod Numbered
