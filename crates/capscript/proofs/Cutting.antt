@@ -1,5 +1,5 @@
 -- A line cut into its words, of which the sixth is the rest of it.
-use Rattle.std.proofs.Common.{◌≡◌, ℕ, ◌+◌, ◌-◌, ◌<◌, ◌≤◌, Bool, true, false, cond, ltb, List, [], ◌∷◌, ◌++◌, length, map, take, drop, Option, None, Some, refl, sym, ap, ◌∙◌, arith, append_assoc}
+use Rattle.std.proofs.Common.{◌≡◌, ℕ, ◌+◌, ◌-◌, ◌≤◌, Bool, true, false, cond, ltb, List, [], ◌∷◌, ◌++◌, length, map, take, drop, Option, None, Some, refl, sym, ap, ◌∙◌, arith, append_assoc}
 use Rattle.std.specs.Borrow.{Bor}
 use Rattle.std.specs.List.{slice_split, position_or_len}
 use Rattle.std.proofs.lemmas.Bool.{ltb-true, ltb-false}
@@ -26,7 +26,7 @@ cut_none p text found is none =
 pub cut_some : (p : ℕ → Bool) (text : List ℕ) (found : Option ℕ) (end : ℕ) → found ≡ first_mark p text → found ≡ Some end → slice_split p text ≡ take end text ∷ slice_split p (take (length text - (end + 1)) (drop (end + 1) text))
 cut_some p text found end is some =
     elim (ltb (position_or_len p text) (length text)) as (λ b. ltb (position_or_len p text) (length text) ≡ b → cond b (Some (position_or_len p text)) None ≡ Some end
-        → slice_split p text ≡ take end text ∷ slice_split p (take (length text - (end + 1)) (drop (end + 1) text))) [
+    → slice_split p text ≡ take end text ∷ slice_split p (take (length text - (end + 1)) (drop (end + 1) text))) [
       | true ↦ λ inside same.
           let here : position_or_len p text ≡ end = cc in
           rw (take_rest text (end + 1), sym here) (slice_split_first p text 0 (ltb-true (position_or_len p text) (length text) inside))

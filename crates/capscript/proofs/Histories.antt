@@ -1,31 +1,22 @@
 -- Histories that grow by one row, for scripts that grow by one line.
-use Rattle.std.proofs.Common.{◌≡◌, ℕ, ◌+◌, ◌<◌, ◌≤◌, Bool, true, false, cond, not, eqb, List, [], ◌∷◌, ◌++◌, length, map, get_or, take, drop, suc, refl, sym, ap, ◌∙◌, subst, arith, inl, inr, append_assoc, length-append, add-one}
-use Rattle.std.specs.Prelude.{◌≢◌, ◌⊎◌, ◌==◌, IsTrue, filter, Option, Some, None, IfSome, Result, Ok, Err, OnOk, OnErr, IfErr, IsErrAnd}
+use Rattle.std.proofs.Common.{◌≡◌, ℕ, ◌+◌, ◌<◌, ◌≤◌, Bool, true, false, cond, not, List, [], ◌∷◌, ◌++◌, length, map, refl, sym, ap, ◌∙◌, subst, arith, inl, inr, append_assoc, length-append}
+use Rattle.std.specs.Prelude.{◌⊎◌, IsTrue, filter, Option, Some, None, IfSome, Result, Ok, Err, OnOk, OnErr, IfErr, IsErrAnd}
 use Rattle.std.specs.Io.KnownBytes.{Appends}
-use Rattle.std.specs.List.{AllByRecursion, flat_map}
+use Rattle.std.specs.List.{AllByRecursion}
 use Rattle.std.specs.FinMap as map
 use Rattle.std.specs.Ordering.{nat_cmp, eq_by_cmp}
 use Rattle.std.specs.Option.{option_map}
 use Rattle.std.proofs.lemmas.Cmp.{nat_cmp_total}
 use Rattle.std.proofs.lemmas.List.{map-append, append-nil}
 use Rattle.std.proofs.lemmas.List.Concat.{flat_map-append}
-use Rattle.capgrant.specs.declared.access.Attr.{Attr}
 use Rattle.inotree.specs.declared.node.Node.{Node}
-use Rattle.inotree.specs.declared.node.Place.{Place}
-use Rattle.inotree.specs.declared.node.Place.TheVariants as places
-use Rattle.inotree.specs.declared.node.Site.{Site}
-use Rattle.inotree.specs.declared.node.Site.TheVariants as sites
 use Rattle.std.specs.FinSet as set
 use Rattle.lockmachine.specs.Inodes.{in_sync}
 use Rattle.inotree.specs.Calls.{first_tree}
-use Rattle.inotree.specs.Tree.{place, place_at}
 use Rattle.capcore.specs.declared.event.Event.{Event}
 use Rattle.capcore.specs.declared.history.Row.{Row}
-use Rattle.capcore.specs.declared.outcome.Ended.{Ended}
-use Rattle.capcore.specs.declared.reply.Reply.{Reply}
-use Rattle.capcore.specs.History.{Told, IsOpening, Replays, AreNumbered, IsLegal, rows_of}
+use Rattle.capcore.specs.History.{Told, IsOpening, Replays, AreNumbered, rows_of}
 use Rattle.capcore.specs.State.{State}
-use Rattle.capcore.specs.Step.{Step}
 use Rattle.capbits.specs.declared.ids.ClientId.{ClientId}
 use Rattle.capscript.specs.Events.{Reads, client_of}
 use Rattle.capscript.specs.declared.fault.ScriptFault.{ScriptFault}
@@ -33,23 +24,12 @@ use Rattle.capscript.specs.declared.fault.ScriptFault.TheVariants as stops
 use Rattle.capscript.specs.Lines.{lines, is_skipped}
 use Rattle.capscript.specs.Replies.{reply_text}
 use Rattle.capscript.specs.Transcript.{LinesSay, replies_text, IsTranscript, Ran, Answers, AnswersLine, StopsIn, fs_name, root_attr}
+use Rattle.capcore.proofs.Growing.{replays-more}
+use Rattle.capcore.proofs.Numbered.{numbered-nil, numbered-snoc}
 use Rattle.capscript.proofs.Known.{none_appended, appends_more, appends_same}
 use Rattle.capscript.proofs.Meaning.{skipped_reads_nothing}
 
--- ---- the first tree has no strays, and there is an opening state on it
-
-abbrev place_of : Option Node → Place
-place_of found = place_at (option_map (λ (n : Node). n.site) found)
-
-by_test : (node : Node) (ino : ℕ) (b : Bool) → node.site ≡ sites.Root → place_of (cond b (Some node) (map.get {R = nat_cmp} map.empty ino)) ≡ places.Gone → ⊥
-by_test node ino true root is = let bad : places.Here ≡ places.Gone = ap (λ (s : Site). place_at (Some s)) (sym root) ∙ is in absurd (cc)
-by_test node ino false root is = let bad : places.NoIno ≡ places.Gone = ap place_of (sym (map.get-empty nat_cmp ino)) ∙ is in absurd (cc)
-
-root_alone : (node : Node) (ino : ℕ) → node.site ≡ sites.Root → place_of (map.get {R = nat_cmp} (map.insert map.empty 1 node) ino) ≡ places.Gone → ⊥
-root_alone node ino root gone = by_test node ino (eq_by_cmp nat_cmp ino 1) root (ap place_of (sym (map.get-insert nat_cmp_total map.empty 1 node ino)) ∙ gone)
-
-pub no_strays : (attr : Attr) (ino : ℕ) → place (first_tree attr).nodes ino ≢ places.Gone
-no_strays attr ino gone = root_alone _ ino refl gone
+-- ---- there is an opening state on the first tree
 
 abbrev first_state : State
 first_state = record {
@@ -84,38 +64,6 @@ opens_first = record {
   ticket_is = refl;
   messages_are = refl;
 }
-
--- ---- rows
-
-pub replays_more : (first mid last : State) (rows : List Row) (row : Row) → Replays first rows mid → Step mid row.event row.reply row.ended last → Replays first (rows ++ row ∷ []) last
-replays_more first mid last [] row led step = (last, subst (λ (s : State). Step s row.event row.reply row.ended last) led step, refl)
-replays_more first mid last (r ∷ rows) row led step = (led.0, led.1, replays_more led.0 mid last rows row led.2 step)
-
-no_row : (ys : List Row) (y : Row) (zs : List Row) → [] ≡ ys ++ y ∷ zs → ⊥
-no_row ys y zs is = omega (arith, ap length is, length-append ys (y ∷ zs))
-
-abbrev IsSplit : List Row → Row → List Row → Row → Type 0
-IsSplit xs x ys y = ((xs ≡ ys) × (x ≡ y)) ⊎ ((ws : List Row) × (xs ≡ ys ++ y ∷ ws))
-
-split_under : (w v : Row) (xs ys : List Row) (x y : Row) → w ≡ v → IsSplit xs x ys y → IsSplit (w ∷ xs) x (v ∷ ys) y
-split_under w v xs ys x y head (inl both) = let front : xs ≡ ys = both.0 in inl (cc, both.1)
-split_under w v xs ys x y head (inr more) = let front : xs ≡ ys ++ y ∷ more.0 = more.1 in inr (more.0, cc)
-
-last_or_before : (xs : List Row) (x : Row) (ys : List Row) (y : Row) (zs : List Row) → xs ++ x ∷ [] ≡ ys ++ y ∷ zs → IsSplit xs x ys y
-last_or_before [] x [] y zs is = inl (refl, cc)
-last_or_before [] x (v ∷ ys) y zs is = let bad : [] ≡ ys ++ y ∷ zs = cc in absurd (no_row ys y zs bad)
-last_or_before (w ∷ xs) x [] y zs is = inr (xs, let head : w ≡ y = cc in ap (λ (r : Row). r ∷ xs) head)
-last_or_before (w ∷ xs) x (v ∷ ys) y zs is = let rest : xs ++ x ∷ [] ≡ ys ++ y ∷ zs = cc in split_under w v xs ys x y (cc) (last_or_before xs x ys y zs rest)
-
-pub numbered_more : (rows : List Row) (row : Row) → AreNumbered rows → row.nth ≡ rows_of row.pass rows + 1 → AreNumbered (rows ++ row ∷ [])
-numbered_more rows row numbered nth earlier later other is = by_place (last_or_before rows row earlier other later is)
-  where
-    by_place : IsSplit rows row earlier other → other.nth ≡ rows_of other.pass earlier + 1
-    by_place (inl both) = subst (λ (r : Row). r.nth ≡ rows_of r.pass earlier + 1) both.1 (subst (λ (rs : List Row). row.nth ≡ rows_of row.pass rs + 1) both.0 nth)
-    by_place (inr more) = numbered earlier more.0 other more.1
-
-none_numbered : AreNumbered []
-none_numbered earlier later row is = absurd (no_row earlier row later is)
 
 -- ---- lines
 
@@ -168,7 +116,7 @@ pub record Runs (first : Told) (before : List (List ℕ)) (now : Told) : Type 0 
 pub runs_none : (first : Told) → first.rows ≡ [] → Runs first [] first
 runs_none first none = record {
   replays = subst (λ (rows : List Row). Replays first.state rows first.state) (sym none) refl;
-  numbered = subst (λ (rows : List Row). AreNumbered rows) (sym none) none_numbered;
+  numbered = subst (λ (rows : List Row). AreNumbered rows) (sym none) numbered-nil;
   say = subst (λ (rows : List Row). LinesSay [] (map (λ (row : Row). row.event) rows)) (sym none) say_none;
   few = omega (arith, ap length none);
   room = refl;
@@ -188,8 +136,8 @@ runs_more first now next before line text event ran reads answered =
     let is = answered.next in
     let row : Row = record { pass = record { 0 = 1 }; nth = rows_of (record { 0 = 1 }) now.rows + 1; event = event; reply = answered.answer; ended = is.ended } in
     record {
-      replays = rw is.rows (replays_more first.state now.state next.state now.rows row ran.replays is.step);
-      numbered = rw is.rows (numbered_more now.rows row ran.numbered refl);
+      replays = rw is.rows (replays-more first.state now.rows now.state row next.state ran.replays is.step);
+      numbered = rw is.rows (numbered-snoc now.rows row ran.numbered refl);
       say = rw (is.rows, map-append (λ (r : Row). r.event) now.rows (row ∷ [])) (say_more before (map (λ (r : Row). r.event) now.rows) line event ran.say reads);
       few = omega (arith, ran.few, length-append before (line ∷ []), ap length is.rows, length-append now.rows (row ∷ []));
       room = is.max_rows ∙ ran.room;
@@ -211,7 +159,6 @@ transcript_of first now before opens ran = record {
   say = ran.say;
   text_is = refl;
 }
-
 
 -- what is known when so many lines were answered
 pub record SoFar (first now : Told) (script rest : List ℕ) (number : ℕ) (old new : Option (List ℕ)) : Type 0 where
@@ -261,27 +208,30 @@ so_far_more first now next script rest line behind text number old mid new so cu
 -- a line stops the script
 pub stopped : (T : Type 0) (first now next : Told) (script rest line text : List ℕ) (after : List (List ℕ)) (number : ℕ) (old mid new : Option (List ℕ)) (fault : ScriptFault) → IsOpening fs_name (first_tree root_attr) first.state → SoFar first now script rest number old mid
     → lines rest ≡ line ∷ after → StopsIn now number line fault next text → Appends mid new text → (t : List ℕ) × Ran {T = T} script (Err fault) t × Appends old new t
-stopped T first now next script rest line text after number old mid new (stops.LineFault at kind) opens so cut why appended =
-    (replies_text now.rows,
-    record { before = so.before; bad = line; after = after; order = so.order ∙ ap (λ (t : List (List ℕ)). so.before ++ t) cut; line_is = why.0 ∙ so.number_is; fault = why.1; transcript = transcript_of first now so.before opens so.ran },
-    appends_same old new (replies_text now.rows ++ text) (replies_text now.rows) (texts_same now now text refl why.2) (appends_more old mid new (replies_text now.rows) text so.written appended))
-stopped T first now next script rest line text after number old mid new stops.NoMemory opens so cut why appended =
-    (replies_text now.rows,
-    record { front = so.before; after = lines rest; order = so.order; unwritten = []; transcript = subst (IsTranscript so.before) (sym (append-nil (replies_text now.rows))) (transcript_of first now so.before opens so.ran) },
-    appends_same old new (replies_text now.rows ++ text) (replies_text now.rows) (texts_same now now text refl why) (appends_more old mid new (replies_text now.rows) text so.written appended))
+stopped T first now next script rest line text after number old mid new (stops.LineFault at kind) opens so cut why appended = (
+  replies_text now.rows,
+  record { before = so.before; bad = line; after = after; order = so.order ∙ ap (λ (t : List (List ℕ)). so.before ++ t) cut; line_is = why.0 ∙ so.number_is; fault = why.1; transcript = transcript_of first now so.before opens so.ran },
+  appends_same old new (replies_text now.rows ++ text) (replies_text now.rows) (texts_same now now text refl why.2) (appends_more old mid new (replies_text now.rows) text so.written appended),
+)
+stopped T first now next script rest line text after number old mid new stops.NoMemory opens so cut why appended = (
+  replies_text now.rows,
+  record { front = so.before; after = lines rest; order = so.order; unwritten = []; transcript = subst (IsTranscript so.before) (sym (append-nil (replies_text now.rows))) (transcript_of first now so.before opens so.ran) },
+  appends_same old new (replies_text now.rows ++ text) (replies_text now.rows) (texts_same now now text refl why) (appends_more old mid new (replies_text now.rows) text so.written appended),
+)
 stopped T first now next script rest line text after number old mid new stops.WriteFault opens so cut why appended =
     let event = why.0 in
     let left = why.2.0 in
-    let whole : replies_text next.rows ≡ (replies_text now.rows ++ text) ++ left = texts_more now next event (text ++ left) why.2.1 ∙ sym (append_assoc (replies_text now.rows) text left) in
-    (replies_text now.rows ++ text,
-    record {
-      front = so.before ++ line ∷ [];
-      after = after;
-      order = longer so.before line (lines rest) (lines script) after so.order cut;
-      unwritten = left;
-      transcript = subst (IsTranscript (so.before ++ line ∷ [])) whole (transcript_of first next (so.before ++ line ∷ []) opens (runs_more first now next so.before line (text ++ left) event so.ran why.1 why.2.1));
-    },
-    appends_more old mid new (replies_text now.rows) text so.written appended)
+    let whole : replies_text next.rows ≡ (replies_text now.rows ++ text) ++ left = texts_more now next event (text ++ left) why.2.1 ∙ sym (append_assoc (replies_text now.rows) text left) in (
+      replies_text now.rows ++ text,
+      record {
+        front = so.before ++ line ∷ [];
+        after = after;
+        order = longer so.before line (lines rest) (lines script) after so.order cut;
+        unwritten = left;
+        transcript = subst (IsTranscript (so.before ++ line ∷ [])) whole (transcript_of first next (so.before ++ line ∷ []) opens (runs_more first now next so.before line (text ++ left) event so.ran why.1 why.2.1));
+      },
+      appends_more old mid new (replies_text now.rows) text so.written appended,
+    )
 stopped T first now next script rest line text after number old mid new stops.ReadFault opens so cut why appended = absurd why
 
 -- the same, by the answer that tells of it
@@ -294,10 +244,11 @@ stopped_by T first now next script rest line after number old mid new fault (Err
 pub last_line : (T : Type 0) (first now next : Told) (script rest line : List ℕ) (number : ℕ) (old mid new : Option (List ℕ)) (result : Result T ScriptFault) → IsOpening fs_name (first_tree root_attr) first.state → SoFar first now script rest number old mid → lines rest ≡ line ∷ []
     → OnOk result ((text : List ℕ) × AnswersLine now line next text × Appends mid new text) → IfErr result (λ fault. (text : List ℕ) × StopsIn now number line fault next text × Appends mid new text) → (t : List ℕ) × Ran script result t × Appends old new t
 last_line T first now next script rest line number old mid new (Ok done) opens so cut ok err =
-    let all : so.before ++ line ∷ [] ≡ lines script = sym (so.order ∙ ap (λ (t : List (List ℕ)). so.before ++ t) cut) in
-    (replies_text next.rows,
-    subst (λ (ls : List (List ℕ)). IsTranscript ls (replies_text next.rows)) all (transcript_of first next (so.before ++ line ∷ []) opens (runs_line first now next so.before line ok.0 so.ran ok.1)),
-    appends_same old new (replies_text now.rows ++ ok.0) (replies_text next.rows) (texts_line now next line ok.0 ok.1) (appends_more old mid new (replies_text now.rows) ok.0 so.written ok.2))
+    let all : so.before ++ line ∷ [] ≡ lines script = sym (so.order ∙ ap (λ (t : List (List ℕ)). so.before ++ t) cut) in (
+      replies_text next.rows,
+      subst (λ (ls : List (List ℕ)). IsTranscript ls (replies_text next.rows)) all (transcript_of first next (so.before ++ line ∷ []) opens (runs_line first now next so.before line ok.0 so.ran ok.1)),
+      appends_same old new (replies_text now.rows ++ ok.0) (replies_text next.rows) (texts_line now next line ok.0 ok.1) (appends_more old mid new (replies_text now.rows) ok.0 so.written ok.2),
+    )
 last_line T first now next script rest line number old mid new (Err fault) opens so cut ok err = stopped T first now next script rest line err.0 [] number old mid new fault opens so cut err.1 err.2
 
 -- there is room for another row
@@ -312,7 +263,7 @@ nothing_said = record {
   rows = [];
   last = first_state;
   opens = opens_first;
-  legal = record { replays = refl; numbered = none_numbered };
+  legal = record { replays = refl; numbered = numbered-nil };
   say = say_none;
   text_is = refl;
 }

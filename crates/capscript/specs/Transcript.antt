@@ -1,5 +1,5 @@
 -- What a run over a script writes.
-use Rattle.std.specs.Prelude.{◌≡◌, ◌+◌, ◌⊎◌, ℕ, ⊤, not, Bool, List, [], ◌∷◌, ◌++◌, Option, Some, None, Result, Ok, Err, length, map, filter, codes, IsTrue}
+use Rattle.std.specs.Prelude.{◌≡◌, ◌+◌, ◌⊎◌, ℕ, not, List, [], ◌∷◌, ◌++◌, Result, Ok, Err, length, map, filter, codes, IsTrue}
 use Rattle.std.specs.List.{AllByRecursion, flat_map}
 use Rattle.capbits.specs.declared.ids.PassId.{PassId}
 use Rattle.capgrant.specs.declared.access.Attr.{Attr}

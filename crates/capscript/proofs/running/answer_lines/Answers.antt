@@ -1,4 +1,4 @@
-use Rattle.std.proofs.Common.{ℕ, arith, Fits}
+use Rattle.std.proofs.Common.{arith}
 use Rattle.capscript.specs.Watched.{inner_of}
 use Rattle.capscript.proofs.Histories.{so_far_none, so_far_more, stopped_by, last_line, room_left}
 use Rattle.capscript.proofs.running.answer_lines.Goals as goal
