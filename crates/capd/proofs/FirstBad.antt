@@ -68,6 +68,7 @@ of_values v (faults.Grants refused) is = is
 of_values v (BadValue option) is = absurd is
 of_values v faults.NoMemory is = is
 of_values v faults.WriteFailed is = absurd is
+of_values v (faults.Script stopped) is = absurd is
 
 -- the fault of the grants, or want of memory for good ones
 pub bad_grants : {T : Type 0} (v : Values) (refused : SpecFault) (r : Result T Fault) → IsFault v.grants.items refused ⊎ (IsNoMemory refused × (g : List Grant) × Reads v.grants.items g) → IsErrAnd r (IsFaultOf refused) → IfErr r (IsFaultIn v)

@@ -8,7 +8,7 @@ use Rattle.capspec.specs.Faults.{IsFault, IsNoMemory}
 use Rattle.capspec.specs.Grants.{Reads}
 use Rattle.capspec.proofs.Told.{fault_told}
 use Rattle.capd.specs.declared.fault.Fault.{Fault}
-use Rattle.capd.specs.declared.fault.Fault.TheVariants.{Grants, BadValue, NoMemory, WriteFailed}
+use Rattle.capd.specs.declared.fault.Fault.TheVariants.{Grants, BadValue, NoMemory, WriteFailed, Script}
 use Rattle.capd.specs.Fault.{IsFaultOf, IsFaultOfText}
 
 pub text_fault : (text : List ℕ) (refused : SpecFault) (fault : Fault) → IsFault text refused ⊎ (IsNoMemory refused × (grants : List Grant) × Reads text grants) → IsFaultOf refused fault → IsFaultOfText text fault
@@ -18,6 +18,7 @@ text_fault text refused (BadValue option) found passed = absurd passed
 text_fault text refused NoMemory (inl is) passed = absurd (fault_told text refused is passed)
 text_fault text refused NoMemory (inr missed) passed = (missed.1, missed.2)
 text_fault text refused WriteFailed found passed = absurd passed
+text_fault text refused (Script stopped) found passed = absurd passed
 
 unchanged : (known : Option (List ℕ)) → Keeps known known
 unchanged None = tt

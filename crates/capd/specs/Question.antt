@@ -62,6 +62,7 @@ IsFaultIn v (faults.Grants refused) = IsFault v.grants.items refused
 IsFaultIn v (faults.BadValue option) = (option ≢ Grants) × IsFirstBad v option
 IsFaultIn v faults.NoMemory = IsGood v Grants
 IsFaultIn v faults.WriteFailed = ⊥
+IsFaultIn v (faults.Script stopped) = ⊥
 
 -- the line that answers the question: what its grants say
 abbrev pub answer_text : Question → List ℕ

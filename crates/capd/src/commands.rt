@@ -1,13 +1,10 @@
 //! The commands of the program, over streams that the caller passes.
-ghost use Rattle.std.specs.Prelude.{◌≡◌, ◌≤◌, ◌⊎◌, ◌++◌, ℕ, List, codes, IfSome, OnOk, IfErr, MatchResult};
+ghost use Rattle.std.specs.Prelude.{◌≡◌, ◌≤◌, ◌⊎◌, ◌++◌, List, codes, OnOk, IfErr, MatchResult};
 ghost use Rattle.std.specs.Io.KnownBytes.{Appends, Keeps};
 ghost use Rattle.capspec.specs.Grants.{Reads};
 ghost use Rattle.capspec.specs.Written.{written};
 ghost use Rattle.capspec.specs.declared.grant.Grant.{Grant};
-ghost use Rattle.capscript.specs.Lines.{lines};
-ghost use Rattle.capscript.specs.Transcript.{IsTranscript};
-ghost use Rattle.capscript.specs.declared.fault.ScriptFault.{ScriptFault as Stopped};
-ghost use Rattle.capd.specs.Fault.{IsFaultOfText, StoppedAt};
+ghost use Rattle.capd.specs.Fault.{IsFaultOfText};
 ghost use Rattle.capd.specs.declared.fault.Fault.TheVariants as faults;
 ghost use Rattle.capd.specs.declared.question.Question.{Question as Asked};
 ghost use Rattle.capd.specs.Question.{AsksFor, IsFaultIn, answer_text};
@@ -80,19 +77,13 @@ fn grants<W: Write>(alloc: Global, text: &[u8], writer: &mut W) -> Result<(), Fa
     write_line(line, writer)
 }
 
-// Writes the transcript of the script that is read, up to its end or to the first line that says nothing.
+// Writes the transcript of the script that is read, up to its end or to the first line that says nothing. What that is, and
+// what was written where it stops before, is the contract of `capscript::run`.
 fn run_script<R: Read, W: Write>(
     alloc: Global,
     reader: &mut R,
     writer: &mut W,
-) -> Result<(), Fault>
-    ensures transcript { OnOk result (IfSome (R.remaining reader.old) (λ script. (text : List ℕ) × IsTranscript (lines script) text
-        × Appends (W.contents writer.old) (W.contents writer.new) text)) }
-    // What was written by then, where the script stopped before its end.
-    ensures fault { IfErr result (λ fault. (stopped : Stopped) × (fault ≡ faults.Script stopped)
-        × IfSome (R.remaining reader.old) (λ script. (text : List ℕ) × StoppedAt script stopped text
-            × Appends (W.contents writer.old) (W.contents writer.new) text)) }
-{
+) -> Result<(), Fault> {
     let mut reader = Watched::new(reader);
     let mut writer = Watched::new(writer);
     run(alloc, &mut reader, &mut writer)?;
