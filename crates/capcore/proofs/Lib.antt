@@ -1,0 +1,11 @@
+pub mod Effects
+pub mod FirstLocks
+pub mod Fresh
+pub mod Growing
+pub mod Judging
+pub mod Numbered
+pub mod Promised
+pub mod Refusals
+pub mod Staying
+pub mod Steps
+pub mod Verdicts

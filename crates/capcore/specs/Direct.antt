@@ -1,7 +1,8 @@
 -- What an event does and answers by itself, before any lock moves.
-use Rattle.std.specs.Prelude.{ℕ, ◌+◌, List, [], Option, Some, None}
+use Rattle.std.specs.Prelude.{◌≡◌, ℕ, ◌+◌, List, [], Option, Some, None}
 use Rattle.std.specs.FinMap as map
 use Rattle.capbits.specs.declared.ids.ClientId.{ClientId}
+use Rattle.capbits.specs.declared.ids.Ino.{Ino}
 use Rattle.capbits.specs.declared.mode.Mode.{Mode}
 use Rattle.capgrant.specs.declared.access.Attr.{Attr}
 use Rattle.inotree.specs.declared.node.Kind.{Kind}
@@ -23,6 +24,10 @@ use Rattle.capcore.specs.Judge.{judged}
 -- what is answered: this reply, whatever the step still does
 pub data Answer : Type 0 where
   Says : Reply → Answer
+
+-- what is answered at the end
+abbrev pub reply_of : Answer → Reply
+reply_of (Says answer) = answer
 
 -- the state after an event, the answer, and the requests that the event itself ended
 pub record Direct : Type 0 where
@@ -48,11 +53,12 @@ owned_by None mode = record { uid = 0; gid = 0; mode = mode }
 owned_by (Some session) mode = record { uid = session.caller.uid; gid = session.caller.gid; mode = mode }
 
 -- a new inode, which has the next number, with its locks
+abbrev pub with_birth : State → Kind → ℕ → List ℕ → Attr → State
+with_birth s kind dir name attr = record s { scene = record s.scene { tree = with_new s.scene.tree kind dir name attr; locks = with_ino s.scene.locks (s.scene.tree.last + 1) } }
+
 abbrev pub born : State → Kind → ClientId → ℕ → List ℕ → Mode → Direct
 born s kind client dir name mode =
-    let attr = owned_by (map.get s.scene.sessions.sessions client.0) mode in
-    let ino = s.scene.tree.last + 1 in
-    says (record s { scene = record s.scene { tree = with_new s.scene.tree kind dir name attr; locks = with_ino s.scene.locks ino } }) (reply.Ino (record { 0 = ino }))
+    says (with_birth s kind dir name (owned_by (map.get s.scene.sessions.sessions client.0) mode)) (reply.Ino (record { 0 = s.scene.tree.last + 1 }))
 
 -- the effect of an event that nothing stops
 abbrev pub effect : State → Event → Direct
@@ -70,3 +76,17 @@ effect_unless s e None = effect s e
 -- what stops an event is all that it answers, and it has no effect then
 abbrev pub direct : State → Event → Direct
 direct s e = effect_unless s e (judged s.scene e)
+
+-- what the event answers by itself
+abbrev pub answer_to : State → Event → Reply
+answer_to s e = reply_of (direct s e).answer
+
+-- the event by itself answers this and leads to this state
+pub record IsDirect (old : State) (e : Event) (answer : Reply) (new : State) : Type 0 where
+  pub answer_is : answer ≡ answer_to old e
+  pub state_is : new ≡ (direct old e).state
+
+-- the event that makes an inode of this kind
+abbrev pub made_event : Kind → ClientId → Ino → List ℕ → Mode → Event
+made_event File client dir name mode = event.Create client dir name mode
+made_event Directory client dir name mode = event.Mkdir client dir name mode

@@ -1,13 +1,15 @@
 -- What the core promises of every step, in the words of its users.
-use Rattle.std.specs.Prelude.{◌≡◌, ◌==◌, ◌↔◌, Bool, false, ◌||◌, List, Some, None, IsTrue, IsFalse}
+use Rattle.std.specs.Prelude.{◌≡◌, ◌==◌, ◌↔◌, Bool, true, false, ◌||◌, List, ◌∷◌, ◌++◌, Option, Some, None, IsTrue, IsFalse}
 use Rattle.std.specs.List.{find}
 use Rattle.std.specs.Option.{option_map_or}
 use Rattle.capbits.specs.declared.cap.Cap.{Cap}
 use Rattle.capbits.specs.declared.cap.Part.{Part}
 use Rattle.capbits.specs.Caps.{has}
-use Rattle.capbits.specs.Sets.{IsSubset, of_part}
+use Rattle.capbits.specs.Sets.{IsSubset, of_part, no_caps}
 use Rattle.capgrant.specs.declared.access.Access.{Access}
 use Rattle.capgrant.specs.declared.rule.Rule.{Rule}
+use Rattle.locktable.specs.declared.states.LockState.{LockState}
+use Rattle.locktable.specs.declared.states.LockState.TheVariants.{Stable, Gather}
 use Rattle.locktable.specs.Conflicts.{conflict}
 use Rattle.locktable.specs.Rows.{row_of}
 use Rattle.captable.specs.declared.entry.Holder.{Holder}
@@ -15,8 +17,13 @@ use Rattle.captable.specs.declared.entry.EntryRow.{EntryRow}
 use Rattle.captable.specs.Table.{is_row_of}
 use Rattle.lockmachine.specs.Locks.{lock_at}
 use Rattle.lockmachine.specs.Policy.{failures}
-use Rattle.lockmachine.specs.Scene.{Scene}
-use Rattle.lockmachine.specs.Moves.{present_state}
+use Rattle.lockmachine.specs.declared.request.Request.{Request}
+use Rattle.lockmachine.specs.Scene.{Scene, against}
+use Rattle.lockmachine.specs.Moves.{is_open}
+use Rattle.capcore.specs.declared.outcome.Outcome.{Outcome}
+use Rattle.capcore.specs.declared.outcome.Outcome.TheVariants as outcome
+use Rattle.capcore.specs.Serving.{ask_before, ask_needs}
+use Rattle.capcore.specs.Settle.{Made, Served, MakesAll}
 use Rattle.capcore.specs.declared.event.Event.{Event}
 use Rattle.capcore.specs.declared.reply.Reply.{Reply}
 use Rattle.capcore.specs.declared.reply.Reply.TheVariants as reply
@@ -40,6 +47,34 @@ DeniesByName s e answer =
     (access : Access) (rules : List Rule) → answer ≡ reply.Denied access rules →
     (n : Need) × IsFirstDenied s e n × (access ≡ n.access) × (rules ≡ failures s.fs s.tree s.sessions n.holder n.access)
 
+-- what a request is refused or denied by
+abbrev pub is_stop : Reply → Bool
+is_stop reply.Done = false
+is_stop (reply.Ino ino) = false
+is_stop (reply.Denied access rules) = true
+is_stop (reply.Refused refusal) = true
+
+-- ---- denials of requests that waited
+
+-- the request passes the tests that stand before policy, and this is the first of its accesses that has no grant
+abbrev pub IsFirstDeniedNow : Scene → Request → Need → Type 0
+IsFirstDeniedNow s q n = (first_failing (ask_before s q.ino.0 q.ask) ≡ None) × (first_denied s (ask_needs s q) ≡ Some n)
+
+-- a request that is served is denied exactly if an access that it needs has no grant at that moment
+abbrev pub ServedDenied : Scene → Request → Outcome → Type 0
+ServedDenied s q o = ((access : Access) × (rules : List Rule) × (o ≡ outcome.Denied access rules)) ↔ ((n : Need) × IsFirstDeniedNow s q n)
+
+-- and the denial names the first such access, and the rule by which each grant fails first
+abbrev pub ServedByName : Scene → Request → Outcome → Type 0
+ServedByName s q o =
+    (access : Access) (rules : List Rule) → o ≡ outcome.Denied access rules →
+    (n : Need) × IsFirstDeniedNow s q n × (access ≡ n.access) × (rules ≡ failures s.fs s.tree s.sessions n.holder n.access)
+
+-- so it is of each serving among the moves, on the scene in which it was made
+abbrev pub EachServing : (Scene → Request → Outcome → Type 0) → Scene → List Made → Type 0
+EachServing Fact first moves =
+    (before_it behind_it : List Made) (q : Request) (o : Outcome) (s : Scene) → moves ≡ before_it ++ Served q o ∷ behind_it → MakesAll first before_it s → Fact s q o
+
 -- ---- caps
 
 -- the client holds the capability on the inode
@@ -50,14 +85,23 @@ holds s k cap = option_map_or (λ row. has row.entry.held cap) (find (is_row_of 
 abbrev pub is_due : Scene → Holder → Cap → Bool
 is_due s k cap = option_map_or (λ row. has (due s row) cap) (find (is_row_of k) s.table.rows) false
 
--- what is held at the end is what was held after the event, and what is due where the locks have settled
-abbrev pub IssuesExactly : Scene → Scene → Scene → Type 0
-IssuesExactly first settled last = (k : Holder) (cap : Cap) → holds last k cap ≡ (holds first k cap || is_due settled k cap)
+-- what is held at the end is what was held after the event, and what is wanted, permitted and allowed at the end
+abbrev pub IssuesExactly : Scene → Scene → Type 0
+IssuesExactly first last = (k : Holder) (cap : Cap) → holds last k cap ≡ (holds first k cap || is_due last k cap)
 
--- each held capability of a part is in the row of the state in which the part's lock is, or which it leaves in a gather
-abbrev pub AreInRows : Scene → Type 0
-AreInRows s = (row : EntryRow) (part : Part) → find (is_row_of row.holder) s.table.rows ≡ Some row →
-    IsSubset (of_part part row.entry.held) (row_of part (present_state (lock_at s.locks row.holder.ino.0 part)) row.holder.client)
+-- each held capability of a part is in the row of the state in which the part's lock is, or which it leaves; and one outside
+-- the row of the state to which it gathers is being revoked, and keeps the gather open
+abbrev pub IsInPlace : Scene → EntryRow → Part → Option LockState → Type 0
+IsInPlace s row part None = IsSubset (of_part part row.entry.held) no_caps
+IsInPlace s row part (Some (Stable state)) = IsSubset (of_part part row.entry.held) (row_of part state row.holder.client)
+IsInPlace s row part (Some (Gather from to)) =
+    IsSubset (of_part part row.entry.held) (row_of part from row.holder.client)
+    × ((cap : Cap) → IsTrue (has (of_part part row.entry.held) cap) → IsFalse (has (row_of part to row.holder.client) cap) →
+    IsTrue (has (against s row) cap) × IsTrue (is_open s row.holder.ino.0 part to))
+
+-- of each entry and each part
+abbrev pub AreInPlace : Scene → Type 0
+AreInPlace s = (row : EntryRow) (part : Part) → find (is_row_of row.holder) s.table.rows ≡ Some row → IsInPlace s row part (lock_at s.locks row.holder.ino.0 part)
 
 -- no two clients hold what may not be held together
 abbrev pub NoneConflict : Scene → Type 0

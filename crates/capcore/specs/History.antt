@@ -1,12 +1,13 @@
 -- Histories: what rows lead to, and when they are legal.
-use Rattle.std.specs.Prelude.{◌≡◌, ℕ, ◌+◌, ◌==◌, List, [], ◌∷◌, ◌++◌, refl}
+use Rattle.std.specs.Prelude.{length, ◌≤◌, ◌≡◌, ◌≢◌, ℕ, ◌+◌, ◌==◌, List, [], ◌∷◌, ◌++◌, refl}
 use Rattle.std.specs.List.{count_by}
 use Rattle.std.specs.Option.{option_map}
 use Rattle.std.specs.FinMap as map
 use Rattle.std.specs.FinSet as set
 use Rattle.std.specs.Coded.{Coded, code_by, coded×, coded_ℕ, coded_list}
 use Rattle.capbits.specs.declared.ids.PassId.{PassId}
-use Rattle.inotree.specs.Tree.{Nodes}
+use Rattle.inotree.specs.declared.node.Place.TheVariants.{Gone}
+use Rattle.inotree.specs.Tree.{Nodes, place}
 use Rattle.captable.specs.Table as table
 use Rattle.lockmachine.specs.Inodes.{in_sync}
 use Rattle.capcore.specs.declared.event.Event.{Event}
@@ -29,6 +30,10 @@ told_code =
     (λ t. (t.state, (t.rows, t.max_rows))) (λ p. record { state = p.0; rows = p.1.0; max_rows = p.1.1 }) (λ _. refl)
 
 -- ---- the opening state
+
+-- the tree has no stray
+abbrev pub HasNoStray : Nodes → Type 0
+HasNoStray tree = (ino : ℕ) → place tree.nodes ino ≢ Gone
 
 -- on this file system and tree nobody is connected, nobody has an entry, nobody waits, and each lock is in SYNC
 pub record IsOpening (fs : List ℕ) (tree : Nodes) (s : State) : Type 0 where
@@ -56,9 +61,9 @@ rows_of pass rows = count_by (λ row. row.pass.0 == pass.0) rows
 abbrev pub AreNumbered : List Row → Type 0
 AreNumbered rows = (earlier later : List Row) (row : Row) → rows ≡ earlier ++ row ∷ later → row.nth ≡ rows_of row.pass earlier + 1
 
--- the rows are legal, and lead from the opening state to the last
-pub record IsLegal (opening : State) (rows : List Row) (last : State) : Type 0 where
-  pub replays : Replays opening rows last
+-- the rows lead from the first state to the last, a step each, and are numbered
+pub record IsLegal (first : State) (rows : List Row) (last : State) : Type 0 where
+  pub replays : Replays first rows last
   pub numbered : AreNumbered rows
 
 -- ---- one more row
@@ -72,3 +77,15 @@ pub record IsNext (old : Told) (pass : PassId) (e : Event) (answer : Reply) (new
   pub step : Step old.state e answer ended new.state
   pub rows : new.rows ≡ old.rows ++ made_row pass (rows_of pass old.rows + 1) e answer ended ∷ []
   pub max_rows : new.max_rows ≡ old.max_rows
+
+-- ---- what every core keeps
+
+-- some legal history from an opening state led here, and there is room for what it has
+pub record IsTold (t : Told) : Type 0 where
+  pub fs : List ℕ
+  pub tree : Nodes
+  pub no_strays : HasNoStray tree
+  pub opening : State
+  pub is_opening : IsOpening fs tree opening
+  pub legal : IsLegal opening t.rows t.state
+  pub room : length t.rows ≤ t.max_rows

@@ -1,33 +1,33 @@
 -- One step: the event by itself, the moves, and the end of the step.
-use Rattle.std.specs.Prelude.{◌≡◌, List, ◌++◌}
+use Rattle.std.specs.Prelude.{◌≡◌, ℕ, nat_le, List, ◌++◌, filter}
 use Rattle.lockmachine.specs.Scene.{Scene}
 use Rattle.capcore.specs.declared.event.Event.{Event}
 use Rattle.capcore.specs.declared.outcome.Ended.{Ended}
 use Rattle.capcore.specs.declared.reply.Reply.{Reply}
 use Rattle.capcore.specs.State.{State}
-use Rattle.capcore.specs.Direct.{Answer, Says, Direct, direct}
+use Rattle.capcore.specs.Direct.{Direct, direct, reply_of}
 use Rattle.capcore.specs.Settle.{Made, Settles, ended_in}
 use Rattle.capcore.specs.Finish.{finished}
 
+-- of the requests that the moves ended, those of earlier steps: they have no number above the last that was given before
+abbrev pub earlier : ℕ → List Ended → List Ended
+earlier last ended = filter (λ m. nat_le m.ticket.0 last) ended
+
 -- the requests of earlier steps that this one ended: those that the event dropped, and those that were served
-abbrev pub all_ended : Direct → List Made → List Ended
-all_ended d moves = d.dropped ++ ended_in moves
+abbrev pub all_ended : State → Direct → List Made → List Ended
+all_ended old d moves = d.dropped ++ earlier old.ticket (ended_in moves)
 
--- the state at the end
-abbrev pub state_after : Direct → List Made → Scene → State
-state_after d moves settled = record d.state { scene = finished d.state.scene settled; messages = d.state.messages ++ all_ended d moves }
-
--- what is answered at the end
-abbrev pub reply_of : Answer → Reply
-reply_of (Says answer) = answer
+-- the state at the end. What the event dropped is told to nobody, as the session of its client has ended
+abbrev pub state_after : State → Direct → List Made → Scene → State
+state_after old d moves settled = record d.state { scene = finished d.state.scene settled; messages = d.state.messages ++ earlier old.ticket (ended_in moves) }
 
 -- a step by these moves
 pub record StepBy (old : State) (e : Event) (moves : List Made) (answer : Reply) (ended : List Ended) (new : State) : Type 0 where
   pub settled : Scene
   pub settles : Settles (direct old e).state.scene moves settled
-  pub new_is : new ≡ state_after (direct old e) moves settled
+  pub new_is : new ≡ state_after old (direct old e) moves settled
   pub answer_is : answer ≡ reply_of (direct old e).answer
-  pub ended_is : ended ≡ all_ended (direct old e) moves
+  pub ended_is : ended ≡ all_ended old (direct old e) moves
 
 -- the event leads from the old state to the new, with this answer, and ends these requests of earlier steps
 abbrev pub Step : State → Event → Reply → List Ended → State → Type 0

@@ -1,10 +1,12 @@
 //! The history: a row for each event that was answered.
+ghost use Rattle.std.specs.Prelude.{◌≡◌};
 
 use crate::event::Event;
 use crate::outcome::Ended;
 use crate::reply::Reply;
 use capbits::PassId;
-use std::alloc::{AllocError, Global};
+use lockmachine::NoMemory;
+use std::alloc::{AllocError, AllocFailed, Global};
 use std::marker::Model;
 use thiserror::Error;
 
@@ -28,7 +30,7 @@ impl Model for EndedList {
 }
 
 impl EndedList {
-    ghost use Rattle.std.specs.Prelude.{◌≡◌, []};
+    ghost use Rattle.std.specs.Prelude.{[]};
 
     // No request.
     pub(crate) fn new(alloc: Global) -> EndedList
@@ -74,7 +76,31 @@ pub enum Stop {
 }
 
 impl From<AllocError> for Stop {
+    ghost use Rattle.capcore.specs.declared.history.Stop.TheVariants as kind;
+
+    ghost from_gives = { λ _ stop. stop ≡ kind.NoMemory };
+
     fn from(_refused: AllocError) -> Stop {
+        Stop::NoMemory
+    }
+}
+
+impl<T: Drop> From<AllocFailed<T>> for Stop {
+    ghost use Rattle.capcore.specs.declared.history.Stop.TheVariants as kind;
+
+    ghost from_gives = { λ _ stop. stop ≡ kind.NoMemory };
+
+    fn from(_failed: AllocFailed<T>) -> Stop {
+        Stop::NoMemory
+    }
+}
+
+impl From<NoMemory> for Stop {
+    ghost use Rattle.capcore.specs.declared.history.Stop.TheVariants as kind;
+
+    ghost from_gives = { λ _ stop. stop ≡ kind.NoMemory };
+
+    fn from(_none: NoMemory) -> Stop {
         Stop::NoMemory
     }
 }

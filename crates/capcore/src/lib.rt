@@ -3,12 +3,16 @@
 //! Public source: "Capabilities in CephFS" in the Ceph documentation.
 #![tactic(auto)]
 
+mod copies;
 mod event;
 mod history;
 mod outcome;
 mod refusal;
+mod refused;
 mod reply;
+mod start;
 mod step;
+mod world;
 
 pub use event::Event;
 pub use history::{EndedList, Row, Stop};

@@ -1,48 +1,131 @@
 //! The core and its steps.
+ghost use Rattle.std.specs.Prelude.{◌≡◌, ◌↔◌, ◌+◌, ◌<◌, ◌^◌, [], length, Err, IsTrue, IfOk, OnOk, OnErr};
+ghost use Rattle.capcore.specs.History.{HasNoStray, IsOpening, IsNext, IsTold, Replays, rows_of, AreNumbered};
+ghost use Rattle.capcore.specs.State.{State};
+ghost use Rattle.capcore.specs.Direct.{direct};
+ghost use Rattle.capcore.specs.Headline.{DeniedExactly, DeniesByName, IssuesExactly, AreInPlace, NoneConflict, is_stop};
+ghost use Rattle.sessiontab.specs.Calls.{status_of};
+ghost use Rattle.lockmachine.specs.Moves.{IsAtRest};
+ghost use Rattle.capcore.specs.declared.history.Stop.TheVariants as stop_kind;
 
+use crate::copies::copy_of_reply;
 use crate::event::Event;
 use crate::history::{EndedList, Row, Stop};
 use crate::reply::Reply;
-use capbits::PassId;
+use crate::world::World;
+use capbits::{ClientId, PassId};
 use capspec::FsName;
-use captable::CapTable;
 use inotree::Tree;
-use lockmachine::Locks;
-use sessiontab::Sessions;
+use lockmachine::NoMemory;
+use sessiontab::Status;
 use std::alloc::Global;
 use std::marker::Model;
 
 /// The state of a metadata server's policy, with the history that led to it.
 #[derive(Debug, Drop)]
 pub struct Core {
-    fs: FsName,
-    tree: Tree,
-    sessions: Sessions,
-    table: CapTable,
-    locks: Locks,
-    // The last number that a request was given.
-    ticket: u64,
-    // The requests that ended and that no client was told of.
-    messages: EndedList,
+    world: World,
     rows: Vec<Row>,
     max_rows: u32,
     alloc: Global,
 }
 
 impl Model for Core {
-    ghost use Rattle.capcore.specs.History.{Told, told_code};
+    ghost use Rattle.capcore.specs.History.{Told, told_code, IsTold};
 
     ghost Value = { Told };
 
     ghost coded = { told_code };
 
-    ghost view = { λ c. record {
-      state = record {
-        scene = record { fs = c.fs; tree = c.tree; sessions = c.sessions; table = c.table; locks = c.locks };
-        ticket = c.ticket;
-        messages = c.messages;
-      };
-      rows = c.rows.items;
-      max_rows = c.max_rows;
-    } };
+    ghost view = { λ c. record { state = c.world; rows = c.rows.items; max_rows = c.max_rows } };
+
+    ghost invariant = { λ c. IsTold (record { state = c.world; rows = c.rows.items; max_rows = c.max_rows }) };
+}
+
+impl Core {
+    /// A core on this file system and tree, in which nobody is connected. Its history takes at most `max_rows` rows.
+    pub fn new(alloc: Global, fs: FsName, tree: Tree, max_rows: u32) -> Result<Core, NoMemory>
+        requires strays { HasNoStray tree }
+        ensures opening { IfOk result (λ core. IsOpening fs tree core.state) }
+        ensures rows { IfOk result (λ core. core.rows ≡ []) }
+        ensures max_rows { IfOk result (λ core. core.max_rows ≡ max_rows) }
+    {
+        Ok(Core {
+            world: World::new(alloc, fs, tree)?,
+            rows: Vec::new(alloc),
+            max_rows,
+            alloc,
+        })
+    }
+
+    /// Takes one event, called by a pass: makes the step, adds its row to the history and says what is answered.
+    pub fn apply(&mut self, pass: PassId, event: Event) -> Result<Reply, Stop>
+        // One step of the rules, and one row.
+        ensures next { IfOk result (λ answer. IsNext self.old pass event answer self.new) }
+        // A request is denied exactly if an access that it needs has no grant, and each denial names what each grant lacks.
+        ensures denied { IfOk result (λ answer. DeniedExactly self.old.state.scene event answer) }
+        ensures named { IfOk result (λ answer. DeniesByName self.old.state.scene event answer) }
+        // What is issued is what is wanted, permitted and allowed; and no two clients hold what may not be held together.
+        ensures issued { OnOk result (IssuesExactly (direct self.old.state event).state.scene self.new.state.scene) }
+        ensures in_place { OnOk result (AreInPlace self.new.state.scene) }
+        ensures apart { OnOk result (NoneConflict self.new.state.scene) }
+        // Locks are at rest, and a denial or a refusal changes nothing but the history.
+        ensures at_rest { OnOk result (IsAtRest self.new.state.scene) }
+        ensures unchanged { IfOk result (λ answer. IsTrue (is_stop answer) → self.new.state ≡ self.old.state) }
+        // Wherever the history began, it goes on from there.
+        ensures legal { OnOk result ((first : State) → Replays first self.old.rows self.old.state → Replays first self.new.rows self.new.state) }
+        ensures full { (result ≡ Err stop_kind.Full) ↔ (length self.old.rows ≡ self.old.max_rows) }
+        ensures err { OnErr result (self.new ≡ self.old) }
+    {
+        if self.rows.len() >= self.max_rows as usize {
+            return Err(Stop::Full);
+        }
+        self.rows.reserve(1)?;
+        let nth = next_number(&self.rows, pass);
+        let reply = self.world.step(&event)?;
+        let row = Row {
+            pass,
+            nth,
+            event,
+            reply: copy_of_reply(&reply),
+            ended: EndedList::new(self.alloc),
+        };
+        self.rows.push(row)?;
+        Ok(reply)
+    }
+
+    /// The tree of today.
+    pub fn tree(&self) -> &Tree
+        ensures { result.now ≡ self.now.state.scene.tree }
+    {
+        self.world.tree()
+    }
+
+    /// A client's session, open or stale, where it has one.
+    pub fn session(&self, client: ClientId) -> Option<Status>
+        ensures { result ≡ status_of self.now.state.scene.sessions client.0 }
+    {
+        self.world.session(client)
+    }
+
+    /// The history: a row for each event that was answered, the first first.
+    pub fn history(&self) -> &[Row]
+        ensures rows { result.now ≡ self.now.rows }
+        // It is legal, and leads to the state that the other calls show.
+        ensures told { IsTold self.now }
+    {
+        self.rows.as_slice()
+    }
+}
+
+// The number of a pass's next row.
+fn next_number(rows: &[Row], pass: PassId) -> u64
+    requires numbered { AreNumbered rows.now }
+    requires room { length rows.now < 2 ^ 32 }
+    ensures { result ≡ rows_of pass rows.now + 1 }
+{
+    match rows.iter().rev().find(|row| row.pass == pass) {
+        Some(row) => row.nth + 1,
+        None => 1,
+    }
 }

@@ -1,19 +1,8 @@
 -- The words that name an access.
 use Rattle.std.specs.Prelude.{◌≡◌, ℕ, List, ◌++◌, codes}
-use Rattle.std.specs.Fmt.{decimal}
 use Rattle.capspec.specs.Items.{IsNumber}
 use Rattle.capgrant.specs.declared.access.Access.{Access}
 use Rattle.capgrant.specs.declared.access.Access.TheVariants.{Read, Write, SetVxattr, Snapshot, Chmod, Chown, Chgrp}
-
--- the word that is written for an access; its number is in decimal, without leading zeros
-abbrev pub access_word : Access → List ℕ
-access_word Read = codes "read"
-access_word Write = codes "write"
-access_word SetVxattr = codes "vxattr"
-access_word Snapshot = codes "snapshot"
-access_word Chmod = codes "chmod"
-access_word (Chown uid) = codes "chown:" ++ decimal uid
-access_word (Chgrp gid) = codes "chgrp:" ++ decimal gid
 
 -- the text is the word and a number behind it, which may have leading zeros
 abbrev pub IsWordWithNumber : List ℕ → List ℕ → ℕ → Type 0

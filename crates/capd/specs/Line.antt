@@ -7,7 +7,7 @@ use Rattle.capgrant.specs.declared.answer.Verdict.{Verdict}
 use Rattle.capgrant.specs.declared.answer.Verdict.TheVariants.{Allowed, Denied}
 use Rattle.capgrant.specs.declared.rule.Rule.{Rule}
 use Rattle.capgrant.specs.Rule.{rule_number, rule_word}
-use Rattle.capd.specs.Access.{access_word}
+use Rattle.capscript.specs.Replies.{access_word}
 
 -- `/` before each name; `/` alone for the root
 abbrev pub path_text : List (List ℕ) → List ℕ

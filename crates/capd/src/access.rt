@@ -1,32 +1,11 @@
 //! The words that name an access.
-ghost use Rattle.std.specs.Prelude.{◌≡◌, ◌↔◌, ℕ, IsTrue, MatchOption, IfSome, IfNone, Some};
+ghost use Rattle.std.specs.Prelude.{◌≡◌, ◌↔◌, ℕ, IsTrue, MatchOption, IfSome, IfNone};
 ghost use Rattle.capgrant.specs.declared.access.Access.{Access as AnAccess};
 ghost use Rattle.capgrant.specs.declared.access.Access.TheVariants as accesses;
-ghost use Rattle.capd.specs.Access.{access_word, IsAccessWord};
+ghost use Rattle.capd.specs.Access.{IsAccessWord};
 
 use capbits::read_u32;
 use capgrant::Access;
-use std::fmt;
-
-/// An access as its word, which `read_access` reads.
-#[derive(Clone, Copy, Debug, PartialEq, Eq)]
-pub struct AccessWord(pub Access);
-
-impl fmt::Display for AccessWord {
-    ghost output = { λ word. Some (access_word word.0) };
-
-    fn fmt<W: fmt::Write>(&self, f: &mut fmt::Formatter<W>) -> fmt::Result {
-        match self.0 {
-            Access::Read => f.write_str("read"),
-            Access::Write => f.write_str("write"),
-            Access::SetVxattr => f.write_str("vxattr"),
-            Access::Snapshot => f.write_str("snapshot"),
-            Access::Chmod => f.write_str("chmod"),
-            Access::Chown(uid) => write!(f, "chown:{uid}"),
-            Access::Chgrp(gid) => write!(f, "chgrp:{gid}"),
-        }
-    }
-}
 
 /// The access that a word names: `read`, `write`, `vxattr`, `snapshot`, `chmod`, or `chown:N` or `chgrp:N` with a decimal
 /// number of 32 bits.

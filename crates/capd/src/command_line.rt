@@ -13,6 +13,8 @@ const EXPLAIN: &str = "explain";
 
 const GRANTS: &str = "grants";
 
+const RUN: &str = "run";
+
 const TEXT: &str = "text";
 
 const EXAMPLE: &str = "Example:
@@ -28,6 +30,12 @@ const GRANTS_EXAMPLE: &str = "Example:
 prints
   allow rwps path=/data uid=1001 gids=200,300";
 
+const RUN_EXAMPLE: &str = "Example:
+  printf 'session 1 10 10 - allow rw path=/a\\nmkdir 1 1 a 0755\\n' | capd run
+prints
+  done
+  denied write 1:4";
+
 /// What a command line asks for.
 #[derive(Debug, Drop)]
 pub enum Ask {
@@ -35,6 +43,8 @@ pub enum Ask {
     Explain(Values),
     /// The written form of the grants in a text.
     Grants(Vec<u8>),
+    /// The transcript of a script.
+    Run,
 }
 
 /// What the words behind the program's name ask for. The error's text says what is wrong with the words, or it is the
@@ -56,10 +66,11 @@ fn capd<'a>(alloc: Global) -> Result<Command<'a>, AllocError> {
     Command::new(alloc, CAPD)
         .no_binary_name(true)
         .bin_name(CAPD)?
-        .about("What the grants of a CephFS client allow")
+        .about("What CephFS clients may do, and why not")
         .subcommand_required(true)
         .subcommand(explain(alloc)?)?
-        .subcommand(grants(alloc)?)
+        .subcommand(grants(alloc)?)?
+        .subcommand(run(alloc))
 }
 
 fn explain<'a>(alloc: Global) -> Result<Command<'a>, AllocError> {
@@ -93,11 +104,19 @@ fn grants<'a>(alloc: Global) -> Result<Command<'a>, AllocError> {
         .arg(text)
 }
 
+fn run<'a>(alloc: Global) -> Command<'a> {
+    Command::new(alloc, RUN)
+        .about("Reads a script from standard input and prints what a server answers to each line")
+        .after_help(RUN_EXAMPLE)
+}
+
 fn asked(alloc: Global, matches: &ArgMatches<'_>) -> Result<Ask, ErrorKind> {
     if let Some(matches) = matches.subcommand_matches(EXPLAIN) {
         Ok(Ask::Explain(explain_values(alloc, matches)?))
     } else if let Some(matches) = matches.subcommand_matches(GRANTS) {
         Ok(Ask::Grants(value(alloc, matches, TEXT)?))
+    } else if matches.subcommand_matches(RUN).is_some() {
+        Ok(Ask::Run)
     } else {
         Err(ErrorKind::MissingSubcommand)
     }

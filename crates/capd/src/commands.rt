@@ -1,10 +1,13 @@
 //! The commands of the program, over streams that the caller passes.
-ghost use Rattle.std.specs.Prelude.{◌≡◌, ◌≤◌, ◌⊎◌, ◌++◌, List, codes, OnOk, IfErr, MatchResult};
+ghost use Rattle.std.specs.Prelude.{◌≡◌, ◌≤◌, ◌⊎◌, ◌++◌, ℕ, List, codes, IfSome, OnOk, IfErr, MatchResult};
 ghost use Rattle.std.specs.Io.KnownBytes.{Appends, Keeps};
 ghost use Rattle.capspec.specs.Grants.{Reads};
 ghost use Rattle.capspec.specs.Written.{written};
 ghost use Rattle.capspec.specs.declared.grant.Grant.{Grant};
-ghost use Rattle.capd.specs.Fault.{IsFaultOfText};
+ghost use Rattle.capscript.specs.Lines.{lines};
+ghost use Rattle.capscript.specs.Transcript.{IsTranscript};
+ghost use Rattle.capscript.specs.declared.fault.ScriptFault.{ScriptFault as Stopped};
+ghost use Rattle.capd.specs.Fault.{IsFaultOfText, StoppedAt};
 ghost use Rattle.capd.specs.declared.fault.Fault.TheVariants as faults;
 ghost use Rattle.capd.specs.declared.question.Question.{Question as Asked};
 ghost use Rattle.capd.specs.Question.{AsksFor, IsFaultIn, answer_text};
@@ -13,6 +16,7 @@ use crate::command_line::{Ask, parse};
 use crate::fault::{Fault, NoMemory};
 use crate::question::{Question, Values};
 use crate::words::spelled;
+use capscript::{Watched, run};
 use capspec::{read_grants, write_grants};
 use clap::error::ErrorKind;
 use std::alloc::Global;
@@ -29,11 +33,11 @@ pub const FAILED: u8 = 1;
 pub const USAGE: u8 = 2;
 
 /// Does what the words behind the program's name ask for, and returns the status. What is wrong is written to `faults`;
-/// where that fails, nothing else can be said, and the status stays. No command reads from `_reader` yet.
+/// where that fails, nothing else can be said, and the status stays.
 pub fn dispatch<R: AllocGlobal>(
     rt: &R,
     words: &[Vec<u8>],
-    _reader: &mut impl Read,
+    reader: &mut impl Read,
     writer: &mut impl Write,
     faults: &mut impl Write,
 ) -> u8
@@ -42,6 +46,7 @@ pub fn dispatch<R: AllocGlobal>(
     let done = match parse(rt.alloc(), words) {
         Ok(Ask::Explain(values)) => explain(rt.alloc(), &values, writer),
         Ok(Ask::Grants(text)) => grants(rt.alloc(), text.as_slice(), writer),
+        Ok(Ask::Run) => run_script(rt.alloc(), reader, writer),
         Err(error) => return show(rt.alloc(), &error, writer, faults),
     };
     match done {
@@ -73,6 +78,25 @@ fn grants<W: Write>(alloc: Global, text: &[u8], writer: &mut W) -> Result<(), Fa
     let grants = read_grants(alloc, text)?;
     let line = write_grants(alloc, &grants).map_err(|_| NoMemory)?;
     write_line(line, writer)
+}
+
+// Writes the transcript of the script that is read, up to its end or to the first line that says nothing.
+fn run_script<R: Read, W: Write>(
+    alloc: Global,
+    reader: &mut R,
+    writer: &mut W,
+) -> Result<(), Fault>
+    ensures transcript { OnOk result (IfSome (R.remaining reader.old) (λ script. (text : List ℕ) × IsTranscript (lines script) text
+        × Appends (W.contents writer.old) (W.contents writer.new) text)) }
+    // What was written by then, where the script stopped before its end.
+    ensures fault { IfErr result (λ fault. (stopped : Stopped) × (fault ≡ faults.Script stopped)
+        × IfSome (R.remaining reader.old) (λ script. (text : List ℕ) × StoppedAt script stopped text
+            × Appends (W.contents writer.old) (W.contents writer.new) text)) }
+{
+    let mut reader = Watched::new(reader);
+    let mut writer = Watched::new(writer);
+    run(alloc, &mut reader, &mut writer)?;
+    Ok(())
 }
 
 // Writes the line and a line feed behind it, or nothing where memory is missing.

@@ -2,6 +2,7 @@
 ghost use Rattle.std.specs.Prelude.{◌≡◌};
 
 use crate::options::Opt;
+use capscript::ScriptFault;
 use capspec::{SpecFault, SpecFaultKind};
 use std::alloc::{AllocError, AllocFailed};
 use thiserror::Error;
@@ -38,6 +39,19 @@ pub enum Fault {
     /// The answer could not be written.
     #[error("write failed")]
     WriteFailed,
+    /// A script stopped before its end.
+    #[error("{0}")]
+    Script(ScriptFault),
+}
+
+impl From<ScriptFault> for Fault {
+    ghost use Rattle.capd.specs.declared.fault.Fault.TheVariants as fault;
+
+    ghost from_gives = { λ stopped made. made ≡ fault.Script stopped };
+
+    fn from(stopped: ScriptFault) -> Self {
+        Fault::Script(stopped)
+    }
 }
 
 impl From<NoMemory> for Fault {

@@ -2,9 +2,9 @@
 ghost use Rattle.std.specs.Prelude.{◌≡◌, ◌++◌, map, IfOk, IfSome, OnOk};
 ghost use Rattle.capd.specs.Line.{explain_text, path_text, failure_text, failures_text};
 
-use crate::access::AccessWord;
 use crate::fault::NoMemory;
 use capgrant::{Access, Rule, Verdict};
+use capscript::AccessWord;
 use std::alloc::Global;
 use std::fmt::Display;
 use std::io::Write;

@@ -1,5 +1,5 @@
 //! `capd` answers questions about the grants of CephFS clients: whether they allow an access, by which grant or why not,
-//! and what their written form is.
+//! and what their written form is. And it runs scripts of what clients do, and prints what a server answers.
 #![tactic(auto)]
 
 mod access;
@@ -10,6 +10,8 @@ mod line;
 mod lists;
 mod options;
 mod question;
+#[cfg(test)]
+mod script_tests;
 #[cfg(test)]
 mod tests;
 mod words;

@@ -1,8 +1,8 @@
 -- The first bad word of some arguments, and what is told of it.
-use Rattle.std.proofs.Common.{◌≡◌, ℕ, ◌≤◌, List, [], ◌∷◌, ◌++◌, length, map, get_or, refl, sym, ap, ◌∙◌, subst, arith}
+use Rattle.std.proofs.Common.{◌≡◌, ℕ, List, [], ◌∷◌, ◌++◌, length, map, get_or, refl, ap, arith}
 use Rattle.std.specs.Borrow.{Bor}
 use Rattle.std.specs.List.{zip, AllByRecursion}
-use Rattle.std.specs.Prelude.{◌≢◌, ◌⊎◌, ⊤, Result, Ok, Err, MatchResult, IsErrAnd, codes}
+use Rattle.std.specs.Prelude.{◌≢◌, ◌⊎◌, Result, Ok, Err, MatchResult, IsErrAnd, codes}
 use Rattle.std.proofs.Common.{inl, inr}
 use Rattle.std.proofs.lemmas.List.Elements.{All-from_recursion}
 use Rattle.capspec.specs.declared.fault.SpecFault.{SpecFault}
@@ -17,7 +17,6 @@ use Rattle.capscript.specs.declared.fault.Refused.{Refused}
 use Rattle.capscript.specs.declared.fault.Refused.TheVariants as refusals
 use Rattle.capscript.specs.Faults.{Field, IsGood, IsTold, IsFirstBad, AreRefused, IsRefusedFor, IsGrantsRefusal}
 use Rattle.capscript.specs.Faults.Field.{Number, LongNumber, Groups, Name, Mode, Grants}
-use Rattle.capscript.specs.Values.{AreGrants}
 
 abbrev pub IsGoodPair : Field × List ℕ → Type 0
 IsGoodPair pair = IsGood pair.0 pair.1

@@ -5,3 +5,4 @@ pub mod Commands
 pub mod Meaning
 pub mod Printing
 pub mod Known
+pub mod Histories

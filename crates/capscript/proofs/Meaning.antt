@@ -1,7 +1,7 @@
 -- A line says one event, or has one fault, or is skipped.
-use Rattle.std.proofs.Common.{◌≡◌, ℕ, ◌≤◌, ◌<◌, Bool, true, false, eqb, cond, List, [], ◌∷◌, ◌++◌, length, get_or, refl, sym, ap, ◌∙◌, subst, arith, inl, inr, rules}
+use Rattle.std.proofs.Common.{◌≡◌, ℕ, ◌≤◌, List, [], ◌∷◌, ◌++◌, length, get_or, refl, sym, ap, ◌∙◌, subst, arith, inl, inr}
 use Rattle.std.specs.List.{zip, AllByRecursion, onto_first}
-use Rattle.std.specs.Prelude.{◌≢◌, ◌⊎◌, All, IsTrue, Result, Ok, Err, MatchResult, codes}
+use Rattle.std.specs.Prelude.{◌≢◌, ◌⊎◌, IsTrue, Result, Ok, Err, MatchResult, codes}
 use Rattle.std.proofs.lemmas.Bool.{eqb-true, false≢true}
 use Rattle.std.proofs.lemmas.List.Elements.{recursion_from_All}
 use Rattle.std.specs.Str.Parse.{digits_value}
@@ -9,9 +9,8 @@ use Rattle.capbits.specs.declared.caller.Caller.{Caller}
 use Rattle.capbits.specs.declared.ids.ClientId.{ClientId}
 use Rattle.capbits.specs.declared.ids.Ino.{Ino}
 use Rattle.capspec.specs.declared.grant.Grant.{Grant}
-use Rattle.capspec.specs.declared.fault.SpecFault.{SpecFault}
 use Rattle.capspec.specs.Grants.{Reads as ReadsGrants}
-use Rattle.capspec.specs.Items.{is_comma, IsNumber}
+use Rattle.capspec.specs.Items.{IsNumber}
 use Rattle.capspec.proofs.OneReading.{one_fault as one_grant_fault, reads_once}
 use Rattle.capspec.proofs.Valued.{numbers_are, pieces_are}
 use Rattle.capcore.specs.declared.event.Event.{Event}

@@ -5,3 +5,4 @@ pub mod Events
 pub mod Faults
 pub mod Replies
 pub mod Watched
+pub mod Transcript

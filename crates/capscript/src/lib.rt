@@ -8,6 +8,7 @@ mod fault;
 mod input;
 mod line;
 mod reply;
+mod running;
 mod values;
 mod watched;
 mod words;
@@ -17,6 +18,7 @@ pub use fault::{LineFault, NoMemory, ScriptFault};
 pub use input::MAX_SCRIPT;
 pub use line::{MAX_LINE, read_line};
 pub use reply::reply_lines;
+pub use running::run;
 pub use watched::Watched;
 
 #[cfg(test)]

@@ -40,7 +40,7 @@ impl Model for CapTable {
 
 impl CapTable {
     ghost use Rattle.captable.specs.Table as words;
-    ghost use Rattle.captable.specs.Table.{holder, entry_at};
+    ghost use Rattle.captable.specs.Table.{IsTable, holder, entry_at};
     ghost use Rattle.captable.specs.Calls.{opened, open_fault, changed, wanting, issued, taken, renumbered, told, with_asked, ack_fault, release_fault, released, without, without_client, newer_in, touched, recalled, is_of_client, is_of_inode};
 
     /// A table without entries. The first entry is the first to take memory, so this is `Ok`.
@@ -55,7 +55,8 @@ impl CapTable {
 
     /// The client's entry on the inode, where it has one.
     pub fn find(&self, client: ClientId, ino: Ino) -> Option<Entry>
-        ensures { result ≡ entry_at self.now (holder client ino) }
+        ensures entry { result ≡ entry_at self.now (holder client ino) }
+        ensures sound { IsTable self.now }
     {
         let sought = Holder { client, ino };
         let found = self.rows.iter().find(|row| is_same(sought, row.holder));

@@ -14,7 +14,7 @@ use Rattle.inotree.proofs.Growing.{climb-names}
 use Rattle.inotree.proofs.Named.{first_some, first_none, node_of, at_under, under_at}
 
 module _ (t : Nodes) (tree : IsTree t) where
-  child-is : (i d : ℕ) (a : List ℕ) → IsUnder t.nodes i d a → child t.nodes d a ≡ Some i
+  pub child-is : (i d : ℕ) (a : List ℕ) → IsUnder t.nodes i d a → child t.nodes d a ≡ Some i
   child-is i d a u = go (child t.nodes d a) refl where
     go : (o : Option ℕ) → child t.nodes d a ≡ o → o ≡ Some i
     go (Some j) c =

@@ -1,3 +1,4 @@
+pub mod Below
 pub mod Changes
 pub mod Copies
 pub mod Entries

@@ -31,7 +31,7 @@ at_under d a (Under e b) is =
 pub under_at : (d : ℕ) (a : List ℕ) → is_at d a (Under (record { 0 = d }) a) ≡ true
 under_at d a = and_true _ _ (same_test d d refl) (tied_here name_total name_same a)
 
-in_under : (i : ℕ) (s : Site) → is_in i s ≡ true → (a : List ℕ) × (s ≡ Under (record { 0 = i }) a)
+pub in_under : (i : ℕ) (s : Site) → is_in i s ≡ true → (a : List ℕ) × (s ≡ Under (record { 0 = i }) a)
 in_under i Root e = cc
 in_under i Stray e = cc
 in_under i (Under e b) is = let dirs : e.0 ≡ i = test_same e.0 i is in (b, λ j. Under (record { 0 = dirs j }) b)

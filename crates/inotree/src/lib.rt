@@ -16,7 +16,10 @@ mod tree;
 
 pub use attributes::{Attributes, MAX_ATTRIBUTES, MAX_VALUE, Value};
 pub use fault::{NoMemory, TreeFault};
-pub use laws::{depth_is_the_length_of_the_path, within_is_below};
+pub use laws::{
+    a_child_stands_under_its_name, depth_is_the_length_of_the_path,
+    too_deep_is_a_path_of_too_many_names, within_is_below,
+};
 pub use name::{MAX_NAME, Name, is_bad_attribute, is_bad_name};
 pub use names::{MAX_NAMES, Names};
 pub use node::{Kind, Node, Place, Setting, Site};

@@ -133,6 +133,7 @@ fn an_unlinked_file_is_a_stray_until_it_is_forgotten(rt: HostRuntime) -> Result<
     assert!(rt; tree.path_of(Ino(2)).is_none());
     assert_eq!(rt; tree.child(ROOT, b"f"), None);
     tree.forget(Ino(2));
+    assert_eq!(rt; tree.last(), Ino(2));
     assert_eq!(rt; tree.place(Ino(2)), Place::NoIno);
     assert_eq!(rt; asked(&mut tree, Create(1, b'f')), Ok(3));
     assert_eq!(rt; tree.place(Ino(3)), Place::Here);
@@ -276,6 +277,9 @@ fn no_path_has_more_than_thirty_two_names(rt: HostRuntime) -> Result<(), Fail> {
     assert_eq!(rt; path.len(), 32);
     assert_eq!(rt; tree.resolve(path.as_slice()), Some(deepest));
     assert_eq!(rt; tree.create(deepest, b"f", attr()), Err(TreeFault::TooDeep));
+    assert_eq!(rt; tree.create_fault(deepest, b"f"), Some(TreeFault::TooDeep));
+    assert_eq!(rt; tree.create_fault(ROOT, b"d"), Some(TreeFault::Exists));
+    assert_eq!(rt; tree.create_fault(ROOT, b"f"), None);
     let file = tree.create(ROOT, b"f", attr())?;
     assert_eq!(rt; tree.rename(file, deepest, b"f"), Err(TreeFault::TooDeep));
     assert_eq!(rt; tree.rename(file, above, b"f"), Ok(()));

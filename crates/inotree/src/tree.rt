@@ -85,6 +85,14 @@ impl Tree {
         })
     }
 
+    /// The last inode number that was given: 1 in a new tree. The next is one more.
+    pub fn last(&self) -> Ino
+        ensures last { result.0 ≡ self.now.last }
+        ensures sound { IsTree self.now }
+    {
+        Ino(self.last)
+    }
+
     /// What the tree keeps of an inode, if it has it.
     pub fn node(&self, ino: Ino) -> Option<&Node>
         ensures node { option_copied result ≡ map.get self.now.nodes ino.0 }
@@ -268,6 +276,13 @@ impl Tree {
             return Err(TreeFault::TooDeep);
         }
         Ok(())
+    }
+
+    /// Why `create` or `mkdir` would be refused now, if it would. Want of memory is not foreseen.
+    pub fn create_fault(&self, dir: Ino, name: &[u8]) -> Option<TreeFault>
+        ensures { result ≡ create_fault self.now dir.0 name.now }
+    {
+        self.check_create(dir, name).err()
     }
 
     /// Why `rmdir` would be refused now, if it would.

@@ -1,0 +1,3 @@
+pub mod Idle
+pub mod Rest
+pub mod Exact

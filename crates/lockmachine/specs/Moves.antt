@@ -119,12 +119,16 @@ gathered s ino part = relocked s ino part (Stable (coming_state (lock_at s.locks
 -- ---- rest
 
 -- the lock is stable at its target and nobody waits for it; or it gathers, and some capabilities are still to be told
--- back
+-- back; where there is no lock, nobody waits
 abbrev pub IsQuiet : Scene → ℕ → Part → Option LockState → Type 0
-IsQuiet s ino part None = Unit {0}
+IsQuiet s ino part None = first_for s.locks.queue ino part ≡ None
 IsQuiet s ino part (Some (Stable state)) = (target s ino part state ≡ state) × (first_for s.locks.queue ino part ≡ None)
 IsQuiet s ino part (Some (Gather from to)) = is_open s ino part to ≡ true
 
--- all locks are
+-- each lock is quiet
 pub record IsAtRest (s : Scene) : Type 0 where
   pub each : (ino : ℕ) (part : Part) → IsQuiet s ino part (lock_at s.locks ino part)
+
+-- who waits, waits for a lock that is there
+abbrev pub WaitAtLocks : Scene → Type 0
+WaitAtLocks s = (ino : ℕ) (part : Part) → lock_at s.locks ino part ≡ None → first_for s.locks.queue ino part ≡ None

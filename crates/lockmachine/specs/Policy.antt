@@ -34,12 +34,12 @@ abbrev pub subject : Nodes → SessionTable → Holder → Option Subject
 subject tree sessions k = subject_of (map.get sessions.sessions k.client.0) (path_of tree.nodes k.ino.0) (map.get tree.nodes k.ino.0)
 
 -- may the client make this access to the inode?
-abbrev pub asked : List ℕ → Subject → Access → Question
-asked fs s access = record { fs = fs; caller = s.session.caller; path = s.path; attr = s.node.attr; access = access }
+abbrev pub question_of : List ℕ → Subject → Access → Question
+question_of fs s access = record { fs = fs; caller = s.session.caller; path = s.path; attr = s.node.attr; access = access }
 
 abbrev pub is_granted_to : List ℕ → Option Subject → Access → Bool
 is_granted_to fs None access = false
-is_granted_to fs (Some s) access = granted (asked fs s access) s.session.grants
+is_granted_to fs (Some s) access = granted (question_of fs s access) s.session.grants
 
 -- some grant of the client allows the access
 abbrev pub is_granted : List ℕ → Nodes → SessionTable → Holder → Access → Bool
@@ -47,7 +47,7 @@ is_granted fs tree sessions k access = is_granted_to fs (subject tree sessions k
 
 abbrev pub failures_of : List ℕ → Option Subject → Access → List Rule
 failures_of fs None access = []
-failures_of fs (Some s) access = first_failures (asked fs s access) s.session.grants
+failures_of fs (Some s) access = first_failures (question_of fs s access) s.session.grants
 
 -- the rule by which each grant of the client fails first, in the order of the grants
 abbrev pub failures : List ℕ → Nodes → SessionTable → Holder → Access → List Rule
@@ -56,16 +56,16 @@ failures fs tree sessions k access = failures_of fs (subject tree sessions k) ac
 -- on a stray, which has no path, the pin alone is permitted
 abbrev pub permitted_to : List ℕ → Option Subject → Caps
 permitted_to fs None = caps_in (P ∷ [])
-permitted_to fs (Some s) = permitted_of (asked fs s) s.session.grants
+permitted_to fs (Some s) = permitted_of (question_of fs s) s.session.grants
 
 -- what the grants permit the client to hold
 abbrev pub permitted : List ℕ → Nodes → SessionTable → Holder → Caps
 permitted fs tree sessions k = permitted_to fs (subject tree sessions k)
 
-abbrev pub is_open : Status → Bool
-is_open Open = true
-is_open Stale = false
+abbrev pub is_open_status : Status → Bool
+is_open_status Open = true
+is_open_status Stale = false
 
 abbrev pub is_open_session : Option Session → Bool
 is_open_session None = false
-is_open_session (Some session) = is_open session.status
+is_open_session (Some session) = is_open_status session.status

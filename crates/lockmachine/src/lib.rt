@@ -5,6 +5,7 @@
 
 mod bytes;
 mod fault;
+mod laws;
 mod locks;
 mod moves;
 mod request;
@@ -12,6 +13,7 @@ mod states;
 
 pub use bytes::Bytes;
 pub use fault::NoMemory;
+pub use laws::{at_rest_is_settled, nothing_wanted_is_settled, settled_is_at_rest};
 pub use locks::Locks;
 pub use moves::Move;
 pub use request::{Ask, Change, Request};

@@ -1,4 +1,5 @@
 -- Each change of the table keeps it sound.
+use Rattle.std.specs.Prelude.{if◌then◌else◌, nat_le}
 use Rattle.std.proofs.Common.{◌≡◌, ℕ, ◌+◌, ◌-◌, ◌<◌, ◌≤◌, Bool, true, false, cond, not, ◌||◌, ◌&&◌, Option, Some, None, is_some, refl, sym, ap, subst, ◌∙◌, arith}
 use Rattle.std.specs.Cmp.{nat_cmp_total, Equal-is}
 use Rattle.std.specs.FinMap as map
@@ -9,7 +10,10 @@ use Rattle.std.specs.Ordering.{nat_cmp, eq_by_cmp}
 use Rattle.sessiontab.specs.declared.table.TheConstants.{MAX_SESSIONS, MAX_BLOCKED}
 use Rattle.sessiontab.specs.declared.session.Session.{Session}
 use Rattle.sessiontab.specs.Connected.{SessionMap, change_session}
-use Rattle.sessiontab.specs.Table.{IsSound}
+use Rattle.sessiontab.specs.Table.{SessionTable, IsSound}
+use Rattle.sessiontab.specs.declared.fault.OpenFault.TheVariants.{Blocklisted, SessionOpen, Limit}
+use Rattle.sessiontab.specs.Calls.{has_session, open_fault}
+use Rattle.std.proofs.lemmas.Bool.Decides.{nat_tests}
 
 same_key : (q k : ℕ) → eq_by_cmp nat_cmp q k ≡ true → q ≡ k
 same_key q k e = map.nat_cmp-IsAntisymmetric q k ((Equal-is (nat_cmp q k)).0 e)
@@ -97,3 +101,17 @@ module _ (m : SessionMap) (b : FinSet nat_cmp) (k : ℕ) (was : IsSound (record 
       | false ↦ λ there. there
     ] (sym (set.contains-remove nat_cmp_total b k q) ∙ blocked));
   }
+
+-- where no test of a new session fails, the client is not blocked, and there is room
+pub may_open : (table : SessionTable) (client : ℕ) → open_fault table client ≡ None → (set.contains table.blocked client ≡ false) × (map.len table.sessions < MAX_SESSIONS)
+may_open table client passed = by_tests (set.contains table.blocked client) (has_session table client) (nat_le MAX_SESSIONS (map.len table.sessions)) refl passed
+  where
+    below : nat_le MAX_SESSIONS (map.len table.sessions) ≡ false → map.len table.sessions < MAX_SESSIONS
+    below e = grind (arith, nat_tests)
+
+    by_tests : (blocked connected full : Bool) → nat_le MAX_SESSIONS (map.len table.sessions) ≡ full →
+        (if blocked then Some Blocklisted else if connected then Some SessionOpen else if full then Some Limit else None) ≡ None → (blocked ≡ false) × (map.len table.sessions < MAX_SESSIONS)
+    by_tests true connected full e passed = cc
+    by_tests false true full e passed = cc
+    by_tests false false true e passed = cc
+    by_tests false false false e passed = (refl, below e)

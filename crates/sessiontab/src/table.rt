@@ -57,6 +57,22 @@ impl Sessions {
         })
     }
 
+    /// Why `open_session` would be refused now, if it would. Want of memory is not foreseen.
+    pub fn open_fault(&self, client: ClientId) -> Option<OpenFault>
+        ensures { result ≡ open_fault self.now client.0 }
+    {
+        if self.blocklist.contains(client) {
+            return Some(OpenFault::Blocklisted);
+        }
+        if self.connected.get(client).is_some() {
+            return Some(OpenFault::SessionOpen);
+        }
+        if self.connected.len() >= MAX_SESSIONS {
+            return Some(OpenFault::Limit);
+        }
+        None
+    }
+
     /// Opens a session for a client. A refusal changes nothing, and drops the caller and the grants.
     pub fn open_session(
         &mut self,
@@ -70,14 +86,8 @@ impl Sessions {
         ensures fault { IfErr result (λ fault. fault ≡ unwrap_or (open_fault self.old client.0) OpenFault.NoMemory) }
         ensures err { OnErr result (self.new ≡ self.old) }
     {
-        if self.blocklist.contains(client) {
-            return Err(OpenFault::Blocklisted);
-        }
-        if self.connected.get(client).is_some() {
-            return Err(OpenFault::SessionOpen);
-        }
-        if self.connected.len() >= MAX_SESSIONS {
-            return Err(OpenFault::Limit);
+        if let Some(fault) = self.open_fault(client) {
+            return Err(fault);
         }
         let session = Session {
             status: Status::Open,

@@ -168,6 +168,19 @@ fn sixty_four_sessions_are_the_most(rt: HostRuntime) -> Result<(), Fail> {
         let text = asked(rt.alloc(), &mut sessions, ask)?;
         assert_eq!(rt; text.as_str(), want, "at {ask:?}");
     }
+    for (client, fault) in [
+        (7, OpenFault::Limit),
+        (8, OpenFault::SessionOpen),
+        (99, OpenFault::Blocklisted),
+    ] {
+        assert_eq!(rt;
+            sessions.open_fault(ClientId(client)),
+            Some(fault),
+            "client {client}"
+        );
+    }
+    assert_eq!(rt; sessions.close_session(ClientId(8)), Ok(()));
+    assert_eq!(rt; sessions.open_fault(ClientId(7)), None);
     Ok(())
 }
 

@@ -1,4 +1,4 @@
-use Rattle.std.proofs.Common.{◌≡◌, ℕ, List, [], ◌∷◌, ◌++◌, refl, sym, ap, arith, ◌∙◌, take, drop, length, append_assoc, length-drop}
+use Rattle.std.proofs.Common.{◌≡◌, ℕ, List, [], ◌++◌, refl, sym, ap, arith, ◌∙◌, take, drop, length, append_assoc, length-drop}
 use Rattle.std.proofs.lemmas.List.{take-append-drop, take_rest, append-nil}
 use Rattle.std.proofs.lemmas.Bool.{eqb-true}
 use Rattle.capscript.specs.Watched.{inner_of}

@@ -1,11 +1,11 @@
-use Rattle.std.proofs.Common.{◌≡◌, ap, rules, inl, inr, subst, sym, Some, None}
+use Rattle.std.proofs.Common.{ap, inr, subst, Some}
 use Rattle.std.specs.Prelude.{Ok, Err}
 use Rattle.capcore.specs.declared.event.Event.{Event}
 use Rattle.capscript.specs.declared.fault.LineFault.{LineFault as AKind}
 use Rattle.capscript.specs.declared.fault.ScriptFault.TheVariants as stops
 use Rattle.capscript.specs.Events.{client_of, Reads}
 use Rattle.capscript.specs.Faults.{HasFault, IsRefused}
-use Rattle.capscript.proofs.Meaning.{reads_one_event, reads_no_fault, one_fault, skipped_reads_nothing, skipped_has_no_fault}
+use Rattle.capscript.proofs.Meaning.{reads_one_event, reads_no_fault, one_fault}
 use Rattle.capscript.proofs.line.read_line.Goals as goal
 
 pub returns-in-Ok-clause-only : goal.returns-in-Ok-clause-only

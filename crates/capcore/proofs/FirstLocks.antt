@@ -1,0 +1,63 @@
+-- The locks of a tree that are added one number after another.
+use Rattle.std.proofs.Common.{◌≡◌, ◌⊎◌, ℕ, ◌+◌, ◌<◌, ◌≤◌, [], Option, Some, None, is_some, refl, sym, ap, subst, ◌∙◌, inl, inr, arith}
+use Rattle.std.specs.Prelude.{if◌then◌else◌}
+use Rattle.std.specs.Cmp.{nat_cmp_total}
+use Rattle.std.specs.FinMap as map
+use Rattle.std.specs.Option.{option_map}
+use Rattle.inotree.specs.Inodes.{InodeMap}
+use Rattle.inotree.specs.Tree.{Nodes, IsTree}
+use Rattle.inotree.specs.declared.node.Node.{Node}
+use Rattle.inotree.proofs.Maps.{insert-here, insert-other}
+use Rattle.lockmachine.specs.declared.states.InodeLocks.{InodeLocks}
+use Rattle.lockmachine.specs.Inodes.{in_sync}
+use Rattle.lockmachine.specs.Locks.{LockMap, with_ino, no_locks}
+
+-- the locks that an inode begins with, where there is an inode
+abbrev first_of : Option Node → Option InodeLocks
+first_of node = option_map (λ _. in_sync) node
+
+-- The locks are those of the inodes with a number below n, each as it begins.
+pub record AreFirstBelow (nodes : InodeMap) (n : ℕ) (locks : LockMap) : Type 0 where
+  pub queue : locks.queue ≡ []
+  pub below : (q : ℕ) → q < n → map.get locks.states q ≡ option_map (λ node. in_sync) (map.get nodes q)
+  pub above : (q : ℕ) → n ≤ q → map.get locks.states q ≡ None
+
+pub first_below_none : (nodes : InodeMap) → AreFirstBelow nodes 0 no_locks
+first_below_none nodes = record { queue = refl; below = λ q h. absurd (omega arith); above = λ q h. map.get-empty _ q }
+
+-- what the locks are after those of the inode n were added, where there is one
+added_is : (node : Option Node) (locks : LockMap) (n : ℕ) → map.get locks.states n ≡ None → map.get (if is_some node then with_ino locks n else locks).states n ≡ first_of node
+added_is None locks n free = free
+added_is (Some node) locks n free = insert-here nat_cmp_total map.nat_cmp-IsAntisymmetric locks.states n in_sync
+
+added_elsewhere : (node : Option Node) (locks : LockMap) (n q : ℕ) → (q ≡ n → ⊥) → map.get (if is_some node then with_ino locks n else locks).states q ≡ map.get locks.states q
+added_elsewhere None locks n q off = refl
+added_elsewhere (Some node) locks n q off = insert-other nat_cmp_total map.nat_cmp-IsAntisymmetric locks.states n in_sync q off
+
+added_queue : (node : Option Node) (locks : LockMap) (n : ℕ) → (if is_some node then with_ino locks n else locks).queue ≡ locks.queue
+added_queue None locks n = refl
+added_queue (Some node) locks n = refl
+
+at_most : (q n : ℕ) → q < n + 1 → (q < n) ⊎ (q ≡ n)
+at_most q n h = grind arith
+
+-- the locks of the next number were added, where it has an inode
+pub first_below_more : (nodes : InodeMap) (n : ℕ) (locks added : LockMap) → AreFirstBelow nodes n locks → added ≡ (if map.contains_key nodes n then with_ino locks n else locks) → AreFirstBelow nodes (n + 1) added
+first_below_more nodes n locks added first is = subst (AreFirstBelow nodes (n + 1)) (sym is) (record {
+  queue = added_queue (map.get nodes n) locks n ∙ first.queue;
+  below = λ q h. elim (at_most q n h) as (λ _. map.get (if map.contains_key nodes n then with_ino locks n else locks).states q ≡ first_of (map.get nodes q)) [
+    | inl less ↦ added_elsewhere (map.get nodes n) locks n q (λ same. absurd (omega arith)) ∙ first.below q less
+    | inr same ↦ subst (λ x. map.get (if map.contains_key nodes n then with_ino locks n else locks).states x ≡ first_of (map.get nodes x)) (sym same) (added_is (map.get nodes n) locks n (first.above n (omega arith)))
+  ];
+  above = λ q h. added_elsewhere (map.get nodes n) locks n q (λ same. absurd (omega arith)) ∙ first.above q (omega arith);
+})
+
+below_or_above : (q n : ℕ) → (q < n + 1) ⊎ (n < q)
+below_or_above q n = grind arith
+
+-- no inode has a number above the last
+pub first_of_all : (tree : Nodes) (last : ℕ) (locks : LockMap) → IsTree tree → last ≡ tree.last → AreFirstBelow tree.nodes (last + 1) locks → (q : ℕ) → map.get locks.states q ≡ option_map (λ node. in_sync) (map.get tree.nodes q)
+first_of_all tree last locks sound is first q = elim (below_or_above q last) as (λ _. map.get locks.states q ≡ first_of (map.get tree.nodes q)) [
+  | inl less ↦ first.below q less
+  | inr more ↦ first.above q (omega arith) ∙ sym (ap first_of (sound.given q (omega arith)))
+]

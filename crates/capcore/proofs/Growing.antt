@@ -1,0 +1,44 @@
+-- A legal history goes on by one row.
+use Rattle.std.proofs.Common.{◌≡◌, ℕ, ◌+◌, ◌<◌, ◌≤◌, List, [], ◌∷◌, ◌++◌, length, refl, sym, subst, arith}
+use Rattle.inotree.specs.Tree.{Nodes}
+use Rattle.capcore.specs.declared.history.Row.{Row}
+use Rattle.capcore.specs.State.{State}
+use Rattle.capcore.specs.Step.{Step}
+use Rattle.capcore.specs.History.{Told, IsTold, IsOpening, HasNoStray, Replays, rows_of}
+use Rattle.capcore.proofs.Numbered.{numbered-nil, numbered-snoc}
+
+pub replays-more : (first : State) (rows : List Row) (old : State) (row : Row) (new : State) → Replays first rows old → Step old row.event row.reply row.ended new → Replays first (rows ++ row ∷ []) new
+replays-more first [] old row new is step = (new, subst (λ s. Step s row.event row.reply row.ended new) is step, refl)
+replays-more first (r ∷ rows) old row new (mid, one, more) step = (mid, one, replays-more mid rows old row new more step)
+
+length-more : (rows : List Row) (row : Row) → length (rows ++ row ∷ []) ≡ length rows + 1
+length-more [] row = refl
+length-more (r ∷ rows) row = let more = length-more rows row in omega (arith, more)
+
+-- a new core has the empty history
+pub first-told : (fs : List ℕ) (tree : Nodes) (s : State) (max_rows : ℕ) → HasNoStray tree → IsOpening fs tree s → IsTold (record { state = s; rows = []; max_rows = max_rows })
+first-told fs tree s max_rows none is = record {
+  fs = fs;
+  tree = tree;
+  no_strays = none;
+  opening = s;
+  is_opening = is;
+  legal = record { replays = refl; numbered = numbered-nil };
+  room = omega (arith);
+}
+
+-- one step more, with its row
+pub more-told : (t : Told) (row : Row) (new : State) → IsTold t → Step t.state row.event row.reply row.ended new → row.nth ≡ rows_of row.pass t.rows + 1 → length t.rows < t.max_rows →
+    IsTold (record { state = new; rows = t.rows ++ row ∷ []; max_rows = t.max_rows })
+more-told t row new is step nth less = record {
+  fs = is.fs;
+  tree = is.tree;
+  no_strays = is.no_strays;
+  opening = is.opening;
+  is_opening = is.is_opening;
+  legal = record {
+    replays = replays-more is.opening t.rows t.state row new is.legal.replays step;
+    numbered = numbered-snoc t.rows row is.legal.numbered nth;
+  };
+  room = subst (λ n. n ≤ t.max_rows) (sym (length-more t.rows row)) (omega (arith, less));
+}

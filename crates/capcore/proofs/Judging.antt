@@ -1,0 +1,72 @@
+-- What stops a request, test by test.
+use Rattle.std.proofs.Common.{◌≡◌, ℕ, Bool, true, false, not, List, [], ◌++◌, Option, Some, None, refl, sym, ap}
+use Rattle.std.specs.Prelude.{if◌then◌else◌}
+use Rattle.std.specs.Option.{option_map}
+use Rattle.capbits.specs.declared.ids.ClientId.{ClientId}
+use Rattle.inotree.specs.declared.node.Place.{Place}
+use Rattle.inotree.specs.declared.node.Place.TheVariants.{NoIno, Gone, Here}
+use Rattle.inotree.specs.Tree.{place}
+use Rattle.sessiontab.specs.Calls.{has_session, status_of}
+use Rattle.lockmachine.specs.Scene.{Scene}
+use Rattle.capcore.specs.declared.event.Event.{Event}
+use Rattle.capcore.specs.declared.refusal.Refusal.{Refusal}
+use Rattle.capcore.specs.declared.refusal.Refusal.TheVariants as refusal
+use Rattle.capcore.specs.declared.reply.Reply.{Reply}
+use Rattle.capcore.specs.declared.reply.Reply.TheVariants.{Refused}
+use Rattle.capcore.specs.State.{State}
+use Rattle.capcore.specs.Tests.{Test, first_failing, session_tests, inode_tests, is_stale, is_no_ino, is_gone}
+use Rattle.capcore.specs.Judge.{Need, stop, stop_by, first_denied, judged}
+use Rattle.capcore.specs.Direct.{effect, effect_unless, reply_of, IsDirect}
+
+stop_by-stopped : (s : Scene) (o : Option Refusal) (d : Option Need) (l : Option Refusal) (r : Reply) → stop_by s o d None ≡ Some r → stop_by s o d l ≡ Some r
+stop_by-stopped s (Some x) d l r e = e
+stop_by-stopped s None (Some n) l r e = e
+stop_by-stopped s None None l r e = cc
+
+-- what stops a request stops it whatever is still to be tested
+pub stopped : (s : Scene) (tests : List Test) (needed : List Need) (more : List Test) (r : Reply) → stop s tests needed [] ≡ Some r → stop s tests needed more ≡ Some r
+stopped s tests needed more r e = stop_by-stopped s (first_failing tests) (first_denied s needed) (first_failing more) r e
+
+stop_by-passed : (s : Scene) (o : Option Refusal) (d : Option Need) (l : Option Refusal) → stop_by s o d None ≡ None → stop_by s o d l ≡ option_map Refused l
+stop_by-passed s (Some x) d l e = cc
+stop_by-passed s None (Some n) l e = cc
+stop_by-passed s None None l e = refl
+
+-- where nothing stopped it so far, the rest of the tests decides
+pub passed : (s : Scene) (tests : List Test) (needed : List Need) (more : List Test) → stop s tests needed [] ≡ None → stop s tests needed more ≡ option_map Refused (first_failing more)
+passed s tests needed more e = stop_by-passed s (first_failing tests) (first_denied s needed) (first_failing more) e
+
+stop_by-tests : (s : Scene) (o : Option Refusal) (d : Option Need) (l : Option Refusal) → stop_by s o d l ≡ None → o ≡ None
+stop_by-tests s (Some x) d l e = cc
+stop_by-tests s None d l e = refl
+
+-- and no test before policy failed
+pub no_test : (s : Scene) (tests : List Test) (needed : List Need) (more : List Test) → stop s tests needed more ≡ None → first_failing tests ≡ None
+no_test s tests needed more e = stop_by-tests s (first_failing tests) (first_denied s needed) (first_failing more) e
+
+here_by : (a b : Bool) (p : Place) → (if a then Some refusal.NoSession else if b then Some refusal.SessionStale else if is_no_ino p then Some refusal.NoIno else if is_gone p then Some refusal.Gone else None) ≡ None → p ≡ Here
+here_by true b p e = cc
+here_by false true p e = cc
+here_by false false NoIno e = cc
+here_by false false Gone e = cc
+here_by false false Here e = refl
+
+-- an inode that passed its tests has a path
+pub is_here : (s : Scene) (client : ClientId) (ino : ℕ) → first_failing (session_tests s client ++ inode_tests s ino) ≡ None → place s.tree.nodes ino ≡ Here
+is_here s client ino e = here_by (not (has_session s.sessions client.0)) (is_stale (status_of s.sessions client.0)) (place s.tree.nodes ino) e
+
+-- ---- the event by itself
+
+-- what stops an event is its answer, and nothing changes
+pub direct-stopped : (old : State) (e : Event) (r : Reply) → judged old.scene e ≡ Some r → IsDirect old e r old
+direct-stopped old e r is = record {
+  answer_is = ap (λ o. reply_of (effect_unless old e o).answer) (sym is);
+  state_is = ap (λ o. (effect_unless old e o).state) (sym is);
+}
+
+-- an event that nothing stops has its effect
+pub direct-passed : (old : State) (e : Event) → judged old.scene e ≡ None → IsDirect old e (reply_of (effect old e).answer) (effect old e).state
+direct-passed old e is = record {
+  answer_is = ap (λ o. reply_of (effect_unless old e o).answer) (sym is);
+  state_is = ap (λ o. (effect_unless old e o).state) (sym is);
+}

@@ -1,0 +1,124 @@
+-- The main promise, from what a step is.
+use Rattle.std.proofs.Common.{◌≡◌, ℕ, true, false, ◌||◌, List, [], Option, Some, None, refl, sym, ap, ◌∙◌, true≢false}
+use Rattle.std.specs.Prelude.{IsTrue}
+use Rattle.std.specs.List.{find}
+use Rattle.std.specs.Option.{option_map_or}
+use Rattle.capbits.specs.declared.cap.Cap.{Cap}
+use Rattle.capbits.specs.Caps.{has}
+use Rattle.capgrant.specs.declared.access.Access.{Access}
+use Rattle.capgrant.specs.declared.rule.Rule.{Rule}
+use Rattle.captable.specs.declared.entry.EntryRow.{EntryRow}
+use Rattle.captable.specs.declared.entry.Holder.{Holder}
+use Rattle.captable.specs.Table.{is_row_of}
+use Rattle.inotree.specs.Tree.{child}
+use Rattle.lockmachine.specs.Policy.{failures}
+use Rattle.lockmachine.specs.Scene.{Scene}
+use Rattle.capcore.specs.declared.event.Event.{Event}
+use Rattle.capcore.specs.declared.event.Event.TheVariants as event
+use Rattle.capcore.specs.declared.refusal.Refusal.{Refusal}
+use Rattle.capcore.specs.declared.reply.Reply.{Reply}
+use Rattle.capcore.specs.declared.reply.Reply.TheVariants as reply
+use Rattle.capcore.specs.State.{State}
+use Rattle.capcore.specs.Tests.{first_failing}
+use Rattle.capcore.specs.Judge.{Need, before, needs, after, first_denied, stop_by}
+use Rattle.capcore.specs.Direct.{effect, effect_unless, found, reply_of, IsDirect}
+use Rattle.capcore.specs.Finish.{due}
+use Rattle.capcore.specs.Idle.{IsIdle}
+use Rattle.capcore.specs.Headline.{DeniedExactly, DeniesByName, IssuesExactly, AreInPlace, NoneConflict, holds, is_due, is_stop}
+
+-- ---- an event that nothing stops
+
+answer_of_effect : State → Event → Reply
+answer_of_effect old e = reply_of (effect old e).answer
+
+module _ (old : State) where
+  lookup-no_stop : (o : Option ℕ) → is_stop (reply_of (found old o).answer) ≡ false
+  lookup-no_stop None = refl
+  lookup-no_stop (Some ino) = refl
+
+  effect-no_stop : (e : Event) → is_stop (reply_of (effect old e).answer) ≡ false
+  effect-no_stop (event.Session client caller grants) = refl
+  effect-no_stop (event.Lookup client dir name) = lookup-no_stop (child old.scene.tree.nodes dir.0 name)
+  effect-no_stop (event.Create client dir name mode) = refl
+  effect-no_stop (event.Mkdir client dir name mode) = refl
+  effect-no_stop (event.MakeSnapshot client ino name) = refl
+  effect-no_stop (event.RemoveSnapshot client ino name) = refl
+
+-- ---- denials
+
+module _ (old : State) (e : Event) where
+  answered_by : Option Refusal → Option Need → Option Refusal → Reply
+  answered_by o d l = reply_of (effect_unless old e (stop_by old.scene o d l)).answer
+
+  Cause : Option Refusal → Option Need → Access → List Rule → Type 0
+  Cause o d access rules = (n : Need) × (o ≡ None) × (d ≡ Some n) × (access ≡ n.access) × (rules ≡ failures old.scene.fs old.scene.tree old.scene.sessions n.holder n.access)
+
+  cause : (o : Option Refusal) (d : Option Need) (l : Option Refusal) (access : Access) (rules : List Rule) → answered_by o d l ≡ reply.Denied access rules → Cause o d access rules
+  unfolding answered_by Cause
+  cause (Some r) d l access rules is = cc
+  cause None (Some n) l access rules is =
+      let accesses : n.access ≡ access = cc in
+      let rs : failures old.scene.fs old.scene.tree old.scene.sessions n.holder n.access ≡ rules = cc in
+      (n, refl, refl, sym accesses, sym rs)
+  cause None None (Some r) access rules is = cc
+  cause None None None access rules is = absurd (true≢false (sym (ap is_stop is) ∙ effect-no_stop old e))
+
+  effect_of : (o : Option Refusal) (d : Option Need) (l : Option Refusal) (n : Need) → o ≡ None → d ≡ Some n → (access : Access) × (rules : List Rule) × (answered_by o d l ≡ reply.Denied access rules)
+  unfolding answered_by
+  effect_of (Some r) d l n none some = cc
+  effect_of None None l n none some = cc
+  effect_of None (Some m) l n none some = (m.access, failures old.scene.fs old.scene.tree old.scene.sessions m.holder m.access, refl)
+
+  stays : (o : Option Refusal) (d : Option Need) (l : Option Refusal) → is_stop (answered_by o d l) ≡ true → (effect_unless old e (stop_by old.scene o d l)).state ≡ old
+  unfolding answered_by
+  stays (Some r) d l is = refl
+  stays None (Some n) l is = refl
+  stays None None (Some r) is = refl
+  stays None None None is = absurd (true≢false (sym is ∙ effect-no_stop old e))
+
+module _ (old : State) (e : Event) (answer : Reply) (new : State) (is : IsDirect old e answer new) where
+  o : Option Refusal
+  o = first_failing (before old.scene e)
+
+  d : Option Need
+  d = first_denied old.scene (needs old.scene e)
+
+  l : Option Refusal
+  l = first_failing (after old.scene e)
+
+  pub denied-exactly : DeniedExactly old.scene e answer
+  unfolding answered_by Cause o d l
+  denied-exactly = (
+    (λ h. let c = cause old e o d l h.0 h.1 (sym is.answer_is ∙ h.2) in (c.0, (c.1, c.2))),
+    (λ h. let b = effect_of old e o d l h.0 h.1.0 h.1.1 in (b.0, b.1, is.answer_is ∙ b.2)),
+  )
+
+  pub denies-by_name : DeniesByName old.scene e answer
+  unfolding answered_by Cause o d l
+  denies-by_name access rules at = let c = cause old e o d l access rules (sym is.answer_is ∙ at) in (c.0, (c.1, c.2), c.3, c.4)
+
+  pub stopped-unchanged : IsTrue (is_stop answer) → new ≡ old
+  unfolding answered_by o d l
+  stopped-unchanged h = is.state_is ∙ stays old e o d l (ap is_stop (sym is.answer_is) ∙ h)
+
+-- ---- caps, where nobody has an entry
+
+none_found : (s : Scene) (k : Holder) → s.table.rows ≡ [] → find (is_row_of k) s.table.rows ≡ None
+none_found s k none = ap (find (is_row_of k)) none
+
+none_held : (s : Scene) (k : Holder) (cap : Cap) → s.table.rows ≡ [] → holds s k cap ≡ false
+none_held s k cap none = ap (λ row. option_map_or (λ row. has row.entry.held cap) row false) (none_found s k none)
+
+pub issues-exactly : (first last : Scene) → IsIdle first → IsIdle last → IssuesExactly first last
+issues-exactly first last was is k cap =
+    none_held last k cap is.no_entries
+    ∙ sym (ap (λ b. b || is_due last k cap) (none_held first k cap was.no_entries) ∙ ap (λ row. option_map_or (λ row. has (due last row) cap) row false) (none_found last k is.no_entries))
+
+pub in-place : (s : Scene) → IsIdle s → AreInPlace s
+in-place s is row part here = absurd (none_some (sym (none_found s row.holder is.no_entries) ∙ here))
+  where
+    none_some : ◌≡◌ {A = Option EntryRow} None (Some row) → ⊥
+    none_some e = cc
+
+pub none-conflict : (s : Scene) → IsIdle s → NoneConflict s
+none-conflict s is a b c d apart same ha hb = absurd (true≢false (sym ha ∙ none_held s a c is.no_entries))

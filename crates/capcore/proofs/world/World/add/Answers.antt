@@ -1,0 +1,30 @@
+use Rattle.std.proofs.Common.{◌≡◌, ◌+◌, None, sym, subst, arith}
+use Rattle.inotree.specs.Calls.{create_fault}
+use Rattle.inotree.proofs.Passing.{passed-create}
+use Rattle.lockmachine.specs.Scene.{Scene}
+use Rattle.capcore.specs.State.{State}
+use Rattle.capcore.proofs.Staying.{idle-born, added-dropped, not_given}
+use Rattle.capcore.proofs.world.World.add.Goals as goal
+
+pub overflow_add-ino : goal.overflow_add-ino
+overflow_add-ino c =
+    let no_fault : create_fault c.self.inside.tree c.args.dir.0 c.args.name.now ≡ None =
+    subst (λ (s : State). create_fault s.scene.tree c.args.dir.0 c.args.name.now ≡ None) (sym c.self.view_is) c.requires.passed in
+    let more = (passed-create c.self.inside.tree c.args.dir.0 c.args.name.now no_fault).2 in
+    let last = c.last.ensures.last in
+    omega (arith, more, last)
+
+pub invariant_of-self-in-Ok : goal.invariant_of-self-in-Ok
+invariant_of-self-in-Ok c =
+    let s : Scene = record { fs = c.self.inside.fs; tree = c.self.inside.tree; sessions = c.self.inside.sessions; table = c.self.inside.table; locks = c.self.inside.locks } in
+    rw (c.in-Ok.ensures.ok, c.in_ok-add_ino.ensures.ok, c.last.ensures.last) (idle-born s c.args.kind c.args.dir.0 c.args.name.now c.args.attr c.self.invariant)
+
+pub invariant_of-self-in-Err : goal.invariant_of-self-in-Err
+invariant_of-self-in-Err c =
+    let s : Scene = record { fs = c.self.inside.fs; tree = c.self.inside.tree; sessions = c.self.inside.sessions; table = c.self.inside.table; locks = c.self.inside.locks } in
+    rw (c.in-Err.ensures.err, c.drop_ino.ensures, c.in_ok-add_ino.ensures.ok, c.last.ensures.last, added-dropped c.self.inside.locks (c.self.inside.tree.last + 1) (not_given s c.self.invariant c.last.ensures.sound)) c.self.invariant
+
+pub returns-in-Err-clause-err : goal.returns-in-Err-clause-err
+returns-in-Err-clause-err c =
+    let s : Scene = record { fs = c.self.inside.fs; tree = c.self.inside.tree; sessions = c.self.inside.sessions; table = c.self.inside.table; locks = c.self.inside.locks } in
+    rw (c.in-Err.ensures.err, c.drop_ino.ensures, c.in_ok-add_ino.ensures.ok, c.last.ensures.last, added-dropped c.self.inside.locks (c.self.inside.tree.last + 1) (not_given s c.self.invariant c.last.ensures.sound)) c.self.view_is

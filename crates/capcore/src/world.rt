@@ -1,0 +1,377 @@
+//! What an event does: all of the core but its history.
+ghost use Rattle.std.specs.Prelude.{◌≡◌, ◌+◌, ◌++◌, [], ◌∷◌, None, IfOk, IfErr, OnOk, OnErr};
+ghost use Rattle.inotree.specs.Tree.{is_directory};
+ghost use Rattle.inotree.specs.Calls.{create_fault, with_new};
+ghost use Rattle.capcore.specs.Idle.{IsIdle};
+ghost use Rattle.capgrant.specs.Verdict.{is_allowed, IfDenied};
+ghost use Rattle.captable.specs.Table.{holder};
+ghost use Rattle.sessiontab.specs.Calls.{status_of};
+ghost use Rattle.lockmachine.specs.Policy.{failures};
+ghost use Rattle.capcore.specs.Judge.{stop, need, is_met};
+ghost use Rattle.std.specs.FinMap as map;
+ghost use Rattle.capgrant.specs.declared.answer.Verdict.TheVariants as verdict_kind;
+ghost use Rattle.capcore.specs.Direct.{IsDirect, made_event, answer_to, owned_by, with_birth};
+ghost use Rattle.capcore.specs.History.{IsOpening, HasNoStray};
+ghost use Rattle.capcore.specs.Step.{Step};
+ghost use Rattle.capcore.specs.Tests.{first_failing, session_tests, inode_tests};
+ghost use Rattle.capcore.specs.declared.event.Event.TheVariants as event;
+
+use crate::copies::copy_of_caller;
+use crate::event::Event;
+use crate::history::{EndedList, Stop};
+use crate::refusal::Refusal;
+use crate::refused::{no_session, refused};
+use crate::reply::Reply;
+use crate::start::first_locks;
+use arrayvec::ArrayVec;
+use capbits::{Caller, ClientId, Ino, Mode};
+use capgrant::{Access, Attr, Rules, Verdict, verdict};
+use capspec::{FsName, Grants};
+use captable::CapTable;
+use inotree::{Kind, Place, Tree};
+use lockmachine::{Locks, NoMemory};
+use sessiontab::{Sessions, Status};
+use std::alloc::Global;
+use std::marker::Model;
+
+// The state that events change: tree, sessions, entries, locks, and what clients are still to be told.
+#[derive(Debug, Drop)]
+pub(crate) struct World {
+    fs: FsName,
+    tree: Tree,
+    sessions: Sessions,
+    table: CapTable,
+    locks: Locks,
+    // The last number that a request was given.
+    ticket: u64,
+    // The requests that ended and that no client was told of.
+    messages: EndedList,
+    alloc: Global,
+}
+
+impl Model for World {
+    ghost use Rattle.capcore.specs.State.{State, state_code};
+    ghost use Rattle.capcore.specs.Idle.{IsIdle};
+
+    ghost Value = { State };
+
+    ghost coded = { state_code };
+
+    ghost view = { λ w. record {
+      scene = record { fs = w.fs; tree = w.tree; sessions = w.sessions; table = w.table; locks = w.locks };
+      ticket = w.ticket;
+      messages = w.messages;
+    } };
+
+    ghost invariant = { λ w. IsIdle (record { fs = w.fs; tree = w.tree; sessions = w.sessions; table = w.table; locks = w.locks }) };
+}
+
+impl World {
+    // Nobody is connected, nobody has an entry, and each lock is in SYNC.
+    pub(crate) fn new(alloc: Global, fs: FsName, tree: Tree) -> Result<World, NoMemory>
+        requires strays { HasNoStray tree }
+        ensures { IfOk result (λ world. IsOpening fs tree world) }
+    {
+        let locks = first_locks(alloc, &tree)?;
+        let (Ok(sessions), Ok(table)) = (Sessions::new(alloc), CapTable::new(alloc)) else {
+            return Err(NoMemory);
+        };
+        Ok(World {
+            fs,
+            tree,
+            sessions,
+            table,
+            locks,
+            ticket: 0,
+            messages: EndedList::new(alloc),
+            alloc,
+        })
+    }
+
+    // Makes one step.
+    pub(crate) fn step(&mut self, event: &Event) -> Result<Reply, Stop>
+        ensures step { IfOk result (λ reply. Step self.old event.now reply [] self.new) }
+        ensures direct { IfOk result (λ reply. IsDirect self.old event.now reply self.new) }
+        ensures idle { OnOk result (IsIdle self.new.scene) }
+        ensures err { OnErr result (self.new ≡ self.old) }
+        ensures memory { IfErr result (λ stop. stop ≡ Stop.NoMemory) }
+    {
+        // Nobody has an entry and nobody waits: no lock moves, and all is done when the event is.
+        let reply = self.act(event)?;
+        let _idle = &self.table;
+        Ok(reply)
+    }
+
+    // The event by itself.
+    fn act(&mut self, event: &Event) -> Result<Reply, Stop>
+        ensures direct { IfOk result (λ reply. IsDirect self.old event.now reply self.new) }
+        ensures err { OnErr result (self.new ≡ self.old) }
+        ensures memory { IfErr result (λ stop. stop ≡ Stop.NoMemory) }
+    {
+        match event {
+            Event::Session {
+                client,
+                caller,
+                grants,
+            } => self.open_session(*client, caller, grants),
+            Event::Lookup { client, dir, name } => Ok(self.lookup(*client, *dir, name.as_slice())),
+            Event::Create {
+                client,
+                dir,
+                name,
+                mode,
+            } => self.make(Kind::File, *client, *dir, name.as_slice(), *mode),
+            Event::Mkdir {
+                client,
+                dir,
+                name,
+                mode,
+            } => self.make(Kind::Directory, *client, *dir, name.as_slice(), *mode),
+            Event::MakeSnapshot { client, ino, name } => {
+                self.make_snapshot(*client, *ino, name.as_slice())
+            }
+            Event::RemoveSnapshot { client, ino, name } => {
+                self.remove_snapshot(*client, *ino, name.as_slice())
+            }
+        }
+    }
+
+    fn open_session(
+        &mut self,
+        client: ClientId,
+        caller: &Caller,
+        grants: &Grants,
+    ) -> Result<Reply, Stop>
+        ensures direct { IfOk result (λ reply. IsDirect self.old (event.Session client caller.now grants.now) reply self.new) }
+        ensures err { OnErr result (self.new ≡ self.old) }
+        ensures memory { IfErr result (λ stop. stop ≡ Stop.NoMemory) }
+    {
+        if let Some(fault) = self.sessions.open_fault(client) {
+            return no_session(fault);
+        }
+        let Ok(grants) = grants.copy() else {
+            return Err(Stop::NoMemory);
+        };
+        let caller = copy_of_caller(caller);
+        match self.sessions.open_session(client, caller, grants) {
+            Ok(()) => Ok(Reply::Done),
+            Err(_no_memory) => Err(Stop::NoMemory),
+        }
+    }
+
+    fn lookup(&self, client: ClientId, dir: Ino, name: &[u8]) -> Reply
+        ensures { result ≡ answer_to self.now (event.Lookup client dir name.now) }
+    {
+        if let Some(refusal) = self.inode_stop(client, dir) {
+            return Reply::Refused(refusal);
+        }
+        if !self.is_directory(dir) {
+            return Reply::Refused(Refusal::NotDir);
+        }
+        let Some(ino) = self.tree.child(dir, name) else {
+            return Reply::Refused(Refusal::NoEnt);
+        };
+        match self.denial(client, ino, Access::Read) {
+            Some(denied) => denied,
+            None => Reply::Ino(ino),
+        }
+    }
+
+    // Makes a file or a directory, with its locks.
+    fn make(
+        &mut self,
+        kind: Kind,
+        client: ClientId,
+        dir: Ino,
+        name: &[u8],
+        mode: Mode,
+    ) -> Result<Reply, Stop>
+        ensures direct { IfOk result (λ reply. IsDirect self.old (made_event kind client dir name.now mode) reply self.new) }
+        ensures err { OnErr result (self.new ≡ self.old) }
+        ensures memory { IfErr result (λ stop. stop ≡ Stop.NoMemory) }
+    {
+        if let Some(stopped) = self.stop(client, dir, Access::Write) {
+            return Ok(stopped);
+        }
+        if let Some(fault) = self.tree.create_fault(dir, name) {
+            return refused(fault);
+        }
+        let attr = self.owned_by(client, mode);
+        let ino = self.add(kind, dir, name, attr)?;
+        Ok(Reply::Ino(ino))
+    }
+
+    // Adds an inode with its locks. For want of memory nothing changes.
+    fn add(&mut self, kind: Kind, dir: Ino, name: &[u8], attr: Attr) -> Result<Ino, NoMemory>
+        requires passed { create_fault self.old.scene.tree dir.0 name.now ≡ None }
+        ensures ok { OnOk result (self.new ≡ with_birth self.old kind dir.0 name.now attr) }
+        ensures ino { IfOk result (λ ino. ino.0 ≡ self.old.scene.tree.last + 1) }
+        ensures err { OnErr result (self.new ≡ self.old) }
+    {
+        // The locks first: they can be dropped again, and a number that was given can't be taken back.
+        let ino = Ino(self.tree.last().0 + 1);
+        self.locks.add_ino(ino)?;
+        match make_in(&mut self.tree, kind, dir, name, attr) {
+            Ok(()) => Ok(ino),
+            Err(NoMemory) => {
+                self.locks.drop_ino(ino);
+                Err(NoMemory)
+            }
+        }
+    }
+
+    fn make_snapshot(&mut self, client: ClientId, ino: Ino, name: &[u8]) -> Result<Reply, Stop>
+        ensures direct { IfOk result (λ reply. IsDirect self.old (event.MakeSnapshot client ino name.now) reply self.new) }
+        ensures err { OnErr result (self.new ≡ self.old) }
+        ensures memory { IfErr result (λ stop. stop ≡ Stop.NoMemory) }
+    {
+        if let Some(stopped) = self.stop(client, ino, Access::Snapshot) {
+            return Ok(stopped);
+        }
+        match self.tree.snap_add(ino, name) {
+            Ok(()) => Ok(Reply::Done),
+            Err(fault) => refused(fault),
+        }
+    }
+
+    fn remove_snapshot(&mut self, client: ClientId, ino: Ino, name: &[u8]) -> Result<Reply, Stop>
+        ensures direct { IfOk result (λ reply. IsDirect self.old (event.RemoveSnapshot client ino name.now) reply self.new) }
+        ensures err { OnErr result (self.new ≡ self.old) }
+        ensures memory { IfErr result (λ stop. stop ≡ Stop.NoMemory) }
+    {
+        if let Some(stopped) = self.stop(client, ino, Access::Snapshot) {
+            return Ok(stopped);
+        }
+        match self.tree.snap_remove(ino, name) {
+            Ok(()) => Ok(Reply::Done),
+            Err(fault) => refused(fault),
+        }
+    }
+
+    // The tree.
+    pub(crate) fn tree(&self) -> &Tree
+        ensures { result.now ≡ self.now.scene.tree }
+    {
+        &self.tree
+    }
+
+    // A client's session.
+    pub(crate) fn session(&self, client: ClientId) -> Option<Status>
+        ensures { result ≡ status_of self.now.scene.sessions client.0 }
+    {
+        self.sessions.status(client)
+    }
+
+    // ---- what stops a request
+
+    // What stops a request that needs one access to an inode that it names, before any other test.
+    fn stop(&self, client: ClientId, ino: Ino, access: Access) -> Option<Reply>
+        ensures { result ≡ stop self.now.scene (session_tests self.now.scene client ++ inode_tests self.now.scene ino.0) (need client ino.0 access ∷ []) [] }
+    {
+        match self.inode_stop(client, ino) {
+            Some(refusal) => Some(Reply::Refused(refusal)),
+            None => self.denial(client, ino, access),
+        }
+    }
+
+    // The first test of the client's session and of the inode that fails.
+    fn inode_stop(&self, client: ClientId, ino: Ino) -> Option<Refusal>
+        ensures { result ≡ first_failing (session_tests self.now.scene client ++ inode_tests self.now.scene ino.0) }
+    {
+        match self.sessions.status(client) {
+            None => Some(Refusal::NoSession),
+            Some(Status::Stale) => Some(Refusal::SessionStale),
+            Some(Status::Open) => match self.tree.place(ino) {
+                Place::NoIno => Some(Refusal::NoIno),
+                Place::Gone => Some(Refusal::Gone),
+                Place::Here => None,
+            },
+        }
+    }
+
+    // The denial of an access that no grant of the client allows.
+    fn denial(&self, client: ClientId, ino: Ino, access: Access) -> Option<Reply>
+        ensures { result ≡ stop self.now.scene [] (need client ino.0 access ∷ []) [] }
+    {
+        match self.verdict(client, ino, access) {
+            Verdict::Allowed { .. } => None,
+            Verdict::Denied { rules } => Some(Reply::Denied { access, rules }),
+        }
+    }
+
+    // What the client's grants say of an access to an inode. Without a session or a path no grant allows it.
+    fn verdict(&self, client: ClientId, ino: Ino, access: Access) -> Verdict
+        ensures allowed { is_allowed result ≡ is_met self.now.scene (need client ino.0 access) }
+        ensures rules { IfDenied result (λ rules. rules ≡ failures self.now.scene.fs self.now.scene.tree self.now.scene.sessions (holder client ino) access) }
+    {
+        let sessions = &self.sessions;
+        let (Some(grants), Some(caller)) = (sessions.grants_of(client), sessions.caller_of(client))
+        else {
+            return no_grant();
+        };
+        let (Some(path), Some(node)) = (self.tree.path_of(ino), self.tree.node(ino)) else {
+            return no_grant();
+        };
+        verdict(
+            grants,
+            &self.fs,
+            caller,
+            path.as_slice(),
+            &node.attr,
+            access,
+        )
+    }
+
+    // Whether the inode is there, and a directory.
+    fn is_directory(&self, ino: Ino) -> bool
+        ensures { result ≡ is_directory self.now.scene.tree.nodes ino.0 }
+    {
+        match self.tree.node(ino) {
+            Some(node) => matches!(node.kind, Kind::Directory),
+            None => false,
+        }
+    }
+
+    // The owner and the group of what a client makes are those of its user.
+    fn owned_by(&self, client: ClientId, mode: Mode) -> Attr
+        ensures { result ≡ owned_by (map.get self.now.scene.sessions.sessions client.0) mode }
+    {
+        match self.sessions.caller_of(client) {
+            Some(caller) => Attr {
+                uid: caller.uid,
+                gid: caller.gid,
+                mode,
+            },
+            None => Attr {
+                uid: 0,
+                gid: 0,
+                mode,
+            },
+        }
+    }
+}
+
+// The verdict of no grant.
+fn no_grant() -> Verdict
+    ensures { result ≡ verdict_kind.Denied [] }
+{
+    Verdict::Denied {
+        rules: Rules::from(ArrayVec::new()),
+    }
+}
+
+// Makes an inode of this kind. For want of memory nothing changes.
+fn make_in(tree: &mut Tree, kind: Kind, dir: Ino, name: &[u8], attr: Attr) -> Result<(), NoMemory>
+    requires passed { create_fault tree.old dir.0 name.now ≡ None }
+    ensures ok { OnOk result (tree.new ≡ with_new tree.old kind dir.0 name.now attr) }
+    ensures err { OnErr result (tree.new ≡ tree.old) }
+{
+    let made = match kind {
+        Kind::File => tree.create(dir, name, attr),
+        Kind::Directory => tree.mkdir(dir, name, attr),
+    };
+    match made {
+        Ok(_ino) => Ok(()),
+        Err(_no_memory) => Err(NoMemory),
+    }
+}

@@ -1,0 +1,302 @@
+-- Histories that grow by one row, for scripts that grow by one line.
+use Rattle.std.proofs.Common.{◌≡◌, ℕ, ◌+◌, ◌<◌, ◌≤◌, Bool, true, false, cond, not, List, [], ◌∷◌, ◌++◌, length, map, refl, sym, ap, ◌∙◌, subst, arith, inl, inr, append_assoc, length-append}
+use Rattle.std.specs.Prelude.{◌⊎◌, IsTrue, filter, Option, Some, None, IfSome, Result, Ok, Err, OnOk, OnErr, IfErr, IsErrAnd}
+use Rattle.std.specs.Io.KnownBytes.{Appends}
+use Rattle.std.specs.List.{AllByRecursion}
+use Rattle.std.specs.FinMap as map
+use Rattle.std.specs.Ordering.{nat_cmp, eq_by_cmp}
+use Rattle.std.specs.Option.{option_map}
+use Rattle.std.proofs.lemmas.Cmp.{nat_cmp_total}
+use Rattle.std.proofs.lemmas.List.{map-append, append-nil}
+use Rattle.std.proofs.lemmas.List.Concat.{flat_map-append}
+use Rattle.inotree.specs.declared.node.Node.{Node}
+use Rattle.std.specs.FinSet as set
+use Rattle.lockmachine.specs.Inodes.{in_sync}
+use Rattle.inotree.specs.Calls.{first_tree}
+use Rattle.capcore.specs.declared.event.Event.{Event}
+use Rattle.capcore.specs.declared.history.Row.{Row}
+use Rattle.capcore.specs.History.{Told, IsOpening, Replays, AreNumbered, rows_of}
+use Rattle.capcore.specs.State.{State}
+use Rattle.capbits.specs.declared.ids.ClientId.{ClientId}
+use Rattle.capscript.specs.Events.{Reads, client_of}
+use Rattle.capscript.specs.declared.fault.ScriptFault.{ScriptFault}
+use Rattle.capscript.specs.declared.fault.ScriptFault.TheVariants as stops
+use Rattle.capscript.specs.Lines.{lines, is_skipped}
+use Rattle.capscript.specs.Replies.{reply_text}
+use Rattle.capscript.specs.Transcript.{LinesSay, replies_text, IsTranscript, Ran, Answers, AnswersLine, StopsIn, fs_name, root_attr}
+use Rattle.capcore.proofs.Growing.{replays-more}
+use Rattle.capcore.proofs.Numbered.{numbered-nil, numbered-snoc}
+use Rattle.capscript.proofs.Known.{none_appended, appends_more, appends_same}
+use Rattle.capscript.proofs.Meaning.{skipped_reads_nothing}
+
+-- ---- there is an opening state on the first tree
+
+abbrev first_state : State
+first_state = record {
+  scene = record {
+    fs = fs_name;
+    tree = first_tree root_attr;
+    sessions = record { sessions = map.empty; blocked = set.empty };
+    table = record { rows = []; recall = [] };
+    locks = record { states = map.insert map.empty 1 in_sync; queue = [] };
+  };
+  ticket = 0;
+  messages = [];
+}
+
+locks_by_test : (node : Node) (ino : ℕ) (b : Bool) → cond b (Some in_sync) (map.get {R = nat_cmp} map.empty ino) ≡ option_map (λ (n : Node). in_sync) (cond b (Some node) (map.get {R = nat_cmp} map.empty ino))
+locks_by_test node ino true = refl
+locks_by_test node ino false = map.get-empty nat_cmp ino ∙ ap (option_map (λ (n : Node). in_sync)) (sym (map.get-empty nat_cmp ino))
+
+locks_alone : (node : Node) (ino : ℕ) → map.get {R = nat_cmp} (map.insert map.empty 1 in_sync) ino ≡ option_map (λ (n : Node). in_sync) (map.get {R = nat_cmp} (map.insert map.empty 1 node) ino)
+locks_alone node ino =
+    map.get-insert nat_cmp_total map.empty 1 in_sync ino ∙ locks_by_test node ino (eq_by_cmp nat_cmp ino 1)
+    ∙ ap (option_map (λ (n : Node). in_sync)) (sym (map.get-insert nat_cmp_total map.empty 1 node ino))
+
+opens_first : IsOpening fs_name (first_tree root_attr) first_state
+opens_first = record {
+  fs_is = refl;
+  tree_is = refl;
+  sessions_are = refl;
+  table_is = refl;
+  locks_are = λ ino. locks_alone _ ino;
+  queue_is = refl;
+  ticket_is = refl;
+  messages_are = refl;
+}
+
+-- ---- lines
+
+filter_last : (keep : List ℕ → Bool) (xs : List (List ℕ)) (x : List ℕ) → filter keep (xs ++ x ∷ []) ≡ filter keep xs ++ cond (keep x) (x ∷ []) []
+filter_last keep [] x = elim (keep x) as (λ b. cond b (x ∷ []) [] ≡ cond b (x ∷ []) []) [ true ↦ refl | false ↦ refl ]
+filter_last keep (y ∷ xs) x =
+    elim (keep y) as (λ b. cond b (y ∷ filter keep (xs ++ x ∷ [])) (filter keep (xs ++ x ∷ [])) ≡ cond b (y ∷ filter keep xs) (filter keep xs) ++ cond (keep x) (x ∷ []) []) [
+      | true ↦ ap (λ (t : List (List ℕ)). y ∷ t) (filter_last keep xs x)
+      | false ↦ filter_last keep xs x
+    ]
+
+abbrev counts : List ℕ → Bool
+counts line = not (is_skipped line)
+
+all_and_last : (said : List (List ℕ × Event)) (one : List ℕ × Event) → AllByRecursion (λ line. Reads line.0 line.1) said → Reads one.0 one.1 → AllByRecursion (λ line. Reads line.0 line.1) (said ++ one ∷ [])
+all_and_last [] one all is = (is, tt)
+all_and_last (s ∷ said) one all is = (all.0, all_and_last said one all.1 is)
+
+say_none : LinesSay [] []
+say_none = record { said = []; lines_are = refl; events_are = refl; each = tt }
+
+say_skipped : (before : List (List ℕ)) (events : List Event) (line : List ℕ) → LinesSay before events → IsTrue (is_skipped line) → LinesSay (before ++ line ∷ []) events
+say_skipped before events line say skipped = record {
+  said = say.said;
+  lines_are = say.lines_are ∙ sym (append-nil (filter counts before)) ∙ ap (λ (b : Bool). filter counts before ++ cond (not b) (line ∷ []) []) (sym skipped) ∙ sym (filter_last counts before line);
+  events_are = say.events_are;
+  each = say.each;
+}
+
+not_skipped : (line : List ℕ) (event : Event) → Reads line event → is_skipped line ≡ false
+not_skipped line event reads = elim (is_skipped line) as (λ b. is_skipped line ≡ b → b ≡ false) [ true ↦ λ skipped. absurd (skipped_reads_nothing line event skipped reads) | false ↦ λ _. refl ] refl
+
+say_more : (before : List (List ℕ)) (events : List Event) (line : List ℕ) (event : Event) → LinesSay before events → Reads line event → LinesSay (before ++ line ∷ []) (events ++ event ∷ [])
+say_more before events line event say reads = record {
+  said = say.said ++ (line, event) ∷ [];
+  lines_are = map-append (λ (l : List ℕ × Event). l.0) say.said ((line, event) ∷ []) ∙ ap (λ (t : List (List ℕ)). t ++ line ∷ []) say.lines_are ∙ ap (λ (b : Bool). filter counts before ++ cond (not b) (line ∷ []) []) (sym (not_skipped line event reads)) ∙ sym (filter_last counts before line);
+  events_are = map-append (λ (l : List ℕ × Event). l.1) say.said ((line, event) ∷ []) ∙ ap (λ (t : List Event). t ++ event ∷ []) say.events_are;
+  each = all_and_last say.said (line, event) say.each reads;
+}
+
+-- ---- a script that ran so far
+
+pub record Runs (first : Told) (before : List (List ℕ)) (now : Told) : Type 0 where
+  pub replays : Replays first.state now.rows now.state
+  pub numbered : AreNumbered now.rows
+  pub say : LinesSay before (map (λ (row : Row). row.event) now.rows)
+  pub few : length now.rows ≤ length before
+  pub room : now.max_rows ≡ first.max_rows
+
+pub runs_none : (first : Told) → first.rows ≡ [] → Runs first [] first
+runs_none first none = record {
+  replays = subst (λ (rows : List Row). Replays first.state rows first.state) (sym none) refl;
+  numbered = subst (λ (rows : List Row). AreNumbered rows) (sym none) numbered-nil;
+  say = subst (λ (rows : List Row). LinesSay [] (map (λ (row : Row). row.event) rows)) (sym none) say_none;
+  few = omega (arith, ap length none);
+  room = refl;
+}
+
+pub runs_skipped : (first now : Told) (before : List (List ℕ)) (line : List ℕ) → Runs first before now → IsTrue (is_skipped line) → Runs first (before ++ line ∷ []) now
+runs_skipped first now before line ran skipped = record {
+  replays = ran.replays;
+  numbered = ran.numbered;
+  say = say_skipped before (map (λ (row : Row). row.event) now.rows) line ran.say skipped;
+  few = omega (arith, ran.few, length-append before (line ∷ []));
+  room = ran.room;
+}
+
+pub runs_more : (first now next : Told) (before : List (List ℕ)) (line text : List ℕ) (event : Event) → Runs first before now → Reads line event → Answers now event next text → Runs first (before ++ line ∷ []) next
+runs_more first now next before line text event ran reads answered =
+    let is = answered.next in
+    let row : Row = record { pass = record { 0 = 1 }; nth = rows_of (record { 0 = 1 }) now.rows + 1; event = event; reply = answered.answer; ended = is.ended } in
+    record {
+      replays = rw is.rows (replays-more first.state now.rows now.state row next.state ran.replays is.step);
+      numbered = rw is.rows (numbered-snoc now.rows row ran.numbered refl);
+      say = rw (is.rows, map-append (λ (r : Row). r.event) now.rows (row ∷ [])) (say_more before (map (λ (r : Row). r.event) now.rows) line event ran.say reads);
+      few = omega (arith, ran.few, length-append before (line ∷ []), ap length is.rows, length-append now.rows (row ∷ []));
+      room = is.max_rows ∙ ran.room;
+    }
+
+pub texts_more : (now next : Told) (event : Event) (text : List ℕ) → Answers now event next text → replies_text next.rows ≡ replies_text now.rows ++ text
+texts_more now next event text answered =
+    let is = answered.next in
+    let row : Row = record { pass = record { 0 = 1 }; nth = rows_of (record { 0 = 1 }) now.rows + 1; event = event; reply = answered.answer; ended = is.ended } in
+    ap replies_text is.rows ∙ flat_map-append (λ (r : Row). reply_text r.reply) now.rows (row ∷ []) ∙ ap (λ (t : List ℕ). replies_text now.rows ++ t) (append-nil (reply_text answered.answer) ∙ sym answered.text_is)
+
+pub transcript_of : (first now : Told) (before : List (List ℕ)) → IsOpening fs_name (first_tree root_attr) first.state → Runs first before now → IsTranscript before (replies_text now.rows)
+transcript_of first now before opens ran = record {
+  opening = first.state;
+  rows = now.rows;
+  last = now.state;
+  opens = opens;
+  legal = record { replays = ran.replays; numbered = ran.numbered };
+  say = ran.say;
+  text_is = refl;
+}
+
+-- what is known when so many lines were answered
+pub record SoFar (first now : Told) (script rest : List ℕ) (number : ℕ) (old new : Option (List ℕ)) : Type 0 where
+  pub before : List (List ℕ)
+  pub order : lines script ≡ before ++ lines rest
+  pub number_is : number ≡ length before + 1
+  pub left : number + length rest ≤ length script + 1
+  pub ran : Runs first before now
+  pub written : Appends old new (replies_text now.rows)
+
+pub so_far_none : (first : Told) (script : List ℕ) (known : Option (List ℕ)) → first.rows ≡ [] → SoFar first first script script 1 known known
+so_far_none first script known none = record {
+  before = [];
+  order = refl;
+  number_is = refl;
+  left = omega arith;
+  ran = runs_none first none;
+  written = subst (λ (rows : List Row). Appends known known (replies_text rows)) (sym none) (none_appended known);
+}
+
+longer : (before : List (List ℕ)) (line : List ℕ) (all script rest : List (List ℕ)) → script ≡ before ++ all → all ≡ line ∷ rest → script ≡ (before ++ line ∷ []) ++ rest
+longer before line all script rest order next = order ∙ ap (λ (t : List (List ℕ)). before ++ t) next ∙ sym (append_assoc before (line ∷ []) rest)
+
+texts_same : (now next : Told) (text : List ℕ) → next ≡ now → text ≡ [] → replies_text now.rows ++ text ≡ replies_text next.rows
+texts_same now next text same none = ap (λ (t : List ℕ). replies_text now.rows ++ t) none ∙ append-nil (replies_text now.rows) ∙ ap (λ (t : Told). replies_text t.rows) (sym same)
+
+-- after a line
+runs_line : (first now next : Told) (before : List (List ℕ)) (line text : List ℕ) → Runs first before now → AnswersLine now line next text → Runs first (before ++ line ∷ []) next
+runs_line first now next before line text ran (inl skipped) = subst (λ (t : Told). Runs first (before ++ line ∷ []) t) (sym skipped.1) (runs_skipped first now before line ran skipped.0)
+runs_line first now next before line text ran (inr said) = runs_more first now next before line text said.0 ran said.1 said.2
+
+texts_line : (now next : Told) (line text : List ℕ) → AnswersLine now line next text → replies_text now.rows ++ text ≡ replies_text next.rows
+texts_line now next line text (inl skipped) = texts_same now next text skipped.1 skipped.2
+texts_line now next line text (inr said) = sym (texts_more now next said.0 text said.2)
+
+pub so_far_more : (first now next : Told) (script rest line behind text : List ℕ) (number : ℕ) (old mid new : Option (List ℕ)) → SoFar first now script rest number old mid → lines rest ≡ line ∷ lines behind → length behind < length rest
+    → AnswersLine now line next text → Appends mid new text → SoFar first next script behind (number + 1) old new
+so_far_more first now next script rest line behind text number old mid new so cut shorter answered appended = record {
+  before = so.before ++ line ∷ [];
+  order = longer so.before line (lines rest) (lines script) (lines behind) so.order cut;
+  number_is = omega (arith, so.number_is, length-append so.before (line ∷ []));
+  left = omega (arith, so.left, shorter);
+  ran = runs_line first now next so.before line text so.ran answered;
+  written = appends_same old new (replies_text now.rows ++ text) (replies_text next.rows) (texts_line now next line text answered) (appends_more old mid new (replies_text now.rows) text so.written appended);
+}
+
+-- a line stops the script
+pub stopped : (T : Type 0) (first now next : Told) (script rest line text : List ℕ) (after : List (List ℕ)) (number : ℕ) (old mid new : Option (List ℕ)) (fault : ScriptFault) → IsOpening fs_name (first_tree root_attr) first.state → SoFar first now script rest number old mid
+    → lines rest ≡ line ∷ after → StopsIn now number line fault next text → Appends mid new text → (t : List ℕ) × Ran {T = T} script (Err fault) t × Appends old new t
+stopped T first now next script rest line text after number old mid new (stops.LineFault at kind) opens so cut why appended = (
+  replies_text now.rows,
+  record { before = so.before; bad = line; after = after; order = so.order ∙ ap (λ (t : List (List ℕ)). so.before ++ t) cut; line_is = why.0 ∙ so.number_is; fault = why.1; transcript = transcript_of first now so.before opens so.ran },
+  appends_same old new (replies_text now.rows ++ text) (replies_text now.rows) (texts_same now now text refl why.2) (appends_more old mid new (replies_text now.rows) text so.written appended),
+)
+stopped T first now next script rest line text after number old mid new stops.NoMemory opens so cut why appended = (
+  replies_text now.rows,
+  record { front = so.before; after = lines rest; order = so.order; unwritten = []; transcript = subst (IsTranscript so.before) (sym (append-nil (replies_text now.rows))) (transcript_of first now so.before opens so.ran) },
+  appends_same old new (replies_text now.rows ++ text) (replies_text now.rows) (texts_same now now text refl why) (appends_more old mid new (replies_text now.rows) text so.written appended),
+)
+stopped T first now next script rest line text after number old mid new stops.WriteFault opens so cut why appended =
+    let event = why.0 in
+    let left = why.2.0 in
+    let whole : replies_text next.rows ≡ (replies_text now.rows ++ text) ++ left = texts_more now next event (text ++ left) why.2.1 ∙ sym (append_assoc (replies_text now.rows) text left) in (
+      replies_text now.rows ++ text,
+      record {
+        front = so.before ++ line ∷ [];
+        after = after;
+        order = longer so.before line (lines rest) (lines script) after so.order cut;
+        unwritten = left;
+        transcript = subst (IsTranscript (so.before ++ line ∷ [])) whole (transcript_of first next (so.before ++ line ∷ []) opens (runs_more first now next so.before line (text ++ left) event so.ran why.1 why.2.1));
+      },
+      appends_more old mid new (replies_text now.rows) text so.written appended,
+    )
+stopped T first now next script rest line text after number old mid new stops.ReadFault opens so cut why appended = absurd why
+
+-- the same, by the answer that tells of it
+pub stopped_by : (T : Type 0) (first now next : Told) (script rest line : List ℕ) (after : List (List ℕ)) (number : ℕ) (old mid new : Option (List ℕ)) (fault : ScriptFault) (result : Result T ScriptFault) → IsErrAnd result (λ told. told ≡ fault)
+    → IsOpening fs_name (first_tree root_attr) first.state → SoFar first now script rest number old mid → lines rest ≡ line ∷ after → (text : List ℕ) × StopsIn now number line fault next text × Appends mid new text → (t : List ℕ) × Ran script result t × Appends old new t
+stopped_by T first now next script rest line after number old mid new fault (Ok done) told opens so cut why = absurd told
+stopped_by T first now next script rest line after number old mid new fault (Err same) told opens so cut why = rw told (stopped T first now next script rest line why.0 after number old mid new fault opens so cut why.1 why.2)
+
+-- the last line
+pub last_line : (T : Type 0) (first now next : Told) (script rest line : List ℕ) (number : ℕ) (old mid new : Option (List ℕ)) (result : Result T ScriptFault) → IsOpening fs_name (first_tree root_attr) first.state → SoFar first now script rest number old mid → lines rest ≡ line ∷ []
+    → OnOk result ((text : List ℕ) × AnswersLine now line next text × Appends mid new text) → IfErr result (λ fault. (text : List ℕ) × StopsIn now number line fault next text × Appends mid new text) → (t : List ℕ) × Ran script result t × Appends old new t
+last_line T first now next script rest line number old mid new (Ok done) opens so cut ok err =
+    let all : so.before ++ line ∷ [] ≡ lines script = sym (so.order ∙ ap (λ (t : List (List ℕ)). so.before ++ t) cut) in (
+      replies_text next.rows,
+      subst (λ (ls : List (List ℕ)). IsTranscript ls (replies_text next.rows)) all (transcript_of first next (so.before ++ line ∷ []) opens (runs_line first now next so.before line ok.0 so.ran ok.1)),
+      appends_same old new (replies_text now.rows ++ ok.0) (replies_text next.rows) (texts_line now next line ok.0 ok.1) (appends_more old mid new (replies_text now.rows) ok.0 so.written ok.2),
+    )
+last_line T first now next script rest line number old mid new (Err fault) opens so cut ok err = stopped T first now next script rest line err.0 [] number old mid new fault opens so cut err.1 err.2
+
+-- there is room for another row
+pub room_left : (first now : Told) (script rest : List ℕ) (number : ℕ) (old new : Option (List ℕ)) → SoFar first now script rest number old new → length script ≤ 16777216 → first.max_rows ≡ 4294967295 → length now.rows < now.max_rows
+room_left first now script rest number old new so short room = omega (arith, so.number_is, so.left, so.ran.few, so.ran.room, short, room)
+
+-- ---- before any line
+
+pub nothing_said : IsTranscript [] []
+nothing_said = record {
+  opening = first_state;
+  rows = [];
+  last = first_state;
+  opens = opens_first;
+  legal = record { replays = refl; numbered = numbered-nil };
+  say = say_none;
+  text_is = refl;
+}
+
+-- a fault that told of no script: nothing was written
+pub nothing_ran : (T : Type 0) (script : List ℕ) (known : Option (List ℕ)) (fault : ScriptFault) (result : Result T ScriptFault) → IsErrAnd result (λ told. told ≡ fault) → (fault ≡ stops.ReadFault) ⊎ (fault ≡ stops.NoMemory) → (t : List ℕ) × Ran script result t × Appends known known t
+nothing_ran T script known fault (Ok done) told why = absurd told
+nothing_ran T script known fault (Err same) told (inl read) = ([], rw (told, read) refl, none_appended known)
+nothing_ran T script known fault (Err same) told (inr missed) = ([], rw (told, missed) (record { front = []; after = lines script; order = refl; unwritten = []; transcript = nothing_said }), none_appended known)
+
+pub either_fault : {T : Type 0} (result : Result T ScriptFault) (fault : ScriptFault) → result ≡ Err fault → (result ≡ Err stops.ReadFault) ⊎ (result ≡ Err stops.NoMemory) → (fault ≡ stops.ReadFault) ⊎ (fault ≡ stops.NoMemory)
+either_fault result fault same (inl is) = inl (cc)
+either_fault result fault same (inr is) = inr (cc)
+
+pub known_ran : (T : Type 0) (remaining known : Option (List ℕ)) (fault : ScriptFault) (result : Result T ScriptFault) → IsErrAnd result (λ told. told ≡ fault) → (fault ≡ stops.ReadFault) ⊎ (fault ≡ stops.NoMemory) → IfSome remaining (λ script. (t : List ℕ) × Ran script result t × Appends known known t)
+known_ran T None known fault result told why = tt
+known_ran T (Some script) known fault result told why = nothing_ran T script known fault result told why
+
+-- ---- an answered event as the answer to its line
+
+pub event_answered : {T : Type 0} (now next : Told) (line : List ℕ) (event : Event) (old new : Option (List ℕ)) (result : Result T ScriptFault) → Reads line event → OnOk result ((text : List ℕ) × Answers now event next text × Appends old new text)
+    → OnOk result ((text : List ℕ) × AnswersLine now line next text × Appends old new text)
+event_answered now next line event old new (Ok done) reads ok = (ok.0, inr (event, reads, ok.1), ok.2)
+event_answered now next line event old new (Err fault) reads ok = tt
+
+pub event_stopped : {T A : Type 0} (now next : Told) (number : ℕ) (line : List ℕ) (event : Event) (old new : Option (List ℕ)) (result : Result T ScriptFault) → Reads line event → OnErr result ((result ≡ Err stops.WriteFault) ⊎ (result ≡ Err stops.NoMemory)) → (result ≡ Err stops.NoMemory → Appends old new [])
+    → (result ≡ Err stops.WriteFault → A × ((text left : List ℕ) × Answers now event next (text ++ left) × Appends old new text)) → IfErr result (λ fault. (text : List ℕ) × StopsIn now number line fault next text × Appends old new text)
+event_stopped now next number line event old new (Ok done) reads kinds memory written = tt
+event_stopped now next number line event old new (Err stops.NoMemory) reads kinds memory written = ([], refl, memory refl)
+event_stopped now next number line event old new (Err stops.WriteFault) reads kinds memory written = let took = (written refl).1 in (took.0, (event, reads, (took.1, took.2)), took.3)
+event_stopped now next number line event old new (Err stops.ReadFault) reads kinds memory written = absurd (elim kinds [ inl is ↦ cc | inr is ↦ cc ])
+event_stopped now next number line event old new (Err (stops.LineFault at kind)) reads kinds memory written = absurd (elim kinds [ inl is ↦ cc | inr is ↦ cc ])
+
+pub read_said : (found : Option (Option ClientId × Event)) (line : List ℕ) (client : Option ClientId) (event : Event) → IfSome found (λ said. Reads line said.1 × (said.0 ≡ Some (client_of said.1))) → found ≡ Some (client, event) → Reads line event
+read_said None line client event said is = absurd (cc)
+read_said (Some pair) line client event said is = let same : pair ≡ (client, event) = cc in subst (λ (p : Option ClientId × Event). Reads line p.1) same said.0

@@ -1,0 +1,99 @@
+-- What a run over a script writes.
+use Rattle.std.specs.Prelude.{◌≡◌, ◌+◌, ◌⊎◌, ℕ, not, List, [], ◌∷◌, ◌++◌, Result, Ok, Err, length, map, filter, codes, IsTrue}
+use Rattle.std.specs.List.{AllByRecursion, flat_map}
+use Rattle.capbits.specs.declared.ids.PassId.{PassId}
+use Rattle.capgrant.specs.declared.access.Attr.{Attr}
+use Rattle.inotree.specs.Calls.{first_tree}
+use Rattle.capcore.specs.declared.event.Event.{Event}
+use Rattle.capcore.specs.declared.history.Row.{Row}
+use Rattle.capcore.specs.declared.reply.Reply.{Reply}
+use Rattle.capcore.specs.History.{Told, IsOpening, IsLegal, IsNext}
+use Rattle.capcore.specs.State.{State}
+use Rattle.capscript.specs.declared.fault.LineFault.{LineFault}
+use Rattle.capscript.specs.declared.fault.ScriptFault.{ScriptFault}
+use Rattle.capscript.specs.declared.fault.ScriptFault.TheVariants as stops
+use Rattle.capscript.specs.Events.{Reads}
+use Rattle.capscript.specs.Faults.{HasFault}
+use Rattle.capscript.specs.Lines.{lines, is_skipped}
+use Rattle.capscript.specs.Replies.{reply_text}
+
+-- The lines say these events, in order: each line that is not skipped says one.
+pub record LinesSay (script : List (List ℕ)) (events : List Event) : Type 0 where
+  pub said : List (List ℕ × Event)
+  pub lines_are : map (λ line. line.0) said ≡ filter (λ line. not (is_skipped line)) script
+  pub events_are : map (λ line. line.1) said ≡ events
+  pub each : AllByRecursion (λ line. Reads line.0 line.1) said
+
+-- the texts of the replies of a history
+abbrev pub replies_text : List Row → List ℕ
+replies_text rows = flat_map (λ row. reply_text row.reply) rows
+
+-- the file system's name, and the root's owner, group and mode
+abbrev pub fs_name : List ℕ
+fs_name = codes "cephfs"
+
+abbrev pub root_attr : Attr
+root_attr = record { uid = 0; gid = 0; mode = 493 }
+
+-- The text is the transcript of the lines: that of the replies of a legal history, from an opening state on a root alone, whose events
+-- are those of the lines, in order.
+pub record IsTranscript (script : List (List ℕ)) (text : List ℕ) : Type 0 where
+  pub opening : State
+  pub rows : List Row
+  pub last : State
+  pub opens : IsOpening fs_name (first_tree root_attr) opening
+  pub legal : IsLegal opening rows last
+  pub say : LinesSay script (map (λ row. row.event) rows)
+  pub text_is : text ≡ replies_text rows
+
+-- it is the transcript of the lines before a line that has the fault
+pub record StopsAtLine (script : List (List ℕ)) (line : ℕ) (kind : LineFault) (text : List ℕ) : Type 0 where
+  pub before : List (List ℕ)
+  pub bad : List ℕ
+  pub after : List (List ℕ)
+  pub order : script ≡ before ++ bad ∷ after
+  pub line_is : line ≡ length before + 1
+  pub fault : HasFault bad kind
+  pub transcript : IsTranscript before text
+
+-- the text is the beginning of the transcript of some first lines
+pub record IsBeginning (script : List (List ℕ)) (text : List ℕ) : Type 0 where
+  pub front : List (List ℕ)
+  pub after : List (List ℕ)
+  pub order : script ≡ front ++ after
+  pub unwritten : List ℕ
+  pub transcript : IsTranscript front (text ++ unwritten)
+
+-- what was written, by how the run over the script ended
+abbrev pub Ran : {T : Type 0} → List ℕ → Result T ScriptFault → List ℕ → Type 0
+Ran script (Ok done) text = IsTranscript (lines script) text
+Ran script (Err (stops.LineFault line kind)) text = StopsAtLine (lines script) line kind text
+Ran script (Err stops.WriteFault) text = IsBeginning (lines script) text
+Ran script (Err stops.NoMemory) text = IsBeginning (lines script) text
+Ran script (Err stops.ReadFault) text = text ≡ []
+
+-- ---- one event
+
+abbrev pub first_pass : PassId
+first_pass = record { 0 = 1 }
+
+-- the event is the next of the history, and this is the text of its answer
+pub record Answers (old : Told) (event : Event) (new : Told) (text : List ℕ) : Type 0 where
+  pub answer : Reply
+  pub next : IsNext old first_pass event answer new
+  pub text_is : text ≡ reply_text answer
+
+-- ---- one line
+
+-- a line that is skipped changes and writes nothing; the event of another is answered
+abbrev pub AnswersLine : Told → List ℕ → Told → List ℕ → Type 0
+AnswersLine old line new text =
+    (IsTrue (is_skipped line) × (new ≡ old) × (text ≡ []))
+    ⊎ ((event : Event) × Reads line event × Answers old event new text)
+
+-- what was written where a line with this number stopped the script
+abbrev pub StopsIn : Told → ℕ → List ℕ → ScriptFault → Told → List ℕ → Type 0
+StopsIn old number line (stops.LineFault at kind) new text = (at ≡ number) × HasFault line kind × (text ≡ [])
+StopsIn old number line stops.NoMemory new text = text ≡ []
+StopsIn old number line stops.WriteFault new text = (event : Event) × Reads line event × ((left : List ℕ) × Answers old event new (text ++ left))
+StopsIn old number line stops.ReadFault new text = ⊥

@@ -1,0 +1,154 @@
+//! Running a script.
+ghost use Rattle.std.specs.Prelude.{◌≡◌, ◌≢◌, ◌⊎◌, ◌<◌, ◌≤◌, ◌+◌, ◌++◌, ℕ, List, [], length, IsTrue, IsFalse, IfOk, IfErr, IfSome, MatchOption, OnOk, OnErr, Err, ◌∷◌};
+ghost use Rattle.std.specs.Io.KnownBytes.{Keeps, Appends, Consumes};
+ghost use Rattle.inotree.specs.Calls.{first_tree};
+ghost use Rattle.capcore.specs.History.{IsOpening};
+ghost use Rattle.capscript.specs.declared.fault.ScriptFault.TheVariants as stops;
+ghost use Rattle.capscript.specs.Lines.{lines};
+ghost use Rattle.capscript.specs.Transcript.{Ran, Answers, AnswersLine, StopsIn, fs_name, root_attr};
+ghost use Rattle.capscript.specs.Watched.{inner_of, has_failed};
+
+use crate::fault::ScriptFault;
+use crate::input::{MAX_SCRIPT, read_script, write_text};
+use crate::line::read_line;
+use crate::reply::reply_lines;
+use crate::watched::Watched;
+use capbits::{Mode, PassId};
+use capcore::{Core, Event, Stop};
+use capgrant::Attr;
+use capspec::FsName;
+use inotree::Tree;
+use std::alloc::Global;
+use std::io::{Read, Write};
+
+/// The name of the file system that a script runs on.
+const FS_NAME: &[u8] = b"cephfs";
+
+/// The mode of its root, which is owned by 0:0.
+const ROOT_MODE: u16 = 0o755;
+
+/// Reads a whole script, runs it on a root alone, and writes the text of each reply, up to the end or to the first line that says no
+/// event. All is read before anything is written.
+pub fn run<R: Read, W: Write>(
+    alloc: Global,
+    reader: &mut Watched<R>,
+    writer: &mut Watched<W>,
+) -> Result<(), ScriptFault>
+    requires reader_clear { IsFalse (has_failed reader.old) }
+    requires writer_clear { IsFalse (has_failed writer.old) }
+    // What was written, where it is known what there was to read.
+    ensures ran { IfSome (R.remaining (inner_of reader.old)) (λ script. (text : List ℕ) × Ran script result text × Appends (W.contents (inner_of writer.old)) (W.contents (inner_of writer.new)) text) }
+    // A script that is too long is not run.
+    ensures short { OnOk result (IfSome (R.remaining (inner_of reader.old)) (λ script. length script ≤ MAX_SCRIPT)) }
+    ensures read { result ≡ Err stops.ReadFault → (IsTrue (has_failed reader.new) ⊎ IfSome (R.remaining (inner_of reader.old)) (λ script. MAX_SCRIPT < length script)) × Appends (W.contents (inner_of writer.old)) (W.contents (inner_of writer.new)) [] }
+    ensures written { result ≡ Err stops.WriteFault → IsTrue (has_failed writer.new) }
+    // At most one byte too many is taken from the reader.
+    ensures taken { (taken : List ℕ) × Consumes (R.remaining (inner_of reader.old)) (R.remaining (inner_of reader.new)) taken × (length taken ≤ MAX_SCRIPT + 1) }
+{
+    let script = read_script(alloc, reader)?;
+    let mut core = open_core(alloc)?;
+    answer_lines(alloc, &mut core, script.as_slice(), writer)
+}
+
+// The core of a file system that has a root alone.
+fn open_core(alloc: Global) -> Result<Core, ScriptFault>
+    ensures opens { IfOk result (λ core. IsOpening fs_name (first_tree root_attr) core.state) }
+    ensures empty { IfOk result (λ core. core.rows ≡ []) }
+    ensures room { IfOk result (λ core. core.max_rows ≡ u32.MAX) }
+    ensures err { OnErr result (result ≡ Err stops.NoMemory) }
+{
+    let (Some(fs), Some(mode)) = (FsName::read(FS_NAME), Mode::new(ROOT_MODE)) else {
+        unreachable!()
+    };
+    let attr = Attr {
+        uid: 0,
+        gid: 0,
+        mode,
+    };
+    let Ok(tree) = Tree::new(alloc, attr) else {
+        return Err(ScriptFault::NoMemory);
+    };
+    match Core::new(alloc, fs, tree, u32::MAX) {
+        Ok(core) => Ok(core),
+        Err(_) => Err(ScriptFault::NoMemory),
+    }
+}
+
+// Answers the events of the lines, up to the end or to the first line that says none.
+fn answer_lines<W: Write>(
+    alloc: Global,
+    core: &mut Core,
+    script: &[u8],
+    writer: &mut Watched<W>,
+) -> Result<(), ScriptFault>
+    requires opens { IsOpening fs_name (first_tree root_attr) core.old.state }
+    requires empty { core.old.rows ≡ [] }
+    requires room { core.old.max_rows ≡ u32.MAX }
+    requires short { length script.now ≤ MAX_SCRIPT }
+    ensures ran { (text : List ℕ) × Ran script.now result text × Appends (W.contents (inner_of writer.old)) (W.contents (inner_of writer.new)) text }
+    ensures read { result ≢ Err stops.ReadFault }
+    ensures written { result ≡ Err stops.WriteFault → IsTrue (has_failed writer.new) }
+{
+    let mut rest = script;
+    let mut number = 1;
+    while let Some((text, behind)) = split_line(rest) {
+        answer_line(alloc, core, number, text, writer)?;
+        rest = behind;
+        number += 1;
+    }
+    answer_line(alloc, core, number, rest, writer)
+}
+
+// The line before the first line feed and what stands behind it, if there is one.
+fn split_line(script: &[u8]) -> Option<(&[u8], &[u8])>
+    ensures lines { MatchOption result (lines script.now ≡ script.now ∷ []) (λ cut. lines script.now ≡ cut.0.now ∷ lines cut.1.now) }
+    ensures shorter { IfSome result (λ cut. length cut.1.now < length script.now) }
+{
+    let end = script.iter().position(|byte| *byte == b'\n')?;
+    Some((&script[..end], &script[end + 1..]))
+}
+
+// Answers the event of one line, if it is not skipped.
+fn answer_line<W: Write>(
+    alloc: Global,
+    core: &mut Core,
+    number: u64,
+    text: &[u8],
+    writer: &mut Watched<W>,
+) -> Result<(), ScriptFault>
+    requires { length core.old.rows < core.old.max_rows }
+    ensures ok { OnOk result ((written : List ℕ) × AnswersLine core.old text.now core.new written × Appends (W.contents (inner_of writer.old)) (W.contents (inner_of writer.new)) written) }
+    ensures err { IfErr result (λ fault. (written : List ℕ) × StopsIn core.old number text.now fault core.new written × Appends (W.contents (inner_of writer.old)) (W.contents (inner_of writer.new)) written) }
+    ensures failed { result ≡ Err stops.WriteFault → IsTrue (has_failed writer.new) }
+{
+    match read_line(alloc, number, text)? {
+        Some((_, event)) => answer_event(alloc, core, event, writer),
+        None => Ok(()),
+    }
+}
+
+// Answers one event.
+fn answer_event<W: Write>(
+    alloc: Global,
+    core: &mut Core,
+    event: Event,
+    writer: &mut Watched<W>,
+) -> Result<(), ScriptFault>
+    requires { length core.old.rows < core.old.max_rows }
+    ensures ok { OnOk result ((text : List ℕ) × Answers core.old event core.new text × Appends (W.contents (inner_of writer.old)) (W.contents (inner_of writer.new)) text) }
+    // Without memory nothing is written.
+    ensures memory { result ≡ Err stops.NoMemory → Appends (W.contents (inner_of writer.old)) (W.contents (inner_of writer.new)) [] }
+    // A writer that fails took the beginning of the answer.
+    ensures written { result ≡ Err stops.WriteFault → IsTrue (has_failed writer.new) × ((text left : List ℕ) × Answers core.old event core.new (text ++ left) × Appends (W.contents (inner_of writer.old)) (W.contents (inner_of writer.new)) text) }
+    ensures err { OnErr result ((result ≡ Err stops.WriteFault) ⊎ (result ≡ Err stops.NoMemory)) }
+{
+    let reply = match core.apply(PassId(1), event) {
+        Ok(reply) => reply,
+        Err(Stop::NoMemory) => return Err(ScriptFault::NoMemory),
+        Err(Stop::Full) => unreachable!(),
+    };
+    match reply_lines(alloc, &reply) {
+        Ok(text) => write_text(writer, text.as_slice()),
+        Err(_) => Err(ScriptFault::NoMemory),
+    }
+}
