@@ -297,3 +297,249 @@ fn a_clear_flag_stays_clear(rt: HostRuntime) -> Result<(), Fail> {
     assert!(rt; !writer.failed());
     Ok(())
 }
+
+// What a run over a script writes, and how it ends, in words behind an equals sign.
+fn transcript(rt: &impl AllocGlobal, script: &[u8]) -> Result<Vec<u8>, Fail> {
+    let alloc = rt.alloc();
+    let mut text = Vec::new(alloc);
+    let mut reader = Watched::new(script);
+    let mut writer = Watched::new(&mut text);
+    let ended = run(alloc, &mut reader, &mut writer);
+    if let Err(fault) = ended {
+        write!(text, "={fault}")?;
+    }
+    Ok(text)
+}
+
+/// Two clients, one of which may write below `/a` alone.
+const TWO_CLIENTS: &str = "session 1 10 10 - allow rw path=/a
+mkdir 1 1 a 0755
+create 1 9 f 0644
+session 2 20 20 - allow rw
+mkdir 2 1 a 0755
+create 1 2 f 0644
+lookup 1 2 f
+mksnap 1 2 s
+create 1 2 f 0644
+create 1 3 g 0644
+create 1 2  0644
+lookup 3 1 a
+session 2 20 20 - none
+";
+
+const TWO_CLIENTS_ANSWERED: &str = "done
+denied write 1:4
+refused NoIno
+done
+ino 2
+ino 3
+ino 3
+denied snapshot 1:8
+refused Exists
+refused NotDir
+refused NameBad
+refused NoSession
+refused SessionOpen
+";
+
+/// Snapshots, and a client without grants. The last line has no line feed.
+const SNAPSHOTS: &str = "# snapshots
+
+session 1 10 10 - allow rws
+mkdir 1 1 d 0755
+mksnap 1 2 s1
+mksnap 1 2 s1
+rmsnap 1 2 s1
+rmsnap 1 2 s1
+session 2 20 20 - none
+lookup 2 1 d
+lookup 1 1 d
+lookup 1 1 e";
+
+const SNAPSHOTS_ANSWERED: &str = "done
+ino 2
+done
+refused Exists
+done
+refused NoEnt
+done
+denied read -
+ino 2
+refused NoEnt
+";
+
+#[test]
+fn scripts_have_transcripts(rt: HostRuntime) -> Result<(), Fail> {
+    let cases = [
+        ("", ""),
+        ("\n", ""),
+        ("# nothing", ""),
+        (TWO_CLIENTS, TWO_CLIENTS_ANSWERED),
+        (SNAPSHOTS, SNAPSHOTS_ANSWERED),
+        (
+            "session 1 10 10 - allow rw\nlookup 1 x f\n",
+            "done\n=line 2: Number",
+        ),
+        ("session 1 10 10 - allow", "=line 1: Grants BadFlags at 5"),
+        ("lookup 1  f", "=line 1: Number"),
+        ("\n#\nfly\nlookup 1 1 f", "=line 3: Command"),
+        (
+            "session 1 0 0 - allow rw uid=0\nlookup 1 1 a\ncreate 1 1 a 0600\n",
+            "done\nrefused NoEnt\nino 2\n",
+        ),
+        (
+            "session 1 9 9 - allow rw uid=9\ncreate 1 1 a 0600\n",
+            "done\ndenied write 1:11\n",
+        ),
+    ];
+    for (script, wanted) in cases {
+        let text = transcript(&rt, script.as_bytes())?;
+        assert_eq!(rt; text.as_slice(), wanted.as_bytes(), "at {script}");
+    }
+    Ok(())
+}
+
+#[test]
+fn long_lines_stop_a_script(rt: HostRuntime) -> Result<(), Fail> {
+    let line = long_line(rt.alloc(), "lookup 1 1 ", 65537)?;
+    let text = transcript(&rt, line.as_slice())?;
+    assert_eq!(rt; text.as_slice(), b"=line 1: Count".as_slice());
+    Ok(())
+}
+
+#[test]
+fn the_longest_script_is_run(rt: HostRuntime) -> Result<(), Fail> {
+    let script = vec![in rt.alloc(); b'\n'; MAX_SCRIPT]?;
+    let text = transcript(&rt, script.as_slice())?;
+    assert!(rt; text.is_empty());
+    Ok(())
+}
+
+#[test]
+fn longer_scripts_are_not_run(rt: HostRuntime) -> Result<(), Fail> {
+    let alloc = rt.alloc();
+    let script = vec![in alloc; b'\n'; MAX_SCRIPT + 1]?;
+    let text = transcript(&rt, script.as_slice())?;
+    assert_eq!(rt; text.as_slice(), b"=read failed".as_slice());
+    let mut text = Vec::new(alloc);
+    let mut reader = Watched::new(io::repeat(b'\n'));
+    let mut writer = Watched::new(&mut text);
+    let ended = run(alloc, &mut reader, &mut writer);
+    assert_eq!(rt; ended, Err(ScriptFault::ReadFault));
+    assert!(rt; !reader.failed() && !writer.failed());
+    assert!(rt; text.is_empty());
+    Ok(())
+}
+
+#[test]
+fn many_lines_are_answered(rt: HostRuntime) -> Result<(), Fail> {
+    let alloc = rt.alloc();
+    let mut script = Vec::from_slice(alloc, b"session 1 10 10 - allow rw\n".as_slice())?;
+    for _ in 0..100_000 {
+        script.extend_from_slice(b"lookup 1 1 a\n")?;
+    }
+    let text = transcript(&rt, script.as_slice())?;
+    assert_eq!(rt;
+        text.len(),
+        "done\n".len() + 100_000 * "refused NoEnt\n".len()
+    );
+    Ok(())
+}
+
+// Gives so many bytes at a time, and fails once it was read so often.
+#[derive(Drop)]
+struct Failing<'a> {
+    script: &'a [u8],
+    at_once: usize,
+    reads_left: usize,
+}
+
+impl Read for Failing<'_> {
+    fn read(&mut self, buf: &mut [u8]) -> io::Result<usize> {
+        if self.reads_left == 0 {
+            return Err(io::Error::from(ErrorKind::Interrupted));
+        }
+        self.reads_left -= 1;
+        let count = self.script.len().min(self.at_once).min(buf.len());
+        let (front, rest) = self.script.split_at(count);
+        buf[..count].copy_from_slice(front);
+        self.script = rest;
+        Ok(count)
+    }
+}
+
+#[test]
+fn a_read_that_fails_writes_nothing(rt: HostRuntime) -> Result<(), Fail> {
+    let alloc = rt.alloc();
+    let script = "session 1 10 10 - none\nlookup 1 1 a".as_bytes();
+    for at_once in [1, 7] {
+        let wanted = script.len().div_ceil(at_once) + 1;
+        for reads_left in 0..=wanted {
+            let mut text = Vec::new(alloc);
+            let mut reader = Watched::new(Failing {
+                script,
+                at_once,
+                reads_left,
+            });
+            let mut writer = Watched::new(&mut text);
+            let ended = run(alloc, &mut reader, &mut writer);
+            let failed = reads_left < wanted;
+            assert_eq!(rt; reader.failed(), failed, "after {reads_left} reads");
+            assert_eq!(rt; ended.is_err(), failed, "after {reads_left} reads");
+            assert_eq!(rt; text.is_empty(), failed, "after {reads_left} reads");
+        }
+    }
+    Ok(())
+}
+
+// Takes so many bytes, a few at once, and then none or fails.
+#[derive(Drop)]
+struct Full<'a> {
+    text: &'a mut Vec<u8>,
+    room: usize,
+    fails: bool,
+}
+
+impl Write for Full<'_> {
+    fn write(&mut self, buf: &[u8]) -> io::Result<usize> {
+        let count = buf.len().min(self.room).min(3);
+        if count == 0 && self.fails {
+            return Err(io::Error::from(ErrorKind::Interrupted));
+        }
+        self.room -= count;
+        self.text.extend_from_slice(&buf[..count])?;
+        Ok(count)
+    }
+
+    fn flush(&mut self) -> io::Result<()> {
+        Ok(())
+    }
+}
+
+#[test]
+fn a_write_that_fails_leaves_a_beginning(rt: HostRuntime) -> Result<(), Fail> {
+    let alloc = rt.alloc();
+    let wanted = SNAPSHOTS_ANSWERED.as_bytes();
+    for room in 0..=wanted.len() {
+        for fails in [false, true] {
+            let mut text = Vec::new(alloc);
+            let mut reader = Watched::new(SNAPSHOTS.as_bytes());
+            let mut writer = Watched::new(Full {
+                text: &mut text,
+                room,
+                fails,
+            });
+            let ended = run(alloc, &mut reader, &mut writer);
+            let failed = room < wanted.len();
+            assert_eq!(rt; writer.failed(), failed, "after {room} bytes");
+            assert_eq!(rt;
+                ended == Err(ScriptFault::WriteFault),
+                failed,
+                "after {room} bytes"
+            );
+            let _ = writer;
+            assert_eq!(rt; text.as_slice(), &wanted[..room], "after {room} bytes");
+        }
+    }
+    Ok(())
+}
