@@ -1,0 +1,66 @@
+//! The words of the command line.
+
+use crate::work::Work;
+use clap::error::ErrorKind;
+use clap::{Arg, ArgAction, Command, Error, value_parser};
+use std::alloc::{AllocError, Global};
+
+const CAPBENCH: &str = "capbench";
+
+const WORK: &str = "work";
+
+const TIMES: &str = "times";
+
+const WORKS: &str = "WORK is one of
+  verdict-G-D-plain  judge an access by G grants on paths of D names
+  verdict-G-D-ids    the same, with a user and two groups in each grant
+  parse-G-D-plain    read the text of such grants
+  parse-G-D-ids      the same, with a user and two groups in each grant
+  parse-G-plain      the same as parse-G-1-plain
+  lookup-T-flat      look up inodes by name in a tree of T inodes, all in the root
+  lookup-T-deep      the same, in chains of 16 directories
+  create-T-flat      make files in such a tree, all in the root
+  create-T-deep      the same, in chains of 16 directories
+with G of 1, 4 or 16, D of 1, 8 or 32, and T of 100, 1000, 10000 or 60000";
+
+const WRONG_WORK: &str = "there is no such WORK: --help lists them";
+
+/// A piece of work, and how many times it is done.
+#[derive(Clone, Copy, Debug, PartialEq, Eq)]
+pub struct Task {
+    /// The work.
+    pub work: Work,
+    /// How many times.
+    pub times: u32,
+}
+
+/// The task that the words name, of which the first is the program's own name. The error's text says what is wrong with
+/// them, or it is the help that they ask for.
+pub fn parse(alloc: Global, words: &[String]) -> Result<Task, Error> {
+    let mut command = capbench(alloc)?;
+    let matches = command.try_get_matches_from_mut(words)?;
+    let work = matches.get_str(WORK).and_then(|word| Work::read(word));
+    match (work, matches.get_one::<u32>(TIMES)) {
+        (Some(work), Some(times)) => Ok(Task { work, times }),
+        _ => Err(command.error(ErrorKind::InvalidValue, WRONG_WORK)?),
+    }
+}
+
+fn capbench<'a>(alloc: Global) -> Result<Command<'a>, AllocError> {
+    let work = Arg::new(alloc, WORK)
+        .value_name("WORK")
+        .help("The work, as verdict-4-8-plain")
+        .required(true)
+        .action(ArgAction::Set);
+    let times = Arg::new(alloc, TIMES)
+        .value_name("N")
+        .help("How many times it is done")
+        .required(true)
+        .value_parser(value_parser!(u32))
+        .action(ArgAction::Set);
+    Command::new(alloc, CAPBENCH)
+        .about("Does a piece of the policy's work N times and prints a sum over its answers")
+        .after_help(WORKS)
+        .arg(work)?
+        .arg(times)
+}

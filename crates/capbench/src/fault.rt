@@ -1,0 +1,59 @@
+//! Why the program gave no sum.
+
+use capcore::Stop;
+use capspec::SpecFault;
+use std::alloc::{AllocError, AllocFailed};
+use thiserror::Error;
+
+/// Why a piece of work gave no sum.
+#[derive(Clone, Copy, Debug, PartialEq, Eq, Error)]
+pub enum Fault {
+    /// So many inodes don't fit into a tree beside those that it begins with.
+    #[error("too many creations: a tree has at most 65536 inodes, with its root")]
+    TooManyCreations,
+    /// The grants can't be read.
+    #[error("grants: {0}")]
+    Grants(SpecFault),
+    /// The core answered with no inode.
+    #[error("the core refused")]
+    Refused,
+    /// The core took no event.
+    #[error("{0}")]
+    Stopped(Stop),
+    /// No memory was left.
+    #[error("no memory")]
+    NoMemory,
+    /// The sum could not be written.
+    #[error("write failed")]
+    WriteFailed,
+}
+
+impl From<AllocError> for Fault {
+    fn from(_: AllocError) -> Self {
+        Fault::NoMemory
+    }
+}
+
+impl<T: Drop> From<AllocFailed<T>> for Fault {
+    fn from(_: AllocFailed<T>) -> Self {
+        Fault::NoMemory
+    }
+}
+
+impl From<lockmachine::NoMemory> for Fault {
+    fn from(_: lockmachine::NoMemory) -> Self {
+        Fault::NoMemory
+    }
+}
+
+impl From<SpecFault> for Fault {
+    fn from(fault: SpecFault) -> Self {
+        Fault::Grants(fault)
+    }
+}
+
+impl From<Stop> for Fault {
+    fn from(stop: Stop) -> Self {
+        Fault::Stopped(stop)
+    }
+}

@@ -1,0 +1,181 @@
+//! The pieces of work, and the words that name them.
+
+/// A piece of work.
+#[derive(Clone, Copy, Debug, PartialEq, Eq)]
+pub enum Work {
+    /// Judge an access by grants that were read before.
+    Verdict(GrantShape),
+    /// Read a grant text.
+    Parse(GrantShape),
+    /// Ask a core for an inode of its tree by its name.
+    Lookup(TreeShape),
+    /// Have a core make a file in its tree.
+    Create(TreeShape),
+}
+
+/// What a grant text is like.
+#[derive(Clone, Copy, Debug, PartialEq, Eq)]
+pub struct GrantShape {
+    /// How many grants it has. The last is the one that allows.
+    pub grants: u32,
+    /// How many names the path of each grant has.
+    pub depth: u32,
+    /// Whom its grants are for.
+    pub callers: Callers,
+}
+
+/// Whom grants are for.
+#[derive(Clone, Copy, Debug, PartialEq, Eq)]
+pub enum Callers {
+    /// Any caller.
+    Any,
+    /// One user, by two groups, so that the mode of the inode counts.
+    OneUser,
+}
+
+/// What a tree is like.
+#[derive(Clone, Copy, Debug, PartialEq, Eq)]
+pub struct TreeShape {
+    /// How many inodes it has beside its root.
+    pub size: Size,
+    /// Where they stand.
+    pub layout: Layout,
+}
+
+/// How many inodes a tree has beside its root.
+#[derive(Clone, Copy, Debug, PartialEq, Eq)]
+pub enum Size {
+    /// A hundred.
+    Hundred,
+    /// A thousand.
+    Thousand,
+    /// Ten thousand.
+    TenThousand,
+    /// Sixty thousand.
+    SixtyThousand,
+}
+
+/// Where the inodes of a tree stand.
+#[derive(Clone, Copy, Debug, PartialEq, Eq)]
+pub enum Layout {
+    /// All in the root.
+    Flat,
+    /// In chains of sixteen directories, each in the one before it and the first in the root.
+    Deep,
+}
+
+impl Work {
+    /// The piece of work that a word names.
+    pub fn read(word: &str) -> Option<Work> {
+        let (kind, shape) = word.split_once('-')?;
+        match kind {
+            "verdict" => Some(Work::Verdict(GrantShape::read(shape)?)),
+            "parse" => {
+                let shape = GrantShape::read(shape).or_else(|| GrantShape::read_shallow(shape))?;
+                Some(Work::Parse(shape))
+            }
+            "lookup" => Some(Work::Lookup(TreeShape::read(shape)?)),
+            "create" => Some(Work::Create(TreeShape::read(shape)?)),
+            _ => None,
+        }
+    }
+}
+
+impl GrantShape {
+    // The shape with this number of grants, depth and kind of callers, as `4-8-ids`.
+    fn read(text: &str) -> Option<GrantShape> {
+        let (grants, text) = text.split_once('-')?;
+        let (depth, callers) = text.split_once('-')?;
+        Some(GrantShape {
+            grants: read_grant_count(grants)?,
+            depth: read_depth(depth)?,
+            callers: Callers::read(callers)?,
+        })
+    }
+
+    // The shape with this number of grants, for any caller, on paths of one name, as `4-plain`.
+    fn read_shallow(text: &str) -> Option<GrantShape> {
+        let grants = text.strip_suffix("-plain")?;
+        Some(GrantShape {
+            grants: read_grant_count(grants)?,
+            depth: 1,
+            callers: Callers::Any,
+        })
+    }
+}
+
+fn read_grant_count(text: &str) -> Option<u32> {
+    match text {
+        "1" => Some(1),
+        "4" => Some(4),
+        "16" => Some(16),
+        _ => None,
+    }
+}
+
+fn read_depth(text: &str) -> Option<u32> {
+    match text {
+        "1" => Some(1),
+        "8" => Some(8),
+        "32" => Some(32),
+        _ => None,
+    }
+}
+
+impl Callers {
+    fn read(text: &str) -> Option<Callers> {
+        match text {
+            "plain" => Some(Callers::Any),
+            "ids" => Some(Callers::OneUser),
+            _ => None,
+        }
+    }
+}
+
+impl TreeShape {
+    // The shape of this size and layout, as `100-flat`.
+    fn read(text: &str) -> Option<TreeShape> {
+        let (size, layout) = text.split_once('-')?;
+        Some(TreeShape {
+            size: Size::read(size)?,
+            layout: Layout::read(layout)?,
+        })
+    }
+}
+
+impl Size {
+    ghost use Rattle.std.specs.Prelude.{◌≤◌};
+
+    fn read(text: &str) -> Option<Size> {
+        match text {
+            "100" => Some(Size::Hundred),
+            "1000" => Some(Size::Thousand),
+            "10000" => Some(Size::TenThousand),
+            "60000" => Some(Size::SixtyThousand),
+            _ => None,
+        }
+    }
+
+    /// The number of inodes.
+    pub fn number(self) -> u64
+        ensures some { 100 ≤ result }
+        ensures fits { result ≤ 60000 }
+    {
+        match self {
+            Size::Hundred => 100,
+            Size::Thousand => 1000,
+            Size::TenThousand => 10_000,
+            Size::SixtyThousand => 60_000,
+        }
+    }
+}
+
+impl Layout {
+    fn read(text: &str) -> Option<Layout> {
+        match text {
+            "flat" => Some(Layout::Flat),
+            "deep" => Some(Layout::Deep),
+            _ => None,
+        }
+    }
+}
