@@ -6,7 +6,7 @@ use crate::fault::Fault;
 use crate::work::{Callers, GrantShape};
 use capbits::{Caller, Groups, Mode};
 use capgrant::{Access, Attr, Verdict, verdict};
-use capspec::{FsName, Grants, read_grants};
+use capspec::{FsName, Grants, TreePath, read_grants};
 use std::alloc::{AllocError, Global};
 
 const FS: &[u8] = b"cephfs";
@@ -22,8 +22,7 @@ const MODE: u16 = 0o644;
 /// Reads grants once, judges an access by them so many times, and returns the sum of what the verdicts score.
 pub fn judge(alloc: Global, shape: GrantShape, times: u32) -> Result<u64, Fault> {
     let grants = read_grants(alloc, grants_text(alloc, shape)?.as_bytes())?;
-    let names = names(alloc, shape.depth)?;
-    let path: Vec<&[u8]> = names.iter().map(|name| name.as_bytes()).collect(alloc)?;
+    let path = TreePath::from_text(alloc, path_text(alloc, shape.depth)?.as_bytes())?;
     let caller = caller()?;
     let (Some(fs), Some(mode)) = (FsName::read(FS), Mode::new(MODE)) else {
         return Err(Fault::Refused);
@@ -35,7 +34,7 @@ pub fn judge(alloc: Global, shape: GrantShape, times: u32) -> Result<u64, Fault>
     };
     let mut sum: u64 = 0;
     for _ in 0..times {
-        let verdict = verdict(&grants, &fs, &caller, path.as_slice(), &attr, Access::Write);
+        let verdict = verdict(&grants, &fs, &caller, &path, &attr, Access::Write);
         sum = sum.wrapping_add(score(&verdict));
     }
     Ok(sum)
@@ -101,11 +100,11 @@ fn write_path(text: &mut String, shape: GrantShape, grant: u32) -> Result<(), Al
     Ok(())
 }
 
-// The names of the path that is asked for.
-fn names(alloc: Global, depth: u32) -> Result<Vec<String>, AllocError> {
-    let mut names = Vec::new(alloc);
+// The path that is asked for.
+fn path_text(alloc: Global, depth: u32) -> Result<String, AllocError> {
+    let mut text = String::new(alloc);
     for place in 0..depth {
-        names.push(format!(in alloc; "p{place}")?)?;
+        write!(text, "/p{place}")?;
     }
-    Ok(names)
+    Ok(text)
 }

@@ -26,7 +26,7 @@ use crate::start::first_locks;
 use arrayvec::ArrayVec;
 use capbits::{Caller, ClientId, Ino, Mode};
 use capgrant::{Access, Attr, Rules, Verdict, verdict};
-use capspec::{FsName, Grants};
+use capspec::{FsName, Grants, TreePath};
 use captable::CapTable;
 use inotree::{Kind, Place, Tree};
 use lockmachine::{Locks, NoMemory};
@@ -114,7 +114,9 @@ impl World {
                 caller,
                 grants,
             } => self.open_session(*client, caller, grants),
-            Event::Lookup { client, dir, name } => Ok(self.lookup(*client, *dir, name.as_slice())),
+            Event::Lookup { client, dir, name } => {
+                Ok(self.lookup(*client, *dir, name.as_slice())?)
+            }
             Event::Create {
                 client,
                 dir,
@@ -159,22 +161,20 @@ impl World {
         }
     }
 
-    fn lookup(&self, client: ClientId, dir: Ino, name: &[u8]) -> Reply
-        ensures { result ≡ answer_to self.now (event.Lookup client dir name.now) }
+    fn lookup(&self, client: ClientId, dir: Ino, name: &[u8]) -> Result<Reply, NoMemory>
+        ensures { IfOk result (λ reply. reply ≡ answer_to self.now (event.Lookup client dir name.now)) }
     {
         if let Some(refusal) = self.inode_stop(client, dir) {
-            return Reply::Refused(refusal);
+            return Ok(Reply::Refused(refusal));
         }
         if !self.is_directory(dir) {
-            return Reply::Refused(Refusal::NotDir);
+            return Ok(Reply::Refused(Refusal::NotDir));
         }
         let Some(ino) = self.tree.child(dir, name) else {
-            return Reply::Refused(Refusal::NoEnt);
+            return Ok(Reply::Refused(Refusal::NoEnt));
         };
-        match self.denial(client, ino, Access::Read) {
-            Some(denied) => denied,
-            None => Reply::Ino(ino),
-        }
+        let denied = self.denial(client, ino, Access::Read)?;
+        Ok(denied.unwrap_or(Reply::Ino(ino)))
     }
 
     // Makes a file or a directory, with its locks.
@@ -190,7 +190,7 @@ impl World {
         ensures err { OnErr result (self.new ≡ self.old) }
         ensures memory { IfErr result (λ stop. stop ≡ Stop.NoMemory) }
     {
-        if let Some(stopped) = self.stop(client, dir, Access::Write) {
+        if let Some(stopped) = self.stop(client, dir, Access::Write)? {
             return Ok(stopped);
         }
         if let Some(fault) = self.tree.create_fault(dir, name) {
@@ -225,7 +225,7 @@ impl World {
         ensures err { OnErr result (self.new ≡ self.old) }
         ensures memory { IfErr result (λ stop. stop ≡ Stop.NoMemory) }
     {
-        if let Some(stopped) = self.stop(client, ino, Access::Snapshot) {
+        if let Some(stopped) = self.stop(client, ino, Access::Snapshot)? {
             return Ok(stopped);
         }
         match self.tree.snap_add(ino, name) {
@@ -239,7 +239,7 @@ impl World {
         ensures err { OnErr result (self.new ≡ self.old) }
         ensures memory { IfErr result (λ stop. stop ≡ Stop.NoMemory) }
     {
-        if let Some(stopped) = self.stop(client, ino, Access::Snapshot) {
+        if let Some(stopped) = self.stop(client, ino, Access::Snapshot)? {
             return Ok(stopped);
         }
         match self.tree.snap_remove(ino, name) {
@@ -265,11 +265,11 @@ impl World {
     // ---- what stops a request
 
     // What stops a request that needs one access to an inode that it names, before any other test.
-    fn stop(&self, client: ClientId, ino: Ino, access: Access) -> Option<Reply>
-        ensures { result ≡ stop self.now.scene (session_tests self.now.scene client ++ inode_tests self.now.scene ino.0) (need client ino.0 access ∷ []) [] }
+    fn stop(&self, client: ClientId, ino: Ino, access: Access) -> Result<Option<Reply>, NoMemory>
+        ensures { IfOk result (λ stopped. stopped ≡ stop self.now.scene (session_tests self.now.scene client ++ inode_tests self.now.scene ino.0) (need client ino.0 access ∷ []) []) }
     {
         match self.inode_stop(client, ino) {
-            Some(refusal) => Some(Reply::Refused(refusal)),
+            Some(refusal) => Ok(Some(Reply::Refused(refusal))),
             None => self.denial(client, ino, access),
         }
     }
@@ -290,36 +290,31 @@ impl World {
     }
 
     // The denial of an access that no grant of the client allows.
-    fn denial(&self, client: ClientId, ino: Ino, access: Access) -> Option<Reply>
-        ensures { result ≡ stop self.now.scene [] (need client ino.0 access ∷ []) [] }
+    fn denial(&self, client: ClientId, ino: Ino, access: Access) -> Result<Option<Reply>, NoMemory>
+        ensures { IfOk result (λ denied. denied ≡ stop self.now.scene [] (need client ino.0 access ∷ []) []) }
     {
-        match self.verdict(client, ino, access) {
-            Verdict::Allowed { .. } => None,
-            Verdict::Denied { rules } => Some(Reply::Denied { access, rules }),
+        match self.verdict(client, ino, access)? {
+            Verdict::Allowed { .. } => Ok(None),
+            Verdict::Denied { rules } => Ok(Some(Reply::Denied { access, rules })),
         }
     }
 
     // What the client's grants say of an access to an inode. Without a session or a path no grant allows it.
-    fn verdict(&self, client: ClientId, ino: Ino, access: Access) -> Verdict
-        ensures allowed { is_allowed result ≡ is_met self.now.scene (need client ino.0 access) }
-        ensures rules { IfDenied result (λ rules. rules ≡ failures self.now.scene.fs self.now.scene.tree self.now.scene.sessions (holder client ino) access) }
+    // The path is written out for them, which takes memory.
+    fn verdict(&self, client: ClientId, ino: Ino, access: Access) -> Result<Verdict, NoMemory>
+        ensures allowed { IfOk result (λ verdict. is_allowed verdict ≡ is_met self.now.scene (need client ino.0 access)) }
+        ensures rules { IfOk result (λ verdict. IfDenied verdict (λ rules. rules ≡ failures self.now.scene.fs self.now.scene.tree self.now.scene.sessions (holder client ino) access)) }
     {
         let sessions = &self.sessions;
         let (Some(grants), Some(caller)) = (sessions.grants_of(client), sessions.caller_of(client))
         else {
-            return no_grant();
+            return Ok(no_grant());
         };
-        let (Some(path), Some(node)) = (self.tree.path_of(ino), self.tree.node(ino)) else {
-            return no_grant();
+        let (Some(names), Some(node)) = (self.tree.path_of(ino), self.tree.node(ino)) else {
+            return Ok(no_grant());
         };
-        verdict(
-            grants,
-            &self.fs,
-            caller,
-            path.as_slice(),
-            &node.attr,
-            access,
-        )
+        let path = TreePath::of(self.alloc, names.as_slice())?;
+        Ok(verdict(grants, &self.fs, caller, &path, &node.attr, access))
     }
 
     // Whether the inode is there, and a directory.

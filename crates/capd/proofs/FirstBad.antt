@@ -1,5 +1,5 @@
 -- Each option in turn is the first bad one.
-use Rattle.std.proofs.Common.{◌≡◌, ℕ, List, [], ◌∷◌, ◌++◌, refl}
+use Rattle.std.proofs.Common.{◌≡◌, ◌∙◌, ℕ, List, [], ◌∷◌, ◌++◌, inl, inr, ap, subst, refl}
 use Rattle.std.specs.Prelude.{◌≢◌, ◌⊎◌, Result, Ok, Err, IfErr, IsErrAnd}
 use Rattle.std.specs.List.{AllByRecursion}
 use Rattle.std.proofs.lemmas.List.Elements.{All-from_recursion}
@@ -49,6 +49,12 @@ bad_groups v g fs uid gid is_g is_fs is_uid is_gid none = first_bad v Groups (Gr
 
 pub bad_path : (v : Values) (g : List Grant) (fs : List ℕ) (uid : ℕ) (gid : ℕ) (gids : List ℕ) → Reads v.grants.items g → IsFs v.fs.items fs → IsNumber v.uid.items uid → IsNumber v.gid.items gid → AreGroupsIf v.groups gids → ((names : List (List ℕ)) → ¬ ArePathNames v.path.items names) → IsFirstBad v Path
 bad_path v g fs uid gid gids is_g is_fs is_uid is_gid is_gids none = first_bad v Path (Grants ∷ Fs ∷ Uid ∷ Gid ∷ Groups ∷ []) (Owner ∷ Group ∷ Mode ∷ Access ∷ []) refl ((g, is_g), ((fs, is_fs), ((uid, is_uid), ((gid, is_gid), ((gids, is_gids), tt))))) (λ found. none found.0 found.1)
+
+-- where there is no path, it is the first bad value, or memory was missing
+pub no_path : {T : Type 0} (v : Values) (g : List Grant) (fs : List ℕ) (uid : ℕ) (gid : ℕ) (gids : List ℕ) → Reads v.grants.items g → IsFs v.fs.items fs → IsNumber v.uid.items uid → IsNumber v.gid.items gid → AreGroupsIf v.groups gids
+    → (text : List ℕ) → text ≡ v.path.items → (fault : Fault) → (fault ≡ faults.NoMemory) ⊎ (fault ≡ BadValue Path) × ((names : List (List ℕ)) → ¬ ArePathNames text names) → (r : Result T Fault) → r ≡ Err fault → IfErr r (IsFaultIn v)
+no_path v g fs uid gid gids is_g is_fs is_uid is_gid is_gids text same fault (inl memory) r is = rw (is, memory) (g, is_g)
+no_path v g fs uid gid gids is_g is_fs is_uid is_gid is_gids text same fault (inr bad) r is = names_first_bad v Path r (λ e. cc) (bad_path v g fs uid gid gids is_g is_fs is_uid is_gid is_gids (subst (λ (t : List ℕ). (names : List (List ℕ)) → ¬ ArePathNames t names) same bad.1)) (is ∙ ap Err bad.0)
 
 pub bad_owner : (v : Values) (g : List Grant) (fs : List ℕ) (uid : ℕ) (gid : ℕ) (gids : List ℕ) (names : List (List ℕ)) → Reads v.grants.items g → IsFs v.fs.items fs → IsNumber v.uid.items uid → IsNumber v.gid.items gid → AreGroupsIf v.groups gids → ArePathNames v.path.items names → ((owner : ℕ) → ¬ IsNumber v.owner.items owner) → IsFirstBad v Owner
 bad_owner v g fs uid gid gids names is_g is_fs is_uid is_gid is_gids is_names none = first_bad v Owner (Grants ∷ Fs ∷ Uid ∷ Gid ∷ Groups ∷ Path ∷ []) (Group ∷ Mode ∷ Access ∷ []) refl ((g, is_g), ((fs, is_fs), ((uid, is_uid), ((gid, is_gid), ((gids, is_gids), ((names, is_names), tt)))))) (λ found. none found.0 found.1)

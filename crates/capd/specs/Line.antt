@@ -1,18 +1,19 @@
 -- The line that answers a question.
 use Rattle.std.specs.Prelude.{ℕ, List, [], ◌∷◌, ◌++◌, codes}
 use Rattle.std.specs.Fmt.{decimal}
-use Rattle.std.specs.List.{flat_map, join_by, enumerate_from}
+use Rattle.std.specs.List.{join_by, enumerate_from}
 use Rattle.capgrant.specs.declared.access.Access.{Access}
 use Rattle.capgrant.specs.declared.answer.Verdict.{Verdict}
 use Rattle.capgrant.specs.declared.answer.Verdict.TheVariants.{Allowed, Denied}
 use Rattle.capgrant.specs.declared.rule.Rule.{Rule}
 use Rattle.capgrant.specs.Rule.{rule_number, rule_word}
 use Rattle.capscript.specs.Replies.{access_word}
+use Rattle.capspec.specs.Names.{slashed}
 
 -- `/` before each name; `/` alone for the root
 abbrev pub path_text : List (List ℕ) → List ℕ
 path_text [] = codes "/"
-path_text (name ∷ names) = flat_map (λ n. codes "/" ++ n) (name ∷ names)
+path_text (name ∷ names) = slashed (name ∷ names)
 
 -- by which rule the grant of this number fails
 abbrev pub failure_text : ℕ × Rule → List ℕ

@@ -1,5 +1,5 @@
 -- A question on the command line, and its answer.
-use Rattle.std.specs.Prelude.{◌≡◌, ◌≢◌, ℕ, List, ◌∷◌, ◌++◌, map, All}
+use Rattle.std.specs.Prelude.{◌≡◌, ◌≢◌, ℕ, List, ◌∷◌, ◌++◌, All}
 use Rattle.capspec.specs.declared.grant.Grant.{Grant}
 use Rattle.capspec.specs.Faults.{IsFault}
 use Rattle.capspec.specs.Grants.{Reads}
@@ -18,10 +18,6 @@ use Rattle.capd.specs.Line.{explain_text}
 use Rattle.capd.specs.Options.{all_options}
 use Rattle.capd.specs.Values.{IsFs, AreGroupsIf, ArePathNames, IsModeText}
 
--- the names of the inode's path
-abbrev pub names_in : Question → List (List ℕ)
-names_in q = map (λ name. name.now) q.path.items
-
 -- the values ask the question
 pub record AsksFor (v : Values) (q : Question) : Type 0 where
   pub grants : Reads v.grants.items q.grants
@@ -29,7 +25,7 @@ pub record AsksFor (v : Values) (q : Question) : Type 0 where
   pub uid : IsNumber v.uid.items q.caller.uid
   pub gid : IsNumber v.gid.items q.caller.gid
   pub groups : AreGroupsIf v.groups q.caller.groups
-  pub path : ArePathNames v.path.items (names_in q)
+  pub path : ArePathNames v.path.items q.path
   pub owner : IsNumber v.owner.items q.attr.uid
   pub group : IsNumber v.group.items q.attr.gid
   pub mode : IsModeText v.mode.items q.attr.mode
@@ -66,4 +62,4 @@ IsFaultIn v (faults.Script stopped) = ⊥
 
 -- the line that answers the question: what its grants say
 abbrev pub answer_text : Question → List ℕ
-answer_text q = explain_text q.access (names_in q) (verdict_of (question q.fs q.caller q.path.items q.attr q.access) q.grants)
+answer_text q = explain_text q.access q.path (verdict_of (question q.fs q.caller q.path q.attr q.access) q.grants)

@@ -1,23 +1,24 @@
 //! The line that answers a question.
-ghost use Rattle.std.specs.Prelude.{◌≡◌, ◌++◌, map, IfOk, IfSome, OnOk};
+ghost use Rattle.std.specs.Prelude.{◌≡◌, ◌++◌, IfOk, IfSome, OnOk};
 ghost use Rattle.capd.specs.Line.{explain_text, path_text, failure_text, failures_text};
 
 use crate::fault::NoMemory;
 use capgrant::{Access, Rule, Verdict};
 use capscript::AccessWord;
+use capspec::TreePath;
 use std::alloc::Global;
 use std::fmt::Display;
 use std::io::Write;
 
-/// The line that says what the verdict is on the access to the inode with this path (its names from the root down), and
-/// by which grant or rules. It has no line feed.
+/// The line that says what the verdict is on the access to the inode with this path, and by which grant or
+/// rules. It has no line feed.
 pub fn explain_line(
     alloc: Global,
     access: Access,
-    path: &[&[u8]],
+    path: &TreePath,
     verdict: &Verdict,
 ) -> Result<Vec<u8>, NoMemory>
-    ensures { IfOk result (λ line. line.items ≡ explain_text access (map (λ name. name.now) path.now) verdict.now) }
+    ensures { IfOk result (λ line. line.items ≡ explain_text access path.now verdict.now) }
 {
     let access = AccessWord(access);
     let mut line = Vec::new(alloc);
@@ -44,16 +45,14 @@ fn print<D: Display + Drop>(line: &mut Vec<u8>, text: D) -> Result<(), NoMemory>
     line.write_fmt(text).map_err(|_| NoMemory)
 }
 
-fn print_path(line: &mut Vec<u8>, path: &[&[u8]]) -> Result<(), NoMemory>
-    ensures { OnOk result (line.new.items ≡ line.old.items ++ path_text (map (λ name. name.now) path.now)) }
+fn print_path(line: &mut Vec<u8>, path: &TreePath) -> Result<(), NoMemory>
+    ensures { OnOk result (line.new.items ≡ line.old.items ++ path_text path.now) }
 {
+    let path = path.as_bytes();
     if path.is_empty() {
         line.push(b'/')?;
     }
-    for name in path {
-        line.push(b'/')?;
-        line.extend_from_slice(name)?;
-    }
+    line.extend_from_slice(path)?;
     Ok(())
 }
 

@@ -1,18 +1,17 @@
 //! What a command line asks.
-ghost use Rattle.std.specs.Prelude.{◌≡◌, ℕ, List, MatchResult};
+ghost use Rattle.std.specs.Prelude.{◌≡◌, ◌⊎◌, ℕ, List, MatchResult};
 ghost use Rattle.capspec.specs.Items.{IsNumber};
-ghost use Rattle.capd.specs.Values.{AreGroupsIf};
+ghost use Rattle.capd.specs.Values.{AreGroupsIf, ArePathNames};
 
 use crate::access::read_access;
 use crate::fault::{Fault, NoMemory};
 use crate::line::explain_line;
-use crate::lists::{MAX_NAMES, read_groups, split_path};
+use crate::lists::read_groups;
 use crate::options::Opt;
-use arrayvec::ArrayVec;
 use capbits::{Caller, Groups, read_mode, read_u32};
 use capgrant::{Access, Attr, verdict};
-use capspec::{FsName, Grants, read_grants};
-use std::alloc::Global;
+use capspec::{FsName, Grants, TreePath, read_grants};
+use std::alloc::{AllocError, Global};
 
 /// The values of the options as they stand on the command line, as bytes.
 #[derive(Debug, Drop)]
@@ -41,27 +40,27 @@ pub struct Values {
 
 /// Whether these grants let a caller make an access to an inode.
 #[derive(Debug, Drop)]
-pub struct Question<'a> {
+pub struct Question {
     /// The grants of the client.
     pub grants: Grants,
     /// The file system of the inode.
     pub fs: FsName,
     /// Who asks.
     pub caller: Caller,
-    /// The names of the inode's path, from the root down.
-    pub path: ArrayVec<&'a [u8], MAX_NAMES>,
+    /// The inode's path.
+    pub path: TreePath,
     /// The inode's owner, group and mode.
     pub attr: Attr,
     /// What is asked for.
     pub access: Access,
 }
 
-impl<'a> Question<'a> {
+impl Question {
     ghost use Rattle.std.specs.Prelude.{◌≡◌, IfOk, IfErr};
     ghost use Rattle.capd.specs.Question.{AsksFor, IsFaultIn, answer_text};
 
     /// Reads the values, in the order of `Opt::ALL`, up to the first bad one.
-    pub fn read(alloc: Global, values: &'a Values) -> Result<Question<'a>, Fault>
+    pub fn read(alloc: Global, values: &Values) -> Result<Question, Fault>
         ensures ok { IfOk result (AsksFor values.now) }
         ensures err { IfErr result (IsFaultIn values.now) }
     {
@@ -72,7 +71,7 @@ impl<'a> Question<'a> {
             gid: read_number(Opt::Gid, values.gid.as_slice())?,
             groups: read_given_groups(&values.groups)?,
         };
-        let path = split_path(values.path.as_slice()).ok_or(Fault::BadValue(Opt::Path))?;
+        let path = read_path(alloc, values.path.as_slice())?;
         let attr = Attr {
             uid: read_number(Opt::Owner, values.owner.as_slice())?,
             gid: read_number(Opt::Group, values.group.as_slice())?,
@@ -93,16 +92,25 @@ impl<'a> Question<'a> {
     pub fn answer(&self, alloc: Global) -> Result<Vec<u8>, NoMemory>
         ensures { IfOk result (λ line. line.items ≡ answer_text self.now) }
     {
-        let path = self.path.as_slice();
         let verdict = verdict(
             &self.grants,
             &self.fs,
             &self.caller,
-            path,
+            &self.path,
             &self.attr,
             self.access,
         );
-        explain_line(alloc, self.access, path, &verdict)
+        explain_line(alloc, self.access, &self.path, &verdict)
+    }
+}
+
+// The path of the inode.
+fn read_path(alloc: Global, text: &[u8]) -> Result<TreePath, Fault>
+    ensures { MatchResult result (ArePathNames text.now) (λ fault. (fault ≡ Fault.NoMemory) ⊎ (fault ≡ Fault.BadValue Opt.Path) × ((names : List (List ℕ)) → ¬ ArePathNames text.now names)) }
+{
+    match TreePath::read(alloc, text) {
+        Ok(path) => path.ok_or(Fault::BadValue(Opt::Path)),
+        Err(AllocError) => Err(Fault::NoMemory),
     }
 }
 

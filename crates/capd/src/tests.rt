@@ -6,6 +6,7 @@ use crate::fault::Fault;
 use crate::line::explain_line;
 use arrayvec::ArrayVec;
 use capgrant::{Access, Rules, Verdict};
+use capspec::TreePath;
 use std::io;
 use std::io::{ErrorKind, Write};
 use std::process::Abort;
@@ -549,10 +550,11 @@ fn a_fault_that_can_not_be_written_keeps_its_status(rt: HostRuntime) -> Result<(
 
 #[test]
 fn a_client_without_grants_is_denied(rt: HostRuntime) -> Result<(), Fail> {
+    let root = TreePath::of(rt.alloc(), &[])?;
     let denied = Verdict::Denied {
         rules: Rules::from(ArrayVec::new()),
     };
-    let line = explain_line(rt.alloc(), Access::Read, &[], &denied)?;
+    let line = explain_line(rt.alloc(), Access::Read, &root, &denied)?;
     assert_eq!(rt; line.as_slice(), b"denied read / no grants".as_slice());
     Ok(())
 }

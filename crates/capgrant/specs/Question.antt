@@ -1,6 +1,5 @@
 -- What is asked of a grant, and what a grant knows of who asks.
-use Rattle.std.specs.Prelude.{ℕ, Bool, ◌==◌, if◌then◌else◌, List, map, filter}
-use Rattle.std.specs.Borrow.{Bor}
+use Rattle.std.specs.Prelude.{ℕ, Bool, ◌==◌, if◌then◌else◌, List, filter}
 use Rattle.std.specs.List.{list_any}
 use Rattle.capbits.specs.declared.caller.Caller.{Caller}
 use Rattle.capbits.specs.Caller.{gids_of}
@@ -18,9 +17,9 @@ pub record Question : Type 0 where
   pub attr : Attr
   pub access : Access
 
--- the question of a call, whose names are borrowed
-abbrev pub question : List ℕ → Caller → List (Bor (List ℕ)) → Attr → Access → Question
-question fs caller path attr access = record { fs = fs; caller = caller; path = map (λ name. name.now) path; attr = attr; access = access }
+-- the question of a call
+abbrev pub question : List ℕ → Caller → List (List ℕ) → Attr → Access → Question
+question fs caller path attr access = record { fs = fs; caller = caller; path = path; attr = attr; access = access }
 
 -- the number is one of these
 abbrev pub contains : List ℕ → ℕ → Bool

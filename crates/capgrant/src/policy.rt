@@ -10,15 +10,15 @@ use crate::question::Question;
 use crate::rules::{MAX_RULES, Rules};
 use arrayvec::ArrayVec;
 use capbits::{Caller, Cap, CapSet};
-use capspec::{FsName, Grants};
+use capspec::{FsName, Grants, TreePath};
 
-/// Whether the grants let a caller make an access to the inode with this path (its names from the root down, none for
-/// the root itself) and these attributes, on this file system. Needs no memory.
+/// Whether the grants let a caller make an access to the inode with this path and these attributes, on this file system.
+/// Needs no memory.
 pub fn verdict(
     grants: &Grants,
     fs: &FsName,
     caller: &Caller,
-    path: &[&[u8]],
+    path: &TreePath,
     attr: &Attr,
     access: Access,
 ) -> Verdict
@@ -59,7 +59,7 @@ pub fn permitted(
     grants: &Grants,
     fs: &FsName,
     caller: &Caller,
-    path: &[&[u8]],
+    path: &TreePath,
     attr: &Attr,
 ) -> CapSet
     ensures { result ≡ permitted_of (question fs.now caller.now path.now attr.now) grants.now }
@@ -75,7 +75,7 @@ fn is_granted(
     grants: &Grants,
     fs: &FsName,
     caller: &Caller,
-    path: &[&[u8]],
+    path: &TreePath,
     attr: &Attr,
     access: Access,
 ) -> bool

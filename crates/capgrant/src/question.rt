@@ -8,7 +8,7 @@ use crate::access::{Access, Attr};
 use crate::class::Class;
 use crate::rule::Rule;
 use capbits::Caller;
-use capspec::{FsName, Grant};
+use capspec::{FsName, Grant, TreePath};
 use std::marker::Model;
 
 /// What is asked of each grant: whether, on this file system, this caller may make this access to an inode.
@@ -16,8 +16,7 @@ use std::marker::Model;
 pub(crate) struct Question<'a> {
     pub(crate) fs: &'a FsName,
     pub(crate) caller: &'a Caller,
-    /// The names of the inode's path, from the root down.
-    pub(crate) path: &'a [&'a [u8]],
+    pub(crate) path: &'a TreePath,
     pub(crate) attr: &'a Attr,
     pub(crate) access: Access,
 }

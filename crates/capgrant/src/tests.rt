@@ -3,7 +3,7 @@
 use super::*;
 use arrayvec::ArrayVec;
 use capbits::{Caller, CapBytes, Groups, Mode, write_caps};
-use capspec::{FsName, read_grants};
+use capspec::{FsName, TreePath, read_grants};
 use std::alloc::Global;
 use std::test::Fail;
 
@@ -41,7 +41,7 @@ fn says(
     let fs = FsName::read(b"cephfs").ok_or("no name")?;
     let caller = caller(who)?;
     let (text, uid, gid, mode) = inode;
-    let path = names(alloc, text)?;
+    let path = TreePath::from_text(alloc, text.as_bytes())?;
     let mode = Mode::new(mode).ok_or("no mode")?;
     let attr = Attr { uid, gid, mode };
     match verdict(&grants, &fs, &caller, &path, &attr, access) {
@@ -56,20 +56,10 @@ fn permits(alloc: Global, grants: &str, who: Who, inode: Inode) -> Result<CapByt
     let fs = FsName::read(b"cephfs").ok_or("no name")?;
     let caller = caller(who)?;
     let (text, uid, gid, mode) = inode;
-    let path = names(alloc, text)?;
+    let path = TreePath::from_text(alloc, text.as_bytes())?;
     let mode = Mode::new(mode).ok_or("no mode")?;
     let attr = Attr { uid, gid, mode };
     Ok(write_caps(permitted(&grants, &fs, &caller, &path, &attr)))
-}
-
-fn names(alloc: Global, path: &str) -> Result<Vec<&[u8]>, Fail> {
-    let mut names = Vec::new(alloc);
-    for name in path.split('/') {
-        if !name.is_empty() {
-            names.push(name.as_bytes())?;
-        }
-    }
-    Ok(names)
 }
 
 fn denial(alloc: Global, rules: &Rules) -> Result<String, Fail> {

@@ -14,12 +14,12 @@ use Rattle.capspec.specs.Items.Item.{Path, RootSquash}
 use Rattle.capspec.specs.Draft.{has, AddsValue, AddsItem}
 
 -- no key of all five
-pub no_key : (text : List ℕ) (index : ℕ) → 5 ≤ index → ((k : ℕ) → k < index → (value : List ℕ) → IsKeyed (get_or (keys.FsName ∷ keys.Path ∷ keys.Uid ∷ keys.Gids ∷ keys.RootSquash ∷ []) k keys.RootSquash) text value → ⊥)
+pub no_key : (text : List ℕ) (index : ℕ) → 5 ≤ index → ((k : ℕ) → k < index → (value : List ℕ) → IsKeyed (get_or (keys.Path ∷ keys.Uid ∷ keys.Gids ∷ keys.FsName ∷ keys.RootSquash ∷ []) k keys.RootSquash) text value → ⊥)
     → (key : Key) (value : List ℕ) → IsKeyed key text value → ⊥
-no_key text index all none keys.FsName value keyed = none 0 (omega arith) value keyed
-no_key text index all none keys.Path value keyed = none 1 (omega arith) value keyed
-no_key text index all none keys.Uid value keyed = none 2 (omega arith) value keyed
-no_key text index all none keys.Gids value keyed = none 3 (omega arith) value keyed
+no_key text index all none keys.Path value keyed = none 0 (omega arith) value keyed
+no_key text index all none keys.Uid value keyed = none 1 (omega arith) value keyed
+no_key text index all none keys.Gids value keyed = none 2 (omega arith) value keyed
+no_key text index all none keys.FsName value keyed = none 3 (omega arith) value keyed
 no_key text index all none keys.RootSquash value keyed = none 4 (omega arith) value keyed
 
 pub wrong_value : (old : Draft) (key : Key) (text value : List ℕ) (r : Result (Bor (List ℕ)) SpecFaultKind) → IsKeyed key text value → has old key ≡ false → IfErr r (IsWrongValue key value) → IfErr r (IsWrongItem (has old) text)

@@ -15,3 +15,6 @@ pub mod Told
 pub mod Slashed
 pub mod Written
 pub mod Joining
+pub mod Below
+pub mod Measured
+pub mod Numbers

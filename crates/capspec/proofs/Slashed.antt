@@ -6,12 +6,12 @@ use Rattle.std.proofs.lemmas.Bool.{and_parts, eqb-true, ltb-true, lt-ltb, ne_eqb
 use Rattle.std.proofs.lemmas.List.Folds.{list_all-append}
 use Rattle.std.proofs.lemmas.List.Splits.{slice_split-cons_yes, slice_split-cons_no}
 use Rattle.capspec.specs.declared.bytes.ByteSet.{ByteSet}
-use Rattle.capspec.specs.declared.bytes.ByteSet.TheVariants.{BarePath, AllBut}
+use Rattle.capspec.specs.declared.bytes.ByteSet.TheVariants.{AllBut}
 use Rattle.capspec.specs.Bytes.{is_in, is_bare_path_byte, begins, SplitsWhile}
 use Rattle.capspec.specs.Items.{is_control, can_be_path, IsPlainOrQuoted, IsPath, IsValue}
 use Rattle.capspec.specs.Items.Item.{Path}
-use Rattle.capspec.specs.Names.{names_of, are_few_and_short}
-use Rattle.capspec.specs.Written.{slashed, can_be_bare, has_no_double_quote, written_path}
+use Rattle.capspec.specs.Names.{names_of, are_few_and_short, slashed}
+use Rattle.capspec.specs.Written.{can_be_bare, has_no_double_quote, written_path}
 use Rattle.capspec.proofs.Fronts.{which}
 use Rattle.capspec.proofs.Paths.{names_of-slashes, names_of-name}
 
@@ -69,11 +69,11 @@ filter_all : {X : Type 0} (test : X → Bool) (xs : List X) → list_all test (f
 filter_all test [] = refl
 filter_all test (x ∷ xs) = elim (which (test x)) [ inl e ↦ rw (e, e) (filter_all test xs) | inr e ↦ rw e (filter_all test xs) ]
 
-slash_next : (names : List (List ℕ)) → begins (is_in (AllBut 47)) (slashed names) ≡ false
+pub slash_next : (names : List (List ℕ)) → begins (is_in (AllBut 47)) (slashed names) ≡ false
 slash_next [] = refl
 slash_next (name ∷ names) = refl
 
-names_of_slashed : (names : List (List ℕ)) → list_all has_bytes names ≡ true → all_in (is_in (AllBut 47)) names ≡ true → names_of (slashed names) ≡ names
+pub names_of_slashed : (names : List (List ℕ)) → list_all has_bytes names ≡ true → all_in (is_in (AllBut 47)) names ≡ true → names_of (slashed names) ≡ names
 names_of_slashed [] some apart = refl
 names_of_slashed (name ∷ names) some apart =
     let here = and_parts (has_bytes name) (list_all has_bytes names) some in
@@ -86,7 +86,7 @@ pub same_names : (path : List ℕ) → names_of (slashed (names_of path)) ≡ na
 same_names path =
     names_of_slashed (names_of path) (filter_all has_bytes (slice_split is_slash path)) (all_filter (is_in (AllBut 47)) (slice_split is_slash path) ∙ no_slash path)
 
-none_of : (test : ℕ → Bool) (bytes : List ℕ) → list_any test bytes ≡ false → list_all (λ b. not (test b)) bytes ≡ true
+pub none_of : (test : ℕ → Bool) (bytes : List ℕ) → list_any test bytes ≡ false → list_all (λ b. not (test b)) bytes ≡ true
 none_of test [] none = refl
 none_of test (b ∷ bs) none =
     let both = or_parts (test b) (list_any test bs) none in
@@ -145,12 +145,6 @@ written_value value path name names is same = (
 )
 
 -- a split shows whether the whole text is in the set
-split_all : (set : ByteSet) (text front rest : List ℕ) → SplitsWhile set text front rest → list_all (is_in set) text ≡ eqb (length rest) 0
+pub split_all : (set : ByteSet) (text front rest : List ℕ) → SplitsWhile set text front rest → list_all (is_in set) text ≡ eqb (length rest) 0
 split_all set text front [] cut = ap (list_all (is_in set)) cut.parts ∙ list_all-append (is_in set) front [] ∙ rw cut.all_in refl
 split_all set text front (b ∷ bs) cut = ap (list_all (is_in set)) cut.parts ∙ list_all-append (is_in set) front (b ∷ bs) ∙ rw (cut.all_in, cut.longest) (sym (some_bytes (length bs)))
-
-pub bare_by_split : (path front rest : List ℕ) → SplitsWhile BarePath path front rest → eqb (length rest) 0 ≡ can_be_bare (slashed (names_of path))
-bare_by_split path front rest cut = sym (slashed_all is_bare_path_byte refl path ∙ split_all BarePath path front rest cut)
-
-pub no_double_by_split : (path front rest : List ℕ) → SplitsWhile (AllBut 34) path front rest → eqb (length rest) 0 ≡ has_no_double_quote (slashed (names_of path))
-no_double_by_split path front rest cut = sym (slashed_all (is_no_quote 34) refl path ∙ split_all (AllBut 34) path front rest cut)

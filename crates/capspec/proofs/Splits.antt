@@ -6,7 +6,7 @@ use Rattle.std.specs.List.{list_all}
 use Rattle.capspec.specs.declared.bytes.ByteSet.{ByteSet}
 use Rattle.capspec.specs.Bytes.{is_in, begins, SplitsWhile}
 
-begins-drop : (test : ℕ → Bool) (text : List ℕ) (at : ℕ) → at < length text → begins test (drop at text) ≡ test (get_or text at 0)
+pub begins-drop : (test : ℕ → Bool) (text : List ℕ) (at : ℕ) → at < length text → begins test (drop at text) ≡ test (get_or text at 0)
 begins-drop test text at within = rw (drop-cons text at 0) refl
 
 pub splits_here : (set : ByteSet) (text front rest : List ℕ) (at : ℕ) → at < length text → list_all (is_in set) (take at text) ≡ true → is_in set (get_or text at 0) ≡ false

@@ -1,26 +1,25 @@
 -- Values of items, taken from the front of a text, and why there is none.
-use Rattle.std.proofs.Common.{◌≡◌, ◌≢◌, ℕ, ◌<◌, ◌≤◌, ◌^◌, Bool, true, false, eqb, List, [], ◌∷◌, ◌++◌, length, Some, None, Result, Ok, Err, refl, sym, ap, subst, ◌∙◌, inl, inr, append_assoc, Bor, arith}
-use Rattle.std.specs.Prelude.{IfOk, IfErr, IfSome, codes, slice_get}
-use Rattle.std.specs.List.{list_all}
+use Rattle.std.proofs.Common.{◌≡◌, ◌≢◌, ℕ, ◌≤◌, Bool, true, false, not, ◌||◌, ◌&&◌, eqb, List, [], ◌∷◌, ◌++◌, length, Some, None, Result, Ok, Err, refl, sym, ap, subst, ◌∙◌, inl, inr, append_assoc, Bor, arith}
+use Rattle.std.specs.Prelude.{IfOk, IfErr, codes}
+use Rattle.std.specs.List.{list_all, list_any}
 use Rattle.std.specs.Str.{bytes_eq}
-use Rattle.std.specs.Str.Parse.{AllDigits, IsNumeral, digits_value}
 use Rattle.std.specs.Char.{digit_value}
-use Rattle.std.proofs.lemmas.Bool.{and_parts, true≢false, not-false, eqb-true}
+use Rattle.std.proofs.lemmas.Bool.{and_parts, or_from, true≢false, not-false, eqb-true}
 use Rattle.std.proofs.lemmas.Bool.Decides.{nat_tests}
-use Rattle.std.proofs.lemmas.List.{append-nil, nil_from_length}
+use Rattle.std.proofs.lemmas.List.{nil_from_length}
 use Rattle.std.proofs.lemmas.Slice.Eq.{bytes_eq-Decides}
 use Rattle.std.proofs.lemmas.Str.{digit_value_digit}
 use Rattle.capspec.specs.declared.bytes.ByteSet.TheVariants.{Plain, BarePath, AllBut}
 use Rattle.capspec.specs.declared.fault.SpecFaultKind.{SpecFaultKind}
 use Rattle.capspec.specs.declared.fault.SpecFaultKind.TheVariants as kinds
 use Rattle.capspec.specs.declared.items.Key.TheVariants as keys
-use Rattle.capspec.specs.Bytes.{is_in, begins, ends_word, is_bare_path_byte, SplitsWhile, TakesWord}
-use Rattle.capspec.specs.Items.{can_be_path, IsNumber, IsQuotedBy, IsPlainOrQuoted, IsPath}
+use Rattle.capspec.specs.Bytes.{is_in, is_white, is_mark, begins, ends_word, is_bare_path_byte, SplitsWhile, TakesWord}
+use Rattle.capspec.specs.Items.{is_control, can_be_path, IsNumber, IsQuotedBy, IsPlainOrQuoted, IsPath}
 use Rattle.capspec.specs.Items.Item.{FsName, Path, Uid, Gids, RootSquash}
-use Rattle.capspec.specs.Names.{IsFsName}
-use Rattle.capspec.specs.Words.{front_while, rest_while, plain_word, is_digit, is_quote, IsNoValue, IsWrongOther, IsWrongQuoted, IsWrongPath}
-use Rattle.capspec.proofs.Fronts.{which, split_front, split_rest, front_is, rest_is}
-use Rattle.capspec.proofs.Valued.{all_digits, quote_not_bare, path_in, path_in_is, quoted_path_in}
+use Rattle.capspec.specs.Names.{IsFsName, names_of, are_few_and_short}
+use Rattle.capspec.specs.Words.{front_while, rest_while, plain_word, behind_word, is_digit, is_quote, IsNoValue, IsWrongOther, IsWrongQuoted, IsWrongPath}
+use Rattle.capspec.proofs.Fronts.{which, split_front, split_rest, front_parts, rest_stops, within_front, within_rest}
+use Rattle.capspec.proofs.Valued.{bare_is_plain, digit_is_plain, numeral_digits, quote_not_bare, path_in, path_in_is, quoted_path_in}
 
 pub not_that : (word text other : List ℕ) (r : Bool) → r ≡ bytes_eq word other → other ≡ text → r ≡ false → word ≢ text
 not_that word text other r same is differs e = true≢false (sym ((bytes_eq-Decides word other).1 (e ∙ sym is)) ∙ sym same ∙ differs)
@@ -38,14 +37,24 @@ no_fs_name text word rest cut not_star none (Uid uid) keyed is = absurd (cc)
 no_fs_name text word rest cut not_star none (Gids gids) keyed is = absurd (cc)
 no_fs_name text word rest cut not_star none RootSquash keyed is = absurd (cc)
 
-pub no_uid : (text word rest : List ℕ) → SplitsWhile Plain text word rest → (IsNumeral 10 word × (digits_value 10 word < 2 ^ 32) → ⊥) → IsNoValue keys.Uid (plain_word text)
-no_uid text word rest cut none (Uid uid) keyed is =
-    let of_word : IsNumber word uid = subst (λ (w : List ℕ). IsNumber w uid) (that_word text word rest cut) is in
-    none (of_word.numeral, rw of_word.value of_word.small)
-no_uid text word rest cut none (FsName name) keyed is = absurd (cc)
-no_uid text word rest cut none (Path names) keyed is = absurd (cc)
-no_uid text word rest cut none (Gids gids) keyed is = absurd (cc)
-no_uid text word rest cut none RootSquash keyed is = absurd (cc)
+not_plain_ends : (rest : List ℕ) → begins (is_in Plain) rest ≡ false → ends_word rest ≡ true
+not_plain_ends [] stops = refl
+not_plain_ends (b ∷ bs) stops = not-false (is_white b || is_mark b) stops
+
+-- where the whole word is digits, they end where the word ends
+pub no_uid : (text : List ℕ) → ((n : ℕ) → IsNumber (front_while is_digit text) n → ends_word (rest_while is_digit text) ≡ true → ⊥) → IsNoValue keys.Uid (plain_word text)
+no_uid text none (Uid uid) keyed is =
+    let all : list_all is_digit (plain_word text) ≡ true = numeral_digits (plain_word text) uid is in
+    none uid (subst (λ (digits : List ℕ). IsNumber digits uid) (sym (within_front is_digit digit_is_plain text all)) is)
+    (ap ends_word (within_rest is_digit digit_is_plain text all) ∙ not_plain_ends (behind_word text) (rest_stops (is_in Plain) text))
+no_uid text none (FsName name) keyed is = absurd (cc)
+no_uid text none (Path names) keyed is = absurd (cc)
+no_uid text none (Gids gids) keyed is = absurd (cc)
+no_uid text none RootSquash keyed is = absurd (cc)
+
+pub takes_uid : (text rest : List ℕ) (uid : ℕ) → IsNumber (front_while is_digit text) uid → rest ≡ rest_while is_digit text → ends_word rest ≡ true → TakesWord (λ value. IsNumber value uid) text rest
+takes_uid text rest uid is rest-is ends =
+    (record { front = front_while is_digit text; parts = front_parts is_digit text ∙ ap (λ (t : List ℕ). front_while is_digit text ++ t) (sym rest-is); holds = is }, ends)
 
 pub other_wrong : (text word rest : List ℕ) → SplitsWhile Plain text word rest → word ≢ codes "network" → IsWrongOther (plain_word text) kinds.BadItem
 other_wrong text word rest cut differs = inr ((λ e. differs (sym (that_word text word rest cut) ∙ e)), refl)
@@ -55,9 +64,22 @@ left_out_wrong text word rest cut is = inl (that_word text word rest cut ∙ is,
 
 -- ---- paths without quotes
 
-all_bare : (word front other : List ℕ) → SplitsWhile BarePath word front other → list_all is_bare_path_byte word ≡ true → other ≡ []
-all_bare word front other cut all =
-    sym (split_rest BarePath word front other cut) ∙ ap (rest_while (is_in BarePath)) (sym (append-nil word)) ∙ rest_is (is_in BarePath) word [] all refl
+-- a byte of a path without quotes is no control byte
+bare_no_control : (b : ℕ) → is_bare_path_byte b ≡ true → is_control b ≡ false
+bare_no_control b bare = grind (arith, nat_tests)
+
+all_no_control : (bs : List ℕ) → list_all is_bare_path_byte bs ≡ true → list_any is_control bs ≡ false
+all_no_control [] all = refl
+all_no_control (b ∷ bs) all =
+    let both = and_parts (is_bare_path_byte b) (list_all is_bare_path_byte bs) all in
+    or_from (is_control b) (list_any is_control bs) (bare_no_control b both.0) (all_no_control bs both.1)
+
+bare_fit : (path : List ℕ) → list_all is_bare_path_byte path ≡ true → eqb (length path) 0 ≡ false → are_few_and_short (names_of path) ≡ true → can_be_path path ≡ true
+bare_fit path all some few = rw (some, all_no_control path all, few) refl
+
+pub takes_bare : (text path rest : List ℕ) → SplitsWhile BarePath text path rest → eqb (length path) 0 ≡ false → ends_word rest ≡ true → are_few_and_short (names_of path) ≡ true → TakesWord (λ value. IsPath value path) text rest
+takes_bare text path rest cut some ends few =
+    (record { front = path; parts = cut.parts; holds = record { written = inl (record { same = refl; all_in = cut.all_in }); fit = bare_fit path cut.all_in some few } }, ends)
 
 quoted_begins : (q : ℕ) (value path : List ℕ) → is_quote q ≡ true → IsQuotedBy q value path → begins is_quote value ≡ true
 quoted_begins q value path quote is = ap (begins is_quote) is.parts ∙ quote
@@ -84,16 +106,20 @@ bare_wrong : (text : List ℕ) → begins is_quote text ≡ false → IsNoValue 
 bare_wrong [] unquoted none = refl
 bare_wrong (b ∷ bs) unquoted none = rw unquoted (none, refl)
 
-unbare : (text word rest : List ℕ) → SplitsWhile Plain text word rest → begins is_quote text ≡ false → (list_all is_bare_path_byte word ≡ true → can_be_path word ≡ true → ⊥) → IsWrongPath text kinds.BadPath
-unbare text word rest cut unquoted none =
-    bare_wrong text unquoted (subst (IsNoValue keys.Path) (sym (that_word text word rest cut)) (no_path_item word (λ path. no_bare_path word path (front_begins text word rest cut.parts unquoted) none)))
+-- where the whole word is a path without quotes, the bytes of such a path end where the word ends
+pub unbare : (text path rest : List ℕ) → SplitsWhile BarePath text path rest → begins is_quote text ≡ false → (ends_word rest ≡ true → can_be_path path ≡ true → ⊥) → IsWrongPath text kinds.BadPath
+unbare text path rest cut unquoted none =
+    bare_wrong text unquoted (no_path_item (plain_word text) (λ other. no_bare_path (plain_word text) other (front_begins text (plain_word text) (behind_word text) (front_parts (is_in Plain) text) unquoted)
+    (λ all fit.
+    let front : path ≡ plain_word text = sym (split_front BarePath text path rest cut) ∙ within_front is_bare_path_byte bare_is_plain text all in
+    let behind : rest ≡ behind_word text = sym (split_rest BarePath text path rest cut) ∙ within_rest is_bare_path_byte bare_is_plain text all in
+    none (ap ends_word behind ∙ not_plain_ends (behind_word text) (rest_stops (is_in Plain) text)) (ap can_be_path front ∙ fit))))
 
-pub other_bytes_wrong : (text word rest front other : List ℕ) → SplitsWhile Plain text word rest → begins is_quote text ≡ false → SplitsWhile BarePath word front other → eqb (length other) 0 ≡ false → IsWrongPath text kinds.BadPath
-other_bytes_wrong text word rest front other cut unquoted cut_bare some =
-    unbare text word rest cut unquoted (λ all fit. true≢false (sym (ap (λ (t : List ℕ). eqb (length t) 0) (all_bare word front other cut_bare all)) ∙ some))
+pub empty_unfit : (path : List ℕ) → eqb (length path) 0 ≡ true → can_be_path path ≡ true → ⊥
+empty_unfit path none fit = true≢false (sym fit ∙ rw none refl)
 
-pub unfit_bare_wrong : (text word rest : List ℕ) → SplitsWhile Plain text word rest → begins is_quote text ≡ false → can_be_path word ≡ false → IsWrongPath text kinds.BadPath
-unfit_bare_wrong text word rest cut unquoted unfit = unbare text word rest cut unquoted (λ all fit. true≢false (sym fit ∙ unfit))
+pub names_unfit : (path : List ℕ) → are_few_and_short (names_of path) ≡ false → can_be_path path ≡ true → ⊥
+names_unfit path unfit fit = true≢false (sym (and_parts (not (eqb (length path) 0) && not (list_any is_control path)) (are_few_and_short (names_of path)) fit).1 ∙ unfit)
 
 -- ---- paths in quotes
 
@@ -154,18 +180,8 @@ unfit_quoted_wrong quote inside path closing rest b is_one cut closing-is ends u
 
 -- ---- digits
 
-no_digit : (b : ℕ) → 10 ≤ digit_value b → is_digit b ≡ false
+pub no_digit : (b : ℕ) → 10 ≤ digit_value b → is_digit b ≡ false
 no_digit b large = elim (which (is_digit b)) [
   | inl e ↦ let within : (48 ≤ b) × (b ≤ 57) = grind (arith, nat_tests) in absurd (omega (arith, digit_value_digit b within, within))
   | inr e ↦ e
 ]
-
-ends_digits : (rest : List ℕ) → IfSome (slice_get rest 0) (λ byte. 10 ≤ digit_value byte) → begins is_digit rest ≡ false
-ends_digits [] longest = refl
-ends_digits (b ∷ bs) longest = no_digit b longest
-
-pub digits_front : (text digits rest : List ℕ) → text ≡ digits ++ rest → AllDigits 10 digits → IfSome (slice_get rest 0) (λ byte. 10 ≤ digit_value byte) → front_while is_digit text ≡ digits
-digits_front text digits rest parts all longest = ap (front_while is_digit) parts ∙ front_is is_digit digits rest (all_digits digits all) (ends_digits rest longest)
-
-pub digits_rest : (text digits rest : List ℕ) → text ≡ digits ++ rest → AllDigits 10 digits → IfSome (slice_get rest 0) (λ byte. 10 ≤ digit_value byte) → rest_while is_digit text ≡ rest
-digits_rest text digits rest parts all longest = ap (rest_while is_digit) parts ∙ rest_is is_digit digits rest (all_digits digits all) (ends_digits rest longest)

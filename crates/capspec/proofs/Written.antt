@@ -14,9 +14,9 @@ use Rattle.capspec.specs.Flags.{IsFlags}
 use Rattle.capspec.specs.Grants.{fsname_in, path_in, uid_in, gids_in, root_squash_in, IsSaidOnce, AreItemsOf, AreWordsOf, IsGrant, Reads, AreNoneOrRead}
 use Rattle.capspec.specs.Items.{Item, is_comma, IsNumber, IsItem}
 use Rattle.capspec.specs.Items.Item.{FsName, Path, Uid, Gids, RootSquash}
-use Rattle.capspec.specs.Names.{IsFsName}
+use Rattle.capspec.specs.Names.{IsFsName, slashed}
 use Rattle.capspec.specs.Separated.{AreSeparated}
-use Rattle.capspec.specs.Written.{flags_text, slashed, written_path, fsname_text, path_text, uid_text, gids_text, root_squash_text, grant_text, written}
+use Rattle.capspec.specs.Written.{flags_text, written_path, fsname_text, path_text, uid_text, gids_text, root_squash_text, grant_text, written}
 use Rattle.capspec.proofs.OneReading.{reads_once}
 use Rattle.capspec.proofs.Slashed.{written_value}
 

@@ -1,11 +1,12 @@
 -- The one text that grants are written as.
 use Rattle.std.specs.Prelude.{ℕ, Bool, true, false, Option, Some, None, not, ◌==◌, List, [], ◌∷◌, ◌++◌, codes, if◌then◌else◌}
 use Rattle.std.specs.Fmt.{decimal}
-use Rattle.std.specs.List.{list_all, flat_map, join_by}
+use Rattle.std.specs.List.{list_all, join_by}
 use Rattle.capspec.specs.declared.flags.Flags4.{Flags4}
 use Rattle.capspec.specs.declared.flags.Flags4.TheVariants.{R, Rw, Rwp, Rws, Rwps}
 use Rattle.capspec.specs.declared.grant.Grant.{Grant}
 use Rattle.capspec.specs.Bytes.{is_bare_path_byte}
+use Rattle.capspec.specs.Names.{slashed}
 
 -- the letters of the flags
 abbrev pub flags_text : Flags4 → List ℕ
@@ -14,10 +15,6 @@ flags_text Rw = codes "rw"
 flags_text Rwp = codes "rwp"
 flags_text Rws = codes "rws"
 flags_text Rwps = codes "rwps"
-
--- `/` before each name
-abbrev pub slashed : List (List ℕ) → List ℕ
-slashed names = flat_map (λ name. codes "/" ++ name) names
 
 -- whether each byte may stand in a path without quotes
 abbrev pub can_be_bare : List ℕ → Bool

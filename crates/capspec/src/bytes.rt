@@ -1,7 +1,7 @@
 //! Sets of bytes, and the longest front of a text that one of them allows.
 
 ghost use Rattle.std.specs.Prelude.{◌≡◌, ◌≢◌, ◌++◌, ℕ, List, MatchOption};
-ghost use Rattle.capspec.specs.Bytes.{ends_word, ends_grant, SplitsWhile};
+ghost use Rattle.capspec.specs.Bytes.{is_bare_path_byte, ends_word, ends_grant, SplitsWhile};
 
 /// A set of bytes that words of a grant text are made of.
 #[derive(Clone, Copy, Debug, PartialEq, Eq)]
@@ -29,16 +29,25 @@ impl ByteSet {
     {
         let is_white = matches!(byte, b' ' | b'\t' | b'\n');
         let is_mark = matches!(byte, b',' | b';');
-        let is_fs_name_byte =
-            matches!(byte, b'A'..=b'Z' | b'a'..=b'z' | b'0'..=b'9' | b'_' | b'.' | b'-');
         match self {
             ByteSet::White => is_white,
-            ByteSet::FsName => is_fs_name_byte,
-            ByteSet::BarePath => is_fs_name_byte || byte == b'/',
+            ByteSet::FsName => byte != b'/' && is_bare_path_byte(byte),
+            ByteSet::BarePath => is_bare_path_byte(byte),
             ByteSet::Plain => !(is_white || is_mark),
             ByteSet::Only(one) => byte == one,
             ByteSet::AllBut(one) => byte != one,
         }
+    }
+}
+
+// A letter, a digit, `-`, `.`, `/` or `_`. Each byte from `-` to `9` is one; splitting at `A` leaves few tests for each.
+fn is_bare_path_byte(byte: u8) -> bool
+    ensures { result ≡ is_bare_path_byte byte }
+{
+    if byte < b'A' {
+        matches!(byte, b'-'..=b'9')
+    } else {
+        byte.is_ascii_alphabetic() || byte == b'_'
     }
 }
 

@@ -5,7 +5,7 @@ use crate::fsname::FsName;
 use crate::gids::Gids;
 use crate::grant::Grant;
 use crate::items::Key;
-use crate::path::GrantPath;
+use crate::tree_path::TreePath;
 use std::alloc::{AllocError, Global};
 
 /// What the items of one grant have said so far. It takes no memory: its path is still a part of the text.
@@ -54,7 +54,7 @@ impl<'a> Draft<'a> {
     pub fn into_grant(self, alloc: Global) -> Result<Grant, AllocError>
         ensures { IfOk result (λ grant. grant ≡ grant_of self.entry) }
     {
-        let path = GrantPath::from_text(alloc, self.path.unwrap_or(&[]))?;
+        let path = TreePath::from_text(alloc, self.path.unwrap_or(&[]))?;
         Ok(Grant {
             flags: self.flags,
             fsname: self.fsname.flatten(),

@@ -4,7 +4,7 @@ use crate::fault::{NoMemory, SpecFault, SpecFaultKind};
 use crate::flags::Flags4;
 use crate::fsname::FsName;
 use crate::gids::Gids;
-use crate::path::GrantPath;
+use crate::tree_path::TreePath;
 use std::alloc::{AllocError, Global};
 use std::marker::Model;
 
@@ -19,7 +19,7 @@ pub struct Grant {
     /// The file system that the grant is for; none is every file system.
     pub fsname: Option<FsName>,
     /// The directory that the grant is for, with all below it.
-    pub path: GrantPath,
+    pub path: TreePath,
     /// The one uid that the grant is for, whose owner, group and mode bits then decide too; none is every caller.
     pub uid: Option<u32>,
     /// The groups that count for the grant; none where it lists none.

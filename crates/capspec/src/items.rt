@@ -22,7 +22,8 @@ pub(crate) enum Key {
 }
 
 impl Key {
-    const ALL: [Key; 5] = [Key::FsName, Key::Path, Key::Uid, Key::Gids, Key::RootSquash];
+    // In the order in which a text is tried for them.
+    const ALL: [Key; 5] = [Key::Path, Key::Uid, Key::Gids, Key::FsName, Key::RootSquash];
 
     // How the word of an item begins that has this key; that of `root_squash` is the whole word.
     fn text(self) -> &'static [u8]

@@ -12,8 +12,10 @@ mod gids;
 mod grant;
 mod items;
 mod laws;
+mod measure;
 mod path;
 mod reading;
+mod tree_path;
 mod values;
 mod writing;
 
@@ -26,8 +28,8 @@ pub use laws::{
     fault_where_nothing_reads, no_fault_where_it_reads, one_fault, one_list_of_grants,
     the_written_form_reads,
 };
-pub use path::GrantPath;
 pub use reading::read_grants;
+pub use tree_path::TreePath;
 pub use writing::write_grants;
 
 #[cfg(test)]

@@ -1,13 +1,13 @@
-//! The path of a grant.
+//! The texts of paths.
 
-ghost use Rattle.std.specs.Prelude.{◌≡◌, [], ◌∷◌, ◌++◌, MatchOption, OnOk};
-ghost use Rattle.capspec.specs.Names.{names_of, are_few_and_short};
-ghost use Rattle.capspec.specs.Written.{slashed, can_be_bare, has_no_double_quote, written_path};
+ghost use Rattle.std.specs.Prelude.{◌≡◌, [], ◌∷◌, ◌++◌, MatchOption, OnOk, IsTrue, not, ◌==◌, drop};
+ghost use Rattle.capspec.specs.Bytes.{begins};
+ghost use Rattle.capspec.specs.Names.{names_of, slashed, has_double_slash, are_few_and_short};
+ghost use Rattle.capspec.specs.Written.{can_be_bare, has_no_double_quote, written_path, path_text};
 
 use crate::bytes::{ByteSet, split_while};
 use crate::fault::NoMemory;
-use std::alloc::{AllocError, Global};
-use std::marker::Model;
+use crate::tree_path::TreePath;
 
 /// How many names the path of a grant may have.
 pub const MAX_NAMES: usize = 32;
@@ -15,83 +15,60 @@ pub const MAX_NAMES: usize = 32;
 /// How many bytes a name may have.
 pub const MAX_NAME: usize = 255;
 
-/// The directory that a grant is for, as its list of names: at most 32 of at most 255 bytes. No name is no restriction.
-///
-/// It keeps the text that stood in the grant. Slashes only separate: leading, trailing and doubled ones mean nothing.
-#[derive(Debug, Drop)]
-pub struct GrantPath {
-    text: Vec<u8>,
+/// Whether a text is its names with a slash before each.
+#[tactic(auto, using(crate::proofs::Below::is_as_it_stands))]
+pub(crate) fn is_slashed(text: &[u8]) -> bool
+    ensures { IsTrue result → text.now ≡ slashed (names_of text.now) }
+{
+    if text.is_empty() {
+        return true;
+    }
+    text[0] == b'/' && text[text.len() - 1] != b'/' && !has_double_slash(text)
 }
 
-impl Model for GrantPath {
-    ghost use Rattle.std.specs.Prelude.{ℕ, List};
-    ghost use Rattle.capspec.specs.Names.{names_of};
-
-    ghost Value = { List (List ℕ) };
-
-    ghost view = { λ path. names_of path.text.items };
+// Whether two slashes stand side by side.
+fn has_double_slash(text: &[u8]) -> bool
+    ensures { result ≡ has_double_slash text.now }
+{
+    let mut is_found = false;
+    for place in 1..text.len() {
+        let (before, here) = (text[place - 1] == b'/', text[place] == b'/');
+        // Both are looked at, and the loop goes on: so the compiler takes many bytes at a time.
+        is_found |= before & here;
+    }
+    is_found
 }
 
-impl GrantPath {
-    ghost use Rattle.std.specs.Prelude.{◌≡◌, ◌++◌, IfOk, OnOk, map};
-    ghost use Rattle.std.specs.List.{starts_with};
-    ghost use Rattle.std.specs.Str.{bytes_eq};
-    ghost use Rattle.capspec.specs.Names.{names_of};
-    ghost use Rattle.capspec.specs.Written.{path_text};
-
-    // The path that the text of a grant names.
-    pub(crate) fn from_text(alloc: Global, text: &[u8]) -> Result<GrantPath, AllocError>
-        ensures { IfOk result (λ path. path ≡ names_of text.now) }
-    {
-        Ok(GrantPath {
-            text: Vec::from_slice(alloc, text)?,
-        })
-    }
-
-    /// Whether the path with these names is this one or lies below it.
-    pub fn is_prefix_of(&self, names: &[&[u8]]) -> bool
-        ensures { result ≡ starts_with bytes_eq (map (λ name. name.now) names.now) self.now }
-    {
-        let mut text = self.text.as_slice();
-        for name in names {
-            let Some((own, rest)) = split_name(text) else {
-                return true;
-            };
-            if own != *name {
-                return false;
-            }
-            text = rest;
-        }
-        split_name(text).is_none()
-    }
-
-    // The same path, in memory of its own.
-    pub(crate) fn copy(&self) -> Result<GrantPath, NoMemory>
-        ensures { IfOk result (λ copy. copy ≡ self.now) }
-    {
-        Ok(GrantPath {
-            text: self.text.clone()?,
-        })
-    }
-
-    // Appends the item that says the path, behind a space; nothing if the path restricts nothing.
-    pub(crate) fn write(&self, text: &mut Vec<u8>) -> Result<(), NoMemory>
-        ensures { OnOk result (text.new.items ≡ text.old.items ++ path_text self.now) }
-    {
-        if split_name(&self.text).is_none() {
-            return Ok(());
-        }
-        text.extend_from_slice(b" path=")?;
-        write_value(text, &self.text)
+/// Whether a name can end before this place of a path's text.
+pub(crate) fn ends_name(text: &[u8], place: usize) -> bool
+    ensures { result ≡ not (begins (λ b. not (b == 47)) (drop place text.now)) }
+{
+    match text.get(place) {
+        Some(byte) => *byte == b'/',
+        None => true,
     }
 }
 
-// Appends the names of a path's text, in quotes where they need them.
+/// Appends the item that says a path, behind a space; nothing if the path restricts nothing.
+#[tactic(auto, using(crate::proofs::Below::item_of))]
+pub(crate) fn write_path(text: &mut Vec<u8>, path: &TreePath) -> Result<(), NoMemory>
+    ensures { OnOk result (text.new.items ≡ text.old.items ++ path_text path.now) }
+{
+    let path = path.as_bytes();
+    if path.is_empty() {
+        return Ok(());
+    }
+    text.extend_from_slice(b" path=")?;
+    write_value(text, path)
+}
+
+// Appends a path's text, in quotes where it needs them.
 fn write_value(text: &mut Vec<u8>, path: &[u8]) -> Result<(), NoMemory>
-    ensures { OnOk result (text.new.items ≡ text.old.items ++ written_path (slashed (names_of path.now))) }
+    ensures { OnOk result (text.new.items ≡ text.old.items ++ written_path path.now) }
 {
     if can_be_bare(path) {
-        return write_names(text, path);
+        text.extend_from_slice(path)?;
+        return Ok(());
     }
     let quote = if has_no_double_quote(path) {
         b'"'
@@ -99,13 +76,29 @@ fn write_value(text: &mut Vec<u8>, path: &[u8]) -> Result<(), NoMemory>
         b'\''
     };
     text.push(quote)?;
-    write_names(text, path)?;
+    text.extend_from_slice(path)?;
     text.push(quote)?;
     Ok(())
 }
 
-// Appends the names of a path's text, with a slash before each.
-fn write_names(text: &mut Vec<u8>, path: &[u8]) -> Result<(), NoMemory>
+// Whether a path's text can stand without quotes.
+fn can_be_bare(path: &[u8]) -> bool
+    ensures { result ≡ can_be_bare path.now }
+{
+    let (_, other) = split_while(ByteSet::BarePath, path);
+    other.is_empty()
+}
+
+// Whether a path's text has no `"`.
+fn has_no_double_quote(path: &[u8]) -> bool
+    ensures { result ≡ has_no_double_quote path.now }
+{
+    let (_, other) = split_while(ByteSet::AllBut(b'"'), path);
+    other.is_empty()
+}
+
+/// Appends the names of a path's text, with a slash before each.
+pub(crate) fn write_names(text: &mut Vec<u8>, path: &[u8]) -> Result<(), NoMemory>
     ensures { OnOk result (text.new.items ≡ text.old.items ++ slashed (names_of path.now)) }
 {
     let mut rest = path;
@@ -115,22 +108,6 @@ fn write_names(text: &mut Vec<u8>, path: &[u8]) -> Result<(), NoMemory>
         rest = after;
     }
     Ok(())
-}
-
-// Whether the names of a path's text can stand without quotes.
-fn can_be_bare(path: &[u8]) -> bool
-    ensures { result ≡ can_be_bare (slashed (names_of path.now)) }
-{
-    let (_, other) = split_while(ByteSet::BarePath, path);
-    other.is_empty()
-}
-
-// Whether the names of a path's text have no `"`.
-fn has_no_double_quote(path: &[u8]) -> bool
-    ensures { result ≡ has_no_double_quote (slashed (names_of path.now)) }
-{
-    let (_, other) = split_while(ByteSet::AllBut(b'"'), path);
-    other.is_empty()
 }
 
 // The first name of a path's text, and the text behind it.

@@ -1,7 +1,7 @@
 //! Worked texts with their grants, with their first faults, and as they are written.
 
 use crate::{
-    Flags4, FsName, Grants, NoMemory, SpecFault, SpecFaultKind, read_grants, write_grants,
+    Flags4, FsName, Grants, NoMemory, SpecFault, SpecFaultKind, TreePath, read_grants, write_grants,
 };
 use std::alloc::Global;
 use std::process::Abort;
@@ -120,13 +120,23 @@ fn a_name_has_at_most_255_bytes(rt: HostRuntime) -> Result<(), Fail> {
     Ok(())
 }
 
-fn has_path(rt: &impl Abort, grants: &Grants, place: usize, names: &[&[u8]], other: &[&[u8]]) {
+// Sees that a path lies at or below that of a grant, and that another does not.
+fn has_path(
+    rt: &(impl Abort + AllocGlobal),
+    grants: &Grants,
+    place: usize,
+    path: &[u8],
+    other: &[u8],
+) -> Result<(), Fail> {
     let grant = grants.get(place).expect(rt, "a grant");
-    assert!(rt; grant.path.is_prefix_of(names), "the path of grant {place}");
+    let path = TreePath::from_text(rt.alloc(), path)?;
+    let other = TreePath::from_text(rt.alloc(), other)?;
+    assert!(rt; grant.path.is_prefix_of(&path), "the path of grant {place}");
     assert!(rt;
-        !grant.path.is_prefix_of(other),
+        !grant.path.is_prefix_of(&other),
         "no other path of grant {place}"
     );
+    Ok(())
 }
 
 #[test]
@@ -136,9 +146,16 @@ fn grants_have_their_fields(rt: HostRuntime) -> Result<(), Fail> {
     let grants = read_grants(rt.alloc(), text)?;
     assert_eq!(rt; grants.len(), 3);
     assert!(rt; grants.get(3).is_none());
-    has_path(&rt, &grants, 0, &[b"a", b"b", b"c"], &[b"a"]);
-    has_path(&rt, &grants, 1, &[b"a b,c"], &[b"a b"]);
-    assert!(rt; grants.get(2).expect(&rt, "a grant").path.is_prefix_of(&[]));
+    has_path(&rt, &grants, 0, b"/a/b/c", b"/a")?;
+    has_path(&rt, &grants, 1, b"a b,c", b"/a b")?;
+    let root = TreePath::of(rt.alloc(), &[])?;
+    assert!(rt;
+        grants
+            .get(2)
+            .expect(&rt, "a grant")
+            .path
+            .is_prefix_of(&root)
+    );
     let first = grants.get(0).expect(&rt, "a grant");
     assert_eq!(rt; first.flags, Flags4::Rw);
     assert_eq!(rt; first.fsname, FsName::read(b"cephfs"));
@@ -156,9 +173,29 @@ fn grants_have_their_fields(rt: HostRuntime) -> Result<(), Fail> {
 #[test]
 fn a_prefix_is_one_of_names(rt: HostRuntime) -> Result<(), Fail> {
     let grants = read_grants(rt.alloc(), b"allow rw path=/foo")?;
-    has_path(&rt, &grants, 0, &[b"foo"], &[b"food"]);
-    has_path(&rt, &grants, 0, &[b"foo", b"d"], &[b"d", b"foo"]);
-    has_path(&rt, &grants, 0, &[b"foo"], &[]);
+    has_path(&rt, &grants, 0, b"/foo", b"/food")?;
+    has_path(&rt, &grants, 0, b"/foo/d", b"/d/foo")?;
+    has_path(&rt, &grants, 0, b"/foo", b"/")?;
+    Ok(())
+}
+
+#[test]
+fn a_path_is_one_text(rt: HostRuntime) -> Result<(), Fail> {
+    let cases = [
+        ("", ""),
+        ("/", ""),
+        ("a", "/a"),
+        ("/a/b", "/a/b"),
+        ("/a/b/", "/a/b"),
+        ("/a//b", "/a/b"),
+        ("//a", "/a"),
+    ];
+    for (text, wanted) in cases {
+        let path = TreePath::from_text(rt.alloc(), text.as_bytes())?;
+        assert_eq!(rt; path.as_bytes(), wanted.as_bytes(), "{text}");
+    }
+    let path = TreePath::of(rt.alloc(), &[b"a".as_slice(), b"b c"])?;
+    assert_eq!(rt; path.as_bytes(), b"/a/b c".as_slice());
     Ok(())
 }
 
@@ -303,9 +340,9 @@ fn a_copy_equals_its_source(rt: HostRuntime) -> Result<(), Fail> {
     }
     // The copy needs nothing of its source.
     drop(source);
-    has_path(&rt, &copy, 0, &[b"a \"", b"b", b"c"], &[b"a \""]);
+    has_path(&rt, &copy, 0, b"/a \"/b/c", b"/a \"")?;
     let second = copy.get(1).expect(&rt, "a grant");
-    assert!(rt; second.path.is_prefix_of(&[]));
+    assert!(rt; second.path.is_prefix_of(&TreePath::of(rt.alloc(), &[])?));
     let written = write_grants(rt.alloc(), &copy)?;
     assert_eq!(rt;
         written.as_slice(),

@@ -12,8 +12,7 @@ use crate::bytes::{ByteSet, ends_word, split_while};
 use crate::fault::SpecFaultKind;
 use crate::fsname::FsName;
 use crate::gids::Gids;
-use crate::path::has_few_short_names;
-use capbits::{read_u32, split_digits};
+use crate::measure::has_fit_names;
 
 /// The name of a file system, or none for `*`, which stands for every one.
 pub(crate) fn read_fsname(text: &[u8]) -> Result<(Option<FsName>, &[u8]), SpecFaultKind>
@@ -52,9 +51,9 @@ fn read_bare(text: &[u8]) -> Result<(&[u8], &[u8]), SpecFaultKind>
     ensures ok { IfOk result (λ found. TakesWord (λ value. IsPath value found.0.now) text.now found.1.now) }
     ensures err { IfErr result (IsWrongPath text.now) }
 {
-    let (path, rest) = split_while(ByteSet::Plain, text);
-    let (_, other) = split_while(ByteSet::BarePath, path);
-    if !other.is_empty() || !can_be_path(path) {
+    let (path, rest) = split_while(ByteSet::BarePath, text);
+    // None of its bytes is a control byte.
+    if path.is_empty() || !ends_word(rest) || !has_fit_names(path) {
         return Err(SpecFaultKind::BadPath);
     }
     Ok((path, rest))
@@ -83,7 +82,7 @@ fn read_quoted(quote: u8, inside: &[u8]) -> Result<(&[u8], &[u8]), SpecFaultKind
 fn can_be_path(path: &[u8]) -> bool
     ensures { result ≡ can_be_path path.now }
 {
-    !path.is_empty() && !has_control(path) && has_few_short_names(path)
+    !path.is_empty() && !has_control(path) && has_fit_names(path)
 }
 
 fn has_control(path: &[u8]) -> bool
@@ -97,10 +96,9 @@ pub(crate) fn read_uid(text: &[u8]) -> Result<(u32, &[u8]), SpecFaultKind>
     ensures ok { IfOk result (λ found. TakesWord (λ value. IsNumber value found.0) text.now found.1.now) }
     ensures err { IfErr result (IsWrongValue UidKey text.now) }
 {
-    let (word, rest) = split_while(ByteSet::Plain, text);
-    match read_u32(word) {
-        Some(uid) => Ok((uid, rest)),
-        None => Err(SpecFaultKind::BadNumber),
+    match read_number(text) {
+        Some((uid, rest)) if ends_word(rest) => Ok((uid, rest)),
+        _ => Err(SpecFaultKind::BadNumber),
     }
 }
 
@@ -110,11 +108,20 @@ fn read_number(text: &[u8]) -> Option<(u32, &[u8])>
     ensures number { IfSome result (λ found. IsNumber (front_while is_digit text.now) found.0) }
     ensures rest { IfSome result (λ found. found.1.now ≡ rest_while is_digit text.now) }
 {
-    let (digits, rest) = split_digits(text);
-    match read_u32(digits) {
-        Some(number) => Some((number, rest)),
-        None => None,
+    let mut number: u32 = 0;
+    let mut end = 0;
+    for byte in text {
+        let Some(digit) = char::from(*byte).to_digit(10) else {
+            break;
+        };
+        number = u32::try_from(10 * u64::from(number) + u64::from(digit)).ok()?;
+        end += 1;
     }
+    if end == 0 {
+        return None;
+    }
+    let (_, rest) = text.split_at(end);
+    Some((number, rest))
 }
 
 /// The numbers of a gids item. A comma belongs to it where a digit follows, and ends it elsewhere.

@@ -10,6 +10,7 @@ ghost use Rattle.capspec.specs.declared.grant.Grant.{Grant};
 use crate::fault::NoMemory;
 use crate::fsname::FsName;
 use crate::grant::{Grant, Grants};
+use crate::path::write_path;
 use std::alloc::Global;
 use std::io::Write;
 
@@ -42,7 +43,7 @@ fn write_grant(text: &mut Vec<u8>, grant: &Grant) -> Result<(), NoMemory>
     text.extend_from_slice(b"allow ")?;
     text.extend_from_slice(grant.flags.text())?;
     write_fsname(text, &grant.fsname)?;
-    grant.path.write(text)?;
+    write_path(text, &grant.path)?;
     write_uid(text, grant.uid)?;
     write_gids(text, grant.gids.as_slice())?;
     write_root_squash(text, grant.root_squash)

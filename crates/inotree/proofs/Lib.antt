@@ -8,6 +8,7 @@ pub mod Inner
 pub mod Leading
 pub mod Maps
 pub mod Named
+pub mod Naming
 pub mod Order
 pub mod Passing
 pub mod Reaching

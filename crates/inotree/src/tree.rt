@@ -1,8 +1,9 @@
 //! The tree of inodes.
-ghost use Rattle.std.specs.Prelude.{◌≡◌, ◌+◌, ◌≤◌, IfOk, IfErr, IfSome, OnOk, OnErr, unwrap_or, map as each};
+ghost use Rattle.std.specs.Prelude.{◌≡◌, ◌+◌, ◌≤◌, IfOk, IfErr, IfSome, OnOk, OnErr, All, IsTrue, unwrap_or, map as each};
 ghost use Rattle.std.specs.Option.{option_copied, option_map};
 ghost use Rattle.std.specs.Result.{result_err};
 ghost use Rattle.std.specs.FinMap as map;
+ghost use Rattle.capspec.specs.Names.{is_name};
 ghost use Rattle.inotree.specs.Inodes.{with_setting, with_attribute, without_attribute, with_snapshot, without_snapshot};
 ghost use Rattle.inotree.specs.Tree.{IsTree, place, parent, child, follow, path_of, depth, reaches};
 ghost use Rattle.inotree.specs.Calls.{first_tree, inode_fault, directory_fault, name_fault, create_fault, unlink_fault, rmdir_fault, rename_fault, set_fault, set_xattr_fault, remove_xattr_fault, snap_add_fault, snap_remove_fault, with_new, changed, unlinked, moved, forgotten};
@@ -147,6 +148,8 @@ impl Tree {
         ensures path { result ≡ path_of self.now.nodes ino.0 }
         // They lead back to the inode.
         ensures leads { IfSome result (λ names. follow self.now.nodes (Some 1) names ≡ Some ino.0) }
+        // Each has a byte and no slash.
+        ensures names { IfSome result (λ names. All (λ name. IsTrue (is_name name)) names) }
     {
         match self.place(ino) {
             Place::NoIno | Place::Gone => None,

@@ -1,6 +1,7 @@
-use Rattle.std.proofs.Common.{◌∙◌}
-use Rattle.capspec.proofs.Slashed.{bare_by_split}
+use Rattle.std.proofs.Common.{◌∙◌, sym}
+use Rattle.capspec.specs.declared.bytes.ByteSet.TheVariants.{BarePath}
+use Rattle.capspec.proofs.Slashed.{split_all}
 use Rattle.capspec.proofs.path.can_be_bare.Goals as goal
 
 pub returns : goal.returns
-returns c = c.is_empty.ensures ∙ bare_by_split c.args.path.now _ c.split_while.result.1.now c.split_while.ensures
+returns c = c.is_empty.ensures ∙ sym (split_all BarePath c.args.path.now _ c.split_while.result.1.now c.split_while.ensures)
