@@ -6,13 +6,6 @@ use Rattle.std.proofs.lemmas.Str.Parse.{digits_value-take-le}
 use Rattle.std.specs.Char.{digit_value}
 use Rattle.std.specs.Str.Parse.{AllDigits, digits_value}
 
--- a front of digits alone
-pub front_digits : (radix : ℕ) (bs : List ℕ) (n : ℕ) → n ≤ length bs → ((k : ℕ) → k < n → digit_value (get_or bs k 0) < radix) → AllDigits radix (take n bs)
-front_digits radix [] zero le below = tt
-front_digits radix [] (suc n) le below = absurd (omega arith)
-front_digits radix (b ∷ bs) zero le below = tt
-front_digits radix (b ∷ bs) (suc n) le below = (below 0 (omega arith), front_digits radix bs n (omega arith) (λ k lt. below (suc k) (omega arith)))
-
 -- each byte of a text of digits is a digit
 pub digit_in : (radix : ℕ) (bs : List ℕ) (i : ℕ) → AllDigits radix bs → i < length bs → digit_value (get_or bs i 0) < radix
 digit_in radix [] i all lt = absurd (omega arith)

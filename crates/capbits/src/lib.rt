@@ -18,7 +18,7 @@ pub use cap::{Cap, Part};
 pub use ids::{ClientId, Ino, PassId, Ticket};
 pub use laws::one_set_for_a_text;
 pub use mode::{MAX_MODE, Mode};
-pub use numbers::{read_mode, read_u32, read_u64, split_digits};
+pub use numbers::{read_mode, read_u32, read_u64};
 pub use reader::{CapText, read_caps};
 pub use set::CapSet;
 pub use text::{CapBytes, MAX_CAP_BYTES, write_caps};

@@ -1,25 +1,9 @@
 //! The numbers that the words of a text write: ASCII digits and nothing else, so no sign and no white space.
-ghost use Rattle.std.specs.Prelude.{◌≡◌, ◌^◌, ◌<◌, ◌≤◌, ◌++◌, length, IfSome, slice_get};
-ghost use Rattle.std.specs.Char.{digit_value};
+ghost use Rattle.std.specs.Prelude.{◌≡◌, ◌^◌, ◌<◌, ◌≤◌, length};
 ghost use Rattle.std.specs.Option.{SomeIff};
-ghost use Rattle.std.specs.Str.Parse.{AllDigits, IsNumeral, digits_value};
+ghost use Rattle.std.specs.Str.Parse.{IsNumeral, digits_value};
 
 use crate::mode::Mode;
-
-/// The longest front of ASCII decimal digits, and the rest. Either may be empty.
-pub fn split_digits(text: &[u8]) -> (&[u8], &[u8])
-    ensures whole { text.now ≡ result.0.now ++ result.1.now }
-    ensures digits { AllDigits 10 result.0.now }
-
-    // The rest is empty, or begins with a byte that is no digit.
-    ensures longest { IfSome (slice_get result.1.now 0) (λ byte. 10 ≤ digit_value byte) }
-{
-    let end = text
-        .iter()
-        .position(|byte| !byte.is_ascii_digit())
-        .unwrap_or(text.len());
-    text.split_at(end)
-}
 
 /// The number that one or more decimal digits write, if it fits 32 bits. Leading zeros are allowed.
 pub fn read_u32(text: &[u8]) -> Option<u32>
@@ -111,21 +95,6 @@ mod tests {
         }
         for text in ["", "00644", "10000", "8", "0o64", "+64", "64 "] {
             assert_eq!(rt; read_mode(text.as_bytes()), None, "at {text}");
-        }
-    }
-
-    #[test]
-    fn splits_where_the_digits_end(rt: HostRuntime) {
-        let cases = [
-            ("1,2", "1", ",2"),
-            ("12", "12", ""),
-            ("a1", "", "a1"),
-            ("", "", ""),
-        ];
-        for (text, digits, rest) in cases {
-            let (front, back) = split_digits(text.as_bytes());
-            assert_eq!(rt; front, digits.as_bytes(), "at {text}");
-            assert_eq!(rt; back, rest.as_bytes(), "at {text}");
         }
     }
 }

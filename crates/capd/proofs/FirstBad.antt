@@ -52,8 +52,8 @@ bad_path v g fs uid gid gids is_g is_fs is_uid is_gid is_gids none = first_bad v
 
 -- where there is no path, it is the first bad value, or memory was missing
 pub no_path : {T : Type 0} (v : Values) (g : List Grant) (fs : List ℕ) (uid : ℕ) (gid : ℕ) (gids : List ℕ) → Reads v.grants.items g → IsFs v.fs.items fs → IsNumber v.uid.items uid → IsNumber v.gid.items gid → AreGroupsIf v.groups gids
-    → (text : List ℕ) → text ≡ v.path.items → (fault : Fault) → (fault ≡ faults.NoMemory) ⊎ (fault ≡ BadValue Path) × ((names : List (List ℕ)) → ¬ ArePathNames text names) → (r : Result T Fault) → r ≡ Err fault → IfErr r (IsFaultIn v)
-no_path v g fs uid gid gids is_g is_fs is_uid is_gid is_gids text same fault (inl memory) r is = rw (is, memory) (g, is_g)
+    → (text : List ℕ) → text ≡ v.path.items → (fault : Fault) → (fault ≡ faults.NoMemory) × ((names : List (List ℕ)) × ArePathNames text names) ⊎ (fault ≡ BadValue Path) × ((names : List (List ℕ)) → ¬ ArePathNames text names) → (r : Result T Fault) → r ≡ Err fault → IfErr r (IsFaultIn v)
+no_path v g fs uid gid gids is_g is_fs is_uid is_gid is_gids text same fault (inl memory) r is = rw (is, memory.0) (g, is_g)
 no_path v g fs uid gid gids is_g is_fs is_uid is_gid is_gids text same fault (inr bad) r is = names_first_bad v Path r (λ e. cc) (bad_path v g fs uid gid gids is_g is_fs is_uid is_gid is_gids (subst (λ (t : List ℕ). (names : List (List ℕ)) → ¬ ArePathNames t names) same bad.1)) (is ∙ ap Err bad.0)
 
 pub bad_owner : (v : Values) (g : List Grant) (fs : List ℕ) (uid : ℕ) (gid : ℕ) (gids : List ℕ) (names : List (List ℕ)) → Reads v.grants.items g → IsFs v.fs.items fs → IsNumber v.uid.items uid → IsNumber v.gid.items gid → AreGroupsIf v.groups gids → ArePathNames v.path.items names → ((owner : ℕ) → ¬ IsNumber v.owner.items owner) → IsFirstBad v Owner

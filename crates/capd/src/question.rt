@@ -106,7 +106,7 @@ impl Question {
 
 // The path of the inode.
 fn read_path(alloc: Global, text: &[u8]) -> Result<TreePath, Fault>
-    ensures { MatchResult result (ArePathNames text.now) (λ fault. (fault ≡ Fault.NoMemory) ⊎ (fault ≡ Fault.BadValue Opt.Path) × ((names : List (List ℕ)) → ¬ ArePathNames text.now names)) }
+    ensures { MatchResult result (ArePathNames text.now) (λ fault. (fault ≡ Fault.NoMemory) × ((names : List (List ℕ)) × ArePathNames text.now names) ⊎ (fault ≡ Fault.BadValue Opt.Path) × ((names : List (List ℕ)) → ¬ ArePathNames text.now names)) }
 {
     match TreePath::read(alloc, text) {
         Ok(path) => path.ok_or(Fault::BadValue(Opt::Path)),

@@ -1,5 +1,5 @@
 -- Paths as one text: which texts are, and when one of them lies at or below another.
-use Rattle.std.proofs.Common.{◌≡◌, ℕ, ◌+◌, ◌-◌, ◌<◌, ◌≤◌, suc, Bool, true, false, ◌&&◌, ◌||◌, not, eqb, ltb, List, [], ◌∷◌, ◌++◌, length, drop, map, get_or, codes, refl, sym, ap, subst, ◌∙◌, inl, inr, arith, All, Bor, IsTrue, drop_of_length-le}
+use Rattle.std.proofs.Common.{◌≡◌, ℕ, ◌+◌, ◌-◌, ◌<◌, ◌≤◌, suc, Bool, true, false, ◌&&◌, ◌||◌, not, eqb, List, [], ◌∷◌, ◌++◌, length, drop, map, get_or, codes, refl, sym, ap, subst, ◌∙◌, inl, inr, arith, All, Bor, IsTrue, drop_of_length-le}
 use Rattle.std.specs.Prelude.{filter}
 use Rattle.std.specs.List.{list_all, list_any, slice_split, onto_first, starts_with}
 use Rattle.std.specs.Str.{bytes_eq}
@@ -16,14 +16,8 @@ use Rattle.capspec.specs.Bytes.{begins}
 use Rattle.capspec.specs.Names.{names_of, is_name, slashed, has_double_slash}
 use Rattle.capspec.specs.Written.{path_text, written_path}
 use Rattle.capspec.proofs.Fronts.{which}
-use Rattle.capspec.proofs.Paths.{names_of-slashes}
+use Rattle.capspec.proofs.Paths.{is_slash, has_bytes, names_of-slashes}
 use Rattle.capspec.proofs.Slashed.{names_of_slashed, none_of, slash_next}
-
-abbrev is_slash : ℕ → Bool
-is_slash b = eqb b 47
-
-abbrev has_bytes : List ℕ → Bool
-has_bytes name = ltb 0 (length name)
 
 abbrev pub is_other : ℕ → Bool
 is_other b = not (eqb b 47)

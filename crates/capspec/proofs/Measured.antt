@@ -1,5 +1,5 @@
 -- What the length of a path's text and its slashes tell about its names.
-use Rattle.std.proofs.Common.{◌≡◌, ℕ, suc, ◌+◌, ◌*◌, ◌<◌, ◌≤◌, Bool, true, cond, eqb, leb, ltb, List, [], ◌∷◌, length, refl, ap, ◌∙◌, inl, inr, arith}
+use Rattle.std.proofs.Common.{◌≡◌, ℕ, suc, ◌+◌, ◌*◌, ◌<◌, ◌≤◌, Bool, true, cond, leb, List, [], ◌∷◌, length, refl, ap, ◌∙◌, inl, inr, arith}
 use Rattle.std.specs.Prelude.{count_by, filter}
 use Rattle.std.specs.List.{list_all, slice_split, onto_first}
 use Rattle.std.proofs.lemmas.Bool.{and_parts, lt-ltb}
@@ -10,13 +10,7 @@ use Rattle.capspec.specs.declared.bytes.ByteSet.TheVariants.{Only}
 use Rattle.capspec.specs.Bytes.{SplitsWhile}
 use Rattle.capspec.specs.Names.{names_of, are_few_and_short}
 use Rattle.capspec.proofs.Fronts.{which}
-use Rattle.capspec.proofs.Paths.{names_of-slashes}
-
-abbrev is_slash : ℕ → Bool
-is_slash b = eqb b 47
-
-abbrev has_bytes : List ℕ → Bool
-has_bytes name = ltb 0 (length name)
+use Rattle.capspec.proofs.Paths.{is_slash, has_bytes, names_of-slashes}
 
 abbrev is_within : ℕ → List ℕ → Bool
 is_within most name = leb (length name) most

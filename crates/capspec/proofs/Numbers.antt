@@ -1,5 +1,5 @@
 -- A number of 32 bits at the front of a text, as a loop reads it.
-use Rattle.std.proofs.Common.{◌≡◌, ℕ, zero, suc, ◌+◌, ◌*◌, ◌<◌, ◌≤◌, ◌^◌, true, false, List, [], ◌∷◌, length, get_or, take, drop, refl, sym, ap, subst, ◌∙◌, arith}
+use Rattle.std.proofs.Common.{◌≡◌, ℕ, zero, suc, ◌+◌, ◌*◌, ◌<◌, ◌≤◌, ◌^◌, true, false, List, [], ◌∷◌, length, get_or, take, drop, refl, sym, ap, subst, ◌∙◌, arith, drop_of_length-le}
 use Rattle.std.proofs.lemmas.Bool.{and_parts}
 use Rattle.std.proofs.lemmas.Int.Digits.{digits_more, digits_value_more}
 use Rattle.std.proofs.lemmas.List.{take-append-drop}
@@ -33,14 +33,8 @@ writes_more text end number digit so_far within digit-is small = record {
 pub ends_at_byte : (text : List ℕ) (end : ℕ) → end < length text → 10 ≤ digit_value (get_or text end 0) → begins is_digit (drop end text) ≡ false
 ends_at_byte text end within large = begins-drop is_digit text end within ∙ no_digit (get_or text end 0) large
 
-past : (text : List ℕ) (end : ℕ) → length text ≤ end → drop end text ≡ []
-past [] zero all = refl
-past [] (suc end) all = refl
-past (b ∷ bs) zero all = absurd (omega arith)
-past (b ∷ bs) (suc end) all = past bs end (omega arith)
-
 pub ends_at_end : (text : List ℕ) (end : ℕ) → length text ≤ end → begins is_digit (drop end text) ≡ false
-ends_at_end text end all = ap (begins is_digit) (past text end all)
+ends_at_end text end all = ap (begins is_digit) (drop_of_length-le text all)
 
 pub front_at : (text : List ℕ) (end number : ℕ) → Writes text end number → begins is_digit (drop end text) ≡ false → front_while is_digit text ≡ take end text
 front_at text end number so_far stops = ap (front_while is_digit) (sym (take-append-drop end text)) ∙ front_is is_digit (take end text) (drop end text) (all_digits (take end text) so_far.digits) stops

@@ -11,10 +11,10 @@ use Rattle.capspec.specs.declared.bytes.ByteSet.TheVariants.{Only, AllBut}
 use Rattle.capspec.specs.Bytes.{is_in, begins, SplitsWhile}
 use Rattle.capspec.specs.Names.{names_of}
 
-abbrev is_slash : ℕ → Bool
+abbrev pub is_slash : ℕ → Bool
 is_slash b = eqb b 47
 
-abbrev has_bytes : List ℕ → Bool
+abbrev pub has_bytes : List ℕ → Bool
 has_bytes name = ltb 0 (length name)
 
 -- slashes in front have no name between them

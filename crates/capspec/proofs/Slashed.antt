@@ -1,5 +1,5 @@
 -- Paths as they are written: a slash before each name.
-use Rattle.std.proofs.Common.{◌≡◌, ℕ, suc, Bool, true, false, ◌&&◌, not, eqb, ltb, List, [], ◌∷◌, ◌++◌, length, refl, sym, ap, ◌∙◌, inl, inr, arith}
+use Rattle.std.proofs.Common.{◌≡◌, ℕ, suc, Bool, true, false, ◌&&◌, not, eqb, List, [], ◌∷◌, ◌++◌, length, refl, sym, ap, ◌∙◌, inl, inr, arith}
 use Rattle.std.specs.Prelude.{filter}
 use Rattle.std.specs.List.{list_all, list_any, slice_split, onto_first}
 use Rattle.std.proofs.lemmas.Bool.{and_parts, eqb-true, ltb-true, lt-ltb, ne_eqb, not-true, or_parts, or_from, true≢false}
@@ -13,13 +13,7 @@ use Rattle.capspec.specs.Items.Item.{Path}
 use Rattle.capspec.specs.Names.{names_of, are_few_and_short, slashed}
 use Rattle.capspec.specs.Written.{can_be_bare, has_no_double_quote, written_path}
 use Rattle.capspec.proofs.Fronts.{which}
-use Rattle.capspec.proofs.Paths.{names_of-slashes, names_of-name}
-
-abbrev is_slash : ℕ → Bool
-is_slash b = eqb b 47
-
-abbrev has_bytes : List ℕ → Bool
-has_bytes name = ltb 0 (length name)
+use Rattle.capspec.proofs.Paths.{is_slash, has_bytes, names_of-slashes, names_of-name}
 
 -- every byte of every name passes
 abbrev all_in : (ℕ → Bool) → List (List ℕ) → Bool

@@ -26,7 +26,7 @@ impl Model for TreePath {
 }
 
 impl TreePath {
-    ghost use Rattle.std.specs.Prelude.{◌≡◌, ◌++◌, IfOk, OnOk, All, IsTrue, IsFalse, MatchOption, map};
+    ghost use Rattle.std.specs.Prelude.{◌≡◌, ◌++◌, IfOk, OnOk, OnErr, All, IsTrue, IsFalse, MatchOption, map};
     ghost use Rattle.std.specs.List.{starts_with};
     ghost use Rattle.std.specs.Str.{bytes_eq};
     ghost use Rattle.capspec.specs.Names.{names_of, is_name, slashed, are_few_and_short};
@@ -48,7 +48,10 @@ impl TreePath {
 
     /// The path that a text names, if it has at most 32 names of at most 255 bytes each.
     pub fn read(alloc: Global, text: &[u8]) -> Result<Option<TreePath>, AllocError>
-        ensures { IfOk result (λ found. MatchOption found (IsFalse (are_few_and_short (names_of text.now))) (λ path. (path ≡ names_of text.now) × IsTrue (are_few_and_short path))) }
+        ensures ok { IfOk result (λ found. MatchOption found (IsFalse (are_few_and_short (names_of text.now))) (λ path. (path ≡ names_of text.now) × IsTrue (are_few_and_short path))) }
+
+        // Memory is missed only where there is a path.
+        ensures err { OnErr result (IsTrue (are_few_and_short (names_of text.now))) }
     {
         if !has_fit_names(text) {
             return Ok(None);
