@@ -7,7 +7,7 @@ use Rattle.capbits.specs.declared.cap.Cap.{Cap}
 use Rattle.capbits.specs.declared.cap.Cap.TheVariants.{P, As, Ax, Ls, Lx, Xs, Xx, Fs, Fx, Fc, Fr, Fw, Fb, Fa, Fl}
 use Rattle.capbits.specs.declared.cap.Part.{Part}
 use Rattle.capbits.specs.declared.cap.Part.TheVariants.{A, L, X, F}
-use Rattle.capbits.specs.Caps.{Caps, has, caps_where, place_of}
+use Rattle.capbits.specs.Caps.{Caps, has, caps_where, all_caps, place_of}
 
 -- whether two capabilities are the same
 abbrev pub same_cap : Cap → Cap → Bool
@@ -47,6 +47,10 @@ minus a b = caps_where (λ c. has a c && not (has b c))
 -- the capabilities of a set that cover a part
 unfoldable pub of_part : Part → Caps → Caps
 of_part part s = caps_where (λ c. has s c && covers c part)
+
+-- whether a set has no capability
+unfoldable pub is_empty : Caps → Bool
+is_empty s = list_all (λ c. not (has s c)) all_caps
 
 -- each capability of the first set is in the second
 abbrev pub IsSubset : Caps → Caps → Type 0

@@ -16,7 +16,7 @@ mod text;
 pub use caller::{Caller, Groups, MAX_GROUPS, TooManyGroups};
 pub use cap::{Cap, Part};
 pub use ids::{ClientId, Ino, PassId, Ticket};
-pub use laws::one_set_for_a_text;
+pub use laws::{one_part_for_a_cap, one_set_for_a_text};
 pub use mode::{MAX_MODE, Mode};
 pub use numbers::{read_mode, read_u32, read_u64};
 pub use reader::{CapText, read_caps};

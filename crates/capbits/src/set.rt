@@ -1,7 +1,7 @@
 //! A set of capabilities.
 ghost use Rattle.std.specs.Prelude.{◌≡◌, ◌≢◌, ◌↔◌, [], ◌∷◌, IsTrue, IfSome, IfNone};
 ghost use Rattle.capbits.specs.Caps.{Caps, has, bits_of, value_of};
-ghost use Rattle.capbits.specs.Sets.{no_caps, caps_in, union, meet, minus, of_part, IsSubset};
+ghost use Rattle.capbits.specs.Sets.{no_caps, caps_in, is_empty, union, meet, minus, of_part, IsSubset};
 
 use crate::bits::CapBits;
 use crate::cap::{Cap, Part};
@@ -102,7 +102,8 @@ impl CapSet {
     /// Whether no capability is in this set.
     #[tactic(auto, using(crate::proofs::SetBits::set_bits))]
     pub fn is_empty(self) -> bool
-        ensures { IsTrue result ↔ (self ≡ no_caps) }
+        ensures value { result ≡ is_empty self }
+        ensures none { IsTrue result ↔ (self ≡ no_caps) }
     {
         self.bits.is_empty()
     }
