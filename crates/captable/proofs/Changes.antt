@@ -53,22 +53,23 @@ no_position p xs is =
     past (x ∷ xs) (suc i) h = past xs i (omega arith)
 
 -- the changed table, from the write
-pub change_table : (t : Table) (k : Holder) (f : Entry → Entry) (i : ℕ) (row : EntryRow) → position (is_row_of k) t.rows ≡ Some i → row ≡ get_or t.rows i row → record { rows = set t.rows i (record row { entry = f row.entry }); recall = t.recall } ≡ changed t k f
+pub change_table : (t : Table) (k : Holder) (f : Entry → Entry) (i : ℕ) (row : EntryRow) → position (is_row_of k) t.rows ≡ Some i → row ≡ get_or t.rows i row → record t { rows = set t.rows i (record row { entry = f row.entry }) } ≡ changed t k f
 change_table t k f i row at is =
     let p = at_position (is_row_of k) t.rows i at in
-    ap (λ (rows : List EntryRow). record { rows = rows; recall = t.recall }) (rw p.0 (change_at t.rows k f row p.1 (rw p.0 at is)))
+    ap (λ (rows : List EntryRow). record t { rows = rows }) (rw p.0 (change_at t.rows k f row p.1 (rw p.0 at is)))
 
 pub unchanged_table : (t : Table) (k : Holder) (f : Entry → Entry) → position (is_row_of k) t.rows ≡ None → t ≡ changed t k f
-unchanged_table t k f none = ap (λ (rows : List EntryRow). record { rows = rows; recall = t.recall }) (sym (change_none t.rows k f (no_position (is_row_of k) t.rows none)))
+unchanged_table t k f none = ap (λ (rows : List EntryRow). record t { rows = rows }) (sym (change_none t.rows k f (no_position (is_row_of k) t.rows none)))
 
 -- the entry was found, and the holder has the changed one now
 pub put_found : (t : Table) (k : Holder) (e x : Entry) (f : Entry → Entry) → entry_at t k ≡ Some e → x ≡ f e → changed t k (λ _. x) ≡ changed t k f
-put_found t k e x f some is = ap (λ (rows : List EntryRow). record { rows = rows; recall = t.recall }) (change_same t.rows k e x f some is)
+put_found t k e x f some is = ap (λ (rows : List EntryRow). record t { rows = rows }) (change_same t.rows k e x f some is)
+
+-- where there is no entry, there is no row
+pub no_entry : (o : Option EntryRow) → entry_of o ≡ None → o ≡ None
+no_entry None e = refl
+no_entry (Some row) e = absurd (cc)
 
 -- no entry was found, and none changed
 pub none_found : (t : Table) (k : Holder) (f : Entry → Entry) → entry_at t k ≡ None → t ≡ changed t k f
-none_found t k f none = ap (λ (rows : List EntryRow). record { rows = rows; recall = t.recall }) (sym (change_none t.rows k f (no_entry (find (is_row_of k) t.rows) none)))
-  where
-    no_entry : (o : Option EntryRow) → entry_of o ≡ None → o ≡ None
-    no_entry None e = refl
-    no_entry (Some row) e = absurd (cc)
+none_found t k f none = ap (λ (rows : List EntryRow). record t { rows = rows }) (sym (change_none t.rows k f (no_entry (find (is_row_of k) t.rows) none)))

@@ -1,19 +1,22 @@
 -- What the changes of a table keep.
-use Rattle.std.proofs.Common.{◌≡◌, ◌<◌, ◌≤◌, Bool, true, false, ◌&&◌, ◌||◌, cond, Some, None, List, [], ◌∷◌, ◌++◌, map, length, filter, refl, sym, ap, ◌∙◌, arith, suc, nat_le}
+use Rattle.std.proofs.Common.{◌≡◌, ℕ, ◌<◌, ◌≤◌, Bool, true, false, not, take, ◌&&◌, ◌||◌, cond, Some, None, List, [], ◌∷◌, ◌++◌, map, length, filter, refl, sym, ap, ◌∙◌, arith, suc, nat_le}
 use Rattle.std.specs.List.{find, AllByRecursion, IsDistinct}
 use Rattle.std.specs.Cmp.{IsEquivalence, nat_eq_equiv}
 use Rattle.std.proofs.lemmas.List.Folds.{list_any-append}
 use Rattle.std.proofs.lemmas.Map.Keys.{IsDistinct-push}
 use Rattle.std.proofs.lemmas.Bool.{and_from, and_parts, leb-false}
 use Rattle.std.proofs.Common.{length-append}
+use Rattle.std.specs.Prelude.{◌==◌}
+use Rattle.capbits.specs.declared.cap.Cap.TheVariants.{P}
+use Rattle.capbits.specs.declared.ids.ClientId.{ClientId}
+use Rattle.capbits.specs.Caps.{Caps, has}
 use Rattle.capbits.specs.Sets.{true_eq}
 use Rattle.captable.specs.declared.entry.Holder.{Holder}
 use Rattle.captable.specs.declared.entry.Entry.{Entry}
 use Rattle.captable.specs.declared.entry.EntryRow.{EntryRow}
 use Rattle.captable.specs.declared.fault.OpenFault.TheVariants as open_kind
-use Rattle.captable.specs.declared.table.TheConstants.{MAX_ENTRIES}
 use Rattle.captable.specs.Table.{Table, IsTable, same, is_row_of, holders_of_rows, is_among, entry_of, entry_at, empty}
-use Rattle.captable.specs.Calls.{new_entry, opened, open_fault, change_rows, changed, asked_row}
+use Rattle.captable.specs.Calls.{new_entry, opened, open_fault, change_rows, changed, given_back, asked_row, recalled, released, without, without_client}
 
 pub same_equiv : IsEquivalence same
 same_equiv =
@@ -45,7 +48,7 @@ length-holders [] = refl
 length-holders (row ∷ rows) = ap suc (length-holders rows)
 
 -- other rows of the same holders, with the same order of recall
-pub IsTable-rows : (t : Table) (rows : List EntryRow) → holders_of_rows rows ≡ holders_of_rows t.rows → IsTable t → IsTable (record { rows = rows; recall = t.recall })
+pub IsTable-rows : (t : Table) (rows : List EntryRow) → holders_of_rows rows ≡ holders_of_rows t.rows → IsTable t → IsTable (record t { rows = rows })
 IsTable-rows t rows e is =
     record {
       one_row = rw e is.one_row;
@@ -64,7 +67,7 @@ holders-asked named (row ∷ rows) =
     elim (is_among named row.holder) as (λ b. (cond b (record row { entry = record row.entry { asked = true } }) row).holder ∷ holders_of_rows (map (asked_row named) rows) ≡ row.holder ∷ holders_of_rows rows)
     [ true ↦ ap (λ hs. row.holder ∷ hs) rest | false ↦ ap (λ hs. row.holder ∷ hs) rest ]
 
-pub IsTable-asked : (t : Table) (named : List Holder) → IsTable t → IsTable (record { rows = map (asked_row named) t.rows; recall = t.recall })
+pub IsTable-asked : (t : Table) (named : List Holder) → IsTable t → IsTable (record t { rows = map (asked_row named) t.rows })
 IsTable-asked t named is = IsTable-rows t (map (asked_row named) t.rows) (holders-asked named t.rows) is
 
 -- ---- one more
@@ -87,9 +90,9 @@ holders-append : (rows : List EntryRow) (row : EntryRow) → holders_of_rows (ro
 holders-append [] row = refl
 holders-append (r ∷ rows) row = ap (λ hs. r.holder ∷ hs) (holders-append rows row)
 
-room_left : (t : Table) → open_fault t ≡ None → length t.rows < MAX_ENTRIES
+room_left : (t : Table) → open_fault t ≡ None → length t.rows < 65536
 room_left t none =
-    elim (nat_le MAX_ENTRIES (length t.rows)) as (λ b. nat_le MAX_ENTRIES (length t.rows) ≡ b → cond b (Some open_kind.Limit) None ≡ None → length t.rows < MAX_ENTRIES)
+    elim (nat_le 65536 (length t.rows)) as (λ b. nat_le 65536 (length t.rows) ≡ b → cond b (Some open_kind.Limit) None ≡ None → length t.rows < 65536)
     [ true ↦ λ e none. absurd (cc) | false ↦ λ e none. leb-false _ _ e ] refl none
 
 pub IsTable-opened : (t : Table) (k : Holder) → entry_at t k ≡ None → open_fault t ≡ None → IsTable t → IsTable (opened t k)
@@ -110,7 +113,7 @@ IsTable-empty = record { one_row = tt; one_recall = tt; in_both = λ q. refl; ro
 
 -- ---- fewer
 
-holders-filter : (p : Holder → Bool) (rows : List EntryRow) → holders_of_rows (filter (λ row. p row.holder) rows) ≡ filter p (holders_of_rows rows)
+pub holders-filter : (p : Holder → Bool) (rows : List EntryRow) → holders_of_rows (filter (λ row. p row.holder) rows) ≡ filter p (holders_of_rows rows)
 holders-filter p [] = refl
 holders-filter p (row ∷ rows) =
     elim (p row.holder) as (λ b. holders_of_rows (cond b (row ∷ filter (λ row. p row.holder) rows) (filter (λ row. p row.holder) rows)) ≡ cond b (row.holder ∷ filter p (holders_of_rows rows)) (filter p (holders_of_rows rows)))
@@ -158,7 +161,7 @@ among-filter p (h ∷ hs) q =
     ] refl
 
 -- those that pass a test
-pub IsTable-kept : (t : Table) (p : Holder → Bool) → IsTable t → IsTable (record { rows = filter (λ row. p row.holder) t.rows; recall = filter p t.recall })
+pub IsTable-kept : (t : Table) (p : Holder → Bool) → IsTable t → IsTable (record t { rows = filter (λ row. p row.holder) t.rows; recall = filter p t.recall })
 IsTable-kept t p is =
     let e = holders-filter p t.rows in
     record {
@@ -167,3 +170,17 @@ IsTable-kept t p is =
       in_both = λ q. among-filter p t.recall q ∙ ap (λ b. p q && b) (is.in_both q) ∙ sym (rw e (among-filter p (holders_of_rows t.rows) q));
       room = omega (arith, length-filter_le (λ (row : EntryRow). p row.holder) t.rows, is.room);
     }
+
+pub IsTable-without : (t : Table) (k : Holder) → IsTable t → IsTable (without t k)
+IsTable-without t k is = IsTable-kept t (λ h. not (same k h)) is
+
+pub IsTable-without_client : (t : Table) (client : ClientId) → IsTable t → IsTable (without_client t client)
+IsTable-without_client t client is = IsTable-kept t (λ h. not (h.client.0 == client.0)) is
+
+pub IsTable-recalled : (t : Table) (n : ℕ) → IsTable t → IsTable (recalled t n)
+IsTable-recalled t n is = IsTable-asked t (take n t.recall) is
+
+pub IsTable-released : (t : Table) (k : Holder) (caps : Caps) → IsTable t → IsTable (released t k caps)
+IsTable-released t k caps is =
+    elim (has caps P) as (λ b. IsTable (cond b (without t k) (changed t k (given_back caps))))
+    [ true ↦ IsTable-without t k is | false ↦ IsTable-changed t k (given_back caps) is ]

@@ -1,11 +1,10 @@
 -- What each call on the table changes and answers, and which of its tests fails first.
 use Rattle.std.specs.Prelude.{ℕ, ◌+◌, Bool, true, false, not, ◌==◌, nat_lt, nat_le, Option, Some, None, List, [], ◌∷◌, ◌++◌, map, filter, length, take, slice_get, if◌then◌else◌}
-use Rattle.std.specs.List.{list_all}
 use Rattle.capbits.specs.declared.cap.Cap.TheVariants.{P}
 use Rattle.capbits.specs.declared.ids.ClientId.{ClientId}
 use Rattle.capbits.specs.declared.ids.Ino.{Ino}
-use Rattle.capbits.specs.Caps.{Caps, has, all_caps}
-use Rattle.capbits.specs.Sets.{no_caps, union, meet, minus}
+use Rattle.capbits.specs.Caps.{Caps, has}
+use Rattle.capbits.specs.Sets.{no_caps, is_empty, union, meet, minus}
 use Rattle.captable.specs.declared.entry.Holder.{Holder}
 use Rattle.captable.specs.declared.entry.Entry.{Entry}
 use Rattle.captable.specs.declared.entry.EntryRow.{EntryRow}
@@ -15,12 +14,7 @@ use Rattle.captable.specs.declared.fault.AckFault.{AckFault}
 use Rattle.captable.specs.declared.fault.AckFault.TheVariants as ack_kind
 use Rattle.captable.specs.declared.fault.ReleaseFault.{ReleaseFault}
 use Rattle.captable.specs.declared.fault.ReleaseFault.TheVariants as release_kind
-use Rattle.captable.specs.declared.table.TheConstants.{MAX_ENTRIES}
 use Rattle.captable.specs.Table.{Table, same, is_row_of, entry_at, is_among}
-
--- whether a set has no capability
-unfoldable pub is_empty : Caps → Bool
-is_empty s = list_all (λ c. not (has s c)) all_caps
 
 -- ---- one holder's entry
 
@@ -30,11 +24,15 @@ new_entry = record { held = no_caps; want = no_caps; seq = 0; revoke_seq = 0; to
 
 -- the table with a new entry for the holder, last in both orders
 abbrev pub opened : Table → Holder → Table
-opened table k = record { rows = table.rows ++ record { holder = k; entry = new_entry } ∷ []; recall = table.recall ++ k ∷ [] }
+opened table k = record {
+  rows = table.rows ++ record { holder = k; entry = new_entry } ∷ [];
+  recall = table.recall ++ k ∷ [];
+  made = table.made + 1;
+}
 
 -- the first test of a new entry that fails
 abbrev pub open_fault : Table → Option OpenFault
-open_fault table = if nat_le MAX_ENTRIES (length table.rows) then Some open_kind.Limit else None
+open_fault table = if nat_le 65536 (length table.rows) then Some open_kind.Limit else None
 
 -- the rows, with the holder's entry changed by f
 abbrev pub change_rows : List EntryRow → Holder → (Entry → Entry) → List EntryRow
@@ -47,7 +45,7 @@ changed table k f = record table { rows = change_rows table.rows k f }
 
 -- the table without the holder
 abbrev pub without : Table → Holder → Table
-without table k = record {
+without table k = record table {
   rows = filter (λ row. not (is_row_of k row)) table.rows;
   recall = filter (λ h. not (same k h)) table.recall;
 }
@@ -137,9 +135,13 @@ is_of_client client row = row.holder.client.0 == client.0
 abbrev pub is_of_inode : Ino → EntryRow → Bool
 is_of_inode ino row = row.holder.ino.0 == ino.0
 
+-- the entries on an inode
+abbrev pub entries_on : Table → Ino → List EntryRow
+entries_on table ino = filter (is_of_inode ino) table.rows
+
 -- the table without the client
 abbrev pub without_client : Table → ClientId → Table
-without_client table client = record {
+without_client table client = record table {
   rows = filter (λ row. not (is_of_client client row)) table.rows;
   recall = filter (λ h. not (h.client.0 == client.0)) table.recall;
 }

@@ -1,17 +1,18 @@
--- The table of entries as a value: its rows in the order of making, and the order of recall.
-use Rattle.std.specs.Prelude.{◌≡◌, ◌≤◌, Bool, ◌&&◌, ◌==◌, Option, Some, None, List, [], map, length}
+-- The table of entries as a value: its rows in the order of making, the order of recall, and how many were made.
+use Rattle.std.specs.Prelude.{◌≡◌, ◌≤◌, ℕ, Bool, ◌&&◌, ◌==◌, Option, Some, None, List, [], map, length}
 use Rattle.std.specs.List.{find, list_any, IsDistinct}
 use Rattle.capbits.specs.declared.ids.ClientId.{ClientId}
 use Rattle.capbits.specs.declared.ids.Ino.{Ino}
 use Rattle.captable.specs.declared.entry.Holder.{Holder}
 use Rattle.captable.specs.declared.entry.Entry.{Entry}
 use Rattle.captable.specs.declared.entry.EntryRow.{EntryRow}
-use Rattle.captable.specs.declared.table.TheConstants.{MAX_ENTRIES}
 
 -- each entry with its holder, the first made first; and the holders, the first to be asked for capabilities first
 pub record Table : Type 0 where
   pub rows : List EntryRow
   pub recall : List Holder
+  -- how many entries were made so far, those that are gone too
+  pub made : ℕ
 
 -- the client on the inode
 abbrev pub holder : ClientId → Ino → Holder
@@ -40,13 +41,13 @@ holders_of_rows rows = map (λ row. row.holder) rows
 abbrev pub is_among : List Holder → Holder → Bool
 is_among holders k = list_any (same k) holders
 
--- each holder has one row and stands once in the order of recall, and the limit holds
+-- each holder has one row and stands once in the order of recall, and there are at most 65,536
 pub record IsTable (table : Table) : Type 0 where
   pub one_row : IsDistinct same (holders_of_rows table.rows)
   pub one_recall : IsDistinct same table.recall
   pub in_both : (k : Holder) → is_among table.recall k ≡ is_among (holders_of_rows table.rows) k
-  pub room : length table.rows ≤ MAX_ENTRIES
+  pub room : length table.rows ≤ 65536
 
--- nobody has an entry
+-- nobody has an entry, and nobody had one
 abbrev pub empty : Table
-empty = record { rows = []; recall = [] }
+empty = record { rows = []; recall = []; made = 0 }

@@ -3,7 +3,6 @@
 ghost use Rattle.std.specs.Prelude.{◌≡◌, ◌<◌, ◌^◌, ◌-◌};
 ghost use Rattle.captable.specs.Calls as words;
 
-use crate::rows::is_none;
 use capbits::{CapSet, ClientId, Ino};
 
 /// A client on an inode, whose entry stands under both.
@@ -92,8 +91,8 @@ impl Entry {
         requires { self.now.seq < 2 ^ 64 - 1 }
         ensures { result ≡ words.renumbered before after self.now }
     {
-        let lost = !is_none(before.minus(after));
-        let gained = !is_none(after.minus(before));
+        let lost = !before.minus(after).is_empty();
+        let gained = !after.minus(before).is_empty();
         if lost {
             let seq = self.seq + 1;
             let revoke_seq = seq;

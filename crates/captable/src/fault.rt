@@ -1,6 +1,10 @@
 //! Why a call was refused. Each refusal prints as its name.
+ghost use Rattle.std.specs.Prelude.{Some};
+ghost use Rattle.captable.specs.Faults.{text_of_ack_fault};
 
 use std::alloc::AllocError;
+use std::error::Error;
+use std::fmt;
 use thiserror::Error;
 
 /// There was no memory left.
@@ -26,24 +30,35 @@ pub enum OpenFault {
 }
 
 /// Why an acknowledgement was not taken.
-#[derive(Clone, Copy, Debug, PartialEq, Eq, Error)]
+#[derive(Clone, Copy, Debug, PartialEq, Eq)]
 pub enum AckFault {
     /// The client has no entry on the inode.
-    #[error("NoEntry")]
     NoEntry,
     /// The client holds no capability that is being revoked.
-    #[error("NothingToAck")]
     NothingToAck,
     /// The number is above that of the last message, so the client was not told of it.
-    #[error("BadSeq")]
     BadSeq,
     /// The number is that of a message before the last revocation.
-    #[error("OldSeq {need}")]
     OldSeq {
         /// The least number that would be taken.
         need: u64,
     },
 }
+
+impl fmt::Display for AckFault {
+    ghost output = { λ fault. Some (text_of_ack_fault fault) };
+
+    fn fmt<W: fmt::Write>(&self, f: &mut fmt::Formatter<W>) -> fmt::Result {
+        match self {
+            AckFault::NoEntry => f.write_str("NoEntry"),
+            AckFault::NothingToAck => f.write_str("NothingToAck"),
+            AckFault::BadSeq => f.write_str("BadSeq"),
+            AckFault::OldSeq { need } => write!(f, "OldSeq {need}"),
+        }
+    }
+}
+
+impl Error for AckFault {}
 
 /// Why capabilities were not given back.
 #[derive(Clone, Copy, Debug, PartialEq, Eq, Error)]

@@ -6,6 +6,7 @@
 mod entry;
 mod fault;
 mod holders;
+mod laws;
 mod rows;
 mod table;
 mod walk;
@@ -13,6 +14,12 @@ mod walk;
 pub use entry::{Entry, EntryRow, Holder};
 pub use fault::{AckFault, NoMemory, OpenFault, ReleaseFault};
 pub use holders::Holders;
+pub use laws::{
+    a_change_is_of_one_holder, a_drop_is_of_one_client, a_recall_is_of_the_first,
+    a_release_is_of_one_holder, a_removal_is_of_one_holder, a_table_stays_a_table,
+    a_touch_changes_no_entry, an_opening_is_of_one_holder, each_row_is_found,
+    inodes_change_by_themselves, one_by_one_is_at_once, other_inodes_keep_their_entries,
+};
 pub use table::{CapTable, MAX_ENTRIES};
 pub use walk::Walk;
 

@@ -3,10 +3,10 @@ ghost use Rattle.std.specs.Prelude.{◌≡◌, ◌==◌, not, filter, map, slice
 ghost use Rattle.std.specs.List.{position, IsDistinct};
 ghost use Rattle.captable.specs.Table as words;
 ghost use Rattle.captable.specs.Table.{is_row_of, is_among};
-ghost use Rattle.captable.specs.Calls.{is_empty, is_of_client, moved_last, asked_row};
+ghost use Rattle.captable.specs.Calls.{is_of_client, moved_last, asked_row};
 
 use crate::entry::{Entry, EntryRow, Holder};
-use capbits::{CapSet, ClientId};
+use capbits::ClientId;
 
 // Whether two are the same client on the same inode.
 pub(crate) fn is_same(a: Holder, b: Holder) -> bool
@@ -27,13 +27,6 @@ pub(crate) fn holder_place(holders: &[Holder], holder: Holder) -> Option<usize>
     ensures { result ≡ position (words.same holder) holders.now }
 {
     holders.iter().position(|other| is_same(holder, *other))
-}
-
-// Whether a set has no capability.
-pub(crate) fn is_none(caps: CapSet) -> bool
-    ensures { result ≡ is_empty caps }
-{
-    caps.is_empty()
 }
 
 // Drops the holder's row.

@@ -1,5 +1,5 @@
 //! The table of entries.
-ghost use Rattle.std.specs.Prelude.{◌≡◌, ◌<◌, ◌^◌, ◌-◌, IfSome, IfOk, IfErr, OnOk, OnErr, Ok, None, slice_get, take, filter, unwrap_or};
+ghost use Rattle.std.specs.Prelude.{◌≡◌, ◌<◌, ◌^◌, ◌-◌, IfSome, IfOk, IfErr, OnOk, OnErr, None, slice_get, take, filter, unwrap_or};
 ghost use Rattle.std.specs.Result.{result_err};
 
 use crate::entry::{Entry, EntryRow, Holder};
@@ -7,7 +7,7 @@ use crate::fault::{AckFault, NoMemory, OpenFault, ReleaseFault};
 use crate::holders::{Holders, first_of};
 use crate::rows::{
     ask_all, drop_holder, drop_holders_of, drop_row, drop_rows_of, holder_at, holder_place,
-    is_none, is_same, move_last, row_place,
+    is_same, move_last, row_place,
 };
 use crate::walk::{Sought, Walk};
 use capbits::{Cap, CapSet, ClientId, Ino};
@@ -26,16 +26,21 @@ pub struct CapTable {
     rows: Vec<EntryRow>,
     // In the order of recall.
     recall: Vec<Holder>,
+    // How many entries were made so far.
+    made: u64,
 }
 
 impl Model for CapTable {
     ghost use Rattle.captable.specs.Table.{Table, IsTable};
+    ghost use Rattle.captable.specs.Codes.{table_code};
 
     ghost Value = { Table };
 
-    ghost view = { λ t. record { rows = t.rows.items; recall = t.recall.items } };
+    ghost coded = { table_code };
 
-    ghost invariant = { λ t. IsTable (record { rows = t.rows.items; recall = t.recall.items }) };
+    ghost view = { λ t. record { rows = t.rows.items; recall = t.recall.items; made = t.made } };
+
+    ghost invariant = { λ t. IsTable (record { rows = t.rows.items; recall = t.recall.items; made = t.made }) };
 }
 
 impl CapTable {
@@ -43,14 +48,22 @@ impl CapTable {
     ghost use Rattle.captable.specs.Table.{IsTable, holder, entry_at};
     ghost use Rattle.captable.specs.Calls.{opened, open_fault, changed, wanting, issued, taken, renumbered, told, with_asked, ack_fault, release_fault, released, without, without_client, newer_in, touched, recalled, is_of_client, is_of_inode};
 
-    /// A table without entries. The first entry is the first to take memory, so this is `Ok`.
+    /// A table without entries, of which none was made yet. No clause can say that the memory for it is there.
     pub fn new(alloc: Global) -> Result<CapTable, NoMemory>
-        ensures { result ≡ Ok words.empty }
+        ensures { IfOk result (λ table. table ≡ words.empty) }
     {
         Ok(CapTable {
             rows: Vec::new(alloc),
             recall: Vec::new(alloc),
+            made: 0,
         })
+    }
+
+    /// How many entries were made so far, those that are gone too.
+    pub fn made(&self) -> u64
+        ensures { result ≡ self.now.made }
+    {
+        self.made
     }
 
     /// The client's entry on the inode, where it has one.
@@ -70,6 +83,7 @@ impl CapTable {
     /// nothing.
     pub fn open_entry(&mut self, client: ClientId, ino: Ino) -> Result<(), OpenFault>
         requires new { entry_at self.old (holder client ino) ≡ None }
+        requires made { self.old.made < 2 ^ 64 - 1 }
         ensures passed { OnOk result (open_fault self.old ≡ None) }
         ensures ok { OnOk result (self.new ≡ opened self.old (holder client ino)) }
         // The first test that fails, and for want of memory only where none does.
@@ -85,9 +99,10 @@ impl CapTable {
         }
     }
 
-    // Makes room in both lists, and then adds to both.
+    // Makes room in both lists, and then adds to both and counts.
     fn add(&mut self, holder: Holder) -> Result<(), AllocError>
         requires new { entry_at self.old holder ≡ None }
+        requires made { self.old.made < 2 ^ 64 - 1 }
         requires room { open_fault self.old ≡ None }
         ensures ok { OnOk result (self.new ≡ opened self.old holder) }
         ensures err { OnErr result (self.new ≡ self.old) }
@@ -96,6 +111,7 @@ impl CapTable {
         self.recall.push(holder)?;
         let entry = Entry::new();
         self.rows.push(EntryRow { holder, entry })?;
+        self.made += 1;
         Ok(())
     }
 
@@ -143,7 +159,7 @@ impl CapTable {
         let Some(entry) = self.find(client, ino) else {
             return Err(AckFault::NoEntry);
         };
-        if is_none(entry.held.meet(against)) {
+        if entry.held.meet(against).is_empty() {
             return Err(AckFault::NothingToAck);
         }
         if seq > entry.told_seq {
@@ -190,14 +206,16 @@ impl CapTable {
 
     /// The first holder in the order of recall.
     pub fn oldest(&self) -> Option<Holder>
-        ensures { result ≡ slice_get self.now.recall 0 }
+        ensures first { result ≡ slice_get self.now.recall 0 }
+        ensures sound { IsTable self.now }
     {
         self.recall.first().copied()
     }
 
     /// The holder after this one in the order of recall; none if it is the last, or has no entry.
     pub fn newer(&self, client: ClientId, ino: Ino) -> Option<Holder>
-        ensures { result ≡ newer_in self.now.recall (holder client ino) }
+        ensures after { result ≡ newer_in self.now.recall (holder client ino) }
+        ensures sound { IsTable self.now }
     {
         let place = holder_place(&self.recall, Holder { client, ino })?;
         holder_at(&self.recall, place + 1)
@@ -220,7 +238,7 @@ impl CapTable {
         let Some(entry) = self.find(client, ino) else {
             return Err(ReleaseFault::NoEntry);
         };
-        if !is_none(caps.minus(entry.held)) {
+        if !caps.minus(entry.held).is_empty() {
             return Err(ReleaseFault::NotHeld);
         }
         let holder = Holder { client, ino };
@@ -250,14 +268,16 @@ impl CapTable {
 
     /// The client's entries, in the order of making.
     pub fn entries_of(&self, client: ClientId) -> Walk<'_>
-        ensures { result ≡ filter (is_of_client client) self.now.rows }
+        ensures rows { result ≡ filter (is_of_client client) self.now.rows }
+        ensures sound { IsTable self.now }
     {
         Walk::new(&self.rows, Sought::Client(client))
     }
 
     /// The entries on the inode, in the order of making.
     pub fn holders_of(&self, ino: Ino) -> Walk<'_>
-        ensures { result ≡ filter (is_of_inode ino) self.now.rows }
+        ensures rows { result ≡ filter (is_of_inode ino) self.now.rows }
+        ensures sound { IsTable self.now }
     {
         Walk::new(&self.rows, Sought::Inode(ino))
     }

@@ -1,0 +1,13 @@
+-- How a table is stored: as the parts of it.
+use Rattle.std.specs.Prelude.{ℕ, List, refl}
+use Rattle.std.specs.Coded.{Coded, code_by, coded×, coded_ℕ, coded_list}
+use Rattle.captable.specs.declared.entry.Holder.{Holder}
+use Rattle.captable.specs.declared.entry.EntryRow.{EntryRow}
+use Rattle.captable.specs.contracts.entry.Holder as holder
+use Rattle.captable.specs.contracts.entry.EntryRow as entry_row
+use Rattle.captable.specs.Table.{Table}
+
+abbrev pub table_code : Coded Table
+table_code =
+    code_by (List EntryRow × (List Holder × ℕ)) (coded× (coded_list entry_row.the_row.coded) (coded× (coded_list holder.the_row.coded) coded_ℕ))
+    (λ t. (t.rows, (t.recall, t.made))) (λ p. record { rows = p.0; recall = p.1.0; made = p.1.1 }) (λ _. refl)

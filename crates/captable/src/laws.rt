@@ -1,0 +1,108 @@
+//! Laws of the table: what each change of it leaves, holder by holder and inode by inode. No program needs to call them.
+
+ghost use Rattle.std.specs.Prelude.{◌≡◌, ◌≢◌, ℕ, true, List, Some, None, IsTrue, IsFalse, Contains, map, take, filter, not};
+ghost use Rattle.std.specs.List.{find, fold, IsDistinct};
+ghost use Rattle.std.specs.Option.{option_map};
+ghost use Rattle.capbits.specs.declared.cap.Cap.TheVariants.{P};
+ghost use Rattle.capbits.specs.declared.ids.ClientId.{ClientId};
+ghost use Rattle.capbits.specs.declared.ids.Ino.{Ino};
+ghost use Rattle.capbits.specs.Caps.{Caps, has};
+ghost use Rattle.captable.specs.declared.entry.Holder.{Holder};
+ghost use Rattle.captable.specs.declared.entry.Entry.{Entry};
+ghost use Rattle.captable.specs.declared.entry.EntryRow.{EntryRow};
+ghost use Rattle.captable.specs.Table.{Table, IsTable, same, is_row_of, entry_at, is_among, holders_of_rows};
+ghost use Rattle.captable.specs.Calls.{new_entry, opened, open_fault, changed, given_back, with_asked, released, without, without_client, touched, asked_row, recalled, is_of_client, is_of_inode, entries_on};
+ghost use Rattle.captable.specs.Many.{changed_by, changed_where, remade};
+
+/// A row of the table is the one that is found for its holder.
+pub fn each_row_is_found()
+    ensures { (t : Table) (row : EntryRow) → IsTable t → Contains t.rows row
+        → find (is_row_of row.holder) t.rows ≡ Some row }
+{}
+
+/// A changed entry is changed, and no other is.
+pub fn a_change_is_of_one_holder()
+    ensures own { (t : Table) (k : Holder) (f : Entry → Entry) → entry_at (changed t k f) k ≡ option_map f (entry_at t k) }
+    ensures others { (t : Table) (k j : Holder) (f : Entry → Entry) → j ≢ k → entry_at (changed t k f) j ≡ entry_at t j }
+{}
+
+/// A holder whose entry is made has a new one, and no other entry changes.
+pub fn an_opening_is_of_one_holder()
+    ensures own { (t : Table) (k : Holder) → entry_at t k ≡ None → entry_at (opened t k) k ≡ Some new_entry }
+    ensures others { (t : Table) (k j : Holder) → j ≢ k → entry_at (opened t k) j ≡ entry_at t j }
+{}
+
+/// A holder that is taken out has no entry, and no other entry changes.
+pub fn a_removal_is_of_one_holder()
+    ensures own { (t : Table) (k : Holder) → entry_at (without t k) k ≡ None }
+    ensures others { (t : Table) (k j : Holder) → j ≢ k → entry_at (without t k) j ≡ entry_at t j }
+{}
+
+/// A client that is dropped has no entry, and no entry of another client changes.
+pub fn a_drop_is_of_one_client()
+    ensures own { (t : Table) (client : ClientId) (k : Holder) → k.client ≡ client → entry_at (without_client t client) k ≡ None }
+    ensures others { (t : Table) (client : ClientId) (k : Holder) → k.client ≢ client
+        → entry_at (without_client t client) k ≡ entry_at t k }
+{}
+
+/// A release with the pin takes the entry out, any other release changes it, and no other entry changes.
+pub fn a_release_is_of_one_holder()
+    ensures pin { (t : Table) (k : Holder) (caps : Caps) → IsTrue (has caps P) → entry_at (released t k caps) k ≡ None }
+    ensures rest { (t : Table) (k : Holder) (caps : Caps) → IsFalse (has caps P)
+        → entry_at (released t k caps) k ≡ option_map (given_back caps) (entry_at t k) }
+    ensures others { (t : Table) (k j : Holder) (caps : Caps) → j ≢ k → entry_at (released t k caps) j ≡ entry_at t j }
+{}
+
+/// A holder that becomes the last in the order of recall changes no entry.
+pub fn a_touch_changes_no_entry()
+    ensures { (t : Table) (k j : Holder) → entry_at (touched t k) j ≡ entry_at t j }
+{}
+
+/// A recall marks the first `n` entries in the order of recall, and changes no other.
+pub fn a_recall_is_of_the_first()
+    ensures first { (t : Table) (n : ℕ) (k : Holder) → IsTrue (is_among (take n t.recall) k)
+        → entry_at (recalled t n) k ≡ option_map (with_asked true) (entry_at t k) }
+    ensures others { (t : Table) (n : ℕ) (k : Holder) → IsFalse (is_among (take n t.recall) k)
+        → entry_at (recalled t n) k ≡ entry_at t k }
+{}
+
+/// What happens to a holder leaves the entries on every other inode as they were, in their order.
+pub fn other_inodes_keep_their_entries()
+    ensures changed { (t : Table) (k : Holder) (f : Entry → Entry) (ino : Ino) → ino ≢ k.ino
+        → entries_on (changed t k f) ino ≡ entries_on t ino }
+    ensures opened { (t : Table) (k : Holder) (ino : Ino) → ino ≢ k.ino → entries_on (opened t k) ino ≡ entries_on t ino }
+    ensures without { (t : Table) (k : Holder) (ino : Ino) → ino ≢ k.ino → entries_on (without t k) ino ≡ entries_on t ino }
+    ensures released { (t : Table) (k : Holder) (caps : Caps) (ino : Ino) → ino ≢ k.ino
+        → entries_on (released t k caps) ino ≡ entries_on t ino }
+{}
+
+/// What happens to a client, or in the order of recall, happens on each inode by itself.
+pub fn inodes_change_by_themselves()
+    ensures without_client { (t : Table) (client : ClientId) (ino : Ino)
+        → entries_on (without_client t client) ino ≡ filter (λ row. not (is_of_client client row)) (entries_on t ino) }
+    ensures touched { (t : Table) (k : Holder) (ino : Ino) → entries_on (touched t k) ino ≡ entries_on t ino }
+    ensures recalled { (t : Table) (n : ℕ) (ino : Ino)
+        → entries_on (recalled t n) ino ≡ map (asked_row (take n t.recall)) (entries_on t ino) }
+{}
+
+/// Entries that are changed one after another are changed all at once: those of holders that are named once each, those
+/// on an inode, and all in the order of recall.
+pub fn one_by_one_is_at_once()
+    ensures named { (g : EntryRow → Entry) (t : Table) (ks : List Holder) → IsTable t → IsDistinct same ks
+        → fold (changed_by g) t ks ≡ changed_where (λ row. is_among ks row.holder) g t }
+    ensures on_inode { (g : EntryRow → Entry) (t : Table) (ino : Ino) → IsTable t
+        → fold (changed_by g) t (holders_of_rows (entries_on t ino)) ≡ changed_where (is_of_inode ino) g t }
+    ensures each { (g : EntryRow → Entry) (t : Table) → IsTable t
+        → fold (changed_by g) t t.recall ≡ record t { rows = map (remade g) t.rows } }
+{}
+
+/// Each change leaves every holder once in both orders, and no more than 65,536 entries.
+pub fn a_table_stays_a_table()
+    ensures changed { (t : Table) (k : Holder) (f : Entry → Entry) → IsTable t → IsTable (changed t k f) }
+    ensures opened { (t : Table) (k : Holder) → IsTable t → entry_at t k ≡ None → open_fault t ≡ None → IsTable (opened t k) }
+    ensures without { (t : Table) (k : Holder) → IsTable t → IsTable (without t k) }
+    ensures without_client { (t : Table) (client : ClientId) → IsTable t → IsTable (without_client t client) }
+    ensures touched { (t : Table) (k : Holder) → IsTable t → IsTable (touched t k) }
+    ensures recalled { (t : Table) (n : ℕ) → IsTable t → IsTable (recalled t n) }
+    ensures released { (t : Table) (k : Holder) (caps : Caps) → IsTable t → IsTable (released t k caps) }
+{}
