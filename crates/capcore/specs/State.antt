@@ -4,7 +4,7 @@ use Rattle.std.specs.Coded.{Coded, code_by, coded×, coded_ℕ, coded_list}
 use Rattle.inotree.specs.Tree.{Nodes, nodes_code}
 use Rattle.sessiontab.specs.Table.{SessionTable, table_code}
 use Rattle.captable.specs.Table.{Table}
-use Rattle.captable.specs.contracts.table.CapTable as cap_table
+use Rattle.captable.specs.Codes as entries
 use Rattle.lockmachine.specs.Locks.{LockMap, lock_map_code}
 use Rattle.lockmachine.specs.Scene.{Scene}
 use Rattle.capcore.specs.declared.outcome.Ended.{Ended}
@@ -21,7 +21,7 @@ pub record State : Type 0 where
 -- a state is stored as its parts
 abbrev pub scene_code : Coded Scene
 scene_code =
-    code_by (List ℕ × (Nodes × (SessionTable × (Table × LockMap)))) (coded× (coded_list coded_ℕ) (coded× nodes_code (coded× table_code (coded× cap_table.the_row.coded lock_map_code))))
+    code_by (List ℕ × (Nodes × (SessionTable × (Table × LockMap)))) (coded× (coded_list coded_ℕ) (coded× nodes_code (coded× table_code (coded× entries.table_code lock_map_code))))
     (λ s. (s.fs, (s.tree, (s.sessions, (s.table, s.locks))))) (λ p. record { fs = p.0; tree = p.1.0; sessions = p.1.1.0; table = p.1.1.1.0; locks = p.1.1.1.1 }) (λ _. refl)
 
 abbrev pub state_code : Coded State

@@ -5,13 +5,13 @@ use Rattle.std.specs.Option.{option_map_or}
 use Rattle.std.specs.FinMap as map
 use Rattle.capbits.specs.declared.cap.Part.{Part}
 use Rattle.capbits.specs.declared.cap.Part.TheVariants.{A, L, X, F}
+use Rattle.capbits.specs.Sets.{is_empty}
 use Rattle.locktable.specs.declared.states.State.{State}
 use Rattle.locktable.specs.declared.states.State.TheVariants.{Sync, Lock, Mix, Excl}
 use Rattle.locktable.specs.declared.states.LockState.{LockState}
 use Rattle.locktable.specs.declared.states.LockState.TheVariants.{Stable, Gather}
 use Rattle.locktable.specs.declared.targets.Head.{Head}
 use Rattle.locktable.specs.Targets.{is_served}
-use Rattle.captable.specs.Calls.{is_empty}
 use Rattle.lockmachine.specs.declared.request.Request.{Request}
 use Rattle.lockmachine.specs.declared.moves.Move.{Move}
 use Rattle.lockmachine.specs.declared.moves.Move.TheVariants.{Begin, End, Serve, Settled}

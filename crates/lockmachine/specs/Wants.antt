@@ -5,11 +5,10 @@ use Rattle.std.specs.FinMap as map
 use Rattle.capbits.specs.declared.cap.Cap.TheVariants.{P}
 use Rattle.capbits.specs.declared.ids.ClientId.{ClientId}
 use Rattle.capbits.specs.Caps.{Caps}
-use Rattle.capbits.specs.Sets.{no_caps, caps_in, union, meet, minus}
+use Rattle.capbits.specs.Sets.{no_caps, caps_in, is_empty, union, meet, minus}
 use Rattle.sessiontab.specs.Table.{SessionTable}
 use Rattle.inotree.specs.Tree.{Nodes}
 use Rattle.captable.specs.declared.entry.EntryRow.{EntryRow}
-use Rattle.captable.specs.Calls.{is_empty}
 use Rattle.lockmachine.specs.Policy.{permitted, is_open_session}
 
 -- what the entry's client wants and is permitted, if its session is open
