@@ -10,4 +10,5 @@ pub mod Finish
 pub mod Messages
 pub mod Step
 pub mod History
+pub mod Codes
 pub mod Headline

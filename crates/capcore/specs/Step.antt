@@ -15,11 +15,11 @@ earlier last ended = filter (λ m. nat_le m.ticket.0 last) ended
 
 -- the requests of earlier steps that this one ended: those that the event dropped, and those that were served
 abbrev pub all_ended : State → Direct → List Made → List Ended
-all_ended old d moves = d.dropped ++ earlier old.ticket (ended_in moves)
+all_ended old d moves = d.dropped ++ earlier old.scene.locks.last (ended_in moves)
 
 -- the state at the end. What the event dropped is told to nobody, as the session of its client has ended
 abbrev pub state_after : State → Direct → List Made → Scene → State
-state_after old d moves settled = record d.state { scene = finished d.state.scene settled; messages = d.state.messages ++ earlier old.ticket (ended_in moves) }
+state_after old d moves settled = record d.state { scene = finished d.state.scene settled; messages = d.state.messages ++ earlier old.scene.locks.last (ended_in moves) }
 
 -- a step by these moves
 pub record StepBy (old : State) (e : Event) (moves : List Made) (answer : Reply) (ended : List Ended) (new : State) : Type 0 where

@@ -42,15 +42,14 @@ pub(crate) struct World {
     sessions: Sessions,
     table: CapTable,
     locks: Locks,
-    // The last number that a request was given.
-    ticket: u64,
     // The requests that ended and that no client was told of.
     messages: EndedList,
     alloc: Global,
 }
 
 impl Model for World {
-    ghost use Rattle.capcore.specs.State.{State, state_code};
+    ghost use Rattle.capcore.specs.State.{State};
+    ghost use Rattle.capcore.specs.Codes.{state_code};
     ghost use Rattle.capcore.specs.Idle.{IsIdle};
 
     ghost Value = { State };
@@ -59,7 +58,6 @@ impl Model for World {
 
     ghost view = { λ w. record {
       scene = record { fs = w.fs; tree = w.tree; sessions = w.sessions; table = w.table; locks = w.locks };
-      ticket = w.ticket;
       messages = w.messages;
     } };
 
@@ -82,7 +80,6 @@ impl World {
             sessions,
             table,
             locks,
-            ticket: 0,
             messages: EndedList::new(alloc),
             alloc,
         })
