@@ -6,6 +6,7 @@
 mod copies;
 mod event;
 mod history;
+mod laws;
 mod outcome;
 mod refusal;
 mod refused;
@@ -16,6 +17,9 @@ mod world;
 
 pub use event::Event;
 pub use history::{EndedList, Row, Stop};
+pub use laws::{
+    an_opening_is_sound, the_served_are_denied_by_name, the_served_are_denied_exactly,
+};
 pub use outcome::{Ended, Message, Outcome, PartValues};
 pub use refusal::Refusal;
 pub use reply::Reply;
