@@ -10,10 +10,16 @@ use Rattle.lockmachine.specs.Codes.{lock_map_code}
 use Rattle.lockmachine.specs.Scene.{Scene}
 use Rattle.capcore.specs.declared.outcome.Ended.{Ended}
 use Rattle.capcore.specs.declared.history.Row.{Row}
-use Rattle.capcore.specs.contracts.history.EndedList as ended_list
+use Rattle.capcore.specs.contracts.outcome.Ended as ended
 use Rattle.capcore.specs.contracts.history.Row as history_row
 use Rattle.capcore.specs.State.{State}
+use Rattle.capcore.specs.Untold.{Untold}
 use Rattle.capcore.specs.History.{Told}
+
+-- a list with room as its parts
+abbrev pub untold_code : Coded Untold
+untold_code =
+    code_by (List Ended × ℕ) (coded× (coded_list ended.the_row.coded) coded_ℕ) (λ m. (m.items, m.room)) (λ p. record { items = p.0; room = p.1 }) (λ _. refl)
 
 -- a state as its parts
 abbrev pub scene_code : Coded Scene
@@ -23,7 +29,7 @@ scene_code =
 
 abbrev pub state_code : Coded State
 state_code =
-    code_by (Scene × List Ended) (coded× scene_code ended_list.the_row.coded)
+    code_by (Scene × List Ended) (coded× scene_code (coded_list ended.the_row.coded))
     (λ s. (s.scene, s.messages)) (λ p. record { scene = p.0; messages = p.1 }) (λ _. refl)
 
 -- and with its history

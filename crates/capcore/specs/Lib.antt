@@ -1,4 +1,5 @@
 pub mod State
+pub mod Untold
 pub mod Tests
 pub mod Judge
 pub mod Direct

@@ -7,6 +7,7 @@ mod copies;
 mod event;
 mod history;
 mod laws;
+mod messages;
 mod outcome;
 mod refusal;
 mod refused;
