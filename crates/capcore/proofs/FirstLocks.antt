@@ -19,11 +19,12 @@ first_of node = option_map (λ _. in_sync) node
 -- The locks are those of the inodes with a number below n, each as it begins.
 pub record AreFirstBelow (nodes : InodeMap) (n : ℕ) (locks : LockMap) : Type 0 where
   pub queue : locks.queue ≡ []
+  pub last : locks.last ≡ 0
   pub below : (q : ℕ) → q < n → map.get locks.states q ≡ option_map (λ node. in_sync) (map.get nodes q)
   pub above : (q : ℕ) → n ≤ q → map.get locks.states q ≡ None
 
 pub first_below_none : (nodes : InodeMap) → AreFirstBelow nodes 0 no_locks
-first_below_none nodes = record { queue = refl; below = λ q h. absurd (omega arith); above = λ q h. map.get-empty _ q }
+first_below_none nodes = record { queue = refl; last = refl; below = λ q h. absurd (omega arith); above = λ q h. map.get-empty _ q }
 
 -- what the locks are after those of the inode n were added, where there is one
 added_is : (node : Option Node) (locks : LockMap) (n : ℕ) → map.get locks.states n ≡ None → map.get (if is_some node then with_ino locks n else locks).states n ≡ first_of node
@@ -38,6 +39,10 @@ added_queue : (node : Option Node) (locks : LockMap) (n : ℕ) → (if is_some n
 added_queue None locks n = refl
 added_queue (Some node) locks n = refl
 
+added_last : (node : Option Node) (locks : LockMap) (n : ℕ) → (if is_some node then with_ino locks n else locks).last ≡ locks.last
+added_last None locks n = refl
+added_last (Some node) locks n = refl
+
 at_most : (q n : ℕ) → q < n + 1 → (q < n) ⊎ (q ≡ n)
 at_most q n h = grind arith
 
@@ -45,6 +50,7 @@ at_most q n h = grind arith
 pub first_below_more : (nodes : InodeMap) (n : ℕ) (locks added : LockMap) → AreFirstBelow nodes n locks → added ≡ (if map.contains_key nodes n then with_ino locks n else locks) → AreFirstBelow nodes (n + 1) added
 first_below_more nodes n locks added first is = subst (AreFirstBelow nodes (n + 1)) (sym is) (record {
   queue = added_queue (map.get nodes n) locks n ∙ first.queue;
+  last = added_last (map.get nodes n) locks n ∙ first.last;
   below = λ q h. elim (at_most q n h) as (λ _. map.get (if map.contains_key nodes n then with_ino locks n else locks).states q ≡ first_of (map.get nodes q)) [
     | inl less ↦ added_elsewhere (map.get nodes n) locks n q (λ same. absurd (omega arith)) ∙ first.below q less
     | inr same ↦ subst (λ x. map.get (if map.contains_key nodes n then with_ino locks n else locks).states x ≡ first_of (map.get nodes x)) (sym same) (added_is (map.get nodes n) locks n (first.above n (omega arith)))

@@ -6,6 +6,8 @@ pub mod Judging
 pub mod Numbered
 pub mod Promised
 pub mod Refusals
+pub mod Servings
+pub mod Sounding
 pub mod Staying
 pub mod Steps
 pub mod Verdicts

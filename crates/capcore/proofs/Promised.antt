@@ -21,22 +21,19 @@ use Rattle.capcore.specs.declared.reply.Reply.TheVariants as reply
 use Rattle.capcore.specs.State.{State}
 use Rattle.capcore.specs.Tests.{first_failing}
 use Rattle.capcore.specs.Judge.{Need, before, needs, after, first_denied, stop_by}
-use Rattle.capcore.specs.Direct.{effect, effect_unless, found, reply_of, IsDirect}
+use Rattle.capcore.specs.Direct.{effect, effect_unless, found, reply_by, IsDirect}
 use Rattle.capcore.specs.Finish.{due}
 use Rattle.capcore.specs.Idle.{IsIdle}
 use Rattle.capcore.specs.Headline.{DeniedExactly, DeniesByName, IssuesExactly, AreInPlace, NoneConflict, holds, is_due, is_stop}
 
 -- ---- an event that nothing stops
 
-answer_of_effect : State → Event → Reply
-answer_of_effect old e = reply_of (effect old e).answer
-
 module _ (old : State) where
-  lookup-no_stop : (o : Option ℕ) → is_stop (reply_of (found old o).answer) ≡ false
+  lookup-no_stop : (o : Option ℕ) → is_stop (reply_by (found old o)) ≡ false
   lookup-no_stop None = refl
   lookup-no_stop (Some ino) = refl
 
-  effect-no_stop : (e : Event) → is_stop (reply_of (effect old e).answer) ≡ false
+  effect-no_stop : (e : Event) → is_stop (reply_by (effect old e)) ≡ false
   effect-no_stop (event.Session client caller grants) = refl
   effect-no_stop (event.Lookup client dir name) = lookup-no_stop (child old.scene.tree.nodes dir.0 name)
   effect-no_stop (event.Create client dir name mode) = refl
@@ -48,7 +45,7 @@ module _ (old : State) where
 
 module _ (old : State) (e : Event) where
   answered_by : Option Refusal → Option Need → Option Refusal → Reply
-  answered_by o d l = reply_of (effect_unless old e (stop_by old.scene o d l)).answer
+  answered_by o d l = reply_by (effect_unless old e (stop_by old.scene o d l))
 
   Cause : Option Refusal → Option Need → Access → List Rule → Type 0
   Cause o d access rules = (n : Need) × (o ≡ None) × (d ≡ Some n) × (access ≡ n.access) × (rules ≡ failures old.scene.fs old.scene.tree old.scene.sessions n.holder n.access)

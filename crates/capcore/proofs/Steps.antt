@@ -23,7 +23,7 @@ use Rattle.capcore.specs.declared.reply.Reply.{Reply}
 use Rattle.capcore.specs.State.{State}
 use Rattle.capcore.specs.Tests.{is_gone}
 use Rattle.capcore.specs.Judge.{judged}
-use Rattle.capcore.specs.Direct.{Direct, direct, effect, effect_unless, found, IsDirect}
+use Rattle.capcore.specs.Direct.{Direct, direct, effect, effect_unless, found, reply_of, shown, IsDirect}
 use Rattle.capcore.specs.Settle.{Settles}
 use Rattle.capcore.specs.Finish.{issue, issue_row, forget, is_kept, number, number_row, finished}
 use Rattle.capcore.specs.Step.{Step}
@@ -42,9 +42,9 @@ same-issue : (s : Scene) → IsIdle s → issue s ≡ s
 unfolding with_rows
 same-issue s idle = ap (with_rows s) (no_rows s (issue_row s) idle.no_entries)
 
-same-number : (first s : Scene) → IsIdle s → number first s ≡ s
+same-number : (old first s : Scene) → IsIdle s → number old first s ≡ s
 unfolding with_rows
-same-number first s idle = ap (with_rows s) (no_rows s (number_row first s) idle.no_entries)
+same-number old first s idle = ap (with_rows s) (no_rows s (number_row old first s) idle.no_entries)
 
 not_gone : (p : Place) → (p ≡ Gone → ⊥) → (rest : Bool) → (not (is_gone p) || rest) ≡ true
 not_gone NoIno never rest = refl
@@ -64,8 +64,8 @@ same-forget s idle = λ i. record s {
   locks = record s.locks { states = same_kept s.locks.states (is_kept s) (kept s idle) i };
 }
 
-same-finished : (s : Scene) → IsIdle s → finished s s ≡ s
-same-finished s idle = ap (λ t. number s (forget t)) (same-issue s idle) ∙ ap (number s) (same-forget s idle) ∙ same-number s s idle
+same-finished : (old s : Scene) → IsIdle s → finished old s s ≡ s
+same-finished old s idle = ap (λ t. number old s (forget t)) (same-issue s idle) ∙ ap (number old s) (same-forget s idle) ∙ same-number old s s idle
 
 -- ---- the event by itself
 
@@ -84,6 +84,23 @@ none_dropped-effect old (event.RemoveSnapshot client ino name) = refl
 none_dropped : (old : State) (e : Event) (o : Option Reply) → (effect_unless old e o).dropped ≡ []
 none_dropped old e (Some r) = refl
 none_dropped old e None = none_dropped-effect old e
+
+-- and shows no entry
+none_shown-effect : (old : State) (e : Event) (s : Scene) → shown (effect old e).answer s ≡ s
+none_shown-effect old (event.Session client caller grants) s = refl
+none_shown-effect old (event.Lookup client dir name) s = by_found (child old.scene.tree.nodes dir.0 name)
+  where
+    by_found : (o : Option ℕ) → shown (found old o).answer s ≡ s
+    by_found None = refl
+    by_found (Some ino) = refl
+none_shown-effect old (event.Create client dir name mode) s = refl
+none_shown-effect old (event.Mkdir client dir name mode) s = refl
+none_shown-effect old (event.MakeSnapshot client ino name) s = refl
+none_shown-effect old (event.RemoveSnapshot client ino name) s = refl
+
+none_shown : (old : State) (e : Event) (o : Option Reply) (s : Scene) → shown (effect_unless old e o).answer s ≡ s
+none_shown old e (Some r) s = refl
+none_shown old e None s = none_shown-effect old e s
 
 no_more : {A : Type 0} (xs : List A) → xs ++ [] ≡ xs
 no_more [] = refl
@@ -106,8 +123,10 @@ whole_step old e answer new is idle = (
   record {
     settled = d.state.scene;
     settles = at_once d.state.scene there;
-    new_is = is.state_is ∙ sym (λ i. record d.state { scene = same-finished d.state.scene there i; messages = no_more d.state.messages i });
-    answer_is = is.answer_is;
+    new_is =
+        is.state_is
+        ∙ sym (λ i. record d.state { scene = (none_shown old e (judged old.scene e) (finished old.scene d.state.scene d.state.scene) ∙ same-finished old.scene d.state.scene there) i; messages = no_more d.state.messages i });
+    answer_is = is.answer_is ∙ ap (λ (s : State). reply_of s.scene [] d.answer) (sym is.state_is);
     ended_is = sym (ap (λ xs. xs ++ []) (none_dropped old e (judged old.scene e)));
   },
 )

@@ -1,5 +1,6 @@
 -- What an event does and answers by itself, before any lock moves.
 use Rattle.std.specs.Prelude.{◌≡◌, ℕ, ◌+◌, List, [], Option, Some, None}
+use Rattle.std.specs.List.{find}
 use Rattle.std.specs.FinMap as map
 use Rattle.capbits.specs.declared.ids.ClientId.{ClientId}
 use Rattle.capbits.specs.declared.ids.Ino.{Ino}
@@ -12,7 +13,12 @@ use Rattle.inotree.specs.Tree.{Nodes, child}
 use Rattle.inotree.specs.Calls.{with_new, changed}
 use Rattle.sessiontab.specs.declared.session.Session.{Session}
 use Rattle.sessiontab.specs.Calls.{with_session}
+use Rattle.captable.specs.declared.entry.Holder.{Holder}
+use Rattle.captable.specs.declared.entry.EntryRow.{EntryRow}
+use Rattle.captable.specs.Table.{is_row_of}
+use Rattle.captable.specs.Calls.{told, changed as changed_entry}
 use Rattle.lockmachine.specs.Locks.{with_ino}
+use Rattle.lockmachine.specs.Scene.{Scene, told_set}
 use Rattle.capcore.specs.declared.event.Event.{Event}
 use Rattle.capcore.specs.declared.event.Event.TheVariants as event
 use Rattle.capcore.specs.declared.outcome.Ended.{Ended}
@@ -21,13 +27,25 @@ use Rattle.capcore.specs.declared.reply.Reply.TheVariants as reply
 use Rattle.capcore.specs.State.{State}
 use Rattle.capcore.specs.Judge.{judged}
 
--- what is answered: this reply, whatever the step still does
+-- what is answered: this reply, whatever the step still does; or what an entry's client is to know at the end of the step
 pub data Answer : Type 0 where
   Says : Reply → Answer
+  Shows : Holder → Answer
 
--- what is answered at the end
-abbrev pub reply_of : Answer → Reply
-reply_of (Says answer) = answer
+-- the number of the entry's last change, and what its client is to know; an entry that was opened is there
+abbrev pub opened_as : Scene → Option EntryRow → Reply
+opened_as last None = reply.Done
+opened_as last (Some row) = reply.Opened row.entry.seq (told_set last row)
+
+-- what is answered at the end, in the last scene, by what the moves ended
+abbrev pub reply_of : Scene → List Ended → Answer → Reply
+reply_of last ended (Says answer) = answer
+reply_of last ended (Shows k) = opened_as last (find (is_row_of k) last.table.rows)
+
+-- what is shown, the client was told of
+abbrev pub shown : Answer → Scene → Scene
+shown (Says answer) last = last
+shown (Shows k) last = record last { table = changed_entry last.table k told }
 
 -- the state after an event, the answer, and the requests that the event itself ended
 pub record Direct : Type 0 where
@@ -77,9 +95,12 @@ effect_unless s e None = effect s e
 abbrev pub direct : State → Event → Direct
 direct s e = effect_unless s e (judged s.scene e)
 
--- what the event answers by itself
+-- what the event answers by itself, where no lock moves
+abbrev pub reply_by : Direct → Reply
+reply_by d = reply_of d.state.scene [] d.answer
+
 abbrev pub answer_to : State → Event → Reply
-answer_to s e = reply_of (direct s e).answer
+answer_to s e = reply_by (direct s e)
 
 -- the event by itself answers this and leads to this state
 pub record IsDirect (old : State) (e : Event) (answer : Reply) (new : State) : Type 0 where

@@ -59,19 +59,20 @@ forget s = record s {
 
 -- ---- numbers
 
+-- of an entry as the event left it, what was not being revoked when the event came; nothing of a new entry
 abbrev pub told_before : Scene → Option EntryRow → Caps
-told_before s None = no_caps
-told_before s (Some row) = told_set s row
+told_before old None = no_caps
+told_before old (Some row) = told_set old row
 
--- the entry, whose client was to know of one set after the event, and is to know of another at the end
-abbrev pub number_row : Scene → Scene → EntryRow → EntryRow
-number_row first last row =
-    record row { entry = renumbered (told_before first (find (is_row_of row.holder) first.table.rows)) (told_set last row) row.entry }
+-- the entry, whose client was to know of that set, and is to know of another at the end
+abbrev pub number_row : Scene → Scene → Scene → EntryRow → EntryRow
+number_row old first last row =
+    record row { entry = renumbered (told_before old (find (is_row_of row.holder) first.table.rows)) (told_set last row) row.entry }
 
 -- of each entry
-abbrev pub number : Scene → Scene → Scene
-number first last = record last { table = record last.table { rows = map (number_row first last) last.table.rows } }
+abbrev pub number : Scene → Scene → Scene → Scene
+number old first last = record last { table = record last.table { rows = map (number_row old first last) last.table.rows } }
 
--- the end of a step: from the scene after the event, and the scene in which the locks have settled
-abbrev pub finished : Scene → Scene → Scene
-finished first settled = number first (forget (issue settled))
+-- the end of a step: from the scene before the event, the one after it, and the one in which the locks have settled
+abbrev pub finished : Scene → Scene → Scene → Scene
+finished old first settled = number old first (forget (issue settled))

@@ -51,6 +51,7 @@ DeniesByName s e answer =
 abbrev pub is_stop : Reply → Bool
 is_stop reply.Done = false
 is_stop (reply.Ino ino) = false
+is_stop (reply.Opened seq caps) = false
 is_stop (reply.Denied access rules) = true
 is_stop (reply.Refused refusal) = true
 

@@ -1,10 +1,9 @@
 -- Histories: what rows lead to, and when they are legal.
-use Rattle.std.specs.Prelude.{length, ◌≤◌, ◌≡◌, ◌≢◌, ℕ, ◌+◌, ◌==◌, List, [], ◌∷◌, ◌++◌, refl}
+use Rattle.std.specs.Prelude.{length, ◌≤◌, ◌≡◌, ◌≢◌, ℕ, ◌+◌, ◌==◌, List, [], ◌∷◌, ◌++◌}
 use Rattle.std.specs.List.{count_by}
 use Rattle.std.specs.Option.{option_map}
 use Rattle.std.specs.FinMap as map
 use Rattle.std.specs.FinSet as set
-use Rattle.std.specs.Coded.{Coded, code_by, coded×, coded_ℕ, coded_list}
 use Rattle.capbits.specs.declared.ids.PassId.{PassId}
 use Rattle.inotree.specs.declared.node.Place.TheVariants.{Gone}
 use Rattle.inotree.specs.Tree.{Nodes, place}
@@ -14,8 +13,7 @@ use Rattle.capcore.specs.declared.event.Event.{Event}
 use Rattle.capcore.specs.declared.history.Row.{Row}
 use Rattle.capcore.specs.declared.outcome.Ended.{Ended}
 use Rattle.capcore.specs.declared.reply.Reply.{Reply}
-use Rattle.capcore.specs.contracts.history.Row as history_row
-use Rattle.capcore.specs.State.{State, state_code}
+use Rattle.capcore.specs.State.{State}
 use Rattle.capcore.specs.Step.{Step}
 
 -- a state, the history that led to it, and how many rows it may have
@@ -24,18 +22,13 @@ pub record Told : Type 0 where
   pub rows : List Row
   pub max_rows : ℕ
 
-abbrev pub told_code : Coded Told
-told_code =
-    code_by (State × (List Row × ℕ)) (coded× state_code (coded× (coded_list history_row.the_row.coded) coded_ℕ))
-    (λ t. (t.state, (t.rows, t.max_rows))) (λ p. record { state = p.0; rows = p.1.0; max_rows = p.1.1 }) (λ _. refl)
-
 -- ---- the opening state
 
 -- the tree has no stray
 abbrev pub HasNoStray : Nodes → Type 0
 HasNoStray tree = (ino : ℕ) → place tree.nodes ino ≢ Gone
 
--- on this file system and tree nobody is connected, nobody has an entry, nobody waits, and each lock is in SYNC
+-- on this file system and tree nobody is connected, nobody has an entry, nobody waits or has waited, and each lock is in SYNC
 pub record IsOpening (fs : List ℕ) (tree : Nodes) (s : State) : Type 0 where
   pub fs_is : s.scene.fs ≡ fs
   pub tree_is : s.scene.tree ≡ tree
@@ -43,7 +36,7 @@ pub record IsOpening (fs : List ℕ) (tree : Nodes) (s : State) : Type 0 where
   pub table_is : s.scene.table ≡ table.empty
   pub locks_are : (ino : ℕ) → map.get s.scene.locks.states ino ≡ option_map (λ node. in_sync) (map.get tree.nodes ino)
   pub queue_is : s.scene.locks.queue ≡ []
-  pub ticket_is : s.ticket ≡ 0
+  pub last_is : s.scene.locks.last ≡ 0
   pub messages_are : s.messages ≡ []
 
 -- ---- histories

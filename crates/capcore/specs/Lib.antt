@@ -1,4 +1,5 @@
 pub mod State
+pub mod Untold
 pub mod Tests
 pub mod Judge
 pub mod Direct
@@ -10,4 +11,6 @@ pub mod Finish
 pub mod Messages
 pub mod Step
 pub mod History
+pub mod Codes
 pub mod Headline
+pub mod Sound

@@ -119,6 +119,7 @@ abbrev pub stopped_as : Reply → Outcome
 stopped_as (reply.Denied access rules) = outcome.Denied access rules
 stopped_as (reply.Refused refusal) = outcome.Refused refusal
 stopped_as reply.Done = outcome.Done
+stopped_as (reply.Opened seq caps) = outcome.Done
 stopped_as (reply.Ino ino) = outcome.Done
 
 abbrev pub outcome_unless : Scene → Request → Option Reply → Outcome

@@ -6,13 +6,12 @@ use Rattle.capbits.specs.declared.ids.Ino.{Ino}
 use Rattle.locktable.specs.declared.states.State.{State as LockGoal}
 use Rattle.lockmachine.specs.declared.request.Request.{Request}
 use Rattle.lockmachine.specs.declared.moves.Move.TheVariants.{Begin, End, Serve, Settled}
-use Rattle.lockmachine.specs.Requests.{is_numbered}
+use Rattle.lockmachine.specs.Locks.{request_at}
 use Rattle.lockmachine.specs.Scene.{Scene}
 use Rattle.lockmachine.specs.Moves.{first_move, begun, gathered}
 use Rattle.capcore.specs.declared.outcome.Outcome.{Outcome}
 use Rattle.capcore.specs.declared.outcome.Ended.{Ended}
 use Rattle.capcore.specs.Serving.{MayEndAs, served}
-use Rattle.std.specs.List.{find}
 
 -- a move that was made
 pub data Made : Type 0 where
@@ -26,7 +25,7 @@ Makes old (Began ino part to) new = (first_move old ≡ Begin ino part to) × (n
 Makes old (Gathered ino part) new = (first_move old ≡ End ino part) × (new ≡ gathered old ino.0 part)
 Makes old (Served q o) new =
     (first_move old ≡ Serve q.ticket)
-    × (find (is_numbered q.ticket.0) old.locks.queue ≡ Some q)
+    × (request_at old.locks q.ticket.0 ≡ Some q)
     × MayEndAs old q o
     × (new ≡ served old q o)
 

@@ -5,7 +5,7 @@ use Rattle.capcore.specs.declared.event.Event.{Event}
 use Rattle.capcore.specs.declared.outcome.Ended.{Ended}
 use Rattle.capcore.specs.declared.reply.Reply.{Reply}
 use Rattle.capcore.specs.State.{State}
-use Rattle.capcore.specs.Direct.{Direct, direct, reply_of}
+use Rattle.capcore.specs.Direct.{Direct, direct, reply_of, shown}
 use Rattle.capcore.specs.Settle.{Made, Settles, ended_in}
 use Rattle.capcore.specs.Finish.{finished}
 
@@ -15,18 +15,21 @@ earlier last ended = filter (λ m. nat_le m.ticket.0 last) ended
 
 -- the requests of earlier steps that this one ended: those that the event dropped, and those that were served
 abbrev pub all_ended : State → Direct → List Made → List Ended
-all_ended old d moves = d.dropped ++ earlier old.ticket (ended_in moves)
+all_ended old d moves = d.dropped ++ earlier old.scene.locks.last (ended_in moves)
 
 -- the state at the end. What the event dropped is told to nobody, as the session of its client has ended
 abbrev pub state_after : State → Direct → List Made → Scene → State
-state_after old d moves settled = record d.state { scene = finished d.state.scene settled; messages = d.state.messages ++ earlier old.ticket (ended_in moves) }
+state_after old d moves settled = record d.state {
+  scene = shown d.answer (finished old.scene d.state.scene settled);
+  messages = d.state.messages ++ earlier old.scene.locks.last (ended_in moves);
+}
 
 -- a step by these moves
 pub record StepBy (old : State) (e : Event) (moves : List Made) (answer : Reply) (ended : List Ended) (new : State) : Type 0 where
   pub settled : Scene
   pub settles : Settles (direct old e).state.scene moves settled
   pub new_is : new ≡ state_after old (direct old e) moves settled
-  pub answer_is : answer ≡ reply_of (direct old e).answer
+  pub answer_is : answer ≡ reply_of new.scene (ended_in moves) (direct old e).answer
   pub ended_is : ended ≡ all_ended old (direct old e) moves
 
 -- the event leads from the old state to the new, with this answer, and ends these requests of earlier steps

@@ -37,6 +37,10 @@ pub(crate) fn copy_of_reply(reply: &Reply) -> Reply
     match reply {
         Reply::Done => Reply::Done,
         Reply::Ino(ino) => Reply::Ino(*ino),
+        Reply::Opened { seq, caps } => Reply::Opened {
+            seq: *seq,
+            caps: *caps,
+        },
         Reply::Denied { access, rules } => Reply::Denied {
             access: *access,
             rules: copy_of_rules(rules),

@@ -41,11 +41,27 @@ impl EndedList {
         }
     }
 
+    /// The vector of the requests.
+    pub fn into_inner(self) -> Vec<Ended>
+        ensures { result.items ≡ self }
+    {
+        let EndedList { items } = self;
+        items
+    }
+
     /// The requests.
     pub fn as_slice(&self) -> &[Ended]
         ensures { result.now ≡ self.now }
     {
         self.items.as_slice()
+    }
+}
+
+impl From<Vec<Ended>> for EndedList {
+    ghost from_gives = { λ given list. list ≡ given.items };
+
+    fn from(items: Vec<Ended>) -> Self {
+        EndedList { items }
     }
 }
 

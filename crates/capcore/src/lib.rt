@@ -6,6 +6,8 @@
 mod copies;
 mod event;
 mod history;
+mod laws;
+mod messages;
 mod outcome;
 mod refusal;
 mod refused;
@@ -16,6 +18,10 @@ mod world;
 
 pub use event::Event;
 pub use history::{EndedList, Row, Stop};
+pub use laws::{
+    an_opening_is_sound, numbers_begin_at_the_event, the_served_are_denied_by_name,
+    the_served_are_denied_exactly,
+};
 pub use outcome::{Ended, Message, Outcome, PartValues};
 pub use refusal::Refusal;
 pub use reply::Reply;

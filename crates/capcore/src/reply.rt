@@ -1,7 +1,7 @@
 //! What is answered.
 
 use crate::refusal::Refusal;
-use capbits::Ino;
+use capbits::{CapSet, Ino};
 use capgrant::{Access, Rules};
 
 /// The answer to an event.
@@ -11,6 +11,13 @@ pub enum Reply {
     Done,
     /// The inode that was found or made.
     Ino(Ino),
+    /// What the client is to know that it holds on the inode that it opened, or wants more of.
+    Opened {
+        /// The number of the last change.
+        seq: u64,
+        /// The capabilities.
+        caps: CapSet,
+    },
     /// No grant of the client allows an access that the request needs.
     Denied {
         /// The first such access.

@@ -14,6 +14,7 @@ use std::alloc::Global;
 // The locks of each inode of the tree, each stable in SYNC.
 pub(crate) fn first_locks(alloc: Global, tree: &Tree) -> Result<Locks, NoMemory>
     ensures queue { IfOk result (λ locks. locks.queue ≡ []) }
+    ensures last { IfOk result (λ locks. locks.last ≡ 0) }
     ensures states { IfOk result (λ locks. (ino : ℕ) → map.get locks.states ino ≡ option_map (λ node. in_sync) (map.get tree.now.nodes ino)) }
 {
     let mut locks = Locks::new(alloc)?;

@@ -31,7 +31,8 @@ pub struct Core {
 }
 
 impl Model for Core {
-    ghost use Rattle.capcore.specs.History.{Told, told_code, IsTold};
+    ghost use Rattle.capcore.specs.History.{Told, IsTold};
+    ghost use Rattle.capcore.specs.Codes.{told_code};
 
     ghost Value = { Told };
 

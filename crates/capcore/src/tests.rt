@@ -113,6 +113,7 @@ fn text_of(alloc: Global, answer: Result<Reply, Stop>) -> Result<String, AllocEr
     match answer {
         Ok(Reply::Done) => String::from_str(alloc, "done"),
         Ok(Reply::Ino(ino)) => format!(in alloc; "ino {ino}"),
+        Ok(Reply::Opened { seq, caps }) => { format!(in alloc; "opened {seq} {}", caps.bits()) }
         Ok(Reply::Denied { access, rules }) => {
             let rules = rules_text(alloc, &rules)?;
             format!(in alloc; "denied {access:?}{rules}")

@@ -18,7 +18,8 @@ ghost use Rattle.capcore.specs.declared.event.Event.TheVariants as event;
 
 use crate::copies::copy_of_caller;
 use crate::event::Event;
-use crate::history::{EndedList, Stop};
+use crate::history::Stop;
+use crate::messages::Messages;
 use crate::refusal::Refusal;
 use crate::refused::{no_session, refused};
 use crate::reply::Reply;
@@ -42,16 +43,16 @@ pub(crate) struct World {
     sessions: Sessions,
     table: CapTable,
     locks: Locks,
-    // The last number that a request was given.
-    ticket: u64,
     // The requests that ended and that no client was told of.
-    messages: EndedList,
+    messages: Messages,
     alloc: Global,
 }
 
 impl Model for World {
-    ghost use Rattle.capcore.specs.State.{State, state_code};
+    ghost use Rattle.capcore.specs.State.{State};
+    ghost use Rattle.capcore.specs.Codes.{state_code};
     ghost use Rattle.capcore.specs.Idle.{IsIdle};
+    ghost use Rattle.capcore.specs.Untold.{HasRoom};
 
     ghost Value = { State };
 
@@ -59,11 +60,12 @@ impl Model for World {
 
     ghost view = { λ w. record {
       scene = record { fs = w.fs; tree = w.tree; sessions = w.sessions; table = w.table; locks = w.locks };
-      ticket = w.ticket;
-      messages = w.messages;
+      messages = w.messages.items;
     } };
 
-    ghost invariant = { λ w. IsIdle (record { fs = w.fs; tree = w.tree; sessions = w.sessions; table = w.table; locks = w.locks }) };
+    ghost invariant = { λ w.
+        IsIdle (record { fs = w.fs; tree = w.tree; sessions = w.sessions; table = w.table; locks = w.locks })
+        × HasRoom w.messages w.locks };
 }
 
 impl World {
@@ -82,8 +84,7 @@ impl World {
             sessions,
             table,
             locks,
-            ticket: 0,
-            messages: EndedList::new(alloc),
+            messages: Messages::new(alloc),
             alloc,
         })
     }

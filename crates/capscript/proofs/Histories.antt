@@ -38,9 +38,8 @@ first_state = record {
     tree = first_tree root_attr;
     sessions = record { sessions = map.empty; blocked = set.empty };
     table = record { rows = []; recall = [] };
-    locks = record { states = map.insert map.empty 1 in_sync; queue = [] };
+    locks = record { states = map.insert map.empty 1 in_sync; queue = []; last = 0 };
   };
-  ticket = 0;
   messages = [];
 }
 
@@ -61,7 +60,7 @@ opens_first = record {
   table_is = refl;
   locks_are = λ ino. locks_alone _ ino;
   queue_is = refl;
-  ticket_is = refl;
+  last_is = refl;
   messages_are = refl;
 }
 

@@ -2,6 +2,7 @@
 use Rattle.std.specs.Prelude.{ℕ, List, [], ◌∷◌, ◌++◌, codes}
 use Rattle.std.specs.Fmt.{decimal}
 use Rattle.std.specs.List.{join_by, enumerate_from}
+use Rattle.capbits.specs.Text.{text_of}
 use Rattle.capgrant.specs.declared.access.Access.{Access}
 use Rattle.capgrant.specs.declared.access.Access.TheVariants.{Read, Write, SetVxattr, Snapshot, Chmod, Chown, Chgrp}
 use Rattle.capgrant.specs.declared.rule.Rule.{Rule}
@@ -9,7 +10,7 @@ use Rattle.capgrant.specs.Rule.{rule_number}
 use Rattle.capcore.specs.declared.refusal.Refusal.{Refusal}
 use Rattle.capcore.specs.declared.refusal.Refusal.TheVariants as refusals
 use Rattle.capcore.specs.declared.reply.Reply.{Reply}
-use Rattle.capcore.specs.declared.reply.Reply.TheVariants.{Done, Ino, Denied, Refused}
+use Rattle.capcore.specs.declared.reply.Reply.TheVariants.{Done, Ino, Opened, Denied, Refused}
 
 -- the word of an access; its number is in decimal, without leading zeros
 abbrev pub access_word : Access → List ℕ
@@ -54,6 +55,7 @@ refusal_word refusals.Limit = codes "Limit"
 abbrev pub reply_line : Reply → List ℕ
 reply_line Done = codes "done"
 reply_line (Ino ino) = codes "ino " ++ decimal ino.0
+reply_line (Opened seq caps) = codes "caps " ++ decimal seq ++ codes " " ++ text_of caps
 reply_line (Denied access rules) = codes "denied " ++ access_word access ++ codes " " ++ rules_text rules
 reply_line (Refused refusal) = codes "refused " ++ refusal_word refusal
 

@@ -4,6 +4,7 @@ ghost use Rattle.capscript.specs.Replies.{reply_text, rules_text, rule_text, ref
 
 use crate::access::AccessWord;
 use crate::fault::NoMemory;
+use capbits::write_caps;
 use capcore::{Refusal, Reply};
 use capgrant::Rule;
 use std::alloc::Global;
@@ -18,6 +19,10 @@ pub fn reply_lines(alloc: Global, reply: &Reply) -> Result<Vec<u8>, NoMemory>
     match reply {
         Reply::Done => print(&mut text, "done")?,
         Reply::Ino(ino) => print(&mut text, format_args!("ino {ino}"))?,
+        Reply::Opened { seq, caps } => {
+            print(&mut text, format_args!("caps {seq} "))?;
+            text.extend_from_slice(write_caps(*caps).as_slice())?;
+        }
         Reply::Denied { access, rules } => {
             let access = AccessWord(*access);
             print(&mut text, format_args!("denied {access} "))?;

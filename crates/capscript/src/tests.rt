@@ -2,7 +2,7 @@
 
 use super::*;
 use arrayvec::ArrayVec;
-use capbits::Ino;
+use capbits::{Cap, CapSet, Ino};
 use capcore::{Event, Refusal, Reply};
 use capgrant::{Access, Rule, Rules};
 use std::alloc::Global;
@@ -195,6 +195,20 @@ fn replies_have_texts(rt: HostRuntime) -> Result<(), Fail> {
         (Reply::Done, "done\n"),
         (Reply::Ino(Ino(2)), "ino 2\n"),
         (Reply::Ino(Ino(u64::MAX)), "ino 18446744073709551615\n"),
+        (
+            Reply::Opened {
+                seq: 0,
+                caps: CapSet::empty(),
+            },
+            "caps 0 -\n",
+        ),
+        (
+            Reply::Opened {
+                seq: 12,
+                caps: CapSet::of(&[Cap::P, Cap::Fr]),
+            },
+            "caps 12 pFr\n",
+        ),
         (
             denied(Access::Write, Rules::from(rules)),
             "denied write 1:4,2:5,3:11\n",

@@ -1,7 +1,5 @@
 -- The locks of each inode.
-use Rattle.std.specs.Coded.{Coded, coded_ℕ}
 use Rattle.std.specs.Ordering.{nat_cmp}
-use Rattle.std.specs.FinMap as map
 use Rattle.std.specs.FinMap.{FinMap}
 use Rattle.capbits.specs.declared.cap.Part.{Part}
 use Rattle.capbits.specs.declared.cap.Part.TheVariants.{A, L, X, F}
@@ -9,15 +7,10 @@ use Rattle.locktable.specs.declared.states.State.TheVariants.{Sync}
 use Rattle.locktable.specs.declared.states.LockState.{LockState}
 use Rattle.locktable.specs.declared.states.LockState.TheVariants.{Stable}
 use Rattle.lockmachine.specs.declared.states.InodeLocks.{InodeLocks}
-use Rattle.lockmachine.specs.contracts.states.InodeLocks as inode_locks
 
 -- the locks of each inode, by its number
 abbrev pub StateMap : Type 0
 StateMap = FinMap nat_cmp InodeLocks
-
--- a map is stored as its entries
-abbrev pub state_map_code : Coded StateMap
-state_map_code = map.code coded_ℕ inode_locks.the_row.coded
 
 -- the lock of a part
 abbrev pub lock_in : Part → InodeLocks → LockState

@@ -1,6 +1,7 @@
 pub mod Requests
 pub mod Inodes
 pub mod Locks
+pub mod Codes
 pub mod Policy
 pub mod Wants
 pub mod Scene

@@ -1,24 +1,35 @@
--- The locks as a value: the four locks of each inode, and the queue.
-use Rattle.std.specs.Prelude.{ℕ, Option, List, [], ◌∷◌, ◌++◌, filter, not, refl}
-use Rattle.std.specs.Coded.{Coded, code_by, coded×, coded_list}
+-- The locks as a value: the four locks of each inode, the queue, and the last number that a request was given.
+use Rattle.std.specs.Prelude.{◌≡◌, ℕ, ◌+◌, ◌≤◌, Option, List, [], ◌∷◌, ◌++◌, length, filter, not, All}
+use Rattle.std.specs.List.{find}
 use Rattle.std.specs.Option.{option_map}
 use Rattle.std.specs.FinMap as map
 use Rattle.capbits.specs.declared.cap.Part.{Part}
+use Rattle.capbits.specs.declared.ids.ClientId.{ClientId}
+use Rattle.capbits.specs.declared.ids.Ino.{Ino}
 use Rattle.inotree.specs.Maps.{change_at}
 use Rattle.locktable.specs.declared.states.LockState.{LockState}
+use Rattle.lockmachine.specs.declared.request.Ask.{Ask}
 use Rattle.lockmachine.specs.declared.request.Request.{Request}
-use Rattle.lockmachine.specs.contracts.request.Request as request
-use Rattle.lockmachine.specs.Requests.{is_numbered}
-use Rattle.lockmachine.specs.Inodes.{StateMap, state_map_code, lock_in, with_lock_in, in_sync}
+use Rattle.lockmachine.specs.Requests.{is_numbered, AreTicketsRising}
+use Rattle.lockmachine.specs.Inodes.{StateMap, lock_in, with_lock_in, in_sync}
 
--- the locks of each inode, and the requests that wait, the oldest first
+-- the locks of each inode, the requests that wait, the oldest first, and the last number that a request was given
 pub record LockMap : Type 0 where
   pub states : StateMap
   pub queue : List Request
+  pub last : ℕ
 
--- a map of locks is stored as the pair of its fields
-abbrev pub lock_map_code : Coded LockMap
-lock_map_code = code_by (StateMap × List Request) (coded× (state_map_code) (coded_list request.the_row.coded)) (λ l. (l.states, l.queue)) (λ p. record { states = p.0; queue = p.1 }) (λ _. refl)
+-- requests are numbered from 1 on and stand in the order of their numbers, and no more wait than may
+pub record IsLockMap (locks : LockMap) : Type 0 where
+  pub rising : AreTicketsRising locks.queue
+  pub given : All (λ q. (1 ≤ q.ticket.0) × (q.ticket.0 ≤ locks.last)) locks.queue
+  pub room : length locks.queue ≤ 1024
+
+-- nothing is locked, nobody waits, and no number was given
+abbrev pub no_locks : LockMap
+no_locks = record { states = map.empty; queue = []; last = 0 }
+
+-- ---- locks
 
 -- the lock of an inode's part, where the inode has locks
 abbrev pub lock_at : LockMap → ℕ → Part → Option LockState
@@ -28,10 +39,6 @@ lock_at locks ino part = option_map (lock_in part) (map.get locks.states ino)
 abbrev pub with_lock : LockMap → ℕ → Part → LockState → LockMap
 with_lock locks ino part state = record locks { states = change_at (with_lock_in part state) locks.states ino }
 
--- nothing is locked, and nobody waits
-abbrev pub no_locks : LockMap
-no_locks = record { states = map.empty; queue = [] }
-
 -- the locks, with those of a new inode
 abbrev pub with_ino : LockMap → ℕ → LockMap
 with_ino locks ino = record locks { states = map.insert locks.states ino in_sync }
@@ -40,10 +47,27 @@ with_ino locks ino = record locks { states = map.insert locks.states ino in_sync
 abbrev pub without_ino : LockMap → ℕ → LockMap
 without_ino locks ino = record locks { states = map.remove locks.states ino }
 
--- the request comes last
-abbrev pub with_request : LockMap → Request → LockMap
-with_request locks q = record locks { queue = locks.queue ++ q ∷ [] }
+-- ---- requests
+
+-- the request with this number, where it waits
+abbrev pub request_at : LockMap → ℕ → Option Request
+request_at locks ticket = find (is_numbered ticket) locks.queue
+
+-- what a client asks for, under the next number
+abbrev pub next_request : LockMap → ClientId → Ino → Ask → Request
+next_request locks client ino ask = record { ticket = record { 0 = locks.last + 1 }; client = client; ino = ino; ask = ask }
+
+-- it waits, and comes last
+abbrev pub with_request : LockMap → ClientId → Ino → Ask → LockMap
+with_request locks client ino ask = record locks { queue = locks.queue ++ next_request locks client ino ask ∷ []; last = locks.last + 1 }
 
 -- the request with this number waits no more
 abbrev pub without_request : LockMap → ℕ → LockMap
 without_request locks ticket = record locks { queue = filter (λ q. not (is_numbered ticket q)) locks.queue }
+
+-- the request alone is taken out of the queue: those before it and those behind it are left
+pub record TakesOnly (q : Request) (old new : LockMap) : Type 0 where
+  pub earlier : List Request
+  pub later : List Request
+  pub queue_was : old.queue ≡ earlier ++ q ∷ later
+  pub queue_is : new.queue ≡ earlier ++ later

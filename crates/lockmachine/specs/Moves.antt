@@ -1,5 +1,5 @@
 -- Which move comes next, what each does to the locks, and when they are at rest.
-use Rattle.std.specs.Prelude.{◌≡◌, ℕ, Bool, true, false, ◌&&◌, not, ◌==◌, List, [], ◌∷◌, Option, Some, None}
+use Rattle.std.specs.Prelude.{◌≡◌, ◌≤◌, ℕ, Bool, true, false, ◌&&◌, not, ◌==◌, List, [], ◌∷◌, Option, Some, None, Contains, IsTrue}
 use Rattle.std.specs.List.{find, list_any, flat_map}
 use Rattle.std.specs.Option.{option_map_or}
 use Rattle.std.specs.FinMap as map
@@ -16,7 +16,7 @@ use Rattle.lockmachine.specs.declared.request.Request.{Request}
 use Rattle.lockmachine.specs.declared.moves.Move.{Move}
 use Rattle.lockmachine.specs.declared.moves.Move.TheVariants.{Begin, End, Serve, Settled}
 use Rattle.lockmachine.specs.Requests.{first_for, part_of_ask, head_of_ask, is_numbered}
-use Rattle.lockmachine.specs.Locks.{LockMap, lock_at, with_lock}
+use Rattle.lockmachine.specs.Locks.{LockMap, lock_at, with_lock, request_at, without_request}
 use Rattle.lockmachine.specs.Scene.{Scene, rows_on, target, outside}
 
 abbrev pub same_state : State → State → Bool
@@ -73,6 +73,12 @@ may_serve locks q =
     option_map_or (is_numbered q.ticket.0) (first_for locks.queue q.ino.0 part) false
     && is_served_in (lock_at locks q.ino.0 part) (head_of_ask q.client q.ask)
 
+-- of the requests that may be served, this one has the least number
+pub record IsFirstServed (locks : LockMap) (q : Request) : Type 0 where
+  pub waits : Contains locks.queue q
+  pub may : IsTrue (may_serve locks q)
+  pub least : (r : Request) → Contains locks.queue r → IsTrue (may_serve locks r) → q.ticket.0 ≤ r.ticket.0
+
 -- ---- the first that applies
 
 -- the state that a lock has reached, or leaves in a gather
@@ -105,16 +111,33 @@ first_move s = end_or_serve s (find (may_end s) (places s.locks))
 
 -- ---- what they do
 
-abbrev pub relocked : Scene → ℕ → Part → LockState → Scene
-relocked s ino part lock = record s { locks = with_lock s.locks ino part lock }
-
 -- the lock gathers
-abbrev pub begun : Scene → ℕ → Part → State → Scene
-begun s ino part to = relocked s ino part (Gather (present_state (lock_at s.locks ino part)) to)
+abbrev pub begun_locks : LockMap → ℕ → Part → State → LockMap
+begun_locks locks ino part to = with_lock locks ino part (Gather (present_state (lock_at locks ino part)) to)
 
 -- the lock is stable in the target of its gather
+abbrev pub gathered_locks : LockMap → ℕ → Part → LockMap
+gathered_locks locks ino part = with_lock locks ino part (Stable (coming_state (lock_at locks ino part)))
+
+-- the locks after a move: a request that is served waits no more
+abbrev pub moved : LockMap → Move → LockMap
+moved locks (Begin ino part to) = begun_locks locks ino.0 part to
+moved locks (End ino part) = gathered_locks locks ino.0 part
+moved locks (Serve ticket) = without_request locks ticket.0
+moved locks Settled = locks
+
+-- the request that a move hands out to be judged
+abbrev pub handed : LockMap → Move → Option Request
+handed locks (Begin ino part to) = None
+handed locks (End ino part) = None
+handed locks (Serve ticket) = request_at locks ticket.0
+handed locks Settled = None
+
+abbrev pub begun : Scene → ℕ → Part → State → Scene
+begun s ino part to = record s { locks = begun_locks s.locks ino part to }
+
 abbrev pub gathered : Scene → ℕ → Part → Scene
-gathered s ino part = relocked s ino part (Stable (coming_state (lock_at s.locks ino part)))
+gathered s ino part = record s { locks = gathered_locks s.locks ino part }
 
 -- ---- rest
 

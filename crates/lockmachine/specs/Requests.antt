@@ -1,5 +1,5 @@
 -- What a request waits for, and how it stands in a queue.
-use Rattle.std.specs.Prelude.{ℕ, Bool, ◌==◌, ◌&&◌, List, Option, None, Some}
+use Rattle.std.specs.Prelude.{ℕ, ◌<◌, Bool, ◌==◌, ◌&&◌, List, Option, None, Some, AllPairs}
 use Rattle.std.specs.List.{find}
 use Rattle.capbits.specs.declared.cap.Part.{Part}
 use Rattle.capbits.specs.declared.cap.Part.TheVariants.{A, L, X, F}
@@ -67,3 +67,7 @@ first_for queue ino part = find (is_for ino part) queue
 
 abbrev pub is_numbered : ℕ → Request → Bool
 is_numbered ticket q = q.ticket.0 == ticket
+
+-- each request has a number below those of all that stand behind it
+abbrev pub AreTicketsRising : List Request → Type 0
+AreTicketsRising queue = AllPairs (λ earlier later. earlier.ticket.0 < later.ticket.0) queue

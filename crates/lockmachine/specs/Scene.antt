@@ -1,8 +1,7 @@
 -- All that the next move depends on, and what is wanted and revoked there.
-use Rattle.std.specs.Prelude.{ℕ, List, Option, Some, None, filter}
+use Rattle.std.specs.Prelude.{ℕ, List, Option, Some, None, filter, map}
 use Rattle.capbits.specs.declared.cap.Part.{Part}
 use Rattle.capbits.specs.declared.cap.Part.TheVariants.{A, L, X, F}
-use Rattle.capbits.specs.declared.ids.ClientId.{ClientId}
 use Rattle.capbits.specs.Caps.{Caps}
 use Rattle.capbits.specs.Sets.{no_caps, union, minus, of_part}
 use Rattle.locktable.specs.declared.states.State.{State}
@@ -18,7 +17,7 @@ use Rattle.captable.specs.Table.{Table}
 use Rattle.captable.specs.Calls.{is_of_inode}
 use Rattle.lockmachine.specs.Requests.{first_for, head_of}
 use Rattle.lockmachine.specs.Locks.{LockMap, lock_at}
-use Rattle.lockmachine.specs.Wants.{wanted_of, loner_of}
+use Rattle.lockmachine.specs.Wants.{Want, want_of, union_of, loner_of}
 
 pub record Scene : Type 0 where
   -- the name of the file system
@@ -32,11 +31,17 @@ pub record Scene : Type 0 where
 abbrev pub rows_on : Scene → ℕ → List EntryRow
 rows_on s ino = filter (is_of_inode (record { 0 = ino })) s.table.rows
 
-abbrev pub wanted : Scene → ℕ → Caps
-wanted s ino = wanted_of s.fs s.tree s.sessions (rows_on s ino)
+-- what each client effectively wants of an inode
+abbrev pub wants : Scene → ℕ → List Want
+wants s ino = map (want_of s.fs s.tree s.sessions) (rows_on s ino)
 
-abbrev pub loner : Scene → ℕ → Option (ClientId × Caps)
-loner s ino = loner_of s.fs s.tree s.sessions (rows_on s ino)
+-- what somebody wants of it
+abbrev pub wanted : Scene → ℕ → Caps
+wanted s ino = union_of (wants s ino)
+
+-- the one client that wants more of it than the pin, with what it wants
+abbrev pub loner : Scene → ℕ → Option Want
+loner s ino = loner_of (wants s ino)
 
 -- what stands first in the queue of a lock
 abbrev pub head : Scene → ℕ → Part → Head

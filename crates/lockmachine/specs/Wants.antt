@@ -16,13 +16,20 @@ abbrev pub effective_want : List ℕ → Nodes → SessionTable → EntryRow →
 effective_want fs tree sessions row =
     if is_open_session (map.get sessions.sessions row.holder.client.0) then meet row.entry.want (permitted fs tree sessions row.holder) else no_caps
 
--- what somebody effectively wants, of these entries
-abbrev pub wanted_of : List ℕ → Nodes → SessionTable → List EntryRow → Caps
-wanted_of fs tree sessions rows = fold (λ caps row. union caps (effective_want fs tree sessions row)) no_caps rows
+-- a client, and what it effectively wants
+abbrev pub Want : Type 0
+Want = ClientId × Caps
 
--- the entry's client effectively wants more than the pin
-abbrev pub wants_more : List ℕ → Nodes → SessionTable → EntryRow → Bool
-wants_more fs tree sessions row = not (is_empty (minus (effective_want fs tree sessions row) (caps_in (P ∷ []))))
+abbrev pub want_of : List ℕ → Nodes → SessionTable → EntryRow → Want
+want_of fs tree sessions row = (row.holder.client, effective_want fs tree sessions row)
+
+-- what somebody wants, of these
+abbrev pub union_of : List Want → Caps
+union_of wants = fold (λ caps want. union caps want.1) no_caps wants
+
+-- more than the pin
+abbrev pub is_more : Caps → Bool
+is_more caps = not (is_empty (minus caps (caps_in (P ∷ []))))
 
 -- the element of a list that has no other
 abbrev pub only : {A : Type 0} → List A → Option A
@@ -30,10 +37,6 @@ only [] = None
 only (x ∷ []) = Some x
 only (x ∷ y ∷ rest) = None
 
-abbrev pub loner_by : List ℕ → Nodes → SessionTable → Option EntryRow → Option (ClientId × Caps)
-loner_by fs tree sessions None = None
-loner_by fs tree sessions (Some row) = Some (row.holder.client, effective_want fs tree sessions row)
-
--- the one client, of these entries, that effectively wants more than the pin, with what it wants
-abbrev pub loner_of : List ℕ → Nodes → SessionTable → List EntryRow → Option (ClientId × Caps)
-loner_of fs tree sessions rows = loner_by fs tree sessions (only (filter (wants_more fs tree sessions) rows))
+-- the one that wants more than the pin, where no other does
+abbrev pub loner_of : List Want → Option Want
+loner_of wants = only (filter (λ want. is_more want.1) wants)

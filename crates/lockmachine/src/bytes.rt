@@ -28,10 +28,26 @@ impl Bytes {
         Ok(Bytes { bytes })
     }
 
+    /// The vector of the bytes.
+    pub fn into_inner(self) -> Vec<u8>
+        ensures { result.items ≡ self }
+    {
+        let Bytes { bytes } = self;
+        bytes
+    }
+
     /// The bytes.
     pub fn as_slice(&self) -> &[u8]
         ensures { result.now ≡ self.now }
     {
         self.bytes.as_slice()
+    }
+}
+
+impl From<Vec<u8>> for Bytes {
+    ghost from_gives = { λ given bytes. bytes ≡ given.items };
+
+    fn from(bytes: Vec<u8>) -> Self {
+        Bytes { bytes }
     }
 }

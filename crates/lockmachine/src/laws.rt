@@ -1,12 +1,19 @@
 //! Laws of the locks. No program needs to call them.
 
-ghost use Rattle.std.specs.Prelude.{◌≡◌, ℕ, [], Some};
+ghost use Rattle.std.specs.Prelude.{◌≡◌, ◌<◌, ℕ, [], Some, Contains, length};
 ghost use Rattle.std.specs.FinMap as map;
 ghost use Rattle.lockmachine.specs.declared.states.InodeLocks.{InodeLocks};
-ghost use Rattle.lockmachine.specs.declared.moves.Move.TheVariants.{Settled};
+ghost use Rattle.capbits.specs.declared.ids.ClientId.{ClientId};
+ghost use Rattle.capbits.specs.declared.ids.Ino.{Ino};
+ghost use Rattle.capbits.specs.declared.ids.Ticket.{Ticket};
+ghost use Rattle.lockmachine.specs.declared.request.Ask.{Ask};
+ghost use Rattle.lockmachine.specs.declared.request.Request.{Request};
+ghost use Rattle.lockmachine.specs.declared.moves.Move.{Move};
+ghost use Rattle.lockmachine.specs.declared.moves.Move.TheVariants.{Serve, Settled};
 ghost use Rattle.lockmachine.specs.Inodes.{in_sync};
 ghost use Rattle.lockmachine.specs.Scene.{Scene};
-ghost use Rattle.lockmachine.specs.Moves.{first_move, IsAtRest, WaitAtLocks};
+ghost use Rattle.lockmachine.specs.Locks.{LockMap, IsLockMap, TakesOnly, request_at, with_request, without_request};
+ghost use Rattle.lockmachine.specs.Moves.{first_move, moved, IsFirstServed, IsAtRest, WaitAtLocks};
 
 /// Where no move applies, and who waits, waits for a lock that is there, the locks are at rest: each is stable at its
 /// target and nobody waits for it, or it gathers and some capabilities are still to be told back.
@@ -24,4 +31,33 @@ pub fn nothing_wanted_is_settled()
     ensures { (s : Scene) → s.table.rows ≡ [] → s.locks.queue ≡ []
         → ((ino : ℕ) (locks : InodeLocks) → map.get s.locks.states ino ≡ Some locks → locks ≡ in_sync)
         → first_move s ≡ Settled }
+{}
+
+/// The request that is served has the least number of all that may be.
+pub fn the_least_number_is_served()
+    ensures { (s : Scene) (ticket : Ticket) → IsLockMap s.locks → first_move s ≡ Serve ticket
+        → (q : Request) × (q.ticket ≡ ticket) × IsFirstServed s.locks q }
+{}
+
+/// A request that waits is found by its number.
+pub fn a_number_finds_its_request()
+    ensures { (locks : LockMap) (q : Request) → IsLockMap locks → Contains locks.queue q
+        → request_at locks q.ticket.0 ≡ Some q }
+{}
+
+/// By its number it is taken out of the queue, and no other is.
+pub fn a_number_takes_its_request()
+    ensures { (locks : LockMap) (q : Request) → IsLockMap locks → Contains locks.queue q
+        → TakesOnly q locks (without_request locks q.ticket.0) }
+{}
+
+/// Each move keeps the order of the queue.
+pub fn moves_keep_the_order()
+    ensures { (locks : LockMap) (step : Move) → IsLockMap locks → IsLockMap (moved locks step) }
+{}
+
+/// And so does a new request, where there is room for it.
+pub fn a_new_request_keeps_the_order()
+    ensures { (locks : LockMap) (client : ClientId) (ino : Ino) (ask : Ask) → IsLockMap locks
+        → length locks.queue < 1024 → IsLockMap (with_request locks client ino ask) }
 {}

@@ -1,5 +1,5 @@
 //! The locks by inode, and the queue.
-ghost use Rattle.std.specs.Prelude.{◌≡◌, IsOkAnd, OnOk, OnErr};
+ghost use Rattle.std.specs.Prelude.{◌≡◌, IfOk, OnOk, OnErr};
 ghost use Rattle.lockmachine.specs.Locks as words;
 
 use crate::fault::NoMemory;
@@ -16,26 +16,32 @@ pub struct Locks {
     states: States,
     // The oldest first.
     queue: Vec<Request>,
+    // The last number that a request was given.
+    last: u64,
 }
 
 impl Model for Locks {
-    ghost use Rattle.lockmachine.specs.Locks.{LockMap, lock_map_code};
+    ghost use Rattle.lockmachine.specs.Locks.{LockMap, IsLockMap};
+    ghost use Rattle.lockmachine.specs.Codes.{lock_map_code};
 
     ghost Value = { LockMap };
 
     ghost coded = { lock_map_code };
 
-    ghost view = { λ l. record { states = l.states; queue = l.queue.items } };
+    ghost view = { λ l. record { states = l.states; queue = l.queue.items; last = l.last } };
+
+    ghost invariant = { λ l. IsLockMap (record { states = l.states; queue = l.queue.items; last = l.last }) };
 }
 
 impl Locks {
-    /// No locks, and nobody waits. The first inode is the first to take memory, so this is `Ok`.
+    /// No locks, and nobody waits.
     pub fn new(alloc: Global) -> Result<Locks, NoMemory>
-        ensures { IsOkAnd result (λ locks. locks ≡ words.no_locks) }
+        ensures { IfOk result (λ locks. locks ≡ words.no_locks) }
     {
         Ok(Locks {
             states: States::new(alloc),
             queue: Vec::new(alloc),
+            last: 0,
         })
     }
 
@@ -56,7 +62,8 @@ impl Locks {
 
     /// The lock of an inode's part, where the inode has locks.
     pub fn state(&self, ino: Ino, part: Part) -> Option<LockState>
-        ensures { result ≡ words.lock_at self.now ino.0 part }
+        ensures state { result ≡ words.lock_at self.now ino.0 part }
+        ensures sound { words.IsLockMap self.now }
     {
         let locks = self.states.get(ino)?;
         Some(locks.of_part(part))

@@ -60,7 +60,8 @@ pub(crate) struct States {
 
 impl Model for States {
     ghost use Rattle.std.specs.FinMap as map;
-    ghost use Rattle.lockmachine.specs.Inodes.{StateMap, state_map_code};
+    ghost use Rattle.lockmachine.specs.Inodes.{StateMap};
+    ghost use Rattle.lockmachine.specs.Codes.{state_map_code};
 
     ghost Value = { StateMap };
 

@@ -1,4 +1,4 @@
-use Rattle.std.proofs.Common.{ℕ, List, subst}
+use Rattle.std.proofs.Common.{◌≡◌, ℕ, List, Result, Ok, Err, OnErr, sym, ◌∙◌, subst}
 use Rattle.std.specs.Io.KnownBytes.{Appends}
 use Rattle.inotree.proofs.Results.{on_ok}
 use Rattle.capscript.specs.Watched.{inner_of}
@@ -10,3 +10,13 @@ returns-in-Ok-reply_lines-clause-ok g c = on_ok c.write_text.result c.write_text
   record { answer = c.in-Ok.reply; next = c.in-Ok.ensures.next; text_is = c.in-Ok-reply_lines.ensures },
   subst (λ (text : List ℕ). Appends (g.W.Write.contents (inner_of c.args.writer.now)) (g.W.Write.contents (inner_of c.write_text.new.writer)) text) c.as_slice.ensures.value wrote,
 ))
+
+where_err : {T E : Type 0} {P : Type 0} (r : Result T E) (e : E) → r ≡ Err e → OnErr r P → P
+where_err (Ok x) e is h = absurd (cc)
+where_err (Err x) e is h = h
+
+pub returns-in-Ok-reply_lines-clause-written : goal.returns-in-Ok-reply_lines-clause-written
+returns-in-Ok-reply_lines-clause-written g c is =
+    let failed = where_err c.write_text.result _ is c.write_text.ensures.failed in
+    let front = where_err c.write_text.result _ is c.write_text.ensures.err in
+    (failed.1, (front.0, front.1, record { answer = c.in-Ok.reply; next = c.in-Ok.ensures.next; text_is = sym front.2 ∙ c.as_slice.ensures.value ∙ c.in-Ok-reply_lines.ensures }, front.3))

@@ -17,14 +17,14 @@ overflow_add-ino c =
 pub invariant_of-self-in-Ok : goal.invariant_of-self-in-Ok
 invariant_of-self-in-Ok c =
     let s : Scene = record { fs = c.self.inside.fs; tree = c.self.inside.tree; sessions = c.self.inside.sessions; table = c.self.inside.table; locks = c.self.inside.locks } in
-    rw (c.in-Ok.ensures.ok, c.in_ok-add_ino.ensures.ok, c.last.ensures.last) (idle-born s c.args.kind c.args.dir.0 c.args.name.now c.args.attr c.self.invariant)
+    rw (c.in-Ok.ensures.ok, c.in_ok-add_ino.ensures.ok, c.last.ensures.last) (idle-born s c.args.kind c.args.dir.0 c.args.name.now c.args.attr c.self.invariant.0, c.self.invariant.1)
 
 pub invariant_of-self-in-Err : goal.invariant_of-self-in-Err
 invariant_of-self-in-Err c =
     let s : Scene = record { fs = c.self.inside.fs; tree = c.self.inside.tree; sessions = c.self.inside.sessions; table = c.self.inside.table; locks = c.self.inside.locks } in
-    rw (c.in-Err.ensures.err, c.drop_ino.ensures, c.in_ok-add_ino.ensures.ok, c.last.ensures.last, added-dropped c.self.inside.locks (c.self.inside.tree.last + 1) (not_given s c.self.invariant c.last.ensures.sound)) c.self.invariant
+    rw (c.in-Err.ensures.err, c.drop_ino.ensures, c.in_ok-add_ino.ensures.ok, c.last.ensures.last, added-dropped c.self.inside.locks (c.self.inside.tree.last + 1) (not_given s c.self.invariant.0 c.last.ensures.sound)) c.self.invariant
 
 pub returns-in-Err-clause-err : goal.returns-in-Err-clause-err
 returns-in-Err-clause-err c =
     let s : Scene = record { fs = c.self.inside.fs; tree = c.self.inside.tree; sessions = c.self.inside.sessions; table = c.self.inside.table; locks = c.self.inside.locks } in
-    rw (c.in-Err.ensures.err, c.drop_ino.ensures, c.in_ok-add_ino.ensures.ok, c.last.ensures.last, added-dropped c.self.inside.locks (c.self.inside.tree.last + 1) (not_given s c.self.invariant c.last.ensures.sound)) c.self.view_is
+    rw (c.in-Err.ensures.err, c.drop_ino.ensures, c.in_ok-add_ino.ensures.ok, c.last.ensures.last, added-dropped c.self.inside.locks (c.self.inside.tree.last + 1) (not_given s c.self.invariant.0 c.last.ensures.sound)) c.self.view_is

@@ -19,8 +19,11 @@ returns-in-Some-clause-direct c = making-stopped c.args.self.now c.args.client c
 pub invariant_of-self : goal.invariant_of-self
 invariant_of-self c = elim c.match-snap_add.branch [
   | in-Ok w ↦
-      rw w.in-Ok.ensures.ok (idle-changed (record { fs = c.self.inside.fs; tree = c.self.inside.tree; sessions = c.self.inside.sessions; table = c.self.inside.table; locks = c.self.inside.locks })
-      (with_snapshot c.args.name.now) c.args.ino.0 (λ n. refl) c.self.invariant)
+      rw w.in-Ok.ensures.ok (
+        idle-changed (record { fs = c.self.inside.fs; tree = c.self.inside.tree; sessions = c.self.inside.sessions; table = c.self.inside.table; locks = c.self.inside.locks })
+            (with_snapshot c.args.name.now) c.args.ino.0 (λ n. refl) c.self.invariant.0,
+        c.self.invariant.1,
+      )
   | in-Err w ↦ rw w.in-Err.ensures.err c.self.invariant
 ]
 

@@ -1,0 +1,114 @@
+-- Requests that are served among the moves of a step.
+use Rattle.std.proofs.Common.{◌≡◌, ◌≢◌, List, [], ◌∷◌, ◌++◌, Option, Some, None, refl, sym, subst, ◌∙◌, ap, ℕ}
+use Rattle.std.specs.FinMap as map
+use Rattle.capgrant.specs.declared.access.Access.{Access}
+use Rattle.capgrant.specs.declared.rule.Rule.{Rule}
+use Rattle.inotree.specs.declared.node.Node.{Node}
+use Rattle.capbits.specs.declared.cap.Part.{Part}
+use Rattle.lockmachine.specs.declared.request.Ask.{Ask}
+use Rattle.lockmachine.specs.declared.request.Ask.TheVariants.{Get, Alter, Unlink, Rmdir, Rename}
+use Rattle.lockmachine.specs.declared.request.Request.{Request}
+use Rattle.lockmachine.specs.Policy.{failures}
+use Rattle.lockmachine.specs.Scene.{Scene}
+use Rattle.capcore.specs.declared.outcome.Outcome.{Outcome}
+use Rattle.capcore.specs.declared.outcome.Outcome.TheVariants as outcome
+use Rattle.capcore.specs.declared.refusal.Refusal.{Refusal}
+use Rattle.capcore.specs.Tests.{first_failing}
+use Rattle.capcore.specs.Judge.{Need, first_denied, stop_by}
+use Rattle.capcore.specs.Serving.{MayEndAs, As_judged, Without_memory, ask_before, ask_needs, ask_after, told_of, passed_as, outcome_unless, judged_again}
+use Rattle.capcore.specs.Settle.{Made, Began, Gathered, Served, Makes, MakesAll}
+use Rattle.capcore.specs.Headline.{IsFirstDeniedNow, ServedDenied, ServedByName, EachServing}
+
+-- ---- one serving
+
+-- a request that nothing stops is not denied
+told-not_denied : (part : Part) (o : Option Node) (access : Access) (rules : List Rule) → told_of part o ≢ outcome.Denied access rules
+told-not_denied part None access rules is = absurd (cc)
+told-not_denied part (Some node) access rules is = absurd (cc)
+
+passed-not_denied : (s : Scene) (ino : ℕ) (ask : Ask) (access : Access) (rules : List Rule) → passed_as s ino ask ≢ outcome.Denied access rules
+passed-not_denied s ino (Get part) access rules is = told-not_denied part (map.get s.tree.nodes ino) access rules is
+passed-not_denied s ino (Alter change) access rules is = absurd (cc)
+passed-not_denied s ino Unlink access rules is = absurd (cc)
+passed-not_denied s ino Rmdir access rules is = absurd (cc)
+passed-not_denied s ino (Rename dir name) access rules is = absurd (cc)
+
+module _ (s : Scene) (q : Request) where
+  abbrev ended_by : Option Refusal → Option Need → Option Refusal → Outcome
+  ended_by o d l = outcome_unless s q (stop_by s o d l)
+
+  -- why it is denied
+  abbrev Cause : Option Refusal → Option Need → Access → List Rule → Type 0
+  Cause o d access rules = (n : Need) × ((o ≡ None) × (d ≡ Some n)) × (access ≡ n.access) × (rules ≡ failures s.fs s.tree s.sessions n.holder n.access)
+
+  cause : (o : Option Refusal) (d : Option Need) (l : Option Refusal) (access : Access) (rules : List Rule) → ended_by o d l ≡ outcome.Denied access rules → Cause o d access rules
+  cause (Some r) d l access rules is = absurd (cc)
+  cause None (Some n) l access rules is =
+      let accesses : n.access ≡ access = cc in
+      let rs : failures s.fs s.tree s.sessions n.holder n.access ≡ rules = cc in
+      (n, (refl, refl), sym accesses, sym rs)
+  cause None None (Some r) access rules is = absurd (cc)
+  cause None None None access rules is = absurd (passed-not_denied s q.ino.0 q.ask access rules is)
+
+  effect_of : (o : Option Refusal) (d : Option Need) (l : Option Refusal) (n : Need) → o ≡ None → d ≡ Some n → (access : Access) × (rules : List Rule) × (ended_by o d l ≡ outcome.Denied access rules)
+  effect_of (Some r) d l n none some = absurd (cc)
+  effect_of None None l n none some = absurd (cc)
+  effect_of None (Some m) l n none some = (m.access, failures s.fs s.tree s.sessions m.holder m.access, refl)
+
+  unstopped : (o : Option Refusal) (d : Option Need) (l : Option Refusal) (n : Need) → stop_by s o d l ≡ None → o ≡ None → d ≡ Some n → ⊥
+  unstopped (Some r) d l n free none some = absurd (cc)
+  unstopped None None l n free none some = absurd (cc)
+  unstopped None (Some m) l n free none some = absurd (cc)
+
+  tests : Option Refusal
+  tests = first_failing (ask_before s q.ino.0 q.ask)
+
+  denied : Option Need
+  denied = first_denied s (ask_needs s q)
+
+  more : Option Refusal
+  more = first_failing (ask_after s q.ino.0 q.ask)
+
+  denied-one : (o : Outcome) → MayEndAs s q o → ServedDenied s q o
+  unfolding tests denied more
+  denied-one o (As_judged) = (
+    (λ h. let c = cause tests denied more h.0 h.1 h.2 in (c.0, c.1)),
+    (λ h. effect_of tests denied more h.0 h.1.0 h.1.1),
+  )
+  denied-one o (Without_memory free takes) = (
+    (λ h. absurd (cc (h.2))),
+    (λ h. absurd (unstopped tests denied more h.0 free h.1.0 h.1.1)),
+  )
+
+  by_name-one : (o : Outcome) → MayEndAs s q o → ServedByName s q o
+  unfolding tests denied more
+  by_name-one o (As_judged) = λ access rules is. cause tests denied more access rules is
+  by_name-one o (Without_memory free takes) = λ access rules is. absurd (cc)
+
+-- ---- each among the moves
+
+same_next : (old a b : Scene) (m : Made) → Makes old m a → Makes old m b → a ≡ b
+same_next old a b (Began ino part to) x y = x.1 ∙ sym y.1
+same_next old a b (Gathered ino part) x y = x.1 ∙ sym y.1
+same_next old a b (Served q o) x y = x.3 ∙ sym y.3
+
+-- each serving was made on the scene to which the moves before it lead
+may_end : (first last s : Scene) (moves earlier later : List Made) (q : Request) (o : Outcome) →
+    MakesAll first moves last → moves ≡ earlier ++ Served q o ∷ later → MakesAll first earlier s → MayEndAs s q o
+may_end first last s [] [] later q o made splits there = absurd (cc)
+may_end first last s [] (x ∷ xs) later q o made splits there = absurd (cc)
+may_end first last s (m ∷ ms) [] later q o (mid, one, rest) splits there =
+    let same : m ≡ Served q o = cc in
+    let one' : Makes first (Served q o) mid = subst (λ (m : Made). Makes first m mid) same one in
+    subst (λ (t : Scene). MayEndAs t q o) (sym there) one'.2
+may_end first last s (m ∷ ms) (x ∷ xs) later q o (mid, one, rest) splits (mid', one', rest') =
+    let same : m ≡ x = cc in
+    let tail : ms ≡ xs ++ Served q o ∷ later = cc in
+    let here : mid' ≡ mid = same_next first mid' mid x one' (subst (λ (m : Made). Makes first m mid) same one) in
+    may_end mid last s ms xs later q o rest tail (subst (λ (t : Scene). MakesAll t xs s) here rest')
+
+pub served-denied : (first last : Scene) (moves : List Made) → MakesAll first moves last → EachServing ServedDenied first moves
+served-denied first last moves made earlier later q o s splits there = denied-one s q o (may_end first last s moves earlier later q o made splits there)
+
+pub served-by_name : (first last : Scene) (moves : List Made) → MakesAll first moves last → EachServing ServedByName first moves
+served-by_name first last moves made earlier later q o s splits there = by_name-one s q o (may_end first last s moves earlier later q o made splits there)

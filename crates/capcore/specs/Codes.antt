@@ -1,0 +1,39 @@
+-- How values are stored.
+use Rattle.std.specs.Prelude.{ℕ, List, refl}
+use Rattle.std.specs.Coded.{Coded, code_by, coded×, coded_ℕ, coded_list}
+use Rattle.inotree.specs.Tree.{Nodes, nodes_code}
+use Rattle.sessiontab.specs.Table.{SessionTable, table_code}
+use Rattle.captable.specs.Table.{Table}
+use Rattle.captable.specs.Codes as entries
+use Rattle.lockmachine.specs.Locks.{LockMap}
+use Rattle.lockmachine.specs.Codes.{lock_map_code}
+use Rattle.lockmachine.specs.Scene.{Scene}
+use Rattle.capcore.specs.declared.outcome.Ended.{Ended}
+use Rattle.capcore.specs.declared.history.Row.{Row}
+use Rattle.capcore.specs.contracts.outcome.Ended as ended
+use Rattle.capcore.specs.contracts.history.Row as history_row
+use Rattle.capcore.specs.State.{State}
+use Rattle.capcore.specs.Untold.{Untold}
+use Rattle.capcore.specs.History.{Told}
+
+-- a list with room as its parts
+abbrev pub untold_code : Coded Untold
+untold_code =
+    code_by (List Ended × ℕ) (coded× (coded_list ended.the_row.coded) coded_ℕ) (λ m. (m.items, m.room)) (λ p. record { items = p.0; room = p.1 }) (λ _. refl)
+
+-- a state as its parts
+abbrev pub scene_code : Coded Scene
+scene_code =
+    code_by (List ℕ × (Nodes × (SessionTable × (Table × LockMap)))) (coded× (coded_list coded_ℕ) (coded× nodes_code (coded× table_code (coded× entries.table_code lock_map_code))))
+    (λ s. (s.fs, (s.tree, (s.sessions, (s.table, s.locks))))) (λ p. record { fs = p.0; tree = p.1.0; sessions = p.1.1.0; table = p.1.1.1.0; locks = p.1.1.1.1 }) (λ _. refl)
+
+abbrev pub state_code : Coded State
+state_code =
+    code_by (Scene × List Ended) (coded× scene_code (coded_list ended.the_row.coded))
+    (λ s. (s.scene, s.messages)) (λ p. record { scene = p.0; messages = p.1 }) (λ _. refl)
+
+-- and with its history
+abbrev pub told_code : Coded Told
+told_code =
+    code_by (State × (List Row × ℕ)) (coded× state_code (coded× (coded_list history_row.the_row.coded) coded_ℕ))
+    (λ t. (t.state, (t.rows, t.max_rows))) (λ p. record { state = p.0; rows = p.1.0; max_rows = p.1.1 }) (λ _. refl)

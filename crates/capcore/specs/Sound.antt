@@ -1,0 +1,47 @@
+-- What every state of the core keeps between two events: all that it speaks of is there, and nothing is left to do. What its
+-- parts keep by themselves is in `IsTree`, `IsTable`, `IsLockMap` and the like.
+use Rattle.std.specs.Prelude.{◌≡◌, ◌≤◌, ℕ, IsTrue, All}
+use Rattle.std.specs.List.{list_any}
+use Rattle.std.specs.FinMap as map
+use Rattle.capbits.specs.declared.cap.Cap.TheVariants.{P}
+use Rattle.capbits.specs.Caps.{has}
+use Rattle.capbits.specs.Sets.{IsSubset}
+use Rattle.inotree.specs.declared.node.Place.TheVariants.{Gone}
+use Rattle.inotree.specs.Tree.{place}
+use Rattle.sessiontab.specs.Calls.{has_session}
+use Rattle.captable.specs.declared.entry.EntryRow.{EntryRow}
+use Rattle.captable.specs.Calls.{is_of_inode}
+use Rattle.lockmachine.specs.Scene.{Scene}
+use Rattle.lockmachine.specs.Moves.{IsAtRest}
+use Rattle.capcore.specs.Finish.{due}
+use Rattle.capcore.specs.Headline.{AreInPlace}
+use Rattle.capcore.specs.State.{State}
+
+-- an entry, in a history of so many rows
+pub record IsSoundEntry (count : ℕ) (s : Scene) (row : EntryRow) : Type 0 where
+  pub of_session : IsTrue (has_session s.sessions row.holder.client.0)
+  pub on_inode : IsTrue (map.contains_key s.tree.nodes row.holder.ino.0)
+  -- the pin is held and wanted, and what is due is held
+  pub holds_pin : IsTrue (has row.entry.held P)
+  pub wants_pin : IsTrue (has row.entry.want P)
+  pub has_due : IsSubset (due s row) row.entry.held
+  -- its numbers, of which each row gives at most one
+  pub told : row.entry.told_seq ≤ row.entry.seq
+  pub revoked : row.entry.revoke_seq ≤ row.entry.seq
+  pub given : row.entry.seq ≤ count
+
+-- a state, behind a history of so many rows
+pub record IsSound (count : ℕ) (s : State) : Type 0 where
+  pub entries : All (IsSoundEntry count s.scene) s.scene.table.rows
+  -- who waits or is still to be told has a session
+  pub waiting : All (λ q. IsTrue (has_session s.scene.sessions q.client.0)) s.scene.locks.queue
+  pub messages : All (λ m. IsTrue (has_session s.scene.sessions m.client.0)) s.messages
+  -- each row gives at most one number to a request
+  pub last : s.scene.locks.last ≤ count
+  -- the inodes that are there have locks, and no others
+  pub locked : (ino : ℕ) → map.contains_key s.scene.locks.states ino ≡ map.contains_key s.scene.tree.nodes ino
+  -- somebody has an entry on each stray
+  pub strays : (ino : ℕ) → place s.scene.tree.nodes ino ≡ Gone → IsTrue (list_any (is_of_inode (record { 0 = ino })) s.scene.table.rows)
+  -- what is held is where it may be, and the locks are at rest, so that who waits, waits at a gather that is open
+  pub in_place : AreInPlace s.scene
+  pub at_rest : IsAtRest s.scene

@@ -1,0 +1,39 @@
+//! Laws of the core. No program needs to call them.
+
+ghost use Rattle.std.specs.Prelude.{◌≡◌, ℕ, List};
+ghost use Rattle.capbits.specs.declared.cap.Part.{Part};
+ghost use Rattle.inotree.specs.Tree.{Nodes};
+ghost use Rattle.captable.specs.declared.entry.EntryRow.{EntryRow};
+ghost use Rattle.lockmachine.specs.Locks.{lock_at};
+ghost use Rattle.lockmachine.specs.Scene.{Scene, told_set};
+ghost use Rattle.capcore.specs.State.{State};
+ghost use Rattle.capcore.specs.History.{HasNoStray, IsOpening};
+ghost use Rattle.capcore.specs.Settle.{Made, MakesAll};
+ghost use Rattle.capcore.specs.Headline.{EachServing, ServedDenied, ServedByName};
+ghost use Rattle.capcore.specs.Sound.{IsSound};
+
+/// The opening state is sound.
+pub fn an_opening_is_sound()
+    ensures { (fs : List ℕ) (tree : Nodes) (s : State) → HasNoStray tree → IsOpening fs tree s → IsSound 0 s }
+{}
+
+/// Whatever moves are made, each request that is served is denied exactly if an access that it needs has no grant on the
+/// tree of that moment.
+pub fn the_served_are_denied_exactly()
+    ensures { (first last : Scene) (moves : List Made) → MakesAll first moves last
+        → EachServing ServedDenied first moves }
+{}
+
+/// And each such denial names the first access without a grant, and the rule by which each grant fails.
+pub fn the_served_are_denied_by_name()
+    ensures { (first last : Scene) (moves : List Made) → MakesAll first moves last
+        → EachServing ServedByName first moves }
+{}
+
+/// What a client is to know that it holds on an inode is the same before and after an event that leaves the locks of the
+/// inode: whether it is read off the scene when the event came, or off the one that the event made.
+pub fn numbers_begin_at_the_event()
+    ensures { (old first : Scene) (row : EntryRow)
+        → ((part : Part) → lock_at old.locks row.holder.ino.0 part ≡ lock_at first.locks row.holder.ino.0 part)
+        → told_set old row ≡ told_set first row }
+{}

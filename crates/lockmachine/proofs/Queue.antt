@@ -1,0 +1,181 @@
+-- The queue: requests stand in it by their numbers.
+use Rattle.std.proofs.Common.{◌≡◌, ℕ, zero, suc, ◌+◌, ◌<◌, ◌≤◌, Bool, true, false, ◌==◌, not, cond, Option, Some, None, List, [], ◌∷◌, ◌++◌, length, refl, sym, ap, ◌∙◌, All, Contains, arith}
+use Rattle.std.specs.Prelude.{AllPairs, filter}
+use Rattle.std.specs.List.{find}
+use Rattle.std.specs.Cmp.{nat_eq_equiv}
+use Rattle.std.proofs.lemmas.Bool.{ne_eqb, both_ways}
+use Rattle.std.proofs.lemmas.List.{length-append}
+use Rattle.std.proofs.lemmas.List.Elements.{All-head, All-tail, All-contains, All-filter, All-push, All-weaker}
+use Rattle.std.proofs.lemmas.List.Kept.{AllPairs-filter}
+use Rattle.std.proofs.lemmas.List.Quantifiers.{all_pairs_push}
+use Rattle.std.proofs.lemmas.List.Sums.{length-filter, count_by-le-length}
+use Rattle.capbits.specs.declared.ids.ClientId.{ClientId}
+use Rattle.capbits.specs.declared.ids.Ino.{Ino}
+use Rattle.capbits.specs.declared.ids.Ticket.{Ticket}
+use Rattle.lockmachine.specs.declared.request.Ask.{Ask}
+use Rattle.lockmachine.specs.declared.request.Request.{Request}
+use Rattle.lockmachine.specs.declared.moves.Move.{Move}
+use Rattle.lockmachine.specs.declared.moves.Move.TheVariants.{Begin, End, Serve, Settled}
+use Rattle.lockmachine.specs.Requests.{is_numbered, AreTicketsRising}
+use Rattle.lockmachine.specs.Locks.{LockMap, IsLockMap, TakesOnly, request_at, next_request, with_request, without_request}
+use Rattle.lockmachine.specs.Scene.{Scene}
+use Rattle.lockmachine.specs.Moves.{LockPlace, places, may_end, may_begin, may_serve, begin_or_rest, serve_or_begin, end_or_serve, first_move, moved, IsFirstServed}
+
+-- ---- a queue whose numbers rise
+
+-- the first has the least number
+rising-head : (q : Request) (qs : List Request) → AreTicketsRising (q ∷ qs) → All (λ r. q.ticket.0 < r.ticket.0) qs
+rising-head q qs rising = λ k d room. rising 0 (suc k) d (omega arith) (omega arith)
+
+rising-tail : (q : Request) (qs : List Request) → AreTicketsRising (q ∷ qs) → AreTicketsRising qs
+rising-tail q qs rising = λ i j d less room. rising (suc i) (suc j) d (omega arith) (omega arith)
+
+not_numbered : (q r : Request) → q.ticket.0 < r.ticket.0 → is_numbered q.ticket.0 r ≡ false
+not_numbered q r less = ne_eqb r.ticket.0 q.ticket.0 (λ same. absurd (omega arith))
+
+not_numbered' : (q r : Request) → q.ticket.0 < r.ticket.0 → is_numbered r.ticket.0 q ≡ false
+not_numbered' q r less = ne_eqb q.ticket.0 r.ticket.0 (λ same. absurd (omega arith))
+
+-- what a number finds
+found : (qs : List Request) (q : Request) → AreTicketsRising qs → Contains qs q → find (is_numbered q.ticket.0) qs ≡ Some q
+found [] q rising (k, room, at) = absurd (omega arith)
+found (x ∷ xs) q rising (zero, room, at) =
+    let e : x ≡ q = at in
+    rw e (ap (λ b. cond b (Some q) (find (is_numbered q.ticket.0) xs)) (nat_eq_equiv.refl q.ticket.0))
+found (x ∷ xs) q rising (suc k, room, at) =
+    let inside : Contains xs q = (k, omega arith, at) in
+    let less : x.ticket.0 < q.ticket.0 = All-contains (λ r. x.ticket.0 < r.ticket.0) xs q (rising-head x xs rising) inside in
+    ap (λ b. cond b (Some x) (find (is_numbered q.ticket.0) xs)) (not_numbered' x q less) ∙ found xs q (rising-tail x xs rising) inside
+
+pub found_by_number : (locks : LockMap) (q : Request) → IsLockMap locks → Contains locks.queue q → request_at locks q.ticket.0 ≡ Some q
+found_by_number locks q is inside = found locks.queue q is.rising inside
+
+-- what a number takes out
+others : ℕ → List Request → List Request
+others ticket qs = filter (λ r. not (is_numbered ticket r)) qs
+
+all_others : (ticket : ℕ) (qs : List Request) → All (λ r. ticket < r.ticket.0) qs → others ticket qs ≡ qs
+unfolding others
+all_others ticket [] above = refl
+all_others ticket (x ∷ xs) above =
+    let less : ticket < x.ticket.0 = All-head (λ r. ticket < r.ticket.0) x xs above in
+    ap (λ b. cond (not b) (x ∷ others ticket xs) (others ticket xs)) (ne_eqb x.ticket.0 ticket (λ same. absurd (omega arith)))
+    ∙ ap (λ ys. x ∷ ys) (all_others ticket xs (All-tail (λ r. ticket < r.ticket.0) x xs above))
+
+record Parts (qs : List Request) (q : Request) : Type 0 where
+  earlier : List Request
+  later : List Request
+  was : qs ≡ earlier ++ q ∷ later
+  is : others q.ticket.0 qs ≡ earlier ++ later
+
+parts : (qs : List Request) (q : Request) → AreTicketsRising qs → Contains qs q → Parts qs q
+unfolding others
+parts [] q rising (k, room, at) = absurd (omega arith)
+parts (x ∷ xs) q rising (zero, room, at) =
+    let e : x ≡ q = at in
+    record {
+      earlier = [];
+      later = xs;
+      was = ap (λ y. y ∷ xs) e;
+      is =
+          ap (λ y. others q.ticket.0 (y ∷ xs)) e
+          ∙ ap (λ b. cond (not b) (q ∷ others q.ticket.0 xs) (others q.ticket.0 xs)) (nat_eq_equiv.refl q.ticket.0)
+          ∙ all_others q.ticket.0 xs (rw (← e) (rising-head x xs rising));
+    }
+parts (x ∷ xs) q rising (suc k, room, at) =
+    let inside : Contains xs q = (k, omega arith, at) in
+    let less : x.ticket.0 < q.ticket.0 = All-contains (λ r. x.ticket.0 < r.ticket.0) xs q (rising-head x xs rising) inside in
+    let p = parts xs q (rising-tail x xs rising) inside in
+    record {
+      earlier = x ∷ p.earlier;
+      later = p.later;
+      was = ap (λ ys. x ∷ ys) p.was;
+      is = ap (λ b. cond (not b) (x ∷ others q.ticket.0 xs) (others q.ticket.0 xs)) (not_numbered' x q less) ∙ ap (λ ys. x ∷ ys) p.is;
+    }
+
+pub taken_alone : (locks : LockMap) (q : Request) → IsLockMap locks → Contains locks.queue q → TakesOnly q locks (without_request locks q.ticket.0)
+unfolding others
+taken_alone locks q is inside = let p = parts locks.queue q is.rising inside in record { earlier = p.earlier; later = p.later; queue_was = p.was; queue_is = p.is }
+
+-- ---- the request that is served
+
+-- the first that passes a test has the least number of all that do
+record IsLeast (p : Request → Bool) (qs : List Request) (q : Request) : Type 0 where
+  waits : Contains qs q
+  passes : p q ≡ true
+  least : (r : Request) → Contains qs r → p r ≡ true → q.ticket.0 ≤ r.ticket.0
+
+least : (p : Request → Bool) (qs : List Request) (q : Request) → AreTicketsRising qs → find p qs ≡ Some q → IsLeast p qs q
+least p [] q rising found = absurd (cc)
+least p (x ∷ xs) q rising found = elim (p x) as (λ b. p x ≡ b → cond b (Some x) (find p xs) ≡ Some q → IsLeast p (x ∷ xs) q) [
+  | true ↦ λ passes found. (
+      let e : x ≡ q = cc in
+      rw (← e) (record { waits = (0, omega arith, refl); passes = passes; least = from_first passes })
+      )
+  | false ↦ λ fails found. behind fails (least p xs q (rising-tail x xs rising) found)
+] refl found
+  where
+    from_first : p x ≡ true → (r : Request) → Contains (x ∷ xs) r → p r ≡ true → x.ticket.0 ≤ r.ticket.0
+    from_first passes r (zero, room, at) pr = let e : x ≡ r = at in let same : x.ticket.0 ≡ r.ticket.0 = ap (λ (s : Request). s.ticket.0) e in omega arith
+    from_first passes r (suc k, room, at) pr =
+        let inside : Contains xs r = (k, omega arith, at) in
+        let less : x.ticket.0 < r.ticket.0 = All-contains (λ s. x.ticket.0 < s.ticket.0) xs r (rising-head x xs rising) inside in
+        omega arith
+
+    of_both : p x ≡ false → IsLeast p xs q → (r : Request) → Contains (x ∷ xs) r → p r ≡ true → q.ticket.0 ≤ r.ticket.0
+    of_both fails is r (zero, room, at) pr = let e : x ≡ r = at in absurd (both_ways _ fails (ap p e ∙ pr))
+    of_both fails is r (suc k, room, at) pr = is.least r (k, omega arith, at) pr
+
+    behind : p x ≡ false → IsLeast p xs q → IsLeast p (x ∷ xs) q
+    behind fails is = record {
+      waits = (suc is.waits.0, omega (arith, is.waits.1), is.waits.2);
+      passes = is.passes;
+      least = of_both fails is;
+    }
+
+begins_not : (s : Scene) (ticket : Ticket) (o : Option LockPlace) → begin_or_rest s o ≡ Serve ticket → ⊥
+begins_not s ticket None is = absurd (cc)
+begins_not s ticket (Some at) is = absurd (cc)
+
+serving : (s : Scene) (ticket : Ticket) (o : Option Request) → serve_or_begin s o ≡ Serve ticket → (q : Request) × (o ≡ Some q) × (q.ticket ≡ ticket)
+serving s ticket None is = absurd (begins_not s ticket _ is)
+serving s ticket (Some q) is = (q, refl, cc)
+
+ending : (s : Scene) (ticket : Ticket) (o : Option LockPlace) → end_or_serve s o ≡ Serve ticket → serve_or_begin s (find (may_serve s.locks) s.locks.queue) ≡ Serve ticket
+ending s ticket None is = is
+ending s ticket (Some at) is = absurd (cc)
+
+pub least_served : (s : Scene) (ticket : Ticket) → IsLockMap s.locks → first_move s ≡ Serve ticket → (q : Request) × (q.ticket ≡ ticket) × IsFirstServed s.locks q
+unfolding first_move
+least_served s ticket is move =
+    let v = serving s ticket (find (may_serve s.locks) s.locks.queue) (ending s ticket (find (may_end s) (places s.locks)) move) in
+    let l = least (may_serve s.locks) s.locks.queue v.0 is.rising v.1 in
+    (v.0, v.2, record { waits = l.waits; may = l.passes; least = l.least })
+
+-- ---- what keeps the order
+
+pub without_request-kept : (locks : LockMap) (ticket : ℕ) → IsLockMap locks → IsLockMap (without_request locks ticket)
+without_request-kept locks ticket is = record {
+  rising = AllPairs-filter (λ earlier later. earlier.ticket.0 < later.ticket.0) (λ q. not (is_numbered ticket q)) locks.queue is.rising;
+  given = All-filter (λ q. not (is_numbered ticket q)) (λ q. (1 ≤ q.ticket.0) × (q.ticket.0 ≤ locks.last)) locks.queue is.given;
+  room =
+      let kept = length-filter (λ q. not (is_numbered ticket q)) locks.queue in
+      let fewer = count_by-le-length (λ q. not (is_numbered ticket q)) locks.queue in
+      let room = is.room in
+      omega arith;
+}
+
+pub moved-kept : (locks : LockMap) (step : Move) → IsLockMap locks → IsLockMap (moved locks step)
+moved-kept locks (Begin ino part to) is = record { rising = is.rising; given = is.given; room = is.room }
+moved-kept locks (End ino part) is = record { rising = is.rising; given = is.given; room = is.room }
+moved-kept locks (Serve ticket) is = without_request-kept locks ticket.0 is
+moved-kept locks Settled is = is
+
+pub with_request-kept : (locks : LockMap) (client : ClientId) (ino : Ino) (ask : Ask) → IsLockMap locks → length locks.queue < 1024 → IsLockMap (with_request locks client ino ask)
+with_request-kept locks client ino ask is room = record {
+  rising = all_pairs_push (λ earlier later. earlier.ticket.0 < later.ticket.0) locks.queue (next_request locks client ino ask) is.rising (λ k d inside. (let g = is.given k d inside in omega (arith, g.1)));
+  given = All-push (λ q. (1 ≤ q.ticket.0) × (q.ticket.0 ≤ locks.last + 1)) locks.queue (next_request locks client ino ask)
+      (All-weaker (λ q. (1 ≤ q.ticket.0) × (q.ticket.0 ≤ locks.last)) (λ q. (1 ≤ q.ticket.0) × (q.ticket.0 ≤ locks.last + 1)) (λ q g. (g.0, omega (arith, g.1))) locks.queue is.given)
+      (omega arith, omega arith);
+  room = let one_more = length-append locks.queue (next_request locks client ino ask ∷ []) in omega arith;
+}

@@ -1,0 +1,19 @@
+-- How values are stored.
+use Rattle.std.specs.Prelude.{ℕ, List, refl}
+use Rattle.std.specs.Coded.{Coded, code_by, coded×, coded_ℕ, coded_list}
+use Rattle.std.specs.FinMap as map
+use Rattle.lockmachine.specs.declared.request.Request.{Request}
+use Rattle.lockmachine.specs.contracts.request.Request as request
+use Rattle.lockmachine.specs.contracts.states.InodeLocks as inode_locks
+use Rattle.lockmachine.specs.Inodes.{StateMap}
+use Rattle.lockmachine.specs.Locks.{LockMap}
+
+-- a map of inodes to locks as its entries
+abbrev pub state_map_code : Coded StateMap
+state_map_code = map.code coded_ℕ inode_locks.the_row.coded
+
+-- the locks as their fields
+abbrev pub lock_map_code : Coded LockMap
+lock_map_code =
+    code_by (StateMap × (List Request × ℕ)) (coded× state_map_code (coded× (coded_list request.the_row.coded) coded_ℕ))
+    (λ l. (l.states, (l.queue, l.last))) (λ p. record { states = p.0; queue = p.1.0; last = p.1.1 }) (λ _. refl)
