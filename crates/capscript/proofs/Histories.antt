@@ -1,11 +1,12 @@
 -- Histories that grow by one row, for scripts that grow by one line.
 use Rattle.std.proofs.Common.{◌≡◌, ℕ, ◌+◌, ◌<◌, ◌≤◌, Bool, true, false, cond, not, List, [], ◌∷◌, ◌++◌, length, map, refl, sym, ap, ◌∙◌, subst, arith, inl, inr, append_assoc, length-append}
-use Rattle.std.specs.Prelude.{◌⊎◌, IsTrue, filter, Option, Some, None, IfSome, Result, Ok, Err, OnOk, OnErr, IfErr, IsErrAnd}
+use Rattle.std.specs.Prelude.{◌⊎◌, ◌↔◌, IsTrue, IsFalse, filter, Option, Some, None, IfSome, Result, Ok, Err, OnOk, OnErr, IfErr, IsErrAnd}
 use Rattle.std.specs.Io.KnownBytes.{Appends}
 use Rattle.std.specs.List.{AllByRecursion}
 use Rattle.std.specs.FinMap as map
 use Rattle.std.specs.Ordering.{nat_cmp, eq_by_cmp}
 use Rattle.std.specs.Option.{option_map}
+use Rattle.std.proofs.lemmas.Bool.{false≢true}
 use Rattle.std.proofs.lemmas.Cmp.{nat_cmp_total}
 use Rattle.std.proofs.lemmas.List.{map-append, append-nil}
 use Rattle.std.proofs.lemmas.List.Concat.{flat_map-append}
@@ -19,11 +20,12 @@ use Rattle.capcore.specs.History.{Told, IsOpening, Replays, AreNumbered, rows_of
 use Rattle.capcore.specs.State.{State}
 use Rattle.capbits.specs.declared.ids.ClientId.{ClientId}
 use Rattle.capscript.specs.Events.{Reads, client_of}
+use Rattle.capscript.specs.Faults.{IsStop}
 use Rattle.capscript.specs.declared.fault.ScriptFault.{ScriptFault}
 use Rattle.capscript.specs.declared.fault.ScriptFault.TheVariants as stops
 use Rattle.capscript.specs.Lines.{lines, is_skipped}
 use Rattle.capscript.specs.Replies.{reply_text}
-use Rattle.capscript.specs.Transcript.{LinesSay, replies_text, IsTranscript, Ran, Answers, AnswersLine, StopsIn, fs_name, root_attr}
+use Rattle.capscript.specs.Transcript.{LinesSay, replies_text, IsTranscript, Answered, Ran, Answers, AnswersLine, StopsIn, fs_name, root_attr}
 use Rattle.capcore.proofs.Growing.{replays-more}
 use Rattle.capcore.proofs.Numbered.{numbered-nil, numbered-snoc}
 use Rattle.capscript.proofs.Known.{none_appended, appends_more, appends_same}
@@ -206,7 +208,7 @@ so_far_more first now next script rest line behind text number old mid new so cu
 
 -- a line stops the script
 pub stopped : (T : Type 0) (first now next : Told) (script rest line text : List ℕ) (after : List (List ℕ)) (number : ℕ) (old mid new : Option (List ℕ)) (fault : ScriptFault) → IsOpening fs_name (first_tree root_attr) first.state → SoFar first now script rest number old mid
-    → lines rest ≡ line ∷ after → StopsIn now number line fault next text → Appends mid new text → (t : List ℕ) × Ran {T = T} script (Err fault) t × Appends old new t
+    → lines rest ≡ line ∷ after → StopsIn now number line fault next text → Appends mid new text → (t : List ℕ) × Answered {T = T} (lines script) (Err fault) t × Appends old new t
 stopped T first now next script rest line text after number old mid new (stops.LineFault at kind) opens so cut why appended = (
   replies_text now.rows,
   record { before = so.before; bad = line; after = after; order = so.order ∙ ap (λ (t : List (List ℕ)). so.before ++ t) cut; line_is = why.0 ∙ so.number_is; fault = why.1; transcript = transcript_of first now so.before opens so.ran },
@@ -214,8 +216,8 @@ stopped T first now next script rest line text after number old mid new (stops.L
 )
 stopped T first now next script rest line text after number old mid new stops.NoMemory opens so cut why appended = (
   replies_text now.rows,
-  record { front = so.before; after = lines rest; order = so.order; unwritten = []; transcript = subst (IsTranscript so.before) (sym (append-nil (replies_text now.rows))) (transcript_of first now so.before opens so.ran) },
-  appends_same old new (replies_text now.rows ++ text) (replies_text now.rows) (texts_same now now text refl why) (appends_more old mid new (replies_text now.rows) text so.written appended),
+  record { before = so.before; line = line; after = after; order = so.order ∙ ap (λ (t : List (List ℕ)). so.before ++ t) cut; event = why.0; reads = why.1; transcript = transcript_of first now so.before opens so.ran },
+  appends_same old new (replies_text now.rows ++ text) (replies_text now.rows) (texts_same now now text refl why.2) (appends_more old mid new (replies_text now.rows) text so.written appended),
 )
 stopped T first now next script rest line text after number old mid new stops.WriteFault opens so cut why appended =
     let event = why.0 in
@@ -235,13 +237,13 @@ stopped T first now next script rest line text after number old mid new stops.Re
 
 -- the same, by the answer that tells of it
 pub stopped_by : (T : Type 0) (first now next : Told) (script rest line : List ℕ) (after : List (List ℕ)) (number : ℕ) (old mid new : Option (List ℕ)) (fault : ScriptFault) (result : Result T ScriptFault) → IsErrAnd result (λ told. told ≡ fault)
-    → IsOpening fs_name (first_tree root_attr) first.state → SoFar first now script rest number old mid → lines rest ≡ line ∷ after → (text : List ℕ) × StopsIn now number line fault next text × Appends mid new text → (t : List ℕ) × Ran script result t × Appends old new t
+    → IsOpening fs_name (first_tree root_attr) first.state → SoFar first now script rest number old mid → lines rest ≡ line ∷ after → (text : List ℕ) × StopsIn now number line fault next text × Appends mid new text → (t : List ℕ) × Answered (lines script) result t × Appends old new t
 stopped_by T first now next script rest line after number old mid new fault (Ok done) told opens so cut why = absurd told
 stopped_by T first now next script rest line after number old mid new fault (Err same) told opens so cut why = rw told (stopped T first now next script rest line why.0 after number old mid new fault opens so cut why.1 why.2)
 
 -- the last line
 pub last_line : (T : Type 0) (first now next : Told) (script rest line : List ℕ) (number : ℕ) (old mid new : Option (List ℕ)) (result : Result T ScriptFault) → IsOpening fs_name (first_tree root_attr) first.state → SoFar first now script rest number old mid → lines rest ≡ line ∷ []
-    → OnOk result ((text : List ℕ) × AnswersLine now line next text × Appends mid new text) → IfErr result (λ fault. (text : List ℕ) × StopsIn now number line fault next text × Appends mid new text) → (t : List ℕ) × Ran script result t × Appends old new t
+    → OnOk result ((text : List ℕ) × AnswersLine now line next text × Appends mid new text) → IfErr result (λ fault. (text : List ℕ) × StopsIn now number line fault next text × Appends mid new text) → (t : List ℕ) × Answered (lines script) result t × Appends old new t
 last_line T first now next script rest line number old mid new (Ok done) opens so cut ok err =
     let all : so.before ++ line ∷ [] ≡ lines script = sym (so.order ∙ ap (λ (t : List (List ℕ)). so.before ++ t) cut) in (
       replies_text next.rows,
@@ -256,22 +258,11 @@ room_left first now script rest number old new so short room = omega (arith, so.
 
 -- ---- before any line
 
-pub nothing_said : IsTranscript [] []
-nothing_said = record {
-  opening = first_state;
-  rows = [];
-  last = first_state;
-  opens = opens_first;
-  legal = record { replays = refl; numbered = numbered-nil };
-  say = say_none;
-  text_is = refl;
-}
-
 -- a fault that told of no script: nothing was written
 pub nothing_ran : (T : Type 0) (script : List ℕ) (known : Option (List ℕ)) (fault : ScriptFault) (result : Result T ScriptFault) → IsErrAnd result (λ told. told ≡ fault) → (fault ≡ stops.ReadFault) ⊎ (fault ≡ stops.NoMemory) → (t : List ℕ) × Ran script result t × Appends known known t
 nothing_ran T script known fault (Ok done) told why = absurd told
 nothing_ran T script known fault (Err same) told (inl read) = ([], rw (told, read) refl, none_appended known)
-nothing_ran T script known fault (Err same) told (inr missed) = ([], rw (told, missed) (record { front = []; after = lines script; order = refl; unwritten = []; transcript = nothing_said }), none_appended known)
+nothing_ran T script known fault (Err same) told (inr missed) = ([], rw (told, missed) (inl refl), none_appended known)
 
 pub either_fault : {T : Type 0} (result : Result T ScriptFault) (fault : ScriptFault) → result ≡ Err fault → (result ≡ Err stops.ReadFault) ⊎ (result ≡ Err stops.NoMemory) → (fault ≡ stops.ReadFault) ⊎ (fault ≡ stops.NoMemory)
 either_fault result fault same (inl is) = inl (cc)
@@ -288,14 +279,33 @@ pub event_answered : {T : Type 0} (now next : Told) (line : List ℕ) (event : E
 event_answered now next line event old new (Ok done) reads ok = (ok.0, inr (event, reads, ok.1), ok.2)
 event_answered now next line event old new (Err fault) reads ok = tt
 
-pub event_stopped : {T A : Type 0} (now next : Told) (number : ℕ) (line : List ℕ) (event : Event) (old new : Option (List ℕ)) (result : Result T ScriptFault) → Reads line event → OnErr result ((result ≡ Err stops.WriteFault) ⊎ (result ≡ Err stops.NoMemory)) → (result ≡ Err stops.NoMemory → Appends old new [])
-    → (result ≡ Err stops.WriteFault → A × ((text left : List ℕ) × Answers now event next (text ++ left) × Appends old new text)) → IfErr result (λ fault. (text : List ℕ) × StopsIn now number line fault next text × Appends old new text)
+pub event_stopped : {T : Type 0} (now next : Told) (number : ℕ) (line : List ℕ) (event : Event) (old new : Option (List ℕ)) (result : Result T ScriptFault) → Reads line event → OnErr result ((result ≡ Err stops.WriteFault) ⊎ (result ≡ Err stops.NoMemory)) → (result ≡ Err stops.NoMemory → Appends old new [])
+    → (result ≡ Err stops.WriteFault → (text left : List ℕ) × Answers now event next (text ++ left) × Appends old new text) → IfErr result (λ fault. (text : List ℕ) × StopsIn now number line fault next text × Appends old new text)
 event_stopped now next number line event old new (Ok done) reads kinds memory written = tt
-event_stopped now next number line event old new (Err stops.NoMemory) reads kinds memory written = ([], refl, memory refl)
-event_stopped now next number line event old new (Err stops.WriteFault) reads kinds memory written = let took = (written refl).1 in (took.0, (event, reads, (took.1, took.2)), took.3)
+event_stopped now next number line event old new (Err stops.NoMemory) reads kinds memory written = ([], (event, reads, refl), memory refl)
+event_stopped now next number line event old new (Err stops.WriteFault) reads kinds memory written = let took = written refl in (took.0, (event, reads, (took.1, took.2)), took.3)
 event_stopped now next number line event old new (Err stops.ReadFault) reads kinds memory written = absurd (elim kinds [ inl is ↦ cc | inr is ↦ cc ])
 event_stopped now next number line event old new (Err (stops.LineFault at kind)) reads kinds memory written = absurd (elim kinds [ inl is ↦ cc | inr is ↦ cc ])
 
 pub read_said : (found : Option (Option ClientId × Event)) (line : List ℕ) (client : Option ClientId) (event : Event) → IfSome found (λ said. Reads line said.1 × (said.0 ≡ Some (client_of said.1))) → found ≡ Some (client, event) → Reads line event
 read_said None line client event said is = absurd (cc)
 read_said (Some pair) line client event said is = let same : pair ≡ (client, event) = cc in subst (λ (p : Option ClientId × Event). Reads line p.1) same said.0
+
+-- ---- flags
+
+pub not_set : (flag : Bool) → (IsTrue flag → ⊥) → IsFalse flag
+not_set false never = refl
+not_set true never = absurd (never refl)
+
+-- what did not fail left the flag clear
+pub still_clear : (old new : Bool) {A : Type 0} → (IsTrue new ↔ (IsTrue old ⊎ A)) → (A → ⊥) → IsFalse old → IsFalse new
+still_clear old new flag none clear = not_set new (λ set. elim (flag.0 set) [ inl was ↦ false≢true (sym clear ∙ was) | inr bad ↦ none bad ])
+
+-- no event was answered: the line's own stop
+pub stopped_unread : {T : Type 0} (now : Told) (number : ℕ) (line : List ℕ) (known : Option (List ℕ)) (fault : ScriptFault) (result : Result T ScriptFault) → IsErrAnd result (λ told. told ≡ fault) → IsStop number line fault
+    → IfErr result (λ told. (text : List ℕ) × StopsIn now number line told now text × Appends known known text)
+stopped_unread now number line known fault (Ok done) told stop = tt
+stopped_unread now number line known (stops.LineFault at kind) (Err same) told stop = ([], rw told (stop.0, stop.1, refl), none_appended known)
+stopped_unread now number line known stops.NoMemory (Err same) told stop = ([], rw told (stop.0, stop.1, refl), none_appended known)
+stopped_unread now number line known stops.ReadFault (Err same) told stop = absurd stop
+stopped_unread now number line known stops.WriteFault (Err same) told stop = absurd stop

@@ -64,13 +64,29 @@ pub record IsBeginning (script : List (List ℕ)) (text : List ℕ) : Type 0 whe
   pub unwritten : List ℕ
   pub transcript : IsTranscript front (text ++ unwritten)
 
--- what was written, by how the run over the script ended
+-- it is the transcript of the lines before a line that says an event
+pub record StopsAtEvent (script : List (List ℕ)) (text : List ℕ) : Type 0 where
+  pub before : List (List ℕ)
+  pub line : List ℕ
+  pub after : List (List ℕ)
+  pub order : script ≡ before ++ line ∷ after
+  pub event : Event
+  pub reads : Reads line event
+  pub transcript : IsTranscript before text
+
+-- What was written, by how the answers to the lines ended. Memory is missed at a line that says an event, never at one that has a fault.
+abbrev pub Answered : {T : Type 0} → List (List ℕ) → Result T ScriptFault → List ℕ → Type 0
+Answered script (Ok done) text = IsTranscript script text
+Answered script (Err (stops.LineFault line kind)) text = StopsAtLine script line kind text
+Answered script (Err stops.WriteFault) text = IsBeginning script text
+Answered script (Err stops.NoMemory) text = StopsAtEvent script text
+Answered script (Err stops.ReadFault) text = ⊥
+
+-- what was written, by how the run over the script ended: before the first line, by a fault of reading or for want of memory, or behind it
 abbrev pub Ran : {T : Type 0} → List ℕ → Result T ScriptFault → List ℕ → Type 0
-Ran script (Ok done) text = IsTranscript (lines script) text
-Ran script (Err (stops.LineFault line kind)) text = StopsAtLine (lines script) line kind text
-Ran script (Err stops.WriteFault) text = IsBeginning (lines script) text
-Ran script (Err stops.NoMemory) text = IsBeginning (lines script) text
 Ran script (Err stops.ReadFault) text = text ≡ []
+Ran script (Err stops.NoMemory) text = (text ≡ []) ⊎ StopsAtEvent (lines script) text
+Ran script result text = Answered (lines script) result text
 
 -- ---- one event
 
@@ -94,6 +110,6 @@ AnswersLine old line new text =
 -- what was written where a line with this number stopped the script
 abbrev pub StopsIn : Told → ℕ → List ℕ → ScriptFault → Told → List ℕ → Type 0
 StopsIn old number line (stops.LineFault at kind) new text = (at ≡ number) × HasFault line kind × (text ≡ [])
-StopsIn old number line stops.NoMemory new text = text ≡ []
+StopsIn old number line stops.NoMemory new text = (event : Event) × Reads line event × (text ≡ [])
 StopsIn old number line stops.WriteFault new text = (event : Event) × Reads line event × ((left : List ℕ) × Answers old event new (text ++ left))
 StopsIn old number line stops.ReadFault new text = ⊥

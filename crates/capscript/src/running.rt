@@ -1,11 +1,11 @@
 //! Running a script.
-ghost use Rattle.std.specs.Prelude.{◌≡◌, ◌≢◌, ◌⊎◌, ◌<◌, ◌≤◌, ◌+◌, ◌++◌, ℕ, List, [], length, IsTrue, IsFalse, IfOk, IfErr, IfSome, MatchOption, OnOk, OnErr, Err, ◌∷◌};
+ghost use Rattle.std.specs.Prelude.{◌≡◌, ◌≢◌, ◌⊎◌, ◌↔◌, ◌<◌, ◌≤◌, ◌+◌, ◌++◌, ℕ, List, [], length, IsTrue, IsFalse, IfOk, IfErr, IfSome, MatchOption, OnOk, OnErr, Err, ◌∷◌};
 ghost use Rattle.std.specs.Io.KnownBytes.{Keeps, Appends, Consumes};
 ghost use Rattle.inotree.specs.Calls.{first_tree};
 ghost use Rattle.capcore.specs.History.{IsOpening};
 ghost use Rattle.capscript.specs.declared.fault.ScriptFault.TheVariants as stops;
 ghost use Rattle.capscript.specs.Lines.{lines};
-ghost use Rattle.capscript.specs.Transcript.{Ran, Answers, AnswersLine, StopsIn, fs_name, root_attr};
+ghost use Rattle.capscript.specs.Transcript.{Ran, Answered, Answers, AnswersLine, StopsIn, fs_name, root_attr};
 ghost use Rattle.capscript.specs.Watched.{inner_of, has_failed};
 
 use crate::fault::ScriptFault;
@@ -36,12 +36,17 @@ pub fn run<R: Read, W: Write>(
 ) -> Result<(), ScriptFault>
     requires reader_clear { IsFalse (has_failed reader.old) }
     requires writer_clear { IsFalse (has_failed writer.old) }
-    // What was written, where it is known what there was to read.
+    // What was written, where it is known what there was to read. It ends at the first line that has a fault; memory is missed before the
+    // first line, or at one that says an event.
     ensures ran { IfSome (R.remaining (inner_of reader.old)) (λ script. (text : List ℕ) × Ran script result text × Appends (W.contents (inner_of writer.old)) (W.contents (inner_of writer.new)) text) }
-    // A script that is too long is not run.
-    ensures short { OnOk result (IfSome (R.remaining (inner_of reader.old)) (λ script. length script ≤ MAX_SCRIPT)) }
+    // A read that failed is told, and then nothing was written.
+    ensures read_told { IsTrue (has_failed reader.new) → result ≡ Err stops.ReadFault }
+    // A script that is too long is not run; memory may run out on the way to its end.
+    ensures long { IfSome (R.remaining (inner_of reader.old)) (λ script. MAX_SCRIPT < length script → (result ≡ Err stops.ReadFault) ⊎ (result ≡ Err stops.NoMemory)) }
+    // Only a read that failed and a script that is too long are told of.
     ensures read { result ≡ Err stops.ReadFault → (IsTrue (has_failed reader.new) ⊎ IfSome (R.remaining (inner_of reader.old)) (λ script. MAX_SCRIPT < length script)) × Appends (W.contents (inner_of writer.old)) (W.contents (inner_of writer.new)) [] }
-    ensures written { result ≡ Err stops.WriteFault → IsTrue (has_failed writer.new) }
+    // A write that failed is told, and only that.
+    ensures written { (result ≡ Err stops.WriteFault) ↔ IsTrue (has_failed writer.new) }
     // At most one byte too many is taken from the reader.
     ensures taken { (taken : List ℕ) × Consumes (R.remaining (inner_of reader.old)) (R.remaining (inner_of reader.new)) taken × (length taken ≤ MAX_SCRIPT + 1) }
 {
@@ -85,9 +90,10 @@ fn answer_lines<W: Write>(
     requires empty { core.old.rows ≡ [] }
     requires room { core.old.max_rows ≡ u32.MAX }
     requires short { length script.now ≤ MAX_SCRIPT }
-    ensures ran { (text : List ℕ) × Ran script.now result text × Appends (W.contents (inner_of writer.old)) (W.contents (inner_of writer.new)) text }
+    requires clear { IsFalse (has_failed writer.old) }
+    ensures ran { (text : List ℕ) × Answered (lines script.now) result text × Appends (W.contents (inner_of writer.old)) (W.contents (inner_of writer.new)) text }
     ensures read { result ≢ Err stops.ReadFault }
-    ensures written { result ≡ Err stops.WriteFault → IsTrue (has_failed writer.new) }
+    ensures written { (result ≡ Err stops.WriteFault) ↔ IsTrue (has_failed writer.new) }
 {
     let mut rest = script;
     let mut number = 1;
@@ -116,10 +122,11 @@ fn answer_line<W: Write>(
     text: &[u8],
     writer: &mut Watched<W>,
 ) -> Result<(), ScriptFault>
-    requires { length core.old.rows < core.old.max_rows }
+    requires room { length core.old.rows < core.old.max_rows }
+    requires clear { IsFalse (has_failed writer.old) }
     ensures ok { OnOk result ((written : List ℕ) × AnswersLine core.old text.now core.new written × Appends (W.contents (inner_of writer.old)) (W.contents (inner_of writer.new)) written) }
     ensures err { IfErr result (λ fault. (written : List ℕ) × StopsIn core.old number text.now fault core.new written × Appends (W.contents (inner_of writer.old)) (W.contents (inner_of writer.new)) written) }
-    ensures failed { result ≡ Err stops.WriteFault → IsTrue (has_failed writer.new) }
+    ensures written { (result ≡ Err stops.WriteFault) ↔ IsTrue (has_failed writer.new) }
 {
     match read_line(alloc, number, text)? {
         Some((_, event)) => answer_event(alloc, core, event, writer),
@@ -134,12 +141,14 @@ fn answer_event<W: Write>(
     event: Event,
     writer: &mut Watched<W>,
 ) -> Result<(), ScriptFault>
-    requires { length core.old.rows < core.old.max_rows }
+    requires room { length core.old.rows < core.old.max_rows }
+    requires clear { IsFalse (has_failed writer.old) }
     ensures ok { OnOk result ((text : List ℕ) × Answers core.old event core.new text × Appends (W.contents (inner_of writer.old)) (W.contents (inner_of writer.new)) text) }
     // Without memory nothing is written.
     ensures memory { result ≡ Err stops.NoMemory → Appends (W.contents (inner_of writer.old)) (W.contents (inner_of writer.new)) [] }
     // A writer that fails took the beginning of the answer.
-    ensures written { result ≡ Err stops.WriteFault → IsTrue (has_failed writer.new) × ((text left : List ℕ) × Answers core.old event core.new (text ++ left) × Appends (W.contents (inner_of writer.old)) (W.contents (inner_of writer.new)) text) }
+    ensures part { result ≡ Err stops.WriteFault → (text left : List ℕ) × Answers core.old event core.new (text ++ left) × Appends (W.contents (inner_of writer.old)) (W.contents (inner_of writer.new)) text }
+    ensures written { (result ≡ Err stops.WriteFault) ↔ IsTrue (has_failed writer.new) }
     ensures err { OnErr result ((result ≡ Err stops.WriteFault) ⊎ (result ≡ Err stops.NoMemory)) }
 {
     let reply = match core.apply(PassId(1), event) {

@@ -1,7 +1,9 @@
 use Rattle.std.proofs.Common.{◌≡◌, ℕ, refl, arith, ap, inr, ◌++◌, ◌∙◌, take, drop, length, length-append, length-drop}
+use Rattle.std.proofs.lemmas.Bool.{false≢true}
 use Rattle.std.proofs.lemmas.List.{length-take}
 use Rattle.capscript.specs.Watched.{inner_of}
 use Rattle.capscript.proofs.Known.{none_consumed, consumes_more, consumes_kept, consumes_nothing, consumed_is_there, front_of}
+use Rattle.capscript.proofs.Histories.{still_clear}
 use Rattle.capscript.proofs.input.read_script.Goals as goal
 
 pub loop-buffer-init : goal.loop-buffer-init
@@ -9,6 +11,7 @@ loop-buffer-init g c = record {
   taken = rw c.new-script.ensures.items (none_consumed (g.R.Read.remaining (inner_of c.args.reader.now)));
   few = omega (arith, c.new-script.ensures.len);
   room = refl;
+  clear = c.requires;
 }
 
 pub returns-in-Err-clause-taken : goal.returns-in-Err-clause-taken
@@ -58,6 +61,7 @@ loop-buffer-preserved g c =
       taken = rw pushed (consumes_more (known (inner_of c.args.reader.now)) (known (inner_of c.loop-buffer.reader)) (known (inner_of c.read.new.self)) items chunk c.loop-buffer.invariant.taken c.in-Ok.ensures.bytes.0);
       few = omega (arith, ap length pushed, length-append items chunk, c.in-Ok.ensures.bound.0, c.in-Ok.ensures.bound.1, c.read.auto.buf, length-take c.min-room.result c.loop-buffer.buffer, c.min-room.ensures, c.len-in-loop-buffer.ensures, c.loop-buffer.script.ok.0);
       room = omega (arith, length-append c.read.new.buf (drop c.min-room.result c.loop-buffer.buffer), length-drop c.min-room.result c.loop-buffer.buffer, length-take c.min-room.result c.loop-buffer.buffer, c.read.auto.buf, c.min-room.ensures, c.loop-buffer.invariant.room);
+      clear = still_clear _ _ c.in-Ok.ensures.flag (λ bad. false≢true bad) c.loop-buffer.invariant.clear;
     }
 
 pub returns-clause-taken : goal.returns-clause-taken

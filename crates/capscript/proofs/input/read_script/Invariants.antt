@@ -1,14 +1,16 @@
 use Rattle.std.proofs.Common.{◌≡◌, ◌-◌, ◌≤◌, length}
+use Rattle.std.specs.Prelude.{IsFalse}
 use Rattle.std.specs.Io.KnownBytes.{Consumes}
-use Rattle.capscript.specs.Watched.{inner_of}
+use Rattle.capscript.specs.Watched.{inner_of, has_failed}
 use Rattle.capscript.proofs.input.read_script.Given as goal
 
--- what was read so far is what was taken from the reader
+-- what was read so far is what was taken from the reader, and no read failed
 abbrev pub invariant-loop-buffer : goal.invariant-loop-buffer
 invariant-loop-buffer g l = record {
   taken : Consumes (g.R.Read.remaining (inner_of l.fn.reader)) (g.R.Read.remaining (inner_of l.reader)) l.script.items;
   few : length l.script.items ≤ 16777217;
   room : length l.buffer ≡ 4096;
+  clear : IsFalse (has_failed l.reader);
 }
 
 abbrev pub decreases-loop-buffer : goal.decreases-loop-buffer
