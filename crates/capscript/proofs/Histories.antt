@@ -1,12 +1,11 @@
 -- Histories that grow by one row, for scripts that grow by one line.
 use Rattle.std.proofs.Common.{◌≡◌, ℕ, ◌+◌, ◌<◌, ◌≤◌, Bool, true, false, cond, not, List, [], ◌∷◌, ◌++◌, length, map, refl, sym, ap, ◌∙◌, subst, arith, inl, inr, append_assoc, length-append}
-use Rattle.std.specs.Prelude.{◌⊎◌, ◌↔◌, IsTrue, IsFalse, filter, Option, Some, None, IfSome, Result, Ok, Err, OnOk, OnErr, IfErr, IsErrAnd}
+use Rattle.std.specs.Prelude.{◌⊎◌, IsTrue, filter, Option, Some, None, IfSome, Result, Ok, Err, OnOk, OnErr, IfErr, IsErrAnd}
 use Rattle.std.specs.Io.KnownBytes.{Appends}
 use Rattle.std.specs.List.{AllByRecursion}
 use Rattle.std.specs.FinMap as map
 use Rattle.std.specs.Ordering.{nat_cmp, eq_by_cmp}
 use Rattle.std.specs.Option.{option_map}
-use Rattle.std.proofs.lemmas.Bool.{false≢true}
 use Rattle.std.proofs.lemmas.Cmp.{nat_cmp_total}
 use Rattle.std.proofs.lemmas.List.{map-append, append-nil}
 use Rattle.std.proofs.lemmas.List.Concat.{flat_map-append}
@@ -19,7 +18,7 @@ use Rattle.capcore.specs.declared.history.Row.{Row}
 use Rattle.capcore.specs.History.{Told, IsOpening, Replays, AreNumbered, rows_of}
 use Rattle.capcore.specs.State.{State}
 use Rattle.capbits.specs.declared.ids.ClientId.{ClientId}
-use Rattle.capscript.specs.Events.{Reads, client_of}
+use Rattle.capscript.specs.Events.{Reads}
 use Rattle.capscript.specs.Faults.{IsStop}
 use Rattle.capscript.specs.declared.fault.ScriptFault.{ScriptFault}
 use Rattle.capscript.specs.declared.fault.ScriptFault.TheVariants as stops
@@ -28,8 +27,8 @@ use Rattle.capscript.specs.Replies.{reply_text}
 use Rattle.capscript.specs.Transcript.{LinesSay, replies_text, IsTranscript, Answered, Ran, Answers, AnswersLine, StopsIn, fs_name, root_attr}
 use Rattle.capcore.proofs.Growing.{replays-more}
 use Rattle.capcore.proofs.Numbered.{numbered-nil, numbered-snoc}
-use Rattle.capscript.proofs.Known.{none_appended, appends_more, appends_same}
-use Rattle.capscript.proofs.Meaning.{skipped_reads_nothing}
+use Rattle.capscript.proofs.SaidLines.{not_skipped}
+use Rattle.capscript.proofs.KnownBytes.{none_appended, appends_more, appends_same}
 
 -- ---- there is an opening state on the first tree
 
@@ -93,9 +92,6 @@ say_skipped before events line say skipped = record {
   events_are = say.events_are;
   each = say.each;
 }
-
-not_skipped : (line : List ℕ) (event : Event) → Reads line event → is_skipped line ≡ false
-not_skipped line event reads = elim (is_skipped line) as (λ b. is_skipped line ≡ b → b ≡ false) [ true ↦ λ skipped. absurd (skipped_reads_nothing line event skipped reads) | false ↦ λ _. refl ] refl
 
 say_more : (before : List (List ℕ)) (events : List Event) (line : List ℕ) (event : Event) → LinesSay before events → Reads line event → LinesSay (before ++ line ∷ []) (events ++ event ∷ [])
 say_more before events line event say reads = record {
@@ -287,19 +283,9 @@ event_stopped now next number line event old new (Err stops.WriteFault) reads ki
 event_stopped now next number line event old new (Err stops.ReadFault) reads kinds memory written = absurd (elim kinds [ inl is ↦ cc | inr is ↦ cc ])
 event_stopped now next number line event old new (Err (stops.LineFault at kind)) reads kinds memory written = absurd (elim kinds [ inl is ↦ cc | inr is ↦ cc ])
 
-pub read_said : (found : Option (Option ClientId × Event)) (line : List ℕ) (client : Option ClientId) (event : Event) → IfSome found (λ said. Reads line said.1 × (said.0 ≡ Some (client_of said.1))) → found ≡ Some (client, event) → Reads line event
+pub read_said : (found : Option (Option ClientId × Event)) (line : List ℕ) (client : Option ClientId) (event : Event) → IfSome found (λ said. Reads line said.1) → found ≡ Some (client, event) → Reads line event
 read_said None line client event said is = absurd (cc)
-read_said (Some pair) line client event said is = let same : pair ≡ (client, event) = cc in subst (λ (p : Option ClientId × Event). Reads line p.1) same said.0
-
--- ---- flags
-
-pub not_set : (flag : Bool) → (IsTrue flag → ⊥) → IsFalse flag
-not_set false never = refl
-not_set true never = absurd (never refl)
-
--- what did not fail left the flag clear
-pub still_clear : (old new : Bool) {A : Type 0} → (IsTrue new ↔ (IsTrue old ⊎ A)) → (A → ⊥) → IsFalse old → IsFalse new
-still_clear old new flag none clear = not_set new (λ set. elim (flag.0 set) [ inl was ↦ false≢true (sym clear ∙ was) | inr bad ↦ none bad ])
+read_said (Some pair) line client event said is = let same : pair ≡ (client, event) = cc in subst (λ (p : Option ClientId × Event). Reads line p.1) same said
 
 -- no event was answered: the line's own stop
 pub stopped_unread : {T : Type 0} (now : Told) (number : ℕ) (line : List ℕ) (known : Option (List ℕ)) (fault : ScriptFault) (result : Result T ScriptFault) → IsErrAnd result (λ told. told ≡ fault) → IsStop number line fault

@@ -1,8 +1,8 @@
-pub mod Cutting
-pub mod Listed
-pub mod BadWords
-pub mod Commands
-pub mod Meaning
-pub mod Printing
-pub mod Known
+pub mod LineWords
+pub mod Numerals
+pub mod GroupNumbers
+pub mod SaidLines
+pub mod PrintedRules
+pub mod KnownBytes
+pub mod Flags
 pub mod Histories

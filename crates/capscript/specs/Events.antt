@@ -1,25 +1,20 @@
--- Which line says which event.
-use Rattle.std.specs.Prelude.{◌≡◌, ◌≤◌, ℕ, List, [], ◌∷◌, length}
-use Rattle.capbits.specs.declared.ids.ClientId.{ClientId}
+-- What a line says.
+use Rattle.std.specs.Prelude.{◌≡◌, ℕ, Result, Ok, Err, List, [], ◌∷◌, length, codes, bytes_eq, nat_le, if◌then◌else◌}
 use Rattle.capbits.specs.declared.caller.Caller.{Caller}
+use Rattle.capbits.specs.declared.ids.ClientId.{ClientId}
+use Rattle.capbits.specs.declared.ids.Ino.{Ino}
 use Rattle.capspec.specs.declared.grant.Grant.{Grant}
-use Rattle.capspec.specs.Items.{IsNumber}
+use Rattle.capspec.specs.Grants.{Reads as MeansGrants}
 use Rattle.capcore.specs.declared.event.Event.{Event}
 use Rattle.capcore.specs.declared.event.Event.TheVariants as events
 use Rattle.capscript.specs.declared.command.Command.{Command}
 use Rattle.capscript.specs.declared.command.Command.TheVariants as commands
+use Rattle.capscript.specs.declared.fault.LineFault.{LineFault}
+use Rattle.capscript.specs.declared.fault.LineFault.TheVariants as faults
 use Rattle.capscript.specs.declared.line.TheConstants.{MAX_LINE}
-use Rattle.capscript.specs.Values.{IsLongNumber, IsModeText, AreGroups, AreGrants}
-use Rattle.capscript.specs.Words.{IsCommand}
-
--- the command of an event
-abbrev pub command_of : Event → Command
-command_of (events.Session client caller grants) = commands.Session
-command_of (events.Lookup client dir name) = commands.Lookup
-command_of (events.Create client dir name mode) = commands.Create
-command_of (events.Mkdir client dir name mode) = commands.Mkdir
-command_of (events.MakeSnapshot client ino name) = commands.MakeSnapshot
-command_of (events.RemoveSnapshot client ino name) = commands.RemoveSnapshot
+use Rattle.capscript.specs.Lines.{is_skipped}
+use Rattle.capscript.specs.Values.{number_in, client_in, ino_in, mode_in, groups_in}
+use Rattle.capscript.specs.Words.{parts, command_in}
 
 -- the client who asks
 abbrev pub client_of : Event → ClientId
@@ -30,55 +25,81 @@ client_of (events.Mkdir client dir name mode) = client
 client_of (events.MakeSnapshot client ino name) = client
 client_of (events.RemoveSnapshot client ino name) = client
 
--- a client, an inode and a name
-pub record AreNamed (arguments : List (List ℕ)) (client ino : ℕ) (name : List ℕ) : Type 0 where
-  pub client_word : List ℕ
-  pub ino_word : List ℕ
-  pub arguments_are : arguments ≡ client_word ∷ ino_word ∷ name ∷ []
-  pub client_is : IsNumber client_word client
-  pub ino_is : IsLongNumber ino_word ino
+-- What a line says: nothing, as it is skipped; an event; that a client opens a session with the grants that a text means, whatever these
+-- are; or nothing that can be read, by its fault.
+pub data Line : Type 0 where
+  Nothing : Line
+  Says : Event → Line
+  Opens : ClientId → Caller → List ℕ → Line
+  Faulty : LineFault → Line
+
+-- a word that can't be read is the fault of its line
+infixl 10 ◌>>=◌
+abbrev pub ◌>>=◌ : {A : Type 0} → Result A LineFault → (A → Line) → Line
+Ok read >>= next = next read
+Err fault >>= next = Faulty fault
+
+-- a client, an inode and a name; any word is a name, good or bad
+abbrev pub named_by : (ClientId → Ino → List ℕ → Event) → List (List ℕ) → Line
+named_by event (client_word ∷ ino_word ∷ name ∷ []) = do
+  client ← client_in client_word
+  ino ← ino_in ino_word
+  Says (event client ino name)
+named_by event arguments = Faulty faults.Count
 
 -- a client, a directory, a name in it and a mode
-pub record AreNamedWithMode (arguments : List (List ℕ)) (client dir : ℕ) (name : List ℕ) (mode : ℕ) : Type 0 where
-  pub client_word : List ℕ
-  pub dir_word : List ℕ
-  pub mode_word : List ℕ
-  pub arguments_are : arguments ≡ client_word ∷ dir_word ∷ name ∷ mode_word ∷ []
-  pub client_is : IsNumber client_word client
-  pub dir_is : IsLongNumber dir_word dir
-  pub mode_is : IsModeText mode_word mode
+abbrev pub new_inode_by : (ClientId → Ino → List ℕ → ℕ → Event) → List (List ℕ) → Line
+new_inode_by event (client_word ∷ dir_word ∷ name ∷ mode_word ∷ []) = do
+  client ← client_in client_word
+  dir ← ino_in dir_word
+  mode ← mode_in mode_word
+  Says (event client dir name mode)
+new_inode_by event arguments = Faulty faults.Count
 
--- a client, its caller and its grants
-pub record AreOfSession (arguments : List (List ℕ)) (client : ℕ) (caller : Caller) (grants : List Grant) : Type 0 where
-  pub client_word : List ℕ
-  pub uid_word : List ℕ
-  pub gid_word : List ℕ
-  pub groups_word : List ℕ
-  pub grants_text : List ℕ
-  pub arguments_are : arguments ≡ client_word ∷ uid_word ∷ gid_word ∷ groups_word ∷ grants_text ∷ []
-  pub client_is : IsNumber client_word client
-  pub uid_is : IsNumber uid_word caller.uid
-  pub gid_is : IsNumber gid_word caller.gid
-  pub groups_are : AreGroups groups_word caller.groups
-  pub grants_are : AreGrants grants_text grants
+-- exactly `none` for no grants, or a grant text
+abbrev pub opened : ClientId → Caller → List ℕ → Line
+opened client caller text = if bytes_eq text (codes "none") then Says (events.Session client caller []) else Opens client caller text
 
--- the arguments of a command say the event
-abbrev pub Say : List (List ℕ) → Event → Type 0
-Say arguments (events.Session client caller grants) = AreOfSession arguments client.0 caller grants
-Say arguments (events.Lookup client dir name) = AreNamed arguments client.0 dir.0 name
-Say arguments (events.Create client dir name mode) = AreNamedWithMode arguments client.0 dir.0 name mode
-Say arguments (events.Mkdir client dir name mode) = AreNamedWithMode arguments client.0 dir.0 name mode
-Say arguments (events.MakeSnapshot client ino name) = AreNamed arguments client.0 ino.0 name
-Say arguments (events.RemoveSnapshot client ino name) = AreNamed arguments client.0 ino.0 name
+-- a client, its user, group and further groups, and its grants
+abbrev pub session_by : List (List ℕ) → Line
+session_by (client_word ∷ uid_word ∷ gid_word ∷ groups_word ∷ text ∷ []) = do
+  client ← client_in client_word
+  uid ← number_in uid_word
+  gid ← number_in gid_word
+  groups ← groups_in groups_word
+  opened client (record { uid = uid; gid = gid; groups = groups }) text
+session_by arguments = Faulty faults.Count
 
--- the arguments of the command say the event
-pub record IsSaid (command : Command) (arguments : List (List ℕ)) (event : Event) : Type 0 where
-  pub command_is : command_of event ≡ command
-  pub say : Say arguments event
+-- a command with its arguments
+abbrev pub said_with : Command → List (List ℕ) → Line
+said_with commands.Session arguments = session_by arguments
+said_with commands.Lookup arguments = named_by events.Lookup arguments
+said_with commands.Create arguments = new_inode_by events.Create arguments
+said_with commands.Mkdir arguments = new_inode_by events.Mkdir arguments
+said_with commands.MakeSnapshot arguments = named_by events.MakeSnapshot arguments
+said_with commands.RemoveSnapshot arguments = named_by events.RemoveSnapshot arguments
 
--- the line says the event: it is not too long, and its command has arguments that do
-pub record Reads (text : List ℕ) (event : Event) : Type 0 where
-  pub arguments : List (List ℕ)
-  pub is_command : IsCommand text (command_of event) arguments
-  pub short : length text ≤ MAX_LINE
-  pub say : Say arguments event
+-- the parts of a line that has so many bytes; there is always a first
+abbrev pub said_by : ℕ → List (List ℕ) → Line
+said_by size [] = Faulty faults.Command
+said_by size (word ∷ arguments) = do
+  command ← command_in word
+  if nat_le size MAX_LINE then said_with command arguments else Faulty faults.Count
+
+-- what a line says that is not skipped
+abbrev pub said_in : List ℕ → Line
+said_in text = said_by (length text) (parts text)
+
+-- what a line says
+abbrev pub line_says : List ℕ → Line
+line_says text = if is_skipped text then Nothing else said_in text
+
+-- the line says the event
+abbrev pub Tells : Line → Event → Type 0
+Tells Nothing event = ⊥
+Tells (Says said) event = event ≡ said
+Tells (Opens client caller text) event = (grants : List Grant) × MeansGrants text grants × (event ≡ events.Session client caller grants)
+Tells (Faulty fault) event = ⊥
+
+abbrev pub Reads : List ℕ → Event → Type 0
+Reads text event = Tells (line_says text) event

@@ -1,32 +1,58 @@
--- What single words write.
-use Rattle.std.specs.Prelude.{◌≡◌, ◌≢◌, ◌⊎◌, ℕ, ◌<◌, ◌≤◌, ◌^◌, List, [], length, codes}
-use Rattle.std.specs.Str.Parse.{IsNumeral, digits_value}
-use Rattle.capspec.specs.declared.grant.Grant.{Grant}
-use Rattle.capspec.specs.Grants.{Reads}
-use Rattle.capspec.specs.Items.{is_comma, IsNumber}
-use Rattle.capspec.specs.Separated.{AreSeparated}
+-- What single words write, or the fault of one that does not.
+use Rattle.std.specs.Prelude.{ℕ, ◌^◌, ◌&&◌, Bool, Result, Ok, Err, List, [], ◌∷◌, length, codes, bytes_eq, nat_lt, nat_le, if◌then◌else◌}
+use Rattle.std.specs.Char.{digit_value}
+use Rattle.std.specs.List.{list_all, slice_split}
+use Rattle.std.specs.Str.Parse.{digits_value}
+use Rattle.capbits.specs.declared.ids.ClientId.{ClientId}
+use Rattle.capbits.specs.declared.ids.Ino.{Ino}
+use Rattle.capspec.specs.Items.{is_comma}
+use Rattle.capscript.specs.declared.fault.LineFault.{LineFault}
+use Rattle.capscript.specs.declared.fault.LineFault.TheVariants.{Number, Mode}
 
--- decimal digits of a number of 64 bits
-pub record IsLongNumber (digits : List ℕ) (n : ℕ) : Type 0 where
-  pub numeral : IsNumeral 10 digits
-  pub value : digits_value 10 digits ≡ n
-  pub small : n < 2 ^ 64
+-- what cannot be read ends the reading
+infixl 10 ◌>>=◌
+abbrev pub ◌>>=◌ : {A B : Type 0} → Result A LineFault → (A → Result B LineFault) → Result B LineFault
+Ok read >>= next = next read
+Err fault >>= next = Err fault
+
+-- one digit of the radix or more, and nothing else
+abbrev pub is_numeral : ℕ → List ℕ → Bool
+is_numeral radix text = nat_lt 0 (length text) && list_all (λ b. nat_lt (digit_value b) radix) text
+
+-- the decimal number, if it is below the limit
+abbrev pub number_below : ℕ → List ℕ → Result ℕ LineFault
+number_below limit word = if is_numeral 10 word && nat_lt (digits_value 10 word) limit then Ok (digits_value 10 word) else Err Number
+
+abbrev pub number_in : List ℕ → Result ℕ LineFault
+number_in word = number_below (2 ^ 32) word
+
+abbrev pub client_in : List ℕ → Result ClientId LineFault
+client_in word = do
+  number ← number_in word
+  Ok (record { 0 = number })
+
+abbrev pub ino_in : List ℕ → Result Ino LineFault
+ino_in word = do
+  number ← number_below (2 ^ 64) word
+  Ok (record { 0 = number })
 
 -- one to four octal digits
-pub record IsModeText (text : List ℕ) (mode : ℕ) : Type 0 where
-  pub numeral : IsNumeral 8 text
-  pub short : length text ≤ 4
-  pub value : digits_value 8 text ≡ mode
+abbrev pub mode_in : List ℕ → Result ℕ LineFault
+mode_in word = if is_numeral 8 word && nat_le (length word) 4 then Ok (digits_value 8 word) else Err Mode
 
--- one to sixteen numbers, with a comma between each two
-pub record AreListed (text gids : List ℕ) : Type 0 where
-  pub numbers : AreSeparated is_comma IsNumber text gids
-  pub few : length gids ≤ 16
+abbrev pub numbers_in : List (List ℕ) → Result (List ℕ) LineFault
+numbers_in [] = Ok []
+numbers_in (word ∷ words) = do
+  number ← number_in word
+  numbers ← numbers_in words
+  Ok (number ∷ numbers)
+
+-- numbers with a comma between each two, at most sixteen
+abbrev pub list_in : List ℕ → Result (List ℕ) LineFault
+list_in word = do
+  gids ← numbers_in (slice_split is_comma word)
+  if nat_le (length gids) 16 then Ok gids else Err Number
 
 -- `-` for none, or a list of them
-abbrev pub AreGroups : List ℕ → List ℕ → Type 0
-AreGroups text gids = ((text ≡ codes "-") × (gids ≡ [])) ⊎ AreListed text gids
-
--- exactly `none` for none, or what the grant text says
-abbrev pub AreGrants : List ℕ → List Grant → Type 0
-AreGrants text grants = ((text ≡ codes "none") × (grants ≡ [])) ⊎ ((text ≢ codes "none") × Reads text grants)
+abbrev pub groups_in : List ℕ → Result (List ℕ) LineFault
+groups_in word = if bytes_eq word (codes "-") then Ok [] else list_in word

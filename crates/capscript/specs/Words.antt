@@ -1,8 +1,11 @@
 -- The words of a line, and what the first of them says.
-use Rattle.std.specs.Prelude.{◌≡◌, ◌==◌, ℕ, Bool, List, [], ◌∷◌, codes}
+use Rattle.std.specs.Prelude.{◌==◌, ℕ, Bool, Result, List, [], ◌∷◌, find, codes, bytes_eq}
 use Rattle.std.specs.List.{slice_split, join_with_byte}
+use Rattle.std.specs.Option.{ok_or}
 use Rattle.capscript.specs.declared.command.Command.{Command}
 use Rattle.capscript.specs.declared.command.Command.TheVariants.{Session, Lookup, Create, Mkdir, MakeSnapshot, RemoveSnapshot}
+use Rattle.capscript.specs.declared.fault.LineFault.{LineFault}
+use Rattle.capscript.specs.declared.fault.LineFault.TheVariants as faults
 
 abbrev pub is_space : ℕ → Bool
 is_space b = b == 32
@@ -14,12 +17,16 @@ words text = slice_split is_space text
 
 -- words with one space between each two
 abbrev pub spaced : List (List ℕ) → List ℕ
-spaced parts = join_with_byte 32 parts
+spaced some = join_with_byte 32 some
 
--- the words, with all from the sixth on as one: the rest of the line
+-- the words, with all from the sixth on as one
 abbrev pub six_parts : List (List ℕ) → List (List ℕ)
 six_parts (a ∷ b ∷ c ∷ d ∷ e ∷ f ∷ more) = a ∷ b ∷ c ∷ d ∷ e ∷ spaced (f ∷ more) ∷ []
 six_parts few = few
+
+-- the parts of a line: its words, of which the sixth is all that is left of it
+abbrev pub parts : List ℕ → List (List ℕ)
+parts text = six_parts (words text)
 
 -- the first word of a line with the command
 abbrev pub command_word : Command → List ℕ
@@ -30,13 +37,9 @@ command_word Mkdir = codes "mkdir"
 command_word MakeSnapshot = codes "mksnap"
 command_word RemoveSnapshot = codes "rmsnap"
 
--- the arguments of a command, by the words behind it: these words; but of a session, the fifth is the rest of the line
-abbrev pub arguments_in : Command → List (List ℕ) → List (List ℕ)
-arguments_in Session (client ∷ uid ∷ gid ∷ groups ∷ first ∷ more) = client ∷ uid ∷ gid ∷ groups ∷ spaced (first ∷ more) ∷ []
-arguments_in command behind = behind
+abbrev pub commands : List Command
+commands = Session ∷ Lookup ∷ Create ∷ Mkdir ∷ MakeSnapshot ∷ RemoveSnapshot ∷ []
 
--- the line is the command with these arguments
-pub record IsCommand (text : List ℕ) (command : Command) (arguments : List (List ℕ)) : Type 0 where
-  pub behind : List (List ℕ)
-  pub words_are : words text ≡ command_word command ∷ behind
-  pub arguments_are : arguments ≡ arguments_in command behind
+-- the command that a word is
+abbrev pub command_in : List ℕ → Result Command LineFault
+command_in word = ok_or (find (λ command. bytes_eq word (command_word command)) commands) faults.Command

@@ -1,5 +1,7 @@
 //! The words that lines begin with.
 
+use crate::fault::LineFault;
+
 /// What a line says, by its first word.
 #[derive(Clone, Copy, Debug, PartialEq, Eq)]
 pub(crate) enum Command {
@@ -18,22 +20,21 @@ pub(crate) enum Command {
 }
 
 impl Command {
-    ghost use Rattle.std.specs.Prelude.{◌≡◌, ◌≢◌, MatchOption};
-    ghost use Rattle.capscript.specs.declared.command.Command.{Command as ACommand};
-    ghost use Rattle.capscript.specs.Words.{command_word};
+    ghost use Rattle.std.specs.Prelude.{◌≡◌};
+    ghost use Rattle.capscript.specs.Words.{command_in};
 
-    // The command that a word names, if it names one.
-    pub(crate) fn read(word: &[u8]) -> Option<Command>
-        ensures { MatchOption result ((command : ACommand) → word.now ≢ command_word command) (λ command. word.now ≡ command_word command) }
+    // The command that a word is.
+    pub(crate) fn read(word: &[u8]) -> Result<Command, LineFault>
+        ensures { result ≡ command_in word.now }
     {
         match word {
-            b"session" => Some(Command::Session),
-            b"lookup" => Some(Command::Lookup),
-            b"create" => Some(Command::Create),
-            b"mkdir" => Some(Command::Mkdir),
-            b"mksnap" => Some(Command::MakeSnapshot),
-            b"rmsnap" => Some(Command::RemoveSnapshot),
-            _ => None,
+            b"session" => Ok(Command::Session),
+            b"lookup" => Ok(Command::Lookup),
+            b"create" => Ok(Command::Create),
+            b"mkdir" => Ok(Command::Mkdir),
+            b"mksnap" => Ok(Command::MakeSnapshot),
+            b"rmsnap" => Ok(Command::RemoveSnapshot),
+            _ => Err(LineFault::Command),
         }
     }
 }

@@ -1,10 +1,12 @@
 //! The events that lines say.
-ghost use Rattle.std.specs.Prelude.{◌≡◌, ◌∷◌, [], map, IsFalse, MatchResult};
-ghost use Rattle.capscript.specs.declared.command.Command.TheVariants as commands;
-ghost use Rattle.capscript.specs.Events.{Reads, IsSaid, AreNamed, AreNamedWithMode};
-ghost use Rattle.capscript.specs.Faults.{fields_of, AreRefused, IsGrantsRefusal, IsRefused};
-ghost use Rattle.capscript.specs.Lines.{is_skipped};
-ghost use Rattle.capscript.specs.Values.{AreGrants};
+ghost use Rattle.std.specs.Prelude.{◌≡◌, ℕ, List, map, MatchResult};
+ghost use Rattle.capbits.specs.declared.caller.Caller.{Caller as ACaller};
+ghost use Rattle.capbits.specs.declared.ids.ClientId.{ClientId as AClient};
+ghost use Rattle.capbits.specs.declared.ids.Ino.{Ino as AnIno};
+ghost use Rattle.capcore.specs.declared.event.Event.{Event as AnEvent};
+ghost use Rattle.capcore.specs.declared.event.Event.TheVariants as events;
+ghost use Rattle.capscript.specs.Events.{Tells, said_in, said_with, session_by, named_by, new_inode_by, opened};
+ghost use Rattle.capscript.specs.Faults.{IsRefused};
 
 use crate::command::Command;
 use crate::fault::{LineFault, Refused};
@@ -36,31 +38,75 @@ struct NewInode {
 
 // The event that a line says, if it is not skipped.
 pub(crate) fn read_event(alloc: Global, text: &[u8]) -> Result<Event, Refused>
-    requires { IsFalse (is_skipped text.now) }
-    ensures { MatchResult result (Reads text.now) (IsRefused text.now) }
+    ensures { let said = said_in text.now in MatchResult result (Tells said) (IsRefused said) }
 {
     let words = split_words(text);
     let Some((first, arguments)) = words.as_slice().split_first() else {
         return Err(Refused::Wrong(LineFault::Command));
     };
-    let Some(command) = Command::read(first) else {
-        return Err(Refused::Wrong(LineFault::Command));
-    };
+    let command = Command::read(first)?;
     if text.len() > MAX_LINE {
         return Err(Refused::Wrong(LineFault::Count));
     }
+    read_arguments(alloc, command, arguments)
+}
+
+// The event that a command says with its arguments, of which the fifth is all that is left of the line.
+fn read_arguments(alloc: Global, command: Command, arguments: &[&[u8]]) -> Result<Event, Refused>
+    ensures { let said = said_with command (map (λ word. word.now) arguments.now) in MatchResult result (Tells said) (IsRefused said) }
+{
     match command {
         Command::Session => read_session(alloc, arguments),
-        Command::Lookup => read_lookup(alloc, arguments),
-        Command::Create => read_create(alloc, arguments),
-        Command::Mkdir => read_mkdir(alloc, arguments),
-        Command::MakeSnapshot => read_make_snapshot(alloc, arguments),
-        Command::RemoveSnapshot => read_remove_snapshot(alloc, arguments),
+        Command::Lookup => {
+            let Named { client, ino, name } = read_named(alloc, arguments)?;
+            Ok(Event::Lookup {
+                client,
+                dir: ino,
+                name,
+            })
+        }
+        Command::Create => {
+            let NewInode {
+                client,
+                dir,
+                name,
+                mode,
+            } = read_new_inode(alloc, arguments)?;
+            Ok(Event::Create {
+                client,
+                dir,
+                name,
+                mode,
+            })
+        }
+        Command::Mkdir => {
+            let NewInode {
+                client,
+                dir,
+                name,
+                mode,
+            } = read_new_inode(alloc, arguments)?;
+            Ok(Event::Mkdir {
+                client,
+                dir,
+                name,
+                mode,
+            })
+        }
+        Command::MakeSnapshot => {
+            let Named { client, ino, name } = read_named(alloc, arguments)?;
+            Ok(Event::MakeSnapshot { client, ino, name })
+        }
+        Command::RemoveSnapshot => {
+            let Named { client, ino, name } = read_named(alloc, arguments)?;
+            Ok(Event::RemoveSnapshot { client, ino, name })
+        }
     }
 }
 
+#[tactic(auto, using(crate::proofs::SaidLines::five))]
 fn read_session(alloc: Global, arguments: &[&[u8]]) -> Result<Event, Refused>
-    ensures { let words = map (λ word. word.now) arguments.now in MatchResult result (IsSaid commands.Session words) (AreRefused (fields_of commands.Session) words) }
+    ensures { let said = session_by (map (λ word. word.now) arguments.now) in MatchResult result (Tells said) (IsRefused said) }
 {
     let [client, uid, gid, groups, grants] = arguments else {
         return Err(Refused::Wrong(LineFault::Count));
@@ -79,68 +125,9 @@ fn read_session(alloc: Global, arguments: &[&[u8]]) -> Result<Event, Refused>
     })
 }
 
-fn read_lookup(alloc: Global, arguments: &[&[u8]]) -> Result<Event, Refused>
-    ensures { let words = map (λ word. word.now) arguments.now in MatchResult result (IsSaid commands.Lookup words) (AreRefused (fields_of commands.Lookup) words) }
-{
-    let Named { client, ino, name } = read_named(alloc, arguments)?;
-    Ok(Event::Lookup {
-        client,
-        dir: ino,
-        name,
-    })
-}
-
-fn read_create(alloc: Global, arguments: &[&[u8]]) -> Result<Event, Refused>
-    ensures { let words = map (λ word. word.now) arguments.now in MatchResult result (IsSaid commands.Create words) (AreRefused (fields_of commands.Create) words) }
-{
-    let NewInode {
-        client,
-        dir,
-        name,
-        mode,
-    } = read_new_inode(alloc, arguments)?;
-    Ok(Event::Create {
-        client,
-        dir,
-        name,
-        mode,
-    })
-}
-
-fn read_mkdir(alloc: Global, arguments: &[&[u8]]) -> Result<Event, Refused>
-    ensures { let words = map (λ word. word.now) arguments.now in MatchResult result (IsSaid commands.Mkdir words) (AreRefused (fields_of commands.Mkdir) words) }
-{
-    let NewInode {
-        client,
-        dir,
-        name,
-        mode,
-    } = read_new_inode(alloc, arguments)?;
-    Ok(Event::Mkdir {
-        client,
-        dir,
-        name,
-        mode,
-    })
-}
-
-fn read_make_snapshot(alloc: Global, arguments: &[&[u8]]) -> Result<Event, Refused>
-    ensures { let words = map (λ word. word.now) arguments.now in MatchResult result (IsSaid commands.MakeSnapshot words) (AreRefused (fields_of commands.MakeSnapshot) words) }
-{
-    let Named { client, ino, name } = read_named(alloc, arguments)?;
-    Ok(Event::MakeSnapshot { client, ino, name })
-}
-
-fn read_remove_snapshot(alloc: Global, arguments: &[&[u8]]) -> Result<Event, Refused>
-    ensures { let words = map (λ word. word.now) arguments.now in MatchResult result (IsSaid commands.RemoveSnapshot words) (AreRefused (fields_of commands.RemoveSnapshot) words) }
-{
-    let Named { client, ino, name } = read_named(alloc, arguments)?;
-    Ok(Event::RemoveSnapshot { client, ino, name })
-}
-
-// A client, an inode and a name.
+// A client, an inode and a name, whichever event they are said for.
 fn read_named(alloc: Global, arguments: &[&[u8]]) -> Result<Named, Refused>
-    ensures { let words = map (λ word. word.now) arguments.now in MatchResult result (λ named. AreNamed words named.client.0 named.ino.0 named.name) (AreRefused (fields_of commands.Lookup) words) }
+    ensures { (event : AClient → AnIno → List ℕ → AnEvent) → let said = named_by event (map (λ word. word.now) arguments.now) in MatchResult result (λ named. Tells said (event named.client named.ino named.name)) (IsRefused said) }
 {
     let [client, ino, name] = arguments else {
         return Err(Refused::Wrong(LineFault::Count));
@@ -151,9 +138,9 @@ fn read_named(alloc: Global, arguments: &[&[u8]]) -> Result<Named, Refused>
     Ok(Named { client, ino, name })
 }
 
-// A client, a directory, a name in it and a mode.
+// A client, a directory, a name in it and a mode, whichever event they are said for.
 fn read_new_inode(alloc: Global, arguments: &[&[u8]]) -> Result<NewInode, Refused>
-    ensures { let words = map (λ word. word.now) arguments.now in MatchResult result (λ new. AreNamedWithMode words new.client.0 new.dir.0 new.name new.mode) (AreRefused (fields_of commands.Create) words) }
+    ensures { (event : AClient → AnIno → List ℕ → ℕ → AnEvent) → let said = new_inode_by event (map (λ word. word.now) arguments.now) in MatchResult result (λ new. Tells said (event new.client new.dir new.name new.mode)) (IsRefused said) }
 {
     let [client, dir, name, mode] = arguments else {
         return Err(Refused::Wrong(LineFault::Count));
@@ -170,9 +157,9 @@ fn read_new_inode(alloc: Global, arguments: &[&[u8]]) -> Result<NewInode, Refuse
     })
 }
 
-// The grants that a text says, or none where it is `none`.
+// The grants that a text says, or none where it is `none`: those with which a session is opened.
 fn read_all_grants(alloc: Global, text: &[u8]) -> Result<Grants, Refused>
-    ensures { MatchResult result (AreGrants text.now) (IsGrantsRefusal text.now) }
+    ensures { (client : AClient) (caller : ACaller) → let said = opened client caller text.now in MatchResult result (λ grants. Tells said (events.Session client caller grants)) (IsRefused said) }
 {
     if text == b"none".as_slice() {
         return Ok(Grants::none(alloc)?);

@@ -27,8 +27,9 @@ pub fn read_line(
     text: &[u8],
 ) -> Result<Option<(Option<ClientId>, Event)>, ScriptFault>
     ensures skipped { (result ≡ Ok None) ↔ IsTrue (is_skipped text.now) }
-    // What is read is what the line says.
-    ensures event { IfOk result (λ read. IfSome read (λ said. Reads text.now said.1 × (said.0 ≡ Some (client_of said.1)))) }
+    // What is read is what the line says; and each of these events has a client, who asks.
+    ensures event { IfOk result (λ read. IfSome read (λ said. Reads text.now said.1)) }
+    ensures client { IfOk result (λ read. IfSome read (λ said. said.0 ≡ Some (client_of said.1))) }
     // What the line says is read, unless memory runs out.
     ensures only { (event : AnEvent) → Reads text.now event → (result ≡ Err stops.NoMemory) ⊎ (result ≡ Ok (Some (Some (client_of event), event))) }
     // Which fault it is.

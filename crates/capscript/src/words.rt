@@ -1,6 +1,6 @@
 //! The words of a line.
 ghost use Rattle.std.specs.Prelude.{◌≡◌, ◌∷◌, [], map, MatchOption};
-ghost use Rattle.capscript.specs.Words.{words, six_parts};
+ghost use Rattle.capscript.specs.Words.{words, parts};
 
 use arrayvec::ArrayVec;
 
@@ -9,7 +9,7 @@ pub(crate) const MAX_PARTS: usize = 6;
 
 // The words of a line, of which the sixth is all that is left of it.
 pub(crate) fn split_words(text: &[u8]) -> ArrayVec<&[u8], MAX_PARTS>
-    ensures { map (λ part. part.now) result.items ≡ six_parts (words text.now) }
+    ensures { map (λ part. part.now) result.items ≡ parts text.now }
 {
     let mut parts = ArrayVec::new();
     let mut rest = text;

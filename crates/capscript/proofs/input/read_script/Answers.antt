@@ -2,8 +2,8 @@ use Rattle.std.proofs.Common.{◌≡◌, ℕ, refl, arith, ap, inr, ◌++◌, �
 use Rattle.std.proofs.lemmas.Bool.{false≢true}
 use Rattle.std.proofs.lemmas.List.{length-take}
 use Rattle.capscript.specs.Watched.{inner_of}
-use Rattle.capscript.proofs.Known.{none_consumed, consumes_more, consumes_kept, consumes_nothing, consumed_is_there, front_of}
-use Rattle.capscript.proofs.Histories.{still_clear}
+use Rattle.capscript.proofs.KnownBytes.{none_consumed, consumes_more, consumes_kept, consumes_nothing, consumed_is_there, front_of}
+use Rattle.capscript.proofs.Flags.{still_clear}
 use Rattle.capscript.proofs.input.read_script.Goals as goal
 
 pub loop-buffer-init : goal.loop-buffer-init

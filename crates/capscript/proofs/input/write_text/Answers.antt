@@ -2,8 +2,8 @@ use Rattle.std.proofs.Common.{◌≡◌, ℕ, List, [], ◌++◌, refl, inl, inr
 use Rattle.std.proofs.lemmas.List.{take-append-drop, take_rest, append-nil}
 use Rattle.std.proofs.lemmas.Bool.{eqb-true, false≢true}
 use Rattle.capscript.specs.Watched.{inner_of}
-use Rattle.capscript.proofs.Known.{none_appended, appends_more, appends_kept, appends_same, empty_list}
-use Rattle.capscript.proofs.Histories.{still_clear}
+use Rattle.capscript.proofs.KnownBytes.{none_appended, appends_more, appends_kept, appends_same, empty_list}
+use Rattle.capscript.proofs.Flags.{still_clear}
 use Rattle.capscript.proofs.input.write_text.Goals as goal
 
 pub loop-rest-init : goal.loop-rest-init

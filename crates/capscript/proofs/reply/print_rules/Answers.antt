@@ -1,5 +1,5 @@
 use Rattle.std.proofs.Common.{arith, ap, ◌∙◌}
-use Rattle.capscript.proofs.Printing.{printed-first, printed-more}
+use Rattle.capscript.proofs.PrintedRules.{printed-first, printed-more}
 use Rattle.capscript.proofs.reply.print_rules.Goals as goal
 use Rattle.capscript.proofs.reply.print_rules.Goals.{then-place-gt0+in_ok-print-2, else-place-gt0}
 

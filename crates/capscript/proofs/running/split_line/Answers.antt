@@ -2,7 +2,7 @@ use Rattle.std.proofs.Common.{rules, tests}
 use Rattle.std.proofs.lemmas.Iterator.{YieldsList-from_slice}
 use Rattle.std.proofs.lemmas.Iterator.Search.{position_from_yields_List}
 use Rattle.capscript.specs.Lines.{is_line_feed}
-use Rattle.capscript.proofs.Cutting.{cut_none, cut_some}
+use Rattle.capscript.proofs.LineWords.{cut_none, cut_some}
 use Rattle.capscript.proofs.running.split_line.Goals as goal
 
 pub returns-in_err-end-clause-lines : goal.returns-in_err-end-clause-lines

@@ -2,7 +2,7 @@ use Rattle.std.proofs.Common.{rules, tests}
 use Rattle.std.proofs.lemmas.Iterator.{YieldsList-from_slice}
 use Rattle.std.proofs.lemmas.Iterator.Search.{position_from_yields_List}
 use Rattle.capscript.specs.Words.{is_space}
-use Rattle.capscript.proofs.Cutting.{cut_none, cut_some}
+use Rattle.capscript.proofs.LineWords.{cut_none, cut_some}
 use Rattle.capscript.proofs.words.split_at_space.Goals as goal
 
 pub returns-in_err-end : goal.returns-in_err-end

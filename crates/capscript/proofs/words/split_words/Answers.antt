@@ -1,5 +1,5 @@
 use Rattle.std.proofs.Common.{arith, lit<}
-use Rattle.capscript.proofs.Cutting.{cut_more, cut_off, cut_up}
+use Rattle.capscript.proofs.LineWords.{cut_more, cut_off, cut_up}
 use Rattle.capscript.proofs.words.split_words.Goals as goal
 use Rattle.capscript.proofs.words.split_words.Goals.{else-loop-test, then-loop-test+in-None}
 

@@ -1,0 +1,116 @@
+-- Why a line is refused; and that it says one event, or has one fault, or is skipped.
+use Rattle.std.proofs.Common.{◌≡◌, ℕ, arith, true, false, List, [], ◌∷◌, length, map, get_or, refl, sym, ap, subst, ◌∙◌}
+use Rattle.std.proofs.Common.{inl, inr}
+use Rattle.std.specs.Prelude.{◌⊎◌, Result, Ok, Err, MatchResult, IsErrAnd}
+use Rattle.std.specs.Borrow.{Bor}
+use Rattle.capbits.specs.declared.caller.Caller.{Caller}
+use Rattle.capbits.specs.declared.ids.ClientId.{ClientId}
+use Rattle.capspec.specs.declared.fault.SpecFault.{SpecFault}
+use Rattle.capspec.specs.declared.grant.Grant.{Grant}
+use Rattle.capspec.specs.Faults.{IsFault, IsNoMemory}
+use Rattle.capspec.specs.Grants.{Reads as MeansGrants}
+use Rattle.capspec.proofs.OneReading.{one_fault as one_grant_fault, reads_once, reads_no_fault}
+use Rattle.capspec.proofs.Told.{fault_told}
+use Rattle.capcore.specs.declared.event.Event.{Event}
+use Rattle.capcore.specs.declared.event.Event.TheVariants as events
+use Rattle.capscript.specs.declared.fault.LineFault.{LineFault}
+use Rattle.capscript.specs.declared.fault.LineFault.TheVariants as faults
+use Rattle.capscript.specs.declared.fault.Refused.{Refused}
+use Rattle.capscript.specs.declared.fault.Refused.TheVariants as refusals
+use Rattle.capscript.specs.Events.{Line, said_in, line_says, Tells, Reads}
+use Rattle.capscript.specs.Events.Line.{Nothing, Says, Opens, Faulty}
+use Rattle.capscript.specs.Faults.{Has, HasFault, IsRefused, IsRefusedFor}
+use Rattle.capscript.specs.Lines.{is_skipped}
+
+-- ---- want of memory
+
+-- the line says an event, whichever it is
+abbrev pub SaysAny : Line → Type 0
+SaysAny Nothing = ⊥
+SaysAny (Says event) = Unit {0}
+SaysAny (Opens client caller text) = (grants : List Grant) × MeansGrants text grants
+SaysAny (Faulty fault) = ⊥
+
+event_said : (line : Line) → SaysAny line → (event : Event) × Tells line event
+event_said Nothing says = absurd says
+event_said (Says event) says = (event, refl)
+event_said (Opens client caller text) says = (events.Session client caller says.0, (says.0, says.1, refl))
+event_said (Faulty fault) says = absurd says
+
+pub missed : {A : Type 0} (answer : Result A Refused) (IsRight : A → Type 0) (line : Line) → IsErrAnd answer (λ refused. refused ≡ refusals.NoMemory) → SaysAny line → MatchResult answer IsRight (IsRefused line)
+missed (Ok done) IsRight line told says = absurd told
+missed (Err refused) IsRight line told says = rw told (event_said line says)
+
+-- ---- grants
+
+-- a grant text that is refused has a fault, or memory was missing for what it says
+refused_text : (client : ClientId) (caller : Caller) (text : List ℕ) (fault : SpecFault) (refused : Refused) → IsFault text fault ⊎ (IsNoMemory fault × (grants : List Grant) × MeansGrants text grants) → IsRefusedFor fault refused → IsRefused (Opens client caller text) refused
+refused_text client caller text fault (refusals.Wrong kind) (inl is) passed = (fault, is, passed.0)
+refused_text client caller text fault (refusals.Wrong kind) (inr missed) passed = absurd (passed.1 (ap (λ (f : SpecFault). f.kind) missed.0))
+refused_text client caller text fault refusals.NoMemory (inl is) passed = absurd (fault_told text fault is passed)
+refused_text client caller text fault refusals.NoMemory (inr missed) passed = event_said (Opens client caller text) (missed.1, missed.2)
+
+pub text_refused : {A : Type 0} (answer : Result A Refused) (IsRight : A → Type 0) (client : ClientId) (caller : Caller) (text : List ℕ) (fault : SpecFault) → IsErrAnd answer (IsRefusedFor fault) → IsFault text fault ⊎ (IsNoMemory fault × (grants : List Grant) × MeansGrants text grants)
+    → MatchResult answer IsRight (IsRefused (Opens client caller text))
+text_refused (Ok done) IsRight client caller text fault passed found = absurd passed
+text_refused (Err refused) IsRight client caller text fault passed found = refused_text client caller text fault refused found passed
+
+-- ---- parts
+
+-- what no place holds
+abbrev pub nowhere : Bor (List ℕ)
+nowhere = record { ref_ptr = (0, 0); now = [] }
+
+abbrev pub word_at : List (Bor (List ℕ)) → ℕ → List ℕ
+word_at arguments place = (get_or arguments place nowhere).now
+
+-- five arguments by their places
+pub five : (arguments : List (Bor (List ℕ))) → length arguments ≡ 5 → map (λ word. word.now) arguments ≡ word_at arguments 0 ∷ word_at arguments 1 ∷ word_at arguments 2 ∷ word_at arguments 3 ∷ word_at arguments 4 ∷ []
+five (a ∷ b ∷ c ∷ d ∷ e ∷ []) count = refl
+five [] count = absurd (omega arith)
+five (a ∷ []) count = absurd (omega arith)
+five (a ∷ b ∷ []) count = absurd (omega arith)
+five (a ∷ b ∷ c ∷ []) count = absurd (omega arith)
+five (a ∷ b ∷ c ∷ d ∷ []) count = absurd (omega arith)
+five (a ∷ b ∷ c ∷ d ∷ e ∷ f ∷ more) count = absurd (omega arith)
+
+-- what is no event is why there is none
+pub refused_by : {A : Type 0} (answer : Result A Refused) (IsRight : A → Type 0) (line : Line) (refused : Refused) → IsErrAnd answer (λ passed. passed ≡ refused) → IsRefused line refused → MatchResult answer IsRight (IsRefused line)
+refused_by (Ok done) IsRight line refused passed why = absurd passed
+refused_by (Err same) IsRight line refused passed why = rw passed why
+
+-- ---- a line says one event, or has one fault, or is skipped
+
+pub tells_once : (line : Line) (event other : Event) → Tells line event → Tells line other → event ≡ other
+tells_once Nothing event other is also = absurd is
+tells_once (Says said) event other is also = is ∙ sym also
+tells_once (Opens client caller text) event other is also = is.2 ∙ ap (events.Session client caller) (reads_once text is.0 also.0 is.1 also.1) ∙ sym also.2
+tells_once (Faulty fault) event other is also = absurd is
+
+pub tells_no_fault : (line : Line) (event : Event) (fault : LineFault) → Tells line event → Has line fault → ⊥
+tells_no_fault Nothing event fault is has = is
+tells_no_fault (Says said) event fault is has = has
+tells_no_fault (Opens client caller text) event fault is has = reads_no_fault text is.0 has.0 is.1 has.1
+tells_no_fault (Faulty found) event fault is has = is
+
+pub one_fault : (line : Line) (fault other : LineFault) → Has line fault → Has line other → fault ≡ other
+one_fault Nothing fault other is also = absurd is
+one_fault (Says said) fault other is also = absurd is
+one_fault (Opens client caller text) fault other is also = is.2 ∙ ap faults.Grants (one_grant_fault text is.0 also.0 is.1 also.1) ∙ sym also.2
+one_fault (Faulty found) fault other is also = is ∙ sym also
+
+pub not_skipped : (text : List ℕ) (event : Event) → Reads text event → is_skipped text ≡ false
+not_skipped text event reads = elim (is_skipped text) as (λ b. is_skipped text ≡ b → b ≡ false) [
+  | true ↦ λ skipped. let says : line_says text ≡ Nothing = rw skipped refl in absurd (subst (λ (line : Line). Tells line event) says reads)
+  | false ↦ λ _. refl
+] refl
+
+-- a line that is not skipped
+said : (text : List ℕ) → is_skipped text ≡ false → line_says text ≡ said_in text
+said text other = rw other refl
+
+pub reads_said : (text : List ℕ) (event : Event) → is_skipped text ≡ false → Reads text event → Tells (said_in text) event
+reads_said text event other reads = subst (λ (line : Line). Tells line event) (said text other) reads
+
+pub has_said : (text : List ℕ) (fault : LineFault) → is_skipped text ≡ false → HasFault text fault → Has (said_in text) fault
+has_said text fault other has = subst (λ (line : Line). Has line fault) (said text other) has

@@ -1,0 +1,18 @@
+use Rattle.std.proofs.Common.{rules, refl, codes, arith}
+use Rattle.std.proofs.lemmas.Slice.Eq.{text_from_reads}
+use Rattle.capscript.proofs.command.Command.read.Goals as goal
+
+pub returns-in-session : goal.returns-in-session
+returns-in-session c = rw (text_from_reads c.args.word.now (codes "session") (omega arith) (search rules)) refl
+
+pub returns-in-lookup : goal.returns-in-lookup
+returns-in-lookup c = rw (text_from_reads c.args.word.now (codes "lookup") (omega arith) (search rules)) refl
+
+pub returns-in-create : goal.returns-in-create
+returns-in-create c = rw (text_from_reads c.args.word.now (codes "create") (omega arith) (search rules)) refl
+
+pub returns-in-mksnap : goal.returns-in-mksnap
+returns-in-mksnap c = rw (text_from_reads c.args.word.now (codes "mksnap") (omega arith) (search rules)) refl
+
+pub returns-in-rmsnap : goal.returns-in-rmsnap
+returns-in-rmsnap c = rw (text_from_reads c.args.word.now (codes "rmsnap") (omega arith) (search rules)) refl
