@@ -1,3 +1,4 @@
+pub mod Apart
 pub mod Effects
 pub mod FirstLocks
 pub mod Fresh
@@ -8,6 +9,7 @@ pub mod Promised
 pub mod Refusals
 pub mod Servings
 pub mod Sounding
+pub mod Stopping
 pub mod Staying
 pub mod Steps
 pub mod Verdicts

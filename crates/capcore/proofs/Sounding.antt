@@ -1,5 +1,5 @@
 -- States that are sound.
-use Rattle.std.proofs.Common.{◌≡◌, ◌≤◌, ℕ, true, List, [], Option, Some, None, is_some, refl, sym, ap, subst, ◌∙◌, All, arith}
+use Rattle.std.proofs.Common.{◌≡◌, ℕ, List, [], Option, Some, None, is_some, refl, sym, ap, subst, ◌∙◌, All, arith}
 use Rattle.std.specs.Prelude.{IsTrue}
 use Rattle.std.specs.Option.{option_map}
 use Rattle.std.specs.FinMap as map
@@ -20,12 +20,12 @@ same_some None = refl
 same_some (Some node) = refl
 
 -- where nobody has an entry, nobody waits and nobody is to be told
-pub idle-sound : (count : ℕ) (s : State) → IsIdle s.scene → s.messages ≡ [] → s.scene.locks.last ≤ count → IsSound count s
-idle-sound count s idle none last = record {
+pub idle-sound : (count : ℕ) (s : State) → IsIdle s.scene → s.messages ≡ [] → IsSound count s
+idle-sound count s idle none = record {
   entries = All-same (IsSoundEntry count s.scene) s.scene.table.rows [] idle.no_entries (All-nil (IsSoundEntry count s.scene));
   waiting = All-same (λ q. IsTrue (has_session s.scene.sessions q.client.0)) s.scene.locks.queue [] idle.nobody_waits (All-nil (λ q. IsTrue (has_session s.scene.sessions q.client.0)));
   messages = All-same (λ m. IsTrue (has_session s.scene.sessions m.client.0)) s.messages [] none (All-nil (λ m. IsTrue (has_session s.scene.sessions m.client.0)));
-  last = last;
+  last = rw idle.none_numbered (omega arith);
   locked = λ ino. ap is_some (idle.all_in_sync ino) ∙ same_some (map.get s.scene.tree.nodes ino);
   strays = λ ino gone. absurd (idle.no_strays ino gone);
   in_place = in-place s.scene idle;
@@ -38,7 +38,8 @@ opening-sound fs tree s none is =
     (record {
       no_entries = ap (λ t. t.rows) is.table_is;
       nobody_waits = is.queue_is;
+      none_numbered = is.last_is;
       all_in_sync = λ ino. is.locks_are ino ∙ ap (λ t. option_map (λ node. in_sync) (map.get t.nodes ino)) (sym is.tree_is);
       no_strays = subst HasNoStray (sym is.tree_is) none;
     })
-    is.messages_are (rw is.last_is (omega arith))
+    is.messages_are

@@ -57,6 +57,7 @@ pub idle-changed : (s : Scene) (f : Node → Node) (ino : ℕ) → ((n : Node) �
 idle-changed s f ino same was = record {
   no_entries = was.no_entries;
   nobody_waits = was.nobody_waits;
+  none_numbered = was.none_numbered;
   all_in_sync = λ q. was.all_in_sync q ∙ sym (same_of_each f (λ node. in_sync) (λ n. refl) s.tree.nodes ino q);
   no_strays = λ q gone. was.no_strays q (ap place_at (sym (same_of_each f (λ n. n.site) same s.tree.nodes ino q)) ∙ gone);
 }
@@ -67,6 +68,7 @@ pub idle-born : (s : Scene) (kind : Kind) (dir : ℕ) (name : List ℕ) (attr : 
 idle-born s kind dir name attr was = record {
   no_entries = was.no_entries;
   nobody_waits = was.nobody_waits;
+  none_numbered = was.none_numbered;
   all_in_sync = λ q.
       map.get-insert nat_cmp_total s.locks.states k in_sync q ∙ ap (cond (eq_by_cmp nat_cmp q k) (Some in_sync)) (was.all_in_sync q)
       ∙ sym (ap (option_map (λ node. in_sync)) (map.get-insert nat_cmp_total s.tree.nodes k node q) ∙ through (eq_by_cmp nat_cmp q k) (map.get s.tree.nodes q));

@@ -1,20 +1,36 @@
 //! Laws of the core. No program needs to call them.
 
-ghost use Rattle.std.specs.Prelude.{◌≡◌, ℕ, List};
+ghost use Rattle.std.specs.Prelude.{◌≡◌, ℕ, List, [], Some};
 ghost use Rattle.capbits.specs.declared.cap.Part.{Part};
 ghost use Rattle.inotree.specs.Tree.{Nodes};
 ghost use Rattle.captable.specs.declared.entry.EntryRow.{EntryRow};
+ghost use Rattle.captable.specs.Table.{IsTable};
 ghost use Rattle.lockmachine.specs.Locks.{lock_at};
 ghost use Rattle.lockmachine.specs.Scene.{Scene, told_set};
+ghost use Rattle.capcore.specs.declared.event.Event.{Event};
+ghost use Rattle.capcore.specs.declared.reply.Reply.{Reply};
 ghost use Rattle.capcore.specs.State.{State};
+ghost use Rattle.capcore.specs.Judge.{judged};
+ghost use Rattle.capcore.specs.Step.{Step};
 ghost use Rattle.capcore.specs.History.{HasNoStray, IsOpening};
 ghost use Rattle.capcore.specs.Settle.{Made, MakesAll};
-ghost use Rattle.capcore.specs.Headline.{EachServing, ServedDenied, ServedByName};
+ghost use Rattle.capcore.specs.Headline.{EachServing, ServedDenied, ServedByName, NoneConflict};
 ghost use Rattle.capcore.specs.Sound.{IsSound};
 
 /// The opening state is sound.
 pub fn an_opening_is_sound()
     ensures { (fs : List ℕ) (tree : Nodes) (s : State) → HasNoStray tree → IsOpening fs tree s → IsSound 0 s }
+{}
+
+/// In a sound state no two clients hold what may not be held together.
+pub fn the_held_are_apart()
+    ensures { (count : ℕ) (s : State) → IsSound count s → NoneConflict s.scene }
+{}
+
+/// In a sound state nothing is left to do: what stops an event is all of its step, and nothing changes.
+pub fn a_stop_changes_nothing()
+    ensures { (count : ℕ) (old : State) (e : Event) (answer : Reply) → IsSound count old → IsTable old.scene.table
+        → judged old.scene e ≡ Some answer → Step old e answer [] old }
 {}
 
 /// Whatever moves are made, each request that is served is denied exactly if an access that it needs has no grant on the

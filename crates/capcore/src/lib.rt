@@ -19,8 +19,8 @@ mod world;
 pub use event::Event;
 pub use history::{EndedList, Row, Stop};
 pub use laws::{
-    an_opening_is_sound, numbers_begin_at_the_event, the_served_are_denied_by_name,
-    the_served_are_denied_exactly,
+    a_stop_changes_nothing, an_opening_is_sound, numbers_begin_at_the_event, the_held_are_apart,
+    the_served_are_denied_by_name, the_served_are_denied_exactly,
 };
 pub use outcome::{Ended, Message, Outcome, PartValues};
 pub use refusal::Refusal;

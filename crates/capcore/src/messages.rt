@@ -46,6 +46,13 @@ impl Messages {
         Ok(())
     }
 
+    // The requests.
+    pub(crate) fn as_slice(&self) -> &[Ended]
+        ensures { result.now ≡ self.now.items }
+    {
+        self.items.as_slice()
+    }
+
     // One more ended, for which there is room.
     pub(crate) fn push(&mut self, ended: Ended)
         requires room { length self.old.items < self.old.room }

@@ -3,6 +3,7 @@ ghost use Rattle.std.specs.Prelude.{◌≡◌, ◌↔◌, ◌+◌, ◌<◌, ◌^
 ghost use Rattle.capcore.specs.History.{HasNoStray, IsOpening, IsNext, IsTold, Replays, rows_of, AreNumbered};
 ghost use Rattle.capcore.specs.State.{State};
 ghost use Rattle.capcore.specs.Direct.{direct};
+ghost use Rattle.capcore.specs.Sound.{IsSound};
 ghost use Rattle.capcore.specs.Headline.{DeniedExactly, DeniesByName, IssuesExactly, AreInPlace, NoneConflict, is_stop};
 ghost use Rattle.sessiontab.specs.Calls.{status_of};
 ghost use Rattle.lockmachine.specs.Moves.{IsAtRest};
@@ -70,6 +71,8 @@ impl Core {
         ensures issued { OnOk result (IssuesExactly (direct self.old.state event).state.scene self.new.state.scene) }
         ensures in_place { OnOk result (AreInPlace self.new.state.scene) }
         ensures apart { OnOk result (NoneConflict self.new.state.scene) }
+        // All that the state speaks of is there, and nothing is left to do.
+        ensures sound { OnOk result (IsSound (length self.new.rows) self.new.state) }
         // Locks are at rest, and a denial or a refusal changes nothing but the history.
         ensures at_rest { OnOk result (IsAtRest self.new.state.scene) }
         ensures unchanged { IfOk result (λ answer. IsTrue (is_stop answer) → self.new.state ≡ self.old.state) }

@@ -1,7 +1,8 @@
 //! Worked scripts: events with the replies that the rules give.
 
 use super::*;
-use capbits::{Caller, ClientId, Groups, Ino, Mode, PassId};
+use crate::messages::Messages;
+use capbits::{Caller, ClientId, Groups, Ino, Mode, PassId, Ticket};
 use capgrant::{Attr, Rules};
 use capspec::{FsName, Grants, read_grants};
 use inotree::{Kind, ROOT, Tree};
@@ -401,5 +402,46 @@ fn refusals_and_stops_print_as_their_names(rt: HostRuntime) -> Result<(), Fail> 
         let text = text_of(rt.alloc(), Err(stop))?;
         assert_eq!(rt; text.as_str(), name);
     }
+    Ok(())
+}
+
+// ---- lists of requests that ended
+
+fn ended(ticket: u64) -> Ended {
+    Ended {
+        client: ClientId(1),
+        ticket: Ticket(ticket),
+        outcome: Outcome::Done,
+    }
+}
+
+fn has_tickets(list: &[Ended], tickets: &[u64]) -> bool {
+    list.len() == tickets.len()
+        && list
+            .iter()
+            .zip(tickets)
+            .all(|(one, ticket)| one.ticket.0 == *ticket)
+}
+
+#[test]
+fn lists_of_what_ended_are_made_of_vectors(rt: HostRuntime) -> Result<(), Fail> {
+    let mut items = Vec::new(rt.alloc());
+    for ticket in [3, 1, 2] {
+        items.push(ended(ticket))?;
+    }
+    let list = EndedList::from(items);
+    assert!(rt; has_tickets(list.as_slice(), &[3, 1, 2]));
+    assert!(rt; has_tickets(list.into_inner().as_slice(), &[3, 1, 2]));
+    Ok(())
+}
+
+#[test]
+fn messages_take_the_room_that_was_made(rt: HostRuntime) -> Result<(), Fail> {
+    let mut messages = Messages::new(rt.alloc());
+    assert!(rt; has_tickets(messages.as_slice(), &[]));
+    messages.reserve(2)?;
+    messages.push(ended(7));
+    messages.push(ended(4));
+    assert!(rt; has_tickets(messages.as_slice(), &[7, 4]));
     Ok(())
 }

@@ -49,6 +49,7 @@ pub(crate) struct World {
 }
 
 impl Model for World {
+    ghost use Rattle.std.specs.Prelude.{◌≡◌, []};
     ghost use Rattle.capcore.specs.State.{State};
     ghost use Rattle.capcore.specs.Codes.{state_code};
     ghost use Rattle.capcore.specs.Idle.{IsIdle};
@@ -65,7 +66,8 @@ impl Model for World {
 
     ghost invariant = { λ w.
         IsIdle (record { fs = w.fs; tree = w.tree; sessions = w.sessions; table = w.table; locks = w.locks })
-        × HasRoom w.messages w.locks };
+        × HasRoom w.messages w.locks
+        × (w.messages.items ≡ []) };
 }
 
 impl World {
@@ -94,6 +96,7 @@ impl World {
         ensures step { IfOk result (λ reply. Step self.old event.now reply [] self.new) }
         ensures direct { IfOk result (λ reply. IsDirect self.old event.now reply self.new) }
         ensures idle { OnOk result (IsIdle self.new.scene) }
+        ensures messages { OnOk result (self.new.messages ≡ []) }
         ensures err { OnErr result (self.new ≡ self.old) }
         ensures memory { IfErr result (λ stop. stop ≡ Stop.NoMemory) }
     {

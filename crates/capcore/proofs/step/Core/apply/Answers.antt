@@ -6,6 +6,7 @@ use Rattle.capcore.specs.History.{Told, Replays, rows_of}
 use Rattle.capcore.specs.Step.{Step}
 use Rattle.capcore.proofs.Promised.{denied-exactly, denies-by_name}
 use Rattle.capcore.proofs.Growing.{more-told, replays-more}
+use Rattle.capcore.proofs.Sounding.{idle-sound}
 use Rattle.capcore.proofs.Steps.{resting}
 use Rattle.capcore.proofs.step.Core.apply.Goals as goal
 
@@ -27,6 +28,9 @@ pub returns-clause-named : goal.returns-clause-named
 returns-clause-named c =
     subst (λ (t : Told). DeniesByName t.state.scene c.args.event c.in_ok-reply.reply) c.self.view_is
     (denies-by_name c.self.inside.world c.args.event c.in_ok-reply.reply c.step.new.self c.in_ok-reply.ensures.direct)
+
+pub returns-clause-sound : goal.returns-clause-sound
+returns-clause-sound c = idle-sound (length c.push.new.self.items) c.step.new.self c.in_ok-reply.ensures.idle c.in_ok-reply.ensures.messages
 
 pub returns-clause-at_rest : goal.returns-clause-at_rest
 returns-clause-at_rest c = resting c.step.new.self.scene c.in_ok-reply.ensures.idle

@@ -17,7 +17,7 @@ overflow_add-ino c =
 pub invariant_of-self-in-Ok : goal.invariant_of-self-in-Ok
 invariant_of-self-in-Ok c =
     let s : Scene = record { fs = c.self.inside.fs; tree = c.self.inside.tree; sessions = c.self.inside.sessions; table = c.self.inside.table; locks = c.self.inside.locks } in
-    rw (c.in-Ok.ensures.ok, c.in_ok-add_ino.ensures.ok, c.last.ensures.last) (idle-born s c.args.kind c.args.dir.0 c.args.name.now c.args.attr c.self.invariant.0, c.self.invariant.1)
+    rw (c.in-Ok.ensures.ok, c.in_ok-add_ino.ensures.ok, c.last.ensures.last) (idle-born s c.args.kind c.args.dir.0 c.args.name.now c.args.attr c.self.invariant.0, c.self.invariant.1, c.self.invariant.2)
 
 pub invariant_of-self-in-Err : goal.invariant_of-self-in-Err
 invariant_of-self-in-Err c =

@@ -15,6 +15,7 @@ invariant_of-self c = elim c.match-snap_remove.branch [
         idle-changed (record { fs = c.self.inside.fs; tree = c.self.inside.tree; sessions = c.self.inside.sessions; table = c.self.inside.table; locks = c.self.inside.locks })
             (without_snapshot c.args.name.now) c.args.ino.0 (λ n. refl) c.self.invariant.0,
         c.self.invariant.1,
+        c.self.invariant.2,
       )
   | in-Err w ↦ rw w.in-Err.ensures.err c.self.invariant
 ]

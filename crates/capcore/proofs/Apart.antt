@@ -1,0 +1,124 @@
+-- What different clients hold of one inode has no conflict, where it is in place.
+use Rattle.std.proofs.Common.{◌≡◌, ◌≢◌, ℕ, Bool, true, false, cond, ◌||◌, ◌&&◌, ◌==◌, Option, Some, None, List, [], ◌∷◌, refl, sym, ap, subst, ◌∙◌, true≢false}
+use Rattle.std.specs.Prelude.{IsTrue, IsFalse}
+use Rattle.std.specs.List.{find, list_any}
+use Rattle.std.specs.Option.{option_map_or}
+use Rattle.std.specs.Cmp.{nat_eq_equiv}
+use Rattle.std.proofs.lemmas.Bool.{eqb-true}
+use Rattle.capbits.specs.declared.cap.Cap.{Cap}
+use Rattle.capbits.specs.declared.cap.Cap.TheVariants.{P, As, Ax, Ls, Lx, Xs, Xx, Fs, Fx, Fc, Fr, Fw, Fb, Fa, Fl}
+use Rattle.capbits.specs.declared.cap.Part.{Part}
+use Rattle.capbits.specs.declared.cap.Part.TheVariants.{A, L, X, F}
+use Rattle.capbits.specs.declared.ids.ClientId.{ClientId}
+use Rattle.capbits.specs.declared.ids.Ino.{Ino}
+use Rattle.capbits.specs.Caps.{has}
+use Rattle.capbits.specs.Sets.{IsSubset, of_part, covers, same_cap, all_in, and_parts, has-of_part, has-none}
+use Rattle.locktable.specs.declared.states.LockState.{LockState}
+use Rattle.locktable.specs.declared.states.LockState.TheVariants.{Stable, Gather}
+use Rattle.locktable.specs.Rows.{row_of}
+use Rattle.locktable.specs.Conflicts.{conflict, barred_by, rows_apart}
+use Rattle.captable.specs.declared.entry.EntryRow.{EntryRow}
+use Rattle.captable.specs.declared.entry.Holder.{Holder}
+use Rattle.captable.specs.Table.{same, is_row_of}
+use Rattle.lockmachine.specs.Locks.{lock_at}
+use Rattle.lockmachine.specs.Scene.{Scene}
+use Rattle.lockmachine.specs.Moves.{present_state}
+use Rattle.capcore.specs.State.{State}
+use Rattle.capcore.specs.Headline.{IsInPlace, AreInPlace, NoneConflict, holds}
+use Rattle.capcore.specs.Sound.{IsSound}
+
+-- ---- capabilities that conflict are of one part
+
+-- a part that two capabilities cover
+abbrev OnePart : Cap → Cap → Type 0
+OnePart c d = (part : Part) × IsTrue (covers c part) × IsTrue (covers d part)
+
+barred_part : (c d : Cap) → IsTrue (list_any (same_cap d) (barred_by c)) → OnePart c d
+barred_part P d h = absurd (true≢false (sym h))
+barred_part As d h = absurd (true≢false (sym h))
+barred_part Ax d h = (A, refl, all_in (λ d. covers d A) (barred_by Ax) refl d h)
+barred_part Ls d h = absurd (true≢false (sym h))
+barred_part Lx d h = (L, refl, all_in (λ d. covers d L) (barred_by Lx) refl d h)
+barred_part Xs d h = absurd (true≢false (sym h))
+barred_part Xx d h = (X, refl, all_in (λ d. covers d X) (barred_by Xx) refl d h)
+barred_part Fs d h = (F, refl, all_in (λ d. covers d F) (barred_by Fs) refl d h)
+barred_part Fx d h = (F, refl, all_in (λ d. covers d F) (barred_by Fx) refl d h)
+barred_part Fc d h = (F, refl, all_in (λ d. covers d F) (barred_by Fc) refl d h)
+barred_part Fr d h = absurd (true≢false (sym h))
+barred_part Fw d h = (F, refl, all_in (λ d. covers d F) (barred_by Fw) refl d h)
+barred_part Fb d h = (F, refl, all_in (λ d. covers d F) (barred_by Fb) refl d h)
+barred_part Fa d h = absurd (true≢false (sym h))
+barred_part Fl d h = absurd (true≢false (sym h))
+
+conflict_part : (c d : Cap) (a b : Bool) → list_any (same_cap d) (barred_by c) ≡ a → list_any (same_cap c) (barred_by d) ≡ b → IsTrue (a || b) → OnePart c d
+conflict_part c d true b first second h = barred_part c d first
+conflict_part c d false true first second h = (let o = barred_part d c second in (o.0, o.2, o.1))
+conflict_part c d false false first second h = absurd (true≢false (sym h))
+
+-- ---- what is held of a part is in the row of its lock
+
+both_true : (a b : Bool) → IsTrue a → IsTrue b → IsTrue (a && b)
+both_true true true h e = refl
+both_true true false h e = e
+both_true false b h e = h
+
+in_row : (s : Scene) (row : EntryRow) (part : Part) (lock : Option LockState) → IsInPlace s row part lock → IsSubset (of_part part row.entry.held) (row_of part (present_state lock) row.holder.client)
+in_row s row part None place = λ c h. absurd (true≢false (sym (place c h) ∙ has-none c))
+in_row s row part (Some (Stable state)) place = place
+in_row s row part (Some (Gather from to)) place = place.0
+
+in_row_of : (s : Scene) (row : EntryRow) (c : Cap) (part : Part) → AreInPlace s → find (is_row_of row.holder) s.table.rows ≡ Some row → IsTrue (has row.entry.held c) → IsTrue (covers c part)
+    → IsTrue (has (row_of part (present_state (lock_at s.locks row.holder.ino.0 part)) row.holder.client) c)
+in_row_of s row c part placed found held cov =
+    in_row s row part (lock_at s.locks row.holder.ino.0 part) (placed row part found) c (has-of_part part row.entry.held c ∙ both_true _ _ held cov)
+
+-- ---- the entries that two holders have
+
+passes : {T : Type 0} (p : T → Bool) (xs : List T) (x : T) → find p xs ≡ Some x → p x ≡ true
+passes p [] x found = absurd (cc)
+passes p (y ∷ ys) x found = elim (p y) as (λ b. p y ≡ b → cond b (Some y) (find p ys) ≡ Some x → p x ≡ true) [
+  | true ↦ λ py found. (let e : y ≡ x = cc in rw (← e) py)
+  | false ↦ λ py found. passes p ys x found
+] refl found
+
+same_holder : (a b : Holder) → same a b ≡ true → a ≡ b
+same_holder a b e =
+    let both = and_parts (a.client.0 == b.client.0) (a.ino.0 == b.ino.0) e in
+    let clients = eqb-true a.client.0 b.client.0 both.0 in
+    let inos = eqb-true a.ino.0 b.ino.0 both.1 in
+    λ i. record { client = record { 0 = clients i }; ino = record { 0 = inos i } }
+
+-- the entry by which a holder holds something
+record HeldBy (s : Scene) (k : Holder) (c : Cap) : Type 0 where
+  row : EntryRow
+  is : k ≡ row.holder
+  found : find (is_row_of row.holder) s.table.rows ≡ Some row
+  held : IsTrue (has row.entry.held c)
+
+held_by : (s : Scene) (k : Holder) (c : Cap) (o : Option EntryRow) → find (is_row_of k) s.table.rows ≡ o → IsTrue (option_map_or (λ row. has row.entry.held c) o false) → HeldBy s k c
+held_by s k c None found held = absurd (true≢false (sym held))
+held_by s k c (Some row) found held =
+    let is = same_holder k row.holder (passes (is_row_of k) s.table.rows row found) in
+    record { row = row; is = is; found = subst (λ (h : Holder). find (is_row_of h) s.table.rows ≡ Some row) is found; held = held }
+
+pub held-apart : (count : ℕ) (s : State) → IsSound count s → NoneConflict s.scene
+held-apart count s sound a b c d differ same_ino has_a has_b =
+    elim (conflict c d) as (λ v. conflict c d ≡ v → v ≡ false) [
+      | false ↦ λ e. refl
+      | true ↦ λ e. (
+          let o = conflict_part c d _ _ refl refl e in
+          let part = o.0 in
+          let x = held_by s.scene a c _ refl has_a in
+          let y = held_by s.scene b d _ refl has_b in
+          let row_a = in_row_of s.scene x.row c part sound.in_place x.found x.held o.1 in
+          let inos : y.row.holder.ino ≡ x.row.holder.ino = ap (λ (k : Holder). k.ino) (sym y.is) ∙ sym same_ino ∙ ap (λ (k : Holder). k.ino) x.is in
+          let row_b : IsTrue (has (row_of part (present_state (lock_at s.scene.locks x.row.holder.ino.0 part)) y.row.holder.client) d) =
+          subst (λ (i : Ino). IsTrue (has (row_of part (present_state (lock_at s.scene.locks i.0 part)) y.row.holder.client) d)) inos (in_row_of s.scene y.row d part sound.in_place y.found y.held o.2) in
+          let others : x.row.holder.client ≢ y.row.holder.client = λ same.
+          true≢false (
+          sym (nat_eq_equiv.refl a.client.0)
+          ∙ ap (λ (k : ClientId). a.client.0 == k.0) (ap (λ (k : Holder). k.client) x.is ∙ same ∙ ap (λ (k : Holder). k.client) (sym y.is))
+          ∙ differ) in
+          sym e ∙ (rows_apart part (present_state (lock_at s.scene.locks x.row.holder.ino.0 part)) x.row.holder.client y.row.holder.client others).no_conflict c d row_a row_b
+          )
+    ] refl
