@@ -1,12 +1,11 @@
 -- Each capability covers at most one part, and the pin none.
-use Rattle.std.proofs.Common.{◌≡◌, ℕ, Bool, true, false, not, List, refl, sym, ap, ◌∙◌, true≢false, IsTrue, arith}
+use Rattle.std.proofs.Common.{◌≡◌, ℕ, Bool, true, false, refl, sym, ap, ◌∙◌, true≢false, IsTrue, arith}
 use Rattle.std.specs.Prelude.{◌==◌}
 use Rattle.std.specs.List.{list_all}
 use Rattle.capbits.specs.declared.cap.Cap.{Cap}
-use Rattle.capbits.specs.declared.cap.Cap.TheVariants.{P, As, Ax, Ls, Lx, Xs, Xx, Fs, Fx, Fc, Fr, Fw, Fb, Fa, Fl}
+use Rattle.capbits.specs.declared.cap.Cap.TheVariants.{P, As, Ax, Ls, Lx, Xs, Xx}
 use Rattle.capbits.specs.declared.cap.Part.{Part}
 use Rattle.capbits.specs.declared.cap.Part.TheVariants.{A, L, X, F}
-use Rattle.capbits.specs.Caps.{Caps}
 use Rattle.capbits.specs.Sets.{caps_of_part, covers, same_cap, same_cap-eq, all_in, true_eq}
 
 -- the part that a capability covers, counted from 1; 0 for the pin
