@@ -1,6 +1,6 @@
 -- What different clients hold of one inode has no conflict, where it is in place.
 use Rattle.std.proofs.Common.{◌≡◌, ◌≢◌, ℕ, Bool, true, false, cond, ◌||◌, ◌&&◌, ◌==◌, Option, Some, None, List, [], ◌∷◌, refl, sym, ap, subst, ◌∙◌, true≢false}
-use Rattle.std.specs.Prelude.{IsTrue, IsFalse}
+use Rattle.std.specs.Prelude.{IsTrue}
 use Rattle.std.specs.List.{find, list_any}
 use Rattle.std.specs.Option.{option_map_or}
 use Rattle.std.specs.Cmp.{nat_eq_equiv}
@@ -24,7 +24,7 @@ use Rattle.lockmachine.specs.Locks.{lock_at}
 use Rattle.lockmachine.specs.Scene.{Scene}
 use Rattle.lockmachine.specs.Moves.{present_state}
 use Rattle.capcore.specs.State.{State}
-use Rattle.capcore.specs.Headline.{IsInPlace, AreInPlace, NoneConflict, holds}
+use Rattle.capcore.specs.Headline.{IsInPlace, AreInPlace, NoneConflict}
 use Rattle.capcore.specs.Sound.{IsSound}
 
 -- ---- capabilities that conflict are of one part

@@ -1,5 +1,5 @@
 -- Requests that are served among the moves of a step.
-use Rattle.std.proofs.Common.{◌≡◌, ◌≢◌, List, [], ◌∷◌, ◌++◌, Option, Some, None, refl, sym, subst, ◌∙◌, ap, ℕ}
+use Rattle.std.proofs.Common.{◌≡◌, ◌≢◌, List, [], ◌∷◌, ◌++◌, Option, Some, None, refl, sym, subst, ◌∙◌, ℕ}
 use Rattle.std.specs.FinMap as map
 use Rattle.capgrant.specs.declared.access.Access.{Access}
 use Rattle.capgrant.specs.declared.rule.Rule.{Rule}
@@ -15,9 +15,9 @@ use Rattle.capcore.specs.declared.outcome.Outcome.TheVariants as outcome
 use Rattle.capcore.specs.declared.refusal.Refusal.{Refusal}
 use Rattle.capcore.specs.Tests.{first_failing}
 use Rattle.capcore.specs.Judge.{Need, first_denied, stop_by}
-use Rattle.capcore.specs.Serving.{MayEndAs, As_judged, Without_memory, ask_before, ask_needs, ask_after, told_of, passed_as, outcome_unless, judged_again}
+use Rattle.capcore.specs.Serving.{MayEndAs, As_judged, Without_memory, ask_before, ask_needs, ask_after, told_of, passed_as, outcome_unless}
 use Rattle.capcore.specs.Settle.{Made, Began, Gathered, Served, Makes, MakesAll}
-use Rattle.capcore.specs.Headline.{IsFirstDeniedNow, ServedDenied, ServedByName, EachServing}
+use Rattle.capcore.specs.Headline.{ServedDenied, ServedByName, EachServing}
 
 -- ---- one serving
 

@@ -1,7 +1,7 @@
 -- In a sound state nothing is left to do: no move applies, and the end of a step changes nothing.
-use Rattle.std.proofs.Common.{◌≡◌, ℕ, zero, suc, Bool, true, false, cond, not, ◌&&◌, ◌||◌, ◌==◌, Option, Some, None, List, [], ◌∷◌, ◌++◌, length, refl, sym, ap, subst, ◌∙◌, true≢false, Contains, All, arith}
+use Rattle.std.proofs.Common.{◌≡◌, ℕ, zero, suc, Bool, true, false, cond, not, ◌&&◌, ◌||◌, ◌==◌, Some, None, List, [], ◌∷◌, ◌++◌, refl, sym, ap, subst, ◌∙◌, Contains, arith}
 use Rattle.std.specs.Prelude.{IsTrue, map}
-use Rattle.std.specs.List.{find, list_all, list_any, AllByRecursion, IsDistinct}
+use Rattle.std.specs.List.{find, list_all, AllByRecursion, IsDistinct}
 use Rattle.std.specs.Cmp.{nat_cmp_total, nat_eq_equiv}
 use Rattle.std.specs.Ordering.{nat_cmp}
 use Rattle.std.specs.FinMap as finite
@@ -17,8 +17,8 @@ use Rattle.captable.specs.declared.entry.Entry.{Entry}
 use Rattle.captable.specs.declared.entry.EntryRow.{EntryRow}
 use Rattle.captable.specs.declared.entry.Holder.{Holder}
 use Rattle.captable.specs.Table.{IsTable, same, is_row_of, holders_of_rows}
-use Rattle.captable.specs.Calls.{is_empty, is_of_inode, renumbered}
-use Rattle.lockmachine.specs.Scene.{Scene, told_set}
+use Rattle.captable.specs.Calls.{is_empty, renumbered}
+use Rattle.lockmachine.specs.Scene.{Scene}
 use Rattle.lockmachine.proofs.Exact.{settled}
 use Rattle.capcore.specs.declared.event.Event.{Event}
 use Rattle.capcore.specs.declared.reply.Reply.{Reply}

@@ -1,6 +1,6 @@
 -- The queue: requests stand in it by their numbers.
-use Rattle.std.proofs.Common.{◌≡◌, ℕ, zero, suc, ◌+◌, ◌<◌, ◌≤◌, Bool, true, false, ◌==◌, not, cond, Option, Some, None, List, [], ◌∷◌, ◌++◌, length, refl, sym, ap, ◌∙◌, All, Contains, arith}
-use Rattle.std.specs.Prelude.{AllPairs, filter}
+use Rattle.std.proofs.Common.{◌≡◌, ℕ, zero, suc, ◌+◌, ◌<◌, ◌≤◌, Bool, true, false, not, cond, Option, Some, None, List, [], ◌∷◌, ◌++◌, length, refl, ap, ◌∙◌, All, Contains, arith}
+use Rattle.std.specs.Prelude.{filter}
 use Rattle.std.specs.List.{find}
 use Rattle.std.specs.Cmp.{nat_eq_equiv}
 use Rattle.std.proofs.lemmas.Bool.{ne_eqb, both_ways}
@@ -19,7 +19,7 @@ use Rattle.lockmachine.specs.declared.moves.Move.TheVariants.{Begin, End, Serve,
 use Rattle.lockmachine.specs.Requests.{is_numbered, AreTicketsRising}
 use Rattle.lockmachine.specs.Locks.{LockMap, IsLockMap, TakesOnly, request_at, next_request, with_request, without_request}
 use Rattle.lockmachine.specs.Scene.{Scene}
-use Rattle.lockmachine.specs.Moves.{LockPlace, places, may_end, may_begin, may_serve, begin_or_rest, serve_or_begin, end_or_serve, first_move, moved, IsFirstServed}
+use Rattle.lockmachine.specs.Moves.{LockPlace, places, may_end, may_serve, begin_or_rest, serve_or_begin, end_or_serve, first_move, moved, IsFirstServed}
 
 -- ---- a queue whose numbers rise
 
