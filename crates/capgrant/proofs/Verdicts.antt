@@ -1,10 +1,10 @@
--- What is known when some of the grants were looked at, from the first on.
-use Rattle.std.proofs.Common.{◌≡◌, ℕ, ◌+◌, ◌<◌, zero, suc, Bool, true, false, Option, Some, None, List, [], ◌∷◌, ◌++◌, length, take, get_or, refl, sym, ap, ◌∙◌, arith}
+-- Where the first grant that allows stands, and how the rules of those that do not are gathered.
+use Rattle.std.proofs.Common.{◌≡◌, ℕ, ◌+◌, ◌<◌, suc, Bool, true, false, ltb, Option, Some, None, is_none, List, [], ◌∷◌, ◌++◌, length, take, get_or, refl, sym, ap, ◌∙◌, arith, inl, inr, ◌⊎◌}
 use Rattle.std.specs.Prelude.{position}
-use Rattle.std.specs.List.{list_any, position_or_len}
+use Rattle.std.specs.List.{list_any, position_or_len, cons_option}
 use Rattle.std.proofs.lemmas.Bool.{or_parts, lt-ltb}
-use Rattle.std.proofs.lemmas.List.{take_more, length-append}
-use Rattle.std.proofs.lemmas.List.Folds.{list_any-append}
+use Rattle.std.proofs.lemmas.Bool.Decides.{nat_tests}
+use Rattle.std.proofs.lemmas.List.{take_more, append-nil}
 use Rattle.std.proofs.lemmas.List.Elements.{filter_map-append}
 use Rattle.capspec.specs.declared.grant.Grant.{Grant}
 use Rattle.capgrant.specs.declared.rule.Rule.{Rule}
@@ -13,52 +13,64 @@ use Rattle.capgrant.specs.Question.{Question}
 use Rattle.capgrant.specs.Failing.{first_failing}
 use Rattle.capgrant.specs.Verdict.{allows, granted, first_failures, verdict_of, verdict_at}
 
--- none of the grants allows, and these are the rules by which they fail first
-pub record AllFail (q : Question) (grants : List Grant) (failures : List Rule) : Type 0 where
-  pub failures_are : failures ≡ first_failures q grants
-  pub one_each : length failures ≡ length grants
-  pub none_allows : granted q grants ≡ false
+which : (b : Bool) → (b ≡ true) ⊎ (b ≡ false)
+which true = inl refl
+which false = inr refl
 
--- the first place that passes, behind i that don't
-position_at : {X : Type 0} (p : X → Bool) (xs : List X) (i : ℕ) (d : X) → i < length xs → list_any p (take i xs) ≡ false → p (get_or xs i d) ≡ true → position_or_len p xs ≡ i
-position_at p [] i d within none here = omega arith
-position_at p (x ∷ xs) zero d within none here = rw here refl
-position_at p (x ∷ xs) (suc i) d within none here =
-    let parts = or_parts (p x) (list_any p (take i xs)) none in
-    let rest : position_or_len p xs ≡ i = position_at p xs i d (omega arith) parts.1 here in
-    rw parts.0 (omega (arith, rest))
+-- one grant more
+one_more : (q : Question) (grants : List Grant) (i : ℕ) (g : Grant) → i < length grants → g ≡ get_or grants i g → first_failures q (take (i + 1) grants) ≡ first_failures q (take i grants) ++ first_failures q (g ∷ [])
+one_more q grants i g within is =
+    ap (first_failures q) (take_more grants i g within ∙ ap (λ (x : Grant). take i grants ++ x ∷ []) (sym is)) ∙ filter_map-append (first_failing q) (take i grants) (g ∷ [])
 
--- no place passes
-position_none : {X : Type 0} (p : X → Bool) (xs : List X) → list_any p xs ≡ false → position_or_len p xs ≡ length xs
-position_none p [] none = refl
-position_none p (x ∷ xs) none =
-    let parts = or_parts (p x) (list_any p xs) none in
-    let rest : position_or_len p xs ≡ length xs = position_none p xs parts.1 in
-    rw parts.0 (omega (arith, rest))
+pub one_more_fails : (q : Question) (grants : List Grant) (i : ℕ) (g : Grant) (rule : Rule) → i < length grants → g ≡ get_or grants i g → first_failing q g ≡ Some rule → first_failures q (take (i + 1) grants) ≡ first_failures q (take i grants) ++ rule ∷ []
+one_more_fails q grants i g rule within is fails = one_more q grants i g within is ∙ rw fails refl
 
--- one grant more that fails
-pub one_more_fails : (q : Question) (grants : List Grant) (failures : List Rule) (i : ℕ) (g : Grant) (rule : Rule) → i < length grants → g ≡ get_or grants i g → first_failing q g ≡ Some rule → AllFail q (take i grants) failures → AllFail q (take (i + 1) grants) (failures ++ rule ∷ [])
-one_more_fails q grants failures i g rule within is fails before =
-    let more : take (i + 1) grants ≡ take i grants ++ g ∷ [] = take_more grants i g within ∙ ap (λ (x : Grant). take i grants ++ x ∷ []) (sym is) in
-    let kept : first_failures q (take i grants ++ g ∷ []) ≡ first_failures q (take i grants) ++ rule ∷ [] = filter_map-append (first_failing q) (take i grants) (g ∷ []) ∙ rw fails refl in
-    let none : granted q (take i grants ++ g ∷ []) ≡ false = list_any-append (allows q) (take i grants) (g ∷ []) ∙ rw (before.none_allows, fails) refl in
-    rw more (record {
-      failures_are = rw before.failures_are (sym kept);
-      one_each = simp length-append (omega (arith, before.one_each));
-      none_allows = none;
-    })
+pub one_more_allows : (q : Question) (grants : List Grant) (i : ℕ) (g : Grant) → i < length grants → g ≡ get_or grants i g → first_failing q g ≡ None → first_failures q (take (i + 1) grants) ≡ first_failures q (take i grants)
+one_more_allows q grants i g within is passes = one_more q grants i g within is ∙ rw passes (append-nil (first_failures q (take i grants)))
 
-pub allowed_here : (q : Question) (grants : List Grant) (failures : List Rule) (i : ℕ) (g : Grant) → i < length grants → g ≡ get_or grants i g → first_failing q g ≡ None → AllFail q (take i grants) failures → Allowed (i + 1) ≡ verdict_of q grants
+-- where none allows, each fails by a rule
+one_more_rule : (found : Option Rule) (rules : List Rule) (n : ℕ) → is_none found ≡ false → length rules ≡ n → length (cons_option found rules) ≡ suc n
+one_more_rule (Some rule) rules n some e = ap suc e
+one_more_rule None rules n some e = cc
+
+one_each : (q : Question) (grants : List Grant) → granted q grants ≡ false → length (first_failures q grants) ≡ length grants
+one_each q [] none = refl
+one_each q (g ∷ grants) none =
+    let parts = or_parts (allows q g) (granted q grants) none in
+    one_more_rule (first_failing q g) (first_failures q grants) (length grants) parts.0 (one_each q grants parts.1)
+
+-- an element passes where the first that does comes before the end
+any_place : {X : Type 0} (p : X → Bool) (xs : List X) → list_any p xs ≡ ltb (position_or_len p xs) (length xs)
+any_place p [] = refl
+any_place p (x ∷ xs) =
+    elim (which (p x)) [
+      | inl e ↦ rw e (sym (lt-ltb 0 (length (x ∷ xs)) (omega arith)))
+      | inr e ↦ let rest = any_place p xs in rw e (grind (arith, nat_tests))
+    ]
+
+pub granted_somewhere : (q : Question) (grants : List Grant) (i : ℕ) → position (allows q) grants ≡ Some i → true ≡ granted q grants
+granted_somewhere q grants i is =
+    elim (which (ltb (position_or_len (allows q) grants) (length grants))) [
+      | inl e ↦ sym (any_place (allows q) grants ∙ e)
+      | inr e ↦ let none : None ≡ Some i = rw e at is in (cc)
+    ]
+
+pub granted_nowhere : (q : Question) (grants : List Grant) → position (allows q) grants ≡ None → false ≡ granted q grants
+granted_nowhere q grants is =
+    elim (which (ltb (position_or_len (allows q) grants) (length grants))) [
+      | inl e ↦ let some : Some (position_or_len (allows q) grants) ≡ None = rw e at is in (cc)
+      | inr e ↦ sym (any_place (allows q) grants ∙ e)
+    ]
+
+-- the verdict of a first grant that allows, and of none
+pub allowed_at : (q : Question) (grants : List Grant) (i : ℕ) → position (allows q) grants ≡ Some i → Allowed (i + 1) ≡ verdict_of q grants
 unfolding verdict_of
-allowed_here q grants failures i g within is fails before =
-    let here : allows q (get_or grants i g) ≡ true = rw (← is) (rw fails refl) in
-    let place : position_or_len (allows q) grants ≡ i = position_at (allows q) grants i g within before.none_allows here in
-    let found : position (allows q) grants ≡ Some i = rw place (rw (lt-ltb i (length grants) within) refl) in
-    ap (λ (place : Option ℕ). verdict_at place (first_failures q grants)) (sym found)
+allowed_at q grants i is = ap (λ (place : Option ℕ). verdict_at place (first_failures q grants)) (sym is)
 
-pub denied_by_all : (q : Question) (grants : List Grant) (failures : List Rule) → AllFail q grants failures → Denied failures ≡ verdict_of q grants
+pub allowed_nowhere : (q : Question) (grants : List Grant) → position (allows q) grants ≡ None → Denied (first_failures q grants) ≡ verdict_of q grants
 unfolding verdict_of
-denied_by_all q grants failures before =
-    let nowhere : position_or_len (allows q) grants ≡ length grants = position_none (allows q) grants before.none_allows in
-    let none : position (allows q) grants ≡ None = rw nowhere (grind arith) in
-    ap Denied before.failures_are ∙ ap (λ (place : Option ℕ). verdict_at place (first_failures q grants)) (sym none)
+allowed_nowhere q grants is = ap (λ (place : Option ℕ). verdict_at place (first_failures q grants)) (sym is)
+
+-- and then each fails by a rule
+pub each_fails : (q : Question) (grants : List Grant) → position (allows q) grants ≡ None → length (first_failures q grants) ≡ length grants
+each_fails q grants is = one_each q grants (sym (granted_nowhere q grants is))

@@ -7,6 +7,10 @@ use Rattle.capgrant.specs.declared.rule.Rule.TheVariants.{FsName, Uid, Gids, Pat
 abbrev pub all_rules : List Rule
 all_rules = FsName ∷ Uid ∷ Gids ∷ Path ∷ NoWrite ∷ RootSquash ∷ NoP ∷ NoS ∷ NotOwner ∷ NotOwnGroup ∷ ModeBits ∷ []
 
+-- the last of them, on the inode's owner, group and mode
+abbrev pub attr_rules : List Rule
+attr_rules = NotOwner ∷ NotOwnGroup ∷ ModeBits ∷ []
+
 -- the number of a rule: its place in that order, from 1
 abbrev pub rule_number : Rule → ℕ
 rule_number FsName = 1

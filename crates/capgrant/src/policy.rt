@@ -1,29 +1,28 @@
 //! The judgement of a list of grants.
-ghost use Rattle.std.specs.Prelude.{◌≡◌, length};
+ghost use Rattle.std.specs.Prelude.{◌≡◌, length, map};
 ghost use Rattle.capgrant.specs.Permitted.{for_readers, for_writers, caps_if, permitted_of};
 ghost use Rattle.capgrant.specs.Question.{question};
-ghost use Rattle.capgrant.specs.Verdict.{verdict_of, granted, is_allowed, IfDenied};
+ghost use Rattle.capgrant.specs.declared.answer.Verdict.TheVariants as verdict_kind;
+ghost use Rattle.capgrant.specs.Verdict.{first_failures, verdict_of, granted, is_allowed, IfDenied};
 
 use crate::access::{Access, Attr};
 use crate::answer::Verdict;
 use crate::question::Question;
-use crate::rules::{MAX_RULES, Rules};
-use arrayvec::ArrayVec;
 use capbits::{Caller, Cap, CapSet};
-use capspec::{FsName, Grants, TreePath};
+use capspec::{FsName, Grants};
 
-/// Whether the grants let a caller make an access to the inode with this path and these attributes, on this file system.
-/// Needs no memory.
+/// Whether the grants let a caller make an access to the inode with these names from the root down and these attributes,
+/// on this file system. Needs no memory.
 pub fn verdict(
     grants: &Grants,
     fs: &FsName,
     caller: &Caller,
-    path: &TreePath,
+    path: &[&[u8]],
     attr: &Attr,
     access: Access,
 ) -> Verdict
-    ensures exact { result ≡ verdict_of (question fs.now caller.now path.now attr.now access) grants.now }
-    ensures allowed { is_allowed result ≡ granted (question fs.now caller.now path.now attr.now access) grants.now }
+    ensures exact { result ≡ verdict_of (question fs.now caller.now (map (λ name. name.now) path.now) attr.now access) grants.now }
+    ensures allowed { is_allowed result ≡ granted (question fs.now caller.now (map (λ name. name.now) path.now) attr.now access) grants.now }
     ensures one_each { IfDenied result (λ rules. length rules ≡ length grants.now) }
 {
     let question = Question {
@@ -33,36 +32,36 @@ pub fn verdict(
         attr,
         access,
     };
-    // There is room for one rule of each grant.
-    prove!(grants.len() <= MAX_RULES);
-    let mut rules = ArrayVec::new();
-    for (place, grant) in grants.as_slice().iter().enumerate() {
-        match question.first_failing(grant) {
-            Some(rule) => rules.push(rule),
-            None => {
-                return Verdict::Allowed {
-                    grant: place as u32 + 1,
-                };
-            }
-        }
-    }
-    Verdict::Denied {
-        rules: Rules::from(rules),
+    let Some(place) = question.first_allowing(grants.as_slice()) else {
+        return denial(&question, grants);
+    };
+    Verdict::Allowed {
+        grant: place as u32 + 1,
     }
 }
 
-/// What the grants permit a caller to hold of the inode with this path and these attributes: the pin always; what reads
-/// or keeps what was read, if some grant allows to read; what writes or changes, if some grant allows to write. `Fa` is
-/// never permitted. Needs no memory.
+// The verdict where no grant allows. Only here the grants are gone through for the rules that they fail by.
+#[inline(never)]
+fn denial(question: &Question, grants: &Grants) -> Verdict
+    ensures { result ≡ verdict_kind.Denied (first_failures question.now grants.now) }
+{
+    Verdict::Denied {
+        rules: question.first_failures(grants.as_slice()),
+    }
+}
+
+/// What the grants permit a caller to hold of the inode with these names from the root down and these attributes: the pin
+/// always; what reads or keeps what was read, if some grant allows to read; what writes or changes, if some grant allows
+/// to write. `Fa` is never permitted. Needs no memory.
 #[tactic(auto, unfolding(crate::specs::Permitted::permitted_of))]
 pub fn permitted(
     grants: &Grants,
     fs: &FsName,
     caller: &Caller,
-    path: &TreePath,
+    path: &[&[u8]],
     attr: &Attr,
 ) -> CapSet
-    ensures { result ≡ permitted_of (question fs.now caller.now path.now attr.now) grants.now }
+    ensures { result ≡ permitted_of (question fs.now caller.now (map (λ name. name.now) path.now) attr.now) grants.now }
 {
     let reads = is_granted(grants, fs, caller, path, attr, Access::Read);
     let writes = is_granted(grants, fs, caller, path, attr, Access::Write);
@@ -75,11 +74,11 @@ fn is_granted(
     grants: &Grants,
     fs: &FsName,
     caller: &Caller,
-    path: &TreePath,
+    path: &[&[u8]],
     attr: &Attr,
     access: Access,
 ) -> bool
-    ensures { result ≡ granted (question fs.now caller.now path.now attr.now access) grants.now }
+    ensures { result ≡ granted (question fs.now caller.now (map (λ name. name.now) path.now) attr.now access) grants.now }
 {
     matches!(
         verdict(grants, fs, caller, path, attr, access),

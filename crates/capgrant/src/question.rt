@@ -7,8 +7,10 @@ ghost use Rattle.capgrant.specs.Question.{listed_gids, contains};
 use crate::access::{Access, Attr};
 use crate::class::Class;
 use crate::rule::Rule;
+use crate::rules::{MAX_RULES, Rules};
+use arrayvec::ArrayVec;
 use capbits::Caller;
-use capspec::{FsName, Grant, TreePath};
+use capspec::{FsName, Grant};
 use std::marker::Model;
 
 /// What is asked of each grant: whether, on this file system, this caller may make this access to an inode.
@@ -16,28 +18,65 @@ use std::marker::Model;
 pub(crate) struct Question<'a> {
     pub(crate) fs: &'a FsName,
     pub(crate) caller: &'a Caller,
-    pub(crate) path: &'a TreePath,
+    pub(crate) path: &'a [&'a [u8]],
     pub(crate) attr: &'a Attr,
     pub(crate) access: Access,
 }
 
 impl<'a> Model for Question<'a> {
+    ghost use Rattle.std.specs.Prelude.{map};
     ghost use Rattle.capgrant.specs.Question.{Question as Asked, question};
 
     ghost Value = { Asked };
 
-    ghost view = { λ q. question q.fs.now q.caller.now q.path.now q.attr.now q.access };
+    ghost view = { λ q. question q.fs.now q.caller.now (map (λ name. name.now) q.path.now) q.attr.now q.access };
 }
 
 impl Question<'_> {
-    ghost use Rattle.std.specs.Prelude.{◌≡◌};
+    ghost use Rattle.std.specs.Prelude.{◌≡◌, ◌≤◌, find, length, not, position};
     ghost use Rattle.capgrant.specs.Access.{is_read};
     ghost use Rattle.capgrant.specs.Question.{class_of};
-    ghost use Rattle.capgrant.specs.Failing.{fails_fsname, fails_uid, fails_gids, fails_path, fails_no_write, fails_root_squash, fails_no_p, fails_no_s, fails_not_owner, fails_not_own_group, fails_mode_bits, first_failing};
+    ghost use Rattle.capgrant.specs.Failing.{fails_fsname, fails_uid, fails_gids, fails_path, fails_no_write, fails_root_squash, fails_no_p, fails_no_s, fails_not_owner, fails_not_own_group, fails_mode_bits, fails, first_failing};
+    ghost use Rattle.capgrant.specs.Rule.{attr_rules};
+    ghost use Rattle.capgrant.specs.Verdict.{allows, first_failures};
 
-    /// The first rule by which the grant fails, if it does not allow the access.
+    /// The place of the first grant that allows the access.
+    pub(crate) fn first_allowing(&self, grants: &[Grant]) -> Option<usize>
+        ensures { result ≡ position (allows self.now) grants.now }
+    {
+        grants.iter().position(|grant| self.allows(grant))
+    }
+
+    /// The first rule by which each grant fails, of those that do.
+    pub(crate) fn first_failures(&self, grants: &[Grant]) -> Rules
+        requires { length grants.now ≤ MAX_RULES }
+        ensures { result ≡ first_failures self.now grants.now }
+    {
+        let mut rules = ArrayVec::new();
+        for grant in grants {
+            if let Some(rule) = self.first_failing(grant, self.is_below(grant)) {
+                rules.push(rule);
+            }
+        }
+        Rules::from(rules)
+    }
+
+    // Whether the grant allows the access. What most grants fail by is their path, so it is tested first.
+    #[inline(always)]
     #[tactic(auto, unfolding(crate::specs::Failing::first_failing))]
-    pub(crate) fn first_failing(&self, grant: &Grant) -> Option<Rule>
+    fn allows(&self, grant: &Grant) -> bool
+        ensures { result ≡ allows self.now grant.now }
+    {
+        let is_below = self.is_below(grant);
+        is_below && self.first_failing(grant, is_below).is_none()
+    }
+
+    // The first rule by which the grant fails, if it does not allow the access. Whether the inode lies at or below its path
+    // is known already.
+    #[tactic(auto, unfolding(crate::specs::Failing::first_failing, crate::specs::Failing::fails_not_owner, crate::specs::Failing::fails_not_own_group, crate::specs::Failing::fails_mode_bits))]
+    #[inline(always)]
+    fn first_failing(&self, grant: &Grant, is_below: bool) -> Option<Rule>
+        requires { is_below ≡ not (fails_path self.now grant.now) }
         ensures { result ≡ first_failing self.now grant.now }
     {
         if self.fails_fsname(grant) {
@@ -46,7 +85,7 @@ impl Question<'_> {
             Some(Rule::Uid)
         } else if self.fails_gids(grant) {
             Some(Rule::Gids)
-        } else if self.fails_path(grant) {
+        } else if !is_below {
             Some(Rule::Path)
         } else if self.fails_no_write(grant) {
             Some(Rule::NoWrite)
@@ -56,7 +95,19 @@ impl Question<'_> {
             Some(Rule::NoP)
         } else if self.fails_no_s(grant) {
             Some(Rule::NoS)
-        } else if self.fails_not_owner(grant) {
+        } else if grant.uid.is_some() {
+            self.first_failing_by_attr(grant)
+        } else {
+            None
+        }
+    }
+
+    // The first of the rules on the inode's owner, group and mode by which the grant fails.
+    #[inline(never)]
+    fn first_failing_by_attr(&self, grant: &Grant) -> Option<Rule>
+        ensures { result ≡ find (λ r. fails r self.now grant.now) attr_rules }
+    {
+        if self.fails_not_owner(grant) {
             Some(Rule::NotOwner)
         } else if self.fails_not_own_group(grant) {
             Some(Rule::NotOwnGroup)
@@ -91,11 +142,13 @@ impl Question<'_> {
         !grant.gids.as_slice().is_empty() && !has_listed_gid(self.caller, grant)
     }
 
+    // Whether the inode lies at or below the grant's path.
+    #[inline(always)]
     #[tactic(auto, unfolding(crate::specs::Failing::fails_path))]
-    fn fails_path(&self, grant: &Grant) -> bool
-        ensures { result ≡ fails_path self.now grant.now }
+    fn is_below(&self, grant: &Grant) -> bool
+        ensures { result ≡ not (fails_path self.now grant.now) }
     {
-        !grant.path.is_prefix_of(self.path)
+        grant.path.leads_to(self.path)
     }
 
     #[tactic(auto, unfolding(crate::specs::Failing::fails_no_write))]
@@ -185,6 +238,7 @@ impl Question<'_> {
 }
 
 // Whether the grant lists one of the caller's gids.
+#[inline(never)]
 fn has_listed_gid(caller: &Caller, grant: &Grant) -> bool
     ensures { result ≡ list_any (contains grant.now.gids) (gids_of caller.now) }
 {

@@ -3,7 +3,7 @@
 use super::*;
 use arrayvec::ArrayVec;
 use capbits::{Caller, CapBytes, Groups, Mode, write_caps};
-use capspec::{FsName, TreePath, read_grants};
+use capspec::{FsName, read_grants};
 use std::alloc::Global;
 use std::test::Fail;
 
@@ -29,6 +29,17 @@ fn caller((uid, gid, groups): Who) -> Result<Caller, Fail> {
     })
 }
 
+// The names of a path's text.
+fn names_of(alloc: Global, path: &'static str) -> Result<Vec<&'static [u8]>, Fail> {
+    let mut names = Vec::new(alloc);
+    for name in path.split('/') {
+        if !name.is_empty() {
+            names.push(name.as_bytes())?;
+        }
+    }
+    Ok(names)
+}
+
 // What the grants say, on the file system `cephfs`, as text.
 fn says(
     alloc: Global,
@@ -41,10 +52,10 @@ fn says(
     let fs = FsName::read(b"cephfs").ok_or("no name")?;
     let caller = caller(who)?;
     let (text, uid, gid, mode) = inode;
-    let path = TreePath::from_text(alloc, text.as_bytes())?;
+    let names = names_of(alloc, text)?;
     let mode = Mode::new(mode).ok_or("no mode")?;
     let attr = Attr { uid, gid, mode };
-    match verdict(&grants, &fs, &caller, &path, &attr, access) {
+    match verdict(&grants, &fs, &caller, names.as_slice(), &attr, access) {
         Verdict::Allowed { grant } => Ok(format!(in alloc; "allowed by grant {grant}")?),
         Verdict::Denied { rules } => Ok(denial(alloc, &rules)?),
     }
@@ -56,10 +67,10 @@ fn permits(alloc: Global, grants: &str, who: Who, inode: Inode) -> Result<CapByt
     let fs = FsName::read(b"cephfs").ok_or("no name")?;
     let caller = caller(who)?;
     let (text, uid, gid, mode) = inode;
-    let path = TreePath::from_text(alloc, text.as_bytes())?;
+    let names = names_of(alloc, text)?;
     let mode = Mode::new(mode).ok_or("no mode")?;
     let attr = Attr { uid, gid, mode };
-    Ok(write_caps(permitted(&grants, &fs, &caller, &path, &attr)))
+    Ok(write_caps(permitted(&grants, &fs, &caller, names.as_slice(), &attr)))
 }
 
 fn denial(alloc: Global, rules: &Rules) -> Result<String, Fail> {

@@ -15,6 +15,9 @@ pub mod Told
 pub mod Slashed
 pub mod Written
 pub mod Joining
-pub mod Below
+pub mod OneText
+pub mod Backwards
+pub mod Pairs
+pub mod Counted
 pub mod Measured
 pub mod Numbers

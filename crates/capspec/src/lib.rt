@@ -13,6 +13,7 @@ mod grant;
 mod items;
 mod laws;
 mod measure;
+mod names;
 mod path;
 mod reading;
 mod tree_path;

@@ -1,7 +1,6 @@
 //! The texts of paths.
 
-ghost use Rattle.std.specs.Prelude.{◌≡◌, [], ◌∷◌, ◌++◌, MatchOption, OnOk, IsTrue, not, ◌==◌, drop};
-ghost use Rattle.capspec.specs.Bytes.{begins};
+ghost use Rattle.std.specs.Prelude.{◌≡◌, [], ◌∷◌, ◌++◌, MatchOption, OnOk, IsTrue};
 ghost use Rattle.capspec.specs.Names.{names_of, slashed, has_double_slash, are_few_and_short};
 ghost use Rattle.capspec.specs.Written.{can_be_bare, has_no_double_quote, written_path, path_text};
 
@@ -16,7 +15,7 @@ pub const MAX_NAMES: usize = 32;
 pub const MAX_NAME: usize = 255;
 
 /// Whether a text is its names with a slash before each.
-#[tactic(auto, using(crate::proofs::Below::is_as_it_stands))]
+#[tactic(auto, using(crate::proofs::OneText::is_as_it_stands))]
 pub(crate) fn is_slashed(text: &[u8]) -> bool
     ensures { IsTrue result → text.now ≡ slashed (names_of text.now) }
 {
@@ -39,18 +38,8 @@ fn has_double_slash(text: &[u8]) -> bool
     is_found
 }
 
-/// Whether a name can end before this place of a path's text.
-pub(crate) fn ends_name(text: &[u8], place: usize) -> bool
-    ensures { result ≡ not (begins (λ b. not (b == 47)) (drop place text.now)) }
-{
-    match text.get(place) {
-        Some(byte) => *byte == b'/',
-        None => true,
-    }
-}
-
 /// Appends the item that says a path, behind a space; nothing if the path restricts nothing.
-#[tactic(auto, using(crate::proofs::Below::item_of))]
+#[tactic(auto, using(crate::proofs::OneText::item_of))]
 pub(crate) fn write_path(text: &mut Vec<u8>, path: &TreePath) -> Result<(), NoMemory>
     ensures { OnOk result (text.new.items ≡ text.old.items ++ path_text path.now) }
 {

@@ -121,22 +121,13 @@ fn a_name_has_at_most_255_bytes(rt: HostRuntime) -> Result<(), Fail> {
 }
 
 // Sees that a path lies at or below that of a grant, and that another does not.
-fn has_path(
-    rt: &(impl Abort + AllocGlobal),
-    grants: &Grants,
-    place: usize,
-    path: &[u8],
-    other: &[u8],
-) -> Result<(), Fail> {
+fn has_path(rt: &impl Abort, grants: &Grants, place: usize, path: &[&[u8]], other: &[&[u8]]) {
     let grant = grants.get(place).expect(rt, "a grant");
-    let path = TreePath::from_text(rt.alloc(), path)?;
-    let other = TreePath::from_text(rt.alloc(), other)?;
-    assert!(rt; grant.path.is_prefix_of(&path), "the path of grant {place}");
+    assert!(rt; grant.path.leads_to(path), "the path of grant {place}");
     assert!(rt;
-        !grant.path.is_prefix_of(&other),
+        !grant.path.leads_to(other),
         "no other path of grant {place}"
     );
-    Ok(())
 }
 
 #[test]
@@ -146,16 +137,9 @@ fn grants_have_their_fields(rt: HostRuntime) -> Result<(), Fail> {
     let grants = read_grants(rt.alloc(), text)?;
     assert_eq!(rt; grants.len(), 3);
     assert!(rt; grants.get(3).is_none());
-    has_path(&rt, &grants, 0, b"/a/b/c", b"/a")?;
-    has_path(&rt, &grants, 1, b"a b,c", b"/a b")?;
-    let root = TreePath::of(rt.alloc(), &[])?;
-    assert!(rt;
-        grants
-            .get(2)
-            .expect(&rt, "a grant")
-            .path
-            .is_prefix_of(&root)
-    );
+    has_path(&rt, &grants, 0, &[b"a", b"b", b"c"], &[b"a"]);
+    has_path(&rt, &grants, 1, &[b"a b,c"], &[b"a b"]);
+    assert!(rt; grants.get(2).expect(&rt, "a grant").path.leads_to(&[]));
     let first = grants.get(0).expect(&rt, "a grant");
     assert_eq!(rt; first.flags, Flags4::Rw);
     assert_eq!(rt; first.fsname, FsName::read(b"cephfs"));
@@ -173,9 +157,9 @@ fn grants_have_their_fields(rt: HostRuntime) -> Result<(), Fail> {
 #[test]
 fn a_prefix_is_one_of_names(rt: HostRuntime) -> Result<(), Fail> {
     let grants = read_grants(rt.alloc(), b"allow rw path=/foo")?;
-    has_path(&rt, &grants, 0, b"/foo", b"/food")?;
-    has_path(&rt, &grants, 0, b"/foo/d", b"/d/foo")?;
-    has_path(&rt, &grants, 0, b"/foo", b"/")?;
+    has_path(&rt, &grants, 0, &[b"foo"], &[b"food"]);
+    has_path(&rt, &grants, 0, &[b"foo", b"d"], &[b"d", b"foo"]);
+    has_path(&rt, &grants, 0, &[b"foo"], &[]);
     Ok(())
 }
 
@@ -340,9 +324,9 @@ fn a_copy_equals_its_source(rt: HostRuntime) -> Result<(), Fail> {
     }
     // The copy needs nothing of its source.
     drop(source);
-    has_path(&rt, &copy, 0, b"/a \"/b/c", b"/a \"")?;
+    has_path(&rt, &copy, 0, &[b"a \"", b"b", b"c"], &[b"a \""]);
     let second = copy.get(1).expect(&rt, "a grant");
-    assert!(rt; second.path.is_prefix_of(&TreePath::of(rt.alloc(), &[])?));
+    assert!(rt; second.path.leads_to(&[]));
     let written = write_grants(rt.alloc(), &copy)?;
     assert_eq!(rt;
         written.as_slice(),

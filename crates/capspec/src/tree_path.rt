@@ -1,8 +1,9 @@
 //! Paths in the tree.
 
 use crate::fault::NoMemory;
-use crate::measure::has_fit_names;
-use crate::path::{ends_name, is_slashed, write_names};
+use crate::measure::{count_slashes, has_fit_names};
+use crate::names::is_text_of;
+use crate::path::{is_slashed, write_names};
 use std::alloc::{AllocError, Global};
 use std::marker::Model;
 
@@ -10,19 +11,21 @@ use std::marker::Model;
 /// In a grant, no name is no restriction.
 #[derive(Debug, Drop)]
 pub struct TreePath {
-    // The names with a slash before each, so that one path is compared to another as a whole.
+    // The names with a slash before each.
     text: Vec<u8>,
+    // How many names there are.
+    count: usize,
 }
 
 impl Model for TreePath {
-    ghost use Rattle.std.specs.Prelude.{◌≡◌, ℕ, List};
+    ghost use Rattle.std.specs.Prelude.{◌≡◌, ℕ, List, length};
     ghost use Rattle.capspec.specs.Names.{names_of, slashed};
 
     ghost Value = { List (List ℕ) };
 
     ghost view = { λ path. names_of path.text.items };
 
-    ghost invariant = { λ path. path.text.items ≡ slashed (names_of path.text.items) };
+    ghost invariant = { λ path. (path.text.items ≡ slashed (names_of path.text.items)) × (path.count ≡ length (names_of path.text.items)) };
 }
 
 impl TreePath {
@@ -36,12 +39,11 @@ impl TreePath {
         ensures { IfOk result (λ path. path ≡ names_of text.now) }
     {
         if is_slashed(text) {
-            let text = Vec::from_slice(alloc, text)?;
-            return Ok(TreePath { text });
+            return Ok(TreePath::from_slashed(Vec::from_slice(alloc, text)?));
         }
         let mut slashed = Vec::new(alloc);
         match write_names(&mut slashed, text) {
-            Ok(()) => Ok(TreePath { text: slashed }),
+            Ok(()) => Ok(TreePath::from_slashed(slashed)),
             Err(NoMemory) => Err(AllocError),
         }
     }
@@ -69,7 +71,16 @@ impl TreePath {
             text.push(b'/')?;
             text.extend_from_slice(name)?;
         }
-        Ok(TreePath { text })
+        Ok(TreePath::from_slashed(text))
+    }
+
+    // The path whose text is this one, its names with a slash before each.
+    fn from_slashed(text: Vec<u8>) -> TreePath
+        requires { text.items ≡ slashed (names_of text.items) }
+        ensures { result ≡ names_of text.items }
+    {
+        let count = count_slashes(text.as_slice());
+        TreePath { text, count }
     }
 
     /// The names as a text, with a slash before each.
@@ -79,13 +90,12 @@ impl TreePath {
         self.text.as_slice()
     }
 
-    /// Whether a path is this one or lies below it.
-    pub fn is_prefix_of(&self, path: &TreePath) -> bool
-        ensures { result ≡ starts_with bytes_eq path.now self.now }
+    /// Whether names lead from the root to this path or below it. Needs no memory.
+    #[inline(always)]
+    pub fn leads_to(&self, names: &[&[u8]]) -> bool
+        ensures { result ≡ starts_with bytes_eq (map (λ name. name.now) names.now) self.now }
     {
-        let (own, whole) = (self.text.as_slice(), path.text.as_slice());
-        // A glance at the byte behind: most paths that differ do so by the length of a name.
-        ends_name(whole, own.len()) && whole.starts_with(own)
+        self.count <= names.len() && is_text_of(self.text.as_slice(), &names[..self.count])
     }
 
     // The same path, in memory of its own.
@@ -94,6 +104,7 @@ impl TreePath {
     {
         Ok(TreePath {
             text: self.text.clone()?,
+            count: self.count,
         })
     }
 }

@@ -1,16 +1,19 @@
-use Rattle.std.proofs.Common.{◌≤◌, length, ap, sym, ◌∙◌, arith}
-use Rattle.std.proofs.lemmas.List.{take_all}
-use Rattle.capgrant.proofs.Verdicts.{one_more_fails, allowed_here, denied_by_all}
+use Rattle.std.proofs.Common.{sym, ◌∙◌}
+use Rattle.capgrant.proofs.Verdicts.{allowed_at, allowed_nowhere, granted_somewhere, granted_nowhere, each_fails}
 use Rattle.capgrant.proofs.policy.verdict.Goals as goal
 
-pub returns-in-None-clause-exact : goal.returns-in-None-clause-exact
-returns-in-None-clause-exact c = rw c.as_slice-grant-items.ensures.same at (allowed_here _ _ _ c.loop-place.place c.grant-item.result c.loop-place-test.true c.grant-item.is (sym c.first_failing.ensures ∙ c.in-None.is) (rw (← c.as_slice-grant-items.ensures.same) at c.loop-place.invariant))
-
-pub loop-place-preserved : goal.loop-place-preserved
-loop-place-preserved c =
-    rw c.push.ensures.items (rw c.as_slice-grant-items.ensures.same at (one_more_fails _ _ _ c.loop-place.place c.grant-item.result c.in-Some.rule c.loop-place-test.true c.grant-item.is (sym c.first_failing.ensures ∙ c.in-Some.is) (rw (← c.as_slice-grant-items.ensures.same) at c.loop-place.invariant)))
-
 pub returns-clause-exact : goal.returns-clause-exact
-returns-clause-exact c =
-    let all : length c.args.grants.now ≤ c.loop-place.place = omega (arith, ap length c.as_slice-grant-items.ensures.same) in
-    rw c.from.ensures (denied_by_all _ _ _ (rw take_all at c.loop-place.invariant))
+returns-clause-exact c = allowed_at _ _ c.in-Some.place (rw c.as_slice.ensures.same at (sym c.first_allowing.ensures ∙ c.in-Some.is))
+
+pub returns-clause-allowed : goal.returns-clause-allowed
+returns-clause-allowed c = granted_somewhere _ _ c.in-Some.place (rw c.as_slice.ensures.same at (sym c.first_allowing.ensures ∙ c.in-Some.is))
+
+pub returns-in_default-clause-exact : goal.returns-in_default-clause-exact
+returns-in_default-clause-exact c = rw c.denial.ensures (allowed_nowhere _ _ (rw c.as_slice.ensures.same at (sym c.first_allowing.ensures ∙ c.in_default.is)))
+
+pub returns-in_default-clause-allowed : goal.returns-in_default-clause-allowed
+returns-in_default-clause-allowed c = rw c.denial.ensures (granted_nowhere _ _ (rw c.as_slice.ensures.same at (sym c.first_allowing.ensures ∙ c.in_default.is)))
+
+pub returns-in_default-clause-one_each : goal.returns-in_default-clause-one_each
+returns-in_default-clause-one_each c =
+    rw c.denial.ensures (each_fails _ _ (rw c.as_slice.ensures.same at (sym c.first_allowing.ensures ∙ c.in_default.is)))

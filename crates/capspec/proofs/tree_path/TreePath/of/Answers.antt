@@ -1,6 +1,6 @@
 use Rattle.std.proofs.Common.{◌++◌, ◌∷◌, [], List, ℕ, ◌+◌, map, drop, ap, sym, ◌∙◌, append_assoc, slice_index_or, Bor}
 use Rattle.capspec.specs.Names.{names_of, slashed}
-use Rattle.capspec.proofs.Below.{names_back, rest-cons, all_written}
+use Rattle.capspec.proofs.OneText.{names_back, rest-cons, all_written}
 use Rattle.capspec.proofs.tree_path.TreePath.of.Goals as goal
 
 pub loop-name-preserved : goal.loop-name-preserved
@@ -13,12 +13,12 @@ loop-name-preserved c =
     ap (λ t. t ++ more) (c.in_ok-extend_from_slice.ensures.items ∙ ap (λ t. t ++ name) c.in_ok-push.ensures.items) ∙ append_assoc (text ++ 47 ∷ []) name more ∙ append_assoc text (47 ∷ []) (name ++ more)
     ∙ ap (λ t. text ++ t) (sym (rest-cons names k _ c.loop-name-test.true)) ∙ c.loop-name.invariant
 
-pub invariant_of-result : goal.invariant_of-result
-invariant_of-result c =
+pub from_slashed-requires : goal.from_slashed-requires
+from_slashed-requires c =
     let written = all_written c.loop-name.text.items c.args.names.now c.loop-name.name-index c.loop-name-test.false c.loop-name.invariant in
     written ∙ ap slashed (sym (ap names_of written ∙ names_back c.args.names.now c.requires))
 
 pub returns : goal.returns
 returns c =
     let written = all_written c.loop-name.text.items c.args.names.now c.loop-name.name-index c.loop-name-test.false c.loop-name.invariant in
-    ap names_of written ∙ names_back c.args.names.now c.requires
+    c.from_slashed.ensures ∙ ap names_of written ∙ names_back c.args.names.now c.requires

@@ -1,25 +1,21 @@
--- Paths as one text: which texts are, and when one of them lies at or below another.
+-- Paths as one text: which texts are.
 use Rattle.std.proofs.Common.{◌≡◌, ℕ, ◌+◌, ◌-◌, ◌<◌, ◌≤◌, suc, Bool, true, false, ◌&&◌, ◌||◌, not, eqb, List, [], ◌∷◌, ◌++◌, length, drop, map, get_or, codes, refl, sym, ap, subst, ◌∙◌, inl, inr, arith, All, Bor, IsTrue, drop_of_length-le}
 use Rattle.std.specs.Prelude.{filter}
-use Rattle.std.specs.List.{list_all, list_any, slice_split, onto_first, starts_with}
-use Rattle.std.specs.Str.{bytes_eq}
-use Rattle.std.proofs.Math.Seq.{drop-cons, drop-append_seam}
-use Rattle.std.proofs.lemmas.Bool.{and_parts, or_parts, eqb-true, lt-ltb, not-true, not-false, true≢false}
-use Rattle.std.proofs.lemmas.Bool.Decides.{Decides-eqb}
+use Rattle.std.specs.List.{list_all, list_any, slice_split, onto_first}
+use Rattle.std.proofs.Math.Seq.{drop-cons}
+use Rattle.std.proofs.lemmas.Bool.{and_parts, or_parts, eqb-true, lt-ltb, not-true, true≢false}
 use Rattle.std.proofs.Math.Bool.{and_comm}
 use Rattle.std.proofs.lemmas.List.{append-nil, length-drop}
 use Rattle.std.proofs.lemmas.List.Concat.{flat_map-append}
 use Rattle.std.proofs.lemmas.List.Elements.{filter-append, All-head, All-tail}
 use Rattle.std.proofs.lemmas.List.Splits.{slice_split-cons_yes, slice_split-cons_no, length-slice_split}
-use Rattle.std.proofs.lemmas.Slice.Eq.{bytes_eq-Decides, starts_is}
-use Rattle.capspec.specs.Bytes.{begins}
 use Rattle.capspec.specs.Names.{names_of, is_name, slashed, has_double_slash}
 use Rattle.capspec.specs.Written.{path_text, written_path}
 use Rattle.capspec.proofs.Fronts.{which}
 use Rattle.capspec.proofs.Paths.{is_slash, has_bytes, names_of-slashes}
-use Rattle.capspec.proofs.Slashed.{names_of_slashed, none_of, slash_next}
+use Rattle.capspec.proofs.Slashed.{names_of_slashed, none_of}
 
-abbrev pub is_other : ℕ → Bool
+abbrev is_other : ℕ → Bool
 is_other b = not (eqb b 47)
 
 -- there is always a part
@@ -47,53 +43,8 @@ names-append a r =
     ap (filter has_bytes) (split-append a r) ∙ filter-append has_bytes (slice_split is_slash a) (slice_split is_slash r)
     ∙ ap (λ (names : List (List ℕ)). names_of a ++ names) (sym (names_of-slashes (47 ∷ []) r refl))
 
--- the names of a text that is cut where a name can end
-names-behind : (a r : List ℕ) → begins is_other r ≡ false → names_of (a ++ r) ≡ names_of a ++ names_of r
-names-behind a [] ends = ap names_of (append-nil a) ∙ sym (append-nil (names_of a))
-names-behind a (b ∷ r) ends =
-    let slash : b ≡ 47 = eqb-true b 47 (not-false (is_slash b) ends) in
-    subst (λ (c : ℕ). names_of (a ++ c ∷ r) ≡ names_of a ++ names_of (c ∷ r)) (sym slash) (names-append a r)
-
-slashed-append : (xs ys : List (List ℕ)) → slashed (xs ++ ys) ≡ slashed xs ++ slashed ys
+pub slashed-append : (xs ys : List (List ℕ)) → slashed (xs ++ ys) ≡ slashed xs ++ slashed ys
 slashed-append xs ys = flat_map-append (λ name. 47 ∷ name) xs ys
-
-module _ (own whole : List ℕ) (own-is : own ≡ slashed (names_of own)) (whole-is : whole ≡ slashed (names_of whole)) where
-  by_text : starts_with eqb whole own ≡ true → begins is_other (drop (length own) whole) ≡ false → starts_with bytes_eq (names_of whole) (names_of own) ≡ true
-  by_text starts ends =
-      let rest : List ℕ = drop (length own) whole in
-      let parts : whole ≡ own ++ rest = (starts_is Decides-eqb whole own (starts_with eqb whole own) refl).0 starts in
-      (starts_is bytes_eq-Decides (names_of whole) (names_of own) (starts_with bytes_eq (names_of whole) (names_of own)) refl).1 (names_of rest) (ap names_of parts ∙ names-behind own rest ends)
-
-  parts_by_names : starts_with bytes_eq (names_of whole) (names_of own) ≡ true → whole ≡ own ++ slashed (drop (length (names_of own)) (names_of whole))
-  parts_by_names starts =
-      let more : List (List ℕ) = drop (length (names_of own)) (names_of whole) in
-      let names : names_of whole ≡ names_of own ++ more = (starts_is bytes_eq-Decides (names_of whole) (names_of own) (starts_with bytes_eq (names_of whole) (names_of own)) refl).0 starts in
-      whole-is ∙ ap slashed names ∙ slashed-append (names_of own) more ∙ ap (λ (t : List ℕ). t ++ slashed more) (sym own-is)
-
-  ends_by_names : starts_with bytes_eq (names_of whole) (names_of own) ≡ true → begins is_other (drop (length own) whole) ≡ false
-  ends_by_names starts =
-      let more : List (List ℕ) = drop (length (names_of own)) (names_of whole) in
-      ap (λ (t : List ℕ). begins is_other (drop (length own) t)) (parts_by_names starts) ∙ ap (begins is_other) (drop-append_seam own (slashed more)) ∙ slash_next more
-
-  -- where a name ends behind the text of the upper path, the texts decide
-  pub lies_by_text : begins is_other (drop (length own) whole) ≡ false → starts_with eqb whole own ≡ starts_with bytes_eq (names_of whole) (names_of own)
-  lies_by_text ends =
-      elim (which (starts_with bytes_eq (names_of whole) (names_of own))) [
-        | inl found ↦ (starts_is Decides-eqb whole own (starts_with eqb whole own) refl).1 (slashed (drop (length (names_of own)) (names_of whole))) (parts_by_names found) ∙ sym found
-        | inr none ↦
-            elim (which (starts_with eqb whole own)) [
-              | inl starts ↦ absurd (true≢false (sym (by_text starts ends) ∙ none))
-              | inr apart ↦ apart ∙ sym none
-            ]
-      ]
-
-  -- and where none ends, the paths part
-  pub lies_apart : begins is_other (drop (length own) whole) ≡ true → false ≡ starts_with bytes_eq (names_of whole) (names_of own)
-  lies_apart goes_on =
-      elim (which (starts_with bytes_eq (names_of whole) (names_of own))) [
-        | inl found ↦ absurd (true≢false (sym goes_on ∙ ends_by_names found))
-        | inr none ↦ sym none
-      ]
 
 -- a list of names is that of its text
 name_has_bytes : (name : List ℕ) → IsTrue (is_name name) → (has_bytes name ≡ true) × (list_all is_other name ≡ true)
