@@ -2,7 +2,6 @@
 ghost use Rattle.std.specs.Prelude.{◌≡◌, ◌++◌, IfOk, IfSome, OnOk};
 ghost use Rattle.capscript.specs.Replies.{reply_text, rules_text, rule_text, refusal_word};
 
-use crate::access::AccessWord;
 use crate::fault::NoMemory;
 use capcore::{Refusal, Reply};
 use capgrant::Rule;
@@ -19,7 +18,6 @@ pub fn reply_lines(alloc: Global, reply: &Reply) -> Result<Vec<u8>, NoMemory>
         Reply::Done => print(&mut text, "done")?,
         Reply::Ino(ino) => print(&mut text, format_args!("ino {ino}"))?,
         Reply::Denied { access, rules } => {
-            let access = AccessWord(*access);
             print(&mut text, format_args!("denied {access} "))?;
             print_rules(&mut text, rules.as_slice())?;
         }
