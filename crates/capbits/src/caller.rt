@@ -134,31 +134,3 @@ impl Caller {
         self.gid == gid || self.groups.as_slice().contains(&gid)
     }
 }
-
-#[cfg(test)]
-mod tests {
-    use super::*;
-
-    #[test]
-    fn a_caller_has_its_first_group_and_sixteen_more(rt: HostRuntime) {
-        let mut groups = Groups::new();
-        assert!(rt; groups.is_empty());
-        for gid in 100..116 {
-            assert_eq!(rt; groups.try_push(gid), Ok(()), "at {gid}");
-        }
-        assert_eq!(rt; groups.try_push(116), Err(TooManyGroups));
-        assert_eq!(rt; groups.len(), 16);
-        assert_eq!(rt; groups.iter().copied().max(), Some(115));
-        let caller = Caller {
-            uid: 10,
-            gid: 50,
-            groups: Groups::from(groups.into_inner()),
-        };
-        for gid in [50, 100, 115] {
-            assert!(rt; caller.has_gid(gid), "at {gid}");
-        }
-        for gid in [10, 99, 116] {
-            assert!(rt; !caller.has_gid(gid), "at {gid}");
-        }
-    }
-}

@@ -59,17 +59,3 @@ impl fmt::Display for PassId {
         fmt::Display::fmt(&self.0, f)
     }
 }
-
-#[cfg(test)]
-mod tests {
-    use super::*;
-    use std::test::Fail;
-
-    #[test]
-    fn ids_print_in_decimal(rt: HostRuntime) -> Result<(), Fail> {
-        let (client, ino, ticket, pass) = (ClientId(7), Ino(u64::MAX), Ticket(0), PassId(32));
-        let text = format!(in rt.alloc(); "{client} {ino} {ticket} {pass:>4}")?;
-        assert_eq!(rt; text.as_str(), "7 18446744073709551615 0   32");
-        Ok(())
-    }
-}

@@ -44,18 +44,3 @@ impl Mode {
         self.0
     }
 }
-
-#[cfg(test)]
-mod tests {
-    use super::*;
-
-    #[test]
-    fn a_mode_has_at_most_twelve_bits(rt: HostRuntime) {
-        for bits in [0, 0o644, 0o7777] {
-            assert_eq!(rt; Mode::new(bits).map(Mode::bits), Some(bits), "at {bits}");
-        }
-        for bits in [0o10000, u16::MAX] {
-            assert_eq!(rt; Mode::new(bits), None, "at {bits}");
-        }
-    }
-}

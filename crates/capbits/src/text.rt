@@ -123,26 +123,3 @@ pub(crate) fn letter(cap: Cap) -> u8
         Cap::Fl => b'l',
     }
 }
-
-#[cfg(test)]
-mod tests {
-    use super::*;
-
-    #[test]
-    fn each_set_has_one_text(rt: HostRuntime) {
-        let cases = [
-            (0, "-"),
-            (1, "p"),
-            (4, "As"),
-            (16349, "pAsxLsXsxFsxcrwb"),
-            (16129, "pFsxcrwb"),
-            (65533, "pAsxLsxXsxFsxcrwbal"),
-        ];
-        for (bits, text) in cases {
-            let set = CapSet::from_bits(bits).unwrap_or(CapSet::empty());
-            let bytes = write_caps(set);
-            assert_eq!(rt; bytes.as_slice(), text.as_bytes(), "at {bits}");
-            assert_eq!(rt; bytes.into_inner().len(), text.len(), "at {bits}");
-        }
-    }
-}

@@ -1,5 +1,1 @@
-pub mod Pieces
-pub mod Printing
-pub mod FirstBad
-pub mod Spelling
-pub mod TextFault
+pub mod Told

@@ -1,25 +1,17 @@
--- How a refused grant text is answered.
-use Rattle.std.specs.Prelude.{◌≡◌, ◌≢◌, ℕ, List}
-use Rattle.capspec.specs.Faults.{IsFault}
-use Rattle.capspec.specs.Grants.{Reads}
-use Rattle.capspec.specs.declared.grant.Grant.{Grant}
-use Rattle.capspec.specs.declared.fault.SpecFault.{SpecFault}
-use Rattle.capspec.specs.declared.fault.SpecFaultKind.TheVariants as kinds
+-- How a fault of a question, or of a text of grants, is told.
+use Rattle.std.specs.Prelude.{◌≡◌}
+use Rattle.capquestion.specs.declared.fault.QuestionFault.{QuestionFault}
+use Rattle.capquestion.specs.declared.fault.QuestionFault.TheVariants.{Grants, BadValue}
+use Rattle.capquestion.specs.declared.fault.QuestionFault.TheVariants as asked
 use Rattle.capd.specs.declared.fault.Fault.{Fault}
-use Rattle.capd.specs.declared.fault.Fault.TheVariants.{Grants, BadValue, NoMemory, WriteFailed, Script}
+use Rattle.capd.specs.declared.fault.Fault.TheVariants.{Question, NoMemory}
 
 -- want of memory stays that; any other fault is passed on as it is
-abbrev pub IsFaultOf : SpecFault → Fault → Type 0
-IsFaultOf refused (Grants same) = (same ≡ refused) × (refused.kind ≢ kinds.NoMemory)
-IsFaultOf refused (BadValue option) = ⊥
-IsFaultOf refused NoMemory = refused.kind ≡ kinds.NoMemory
-IsFaultOf refused WriteFailed = ⊥
-IsFaultOf refused (Script stopped) = ⊥
+abbrev pub fault_of : QuestionFault → Fault
+fault_of (Grants refused) = Question (Grants refused)
+fault_of (BadValue option) = Question (BadValue option)
+fault_of asked.NoMemory = NoMemory
 
--- why the text gave no grants: its first fault, or want of memory where it has none
-abbrev pub IsFaultOfText : List ℕ → Fault → Type 0
-IsFaultOfText text (Grants refused) = IsFault text refused
-IsFaultOfText text (BadValue option) = ⊥
-IsFaultOfText text NoMemory = (grants : List Grant) × Reads text grants
-IsFaultOfText text WriteFailed = ⊥
-IsFaultOfText text (Script stopped) = ⊥
+-- what is told is a fault of which this holds
+abbrev pub Tells : (QuestionFault → Type 0) → Fault → Type 0
+Tells P fault = (found : QuestionFault) × (fault ≡ fault_of found) × P found

@@ -1,8 +1,6 @@
 //! The words of the command line.
 
-use crate::options::Opt;
-use crate::question::Values;
-use crate::words::{spell, spelled};
+use capquestion::{Opt, Values, spell, spelled};
 use clap::error::ErrorKind;
 use clap::{Arg, ArgAction, ArgMatches, Command, Error};
 use std::alloc::{AllocError, Global};
@@ -48,7 +46,7 @@ pub enum Ask {
 }
 
 /// What the words behind the program's name ask for. The error's text says what is wrong with the words, or it is the
-/// help that they ask for; `words::spelled` gives its bytes.
+/// help that they ask for; `capquestion::spelled` gives its bytes.
 pub fn parse(alloc: Global, words: &[Vec<u8>]) -> Result<Ask, Error> {
     let mut texts = Vec::new(alloc);
     for word in words {

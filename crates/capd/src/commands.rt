@@ -4,19 +4,19 @@ ghost use Rattle.std.specs.Io.KnownBytes.{Appends, Keeps};
 ghost use Rattle.capspec.specs.Grants.{Reads};
 ghost use Rattle.capspec.specs.Written.{written};
 ghost use Rattle.capspec.specs.declared.grant.Grant.{Grant};
-ghost use Rattle.capd.specs.Fault.{IsFaultOfText};
+ghost use Rattle.capquestion.specs.declared.question.Question.{Question as Asked};
+ghost use Rattle.capquestion.specs.Fault.{IsFaultOfText};
+ghost use Rattle.capquestion.specs.Question.{AsksFor, IsFaultIn, answer_text};
 ghost use Rattle.capd.specs.declared.fault.Fault.TheVariants as faults;
-ghost use Rattle.capd.specs.declared.question.Question.{Question as Asked};
-ghost use Rattle.capd.specs.Question.{AsksFor, IsFaultIn, answer_text};
+ghost use Rattle.capd.specs.Fault.{Tells};
 
 use crate::command_line::{Ask, parse};
-use crate::fault::{Fault, NoMemory};
-use crate::question::{Question, Values};
-use crate::words::spelled;
+use crate::fault::Fault;
+use capquestion::{Question, Values, spelled};
 use capscript::{Watched, run};
 use capspec::{read_grants, write_grants};
 use clap::error::ErrorKind;
-use std::alloc::Global;
+use std::alloc::{AllocError, Global};
 use std::io;
 use std::io::{Read, Write};
 
@@ -58,7 +58,7 @@ fn explain<W: Write>(alloc: Global, values: &Values, writer: &mut W) -> Result<(
         × Appends (W.contents writer.old) (W.contents writer.new) (answer_text asked ++ codes "\n")) }
     // A fault of the values, or want of memory, comes before anything is written.
     ensures fault { IfErr result (λ fault. (fault ≡ faults.WriteFailed)
-        ⊎ (IsFaultIn values.now fault × Keeps (W.contents writer.old) (W.contents writer.new))) }
+        ⊎ (Tells (IsFaultIn values.now) fault × Keeps (W.contents writer.old) (W.contents writer.new))) }
 {
     let question = Question::read(alloc, values)?;
     let line = question.answer(alloc)?;
@@ -70,10 +70,10 @@ fn grants<W: Write>(alloc: Global, text: &[u8], writer: &mut W) -> Result<(), Fa
     ensures form { OnOk result ((grants : List Grant) × Reads text.now grants
         × Appends (W.contents writer.old) (W.contents writer.new) (written grants ++ codes "\n")) }
     ensures fault { IfErr result (λ fault. (fault ≡ faults.WriteFailed)
-        ⊎ (IsFaultOfText text.now fault × Keeps (W.contents writer.old) (W.contents writer.new))) }
+        ⊎ (Tells (IsFaultOfText text.now) fault × Keeps (W.contents writer.old) (W.contents writer.new))) }
 {
     let grants = read_grants(alloc, text)?;
-    let line = write_grants(alloc, &grants).map_err(|_| NoMemory)?;
+    let line = write_grants(alloc, &grants).map_err(|_| Fault::NoMemory)?;
     write_line(line, writer)
 }
 
@@ -96,7 +96,7 @@ fn write_line<W: Write>(mut line: Vec<u8>, writer: &mut W) -> Result<(), Fault>
         (λ _. Appends (W.contents writer.old) (W.contents writer.new) (line.items ++ codes "\n"))
         (λ fault. (fault ≡ faults.WriteFailed) ⊎ ((fault ≡ faults.NoMemory) × Keeps (W.contents writer.old) (W.contents writer.new))) }
 {
-    line.push(b'\n').map_err(|_| NoMemory)?;
+    line.push(b'\n')?;
     writer
         .write_all(line.as_slice())
         .map_err(|_| Fault::WriteFailed)
@@ -122,9 +122,9 @@ fn show(alloc: Global, error: &clap::Error, writer: &mut impl Write, faults: &mu
     }
 }
 
-fn shown(alloc: Global, error: &clap::Error) -> Result<Vec<u8>, NoMemory> {
-    let text = format!(in alloc; "{error}").map_err(|_| NoMemory)?;
-    Ok(spelled(alloc, text.as_str())?)
+fn shown(alloc: Global, error: &clap::Error) -> Result<Vec<u8>, AllocError> {
+    let text = format!(in alloc; "{error}")?;
+    spelled(alloc, text.as_str())
 }
 
 /// Writes the fault as a line, and returns its status.

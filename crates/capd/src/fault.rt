@@ -1,79 +1,84 @@
 //! Why the program could not answer.
-ghost use Rattle.std.specs.Prelude.{◌≡◌};
 
-use crate::options::Opt;
+use capquestion::QuestionFault;
 use capscript::ScriptFault;
-use capspec::{SpecFault, SpecFaultKind};
+use capspec::SpecFault;
 use std::alloc::{AllocError, AllocFailed};
 use thiserror::Error;
-
-/// No memory was left.
-#[derive(Clone, Copy, Debug, PartialEq, Eq, Error)]
-#[error("no memory")]
-pub struct NoMemory;
-
-impl From<AllocError> for NoMemory {
-    fn from(_: AllocError) -> Self {
-        NoMemory
-    }
-}
-
-impl<T: Drop> From<AllocFailed<T>> for NoMemory {
-    fn from(_: AllocFailed<T>) -> Self {
-        NoMemory
-    }
-}
 
 /// Why a command gave no answer.
 #[derive(Clone, Copy, Debug, PartialEq, Eq, Error)]
 pub enum Fault {
-    /// The grants can't be read.
-    #[error("grants: {0}")]
-    Grants(SpecFault),
-    /// The value of another option is bad.
-    #[error("bad value of --{0}")]
-    BadValue(Opt),
-    /// No memory was left.
-    #[error("no memory")]
-    NoMemory,
-    /// The answer could not be written.
-    #[error("write failed")]
-    WriteFailed,
+    /// The grants can't be read, or another value is bad.
+    #[error("{0}")]
+    Question(QuestionFault),
     /// A script stopped before its end.
     #[error("{0}")]
     Script(ScriptFault),
+    /// The answer could not be written.
+    #[error("write failed")]
+    WriteFailed,
+    /// No memory was left.
+    #[error("no memory")]
+    NoMemory,
+}
+
+// Where only memory was missing, the question is not to blame.
+impl From<QuestionFault> for Fault {
+    ghost use Rattle.std.specs.Prelude.{◌≡◌};
+    ghost use Rattle.capd.specs.Fault.{fault_of};
+
+    ghost from_gives = { λ asked fault. fault ≡ fault_of asked };
+
+    fn from(asked: QuestionFault) -> Self {
+        match asked {
+            QuestionFault::NoMemory => Fault::NoMemory,
+            _ => Fault::Question(asked),
+        }
+    }
+}
+
+// The grants of a command are refused as those of a question are.
+impl From<SpecFault> for Fault {
+    ghost use Rattle.capquestion.specs.Fault.{IsFaultOf};
+    ghost use Rattle.capd.specs.Fault.{Tells};
+
+    ghost from_gives = { λ refused. Tells (IsFaultOf refused) };
+
+    fn from(refused: SpecFault) -> Self {
+        Fault::from(QuestionFault::from(refused))
+    }
 }
 
 impl From<ScriptFault> for Fault {
-    ghost use Rattle.capd.specs.declared.fault.Fault.TheVariants as fault;
+    ghost use Rattle.std.specs.Prelude.{◌≡◌};
+    ghost use Rattle.capd.specs.declared.fault.Fault.TheVariants as faults;
 
-    ghost from_gives = { λ stopped made. made ≡ fault.Script stopped };
+    ghost from_gives = { λ stopped fault. fault ≡ faults.Script stopped };
 
     fn from(stopped: ScriptFault) -> Self {
         Fault::Script(stopped)
     }
 }
 
-impl From<NoMemory> for Fault {
-    ghost use Rattle.capd.specs.declared.fault.Fault.TheVariants as fault;
+impl From<AllocError> for Fault {
+    ghost use Rattle.std.specs.Prelude.{◌≡◌};
+    ghost use Rattle.capd.specs.declared.fault.Fault.TheVariants as faults;
 
-    ghost from_gives = { λ _ made. made ≡ fault.NoMemory };
+    ghost from_gives = { λ _ fault. fault ≡ faults.NoMemory };
 
-    fn from(_: NoMemory) -> Self {
+    fn from(_: AllocError) -> Self {
         Fault::NoMemory
     }
 }
 
-// Where only memory was missing, the grants are not to blame.
-impl From<SpecFault> for Fault {
-    ghost use Rattle.capd.specs.Fault.{IsFaultOf};
+impl<T: Drop> From<AllocFailed<T>> for Fault {
+    ghost use Rattle.std.specs.Prelude.{◌≡◌};
+    ghost use Rattle.capd.specs.declared.fault.Fault.TheVariants as faults;
 
-    ghost from_gives = { IsFaultOf };
+    ghost from_gives = { λ _ fault. fault ≡ faults.NoMemory };
 
-    fn from(refused: SpecFault) -> Self {
-        match refused.kind {
-            SpecFaultKind::NoMemory => Fault::NoMemory,
-            _ => Fault::Grants(refused),
-        }
+    fn from(_: AllocFailed<T>) -> Self {
+        Fault::NoMemory
     }
 }

@@ -2,14 +2,9 @@
 //! and what their written form is. And it runs scripts of what clients do, and prints what a server answers.
 #![tactic(auto)]
 
-mod access;
 mod command_line;
 mod commands;
 mod fault;
-mod line;
-mod lists;
-mod options;
-mod question;
 #[cfg(test)]
 mod script_tests;
 #[cfg(test)]

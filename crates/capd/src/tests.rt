@@ -1,11 +1,10 @@
 //! Whole command lines: the words in, the bytes out, the status.
 
-use crate::access::read_access;
 use crate::commands::{dispatch, report};
 use crate::fault::Fault;
-use crate::line::explain_line;
 use arrayvec::ArrayVec;
 use capgrant::{Access, Rules, Verdict};
+use capquestion::{explain_line, read_access};
 use capspec::TreePath;
 use std::io;
 use std::io::{ErrorKind, Write};

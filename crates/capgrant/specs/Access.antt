@@ -1,7 +1,8 @@
--- What kinds of access there are.
-use Rattle.std.specs.Prelude.{ℕ, Bool, true, false, Option, Some, None}
+-- What kinds of access there are, and how they are named in a text.
+use Rattle.std.specs.Prelude.{ℕ, Bool, true, false, Option, Some, None, List, ◌++◌, codes}
+use Rattle.std.specs.Fmt.{decimal}
 use Rattle.capgrant.specs.declared.access.Access.{Access}
-use Rattle.capgrant.specs.declared.access.Access.TheVariants.{Read, SetVxattr, Snapshot, Chmod, Chown, Chgrp}
+use Rattle.capgrant.specs.declared.access.Access.TheVariants.{Read, Write, SetVxattr, Snapshot, Chmod, Chown, Chgrp}
 
 -- to read, and so to change nothing
 abbrev pub is_read : Access → Bool
@@ -34,3 +35,13 @@ new_owner access = None
 abbrev pub new_group : Access → Option ℕ
 new_group (Chgrp gid) = Some gid
 new_group access = None
+
+-- the word of an access; its number is in decimal, without leading zeros
+abbrev pub access_word : Access → List ℕ
+access_word Read = codes "read"
+access_word Write = codes "write"
+access_word SetVxattr = codes "vxattr"
+access_word Snapshot = codes "snapshot"
+access_word Chmod = codes "chmod"
+access_word (Chown uid) = codes "chown:" ++ decimal uid
+access_word (Chgrp gid) = codes "chgrp:" ++ decimal gid

@@ -1,8 +1,13 @@
 //! What is asked for, and of the inode what decides it.
+ghost use Rattle.std.specs.Prelude.{Some};
+ghost use Rattle.capgrant.specs.Access.{access_word};
 
 use capbits::Mode;
+use std::fmt;
 
 /// What a client asks to do with an inode.
+///
+/// It prints as its word: `read`, `write`, `vxattr`, `snapshot`, `chmod`, or `chown:N` or `chgrp:N` with the number in decimal.
 #[derive(Clone, Copy, PartialEq, Eq, Debug)]
 pub enum Access {
     /// Read the file or the directory, or its attributes.
@@ -19,6 +24,22 @@ pub enum Access {
     Chown(u32),
     /// Give the inode to the group with this gid.
     Chgrp(u32),
+}
+
+impl fmt::Display for Access {
+    ghost output = { λ access. Some (access_word access) };
+
+    fn fmt<W: fmt::Write>(&self, f: &mut fmt::Formatter<W>) -> fmt::Result {
+        match self {
+            Access::Read => f.write_str("read"),
+            Access::Write => f.write_str("write"),
+            Access::SetVxattr => f.write_str("vxattr"),
+            Access::Snapshot => f.write_str("snapshot"),
+            Access::Chmod => f.write_str("chmod"),
+            Access::Chown(uid) => write!(f, "chown:{uid}"),
+            Access::Chgrp(gid) => write!(f, "chgrp:{gid}"),
+        }
+    }
 }
 
 /// The owner, the group and the mode of an inode.

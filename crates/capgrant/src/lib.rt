@@ -8,8 +8,6 @@ mod policy;
 mod question;
 mod rule;
 mod rules;
-#[cfg(test)]
-mod tests;
 
 pub use access::{Access, Attr};
 pub use answer::Verdict;

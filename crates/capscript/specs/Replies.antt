@@ -3,24 +3,13 @@ use Rattle.std.specs.Prelude.{ℕ, List, [], ◌∷◌, ◌++◌, codes}
 use Rattle.std.specs.Fmt.{decimal}
 use Rattle.std.specs.List.{join_by, enumerate_from}
 use Rattle.capbits.specs.Text.{text_of}
-use Rattle.capgrant.specs.declared.access.Access.{Access}
-use Rattle.capgrant.specs.declared.access.Access.TheVariants.{Read, Write, SetVxattr, Snapshot, Chmod, Chown, Chgrp}
 use Rattle.capgrant.specs.declared.rule.Rule.{Rule}
+use Rattle.capgrant.specs.Access.{access_word}
 use Rattle.capgrant.specs.Rule.{rule_number}
 use Rattle.capcore.specs.declared.refusal.Refusal.{Refusal}
 use Rattle.capcore.specs.declared.refusal.Refusal.TheVariants as refusals
 use Rattle.capcore.specs.declared.reply.Reply.{Reply}
 use Rattle.capcore.specs.declared.reply.Reply.TheVariants.{Done, Ino, Opened, Denied, Refused}
-
--- the word of an access; its number is in decimal, without leading zeros
-abbrev pub access_word : Access → List ℕ
-access_word Read = codes "read"
-access_word Write = codes "write"
-access_word SetVxattr = codes "vxattr"
-access_word Snapshot = codes "snapshot"
-access_word Chmod = codes "chmod"
-access_word (Chown uid) = codes "chown:" ++ decimal uid
-access_word (Chgrp gid) = codes "chgrp:" ++ decimal gid
 
 -- the number of a grant, and that of the rule by which it fails
 abbrev pub rule_text : ℕ × Rule → List ℕ

@@ -1,7 +1,6 @@
 //! Scripts: lines of text that say what happens to a server, and the transcript of what it answers.
 #![tactic(auto)]
 
-mod access;
 mod command;
 mod event;
 mod fault;
@@ -13,7 +12,6 @@ mod values;
 mod watched;
 mod words;
 
-pub use access::AccessWord;
 pub use fault::{LineFault, NoMemory, ScriptFault};
 pub use input::MAX_SCRIPT;
 pub use line::{MAX_LINE, read_line};

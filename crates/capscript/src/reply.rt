@@ -2,7 +2,6 @@
 ghost use Rattle.std.specs.Prelude.{◌≡◌, ◌++◌, IfOk, IfSome, OnOk};
 ghost use Rattle.capscript.specs.Replies.{reply_text, rules_text, rule_text, refusal_word};
 
-use crate::access::AccessWord;
 use crate::fault::NoMemory;
 use capbits::write_caps;
 use capcore::{Refusal, Reply};
@@ -24,7 +23,6 @@ pub fn reply_lines(alloc: Global, reply: &Reply) -> Result<Vec<u8>, NoMemory>
             text.extend_from_slice(write_caps(*caps).as_slice())?;
         }
         Reply::Denied { access, rules } => {
-            let access = AccessWord(*access);
             print(&mut text, format_args!("denied {access} "))?;
             print_rules(&mut text, rules.as_slice())?;
         }

@@ -237,11 +237,7 @@ fn replies_have_texts(rt: HostRuntime) -> Result<(), Fail> {
 
 #[test]
 fn access_words_are_printed(rt: HostRuntime) -> Result<(), Fail> {
-    let (vxattr, chmod, chgrp) = (
-        AccessWord(Access::SetVxattr),
-        AccessWord(Access::Chmod),
-        AccessWord(Access::Chgrp(0)),
-    );
+    let (vxattr, chmod, chgrp) = (Access::SetVxattr, Access::Chmod, Access::Chgrp(0));
     let text = format!(in rt.alloc(); "{vxattr} {chmod} {chgrp}")?;
     assert_eq!(rt; text.as_str(), "vxattr chmod chgrp:0");
     Ok(())

@@ -32,6 +32,3 @@ pub use laws::{
 pub use reading::read_grants;
 pub use tree_path::TreePath;
 pub use writing::write_grants;
-
-#[cfg(test)]
-mod tests;

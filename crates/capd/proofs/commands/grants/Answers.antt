@@ -1,5 +1,5 @@
 use Rattle.std.proofs.Common.{rules}
-use Rattle.capd.proofs.TextFault.{refused_unwritten}
+use Rattle.capd.proofs.Told.{refused_unwritten}
 use Rattle.capd.proofs.commands.grants.Goals as goal
 
 pub returns-in_err-grants-clause-fault : goal.returns-in_err-grants-clause-fault

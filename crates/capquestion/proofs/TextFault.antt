@@ -1,0 +1,18 @@
+-- What is told of a grant text that was refused.
+use Rattle.std.proofs.Common.{ℕ, List, ap, sym, subst, inl, inr}
+use Rattle.std.specs.Prelude.{◌⊎◌}
+use Rattle.capspec.specs.declared.fault.SpecFault.{SpecFault}
+use Rattle.capspec.specs.declared.grant.Grant.{Grant}
+use Rattle.capspec.specs.Faults.{IsFault, IsNoMemory}
+use Rattle.capspec.specs.Grants.{Reads}
+use Rattle.capspec.proofs.Told.{fault_told}
+use Rattle.capquestion.specs.declared.fault.QuestionFault.{QuestionFault}
+use Rattle.capquestion.specs.declared.fault.QuestionFault.TheVariants.{Grants, BadValue, NoMemory}
+use Rattle.capquestion.specs.Fault.{IsFaultOf, IsFaultOfText}
+
+pub text_fault : (text : List ℕ) (refused : SpecFault) (fault : QuestionFault) → IsFault text refused ⊎ (IsNoMemory refused × (grants : List Grant) × Reads text grants) → IsFaultOf refused fault → IsFaultOfText text fault
+text_fault text refused (Grants same) (inl is) passed = subst (λ (f : SpecFault). IsFault text f) (sym passed.0) is
+text_fault text refused (Grants same) (inr missed) passed = absurd (passed.1 (ap (λ (f : SpecFault). f.kind) missed.0))
+text_fault text refused (BadValue option) found passed = absurd passed
+text_fault text refused NoMemory (inl is) passed = absurd (fault_told text refused is passed)
+text_fault text refused NoMemory (inr missed) passed = (missed.1, missed.2)

@@ -1,0 +1,30 @@
+-- The line that answers a question.
+use Rattle.std.specs.Prelude.{ℕ, List, [], ◌∷◌, ◌++◌, codes}
+use Rattle.std.specs.Fmt.{decimal}
+use Rattle.std.specs.List.{join_by, enumerate_from}
+use Rattle.capgrant.specs.declared.access.Access.{Access}
+use Rattle.capgrant.specs.declared.answer.Verdict.{Verdict}
+use Rattle.capgrant.specs.declared.answer.Verdict.TheVariants.{Allowed, Denied}
+use Rattle.capgrant.specs.declared.rule.Rule.{Rule}
+use Rattle.capgrant.specs.Access.{access_word}
+use Rattle.capgrant.specs.Rule.{rule_number, rule_word}
+use Rattle.capspec.specs.Names.{slashed}
+
+-- `/` before each name; `/` alone for the root
+abbrev pub path_text : List (List ℕ) → List ℕ
+path_text [] = codes "/"
+path_text (name ∷ names) = slashed (name ∷ names)
+
+-- by which rule the grant of this number fails
+abbrev pub failure_text : ℕ × Rule → List ℕ
+failure_text failure = codes "grant " ++ decimal failure.0 ++ codes " rule " ++ decimal (rule_number failure.1) ++ codes " " ++ rule_word failure.1
+
+-- the grants by number, from 1, with the rule by which each fails
+abbrev pub failures_text : List Rule → List ℕ
+failures_text [] = codes "no grants"
+failures_text (rule ∷ rules) = join_by failure_text (codes ", ") (enumerate_from 1 (rule ∷ rules))
+
+-- what the verdict says of the access to the path
+abbrev pub explain_text : Access → List (List ℕ) → Verdict → List ℕ
+explain_text access path (Allowed grant) = codes "allowed " ++ access_word access ++ codes " " ++ path_text path ++ codes " grant " ++ decimal grant
+explain_text access path (Denied rules) = codes "denied " ++ access_word access ++ codes " " ++ path_text path ++ codes " " ++ failures_text rules

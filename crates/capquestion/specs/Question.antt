@@ -1,0 +1,63 @@
+-- A question on the command line, and its answer.
+use Rattle.std.specs.Prelude.{◌≡◌, ◌≢◌, ℕ, List, ◌∷◌, ◌++◌, All}
+use Rattle.capspec.specs.declared.grant.Grant.{Grant}
+use Rattle.capspec.specs.Faults.{IsFault}
+use Rattle.capspec.specs.Grants.{Reads}
+use Rattle.capspec.specs.Items.{IsNumber}
+use Rattle.capgrant.specs.declared.access.Access.{Access as AnAccess}
+use Rattle.capgrant.specs.Question.{question}
+use Rattle.capgrant.specs.Verdict.{verdict_of}
+use Rattle.capquestion.specs.declared.fault.QuestionFault.{QuestionFault}
+use Rattle.capquestion.specs.declared.fault.QuestionFault.TheVariants as faults
+use Rattle.capquestion.specs.declared.options.Opt.{Opt}
+use Rattle.capquestion.specs.declared.options.Opt.TheVariants.{Grants, Fs, Uid, Gid, Groups, Path, Owner, Group, Mode, Access}
+use Rattle.capquestion.specs.declared.question.Values.{Values}
+use Rattle.capquestion.specs.declared.question.Question.{Question}
+use Rattle.capquestion.specs.Access.{IsAccessWord}
+use Rattle.capquestion.specs.Line.{explain_text}
+use Rattle.capquestion.specs.Options.{all_options}
+use Rattle.capquestion.specs.Values.{IsFs, AreGroupsIf, ArePathNames, IsModeText}
+
+-- the values ask the question
+pub record AsksFor (v : Values) (q : Question) : Type 0 where
+  pub grants : Reads v.grants.items q.grants
+  pub fs : IsFs v.fs.items q.fs
+  pub uid : IsNumber v.uid.items q.caller.uid
+  pub gid : IsNumber v.gid.items q.caller.gid
+  pub groups : AreGroupsIf v.groups q.caller.groups
+  pub path : ArePathNames v.path.items q.path
+  pub owner : IsNumber v.owner.items q.attr.uid
+  pub group : IsNumber v.group.items q.attr.gid
+  pub mode : IsModeText v.mode.items q.attr.mode
+  pub access : IsAccessWord v.access.items q.access
+
+-- the value of the option means something
+abbrev pub IsGood : Values → Opt → Type 0
+IsGood v Grants = (grants : List Grant) × Reads v.grants.items grants
+IsGood v Fs = (name : List ℕ) × IsFs v.fs.items name
+IsGood v Uid = (uid : ℕ) × IsNumber v.uid.items uid
+IsGood v Gid = (gid : ℕ) × IsNumber v.gid.items gid
+IsGood v Groups = (gids : List ℕ) × AreGroupsIf v.groups gids
+IsGood v Path = (names : List (List ℕ)) × ArePathNames v.path.items names
+IsGood v Owner = (uid : ℕ) × IsNumber v.owner.items uid
+IsGood v Group = (gid : ℕ) × IsNumber v.group.items gid
+IsGood v Mode = (mode : ℕ) × IsModeText v.mode.items mode
+IsGood v Access = (access : AnAccess) × IsAccessWord v.access.items access
+
+-- the value of the option means nothing, and those that are tested before it are good
+pub record IsFirstBad (v : Values) (option : Opt) : Type 0 where
+  pub before : List Opt
+  pub after : List Opt
+  pub order : all_options ≡ before ++ option ∷ after
+  pub good_before : All (IsGood v) before
+  pub bad : ¬ IsGood v option
+
+-- why the values got no question: the first of their faults, or want of memory for grants that are good
+abbrev pub IsFaultIn : Values → QuestionFault → Type 0
+IsFaultIn v (faults.Grants refused) = IsFault v.grants.items refused
+IsFaultIn v (faults.BadValue option) = (option ≢ Grants) × IsFirstBad v option
+IsFaultIn v faults.NoMemory = IsGood v Grants
+
+-- the line that answers the question: what its grants say
+abbrev pub answer_text : Question → List ℕ
+answer_text q = explain_text q.access q.path (verdict_of (question q.fs q.caller q.path q.attr q.access) q.grants)

@@ -1,0 +1,45 @@
+//! Why values ask no question.
+
+use crate::options::Opt;
+use capspec::{SpecFault, SpecFaultKind};
+use std::alloc::AllocError;
+use thiserror::Error;
+
+/// Why values ask no question.
+#[derive(Clone, Copy, Debug, PartialEq, Eq, Error)]
+pub enum QuestionFault {
+    /// The grants can't be read: this is their first fault.
+    #[error("grants: {0}")]
+    Grants(SpecFault),
+    /// The value of this option, which is not `Opt::Grants`, is the first bad one.
+    #[error("bad value of --{0}")]
+    BadValue(Opt),
+    /// The grants are good, but no memory was left for the question.
+    #[error("no memory")]
+    NoMemory,
+}
+
+impl From<AllocError> for QuestionFault {
+    ghost use Rattle.std.specs.Prelude.{◌≡◌};
+    ghost use Rattle.capquestion.specs.declared.fault.QuestionFault.TheVariants as faults;
+
+    ghost from_gives = { λ _ fault. fault ≡ faults.NoMemory };
+
+    fn from(_: AllocError) -> Self {
+        QuestionFault::NoMemory
+    }
+}
+
+// Where only memory was missing, the grants are not to blame.
+impl From<SpecFault> for QuestionFault {
+    ghost use Rattle.capquestion.specs.Fault.{IsFaultOf};
+
+    ghost from_gives = { IsFaultOf };
+
+    fn from(refused: SpecFault) -> Self {
+        match refused.kind {
+            SpecFaultKind::NoMemory => QuestionFault::NoMemory,
+            _ => QuestionFault::Grants(refused),
+        }
+    }
+}

@@ -1,0 +1,21 @@
+//! Questions about the grants of a CephFS client: whether they let a caller make an access to an inode. What grants are is said
+//! by "CephFS client capabilities" in the Ceph documentation.
+//!
+//! A question is read from the values of options, each as the bytes that stand on a command line, and is answered with one line.
+//! What reads a command line takes text, so bytes are spelled as text here, and spelled back.
+#![tactic(auto)]
+
+mod access;
+mod fault;
+mod line;
+mod lists;
+mod options;
+mod question;
+mod words;
+
+pub use access::read_access;
+pub use fault::QuestionFault;
+pub use line::explain_line;
+pub use options::Opt;
+pub use question::{Question, Values};
+pub use words::{spell, spelled};

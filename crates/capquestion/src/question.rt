@@ -1,0 +1,131 @@
+//! What the values of options ask.
+ghost use Rattle.std.specs.Prelude.{◌≡◌, ◌⊎◌, ℕ, List, MatchResult};
+ghost use Rattle.capspec.specs.Items.{IsNumber};
+ghost use Rattle.capquestion.specs.Values.{AreGroupsIf, ArePathNames};
+
+use crate::access::read_access;
+use crate::fault::QuestionFault;
+use crate::fault::QuestionFault::BadValue;
+use crate::line::explain_line;
+use crate::lists::read_groups;
+use crate::options::Opt;
+use capbits::{Caller, Groups, read_mode, read_u32};
+use capgrant::{Access, Attr, verdict};
+use capspec::{FsName, Grants, TreePath, read_grants};
+use std::alloc::{AllocError, Global};
+
+/// The values of the options as they stand on the command line, as bytes.
+#[derive(Debug, Drop)]
+pub struct Values {
+    /// The client's grants, as `ceph fs authorize` writes them.
+    pub grants: Vec<u8>,
+    /// The name of the inode's file system.
+    pub fs: Vec<u8>,
+    /// The caller's uid: a decimal number of 32 bits.
+    pub uid: Vec<u8>,
+    /// The caller's gid: a decimal number of 32 bits.
+    pub gid: Vec<u8>,
+    /// The caller's other groups, if they are given: 1 to 16 gids with commas between them.
+    pub groups: Option<Vec<u8>>,
+    /// The place of the inode: at most 32 names of at most 255 bytes, with slashes between them.
+    pub path: Vec<u8>,
+    /// The uid of the inode's owner: a decimal number of 32 bits.
+    pub owner: Vec<u8>,
+    /// The gid of the inode's group: a decimal number of 32 bits.
+    pub group: Vec<u8>,
+    /// The inode's mode: 1 to 4 octal digits.
+    pub mode: Vec<u8>,
+    /// What is asked for: a word that `read_access` reads.
+    pub access: Vec<u8>,
+}
+
+/// Whether these grants let a caller make an access to an inode.
+#[derive(Debug, Drop)]
+pub struct Question {
+    /// The grants of the client.
+    pub grants: Grants,
+    /// The file system of the inode.
+    pub fs: FsName,
+    /// Who asks.
+    pub caller: Caller,
+    /// The inode's path.
+    pub path: TreePath,
+    /// The inode's owner, group and mode.
+    pub attr: Attr,
+    /// What is asked for.
+    pub access: Access,
+}
+
+impl Question {
+    ghost use Rattle.std.specs.Prelude.{◌≡◌, IfOk, IfErr};
+    ghost use Rattle.capquestion.specs.Question.{AsksFor, IsFaultIn, answer_text};
+
+    /// The question that the values ask. They are read in the order of `Opt::ALL`, and the fault is that of the first bad one.
+    /// `NoMemory` comes only where the grants are good.
+    pub fn read(alloc: Global, values: &Values) -> Result<Question, QuestionFault>
+        ensures ok { IfOk result (AsksFor values.now) }
+        ensures err { IfErr result (IsFaultIn values.now) }
+    {
+        let grants = read_grants(alloc, values.grants.as_slice())?;
+        let fs = FsName::read(values.fs.as_slice()).ok_or(BadValue(Opt::Fs))?;
+        let caller = Caller {
+            uid: read_number(Opt::Uid, values.uid.as_slice())?,
+            gid: read_number(Opt::Gid, values.gid.as_slice())?,
+            groups: read_given_groups(&values.groups)?,
+        };
+        let path = read_path(alloc, values.path.as_slice())?;
+        let attr = Attr {
+            uid: read_number(Opt::Owner, values.owner.as_slice())?,
+            gid: read_number(Opt::Group, values.group.as_slice())?,
+            mode: read_mode(values.mode.as_slice()).ok_or(BadValue(Opt::Mode))?,
+        };
+        let access = read_access(values.access.as_slice()).ok_or(BadValue(Opt::Access))?;
+        Ok(Question {
+            grants,
+            fs,
+            caller,
+            path,
+            attr,
+            access,
+        })
+    }
+
+    /// The line that answers the question, without a line feed. Only memory can be missing.
+    pub fn answer(&self, alloc: Global) -> Result<Vec<u8>, AllocError>
+        ensures { IfOk result (λ line. line.items ≡ answer_text self.now) }
+    {
+        let verdict = verdict(
+            &self.grants,
+            &self.fs,
+            &self.caller,
+            &self.path,
+            &self.attr,
+            self.access,
+        );
+        explain_line(alloc, self.access, &self.path, &verdict)
+    }
+}
+
+// The path of the inode.
+fn read_path(alloc: Global, text: &[u8]) -> Result<TreePath, QuestionFault>
+    ensures { MatchResult result (ArePathNames text.now) (λ fault. (fault ≡ QuestionFault.NoMemory) × ((names : List (List ℕ)) × ArePathNames text.now names) ⊎ (fault ≡ QuestionFault.BadValue Opt.Path) × ((names : List (List ℕ)) → ¬ ArePathNames text.now names)) }
+{
+    TreePath::read(alloc, text)?.ok_or(BadValue(Opt::Path))
+}
+
+// The number that the value of an option writes.
+fn read_number(option: Opt, text: &[u8]) -> Result<u32, QuestionFault>
+    ensures { MatchResult result (IsNumber text.now) (λ fault. (fault ≡ QuestionFault.BadValue option) × ((n : ℕ) → ¬ IsNumber text.now n)) }
+{
+    read_u32(text).ok_or(BadValue(option))
+}
+
+// The groups that are given, or none.
+fn read_given_groups(groups: &Option<Vec<u8>>) -> Result<Groups, QuestionFault>
+    ensures { MatchResult result (AreGroupsIf groups.now) (λ fault. (fault ≡ QuestionFault.BadValue Opt.Groups) × ((gids : List ℕ) → ¬ AreGroupsIf groups.now gids)) }
+{
+    match groups {
+        Some(text) => read_groups(text.as_slice()).ok_or(BadValue(Opt::Groups)),
+        None => Ok(Groups::new()),
+    }
+}

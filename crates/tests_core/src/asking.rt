@@ -1,0 +1,139 @@
+//! Asking a core: what clients ask for, in short, and the core that is asked.
+
+use crate::asserting::same;
+use crate::telling::answer_text;
+use capbits::{Caller, ClientId, Groups, Ino, Mode, PassId};
+use capcore::{Core, Event};
+use capgrant::Attr;
+use capspec::{FsName, Grants, read_grants};
+use inotree::Tree;
+use lockmachine::Bytes;
+use std::alloc::Global;
+use std::process::Abort;
+use std::test::Fail;
+
+/// What a client asks for.
+#[derive(Clone, Copy, Debug)]
+pub enum Act {
+    /// To open a session.
+    Open,
+    /// For the inode of a name.
+    Lookup,
+    /// To make a file of this mode.
+    Create(u16),
+    /// To make a directory of this mode.
+    Mkdir(u16),
+    /// To make a snapshot.
+    MakeSnapshot,
+    /// To remove a snapshot.
+    RemoveSnapshot,
+}
+
+/// A client, what it asks for, the number of the inode and the name. Where it opens a session, the number is that of its
+/// user and its group, and the name is the text of its grants, or empty for none.
+pub type Ask = (u32, Act, u64, &'static [u8]);
+
+fn event(alloc: Global, (client, act, number, name): Ask) -> Result<Event, Fail> {
+    let client = ClientId(client);
+    let ino = Ino(number);
+    let text = Bytes::read(alloc, name)?;
+    let event = match act {
+        Act::Open => Event::Session {
+            client,
+            caller: caller(number)?,
+            grants: grants(alloc, name)?,
+        },
+        Act::Lookup => Event::Lookup {
+            client,
+            dir: ino,
+            name: text,
+        },
+        Act::Create(mode) => Event::Create {
+            client,
+            dir: ino,
+            name: text,
+            mode: Mode::new(mode).ok_or("no mode")?,
+        },
+        Act::Mkdir(mode) => Event::Mkdir {
+            client,
+            dir: ino,
+            name: text,
+            mode: Mode::new(mode).ok_or("no mode")?,
+        },
+        Act::MakeSnapshot => Event::MakeSnapshot {
+            client,
+            ino,
+            name: text,
+        },
+        Act::RemoveSnapshot => Event::RemoveSnapshot {
+            client,
+            ino,
+            name: text,
+        },
+    };
+    Ok(event)
+}
+
+fn caller(number: u64) -> Result<Caller, Fail> {
+    let id = u32::try_from(number)?;
+    Ok(Caller {
+        uid: id,
+        gid: id,
+        groups: Groups::new(),
+    })
+}
+
+fn grants(alloc: Global, text: &[u8]) -> Result<Grants, Fail> {
+    if text.is_empty() {
+        Ok(Grants::none(alloc)?)
+    } else {
+        Ok(read_grants(alloc, text)?)
+    }
+}
+
+/// A core on a tree that has its root alone, which is user 0's. Its history takes so many rows.
+pub fn fresh(alloc: Global, max_rows: u32) -> Result<Core, Fail> {
+    let fs = FsName::read(b"cephfs").ok_or("no name")?;
+    let attr = Attr {
+        uid: 0,
+        gid: 0,
+        mode: Mode::new(0o755).ok_or("no mode")?,
+    };
+    let Ok(tree) = Tree::new(alloc, attr) else {
+        return Err("no memory".into());
+    };
+    Ok(Core::new(alloc, fs, tree, max_rows)?)
+}
+
+/// The text of what is answered to one who asks by a pass.
+pub fn asked(alloc: Global, core: &mut Core, pass: u32, ask: Ask) -> Result<String, Fail> {
+    let answer = core.apply(PassId(pass), event(alloc, ask)?);
+    Ok(answer_text(alloc, answer)?)
+}
+
+/// Asks for all that the script asks for, and compares what is answered.
+pub fn plays(
+    rt: &impl Abort,
+    alloc: Global,
+    core: &mut Core,
+    pass: u32,
+    script: &[(Ask, &str)],
+) -> Result<(), Fail> {
+    for (ask, wanted) in script {
+        let text = asked(alloc, core, pass, *ask)?;
+        same(rt, text.as_str(), *wanted, *ask);
+    }
+    Ok(())
+}
+
+/// A fresh core on which the script was played.
+pub fn played(
+    rt: &(impl AllocGlobal + Abort),
+    max_rows: u32,
+    pass: u32,
+    script: &[(Ask, &str)],
+) -> Result<Core, Fail> {
+    let mut core = fresh(rt.alloc(), max_rows)?;
+    plays(rt, rt.alloc(), &mut core, pass, script)?;
+    Ok(core)
+}

@@ -1,0 +1,221 @@
+//! Readers and writers that fail: what their flags tell, and what a run over them leaves.
+
+use crate::asserting::{holds, same};
+use crate::runs::{SNAPSHOTS, SNAPSHOTS_ANSWERED};
+use capscript::{ScriptFault, Watched, run};
+use std::alloc::Global;
+use std::io;
+use std::io::{ErrorKind, Read, Write};
+use std::test::Fail;
+
+// Reads a byte and then fails, over and over. Writes at most a byte of each text, and fails where it is a line feed.
+#[derive(Drop)]
+struct Shaky {
+    is_next_bad: bool,
+}
+
+impl Read for Shaky {
+    fn read(&mut self, buf: &mut [u8]) -> io::Result<usize> {
+        self.is_next_bad = !self.is_next_bad;
+        if self.is_next_bad || buf.is_empty() {
+            return Ok(buf.len().min(1));
+        }
+        Err(io::Error::from(ErrorKind::Interrupted))
+    }
+}
+
+impl Write for Shaky {
+    fn write(&mut self, buf: &[u8]) -> io::Result<usize> {
+        match buf {
+            [b'\n', ..] => Err(io::Error::from(ErrorKind::Interrupted)),
+            [b'0', ..] => Ok(0),
+            _ => Ok(buf.len().min(1)),
+        }
+    }
+
+    fn flush(&mut self) -> io::Result<()> {
+        Err(io::Error::from(ErrorKind::BrokenPipe))
+    }
+}
+
+fn watched_shaky() -> Watched<Shaky> {
+    Watched::new(Shaky { is_next_bad: false })
+}
+
+// Reads once: how many bytes came, or none for a failure, and whether the flag is set then.
+fn read_once<R: Read>(reader: &mut Watched<R>) -> (Option<usize>, bool) {
+    let mut buffer = [0; 4];
+    (reader.read(&mut buffer).ok(), reader.failed())
+}
+
+// Writes once: how many bytes were taken, or none for a failure, and whether the flag is set then.
+fn write_once<W: Write>(writer: &mut Watched<W>, text: &[u8]) -> (Option<usize>, bool) {
+    (writer.write(text).ok(), writer.failed())
+}
+
+// Flushes: whether it went well, and whether the flag is set then.
+fn flush_once<W: Write>(writer: &mut Watched<W>) -> (bool, bool) {
+    (writer.flush().is_ok(), writer.failed())
+}
+
+#[test]
+fn a_flag_tells_of_a_failed_read(rt: HostRuntime) {
+    let mut reader = watched_shaky();
+    for (nth, wanted) in [
+        (1, (Some(1), false)),
+        (2, (None, true)),
+        (3, (Some(1), true)),
+    ] {
+        same(&rt, &read_once(&mut reader), &wanted, nth);
+    }
+}
+
+#[test]
+fn a_flag_tells_of_a_failed_write(rt: HostRuntime) {
+    for (text, wanted) in [
+        ("", (Some(0), false)),
+        ("ab", (Some(1), false)),
+        ("0", (Some(0), true)),
+        ("\n", (None, true)),
+    ] {
+        let mut writer = watched_shaky();
+        same(
+            &rt,
+            &write_once(&mut writer, text.as_bytes()),
+            &wanted,
+            text,
+        );
+    }
+}
+
+#[test]
+fn a_flag_tells_of_a_failed_flush(rt: HostRuntime) {
+    let mut writer = watched_shaky();
+    same(&rt, &flush_once(&mut writer), &(false, true), "flush");
+}
+
+#[test]
+fn a_clear_flag_stays_clear(rt: HostRuntime) {
+    let mut reader = Watched::new(b"ab".as_slice());
+    same(&rt, &read_once(&mut reader), &(Some(2), false), "all");
+    same(&rt, &read_once(&mut reader), &(Some(0), false), "the end");
+    let mut writer = Watched::new(Vec::new(rt.alloc()));
+    same(
+        &rt,
+        &write_once(&mut writer, b"ab"),
+        &(Some(2), false),
+        "ab",
+    );
+    same(&rt, &flush_once(&mut writer), &(true, false), "flush");
+}
+
+// Gives so many bytes at a time, and fails once it was read so often.
+#[derive(Drop)]
+struct Failing<'a> {
+    script: &'a [u8],
+    at_once: usize,
+    reads_left: usize,
+}
+
+impl Read for Failing<'_> {
+    fn read(&mut self, buf: &mut [u8]) -> io::Result<usize> {
+        if self.reads_left == 0 {
+            return Err(io::Error::from(ErrorKind::Interrupted));
+        }
+        self.reads_left -= 1;
+        let count = self.script.len().min(self.at_once).min(buf.len());
+        let (front, rest) = self.script.split_at(count);
+        buf[..count].copy_from_slice(front);
+        self.script = rest;
+        Ok(count)
+    }
+}
+
+// Runs over a reader that may fail: whether the reader's flag is set, whether the run stopped, and whether it wrote nothing.
+fn run_on_reads(alloc: Global, reads: Failing) -> (bool, bool, bool) {
+    let mut text = Vec::new(alloc);
+    let mut reader = Watched::new(reads);
+    let mut writer = Watched::new(&mut text);
+    let ended = run(alloc, &mut reader, &mut writer);
+    (reader.failed(), ended.is_err(), text.is_empty())
+}
+
+const TWO_LINES: &[u8] = b"session 1 10 10 - none\nlookup 1 1 a";
+
+#[test]
+fn a_read_that_fails_writes_nothing(rt: HostRuntime) {
+    for at_once in [1, 7] {
+        let wanted = TWO_LINES.len().div_ceil(at_once) + 1;
+        for reads_left in 0..=wanted {
+            let reads = Failing {
+                script: TWO_LINES,
+                at_once,
+                reads_left,
+            };
+            let found = run_on_reads(rt.alloc(), reads);
+            let failed = reads_left < wanted;
+            same(
+                &rt,
+                &found,
+                &(failed, failed, failed),
+                (at_once, reads_left),
+            );
+        }
+    }
+}
+
+// Takes so many bytes, a few at once, and then none or fails.
+#[derive(Drop)]
+struct Full<'a> {
+    text: &'a mut Vec<u8>,
+    room: usize,
+    fails: bool,
+}
+
+impl Write for Full<'_> {
+    fn write(&mut self, buf: &[u8]) -> io::Result<usize> {
+        let count = buf.len().min(self.room).min(3);
+        if count == 0 && self.fails {
+            return Err(io::Error::from(ErrorKind::Interrupted));
+        }
+        self.room -= count;
+        self.text.extend_from_slice(&buf[..count])?;
+        Ok(count)
+    }
+
+    fn flush(&mut self) -> io::Result<()> {
+        Ok(())
+    }
+}
+
+// Runs over a writer that takes so many bytes: whether the writer's flag is set, how the run ended, and what was written.
+fn run_in_room(
+    alloc: Global,
+    room: usize,
+    fails: bool,
+) -> (bool, Result<(), ScriptFault>, Vec<u8>) {
+    let mut text = Vec::new(alloc);
+    let mut reader = Watched::new(SNAPSHOTS.as_bytes());
+    let mut writer = Watched::new(Full {
+        text: &mut text,
+        room,
+        fails,
+    });
+    let ended = run(alloc, &mut reader, &mut writer);
+    let failed = writer.failed();
+    (failed, ended, text)
+}
+
+#[test]
+fn a_write_that_fails_leaves_a_beginning(rt: HostRuntime) {
+    let wanted = SNAPSHOTS_ANSWERED.as_bytes();
+    for room in 0..=wanted.len() {
+        for fails in [false, true] {
+            let (failed, ended, text) = run_in_room(rt.alloc(), room, fails);
+            let is_short = room < wanted.len();
+            let fault = ended == Err(ScriptFault::WriteFault);
+            same(&rt, &(failed, fault), &(is_short, is_short), (room, fails));
+            same(&rt, text.as_slice(), &wanted[..room], (room, fails));
+        }
+    }
+}

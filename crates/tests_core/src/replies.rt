@@ -1,0 +1,90 @@
+//! The texts of replies, refusals, stops and accesses.
+
+use crate::asserting::same;
+use crate::telling::answer_text;
+use arrayvec::ArrayVec;
+use capbits::Ino;
+use capcore::{Refusal, Reply, Stop};
+use capgrant::{Access, Rule, Rules};
+use capscript::reply_lines;
+use std::test::Fail;
+
+const REFUSALS: &[(Refusal, &str)] = &[
+    (Refusal::Blocklisted, "refused Blocklisted"),
+    (Refusal::SessionOpen, "refused SessionOpen"),
+    (Refusal::NoSession, "refused NoSession"),
+    (Refusal::SessionStale, "refused SessionStale"),
+    (Refusal::NoIno, "refused NoIno"),
+    (Refusal::Gone, "refused Gone"),
+    (Refusal::Root, "refused Root"),
+    (Refusal::NotDir, "refused NotDir"),
+    (Refusal::IsDir, "refused IsDir"),
+    (Refusal::NoEnt, "refused NoEnt"),
+    (Refusal::NameBad, "refused NameBad"),
+    (Refusal::Exists, "refused Exists"),
+    (Refusal::NotEmpty, "refused NotEmpty"),
+    (Refusal::Loop, "refused Loop"),
+    (Refusal::TooDeep, "refused TooDeep"),
+    (Refusal::NoXattr, "refused NoXattr"),
+    (Refusal::Limit, "refused Limit"),
+];
+
+const STOPS: &[(Stop, &str)] = &[(Stop::NoMemory, "stop NoMemory"), (Stop::Full, "stop Full")];
+
+#[test]
+fn refusals_and_stops_print_as_their_names(rt: HostRuntime) -> Result<(), Fail> {
+    for (refusal, wanted) in REFUSALS {
+        let text = answer_text(rt.alloc(), Ok(Reply::Refused(*refusal)))?;
+        same(&rt, text.as_str(), *wanted, *wanted);
+    }
+    for (stop, wanted) in STOPS {
+        let text = answer_text(rt.alloc(), Err(*stop))?;
+        same(&rt, text.as_str(), *wanted, *wanted);
+    }
+    Ok(())
+}
+
+fn denied(access: Access, rules: &[Rule]) -> Result<Reply, Fail> {
+    let mut list = ArrayVec::new();
+    for rule in rules {
+        list.try_push(*rule)?;
+    }
+    Ok(Reply::Denied {
+        access,
+        rules: Rules::from(list),
+    })
+}
+
+fn replies() -> Result<[(Reply, &'static str); 9], Fail> {
+    Ok([
+        (Reply::Done, "done\n"),
+        (Reply::Ino(Ino(2)), "ino 2\n"),
+        (Reply::Ino(Ino(u64::MAX)), "ino 18446744073709551615\n"),
+        (
+            denied(Access::Write, &[Rule::Path, Rule::NoWrite, Rule::ModeBits])?,
+            "denied write 1:4,2:5,3:11\n",
+        ),
+        (denied(Access::Read, &[])?, "denied read -\n"),
+        (denied(Access::Snapshot, &[])?, "denied snapshot -\n"),
+        (denied(Access::Chown(9), &[])?, "denied chown:9 -\n"),
+        (Reply::Refused(Refusal::NoIno), "refused NoIno\n"),
+        (Reply::Refused(Refusal::TooDeep), "refused TooDeep\n"),
+    ])
+}
+
+#[test]
+fn replies_have_texts(rt: HostRuntime) -> Result<(), Fail> {
+    for (reply, wanted) in &replies()? {
+        let text = reply_lines(rt.alloc(), reply)?;
+        same(&rt, text.as_slice(), wanted.as_bytes(), *wanted);
+    }
+    Ok(())
+}
+
+#[test]
+fn access_words_are_printed(rt: HostRuntime) -> Result<(), Fail> {
+    let (vxattr, chmod, chgrp) = (Access::SetVxattr, Access::Chmod, Access::Chgrp(0));
+    let text = format!(in rt.alloc(); "{vxattr} {chmod} {chgrp}")?;
+    same(&rt, text.as_str(), "vxattr chmod chgrp:0", "words");
+    Ok(())
+}

@@ -1,0 +1,451 @@
+//! Verdicts on whole grant texts, and what grants permit to hold.
+
+use crate::asserting::{holds, same};
+use arrayvec::ArrayVec;
+use capbits::{Caller, CapBytes, Groups, Mode, write_caps};
+use capgrant::{Access, Attr, Rule, Rules, Verdict, permitted, verdict};
+use capspec::{FsName, Grants, read_grants};
+use std::alloc::Global;
+use std::process::Abort;
+use std::test::Fail;
+
+// A caller's uid, gid and further groups.
+type Who = (u32, u32, &'static [u32]);
+
+// An inode's path, owner, group and mode.
+type Inode<'a> = (&'a str, u32, u32, u16);
+
+const ANA: Who = (9, 50, &[60]);
+
+const ROOT: Who = (0, 50, &[]);
+
+fn caller((uid, gid, groups): Who) -> Result<Caller, Fail> {
+    let mut further = Groups::new();
+    for group in groups {
+        further.try_push(*group)?;
+    }
+    Ok(Caller {
+        uid,
+        gid,
+        groups: further,
+    })
+}
+
+// The names of a path's text.
+fn names_of<'a>(alloc: Global, path: &'a str) -> Result<Vec<&'a [u8]>, Fail> {
+    let mut names = Vec::new(alloc);
+    for name in path.split('/') {
+        if !name.is_empty() {
+            names.push(name.as_bytes())?;
+        }
+    }
+    Ok(names)
+}
+
+/// Whom a verdict is about: grants on the file system `cephfs`, who asks, and the inode.
+#[derive(Drop)]
+struct Scene<'a> {
+    grants: Grants,
+    fs: FsName,
+    caller: Caller,
+    path: Vec<&'a [u8]>,
+    attr: Attr,
+}
+
+fn scene_of<'a>(
+    alloc: Global,
+    grants: &str,
+    who: Who,
+    inode: Inode<'a>,
+) -> Result<Scene<'a>, Fail> {
+    let (path, uid, gid, mode) = inode;
+    Ok(Scene {
+        grants: read_grants(alloc, grants.as_bytes())?,
+        fs: FsName::read(b"cephfs").ok_or("no name")?,
+        caller: caller(who)?,
+        path: names_of(alloc, path)?,
+        attr: Attr {
+            uid,
+            gid,
+            mode: Mode::new(mode).ok_or("no mode")?,
+        },
+    })
+}
+
+impl Scene<'_> {
+    fn verdict(&self, access: Access) -> Verdict {
+        verdict(
+            &self.grants,
+            &self.fs,
+            &self.caller,
+            self.path.as_slice(),
+            &self.attr,
+            access,
+        )
+    }
+
+    fn permitted(&self) -> CapBytes {
+        write_caps(permitted(
+            &self.grants,
+            &self.fs,
+            &self.caller,
+            self.path.as_slice(),
+            &self.attr,
+        ))
+    }
+}
+
+fn denial(alloc: Global, rules: &Rules) -> Result<String, Fail> {
+    let mut text = String::new(alloc);
+    for (place, rule) in rules.iter().enumerate() {
+        let number = rule.number();
+        let comma = if place == 0 { "" } else { ", " };
+        text.push_str(format!(in alloc; "{comma}rule {number} {rule}")?.as_str())?;
+    }
+    Ok(text)
+}
+
+// What the grants say, as text.
+fn said(alloc: Global, verdict: &Verdict) -> Result<String, Fail> {
+    match verdict {
+        Verdict::Allowed { grant } => Ok(format!(in alloc; "allowed by grant {grant}")?),
+        Verdict::Denied { rules } => Ok(denial(alloc, rules)?),
+    }
+}
+
+// Whom a verdict is about, as text.
+fn place(alloc: Global, grants: &str, who: Who, inode: Inode) -> Result<String, Fail> {
+    let (path, owner, group, mode) = inode;
+    Ok(format!(in alloc; "{grants} of {path} {owner}:{group} {mode:o} by {who:?}")?)
+}
+
+// Sees what the grants say to an access.
+fn say(
+    rt: &(impl Abort + AllocGlobal),
+    grants: &str,
+    who: Who,
+    inode: Inode,
+    access: Access,
+    wanted: &str,
+) -> Result<(), Fail> {
+    let verdict = scene_of(rt.alloc(), grants, who, inode)?.verdict(access);
+    let found = said(rt.alloc(), &verdict)?;
+    let place = place(rt.alloc(), grants, who, inode)?;
+    same(rt, found.as_str(), wanted, (place.as_str(), access));
+    Ok(())
+}
+
+// Sees what the grants permit to hold.
+fn permit(
+    rt: &(impl Abort + AllocGlobal),
+    grants: &str,
+    who: Who,
+    inode: Inode,
+    wanted: &str,
+) -> Result<(), Fail> {
+    let found = scene_of(rt.alloc(), grants, who, inode)?.permitted();
+    let place = place(rt.alloc(), grants, who, inode)?;
+    same(rt, found.as_slice(), wanted.as_bytes(), place.as_str());
+    Ok(())
+}
+
+#[test]
+fn paths_are_compared_by_whole_names(rt: HostRuntime) -> Result<(), Fail> {
+    let cases = [
+        ("allow rw path=/foo", "/food", "rule 4 path"),
+        ("allow rw path=/foo", "/foo", "allowed by grant 1"),
+        ("allow rw path=/foo", "/foo/x", "allowed by grant 1"),
+        ("allow rw path=/foo", "/x/foo", "rule 4 path"),
+        ("allow rw path=/foo/x", "/foo", "rule 4 path"),
+        ("allow rw path=/foo/x", "/foo/y", "rule 4 path"),
+        ("allow rw path=/foo", "/", "rule 4 path"),
+        ("allow rw path=/", "/", "allowed by grant 1"),
+    ];
+    for (grants, path, wanted) in cases {
+        let inode = (path, 7, 50, 0o640);
+        say(&rt, grants, ANA, inode, Access::Write, wanted)?;
+    }
+    Ok(())
+}
+
+#[test]
+fn each_grant_answers_in_its_turn(rt: HostRuntime) -> Result<(), Fail> {
+    let cases = [
+        (
+            "allow rw fsname=cephfs path=/a, allow r fsname=cephfs",
+            "rule 4 path, rule 5 no-write",
+        ),
+        ("allow r, allow rw path=/b", "allowed by grant 2"),
+        ("allow rw, allow rw path=/b", "allowed by grant 1"),
+        (
+            "allow r, allow rw uid=8, allow rw path=/a, allow rw fsname=b",
+            "rule 5 no-write, rule 2 uid, rule 4 path, rule 1 fsname",
+        ),
+    ];
+    let inode = ("/b/x", 7, 50, 0o640);
+    for (grants, wanted) in cases {
+        say(&rt, grants, ANA, inode, Access::Write, wanted)?;
+    }
+    Ok(())
+}
+
+#[test]
+fn the_first_failing_rule_is_named(rt: HostRuntime) -> Result<(), Fail> {
+    let cases = [
+        (
+            "allow r fsname=b uid=8 gids=70 path=/b",
+            ANA,
+            Access::Write,
+            "rule 1 fsname",
+        ),
+        (
+            "allow r fsname=cephfs uid=8 gids=70 path=/b",
+            ANA,
+            Access::Write,
+            "rule 2 uid",
+        ),
+        (
+            "allow r uid=9 gids=70 path=/b",
+            ANA,
+            Access::Write,
+            "rule 3 gids",
+        ),
+        (
+            "allow r uid=9 gids=60 path=/b",
+            ANA,
+            Access::Write,
+            "rule 4 path",
+        ),
+        (
+            "allow r uid=0 root_squash",
+            ROOT,
+            Access::SetVxattr,
+            "rule 5 no-write",
+        ),
+        (
+            "allow rw uid=0 root_squash",
+            ROOT,
+            Access::SetVxattr,
+            "rule 6 root-squash",
+        ),
+        ("allow rws uid=0", ROOT, Access::SetVxattr, "rule 7 no-p"),
+        ("allow rwp uid=0", ROOT, Access::Snapshot, "rule 8 no-s"),
+        (
+            "allow rw uid=0",
+            ROOT,
+            Access::Chgrp(70),
+            "rule 9 not-owner",
+        ),
+        (
+            "allow rw uid=7",
+            (7, 50, &[]),
+            Access::Chgrp(50),
+            "rule 10 not-own-group",
+        ),
+        (
+            "allow rwps uid=0",
+            ROOT,
+            Access::SetVxattr,
+            "rule 11 mode-bits",
+        ),
+    ];
+    let inode = ("/a/x", 7, 50, 0o640);
+    for (grants, who, access, wanted) in cases {
+        say(&rt, grants, who, inode, access, wanted)?;
+    }
+    Ok(())
+}
+
+#[test]
+fn root_is_squashed_by_its_uid_or_its_first_gid(rt: HostRuntime) -> Result<(), Fail> {
+    let cases: [(Who, &str, &str); 3] = [
+        ((0, 5, &[]), "allowed by grant 1", "rule 6 root-squash"),
+        ((5, 0, &[]), "allowed by grant 1", "rule 6 root-squash"),
+        ((5, 5, &[0]), "allowed by grant 1", "allowed by grant 1"),
+    ];
+    let inode = ("/f", 7, 50, 0o640);
+    for (who, read, write) in cases {
+        say(&rt, "allow rw root_squash", who, inode, Access::Read, read)?;
+        say(
+            &rt,
+            "allow rw root_squash",
+            who,
+            inode,
+            Access::Write,
+            write,
+        )?;
+    }
+    Ok(())
+}
+
+#[test]
+fn a_grant_with_a_uid_asks_for_mode_bits(rt: HostRuntime) -> Result<(), Fail> {
+    let (yes, no) = ("allowed by grant 1", "rule 11 mode-bits");
+    let cases = [
+        ("allow rw uid=9 gids=50", 7, 50, 0o640, Access::Read, yes),
+        ("allow rw uid=9 gids=50", 7, 50, 0o640, Access::Write, no),
+        ("allow rw uid=9", 7, 50, 0o640, Access::Read, no),
+        // The owner's bits are for the owner alone, and the group's for a listed group.
+        ("allow rw uid=9 gids=50", 9, 50, 0o077, Access::Read, no),
+        ("allow rw uid=9 gids=50", 9, 50, 0o400, Access::Read, yes),
+        ("allow rw uid=9 gids=50", 9, 50, 0o400, Access::Write, no),
+        ("allow rw uid=9 gids=50", 7, 50, 0o707, Access::Read, no),
+        ("allow rw uid=9 gids=60", 7, 60, 0o040, Access::Read, yes),
+        ("allow rw uid=9 gids=50", 7, 60, 0o040, Access::Read, no),
+        ("allow rw uid=9 gids=50", 7, 60, 0o004, Access::Read, yes),
+        // All but reading takes w.
+        (
+            "allow rwps uid=9 gids=50",
+            7,
+            50,
+            0o757,
+            Access::SetVxattr,
+            no,
+        ),
+        (
+            "allow rwps uid=9 gids=50",
+            7,
+            50,
+            0o020,
+            Access::SetVxattr,
+            yes,
+        ),
+        ("allow rwps uid=9", 7, 50, 0o775, Access::Snapshot, no),
+        ("allow rwps uid=9", 7, 50, 0o002, Access::Snapshot, yes),
+        // Without a uid they are the client's to test.
+        ("allow rw", 7, 50, 0o000, Access::Write, yes),
+    ];
+    for (grants, owner, group, mode, access, wanted) in cases {
+        let inode = ("/f", owner, group, mode);
+        say(&rt, grants, ANA, inode, access, wanted)?;
+    }
+    Ok(())
+}
+
+#[test]
+fn a_grant_with_a_uid_asks_for_ownership(rt: HostRuntime) -> Result<(), Fail> {
+    let cases = [
+        ("allow rw uid=9", 9, Access::Chmod, "allowed by grant 1"),
+        ("allow rw uid=9", 7, Access::Chmod, "rule 9 not-owner"),
+        ("allow rw uid=9", 9, Access::Chown(9), "allowed by grant 1"),
+        ("allow rw uid=9", 9, Access::Chown(7), "rule 9 not-owner"),
+        ("allow rw uid=9", 7, Access::Chown(9), "rule 9 not-owner"),
+        (
+            "allow rw uid=9 gids=50,60",
+            9,
+            Access::Chgrp(50),
+            "allowed by grant 1",
+        ),
+        (
+            "allow rw uid=9 gids=50,60",
+            9,
+            Access::Chgrp(60),
+            "allowed by grant 1",
+        ),
+        (
+            "allow rw uid=9 gids=50",
+            9,
+            Access::Chgrp(60),
+            "rule 10 not-own-group",
+        ),
+        (
+            "allow rw uid=9 gids=50,70",
+            9,
+            Access::Chgrp(70),
+            "rule 10 not-own-group",
+        ),
+        (
+            "allow rw uid=9 gids=50",
+            7,
+            Access::Chgrp(50),
+            "rule 9 not-owner",
+        ),
+        ("allow rw", 7, Access::Chmod, "allowed by grant 1"),
+        ("allow rw", 7, Access::Chown(8), "allowed by grant 1"),
+        ("allow rw", 7, Access::Chgrp(70), "allowed by grant 1"),
+        ("allow r", 7, Access::Chmod, "rule 5 no-write"),
+    ];
+    for (grants, owner, access, wanted) in cases {
+        let inode = ("/f", owner, 50, 0o000);
+        say(&rt, grants, ANA, inode, access, wanted)?;
+    }
+    Ok(())
+}
+
+// Sees what grants say to reading, writing, setting an attribute of `ceph.` and making a snapshot.
+fn flags_say(
+    rt: &(impl Abort + AllocGlobal),
+    grants: &str,
+    [read, write, attribute, snapshot]: [&str; 4],
+) -> Result<(), Fail> {
+    let inode = ("/f", 7, 50, 0o000);
+    say(rt, grants, ANA, inode, Access::Read, read)?;
+    say(rt, grants, ANA, inode, Access::Write, write)?;
+    say(rt, grants, ANA, inode, Access::SetVxattr, attribute)?;
+    say(rt, grants, ANA, inode, Access::Snapshot, snapshot)
+}
+
+#[test]
+fn flags_allow_what_they_name(rt: HostRuntime) -> Result<(), Fail> {
+    let (yes, no_write) = ("allowed by grant 1", "rule 5 no-write");
+    let (no_p, no_s) = ("rule 7 no-p", "rule 8 no-s");
+    flags_say(&rt, "allow r", [yes, no_write, no_write, no_write])?;
+    flags_say(&rt, "allow rw", [yes, yes, no_p, no_s])?;
+    flags_say(&rt, "allow rwp", [yes, yes, yes, no_s])?;
+    flags_say(&rt, "allow rws", [yes, yes, no_p, yes])?;
+    flags_say(&rt, "allow rwps", [yes, yes, yes, yes])
+}
+
+fn two_rules() -> Rules {
+    let mut given = ArrayVec::new();
+    given.push(Rule::Path);
+    given.push(Rule::NoWrite);
+    Rules::from(given)
+}
+
+#[test]
+fn a_list_of_rules_gives_its_vector_back(rt: HostRuntime) {
+    let rules = two_rules();
+    let wanted = [Rule::Path, Rule::NoWrite];
+    same(&rt, rules.len(), 2, "len");
+    holds(&rt, !rules.is_empty(), "is_empty");
+    same(&rt, rules.as_slice(), wanted.as_slice(), "as_slice");
+    same(
+        &rt,
+        rules.iter().copied().map(Rule::number).max(),
+        Some(5),
+        "iter",
+    );
+    same(
+        &rt,
+        rules.into_inner().as_slice(),
+        wanted.as_slice(),
+        "into_inner",
+    );
+}
+
+#[test]
+fn reading_and_writing_permit_their_capabilities(rt: HostRuntime) -> Result<(), Fail> {
+    let (pin, reads) = ("p", "pAsLsXsFscrl");
+    let (writes, both) = ("pAxLxXxFxwb", "pAsxLsxXsxFsxcrwbl");
+    let cases = [
+        ("allow rw", ANA, 7, 0o000, both),
+        ("allow rwps", ANA, 7, 0o000, both),
+        ("allow r", ANA, 7, 0o777, reads),
+        // No grant is for this inode.
+        ("allow rw path=/a", ANA, 7, 0o777, pin),
+        ("allow rw fsname=other", ANA, 7, 0o777, pin),
+        ("allow rw path=/a, allow r path=/b", ANA, 7, 0o777, reads),
+        ("allow r path=/b, allow rw path=/b", ANA, 7, 0o777, both),
+        // Reading is never squashed.
+        ("allow rw root_squash", ROOT, 7, 0o777, reads),
+        // A grant with a uid goes by the mode.
+        ("allow rw uid=9 gids=50", ANA, 7, 0o640, reads),
+        ("allow rw uid=9", ANA, 7, 0o640, pin),
+        ("allow rw uid=9", ANA, 9, 0o200, writes),
+    ];
+    for (grants, who, owner, mode, wanted) in cases {
+        permit(&rt, grants, who, ("/b/x", owner, 50, mode), wanted)?;
+    }
+    Ok(())
+}

@@ -1,0 +1,217 @@
+//! What the tests ask of a tree, and what they read in it.
+
+use crate::asserting::same;
+use capbits::{Ino, Mode};
+use capgrant::Attr;
+use inotree::{Kind, Name, Place, Setting, Tree, TreeFault};
+use std::alloc::Global;
+use std::process::Abort;
+use std::test::Fail;
+
+// What is asked of a tree. A number is that of an inode, and the root is 1. A byte is a whole name, or a whole value.
+#[derive(Clone, Copy, Debug)]
+pub(crate) enum Ask {
+    Mkdir(u64, u8),
+    Create(u64, u8),
+    Unlink(u64),
+    Rmdir(u64),
+    Rename(u64, u64, u8),
+    Set(u64, Setting),
+    SetXattr(u64, u8, u8),
+    RemoveXattr(u64, u8),
+    SnapAdd(u64, u8),
+    SnapRemove(u64, u8),
+    // Whether it would be refused now.
+    MayCreate(u64, u8),
+    MayRmdir(u64),
+    MayRename(u64, u64, u8),
+}
+
+use Ask::*;
+
+// The number of a new inode, or 0 where the call makes none.
+pub(crate) type Answer = Result<u64, TreeFault>;
+
+// Reading and entering for all, and writing for the owner.
+fn open_mode() -> Mode {
+    match Mode::new(0o755) {
+        Some(mode) => mode,
+        None => unreachable!(),
+    }
+}
+
+// What a new inode of user 10 gets.
+fn attr() -> Attr {
+    Attr {
+        uid: 10,
+        gid: 10,
+        mode: open_mode(),
+    }
+}
+
+fn number(answer: Result<Ino, TreeFault>) -> Answer {
+    match answer {
+        Ok(ino) => Ok(ino.0),
+        Err(fault) => Err(fault),
+    }
+}
+
+fn done(answer: Result<(), TreeFault>) -> Answer {
+    match answer {
+        Ok(()) => Ok(0),
+        Err(fault) => Err(fault),
+    }
+}
+
+fn foreseen(fault: Option<TreeFault>) -> Answer {
+    match fault {
+        None => Ok(0),
+        Some(fault) => Err(fault),
+    }
+}
+
+pub(crate) fn asked(tree: &mut Tree, ask: Ask) -> Answer {
+    match ask {
+        Mkdir(dir, name) => number(tree.mkdir(Ino(dir), &[name], attr())),
+        Create(dir, name) => create(tree, dir, &[name]),
+        Unlink(ino) => done(tree.unlink(Ino(ino))),
+        Rmdir(ino) => done(tree.rmdir(Ino(ino))),
+        Rename(ino, dir, name) => rename(tree, ino, dir, &[name]),
+        Set(ino, setting) => done(tree.set(Ino(ino), setting)),
+        SetXattr(ino, name, value) => set_xattr(tree, ino, &[name], &[value]),
+        RemoveXattr(ino, name) => done(tree.remove_xattr(Ino(ino), &[name])),
+        SnapAdd(ino, name) => snap_add(tree, ino, &[name]),
+        SnapRemove(ino, name) => done(tree.snap_remove(Ino(ino), &[name])),
+        MayCreate(dir, name) => foreseen(tree.create_fault(Ino(dir), &[name])),
+        MayRmdir(ino) => foreseen(tree.rmdir_fault(Ino(ino))),
+        MayRename(ino, dir, name) => foreseen(tree.rename_fault(Ino(ino), Ino(dir), &[name])),
+    }
+}
+
+// What is asked with names of other lengths too.
+
+pub(crate) fn create(tree: &mut Tree, dir: u64, name: &[u8]) -> Answer {
+    number(tree.create(Ino(dir), name, attr()))
+}
+
+pub(crate) fn rename(tree: &mut Tree, ino: u64, dir: u64, name: &[u8]) -> Answer {
+    done(tree.rename(Ino(ino), Ino(dir), name))
+}
+
+pub(crate) fn set_xattr(tree: &mut Tree, ino: u64, name: &[u8], value: &[u8]) -> Answer {
+    done(tree.set_xattr(Ino(ino), name, value))
+}
+
+pub(crate) fn snap_add(tree: &mut Tree, ino: u64, name: &[u8]) -> Answer {
+    done(tree.snap_add(Ino(ino), name))
+}
+
+// A tree that has its root alone.
+pub(crate) fn made(alloc: Global) -> Result<Tree, Fail> {
+    Ok(Tree::new(alloc, attr())?)
+}
+
+// Asks one after the other, and sees that the answers are the wanted ones.
+pub(crate) fn play(rt: &impl Abort, tree: &mut Tree, steps: &[(Ask, Answer)]) {
+    for (number, (ask, want)) in steps.iter().enumerate() {
+        same(rt, &asked(tree, *ask), want, (number, *ask));
+    }
+}
+
+// A new tree after these steps.
+pub(crate) fn played(
+    rt: &impl Abort,
+    alloc: Global,
+    steps: &[(Ask, Answer)],
+) -> Result<Tree, Fail> {
+    let mut tree = made(alloc)?;
+    play(rt, &mut tree, steps);
+    Ok(tree)
+}
+
+// Forgets an inode, which has to be a stray.
+pub(crate) fn forget(rt: &impl Abort, tree: &mut Tree, ino: u64) {
+    assert_eq!(rt; tree.place(Ino(ino)), Place::Gone, "at inode {ino}");
+    tree.forget(Ino(ino));
+}
+
+pub(crate) fn last(tree: &Tree) -> u64 {
+    tree.last().0
+}
+
+pub(crate) fn place(tree: &Tree, ino: u64) -> Place {
+    tree.place(Ino(ino))
+}
+
+pub(crate) fn child(tree: &Tree, dir: u64, name: &[u8]) -> Option<u64> {
+    tree.child(Ino(dir), name).map(|ino| ino.0)
+}
+
+pub(crate) fn parent(tree: &Tree, ino: u64) -> Option<u64> {
+    tree.parent(Ino(ino)).map(|ino| ino.0)
+}
+
+// How many names the path of an inode has.
+pub(crate) fn path_length(tree: &Tree, ino: u64) -> Option<usize> {
+    let path = tree.path_of(Ino(ino))?;
+    Some(path.len())
+}
+
+pub(crate) fn resolved(tree: &Tree, names: &[&[u8]]) -> Option<u64> {
+    tree.resolve(names).map(|ino| ino.0)
+}
+
+// The inode to which the path of an inode leads.
+pub(crate) fn led_by_path(tree: &Tree, ino: u64) -> Option<u64> {
+    let path = tree.path_of(Ino(ino))?;
+    resolved(tree, path.as_slice())
+}
+
+// An inode's owner, group and mode.
+pub(crate) fn owner(tree: &Tree, ino: u64) -> Option<(u32, u32, Mode)> {
+    let node = tree.node(Ino(ino))?;
+    Some((node.attr.uid, node.attr.gid, node.attr.mode))
+}
+
+// What an inode is, its size and its time.
+pub(crate) fn data(tree: &Tree, ino: u64) -> Option<(Kind, u64, u64)> {
+    let node = tree.node(Ino(ino))?;
+    Some((node.kind, node.size, node.time))
+}
+
+// The first attribute of an inode, as its name and its value.
+pub(crate) fn first_attribute(tree: &Tree, ino: u64) -> Option<(&[u8], &[u8])> {
+    let node = tree.node(Ino(ino))?;
+    let (name, value) = node.attributes.iter().next()?;
+    Some((name.as_bytes(), value.as_bytes()))
+}
+
+pub(crate) fn attribute_count(tree: &Tree, ino: u64) -> Option<usize> {
+    let node = tree.node(Ino(ino))?;
+    Some(node.attributes.len())
+}
+
+// The value of an inode's attribute.
+pub(crate) fn attribute<'a>(tree: &'a Tree, ino: u64, name: &[u8]) -> Option<&'a [u8]> {
+    let name = Name::read(name)?;
+    let value = tree.node(Ino(ino))?.attributes.get(&name)?;
+    Some(value.as_bytes())
+}
+
+pub(crate) fn first_snapshot(tree: &Tree, ino: u64) -> Option<&[u8]> {
+    let node = tree.node(Ino(ino))?;
+    let name = node.snapshots.iter().next()?;
+    Some(name.as_bytes())
+}
+
+pub(crate) fn snapshot_count(tree: &Tree, ino: u64) -> Option<usize> {
+    let node = tree.node(Ino(ino))?;
+    Some(node.snapshots.len())
+}
+
+// Whether an inode has a snapshot of this name.
+pub(crate) fn has_snapshot(tree: &Tree, ino: u64, name: &[u8]) -> Option<bool> {
+    let name = Name::read(name)?;
+    let node = tree.node(Ino(ino))?;
+    Some(node.snapshots.contains(&name))
+}
