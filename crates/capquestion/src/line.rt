@@ -1,22 +1,22 @@
 //! The line that answers a question.
-ghost use Rattle.std.specs.Prelude.{◌≡◌, ◌++◌, IfOk, IfSome, OnOk};
+ghost use Rattle.std.specs.Prelude.{◌≡◌, ◌++◌, IfOk, IfSome, OnOk, map};
+ghost use Rattle.capspec.specs.Names.{slashed};
 ghost use Rattle.capquestion.specs.Line.{explain_text, path_text, failure_text, failures_text};
 
 use capgrant::{Access, Rule, Verdict};
-use capspec::TreePath;
 use std::alloc::{AllocError, Global};
 use std::fmt::Display;
 use std::io::Write;
 
-/// The line that says what the verdict is on the access to the inode with this path, and by which grant or
-/// rules: each grant has its number, from 1. It has no line feed. Only memory can be missing.
+/// The line that says what the verdict is on the access to the inode with these names from the root down, and by which
+/// grant or rules: each grant has its number, from 1. It has no line feed. Only memory can be missing.
 pub fn explain_line(
     alloc: Global,
     access: Access,
-    path: &TreePath,
+    path: &[&[u8]],
     verdict: &Verdict,
 ) -> Result<Vec<u8>, AllocError>
-    ensures { IfOk result (λ line. line.items ≡ explain_text access path.now verdict.now) }
+    ensures { IfOk result (λ line. line.items ≡ explain_text access (map (λ name. name.now) path.now) verdict.now) }
 {
     let mut line = Vec::new(alloc);
     match verdict {
@@ -42,14 +42,23 @@ fn print<D: Display + Drop>(line: &mut Vec<u8>, text: D) -> Result<(), AllocErro
     line.write_fmt(text).map_err(|_| AllocError)
 }
 
-fn print_path(line: &mut Vec<u8>, path: &TreePath) -> Result<(), AllocError>
-    ensures { OnOk result (line.new.items ≡ line.old.items ++ path_text path.now) }
+fn print_path(line: &mut Vec<u8>, path: &[&[u8]]) -> Result<(), AllocError>
+    ensures { OnOk result (line.new.items ≡ line.old.items ++ path_text (map (λ name. name.now) path.now)) }
 {
-    let path = path.as_bytes();
     if path.is_empty() {
-        line.push(b'/')?;
+        return Ok(line.push(b'/')?);
     }
-    line.extend_from_slice(path)?;
+    print_names(line, path)
+}
+
+// Appends names, with a slash before each.
+fn print_names(line: &mut Vec<u8>, names: &[&[u8]]) -> Result<(), AllocError>
+    ensures { OnOk result (line.new.items ≡ line.old.items ++ slashed (map (λ name. name.now) names.now)) }
+{
+    for name in names {
+        line.push(b'/')?;
+        line.extend_from_slice(name)?;
+    }
     Ok(())
 }
 

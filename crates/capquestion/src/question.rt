@@ -94,15 +94,16 @@ impl Question {
     pub fn answer(&self, alloc: Global) -> Result<Vec<u8>, AllocError>
         ensures { IfOk result (λ line. line.items ≡ answer_text self.now) }
     {
+        let names = self.path.names(alloc)?;
         let verdict = verdict(
             &self.grants,
             &self.fs,
             &self.caller,
-            &self.path,
+            names.as_slice(),
             &self.attr,
             self.access,
         );
-        explain_line(alloc, self.access, &self.path, &verdict)
+        explain_line(alloc, self.access, names.as_slice(), &verdict)
     }
 }
 

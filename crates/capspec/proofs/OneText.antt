@@ -73,8 +73,11 @@ rest-cons names k d inside =
     rw (drop-cons names k d) (ap (λ (m : ℕ). (47 ∷ (get_or names k d).now) ++ slashed (are_texts (drop m names))) next)
 
 -- nothing is to come
+pub none_left : (text : List ℕ) (names : List (Bor (List ℕ))) (k : ℕ) → length names ≤ k → text ≡ text ++ slashed (are_texts (drop k names))
+none_left text names k past = sym (append-nil text) ∙ ap (λ (ns : List (Bor (List ℕ))). text ++ slashed (are_texts ns)) (sym (drop_of_length-le names past))
+
 pub all_written : (text : List ℕ) (names : List (Bor (List ℕ))) (k : ℕ) → length names ≤ k → text ++ slashed (are_texts (drop k names)) ≡ slashed (are_texts names) → text ≡ slashed (are_texts names)
-all_written text names k past written = sym (append-nil text) ∙ ap (λ (ns : List (Bor (List ℕ))). text ++ slashed (are_texts ns)) (sym (drop_of_length-le names past)) ∙ written
+all_written text names k past written = none_left text names k past ∙ written
 
 -- Whether a text is its names with a slash before each, as the bytes tell one by one: behind a slash or not, what is to come goes well.
 abbrev pub goes_well : Bool → List ℕ → Bool

@@ -1,12 +1,13 @@
 //! The texts of paths.
 
-ghost use Rattle.std.specs.Prelude.{◌≡◌, [], ◌∷◌, ◌++◌, MatchOption, OnOk, IsTrue};
+ghost use Rattle.std.specs.Prelude.{◌≡◌, [], ◌∷◌, ◌++◌, IfOk, MatchOption, OnOk, IsTrue, map};
 ghost use Rattle.capspec.specs.Names.{names_of, slashed, has_double_slash, are_few_and_short};
 ghost use Rattle.capspec.specs.Written.{can_be_bare, has_no_double_quote, written_path, path_text};
 
 use crate::bytes::{ByteSet, split_while};
 use crate::fault::NoMemory;
 use crate::tree_path::TreePath;
+use std::alloc::{AllocError, Global};
 
 /// How many names the path of a grant may have.
 pub const MAX_NAMES: usize = 32;
@@ -97,6 +98,19 @@ pub(crate) fn write_names(text: &mut Vec<u8>, path: &[u8]) -> Result<(), NoMemor
         rest = after;
     }
     Ok(())
+}
+
+/// The names of a path's text, the first first.
+pub(crate) fn split_names(alloc: Global, path: &[u8]) -> Result<Vec<&[u8]>, AllocError>
+    ensures { IfOk result (λ names. map (λ name. name.now) names.items ≡ names_of path.now) }
+{
+    let mut names = Vec::new(alloc);
+    let mut rest = path;
+    while let Some((name, after)) = split_name(rest) {
+        names.push(name)?;
+        rest = after;
+    }
+    Ok(names)
 }
 
 // The first name of a path's text, and the text behind it.

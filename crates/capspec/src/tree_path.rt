@@ -3,7 +3,7 @@
 use crate::fault::NoMemory;
 use crate::measure::{count_slashes, has_fit_names};
 use crate::names::is_text_of;
-use crate::path::{is_slashed, write_names};
+use crate::path::{is_slashed, split_names, write_names};
 use std::alloc::{AllocError, Global};
 use std::marker::Model;
 
@@ -88,6 +88,13 @@ impl TreePath {
         ensures { result.now ≡ slashed self.now }
     {
         self.text.as_slice()
+    }
+
+    /// The names, from the root down.
+    pub fn names(&self, alloc: Global) -> Result<Vec<&[u8]>, AllocError>
+        ensures { IfOk result (λ names. map (λ name. name.now) names.items ≡ self.now) }
+    {
+        split_names(alloc, self.text.as_slice())
     }
 
     /// Whether names lead from the root to this path or below it. Needs no memory.
