@@ -6,7 +6,7 @@ use crate::fault::Fault;
 use crate::work::{Callers, GrantShape};
 use capbits::{Caller, Groups, Mode};
 use capgrant::{Access, Attr, Verdict, verdict};
-use capspec::{FsName, Grants, TreePath, read_grants};
+use capspec::{FsName, Grants, read_grants};
 use std::alloc::{AllocError, Global};
 
 const FS: &[u8] = b"cephfs";
@@ -22,7 +22,8 @@ const MODE: u16 = 0o644;
 /// Reads grants once, judges an access by them so many times, and returns the sum of what the verdicts score.
 pub fn judge(alloc: Global, shape: GrantShape, times: u32) -> Result<u64, Fault> {
     let grants = read_grants(alloc, grants_text(alloc, shape)?.as_bytes())?;
-    let path = TreePath::from_text(alloc, path_text(alloc, shape.depth)?.as_bytes())?;
+    let path = path_text(alloc, shape.depth)?;
+    let names = names_of(alloc, path.as_str())?;
     let caller = caller()?;
     let (Some(fs), Some(mode)) = (FsName::read(FS), Mode::new(MODE)) else {
         return Err(Fault::Refused);
@@ -34,7 +35,7 @@ pub fn judge(alloc: Global, shape: GrantShape, times: u32) -> Result<u64, Fault>
     };
     let mut sum: u64 = 0;
     for _ in 0..times {
-        let verdict = verdict(&grants, &fs, &caller, &path, &attr, Access::Write);
+        let verdict = verdict(&grants, &fs, &caller, names.as_slice(), &attr, Access::Write);
         sum = sum.wrapping_add(score(&verdict));
     }
     Ok(sum)
@@ -107,4 +108,15 @@ fn path_text(alloc: Global, depth: u32) -> Result<String, AllocError> {
         write!(text, "/p{place}")?;
     }
     Ok(text)
+}
+
+// The names of a path's text.
+fn names_of(alloc: Global, path: &str) -> Result<Vec<&[u8]>, AllocError> {
+    let mut names = Vec::new(alloc);
+    for name in path.split('/') {
+        if !name.is_empty() {
+            names.push(name.as_bytes())?;
+        }
+    }
+    Ok(names)
 }

@@ -1,7 +1,6 @@
 -- What a verdict says of the grants.
-use Rattle.std.proofs.Common.{◌≡◌, ℕ, Option, Some, None, List, [], ◌∷◌, map, refl, subst, sym, ◌∙◌, All}
+use Rattle.std.proofs.Common.{◌≡◌, ℕ, Option, Some, None, List, refl, subst, sym, ◌∙◌}
 use Rattle.std.specs.Option.{option_map}
-use Rattle.std.proofs.lemmas.List.Elements.{All-nil, All-cons, All-head, All-tail}
 use Rattle.capbits.specs.declared.caller.Caller.{Caller}
 use Rattle.capgrant.specs.declared.access.Access.{Access}
 use Rattle.inotree.specs.declared.node.Node.{Node}
@@ -13,11 +12,6 @@ use Rattle.capgrant.specs.Question.{Question}
 use Rattle.capgrant.specs.Verdict.{verdict_of, verdict_at, first_failures, IfDenied, allows}
 use Rattle.capgrant.specs.declared.rule.Rule.{Rule}
 use Rattle.std.specs.List.{position}
-
--- what holds of what each is turned into holds of each when it is turned
-pub all_before_map : {X Y : Type 0} (P : Y → Type 0) (f : X → Y) (xs : List X) → All P (map f xs) → All (λ x. P (f x)) xs
-all_before_map P f [] all = All-nil (λ x. P (f x))
-all_before_map P f (x ∷ xs) all = All-cons (λ x. P (f x)) x xs (All-head P (f x) (map f xs) all) (all_before_map P f xs (All-tail P (f x) (map f xs) all))
 
 at_place : (o : Option ℕ) (rules : List Rule) → IfDenied (verdict_at o rules) (λ r. r ≡ rules)
 at_place (Some place) rules = tt

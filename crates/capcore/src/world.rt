@@ -27,7 +27,7 @@ use crate::start::first_locks;
 use arrayvec::ArrayVec;
 use capbits::{Caller, ClientId, Ino, Mode};
 use capgrant::{Access, Attr, Rules, Verdict, verdict};
-use capspec::{FsName, Grants, TreePath};
+use capspec::{FsName, Grants};
 use captable::CapTable;
 use inotree::{Kind, Place, Tree};
 use lockmachine::{Locks, NoMemory};
@@ -45,7 +45,6 @@ pub(crate) struct World {
     locks: Locks,
     // The requests that ended and that no client was told of.
     messages: Messages,
-    alloc: Global,
 }
 
 impl Model for World {
@@ -87,7 +86,6 @@ impl World {
             table,
             locks,
             messages: Messages::new(alloc),
-            alloc,
         })
     }
 
@@ -119,7 +117,7 @@ impl World {
                 grants,
             } => self.open_session(*client, caller, grants),
             Event::Lookup { client, dir, name } => {
-                Ok(self.lookup(*client, *dir, name.as_slice())?)
+                Ok(self.lookup(*client, *dir, name.as_slice()))
             }
             Event::Create {
                 client,
@@ -165,20 +163,20 @@ impl World {
         }
     }
 
-    fn lookup(&self, client: ClientId, dir: Ino, name: &[u8]) -> Result<Reply, NoMemory>
-        ensures { IfOk result (λ reply. reply ≡ answer_to self.now (event.Lookup client dir name.now)) }
+    fn lookup(&self, client: ClientId, dir: Ino, name: &[u8]) -> Reply
+        ensures { result ≡ answer_to self.now (event.Lookup client dir name.now) }
     {
         if let Some(refusal) = self.inode_stop(client, dir) {
-            return Ok(Reply::Refused(refusal));
+            return Reply::Refused(refusal);
         }
         if !self.is_directory(dir) {
-            return Ok(Reply::Refused(Refusal::NotDir));
+            return Reply::Refused(Refusal::NotDir);
         }
         let Some(ino) = self.tree.child(dir, name) else {
-            return Ok(Reply::Refused(Refusal::NoEnt));
+            return Reply::Refused(Refusal::NoEnt);
         };
-        let denied = self.denial(client, ino, Access::Read)?;
-        Ok(denied.unwrap_or(Reply::Ino(ino)))
+        let denied = self.denial(client, ino, Access::Read);
+        denied.unwrap_or(Reply::Ino(ino))
     }
 
     // Makes a file or a directory, with its locks.
@@ -194,7 +192,7 @@ impl World {
         ensures err { OnErr result (self.new ≡ self.old) }
         ensures memory { IfErr result (λ stop. stop ≡ Stop.NoMemory) }
     {
-        if let Some(stopped) = self.stop(client, dir, Access::Write)? {
+        if let Some(stopped) = self.stop(client, dir, Access::Write) {
             return Ok(stopped);
         }
         if let Some(fault) = self.tree.create_fault(dir, name) {
@@ -229,7 +227,7 @@ impl World {
         ensures err { OnErr result (self.new ≡ self.old) }
         ensures memory { IfErr result (λ stop. stop ≡ Stop.NoMemory) }
     {
-        if let Some(stopped) = self.stop(client, ino, Access::Snapshot)? {
+        if let Some(stopped) = self.stop(client, ino, Access::Snapshot) {
             return Ok(stopped);
         }
         match self.tree.snap_add(ino, name) {
@@ -243,7 +241,7 @@ impl World {
         ensures err { OnErr result (self.new ≡ self.old) }
         ensures memory { IfErr result (λ stop. stop ≡ Stop.NoMemory) }
     {
-        if let Some(stopped) = self.stop(client, ino, Access::Snapshot)? {
+        if let Some(stopped) = self.stop(client, ino, Access::Snapshot) {
             return Ok(stopped);
         }
         match self.tree.snap_remove(ino, name) {
@@ -269,11 +267,11 @@ impl World {
     // ---- what stops a request
 
     // What stops a request that needs one access to an inode that it names, before any other test.
-    fn stop(&self, client: ClientId, ino: Ino, access: Access) -> Result<Option<Reply>, NoMemory>
-        ensures { IfOk result (λ stopped. stopped ≡ stop self.now.scene (session_tests self.now.scene client ++ inode_tests self.now.scene ino.0) (need client ino.0 access ∷ []) []) }
+    fn stop(&self, client: ClientId, ino: Ino, access: Access) -> Option<Reply>
+        ensures { result ≡ stop self.now.scene (session_tests self.now.scene client ++ inode_tests self.now.scene ino.0) (need client ino.0 access ∷ []) [] }
     {
         match self.inode_stop(client, ino) {
-            Some(refusal) => Ok(Some(Reply::Refused(refusal))),
+            Some(refusal) => Some(Reply::Refused(refusal)),
             None => self.denial(client, ino, access),
         }
     }
@@ -294,31 +292,29 @@ impl World {
     }
 
     // The denial of an access that no grant of the client allows.
-    fn denial(&self, client: ClientId, ino: Ino, access: Access) -> Result<Option<Reply>, NoMemory>
-        ensures { IfOk result (λ denied. denied ≡ stop self.now.scene [] (need client ino.0 access ∷ []) []) }
+    fn denial(&self, client: ClientId, ino: Ino, access: Access) -> Option<Reply>
+        ensures { result ≡ stop self.now.scene [] (need client ino.0 access ∷ []) [] }
     {
-        match self.verdict(client, ino, access)? {
-            Verdict::Allowed { .. } => Ok(None),
-            Verdict::Denied { rules } => Ok(Some(Reply::Denied { access, rules })),
+        match self.verdict(client, ino, access) {
+            Verdict::Allowed { .. } => None,
+            Verdict::Denied { rules } => Some(Reply::Denied { access, rules }),
         }
     }
 
     // What the client's grants say of an access to an inode. Without a session or a path no grant allows it.
-    // The path is written out for them, which takes memory.
-    fn verdict(&self, client: ClientId, ino: Ino, access: Access) -> Result<Verdict, NoMemory>
-        ensures allowed { IfOk result (λ verdict. is_allowed verdict ≡ is_met self.now.scene (need client ino.0 access)) }
-        ensures rules { IfOk result (λ verdict. IfDenied verdict (λ rules. rules ≡ failures self.now.scene.fs self.now.scene.tree self.now.scene.sessions (holder client ino) access)) }
+    fn verdict(&self, client: ClientId, ino: Ino, access: Access) -> Verdict
+        ensures allowed { is_allowed result ≡ is_met self.now.scene (need client ino.0 access) }
+        ensures rules { IfDenied result (λ rules. rules ≡ failures self.now.scene.fs self.now.scene.tree self.now.scene.sessions (holder client ino) access) }
     {
         let sessions = &self.sessions;
         let (Some(grants), Some(caller)) = (sessions.grants_of(client), sessions.caller_of(client))
         else {
-            return Ok(no_grant());
+            return no_grant();
         };
-        let (Some(names), Some(node)) = (self.tree.path_of(ino), self.tree.node(ino)) else {
-            return Ok(no_grant());
+        let (Some(path), Some(node)) = (self.tree.path_of(ino), self.tree.node(ino)) else {
+            return no_grant();
         };
-        let path = TreePath::of(self.alloc, names.as_slice())?;
-        Ok(verdict(grants, &self.fs, caller, &path, &node.attr, access))
+        verdict(grants, &self.fs, caller, path.as_slice(), &node.attr, access)
     }
 
     // Whether the inode is there, and a directory.

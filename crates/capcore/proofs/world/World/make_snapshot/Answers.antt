@@ -14,7 +14,7 @@ use Rattle.capcore.proofs.world.World.make_snapshot.Goals as goal
 use Rattle.capcore.proofs.world.World.make_snapshot.Goals.{in-Ok, in-Err}
 
 pub returns-in-Some-clause-direct : goal.returns-in-Some-clause-direct
-returns-in-Some-clause-direct c = making-stopped c.args.self.now c.args.client c.args.ino c.args.name.now c.in-Some.stopped (sym c.in_ok-stopped.ensures ∙ c.in-Some.is)
+returns-in-Some-clause-direct c = making-stopped c.args.self.now c.args.client c.args.ino c.args.name.now c.in-Some.stopped (sym c.stop.ensures ∙ c.in-Some.is)
 
 pub invariant_of-self : goal.invariant_of-self
 invariant_of-self c = elim c.match-snap_add.branch [
@@ -31,7 +31,7 @@ invariant_of-self c = elim c.match-snap_add.branch [
 pub returns-clause-direct : goal.returns-clause-direct
 returns-clause-direct c =
     let view = c.self.view_is in
-    let free = sym c.in_ok-stopped.ensures ∙ c.in_default.is in
+    let free = sym c.stop.ensures ∙ c.in_default.is in
     let e : Event = event.MakeSnapshot c.args.client c.args.ino c.args.name.now in
     elim c.match-snap_add.branch [
       | in-Ok w ↦
