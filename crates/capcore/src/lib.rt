@@ -26,6 +26,3 @@ pub use outcome::{Ended, Message, Outcome, PartValues};
 pub use refusal::Refusal;
 pub use reply::Reply;
 pub use step::Core;
-
-#[cfg(test)]
-mod tests;

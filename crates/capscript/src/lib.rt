@@ -18,6 +18,3 @@ pub use line::{MAX_LINE, read_line};
 pub use reply::reply_lines;
 pub use running::run;
 pub use watched::Watched;
-
-#[cfg(test)]
-mod tests;

@@ -22,6 +22,3 @@ pub use laws::{
 };
 pub use table::{CapTable, MAX_ENTRIES};
 pub use walk::Walk;
-
-#[cfg(test)]
-mod tests;

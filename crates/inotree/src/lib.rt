@@ -25,6 +25,3 @@ pub use names::{MAX_NAMES, Names};
 pub use node::{Kind, Node, Place, Setting, Site};
 pub use snapshots::{MAX_SNAPSHOTS, Snapshots};
 pub use tree::{MAX_INODES, ROOT, Tree};
-
-#[cfg(test)]
-mod tests;

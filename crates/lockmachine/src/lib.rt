@@ -22,6 +22,3 @@ pub use locks::Locks;
 pub use moves::Move;
 pub use request::{Ask, Change, Request};
 pub use states::InodeLocks;
-
-#[cfg(test)]
-mod tests;

@@ -12,6 +12,3 @@ mod table;
 pub use fault::{EvictFault, NoMemory, NoSession, NotBlocked, OpenFault, RenewFault, StaleFault};
 pub use session::{Session, Status};
 pub use table::{MAX_BLOCKED, MAX_SESSIONS, Sessions};
-
-#[cfg(test)]
-mod tests;

@@ -3,7 +3,7 @@
 use crate::asserting::same;
 use crate::telling::answer_text;
 use arrayvec::ArrayVec;
-use capbits::Ino;
+use capbits::{Cap, CapSet, Ino};
 use capcore::{Refusal, Reply, Stop};
 use capgrant::{Access, Rule, Rules};
 use capscript::reply_lines;
@@ -55,11 +55,20 @@ fn denied(access: Access, rules: &[Rule]) -> Result<Reply, Fail> {
     })
 }
 
-fn replies() -> Result<[(Reply, &'static str); 9], Fail> {
+fn opened(seq: u64, caps: &[Cap]) -> Reply {
+    Reply::Opened {
+        seq,
+        caps: CapSet::of(caps),
+    }
+}
+
+fn replies() -> Result<[(Reply, &'static str); 11], Fail> {
     Ok([
         (Reply::Done, "done\n"),
         (Reply::Ino(Ino(2)), "ino 2\n"),
         (Reply::Ino(Ino(u64::MAX)), "ino 18446744073709551615\n"),
+        (opened(0, &[]), "caps 0 -\n"),
+        (opened(12, &[Cap::P, Cap::Fr]), "caps 12 pFr\n"),
         (
             denied(Access::Write, &[Rule::Path, Rule::NoWrite, Rule::ModeBits])?,
             "denied write 1:4,2:5,3:11\n",

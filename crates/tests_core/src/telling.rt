@@ -19,6 +19,10 @@ pub fn reply_text(alloc: Global, reply: &Reply) -> Result<String, AllocError> {
     match reply {
         Reply::Done => String::from_str(alloc, "done"),
         Reply::Ino(ino) => format!(in alloc; "ino {ino}"),
+        Reply::Opened { seq, caps } => {
+            let caps = caps.bits();
+            format!(in alloc; "opened {seq} {caps}")
+        }
         Reply::Denied { access, rules } => {
             let rules = rules_text(alloc, rules)?;
             format!(in alloc; "denied {access:?}{rules}")

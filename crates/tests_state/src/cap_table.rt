@@ -24,7 +24,8 @@ fn open(table: &mut CapTable, client: u32, ino: u64) -> Result<(), OpenFault> {
     let (client, ino) = (ClientId(client), Ino(ino));
     match table.find(client, ino) {
         Some(_entry) => Ok(()),
-        None => table.open_entry(client, ino),
+        None if table.made() < u64::MAX => table.open_entry(client, ino),
+        None => Err(OpenFault::Limit),
     }
 }
 

@@ -123,6 +123,17 @@ fn bytes_are_kept_as_they_are(rt: HostRuntime) -> Result<(), Fail> {
 }
 
 #[test]
+fn bytes_are_made_of_a_vector_and_give_one_back(rt: HostRuntime) -> Result<(), Fail> {
+    let cases: [&[u8]; 3] = [b"", b"report.txt", &[0, 255, 0]];
+    for bytes in cases {
+        let made = Bytes::from(bytes.to_vec(rt.alloc())?);
+        same_bytes(&rt, made.as_slice(), bytes, bytes);
+        same_bytes(&rt, made.into_inner().as_slice(), bytes, bytes);
+    }
+    Ok(())
+}
+
+#[test]
 fn want_of_memory_has_a_name(rt: HostRuntime) -> Result<(), Fail> {
     let text = format!(in rt.alloc(); "{NoMemory}")?;
     same_text(&rt, text.as_str(), "NoMemory", "want of memory");
