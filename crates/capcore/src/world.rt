@@ -314,7 +314,14 @@ impl World {
         let (Some(path), Some(node)) = (self.tree.path_of(ino), self.tree.node(ino)) else {
             return no_grant();
         };
-        verdict(grants, &self.fs, caller, path.as_slice(), &node.attr, access)
+        verdict(
+            grants,
+            &self.fs,
+            caller,
+            path.as_slice(),
+            &node.attr,
+            access,
+        )
     }
 
     // Whether the inode is there, and a directory.

@@ -154,11 +154,7 @@ fn has_fields(rt: &impl Abort, grants: &Grants, place: usize, fields: Fields) {
 // Sees that names lead to the path of a grant or below it, and that others do not.
 fn has_path(rt: &impl Abort, grants: &Grants, place: usize, path: &[&[u8]], other: &[&[u8]]) {
     let grant = grants.get(place).expect(rt, "a grant");
-    holds(
-        rt,
-        grant.path.leads_to(path),
-        ("the path of grant", place),
-    );
+    holds(rt, grant.path.leads_to(path), ("the path of grant", place));
     holds(
         rt,
         !grant.path.leads_to(other),
