@@ -9,7 +9,7 @@ use Rattle.std.proofs.lemmas.List.Elements.{All-contains}
 use Rattle.std.proofs.lemmas.Map.Keys.{IsDistinct-head, IsDistinct-tail}
 use Rattle.capbits.specs.declared.cap.Cap.{Cap}
 use Rattle.capbits.specs.Caps.{Caps, has, all_caps}
-use Rattle.capbits.specs.Sets.{union, minus, same_caps, IsSubset, has-union, has-minus}
+use Rattle.capbits.specs.Sets.{union, minus, same_caps, IsSubset, has-union, has-minus, is_empty}
 use Rattle.inotree.specs.declared.node.Place.{Place}
 use Rattle.inotree.specs.declared.node.Place.TheVariants.{NoIno, Gone, Here}
 use Rattle.inotree.specs.Tree.{place}
@@ -17,7 +17,7 @@ use Rattle.captable.specs.declared.entry.Entry.{Entry}
 use Rattle.captable.specs.declared.entry.EntryRow.{EntryRow}
 use Rattle.captable.specs.declared.entry.Holder.{Holder}
 use Rattle.captable.specs.Table.{IsTable, same, is_row_of, holders_of_rows}
-use Rattle.captable.specs.Calls.{is_empty, renumbered}
+use Rattle.captable.specs.Calls.{renumbered}
 use Rattle.lockmachine.specs.Scene.{Scene}
 use Rattle.lockmachine.proofs.Exact.{settled}
 use Rattle.capcore.specs.declared.event.Event.{Event}
