@@ -35,7 +35,14 @@ pub fn judge(alloc: Global, shape: GrantShape, times: u32) -> Result<u64, Fault>
     };
     let mut sum: u64 = 0;
     for _ in 0..times {
-        let verdict = verdict(&grants, &fs, &caller, names.as_slice(), &attr, Access::Write);
+        let verdict = verdict(
+            &grants,
+            &fs,
+            &caller,
+            names.as_slice(),
+            &attr,
+            Access::Write,
+        );
         sum = sum.wrapping_add(score(&verdict));
     }
     Ok(sum)

@@ -5,7 +5,6 @@ use crate::fault::Fault;
 use arrayvec::ArrayVec;
 use capgrant::{Access, Rules, Verdict};
 use capquestion::{explain_line, read_access};
-use capspec::TreePath;
 use std::io;
 use std::io::{ErrorKind, Write};
 use std::process::Abort;
@@ -549,11 +548,10 @@ fn a_fault_that_can_not_be_written_keeps_its_status(rt: HostRuntime) -> Result<(
 
 #[test]
 fn a_client_without_grants_is_denied(rt: HostRuntime) -> Result<(), Fail> {
-    let root = TreePath::of(rt.alloc(), &[])?;
     let denied = Verdict::Denied {
         rules: Rules::from(ArrayVec::new()),
     };
-    let line = explain_line(rt.alloc(), Access::Read, &root, &denied)?;
+    let line = explain_line(rt.alloc(), Access::Read, &[], &denied)?;
     assert_eq!(rt; line.as_slice(), b"denied read / no grants".as_slice());
     Ok(())
 }

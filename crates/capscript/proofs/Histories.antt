@@ -38,7 +38,7 @@ first_state = record {
     fs = fs_name;
     tree = first_tree root_attr;
     sessions = record { sessions = map.empty; blocked = set.empty };
-    table = record { rows = []; recall = [] };
+    table = record { rows = []; recall = []; made = 0 };
     locks = record { states = map.insert map.empty 1 in_sync; queue = []; last = 0 };
   };
   messages = [];

@@ -53,7 +53,8 @@ pub(crate) fn read_event(alloc: Global, text: &[u8]) -> Result<Event, Refused>
 
 // The event that a command says with its arguments, of which the fifth is all that is left of the line.
 fn read_arguments(alloc: Global, command: Command, arguments: &[&[u8]]) -> Result<Event, Refused>
-    ensures { let said = said_with command (map (λ word. word.now) arguments.now) in MatchResult result (Tells said) (IsRefused said) }
+    ensures { let said = said_with command (map (λ word. word.now) arguments.now) in
+        MatchResult result (Tells said) (IsRefused said) }
 {
     match command {
         Command::Session => read_session(alloc, arguments),
@@ -106,7 +107,8 @@ fn read_arguments(alloc: Global, command: Command, arguments: &[&[u8]]) -> Resul
 
 #[tactic(auto, using(crate::proofs::SaidLines::five))]
 fn read_session(alloc: Global, arguments: &[&[u8]]) -> Result<Event, Refused>
-    ensures { let said = session_by (map (λ word. word.now) arguments.now) in MatchResult result (Tells said) (IsRefused said) }
+    ensures { let said = session_by (map (λ word. word.now) arguments.now) in
+        MatchResult result (Tells said) (IsRefused said) }
 {
     let [client, uid, gid, groups, grants] = arguments else {
         return Err(Refused::Wrong(LineFault::Count));
@@ -127,7 +129,11 @@ fn read_session(alloc: Global, arguments: &[&[u8]]) -> Result<Event, Refused>
 
 // A client, an inode and a name, whichever event they are said for.
 fn read_named(alloc: Global, arguments: &[&[u8]]) -> Result<Named, Refused>
-    ensures { (event : AClient → AnIno → List ℕ → AnEvent) → let said = named_by event (map (λ word. word.now) arguments.now) in MatchResult result (λ named. Tells said (event named.client named.ino named.name)) (IsRefused said) }
+    ensures { (event : AClient → AnIno → List ℕ → AnEvent)
+        → let said = named_by event (map (λ word. word.now) arguments.now) in
+        MatchResult result
+        (λ named. Tells said (event named.client named.ino named.name))
+        (IsRefused said) }
 {
     let [client, ino, name] = arguments else {
         return Err(Refused::Wrong(LineFault::Count));
@@ -140,7 +146,11 @@ fn read_named(alloc: Global, arguments: &[&[u8]]) -> Result<Named, Refused>
 
 // A client, a directory, a name in it and a mode, whichever event they are said for.
 fn read_new_inode(alloc: Global, arguments: &[&[u8]]) -> Result<NewInode, Refused>
-    ensures { (event : AClient → AnIno → List ℕ → ℕ → AnEvent) → let said = new_inode_by event (map (λ word. word.now) arguments.now) in MatchResult result (λ new. Tells said (event new.client new.dir new.name new.mode)) (IsRefused said) }
+    ensures { (event : AClient → AnIno → List ℕ → ℕ → AnEvent)
+        → let said = new_inode_by event (map (λ word. word.now) arguments.now) in
+        MatchResult result
+        (λ new. Tells said (event new.client new.dir new.name new.mode))
+        (IsRefused said) }
 {
     let [client, dir, name, mode] = arguments else {
         return Err(Refused::Wrong(LineFault::Count));
@@ -159,7 +169,11 @@ fn read_new_inode(alloc: Global, arguments: &[&[u8]]) -> Result<NewInode, Refuse
 
 // The grants that a text says, or none where it is `none`: those with which a session is opened.
 fn read_all_grants(alloc: Global, text: &[u8]) -> Result<Grants, Refused>
-    ensures { (client : AClient) (caller : ACaller) → let said = opened client caller text.now in MatchResult result (λ grants. Tells said (events.Session client caller grants)) (IsRefused said) }
+    ensures { (client : AClient) (caller : ACaller)
+        → let said = opened client caller text.now in
+        MatchResult result
+        (λ grants. Tells said (events.Session client caller grants))
+        (IsRefused said) }
 {
     if text == b"none".as_slice() {
         return Ok(Grants::none(alloc)?);

@@ -21,16 +21,22 @@ pub(crate) fn read_script<R: Read>(
     reader: &mut Watched<R>,
 ) -> Result<Vec<u8>, ScriptFault>
     requires { IsFalse (has_failed reader.old) }
-    ensures ok { IfOk result (λ script. Consumes (R.remaining (inner_of reader.old)) (R.remaining (inner_of reader.new)) script.items) }
+    ensures ok { IfOk result (λ script.
+        Consumes (R.remaining (inner_of reader.old)) (R.remaining (inner_of reader.new)) script.items) }
     ensures end { OnOk result (IsAtEnd (R.remaining (inner_of reader.new))) }
     ensures short { IfOk result (λ script. length script.items ≤ MAX_SCRIPT) }
-    ensures taken { (taken : List ℕ) × Consumes (R.remaining (inner_of reader.old)) (R.remaining (inner_of reader.new)) taken × (length taken ≤ MAX_SCRIPT + 1) }
+    ensures taken { (taken : List ℕ)
+        × Consumes (R.remaining (inner_of reader.old)) (R.remaining (inner_of reader.new)) taken
+        × (length taken ≤ MAX_SCRIPT + 1) }
     // A read that failed is told.
     ensures told { IsTrue (has_failed reader.new) → result ≡ Err stops.ReadFault }
     // A script that is too long is never read; memory may run out on the way to its end.
-    ensures long { IfSome (R.remaining (inner_of reader.old)) (λ script. MAX_SCRIPT < length script → (result ≡ Err stops.ReadFault) ⊎ (result ≡ Err stops.NoMemory)) }
+    ensures long { IfSome (R.remaining (inner_of reader.old)) (λ script. MAX_SCRIPT < length script
+        → (result ≡ Err stops.ReadFault) ⊎ (result ≡ Err stops.NoMemory)) }
     // Where it is not too long, a read failed.
-    ensures fault { result ≡ Err stops.ReadFault → IsTrue (has_failed reader.new) ⊎ IfSome (R.remaining (inner_of reader.old)) (λ script. MAX_SCRIPT < length script) }
+    ensures fault { result ≡ Err stops.ReadFault
+        → IsTrue (has_failed reader.new)
+        ⊎ IfSome (R.remaining (inner_of reader.old)) (λ script. MAX_SCRIPT < length script) }
     ensures err { OnErr result ((result ≡ Err stops.ReadFault) ⊎ (result ≡ Err stops.NoMemory)) }
 {
     let mut script = Vec::new(alloc);
@@ -54,8 +60,11 @@ pub(crate) fn read_script<R: Read>(
 // Writes all of a text. Where the writer fails, it took a front of the text.
 pub(crate) fn write_text<W: Write>(writer: &mut Watched<W>, text: &[u8]) -> Result<(), ScriptFault>
     requires { IsFalse (has_failed writer.old) }
-    ensures ok { OnOk result (Appends (W.contents (inner_of writer.old)) (W.contents (inner_of writer.new)) text.now) }
-    ensures err { OnErr result ((taken left : List ℕ) × (text.now ≡ taken ++ left) × Appends (W.contents (inner_of writer.old)) (W.contents (inner_of writer.new)) taken) }
+    ensures ok { OnOk result (
+        Appends (W.contents (inner_of writer.old)) (W.contents (inner_of writer.new)) text.now) }
+    ensures err { OnErr result ((taken left : List ℕ)
+        × (text.now ≡ taken ++ left)
+        × Appends (W.contents (inner_of writer.old)) (W.contents (inner_of writer.new)) taken) }
     ensures kind { OnErr result (result ≡ Err stops.WriteFault) }
     // A write that failed is told, and only that.
     ensures told { (result ≡ Err stops.WriteFault) ↔ IsTrue (has_failed writer.new) }

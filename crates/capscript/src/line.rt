@@ -31,11 +31,13 @@ pub fn read_line(
     ensures event { IfOk result (λ read. IfSome read (λ said. Reads text.now said.1)) }
     ensures client { IfOk result (λ read. IfSome read (λ said. said.0 ≡ Some (client_of said.1))) }
     // What the line says is read, unless memory runs out.
-    ensures only { (event : AnEvent) → Reads text.now event → (result ≡ Err stops.NoMemory) ⊎ (result ≡ Ok (Some (Some (client_of event), event))) }
+    ensures only { (event : AnEvent) → Reads text.now event
+        → (result ≡ Err stops.NoMemory) ⊎ (result ≡ Ok (Some (Some (client_of event), event))) }
     // Which fault it is.
     ensures err { IfErr result (IsStop line text.now) }
     // A fault of the line is told, whatever memory there is.
-    ensures told { (kind : AKind) → HasFault text.now kind → result ≡ Err (stops.LineFault line kind) }
+    ensures told { (kind : AKind) → HasFault text.now kind
+        → result ≡ Err (stops.LineFault line kind) }
 {
     if is_skipped(text) {
         return Ok(None);

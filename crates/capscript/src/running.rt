@@ -38,17 +38,25 @@ pub fn run<R: Read, W: Write>(
     requires writer_clear { IsFalse (has_failed writer.old) }
     // What was written, where it is known what there was to read. It ends at the first line that has a fault; memory is missed before the
     // first line, or at one that says an event.
-    ensures ran { IfSome (R.remaining (inner_of reader.old)) (λ script. (text : List ℕ) × Ran script result text × Appends (W.contents (inner_of writer.old)) (W.contents (inner_of writer.new)) text) }
+    ensures ran { IfSome (R.remaining (inner_of reader.old)) (λ script. (text : List ℕ)
+        × Ran script result text
+        × Appends (W.contents (inner_of writer.old)) (W.contents (inner_of writer.new)) text) }
     // A read that failed is told, and then nothing was written.
     ensures read_told { IsTrue (has_failed reader.new) → result ≡ Err stops.ReadFault }
     // A script that is too long is not run; memory may run out on the way to its end.
-    ensures long { IfSome (R.remaining (inner_of reader.old)) (λ script. MAX_SCRIPT < length script → (result ≡ Err stops.ReadFault) ⊎ (result ≡ Err stops.NoMemory)) }
+    ensures long { IfSome (R.remaining (inner_of reader.old)) (λ script. MAX_SCRIPT < length script
+        → (result ≡ Err stops.ReadFault) ⊎ (result ≡ Err stops.NoMemory)) }
     // Only a read that failed and a script that is too long are told of.
-    ensures read { result ≡ Err stops.ReadFault → (IsTrue (has_failed reader.new) ⊎ IfSome (R.remaining (inner_of reader.old)) (λ script. MAX_SCRIPT < length script)) × Appends (W.contents (inner_of writer.old)) (W.contents (inner_of writer.new)) [] }
+    ensures read { result ≡ Err stops.ReadFault
+        → (IsTrue (has_failed reader.new)
+        ⊎ IfSome (R.remaining (inner_of reader.old)) (λ script. MAX_SCRIPT < length script))
+        × Appends (W.contents (inner_of writer.old)) (W.contents (inner_of writer.new)) [] }
     // A write that failed is told, and only that.
     ensures written { (result ≡ Err stops.WriteFault) ↔ IsTrue (has_failed writer.new) }
     // At most one byte too many is taken from the reader.
-    ensures taken { (taken : List ℕ) × Consumes (R.remaining (inner_of reader.old)) (R.remaining (inner_of reader.new)) taken × (length taken ≤ MAX_SCRIPT + 1) }
+    ensures taken { (taken : List ℕ)
+        × Consumes (R.remaining (inner_of reader.old)) (R.remaining (inner_of reader.new)) taken
+        × (length taken ≤ MAX_SCRIPT + 1) }
 {
     let script = read_script(alloc, reader)?;
     let mut core = open_core(alloc)?;
@@ -91,7 +99,9 @@ fn answer_lines<W: Write>(
     requires room { core.old.max_rows ≡ u32.MAX }
     requires short { length script.now ≤ MAX_SCRIPT }
     requires clear { IsFalse (has_failed writer.old) }
-    ensures ran { (text : List ℕ) × Answered (lines script.now) result text × Appends (W.contents (inner_of writer.old)) (W.contents (inner_of writer.new)) text }
+    ensures ran { (text : List ℕ)
+        × Answered (lines script.now) result text
+        × Appends (W.contents (inner_of writer.old)) (W.contents (inner_of writer.new)) text }
     ensures read { result ≢ Err stops.ReadFault }
     ensures written { (result ≡ Err stops.WriteFault) ↔ IsTrue (has_failed writer.new) }
 {
@@ -107,7 +117,9 @@ fn answer_lines<W: Write>(
 
 // The line before the first line feed and what stands behind it, if there is one.
 fn split_line(script: &[u8]) -> Option<(&[u8], &[u8])>
-    ensures lines { MatchOption result (lines script.now ≡ script.now ∷ []) (λ cut. lines script.now ≡ cut.0.now ∷ lines cut.1.now) }
+    ensures lines { MatchOption result
+        (lines script.now ≡ script.now ∷ [])
+        (λ cut. lines script.now ≡ cut.0.now ∷ lines cut.1.now) }
     ensures shorter { IfSome result (λ cut. length cut.1.now < length script.now) }
 {
     let end = script.iter().position(|byte| *byte == b'\n')?;
@@ -124,8 +136,12 @@ fn answer_line<W: Write>(
 ) -> Result<(), ScriptFault>
     requires room { length core.old.rows < core.old.max_rows }
     requires clear { IsFalse (has_failed writer.old) }
-    ensures ok { OnOk result ((written : List ℕ) × AnswersLine core.old text.now core.new written × Appends (W.contents (inner_of writer.old)) (W.contents (inner_of writer.new)) written) }
-    ensures err { IfErr result (λ fault. (written : List ℕ) × StopsIn core.old number text.now fault core.new written × Appends (W.contents (inner_of writer.old)) (W.contents (inner_of writer.new)) written) }
+    ensures ok { OnOk result ((written : List ℕ)
+        × AnswersLine core.old text.now core.new written
+        × Appends (W.contents (inner_of writer.old)) (W.contents (inner_of writer.new)) written) }
+    ensures err { IfErr result (λ fault. (written : List ℕ)
+        × StopsIn core.old number text.now fault core.new written
+        × Appends (W.contents (inner_of writer.old)) (W.contents (inner_of writer.new)) written) }
     ensures written { (result ≡ Err stops.WriteFault) ↔ IsTrue (has_failed writer.new) }
 {
     match read_line(alloc, number, text)? {
@@ -143,11 +159,16 @@ fn answer_event<W: Write>(
 ) -> Result<(), ScriptFault>
     requires room { length core.old.rows < core.old.max_rows }
     requires clear { IsFalse (has_failed writer.old) }
-    ensures ok { OnOk result ((text : List ℕ) × Answers core.old event core.new text × Appends (W.contents (inner_of writer.old)) (W.contents (inner_of writer.new)) text) }
+    ensures ok { OnOk result ((text : List ℕ)
+        × Answers core.old event core.new text
+        × Appends (W.contents (inner_of writer.old)) (W.contents (inner_of writer.new)) text) }
     // Without memory nothing is written.
-    ensures memory { result ≡ Err stops.NoMemory → Appends (W.contents (inner_of writer.old)) (W.contents (inner_of writer.new)) [] }
+    ensures memory { result ≡ Err stops.NoMemory
+        → Appends (W.contents (inner_of writer.old)) (W.contents (inner_of writer.new)) [] }
     // A writer that fails took the beginning of the answer.
-    ensures part { result ≡ Err stops.WriteFault → (text left : List ℕ) × Answers core.old event core.new (text ++ left) × Appends (W.contents (inner_of writer.old)) (W.contents (inner_of writer.new)) text }
+    ensures part { result ≡ Err stops.WriteFault → (text left : List ℕ)
+        × Answers core.old event core.new (text ++ left)
+        × Appends (W.contents (inner_of writer.old)) (W.contents (inner_of writer.new)) text }
     ensures written { (result ≡ Err stops.WriteFault) ↔ IsTrue (has_failed writer.new) }
     ensures err { OnErr result ((result ≡ Err stops.WriteFault) ⊎ (result ≡ Err stops.NoMemory)) }
 {

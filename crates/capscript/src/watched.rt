@@ -60,7 +60,8 @@ impl<W: Write> Write for Watched<W> {
     fn write(&mut self, buf: &[u8]) -> io::Result<usize>
         ensures bound { WritesAtMost result buf.now }
         ensures bytes { WriteAppends (W.contents (inner_of self.old)) (W.contents (inner_of self.new)) result buf.now }
-        ensures flag { IsTrue (has_failed self.new) ↔ (IsTrue (has_failed self.old) ⊎ IsErr result ⊎ ((result ≡ Ok 0) × (0 < length buf.now))) }
+        ensures flag { IsTrue (has_failed self.new)
+            ↔ (IsTrue (has_failed self.old) ⊎ IsErr result ⊎ ((result ≡ Ok 0) × (0 < length buf.now))) }
     {
         let result = self.inner.write(buf);
         let took_none = matches!(result, Ok(0)) && !buf.is_empty();

@@ -32,7 +32,7 @@ fn is_sent(rt: &impl Abort, state: State, head: Head, to: State) {
     for part in [Part::A, Part::F] {
         for loner in [None, Some((TWO, writes))] {
             let reached = target(part, state, head, loner, writes);
-            same(rt, reached, to, (part, state, head, loner));
+            same(rt, reached, to, (part, state, head));
         }
     }
 }
@@ -56,9 +56,9 @@ fn stays(rt: &impl Abort, part: Part, caps: &[Cap]) {
     let wanted = CapSet::of(caps);
     for state in RESTING {
         let alone = target(part, state, Head::Empty, Some((ONE, wanted)), wanted);
-        same(rt, alone, state, ("alone", part, wanted));
+        same(rt, alone, state, (part, wanted, ONE));
         let several = target(part, state, Head::Empty, None, wanted);
-        same(rt, several, state, ("several", part, wanted));
+        same(rt, several, state, (part, wanted));
     }
 }
 

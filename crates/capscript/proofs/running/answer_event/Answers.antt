@@ -15,8 +15,7 @@ where_err : {T E : Type 0} {P : Type 0} (r : Result T E) (e : E) → r ≡ Err e
 where_err (Ok x) e is h = absurd (cc)
 where_err (Err x) e is h = h
 
-pub returns-in-Ok-reply_lines-clause-written : goal.returns-in-Ok-reply_lines-clause-written
-returns-in-Ok-reply_lines-clause-written g c is =
-    let failed = where_err c.write_text.result _ is c.write_text.ensures.failed in
+pub returns-in-Ok-reply_lines-clause-part : goal.returns-in-Ok-reply_lines-clause-part
+returns-in-Ok-reply_lines-clause-part g c is =
     let front = where_err c.write_text.result _ is c.write_text.ensures.err in
-    (failed.1, (front.0, front.1, record { answer = c.in-Ok.reply; next = c.in-Ok.ensures.next; text_is = sym front.2 ∙ c.as_slice.ensures.value ∙ c.in-Ok-reply_lines.ensures }, front.3))
+    (front.0, front.1, record { answer = c.in-Ok.reply; next = c.in-Ok.ensures.next; text_is = sym front.2 ∙ c.as_slice.ensures.value ∙ c.in-Ok-reply_lines.ensures }, front.3)
