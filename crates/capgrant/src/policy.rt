@@ -13,6 +13,7 @@ use capspec::{FsName, Grants};
 
 /// Whether the grants let a caller make an access to the inode with these names from the root down and these attributes,
 /// on this file system. Needs no memory.
+#[inline(always)]
 pub fn verdict(
     grants: &Grants,
     fs: &FsName,
