@@ -1,5 +1,5 @@
 -- What each event by itself comes to, from what the calls below answered.
-use Rattle.std.proofs.Common.{◌≡◌, ℕ, ◌+◌, List, [], ◌∷◌, ◌++◌, Option, Some, None, Result, Ok, Err, IfOk, refl, sym, ap, ◌∙◌}
+use Rattle.std.proofs.Common.{◌≡◌, ℕ, ◌+◌, List, [], ◌∷◌, ◌++◌, Option, Some, None, Result, Ok, Err, IfOk, refl, sym, ap, subst, ◌∙◌}
 use Rattle.std.specs.Prelude.{unwrap_or}
 use Rattle.std.specs.Option.{option_map}
 use Rattle.std.specs.FinMap as map
@@ -24,7 +24,9 @@ use Rattle.lockmachine.specs.Scene.{Scene}
 use Rattle.capcore.specs.Refused.{tree_answer}
 use Rattle.capcore.specs.State.{State}
 use Rattle.capcore.specs.Tests.{Test, first_failing, session_tests, inode_tests, new_inode_tests, new_snapshot_tests, old_snapshot_tests}
-use Rattle.capcore.specs.Judge.{Need, stop, need, judged}
+use Rattle.capcore.specs.declared.stopped.Stopped.{Stopped}
+use Rattle.capcore.specs.declared.stopped.Stopped.TheVariants.{ByTest}
+use Rattle.capcore.specs.Judge.{Need, stop, stop_reply, need, judged}
 use Rattle.capcore.specs.Direct.{IsDirect, with_tree, with_birth, owned_by, made_event}
 use Rattle.capcore.proofs.Judging.{stopped, passed, no_test, is_here, direct-stopped, direct-passed}
 use Rattle.capcore.proofs.Refusals.{Same, same-create, same-snap_add, same-snap_remove, answered, none_same}
@@ -35,14 +37,16 @@ front s client ino = session_tests s client ++ inode_tests s ino.0
 
 -- an answer of the tree, where the tests behind policy are those of the tree
 module _ (old : State) (e : Event) (tests more : List Test) (needed : List Need) (splits : judged old.scene e ≡ stop old.scene tests needed more) (free : stop old.scene tests needed [] ≡ None) where
-  rest : judged old.scene e ≡ option_map reply.Refused (first_failing more)
+  rest : judged old.scene e ≡ option_map ByTest (first_failing more)
   rest = splits ∙ passed old.scene tests needed more free
 
   refused_by : (o : Option TreeFault) → Same o (first_failing more) → (f : TreeFault) (x : Reply) → f ≡ unwrap_or o tree.NoMemory → tree_answer f ≡ Ok x → IsDirect old e x old
-  refused_by o same f x is ok = direct-stopped old e x (rest ∙ answered o (first_failing more) f x same is ok)
+  refused_by o same f x is ok =
+      let a = answered o (first_failing more) f x same is ok in
+      subst (λ x. IsDirect old e x old) a.2 (direct-stopped old e (ByTest a.0) (rest ∙ ap (option_map ByTest) a.1))
 
   nothing : (o : Option TreeFault) → Same o (first_failing more) → o ≡ None → judged old.scene e ≡ None
-  nothing o same none = rest ∙ ap (option_map reply.Refused) (none_same o (first_failing more) same none)
+  nothing o same none = rest ∙ ap (option_map ByTest) (none_same o (first_failing more) same none)
 
 if_ok : (r : Result Reply Stop) (P : Reply → Type 0) → ((x : Reply) → r ≡ Ok x → P x) → IfOk r P
 if_ok (Ok x) P f = f x refl
@@ -99,16 +103,16 @@ module _ (old : State) (client : ClientId) (dir : Ino) (name : List ℕ) (mode :
       record { answer_is = (λ i. reply.Ino (record { 0 = is i })) ∙ d.answer_is; state_is = d.state_is }
 
 -- what stops a request at the inode that it names stops the event
-pub birth-stopped : (old : State) (kind : Kind) (client : ClientId) (dir : Ino) (name : List ℕ) (mode : Mode) (r : Reply) → stop old.scene (front old.scene client dir) (need client dir.0 Write ∷ []) [] ≡ Some r → IsDirect old (made_event kind client dir name mode) r old
+pub birth-stopped : (old : State) (kind : Kind) (client : ClientId) (dir : Ino) (name : List ℕ) (mode : Mode) (r : Stopped) → stop old.scene (front old.scene client dir) (need client dir.0 Write ∷ []) [] ≡ Some r → IsDirect old (made_event kind client dir name mode) (stop_reply r) old
 birth-stopped old File client dir name mode r is =
     direct-stopped old (event.Create client dir name mode) r (stopped old.scene (front old.scene client dir) (need client dir.0 Write ∷ []) (new_inode_tests old.scene dir.0 name) r is)
 birth-stopped old Directory client dir name mode r is =
     direct-stopped old (event.Mkdir client dir name mode) r (stopped old.scene (front old.scene client dir) (need client dir.0 Write ∷ []) (new_inode_tests old.scene dir.0 name) r is)
 
-pub making-stopped : (old : State) (client : ClientId) (ino : Ino) (name : List ℕ) (r : Reply) → stop old.scene (front old.scene client ino) (need client ino.0 Snapshot ∷ []) [] ≡ Some r → IsDirect old (event.MakeSnapshot client ino name) r old
+pub making-stopped : (old : State) (client : ClientId) (ino : Ino) (name : List ℕ) (r : Stopped) → stop old.scene (front old.scene client ino) (need client ino.0 Snapshot ∷ []) [] ≡ Some r → IsDirect old (event.MakeSnapshot client ino name) (stop_reply r) old
 making-stopped old client ino name r is =
     direct-stopped old (event.MakeSnapshot client ino name) r (stopped old.scene (front old.scene client ino) (need client ino.0 Snapshot ∷ []) (new_snapshot_tests old.scene ino.0 name) r is)
 
-pub removing-stopped : (old : State) (client : ClientId) (ino : Ino) (name : List ℕ) (r : Reply) → stop old.scene (front old.scene client ino) (need client ino.0 Snapshot ∷ []) [] ≡ Some r → IsDirect old (event.RemoveSnapshot client ino name) r old
+pub removing-stopped : (old : State) (client : ClientId) (ino : Ino) (name : List ℕ) (r : Stopped) → stop old.scene (front old.scene client ino) (need client ino.0 Snapshot ∷ []) [] ≡ Some r → IsDirect old (event.RemoveSnapshot client ino name) (stop_reply r) old
 removing-stopped old client ino name r is =
     direct-stopped old (event.RemoveSnapshot client ino name) r (stopped old.scene (front old.scene client ino) (need client ino.0 Snapshot ∷ []) (old_snapshot_tests old.scene ino.0 name) r is)

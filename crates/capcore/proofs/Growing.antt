@@ -4,7 +4,7 @@ use Rattle.inotree.specs.Tree.{Nodes}
 use Rattle.capcore.specs.declared.history.Row.{Row}
 use Rattle.capcore.specs.State.{State}
 use Rattle.capcore.specs.Step.{Step}
-use Rattle.capcore.specs.History.{Told, IsTold, IsOpening, HasNoStray, Replays, rows_of}
+use Rattle.capcore.specs.History.{Told, told, IsTold, IsOpening, HasNoStray, Replays, rows_of}
 use Rattle.capcore.proofs.Numbered.{numbered-nil, numbered-snoc}
 
 pub replays-more : (first : State) (rows : List Row) (old : State) (row : Row) (new : State) → Replays first rows old → Step old row.event row.reply row.ended new → Replays first (rows ++ row ∷ []) new
@@ -16,7 +16,7 @@ length-more [] row = refl
 length-more (r ∷ rows) row = let more = length-more rows row in omega (arith, more)
 
 -- a new core has the empty history
-pub first-told : (fs : List ℕ) (tree : Nodes) (s : State) (max_rows : ℕ) → HasNoStray tree → IsOpening fs tree s → IsTold (record { state = s; rows = []; max_rows = max_rows })
+pub first-told : (fs : List ℕ) (tree : Nodes) (s : State) (max_rows : ℕ) → HasNoStray tree → IsOpening fs tree s → IsTold (told s [] max_rows)
 first-told fs tree s max_rows none is = record {
   fs = fs;
   tree = tree;
@@ -29,7 +29,7 @@ first-told fs tree s max_rows none is = record {
 
 -- one step more, with its row
 pub more-told : (t : Told) (row : Row) (new : State) → IsTold t → Step t.state row.event row.reply row.ended new → row.nth ≡ rows_of row.pass t.rows + 1 → length t.rows < t.max_rows →
-    IsTold (record { state = new; rows = t.rows ++ row ∷ []; max_rows = t.max_rows })
+    IsTold (told new (t.rows ++ row ∷ []) t.max_rows)
 more-told t row new is step nth less = record {
   fs = is.fs;
   tree = is.tree;

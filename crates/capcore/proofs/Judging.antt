@@ -11,29 +11,29 @@ use Rattle.lockmachine.specs.Scene.{Scene}
 use Rattle.capcore.specs.declared.event.Event.{Event}
 use Rattle.capcore.specs.declared.refusal.Refusal.{Refusal}
 use Rattle.capcore.specs.declared.refusal.Refusal.TheVariants as refusal
-use Rattle.capcore.specs.declared.reply.Reply.{Reply}
-use Rattle.capcore.specs.declared.reply.Reply.TheVariants.{Refused}
+use Rattle.capcore.specs.declared.stopped.Stopped.{Stopped}
+use Rattle.capcore.specs.declared.stopped.Stopped.TheVariants.{ByTest}
 use Rattle.capcore.specs.State.{State}
 use Rattle.capcore.specs.Tests.{Test, first_failing, session_tests, inode_tests, is_stale, is_no_ino, is_gone}
-use Rattle.capcore.specs.Judge.{Need, stop, stop_by, first_denied, judged}
+use Rattle.capcore.specs.Judge.{Need, stop, stop_by, stop_reply, first_denied, judged}
 use Rattle.capcore.specs.Direct.{effect, effect_unless, reply_by, IsDirect}
 
-stop_by-stopped : (s : Scene) (o : Option Refusal) (d : Option Need) (l : Option Refusal) (r : Reply) → stop_by s o d None ≡ Some r → stop_by s o d l ≡ Some r
+stop_by-stopped : (s : Scene) (o : Option Refusal) (d : Option Need) (l : Option Refusal) (r : Stopped) → stop_by s o d None ≡ Some r → stop_by s o d l ≡ Some r
 stop_by-stopped s (Some x) d l r e = e
 stop_by-stopped s None (Some n) l r e = e
 stop_by-stopped s None None l r e = cc
 
 -- what stops a request stops it whatever is still to be tested
-pub stopped : (s : Scene) (tests : List Test) (needed : List Need) (more : List Test) (r : Reply) → stop s tests needed [] ≡ Some r → stop s tests needed more ≡ Some r
+pub stopped : (s : Scene) (tests : List Test) (needed : List Need) (more : List Test) (r : Stopped) → stop s tests needed [] ≡ Some r → stop s tests needed more ≡ Some r
 stopped s tests needed more r e = stop_by-stopped s (first_failing tests) (first_denied s needed) (first_failing more) r e
 
-stop_by-passed : (s : Scene) (o : Option Refusal) (d : Option Need) (l : Option Refusal) → stop_by s o d None ≡ None → stop_by s o d l ≡ option_map Refused l
+stop_by-passed : (s : Scene) (o : Option Refusal) (d : Option Need) (l : Option Refusal) → stop_by s o d None ≡ None → stop_by s o d l ≡ option_map ByTest l
 stop_by-passed s (Some x) d l e = cc
 stop_by-passed s None (Some n) l e = cc
 stop_by-passed s None None l e = refl
 
 -- where nothing stopped it so far, the rest of the tests decides
-pub passed : (s : Scene) (tests : List Test) (needed : List Need) (more : List Test) → stop s tests needed [] ≡ None → stop s tests needed more ≡ option_map Refused (first_failing more)
+pub passed : (s : Scene) (tests : List Test) (needed : List Need) (more : List Test) → stop s tests needed [] ≡ None → stop s tests needed more ≡ option_map ByTest (first_failing more)
 passed s tests needed more e = stop_by-passed s (first_failing tests) (first_denied s needed) (first_failing more) e
 
 stop_by-tests : (s : Scene) (o : Option Refusal) (d : Option Need) (l : Option Refusal) → stop_by s o d l ≡ None → o ≡ None
@@ -58,7 +58,7 @@ is_here s client ino e = here_by (not (has_session s.sessions client.0)) (is_sta
 -- ---- the event by itself
 
 -- what stops an event is its answer, and nothing changes
-pub direct-stopped : (old : State) (e : Event) (r : Reply) → judged old.scene e ≡ Some r → IsDirect old e r old
+pub direct-stopped : (old : State) (e : Event) (r : Stopped) → judged old.scene e ≡ Some r → IsDirect old e (stop_reply r) old
 direct-stopped old e r is = record {
   answer_is = ap (λ o. reply_by (effect_unless old e o)) (sym is);
   state_is = ap (λ o. (effect_unless old e o).state) (sym is);

@@ -1,7 +1,6 @@
 -- The tests of the tree's calls are those of the core, behind the tests of the inode.
 use Rattle.std.proofs.Common.{◌≡◌, ℕ, ◌||◌, ◌==◌, Bool, true, false, not, List, Option, Some, None, is_some, Ok, refl, sym, subst}
 use Rattle.std.specs.Prelude.{if◌then◌else◌, nat_le, unwrap_or}
-use Rattle.std.specs.Option.{option_map}
 use Rattle.std.specs.FinMap as map
 use Rattle.std.specs.FinSet as set
 use Rattle.inotree.specs.declared.fault.TreeFault.{TreeFault}
@@ -29,24 +28,18 @@ Same (Some f) None = ⊥
 Same (Some f) (Some r) = tree_answer f ≡ Ok (Refused r)
 
 -- so what the tree answers becomes what stops the event
-pub answered : (o : Option TreeFault) (r : Option Refusal) (f : TreeFault) (x : Reply) → Same o r → f ≡ unwrap_or o tree.NoMemory → tree_answer f ≡ Ok x → option_map Refused r ≡ Some x
+pub answered : (o : Option TreeFault) (r : Option Refusal) (f : TreeFault) (x : Reply) → Same o r → f ≡ unwrap_or o tree.NoMemory → tree_answer f ≡ Ok x → (y : Refusal) × (r ≡ Some y) × (Refused y ≡ x)
 unfolding Same
 answered None None f x same is ok = cc
 answered None (Some r) f x same is ok = absurd same
 answered (Some g) None f x same is ok = absurd same
-answered (Some g) (Some r) f x same is ok = cc
+answered (Some g) (Some r) f x same is ok = (r, refl, cc)
 
 pub none_same : (o : Option TreeFault) (r : Option Refusal) → Same o r → o ≡ None → r ≡ None
 unfolding Same
 none_same None None same e = refl
 none_same None (Some r) same e = absurd same
 none_same (Some g) r same e = cc
-
-pub some_same : (o : Option TreeFault) (r : Option Refusal) (f : TreeFault) (x : Reply) → Same o r → o ≡ Some f → tree_answer f ≡ Ok x → option_map Refused r ≡ Some x
-unfolding Same
-some_same None r f x same e ok = cc
-some_same (Some g) None f x same e ok = absurd same
-some_same (Some g) (Some r) f x same e ok = cc
 
 create_by : (b1 b2 b3 b4 b5 : Bool) →
     Same (or_next (or_next None (fails b1 tree.NotDir)) (or_next (or_next (fails b2 tree.NameBad) (fails b3 tree.Exists)) (or_next (fails b4 tree.TooDeep) (fails b5 tree.Limit))))

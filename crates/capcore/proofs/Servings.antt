@@ -64,7 +64,7 @@ module _ (s : Scene) (q : Request) where
   tests = first_failing (ask_before s q.ino.0 q.ask)
 
   denied : Option Need
-  denied = first_denied s (ask_needs s q)
+  denied = first_denied s (ask_needs s q.client q.ino.0 q.ask)
 
   more : Option Refusal
   more = first_failing (ask_after s q.ino.0 q.ask)

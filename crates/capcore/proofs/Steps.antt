@@ -20,6 +20,7 @@ use Rattle.lockmachine.proofs.Idle.{idle}
 use Rattle.capcore.specs.declared.event.Event.{Event}
 use Rattle.capcore.specs.declared.event.Event.TheVariants as event
 use Rattle.capcore.specs.declared.reply.Reply.{Reply}
+use Rattle.capcore.specs.declared.stopped.Stopped.{Stopped}
 use Rattle.capcore.specs.State.{State}
 use Rattle.capcore.specs.Tests.{is_gone}
 use Rattle.capcore.specs.Judge.{judged}
@@ -81,7 +82,7 @@ none_dropped-effect old (event.Mkdir client dir name mode) = refl
 none_dropped-effect old (event.MakeSnapshot client ino name) = refl
 none_dropped-effect old (event.RemoveSnapshot client ino name) = refl
 
-none_dropped : (old : State) (e : Event) (o : Option Reply) → (effect_unless old e o).dropped ≡ []
+none_dropped : (old : State) (e : Event) (o : Option Stopped) → (effect_unless old e o).dropped ≡ []
 none_dropped old e (Some r) = refl
 none_dropped old e None = none_dropped-effect old e
 
@@ -98,7 +99,7 @@ none_shown-effect old (event.Mkdir client dir name mode) s = refl
 none_shown-effect old (event.MakeSnapshot client ino name) s = refl
 none_shown-effect old (event.RemoveSnapshot client ino name) s = refl
 
-none_shown : (old : State) (e : Event) (o : Option Reply) (s : Scene) → shown (effect_unless old e o).answer s ≡ s
+none_shown : (old : State) (e : Event) (o : Option Stopped) (s : Scene) → shown (effect_unless old e o).answer s ≡ s
 none_shown old e (Some r) s = refl
 none_shown old e None s = none_shown-effect old e s
 

@@ -21,10 +21,10 @@ use Rattle.captable.specs.Calls.{renumbered}
 use Rattle.lockmachine.specs.Scene.{Scene}
 use Rattle.lockmachine.proofs.Exact.{settled}
 use Rattle.capcore.specs.declared.event.Event.{Event}
-use Rattle.capcore.specs.declared.reply.Reply.{Reply}
+use Rattle.capcore.specs.declared.stopped.Stopped.{Stopped}
 use Rattle.capcore.specs.State.{State}
 use Rattle.capcore.specs.Tests.{is_gone}
-use Rattle.capcore.specs.Judge.{judged}
+use Rattle.capcore.specs.Judge.{judged, stop_reply}
 use Rattle.capcore.specs.Direct.{Direct, direct, says, effect_unless, reply_of}
 use Rattle.capcore.specs.Settle.{Settles}
 use Rattle.capcore.specs.Finish.{due, issue_row, issue, is_kept, forget, told_before, number_row, number, finished}
@@ -142,8 +142,8 @@ no_more : {A : Type 0} (xs : List A) → xs ++ [] ≡ xs
 no_more [] = refl
 no_more (x ∷ xs) = ap (λ ys. x ∷ ys) (no_more xs)
 
-pub stopped-step : (count : ℕ) (old : State) (e : Event) (answer : Reply) → IsSound count old → IsTable old.scene.table → judged old.scene e ≡ Some answer → Step old e answer [] old
-stopped-step count old e answer sound table is = (
+pub stopped-step : (count : ℕ) (old : State) (e : Event) (stopped : Stopped) → IsSound count old → IsTable old.scene.table → judged old.scene e ≡ Some stopped → Step old e (stop_reply stopped) [] old
+stopped-step count old e stopped sound table is = (
   [],
   record {
     settled = old.scene;
@@ -154,5 +154,5 @@ stopped-step count old e answer sound table is = (
   },
 )
   where
-    by_itself : direct old e ≡ says old answer
+    by_itself : direct old e ≡ says old (stop_reply stopped)
     by_itself = ap (effect_unless old e) is

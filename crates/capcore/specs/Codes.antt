@@ -14,7 +14,7 @@ use Rattle.capcore.specs.contracts.outcome.Ended as ended
 use Rattle.capcore.specs.contracts.history.Row as history_row
 use Rattle.capcore.specs.State.{State}
 use Rattle.capcore.specs.Untold.{Untold}
-use Rattle.capcore.specs.History.{Told}
+use Rattle.capcore.specs.History.{Told, told}
 
 -- a list with room as its parts
 abbrev pub untold_code : Coded Untold
@@ -36,4 +36,4 @@ state_code =
 abbrev pub told_code : Coded Told
 told_code =
     code_by (State × (List Row × ℕ)) (coded× state_code (coded× (coded_list history_row.the_row.coded) coded_ℕ))
-    (λ t. (t.state, (t.rows, t.max_rows))) (λ p. record { state = p.0; rows = p.1.0; max_rows = p.1.1 }) (λ _. refl)
+    (λ t. (t.state, (t.rows, t.max_rows))) (λ p. told p.0 p.1.0 p.1.1) (λ _. refl)

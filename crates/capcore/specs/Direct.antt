@@ -25,7 +25,8 @@ use Rattle.capcore.specs.declared.outcome.Ended.{Ended}
 use Rattle.capcore.specs.declared.reply.Reply.{Reply}
 use Rattle.capcore.specs.declared.reply.Reply.TheVariants as reply
 use Rattle.capcore.specs.State.{State}
-use Rattle.capcore.specs.Judge.{judged}
+use Rattle.capcore.specs.declared.stopped.Stopped.{Stopped}
+use Rattle.capcore.specs.Judge.{judged, stop_reply}
 
 -- what is answered: this reply, whatever the step still does; or what an entry's client is to know at the end of the step
 pub data Answer : Type 0 where
@@ -57,8 +58,11 @@ pub record Direct : Type 0 where
 abbrev pub says : State → Reply → Direct
 says s answer = record { state = s; answer = Says answer; dropped = [] }
 
+abbrev pub with_scene : State → Scene → State
+with_scene s scene = record s { scene = scene }
+
 abbrev pub with_tree : State → Nodes → State
-with_tree s tree = record s { scene = record s.scene { tree = tree } }
+with_tree s tree = with_scene s (record s.scene { tree = tree })
 
 -- the inode that was found; one that a test has found is there
 abbrev pub found : State → Option ℕ → Direct
@@ -72,7 +76,8 @@ owned_by (Some session) mode = record { uid = session.caller.uid; gid = session.
 
 -- a new inode, which has the next number, with its locks
 abbrev pub with_birth : State → Kind → ℕ → List ℕ → Attr → State
-with_birth s kind dir name attr = record s { scene = record s.scene { tree = with_new s.scene.tree kind dir name attr; locks = with_ino s.scene.locks (s.scene.tree.last + 1) } }
+with_birth s kind dir name attr =
+    with_scene s (record s.scene { tree = with_new s.scene.tree kind dir name attr; locks = with_ino s.scene.locks (s.scene.tree.last + 1) })
 
 abbrev pub born : State → Kind → ClientId → ℕ → List ℕ → Mode → Direct
 born s kind client dir name mode =
@@ -80,15 +85,16 @@ born s kind client dir name mode =
 
 -- the effect of an event that nothing stops
 abbrev pub effect : State → Event → Direct
-effect s (event.Session client caller grants) = says (record s { scene = record s.scene { sessions = with_session s.scene.sessions client.0 caller grants } }) reply.Done
+effect s (event.Session client caller grants) =
+    says (with_scene s (record s.scene { sessions = with_session s.scene.sessions client.0 caller grants })) reply.Done
 effect s (event.Lookup client dir name) = found s (child s.scene.tree.nodes dir.0 name)
 effect s (event.Create client dir name mode) = born s File client dir.0 name mode
 effect s (event.Mkdir client dir name mode) = born s Directory client dir.0 name mode
 effect s (event.MakeSnapshot client ino name) = says (with_tree s (changed (with_snapshot name) s.scene.tree ino.0)) reply.Done
 effect s (event.RemoveSnapshot client ino name) = says (with_tree s (changed (without_snapshot name) s.scene.tree ino.0)) reply.Done
 
-abbrev pub effect_unless : State → Event → Option Reply → Direct
-effect_unless s e (Some refusal) = says s refusal
+abbrev pub effect_unless : State → Event → Option Stopped → Direct
+effect_unless s e (Some stopped) = says s (stop_reply stopped)
 effect_unless s e None = effect s e
 
 -- what stops an event is all that it answers, and it has no effect then

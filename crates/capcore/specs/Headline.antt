@@ -59,7 +59,7 @@ is_stop (reply.Refused refusal) = true
 
 -- the request passes the tests that stand before policy, and this is the first of its accesses that has no grant
 abbrev pub IsFirstDeniedNow : Scene → Request → Need → Type 0
-IsFirstDeniedNow s q n = (first_failing (ask_before s q.ino.0 q.ask) ≡ None) × (first_denied s (ask_needs s q) ≡ Some n)
+IsFirstDeniedNow s q n = (first_failing (ask_before s q.ino.0 q.ask) ≡ None) × (first_denied s (ask_needs s q.client q.ino.0 q.ask) ≡ Some n)
 
 -- a request that is served is denied exactly if an access that it needs has no grant at that moment
 abbrev pub ServedDenied : Scene → Request → Outcome → Type 0

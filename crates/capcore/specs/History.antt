@@ -22,6 +22,10 @@ pub record Told : Type 0 where
   pub rows : List Row
   pub max_rows : ℕ
 
+-- what a core has, as one value
+abbrev pub told : State → List Row → ℕ → Told
+told state rows max_rows = record { state = state; rows = rows; max_rows = max_rows }
+
 -- ---- the opening state
 
 -- the tree has no stray

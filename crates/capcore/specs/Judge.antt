@@ -14,6 +14,8 @@ use Rattle.capcore.specs.declared.event.Event.{Event}
 use Rattle.capcore.specs.declared.event.Event.TheVariants as event
 use Rattle.capcore.specs.declared.reply.Reply.{Reply}
 use Rattle.capcore.specs.declared.reply.Reply.TheVariants as reply
+use Rattle.capcore.specs.declared.stopped.Stopped.{Stopped}
+use Rattle.capcore.specs.declared.stopped.Stopped.TheVariants.{ByPolicy, ByTest}
 use Rattle.capcore.specs.Tests.{Test, first_failing, session_tests, new_session_tests, inode_tests, directory_test, found_test, new_inode_tests, new_snapshot_tests, old_snapshot_tests}
 
 -- an access of a client to an inode
@@ -68,15 +70,20 @@ is_met s n = is_granted s.fs s.tree s.sessions n.holder n.access
 abbrev pub first_denied : Scene → List Need → Option Need
 first_denied s needed = find (λ n. not (is_met s n)) needed
 
-abbrev pub stop_by : Scene → Option Refusal → Option Need → Option Refusal → Option Reply
-stop_by s (Some refusal) denied later = Some (reply.Refused refusal)
-stop_by s None (Some n) later = Some (reply.Denied n.access (failures s.fs s.tree s.sessions n.holder n.access))
-stop_by s None None later = option_map reply.Refused later
+abbrev pub stop_by : Scene → Option Refusal → Option Need → Option Refusal → Option Stopped
+stop_by s (Some refusal) denied later = Some (ByTest refusal)
+stop_by s None (Some n) later = Some (ByPolicy n.access (failures s.fs s.tree s.sessions n.holder n.access))
+stop_by s None None later = option_map ByTest later
 
 -- what stops a request: a test; or an access without a grant, with the rule by which each grant fails first; or nothing
-abbrev pub stop : Scene → List Test → List Need → List Test → Option Reply
+abbrev pub stop : Scene → List Test → List Need → List Test → Option Stopped
 stop s tests needed more = stop_by s (first_failing tests) (first_denied s needed) (first_failing more)
 
 -- what stops an event: the tests before policy, then policy, then the tests behind it
-abbrev pub judged : Scene → Event → Option Reply
+abbrev pub judged : Scene → Event → Option Stopped
 judged s e = stop s (before s e) (needs s e) (after s e)
+
+-- what is answered to a request that is stopped
+abbrev pub stop_reply : Stopped → Reply
+stop_reply (ByPolicy access rules) = reply.Denied access rules
+stop_reply (ByTest refusal) = reply.Refused refusal

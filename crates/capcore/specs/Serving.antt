@@ -2,6 +2,7 @@
 use Rattle.std.specs.Prelude.{◌≡◌, ℕ, Bool, true, false, List, [], ◌∷◌, ◌++◌, take, Option, Some, None, IsTrue, if◌then◌else◌}
 use Rattle.std.specs.FinMap as map
 use Rattle.std.specs.Ordering.{eq_by_cmp}
+use Rattle.capbits.specs.declared.ids.ClientId.{ClientId}
 use Rattle.capbits.specs.declared.cap.Part.{Part}
 use Rattle.capbits.specs.declared.cap.Part.TheVariants.{A, L, X, F}
 use Rattle.capgrant.specs.declared.access.Access.{Access}
@@ -24,8 +25,8 @@ use Rattle.capcore.specs.declared.outcome.PartValues.{PartValues}
 use Rattle.capcore.specs.declared.outcome.PartValues.TheVariants as values
 use Rattle.capcore.specs.declared.outcome.Outcome.{Outcome}
 use Rattle.capcore.specs.declared.outcome.Outcome.TheVariants as outcome
-use Rattle.capcore.specs.declared.reply.Reply.{Reply}
-use Rattle.capcore.specs.declared.reply.Reply.TheVariants as reply
+use Rattle.capcore.specs.declared.stopped.Stopped.{Stopped}
+use Rattle.capcore.specs.declared.stopped.Stopped.TheVariants.{ByPolicy, ByTest}
 use Rattle.capcore.specs.Tests.{Test, inode_tests, root_test, directory_test, file_test, empty_test, new_place_tests, new_attribute_tests, old_attribute_tests}
 use Rattle.capcore.specs.Judge.{Need, need, need_if, stop}
 
@@ -60,15 +61,12 @@ ask_before s ino Rmdir = inode_tests s ino ++ root_test s ino ∷ []
 ask_before s ino (Rename dir name) = inode_tests s ino ++ root_test s ino ∷ inode_tests s dir.0
 
 -- the accesses that it needs, in order
-abbrev pub ask_needs : Scene → Request → List Need
-ask_needs s q = needs_of q.ask
-  where
-    needs_of : Ask → List Need
-    needs_of (Get part) = need q.client q.ino.0 access.Read ∷ []
-    needs_of (Alter change) = need q.client q.ino.0 (change_access change) ∷ []
-    needs_of Unlink = need_if q.client (parent s.tree.nodes q.ino.0) access.Write
-    needs_of Rmdir = need_if q.client (parent s.tree.nodes q.ino.0) access.Write
-    needs_of (Rename dir name) = need_if q.client (parent s.tree.nodes q.ino.0) access.Write ++ need q.client dir.0 access.Write ∷ []
+abbrev pub ask_needs : Scene → ClientId → ℕ → Ask → List Need
+ask_needs s client ino (Get part) = need client ino access.Read ∷ []
+ask_needs s client ino (Alter change) = need client ino (change_access change) ∷ []
+ask_needs s client ino Unlink = need_if client (parent s.tree.nodes ino) access.Write
+ask_needs s client ino Rmdir = need_if client (parent s.tree.nodes ino) access.Write
+ask_needs s client ino (Rename dir name) = need_if client (parent s.tree.nodes ino) access.Write ++ need client dir.0 access.Write ∷ []
 
 abbrev pub setting_tests : Scene → ℕ → Setting → List Test
 setting_tests s ino (Size size) = file_test s ino ∷ []
@@ -91,8 +89,8 @@ ask_after s ino Rmdir = directory_test s ino ∷ empty_test s ino ∷ []
 ask_after s ino (Rename dir name) = new_place_tests s ino dir.0 name
 
 -- what stops the request now
-abbrev pub judged_again : Scene → Request → Option Reply
-judged_again s q = stop s (ask_before s q.ino.0 q.ask) (ask_needs s q) (ask_after s q.ino.0 q.ask)
+abbrev pub judged_again : Scene → Request → Option Stopped
+judged_again s q = stop s (ask_before s q.ino.0 q.ask) (ask_needs s q.client q.ino.0 q.ask) (ask_after s q.ino.0 q.ask)
 
 -- ---- what it does
 
@@ -115,15 +113,12 @@ passed_as s ino Rmdir = outcome.Done
 passed_as s ino (Rename dir name) = outcome.Done
 
 -- what stopped it, as its outcome
-abbrev pub stopped_as : Reply → Outcome
-stopped_as (reply.Denied access rules) = outcome.Denied access rules
-stopped_as (reply.Refused refusal) = outcome.Refused refusal
-stopped_as reply.Done = outcome.Done
-stopped_as (reply.Opened seq caps) = outcome.Done
-stopped_as (reply.Ino ino) = outcome.Done
+abbrev pub stop_outcome : Stopped → Outcome
+stop_outcome (ByPolicy access rules) = outcome.Denied access rules
+stop_outcome (ByTest refusal) = outcome.Refused refusal
 
-abbrev pub outcome_unless : Scene → Request → Option Reply → Outcome
-outcome_unless s q (Some stopped) = stopped_as stopped
+abbrev pub outcome_unless : Scene → Request → Option Stopped → Outcome
+outcome_unless s q (Some stopped) = stop_outcome stopped
 outcome_unless s q None = passed_as s q.ino.0 q.ask
 
 -- how the request ends if it is served now and finds its memory

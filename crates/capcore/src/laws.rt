@@ -8,9 +8,9 @@ ghost use Rattle.captable.specs.Table.{IsTable};
 ghost use Rattle.lockmachine.specs.Locks.{lock_at};
 ghost use Rattle.lockmachine.specs.Scene.{Scene, told_set};
 ghost use Rattle.capcore.specs.declared.event.Event.{Event};
-ghost use Rattle.capcore.specs.declared.reply.Reply.{Reply};
+ghost use Rattle.capcore.specs.declared.stopped.Stopped.{Stopped};
 ghost use Rattle.capcore.specs.State.{State};
-ghost use Rattle.capcore.specs.Judge.{judged};
+ghost use Rattle.capcore.specs.Judge.{judged, stop_reply};
 ghost use Rattle.capcore.specs.Step.{Step};
 ghost use Rattle.capcore.specs.History.{HasNoStray, IsOpening};
 ghost use Rattle.capcore.specs.Settle.{Made, MakesAll};
@@ -29,8 +29,8 @@ pub fn the_held_are_apart()
 
 /// In a sound state nothing is left to do: what stops an event is all of its step, and nothing changes.
 pub fn a_stop_changes_nothing()
-    ensures { (count : ℕ) (old : State) (e : Event) (answer : Reply) → IsSound count old → IsTable old.scene.table
-        → judged old.scene e ≡ Some answer → Step old e answer [] old }
+    ensures { (count : ℕ) (old : State) (e : Event) (stopped : Stopped) → IsSound count old → IsTable old.scene.table
+        → judged old.scene e ≡ Some stopped → Step old e (stop_reply stopped) [] old }
 {}
 
 /// Whatever moves are made, each request that is served is denied exactly if an access that it needs has no grant on the

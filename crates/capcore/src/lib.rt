@@ -14,6 +14,7 @@ mod refused;
 mod reply;
 mod start;
 mod step;
+mod stopped;
 mod world;
 
 pub use event::Event;
@@ -26,3 +27,4 @@ pub use outcome::{Ended, Message, Outcome, PartValues};
 pub use refusal::Refusal;
 pub use reply::Reply;
 pub use step::Core;
+pub use stopped::Stopped;

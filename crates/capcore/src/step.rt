@@ -32,16 +32,16 @@ pub struct Core {
 }
 
 impl Model for Core {
-    ghost use Rattle.capcore.specs.History.{Told, IsTold};
+    ghost use Rattle.capcore.specs.History.{Told, IsTold, told};
     ghost use Rattle.capcore.specs.Codes.{told_code};
 
     ghost Value = { Told };
 
     ghost coded = { told_code };
 
-    ghost view = { λ c. record { state = c.world; rows = c.rows.items; max_rows = c.max_rows } };
+    ghost view = { λ c. told c.world c.rows.items c.max_rows };
 
-    ghost invariant = { λ c. IsTold (record { state = c.world; rows = c.rows.items; max_rows = c.max_rows }) };
+    ghost invariant = { λ c. IsTold (told c.world c.rows.items c.max_rows) };
 }
 
 impl Core {

@@ -24,6 +24,7 @@ use crate::refusal::Refusal;
 use crate::refused::{no_session, refused};
 use crate::reply::Reply;
 use crate::start::first_locks;
+use crate::stopped::Stopped;
 use arrayvec::ArrayVec;
 use capbits::{Caller, ClientId, Ino, Mode};
 use capgrant::{Access, Attr, Rules, Verdict, verdict};
@@ -100,7 +101,8 @@ impl World {
     {
         // Nobody has an entry and nobody waits: no lock moves, and all is done when the event is.
         let reply = self.act(event)?;
-        let _idle = &self.table;
+        // A look at the world, by which the proof knows what each keeps.
+        let _kept = &self.table;
         Ok(reply)
     }
 
@@ -175,8 +177,10 @@ impl World {
         let Some(ino) = self.tree.child(dir, name) else {
             return Reply::Refused(Refusal::NoEnt);
         };
-        let denied = self.denial(client, ino, Access::Read);
-        denied.unwrap_or(Reply::Ino(ino))
+        match self.denial(client, ino, Access::Read) {
+            Some(denied) => denied.into(),
+            None => Reply::Ino(ino),
+        }
     }
 
     // Makes a file or a directory, with its locks.
@@ -193,7 +197,7 @@ impl World {
         ensures memory { IfErr result (λ stop. stop ≡ Stop.NoMemory) }
     {
         if let Some(stopped) = self.stop(client, dir, Access::Write) {
-            return Ok(stopped);
+            return Ok(stopped.into());
         }
         if let Some(fault) = self.tree.create_fault(dir, name) {
             return refused(fault);
@@ -228,7 +232,7 @@ impl World {
         ensures memory { IfErr result (λ stop. stop ≡ Stop.NoMemory) }
     {
         if let Some(stopped) = self.stop(client, ino, Access::Snapshot) {
-            return Ok(stopped);
+            return Ok(stopped.into());
         }
         match self.tree.snap_add(ino, name) {
             Ok(()) => Ok(Reply::Done),
@@ -242,7 +246,7 @@ impl World {
         ensures memory { IfErr result (λ stop. stop ≡ Stop.NoMemory) }
     {
         if let Some(stopped) = self.stop(client, ino, Access::Snapshot) {
-            return Ok(stopped);
+            return Ok(stopped.into());
         }
         match self.tree.snap_remove(ino, name) {
             Ok(()) => Ok(Reply::Done),
@@ -267,11 +271,11 @@ impl World {
     // ---- what stops a request
 
     // What stops a request that needs one access to an inode that it names, before any other test.
-    fn stop(&self, client: ClientId, ino: Ino, access: Access) -> Option<Reply>
+    fn stop(&self, client: ClientId, ino: Ino, access: Access) -> Option<Stopped>
         ensures { result ≡ stop self.now.scene (session_tests self.now.scene client ++ inode_tests self.now.scene ino.0) (need client ino.0 access ∷ []) [] }
     {
         match self.inode_stop(client, ino) {
-            Some(refusal) => Some(Reply::Refused(refusal)),
+            Some(refusal) => Some(Stopped::ByTest(refusal)),
             None => self.denial(client, ino, access),
         }
     }
@@ -292,12 +296,12 @@ impl World {
     }
 
     // The denial of an access that no grant of the client allows.
-    fn denial(&self, client: ClientId, ino: Ino, access: Access) -> Option<Reply>
+    fn denial(&self, client: ClientId, ino: Ino, access: Access) -> Option<Stopped>
         ensures { result ≡ stop self.now.scene [] (need client ino.0 access ∷ []) [] }
     {
         match self.verdict(client, ino, access) {
             Verdict::Allowed { .. } => None,
-            Verdict::Denied { rules } => Some(Reply::Denied { access, rules }),
+            Verdict::Denied { rules } => Some(Stopped::ByPolicy { access, rules }),
         }
     }
 

@@ -6,7 +6,7 @@ use Rattle.capcore.proofs.world.World.remove_snapshot.Goals as goal
 use Rattle.capcore.proofs.world.World.remove_snapshot.Goals.{in-Ok, in-Err}
 
 pub returns-in-Some-clause-direct : goal.returns-in-Some-clause-direct
-returns-in-Some-clause-direct c = removing-stopped c.args.self.now c.args.client c.args.ino c.args.name.now c.in-Some.stopped (sym c.stop.ensures ∙ c.in-Some.is)
+returns-in-Some-clause-direct c = rw c.into.ensures (removing-stopped c.args.self.now c.args.client c.args.ino c.args.name.now c.in-Some.stopped (sym c.stop.ensures ∙ c.in-Some.is))
 
 pub invariant_of-self : goal.invariant_of-self
 invariant_of-self c = elim c.match-snap_remove.branch [
