@@ -1,5 +1,5 @@
 -- An event of today by itself is a whole step: no lock moves, and nothing is issued, forgotten or numbered.
-use Rattle.std.proofs.Common.{◌≡◌, ℕ, Bool, true, cond, not, ◌||◌, List, [], ◌∷◌, ◌++◌, Option, Some, None, refl, sym, ap, subst, ◌∙◌}
+use Rattle.std.proofs.Common.{◌≡◌, ℕ, Bool, true, false, cond, not, ◌||◌, List, [], ◌∷◌, ◌++◌, Option, Some, None, refl, sym, ap, subst, ◌∙◌}
 use Rattle.std.specs.Prelude.{map}
 use Rattle.std.specs.Cmp.{nat_cmp_total}
 use Rattle.std.specs.Ordering.{nat_cmp}
@@ -21,10 +21,11 @@ use Rattle.capcore.specs.declared.event.Event.{Event}
 use Rattle.capcore.specs.declared.event.Event.TheVariants as event
 use Rattle.capcore.specs.declared.reply.Reply.{Reply}
 use Rattle.capcore.specs.declared.stopped.Stopped.{Stopped}
+use Rattle.capcore.specs.declared.stopped.Stopped.TheVariants.{ByPolicy, ByTest}
 use Rattle.capcore.specs.State.{State}
 use Rattle.capcore.specs.Tests.{is_gone}
 use Rattle.capcore.specs.Judge.{judged}
-use Rattle.capcore.specs.Direct.{Direct, direct, effect, effect_unless, found, reply_of, shown, IsDirect}
+use Rattle.capcore.specs.Direct.{Direct, direct, effect, effect_unless, found, reply_of, reply_by, has_values, shown, IsDirect}
 use Rattle.capcore.specs.Settle.{Settles}
 use Rattle.capcore.specs.Finish.{issue, issue_row, forget, is_kept, number, number_row, finished}
 use Rattle.capcore.specs.Step.{Step}
@@ -102,6 +103,27 @@ none_shown-effect old (event.RemoveSnapshot client ino name) s = refl
 none_shown : (old : State) (e : Event) (o : Option Stopped) (s : Scene) → shown (effect_unless old e o).answer s ≡ s
 none_shown old e (Some r) s = refl
 none_shown old e None s = none_shown-effect old e s
+
+-- and answers with no values
+no_values-found : (old : State) (o : Option ℕ) → has_values (reply_by (found old o)) ≡ false
+no_values-found old None = refl
+no_values-found old (Some ino) = refl
+
+no_values-effect : (old : State) (e : Event) → has_values (reply_by (effect old e)) ≡ false
+no_values-effect old (event.Session client caller grants) = refl
+no_values-effect old (event.Lookup client dir name) = no_values-found old (child old.scene.tree.nodes dir.0 name)
+no_values-effect old (event.Create client dir name mode) = refl
+no_values-effect old (event.Mkdir client dir name mode) = refl
+no_values-effect old (event.MakeSnapshot client ino name) = refl
+no_values-effect old (event.RemoveSnapshot client ino name) = refl
+
+no_values-unless : (old : State) (e : Event) (o : Option Stopped) → has_values (reply_by (effect_unless old e o)) ≡ false
+no_values-unless old e (Some (ByPolicy access rules)) = refl
+no_values-unless old e (Some (ByTest refusal)) = refl
+no_values-unless old e None = no_values-effect old e
+
+pub no_values : (old : State) (e : Event) (answer : Reply) (new : State) → IsDirect old e answer new → has_values answer ≡ false
+no_values old e answer new is = ap has_values is.answer_is ∙ no_values-unless old e (judged old.scene e)
 
 no_more : {A : Type 0} (xs : List A) → xs ++ [] ≡ xs
 no_more [] = refl

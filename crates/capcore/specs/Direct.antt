@@ -1,9 +1,10 @@
 -- What an event does and answers by itself, before any lock moves.
-use Rattle.std.specs.Prelude.{◌≡◌, ℕ, ◌+◌, List, [], Option, Some, None}
+use Rattle.std.specs.Prelude.{◌≡◌, ℕ, ◌+◌, ◌==◌, Bool, true, false, List, [], Option, Some, None, unwrap_or}
 use Rattle.std.specs.List.{find}
 use Rattle.std.specs.FinMap as map
 use Rattle.capbits.specs.declared.ids.ClientId.{ClientId}
 use Rattle.capbits.specs.declared.ids.Ino.{Ino}
+use Rattle.capbits.specs.declared.ids.Ticket.{Ticket}
 use Rattle.capbits.specs.declared.mode.Mode.{Mode}
 use Rattle.capgrant.specs.declared.access.Attr.{Attr}
 use Rattle.inotree.specs.declared.node.Kind.{Kind}
@@ -22,31 +23,54 @@ use Rattle.lockmachine.specs.Scene.{Scene, told_set}
 use Rattle.capcore.specs.declared.event.Event.{Event}
 use Rattle.capcore.specs.declared.event.Event.TheVariants as event
 use Rattle.capcore.specs.declared.outcome.Ended.{Ended}
+use Rattle.capcore.specs.declared.outcome.Outcome.{Outcome}
+use Rattle.capcore.specs.declared.outcome.Outcome.TheVariants as outcome
 use Rattle.capcore.specs.declared.reply.Reply.{Reply}
 use Rattle.capcore.specs.declared.reply.Reply.TheVariants as reply
 use Rattle.capcore.specs.State.{State}
 use Rattle.capcore.specs.declared.stopped.Stopped.{Stopped}
 use Rattle.capcore.specs.Judge.{judged, stop_reply}
 
--- what is answered: this reply, whatever the step still does; or what an entry's client is to know at the end of the step
+-- what is answered: this reply, whatever the step still does; or what an entry's client is to know at the end of the step;
+-- or how the request with this number ended in the step, if it did
 pub data Answer : Type 0 where
   Says : Reply → Answer
   Shows : Holder → Answer
+  Awaits : Ticket → Answer
 
 -- the number of the entry's last change, and what its client is to know; an entry that was opened is there
 abbrev pub opened_as : Scene → Option EntryRow → Reply
 opened_as last None = reply.Done
 opened_as last (Some row) = reply.Opened row.entry.seq (told_set last row)
 
+-- how a request ended, as its answer; where its session has ended, there is none
+abbrev pub outcome_reply : Outcome → Option Reply
+outcome_reply outcome.Done = Some reply.Done
+outcome_reply (outcome.Values values) = Some (reply.Values values)
+outcome_reply (outcome.Denied access rules) = Some (reply.Denied access rules)
+outcome_reply (outcome.Refused refusal) = Some (reply.Refused refusal)
+outcome_reply outcome.OutOfMemory = Some reply.OutOfMemory
+outcome_reply outcome.Dropped = None
+
+-- the answer to a request, where it is among those that ended; else it waits
+abbrev pub awaited_as : Ticket → Option Ended → Reply
+awaited_as ticket None = reply.Waiting ticket
+awaited_as ticket (Some m) = unwrap_or (outcome_reply m.outcome) (reply.Waiting ticket)
+
+abbrev pub is_of_ticket : Ticket → Ended → Bool
+is_of_ticket ticket m = m.ticket.0 == ticket.0
+
 -- what is answered at the end, in the last scene, by what the moves ended
 abbrev pub reply_of : Scene → List Ended → Answer → Reply
 reply_of last ended (Says answer) = answer
 reply_of last ended (Shows k) = opened_as last (find (is_row_of k) last.table.rows)
+reply_of last ended (Awaits ticket) = awaited_as ticket (find (is_of_ticket ticket) ended)
 
 -- what is shown, the client was told of
 abbrev pub shown : Answer → Scene → Scene
 shown (Says answer) last = last
 shown (Shows k) last = record last { table = changed_entry last.table k told }
+shown (Awaits ticket) last = last
 
 -- the state after an event, the answer, and the requests that the event itself ended
 pub record Direct : Type 0 where
@@ -117,3 +141,14 @@ pub record IsDirect (old : State) (e : Event) (answer : Reply) (new : State) : T
 abbrev pub made_event : Kind → ClientId → Ino → List ℕ → Mode → Event
 made_event File client dir name mode = event.Create client dir name mode
 made_event Directory client dir name mode = event.Mkdir client dir name mode
+
+-- the reply has what an inode keeps of a part
+abbrev pub has_values : Reply → Bool
+has_values (reply.Values values) = true
+has_values reply.Done = false
+has_values (reply.Ino ino) = false
+has_values (reply.Opened seq caps) = false
+has_values (reply.Waiting ticket) = false
+has_values (reply.Denied access rules) = false
+has_values (reply.Refused refusal) = false
+has_values reply.OutOfMemory = false

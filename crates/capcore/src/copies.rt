@@ -1,5 +1,6 @@
 //! Copies that take no memory.
-ghost use Rattle.std.specs.Prelude.{◌≡◌};
+ghost use Rattle.std.specs.Prelude.{◌≡◌, false};
+ghost use Rattle.capcore.specs.Direct.{has_values};
 
 use crate::reply::Reply;
 use arrayvec::ArrayVec;
@@ -30,8 +31,9 @@ fn copy_of_rules(rules: &Rules) -> Rules
     Rules::from(rules)
 }
 
-// The same reply once more.
+// The same reply once more, where it has no values: a list of attributes takes memory.
 pub(crate) fn copy_of_reply(reply: &Reply) -> Reply
+    requires { has_values reply.now ≡ false }
     ensures { result ≡ reply.now }
 {
     match reply {
@@ -45,6 +47,9 @@ pub(crate) fn copy_of_reply(reply: &Reply) -> Reply
             access: *access,
             rules: copy_of_rules(rules),
         },
+        Reply::Values(_values) => unreachable!(),
+        Reply::Waiting(ticket) => Reply::Waiting(*ticket),
         Reply::Refused(refusal) => Reply::Refused(*refusal),
+        Reply::OutOfMemory => Reply::OutOfMemory,
     }
 }

@@ -1,7 +1,8 @@
 //! What is answered.
 
+use crate::outcome::PartValues;
 use crate::refusal::Refusal;
-use capbits::{CapSet, Ino};
+use capbits::{CapSet, Ino, Ticket};
 use capgrant::{Access, Rules};
 
 /// The answer to an event.
@@ -18,6 +19,10 @@ pub enum Reply {
         /// The capabilities.
         caps: CapSet,
     },
+    /// What an inode keeps of the part that the client asked for.
+    Values(PartValues),
+    /// The request waits for a lock, under this number.
+    Waiting(Ticket),
     /// No grant of the client allows an access that the request needs.
     Denied {
         /// The first such access.
@@ -27,4 +32,6 @@ pub enum Reply {
     },
     /// It was refused, other than by policy.
     Refused(Refusal),
+    /// There was no memory left for it, and it has changed nothing.
+    OutOfMemory,
 }

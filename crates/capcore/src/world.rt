@@ -1,5 +1,5 @@
 //! What an event does: all of the core but its history.
-ghost use Rattle.std.specs.Prelude.{◌≡◌, ◌+◌, ◌++◌, [], ◌∷◌, None, IfOk, IfErr, OnOk, OnErr};
+ghost use Rattle.std.specs.Prelude.{◌≡◌, ◌+◌, ◌++◌, false, [], ◌∷◌, None, IfOk, IfErr, OnOk, OnErr};
 ghost use Rattle.inotree.specs.Tree.{is_directory};
 ghost use Rattle.inotree.specs.Calls.{create_fault, with_new};
 ghost use Rattle.capcore.specs.Idle.{IsIdle};
@@ -10,7 +10,7 @@ ghost use Rattle.lockmachine.specs.Policy.{failures};
 ghost use Rattle.capcore.specs.Judge.{stop, need, is_met};
 ghost use Rattle.std.specs.FinMap as map;
 ghost use Rattle.capgrant.specs.declared.answer.Verdict.TheVariants as verdict_kind;
-ghost use Rattle.capcore.specs.Direct.{IsDirect, made_event, answer_to, owned_by, with_birth};
+ghost use Rattle.capcore.specs.Direct.{IsDirect, has_values, made_event, answer_to, owned_by, with_birth};
 ghost use Rattle.capcore.specs.History.{IsOpening, HasNoStray};
 ghost use Rattle.capcore.specs.Step.{Step};
 ghost use Rattle.capcore.specs.Tests.{first_failing, session_tests, inode_tests};
@@ -96,6 +96,8 @@ impl World {
         ensures direct { IfOk result (λ reply. IsDirect self.old event.now reply self.new) }
         ensures idle { OnOk result (IsIdle self.new.scene) }
         ensures messages { OnOk result (self.new.messages ≡ []) }
+        // No event of these asks what an inode keeps.
+        ensures values { IfOk result (λ reply. has_values reply ≡ false) }
         ensures err { OnErr result (self.new ≡ self.old) }
         ensures memory { IfErr result (λ stop. stop ≡ Stop.NoMemory) }
     {
