@@ -3,6 +3,7 @@ pub mod Lines
 pub mod Values
 pub mod Events
 pub mod Faults
+pub mod PartTexts
 pub mod Replies
 pub mod Watched
 pub mod Transcript

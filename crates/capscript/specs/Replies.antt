@@ -9,7 +9,8 @@ use Rattle.capgrant.specs.Rule.{rule_number}
 use Rattle.capcore.specs.declared.refusal.Refusal.{Refusal}
 use Rattle.capcore.specs.declared.refusal.Refusal.TheVariants as refusals
 use Rattle.capcore.specs.declared.reply.Reply.{Reply}
-use Rattle.capcore.specs.declared.reply.Reply.TheVariants.{Done, Ino, Opened, Denied, Refused}
+use Rattle.capcore.specs.declared.reply.Reply.TheVariants.{Done, Ino, Opened, Values, Waiting, Denied, Refused, OutOfMemory}
+use Rattle.capscript.specs.PartTexts.{values_text}
 
 -- the number of a grant, and that of the rule by which it fails
 abbrev pub rule_text : ℕ × Rule → List ℕ
@@ -45,8 +46,11 @@ abbrev pub reply_line : Reply → List ℕ
 reply_line Done = codes "done"
 reply_line (Ino ino) = codes "ino " ++ decimal ino.0
 reply_line (Opened seq caps) = codes "caps " ++ decimal seq ++ codes " " ++ text_of caps
+reply_line (Values values) = codes "attr " ++ values_text values
+reply_line (Waiting ticket) = codes "waiting " ++ decimal ticket.0
 reply_line (Denied access rules) = codes "denied " ++ access_word access ++ codes " " ++ rules_text rules
 reply_line (Refused refusal) = codes "refused " ++ refusal_word refusal
+reply_line OutOfMemory = codes "out-of-memory"
 
 -- the text of a reply
 abbrev pub reply_text : Reply → List ℕ

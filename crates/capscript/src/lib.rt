@@ -6,6 +6,7 @@ mod event;
 mod fault;
 mod input;
 mod line;
+mod part_text;
 mod reply;
 mod running;
 mod values;

@@ -3,6 +3,7 @@ ghost use Rattle.std.specs.Prelude.{◌≡◌, ◌++◌, IfOk, IfSome, OnOk};
 ghost use Rattle.capscript.specs.Replies.{reply_text, rules_text, rule_text, refusal_word};
 
 use crate::fault::NoMemory;
+use crate::part_text::print_values;
 use capbits::write_caps;
 use capcore::{Refusal, Reply};
 use capgrant::Rule;
@@ -22,6 +23,11 @@ pub fn reply_lines(alloc: Global, reply: &Reply) -> Result<Vec<u8>, NoMemory>
             print(&mut text, format_args!("caps {seq} "))?;
             text.extend_from_slice(write_caps(*caps).as_slice())?;
         }
+        Reply::Values(values) => {
+            print(&mut text, "attr ")?;
+            print_values(&mut text, values)?;
+        }
+        Reply::Waiting(ticket) => print(&mut text, format_args!("waiting {ticket}"))?,
         Reply::Denied { access, rules } => {
             print(&mut text, format_args!("denied {access} "))?;
             print_rules(&mut text, rules.as_slice())?;
@@ -30,13 +36,14 @@ pub fn reply_lines(alloc: Global, reply: &Reply) -> Result<Vec<u8>, NoMemory>
             let word = refusal_word(*refusal);
             print(&mut text, format_args!("refused {word}"))?;
         }
+        Reply::OutOfMemory => print(&mut text, "out-of-memory")?,
     }
     text.push(b'\n')?;
     Ok(text)
 }
 
 // Appends what a value prints. Only memory can be missing.
-fn print<D: Display + Drop>(text: &mut Vec<u8>, more: D) -> Result<(), NoMemory>
+pub(crate) fn print<D: Display + Drop>(text: &mut Vec<u8>, more: D) -> Result<(), NoMemory>
     ensures { OnOk result (IfSome (D.output more) (λ bytes. text.new.items ≡ text.old.items ++ bytes)) }
 {
     text.write_fmt(more).map_err(|_| NoMemory)

@@ -1,0 +1,31 @@
+-- The texts of what an inode keeps of a part.
+use Rattle.std.specs.Prelude.{ℕ, ◌/◌, ◌%◌, false, List, [], ◌∷◌, ◌++◌, codes}
+use Rattle.std.specs.Fmt.{decimal, digit_glyph}
+use Rattle.std.specs.List.{flat_map}
+use Rattle.std.specs.FinMap as map
+use Rattle.capgrant.specs.declared.access.Attr.{Attr}
+use Rattle.capcore.specs.declared.outcome.PartValues.{PartValues}
+use Rattle.capcore.specs.declared.outcome.PartValues.TheVariants.{Auth, Link, Xattr, File}
+
+-- four octal digits
+abbrev pub mode_text : ℕ → List ℕ
+mode_text mode = decimal (mode / 512) ++ decimal (mode / 64 % 8) ++ decimal (mode / 8 % 8) ++ decimal (mode % 8)
+
+-- owner, group and mode
+abbrev pub attr_text : Attr → List ℕ
+attr_text attr = codes "A " ++ decimal attr.uid ++ codes " " ++ decimal attr.gid ++ codes " " ++ mode_text attr.mode
+
+-- two hexadecimal digits
+abbrev pub byte_text : ℕ → List ℕ
+byte_text byte = digit_glyph false (byte / 16) ∷ digit_glyph false (byte % 16) ∷ []
+
+-- the name of an attribute, and its value byte by byte
+abbrev pub attribute_text : List ℕ × List ℕ → List ℕ
+attribute_text attribute = codes " " ++ attribute.0 ++ codes "=" ++ flat_map byte_text attribute.1
+
+-- what the inode keeps, behind the letter of the part; attributes by name, in the order of its bytes
+abbrev pub values_text : PartValues → List ℕ
+values_text (Auth attr) = attr_text attr
+values_text Link = codes "L 1"
+values_text (Xattr attributes) = codes "X " ++ decimal (map.len attributes) ++ flat_map attribute_text (map.entries attributes)
+values_text (File size time) = codes "F " ++ decimal size ++ codes " " ++ decimal time
