@@ -4,11 +4,11 @@
 use std::fmt::Debug;
 use std::process::Abort;
 
-// Sees that a value is the wanted one.
-pub(crate) fn same<T: PartialEq + Debug, P: Debug + Copy>(
+// Sees that a value is the wanted one. It takes both by value: a reference to a temporary costs each later goal.
+pub(crate) fn same<T: PartialEq + Debug + Drop, P: Debug + Copy>(
     rt: &impl Abort,
-    found: &T,
-    want: &T,
+    found: T,
+    want: T,
     place: P,
 ) {
     assert_eq!(rt; found, want, "at {place:?}");

@@ -36,13 +36,13 @@ fn with_fields(rt: &impl Abort, alloc: Global, mode: Mode) -> Result<Tree, Fail>
 fn fields_and_attributes_are_set_one_by_one(rt: HostRuntime) -> Result<(), Fail> {
     let private = Mode::new(0o600).ok_or("it is no mode")?;
     let mut tree = with_fields(&rt, rt.alloc(), private)?;
-    same(&rt, &owner(&tree, 2), &Some((1, 2, private)), "the file");
-    same(&rt, &data(&tree, 2), &Some((Kind::File, 3, 4)), "the file");
+    same(&rt, owner(&tree, 2), Some((1, 2, private)), "the file");
+    same(&rt, data(&tree, 2), Some((Kind::File, 3, 4)), "the file");
     let wanted = Some((b"x".as_slice(), b"2".as_slice()));
-    same(&rt, &first_attribute(&tree, 2), &wanted, "the file");
-    same(&rt, &attribute_count(&tree, 2), &Some(1), "the file");
+    same(&rt, first_attribute(&tree, 2), wanted, "the file");
+    same(&rt, attribute_count(&tree, 2), Some(1), "the file");
     let unnamed = set_xattr(&mut tree, 2, b"", b"2");
-    same(&rt, &unnamed, &Err(TreeFault::NameBad), "the file");
+    same(&rt, unnamed, Err(TreeFault::NameBad), "the file");
     Ok(())
 }
 
@@ -54,10 +54,10 @@ fn what_an_inode_keeps_is_found_by_name(rt: HostRuntime) -> Result<(), Fail> {
         (SnapAdd(1, b't'), Ok(0)),
     ];
     let tree = played(&rt, rt.alloc(), &steps)?;
-    same(&rt, &attribute(&tree, 1, b"x"), &Some(b"1".as_slice()), "x");
-    same(&rt, &attribute(&tree, 1, b"t"), &None, "t");
-    same(&rt, &snapshot_count(&tree, 1), &Some(2), "the root");
-    same(&rt, &has_snapshot(&tree, 1, b"t"), &Some(true), "t");
-    same(&rt, &has_snapshot(&tree, 1, b"x"), &Some(false), "x");
+    same(&rt, attribute(&tree, 1, b"x"), Some(b"1".as_slice()), "x");
+    same(&rt, attribute(&tree, 1, b"t"), None, "t");
+    same(&rt, snapshot_count(&tree, 1), Some(2), "the root");
+    same(&rt, has_snapshot(&tree, 1, b"t"), Some(true), "t");
+    same(&rt, has_snapshot(&tree, 1, b"x"), Some(false), "x");
     Ok(())
 }

@@ -120,8 +120,8 @@ fn named(alloc: Global, holders: &Holders) -> Result<Vec<(u32, u64)>, AllocError
 #[test]
 fn a_new_entry_is_empty(rt: HostRuntime) -> Result<(), Fail> {
     let mut table = made(rt.alloc())?;
-    same(&rt, &entry(&table, 1, 2), &None, "no entry yet");
-    same(&rt, &open(&mut table, 1, 2), &Ok(()), "a new entry");
+    same(&rt, entry(&table, 1, 2), None, "no entry yet");
+    same(&rt, open(&mut table, 1, 2), Ok(()), "a new entry");
     let empty = Entry {
         held: CapSet::empty(),
         want: CapSet::empty(),
@@ -130,13 +130,8 @@ fn a_new_entry_is_empty(rt: HostRuntime) -> Result<(), Fail> {
         told_seq: 0,
         asked: false,
     };
-    same(&rt, &entry(&table, 1, 2), &Some(empty), "a new entry");
-    same(
-        &rt,
-        &entry(&table, 2, 1),
-        &None,
-        "client and inode exchanged",
-    );
+    same(&rt, entry(&table, 1, 2), Some(empty), "a new entry");
+    same(&rt, entry(&table, 2, 1), None, "client and inode exchanged");
     Ok(())
 }
 
@@ -160,23 +155,23 @@ fn ack(table: &mut CapTable, ino: u64, seq: u64) -> Result<(), AckFault> {
 #[test]
 fn acknowledgements_name_the_last_revocation(rt: HostRuntime) -> Result<(), Fail> {
     let mut table = shared_file(rt.alloc())?;
-    same(&rt, &numbers(&table, 1), &Some((2, 2, 1)), "not told yet");
+    same(&rt, numbers(&table, 1), Some((2, 2, 1)), "not told yet");
     let early = ack(&mut table, 2, 2);
-    same(&rt, &early, &Err(AckFault::BadSeq), "not told yet");
+    same(&rt, early, Err(AckFault::BadSeq), "not told yet");
     tell(&mut table, 1);
     for (seq, fault) in [(1, AckFault::OldSeq { need: 2 }), (3, AckFault::BadSeq)] {
-        same(&rt, &ack(&mut table, 2, seq), &Err(fault), seq);
-        same(&rt, &held(&table, 1), &Some(caps(b"pFsxcrwb")), seq);
+        same(&rt, ack(&mut table, 2, seq), Err(fault), seq);
+        same(&rt, held(&table, 1), Some(caps(b"pFsxcrwb")), seq);
     }
-    same(&rt, &ack(&mut table, 2, 2), &Ok(()), "the last one");
-    same(&rt, &held(&table, 1), &Some(caps(b"pFrw")), "the last one");
+    same(&rt, ack(&mut table, 2, 2), Ok(()), "the last one");
+    same(&rt, held(&table, 1), Some(caps(b"pFrw")), "the last one");
     let again = ack(&mut table, 2, 2);
-    same(&rt, &again, &Err(AckFault::NothingToAck), "once more");
+    same(&rt, again, Err(AckFault::NothingToAck), "once more");
     let elsewhere = ack(&mut table, 3, 2);
-    same(&rt, &elsewhere, &Err(AckFault::NoEntry), "another inode");
+    same(&rt, elsewhere, Err(AckFault::NoEntry), "another inode");
     // The other client keeps what it has.
-    same(&rt, &held(&table, 2), &Some(caps(b"p")), "client 2");
-    same(&rt, &numbers(&table, 2), &Some((1, 0, 1)), "client 2");
+    same(&rt, held(&table, 2), Some(caps(b"p")), "client 2");
+    same(&rt, numbers(&table, 2), Some((1, 0, 1)), "client 2");
     Ok(())
 }
 
@@ -189,7 +184,7 @@ fn release(table: &mut CapTable, ino: u64, text: &[u8]) -> Result<(), ReleaseFau
 fn given_back(rt: &impl Abort, alloc: Global) -> Result<CapTable, Fail> {
     let mut table = shared_file(alloc)?;
     tell(&mut table, 1);
-    same(rt, &ack(&mut table, 2, 2), &Ok(()), "what was asked for");
+    same(rt, ack(&mut table, 2, 2), Ok(()), "what was asked for");
     Ok(table)
 }
 
@@ -197,21 +192,21 @@ fn given_back(rt: &impl Abort, alloc: Global) -> Result<CapTable, Fail> {
 fn released_capabilities_are_neither_held_nor_wanted(rt: HostRuntime) -> Result<(), Fail> {
     let mut table = given_back(&rt, rt.alloc())?;
     let too_much = release(&mut table, 2, b"Fxw");
-    same(&rt, &too_much, &Err(ReleaseFault::NotHeld), "Fxw");
+    same(&rt, too_much, Err(ReleaseFault::NotHeld), "Fxw");
     let elsewhere = release(&mut table, 3, b"Fw");
-    same(&rt, &elsewhere, &Err(ReleaseFault::NoEntry), "inode 3");
-    same(&rt, &release(&mut table, 2, b"-"), &Ok(()), "nothing");
-    same(&rt, &held(&table, 1), &Some(caps(b"pFrw")), "nothing");
-    same(&rt, &release(&mut table, 2, b"Fw"), &Ok(()), "Fw");
-    same(&rt, &held(&table, 1), &Some(caps(b"pFr")), "Fw");
-    same(&rt, &wanted(&table, 1), &Some(caps(b"pFsxcrb")), "Fw");
+    same(&rt, elsewhere, Err(ReleaseFault::NoEntry), "inode 3");
+    same(&rt, release(&mut table, 2, b"-"), Ok(()), "nothing");
+    same(&rt, held(&table, 1), Some(caps(b"pFrw")), "nothing");
+    same(&rt, release(&mut table, 2, b"Fw"), Ok(()), "Fw");
+    same(&rt, held(&table, 1), Some(caps(b"pFr")), "Fw");
+    same(&rt, wanted(&table, 1), Some(caps(b"pFsxcrb")), "Fw");
     Ok(())
 }
 
 // The shared file after the first client has given back writing too, and holds more anew: pFscr.
 fn held_anew(rt: &impl Abort, alloc: Global) -> Result<CapTable, Fail> {
     let mut table = given_back(rt, alloc)?;
-    same(rt, &release(&mut table, 2, b"Fw"), &Ok(()), "Fw");
+    same(rt, release(&mut table, 2, b"Fw"), Ok(()), "Fw");
     give(&mut table, 1, b"Fsc");
     renumber(&mut table, 1, b"pFr", b"pFscr");
     Ok(table)
@@ -221,17 +216,17 @@ fn held_anew(rt: &impl Abort, alloc: Global) -> Result<CapTable, Fail> {
 fn more_has_a_new_number_and_the_same_has_none(rt: HostRuntime) -> Result<(), Fail> {
     let mut table = held_anew(&rt, rt.alloc())?;
     // No revocation.
-    same(&rt, &numbers(&table, 1), &Some((3, 2, 2)), "more");
+    same(&rt, numbers(&table, 1), Some((3, 2, 2)), "more");
     renumber(&mut table, 1, b"pFscr", b"pFscr");
-    same(&rt, &numbers(&table, 1), &Some((3, 2, 2)), "the same");
+    same(&rt, numbers(&table, 1), Some((3, 2, 2)), "the same");
     Ok(())
 }
 
 #[test]
 fn the_pin_takes_the_entry_with_it(rt: HostRuntime) -> Result<(), Fail> {
     let mut table = held_anew(&rt, rt.alloc())?;
-    same(&rt, &release(&mut table, 2, b"pFscr"), &Ok(()), "the pin");
-    same(&rt, &entry(&table, 1, 2), &None, "the pin");
+    same(&rt, release(&mut table, 2, b"pFscr"), Ok(()), "the pin");
+    same(&rt, entry(&table, 1, 2), None, "the pin");
     let order = recall_order(rt.alloc(), &table)?;
     same_items(&rt, order.as_slice(), &[(2, 2)], "the order of recall");
     let holders = holders_of(rt.alloc(), &table, 2)?;
@@ -250,9 +245,9 @@ fn newer(table: &CapTable, client: u32, ino: u64) -> Option<Holder> {
 // Three entries, the first of which was touched last; and a client without an entry was touched.
 fn three_entries(rt: &impl Abort, alloc: Global) -> Result<CapTable, Fail> {
     let mut table = made(alloc)?;
-    same(rt, &table.oldest(), &None, "no entry yet");
+    same(rt, table.oldest(), None, "no entry yet");
     for (client, ino) in [(1, 2), (1, 3), (2, 2)] {
-        same(rt, &open(&mut table, client, ino), &Ok(()), (client, ino));
+        same(rt, open(&mut table, client, ino), Ok(()), (client, ino));
     }
     touch(&mut table, 1, 2);
     touch(&mut table, 7, 2);
@@ -269,9 +264,9 @@ fn the_orders_are_kept_apart(rt: HostRuntime) -> Result<(), Fail> {
         client: ClientId(1),
         ino: Ino(3),
     };
-    same(&rt, &table.oldest(), &Some(oldest), "the oldest");
-    same(&rt, &newer(&table, 1, 2), &None, "the newest");
-    same(&rt, &newer(&table, 2, 3), &None, "no entry");
+    same(&rt, table.oldest(), Some(oldest), "the oldest");
+    same(&rt, newer(&table, 1, 2), None, "the newest");
+    same(&rt, newer(&table, 2, 3), None, "no entry");
     let holders = holders_of(rt.alloc(), &table, 2)?;
     same_items(&rt, holders.as_slice(), &[(1, 2), (2, 2)], "inode 2");
     let entries = entries_of(rt.alloc(), &table, 1)?;
@@ -285,7 +280,7 @@ fn the_orders_are_kept_apart(rt: HostRuntime) -> Result<(), Fail> {
 fn a_client_that_goes_takes_its_entries_with_it(rt: HostRuntime) -> Result<(), Fail> {
     let mut table = three_entries(&rt, rt.alloc())?;
     table.drop_client(ClientId(1));
-    same(&rt, &entry(&table, 1, 3), &None, "client 1");
+    same(&rt, entry(&table, 1, 3), None, "client 1");
     let order = recall_order(rt.alloc(), &table)?;
     same_items(&rt, order.as_slice(), &[(2, 2)], "the order of recall");
     let holders = holders_of(rt.alloc(), &table, 2)?;
@@ -297,7 +292,7 @@ fn a_client_that_goes_takes_its_entries_with_it(rt: HostRuntime) -> Result<(), F
 fn one_client(rt: &impl Abort, alloc: Global) -> Result<CapTable, Fail> {
     let mut table = made(alloc)?;
     for ino in 2..5 {
-        same(rt, &open(&mut table, 1, ino), &Ok(()), ino);
+        same(rt, open(&mut table, 1, ino), Ok(()), ino);
     }
     touch(&mut table, 1, 2);
     Ok(table)
@@ -363,7 +358,7 @@ fn a_message_takes_the_mark_away_and_leaves_the_order(rt: HostRuntime) -> Result
     let mut table = one_client(&rt, rt.alloc())?;
     recalled(rt.alloc(), &mut table, 9)?;
     unmark(&mut table, 1, 3);
-    same(&rt, &is_asked(&table, 1, 3), &Some(false), "a message");
+    same(&rt, is_asked(&table, 1, 3), Some(false), "a message");
     let order = recall_order(rt.alloc(), &table)?;
     let wanted = [(1, 3), (1, 4), (1, 2)];
     same_items(&rt, order.as_slice(), &wanted, "the order of recall");

@@ -18,15 +18,15 @@ fn deep(rt: &impl Abort, alloc: Global) -> Result<Tree, Fail> {
     for _ in 0..MAX_NAMES {
         deepest = asked(&mut tree, Mkdir(deepest, b'd'))?;
     }
-    same(rt, &deepest, &33, "the last of the chain");
+    same(rt, deepest, 33, "the last of the chain");
     Ok(tree)
 }
 
 #[test]
 fn no_path_has_more_than_thirty_two_names(rt: HostRuntime) -> Result<(), Fail> {
     let mut tree = deep(&rt, rt.alloc())?;
-    same(&rt, &path_length(&tree, 33), &Some(32), "the deepest");
-    same(&rt, &led_by_path(&tree, 33), &Some(33), "the deepest");
+    same(&rt, path_length(&tree, 33), Some(32), "the deepest");
+    same(&rt, led_by_path(&tree, 33), Some(33), "the deepest");
     let steps = [
         (Create(33, b'f'), Err(TreeFault::TooDeep)),
         (MayCreate(33, b'f'), Err(TreeFault::TooDeep)),
@@ -55,7 +55,7 @@ fn what_lies_below_counts_too(rt: HostRuntime) -> Result<(), Fail> {
         (Rename(34, 32, b'p'), Ok(0)),
     ];
     play(&rt, &mut tree, &steps);
-    same(&rt, &parent(&tree, 34), &Some(32), "the pair");
+    same(&rt, parent(&tree, 34), Some(32), "the pair");
     Ok(())
 }
 
@@ -65,9 +65,9 @@ fn kept(rt: &impl Abort, alloc: Global) -> Result<Tree, Fail> {
     for n in 0..64 {
         let name = format!(in alloc; "n{n}")?;
         let attribute = set_xattr(&mut tree, 1, name.as_bytes(), b"");
-        same(rt, &attribute, &Ok(0), ("an attribute", n));
+        same(rt, attribute, Ok(0), ("an attribute", n));
         let snapshot = snap_add(&mut tree, 1, name.as_bytes());
-        same(rt, &snapshot, &Ok(0), ("a snapshot", n));
+        same(rt, snapshot, Ok(0), ("a snapshot", n));
     }
     Ok(tree)
 }
@@ -83,12 +83,12 @@ fn an_inode_has_sixty_four_attributes_and_snapshots(rt: HostRuntime) -> Result<(
     ];
     for (name, value, want) in cases {
         let answer = set_xattr(&mut tree, 1, name, value);
-        same(&rt, &answer, &want, (name, value.len()));
+        same(&rt, answer, want, (name, value.len()));
     }
     let snapshot = snap_add(&mut tree, 1, b"n64");
-    same(&rt, &snapshot, &Err(TreeFault::Limit), "one more snapshot");
+    same(&rt, snapshot, Err(TreeFault::Limit), "one more snapshot");
     let first = first_snapshot(&tree, 1);
-    same(&rt, &first, &Some(b"n0".as_slice()), "the first snapshot");
+    same(&rt, first, Some(b"n0".as_slice()), "the first snapshot");
     Ok(())
 }
 
@@ -96,7 +96,7 @@ fn an_inode_has_sixty_four_attributes_and_snapshots(rt: HostRuntime) -> Result<(
 fn with_long_name(rt: &impl Abort, alloc: Global) -> Result<Tree, Fail> {
     let mut tree = made(alloc)?;
     let long = create(&mut tree, 1, &[b'n'; 255]);
-    same(rt, &long, &Ok(2), "a long name");
+    same(rt, long, Ok(2), "a long name");
     Ok(tree)
 }
 
@@ -104,11 +104,11 @@ fn with_long_name(rt: &impl Abort, alloc: Global) -> Result<Tree, Fail> {
 fn names_have_up_to_255_bytes(rt: HostRuntime) -> Result<(), Fail> {
     let mut tree = with_long_name(&rt, rt.alloc())?;
     let long = [b'n'; 255];
-    same(&rt, &child(&tree, 1, &long), &Some(2), "a long name");
+    same(&rt, child(&tree, 1, &long), Some(2), "a long name");
     let slash = rename(&mut tree, 2, 1, b"a/b");
-    same(&rt, &slash, &Err(TreeFault::NameBad), "a slash in a name");
+    same(&rt, slash, Err(TreeFault::NameBad), "a slash in a name");
     let attribute = set_xattr(&mut tree, 1, &long, b"");
-    same(&rt, &attribute, &Ok(0), "a long name of an attribute");
+    same(&rt, attribute, Ok(0), "a long name of an attribute");
     Ok(())
 }
 
@@ -117,11 +117,11 @@ fn names_of_256_bytes_are_refused(rt: HostRuntime) -> Result<(), Fail> {
     let mut tree = with_long_name(&rt, rt.alloc())?;
     let too_long = [b'n'; 256];
     let bad = Err(TreeFault::NameBad);
-    same(&rt, &child(&tree, 1, &too_long), &None, "no such name");
+    same(&rt, child(&tree, 1, &too_long), None, "no such name");
     let file = create(&mut tree, 1, &too_long);
-    same(&rt, &file, &bad, "the name of a file");
+    same(&rt, file, bad, "the name of a file");
     let attribute = set_xattr(&mut tree, 1, &too_long, b"");
-    same(&rt, &attribute, &bad, "the name of an attribute");
+    same(&rt, attribute, bad, "the name of an attribute");
     Ok(())
 }
 
@@ -163,9 +163,9 @@ fn one_directory_holds_all_inodes(rt: HostRuntime) -> Result<(), Fail> {
         (Create(1, b'm'), Err(TreeFault::Limit)),
     ];
     let last = child(&tree, 1, b"65535");
-    same(&rt, &last, &Some(65536), "the last file");
+    same(&rt, last, Some(65536), "the last file");
     play(&rt, &mut tree, &steps);
-    same(&rt, &place(&tree, 65536), &Place::Gone, "unlinked");
+    same(&rt, place(&tree, 65536), Place::Gone, "unlinked");
     forget(&rt, &mut tree, 65536);
     play(&rt, &mut tree, &[(Create(1, b'm'), Ok(65537))]);
     Ok(())

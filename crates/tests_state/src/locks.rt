@@ -36,7 +36,7 @@ fn take(locks: &mut Locks, step: Step) -> Result<(), NoMemory> {
 // Sees that each lock of an inode is in this state, or that it has none.
 fn is_in(rt: &impl Abort, locks: &Locks, ino: u64, want: Option<LockState>, after: Option<Step>) {
     for part in PARTS {
-        same(rt, &locks.state(Ino(ino), part), &want, (after, ino, part));
+        same(rt, locks.state(Ino(ino), part), want, (after, ino, part));
     }
 }
 
@@ -108,7 +108,7 @@ fn each_part_has_a_lock_of_its_own(rt: HostRuntime) {
         file: lock_of(Part::F),
     };
     for part in PARTS {
-        same(&rt, &locks.of_part(part), &lock_of(part), part);
+        same(&rt, locks.of_part(part), lock_of(part), part);
     }
 }
 

@@ -77,8 +77,8 @@ fn play(
 
 fn is_at(rt: &impl Abort, sessions: &Sessions, client: u32, status: Option<Status>, blocked: bool) {
     let id = ClientId(client);
-    same(rt, &sessions.status(id), &status, client);
-    same(rt, &sessions.is_blocked(id), &blocked, client);
+    same(rt, sessions.status(id), status, client);
+    same(rt, sessions.is_blocked(id), blocked, client);
 }
 
 const COMING_AND_GOING: [(Ask, &str); 28] = [
@@ -136,7 +136,7 @@ fn open(
 ) -> Result<(), Fail> {
     let grants = read_grants(rt.alloc(), grants)?;
     let answer = sessions.open_session(ClientId(client), caller(uid), grants);
-    same(rt, &answer, &Ok(()), client);
+    same(rt, answer, Ok(()), client);
     Ok(())
 }
 
@@ -169,11 +169,11 @@ fn each_client_has_its_own_caller_and_grants(rt: HostRuntime) -> Result<(), Fail
         (3, 30, Flags4::R),
         (2, 20, Flags4::Rw),
     ] {
-        same(&rt, &uid_of(&sessions, client), &Some(uid), client);
-        same(&rt, &flags_of(&sessions, client), &Some(flags), client);
+        same(&rt, uid_of(&sessions, client), Some(uid), client);
+        same(&rt, flags_of(&sessions, client), Some(flags), client);
     }
     play(&rt, rt.alloc(), &mut sessions, &[(Close(2), "done")])?;
-    same(&rt, &uid_of(&sessions, 2), &None, "closed");
+    same(&rt, uid_of(&sessions, 2), None, "closed");
     holds(&rt, !has_grants(&sessions, 2), "closed");
     Ok(())
 }
@@ -200,7 +200,7 @@ fn full(rt: &impl Abort, alloc: Global) -> Result<Sessions, Fail> {
 
 #[test]
 fn sixty_four_sessions_are_the_most(rt: HostRuntime) -> Result<(), Fail> {
-    same(&rt, &MAX_SESSIONS, &64, "the most sessions");
+    same(&rt, MAX_SESSIONS, 64, "the most sessions");
     let mut sessions = full(&rt, rt.alloc())?;
     let steps = [
         (Open(64), "Limit"),
@@ -213,21 +213,16 @@ fn sixty_four_sessions_are_the_most(rt: HostRuntime) -> Result<(), Fail> {
         (Open(7), "Limit"),
     ];
     play(&rt, rt.alloc(), &mut sessions, &steps)?;
-    same(&rt, &fault_at(&sessions, 7), &Some(OpenFault::Limit), 7);
+    same(&rt, fault_at(&sessions, 7), Some(OpenFault::Limit), 7);
+    same(&rt, fault_at(&sessions, 8), Some(OpenFault::SessionOpen), 8);
     same(
         &rt,
-        &fault_at(&sessions, 8),
-        &Some(OpenFault::SessionOpen),
-        8,
-    );
-    same(
-        &rt,
-        &fault_at(&sessions, 99),
-        &Some(OpenFault::Blocklisted),
+        fault_at(&sessions, 99),
+        Some(OpenFault::Blocklisted),
         99,
     );
     play(&rt, rt.alloc(), &mut sessions, &[(Close(8), "done")])?;
-    same(&rt, &fault_at(&sessions, 7), &None, 7);
+    same(&rt, fault_at(&sessions, 7), None, 7);
     Ok(())
 }
 
@@ -243,7 +238,7 @@ fn blocked(rt: &impl Abort, alloc: Global) -> Result<Sessions, Fail> {
 
 #[test]
 fn a_thousand_and_twenty_four_blocked_clients_are_the_most(rt: HostRuntime) -> Result<(), Fail> {
-    same(&rt, &MAX_BLOCKED, &1024, "the most blocked clients");
+    same(&rt, MAX_BLOCKED, 1024, "the most blocked clients");
     let mut sessions = blocked(&rt, rt.alloc())?;
     let steps = [
         (Evict(1024), "NoSession"),

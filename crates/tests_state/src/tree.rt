@@ -65,14 +65,14 @@ fn with_a_stray(rt: &impl Abort, alloc: Global) -> Result<Tree, Fail> {
 #[test]
 fn an_unlinked_file_is_a_stray_until_it_is_forgotten(rt: HostRuntime) -> Result<(), Fail> {
     let mut tree = with_a_stray(&rt, rt.alloc())?;
-    same(&rt, &place(&tree, 2), &Place::Gone, "unlinked");
-    same(&rt, &path_length(&tree, 2), &None, "unlinked");
-    same(&rt, &child(&tree, 1, b"f"), &None, "unlinked");
+    same(&rt, place(&tree, 2), Place::Gone, "unlinked");
+    same(&rt, path_length(&tree, 2), None, "unlinked");
+    same(&rt, child(&tree, 1, b"f"), None, "unlinked");
     forget(&rt, &mut tree, 2);
-    same(&rt, &last(&tree), &2, "forgotten");
-    same(&rt, &place(&tree, 2), &Place::NoIno, "forgotten");
+    same(&rt, last(&tree), 2, "forgotten");
+    same(&rt, place(&tree, 2), Place::NoIno, "forgotten");
     play(&rt, &mut tree, &[(Create(1, b'f'), Ok(3))]);
-    same(&rt, &place(&tree, 3), &Place::Here, "made anew");
+    same(&rt, place(&tree, 3), Place::Here, "made anew");
     Ok(())
 }
 
@@ -90,16 +90,16 @@ fn a_directory_with_a_snapshot_is_not_empty(rt: HostRuntime) -> Result<(), Fail>
         (Rmdir(2), Ok(0)),
     ];
     let mut tree = played(&rt, rt.alloc(), &steps)?;
-    same(&rt, &child(&tree, 1, b"e"), &None, "the root");
+    same(&rt, child(&tree, 1, b"e"), None, "the root");
     let dots = snap_add(&mut tree, 1, b"..");
-    same(&rt, &dots, &Err(TreeFault::NameBad), "the root");
+    same(&rt, dots, Err(TreeFault::NameBad), "the root");
     Ok(())
 }
 
 // Sees that an inode has this path.
 fn has_path(rt: &impl Abort, tree: &Tree, ino: u64, names: &[&[u8]]) {
     let path = present(rt, tree.path_of(Ino(ino)), "a path");
-    same(rt, &path.len(), &names.len(), ino);
+    same(rt, path.len(), names.len(), ino);
     same_items(rt, path.as_slice(), names, ino);
 }
 
@@ -155,12 +155,12 @@ fn a_copy_equals_its_source_and_goes_its_own_way(rt: HostRuntime) -> Result<(), 
     let mut tree = kept(&rt, rt.alloc())?;
     let mut copy = tree.copy()?;
     play(&rt, &mut tree, &[(Unlink(3), Ok(0))]);
-    same(&rt, &resolved(&copy, &[b"d", b"f"]), &Some(3), "the copy");
+    same(&rt, resolved(&copy, &[b"d", b"f"]), Some(3), "the copy");
     let attribute = first_attribute(&copy, 3);
     same(
         &rt,
-        &attribute,
-        &Some((b"x".as_slice(), b"1".as_slice())),
+        attribute,
+        Some((b"x".as_slice(), b"1".as_slice())),
         "the copy",
     );
     let steps = [

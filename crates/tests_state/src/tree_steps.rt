@@ -114,7 +114,7 @@ pub(crate) fn made(alloc: Global) -> Result<Tree, Fail> {
 // Asks one after the other, and sees that the answers are the wanted ones.
 pub(crate) fn play(rt: &impl Abort, tree: &mut Tree, steps: &[(Ask, Answer)]) {
     for (number, (ask, want)) in steps.iter().enumerate() {
-        same(rt, &asked(tree, *ask), want, (number, *ask));
+        same(rt, asked(tree, *ask), *want, (number, *ask));
     }
 }
 
