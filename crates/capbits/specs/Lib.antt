@@ -4,3 +4,4 @@ pub mod Sets
 pub mod SetNumbers
 pub mod Text
 pub mod Caller
+pub mod Refusal

@@ -10,6 +10,7 @@ mod laws;
 mod mode;
 mod numbers;
 mod reader;
+mod refusal;
 mod set;
 mod text;
 
@@ -20,5 +21,6 @@ pub use laws::{one_part_for_a_cap, one_set_for_a_text};
 pub use mode::{MAX_MODE, Mode};
 pub use numbers::{read_mode, read_u32, read_u64};
 pub use reader::{CapText, read_caps};
+pub use refusal::Refusal;
 pub use set::CapSet;
 pub use text::{CapBytes, MAX_CAP_BYTES, write_caps};
