@@ -13,7 +13,7 @@ use Rattle.inotree.specs.Names.{name_cmp, is_bad_name, is_bad_attribute, is_dots
 use Rattle.inotree.specs.Node.{AttributeMap, NameSet}
 use Rattle.inotree.specs.Inodes.{InodeMap, with_setting, with_site, with_attribute, without_attribute, with_snapshot, without_snapshot}
 use Rattle.inotree.specs.Tree.{Nodes, IsTree, HasGoodNames, AllHaveGoodNames}
-use Rattle.inotree.specs.Calls.{test_at}
+use Rattle.inotree.specs.Tests.{test_at}
 use Rattle.inotree.proofs.Found.{both_true}
 use Rattle.inotree.proofs.Maps.{same_or_other, apart, insert-here, insert-other, remove-here, remove-other}
 use Rattle.inotree.proofs.Order.{name_total, name_same}

@@ -1,9 +1,17 @@
 -- What the tests of a call that were passed say of the tree.
-use Rattle.std.proofs.Common.{◌≡◌, ℕ, ◌-◌, Bool, true, false, not, nat_le, ◌<◌, ◌||◌, ◌==◌, List, [], ◌∷◌, length, Option, Some, None, is_some, ◌⊎◌, inl, inr, refl, sym, ap, ◌∙◌, arith}
+use Rattle.std.proofs.Common.{◌≡◌, ℕ, ◌-◌, Bool, true, false, not, nat_le, nat_lt, ◌<◌, ◌≤◌, ◌||◌, ◌==◌, List, [], ◌∷◌, ◌++◌, length, Option, Some, None, is_some, ◌⊎◌, inl, inr, refl, sym, ap, ◌∙◌, arith}
+use Rattle.std.specs.Prelude.{if◌then◌else◌}
+use Rattle.std.specs.Option.{option_map}
+use Rattle.std.proofs.lemmas.Bool.{cases_lt}
 use Rattle.std.proofs.lemmas.Bool.Decides.{nat_tests}
 use Rattle.std.specs.FinMap as map
-use Rattle.inotree.specs.declared.fault.TreeFault.{TreeFault}
+use Rattle.std.specs.FinSet as set
+use Rattle.capbits.specs.declared.refusal.Refusal.{Refusal}
+use Rattle.capbits.specs.declared.refusal.Refusal.TheVariants as refusal
+use Rattle.capbits.specs.Refusal.{first_failing}
+use Rattle.capbits.proofs.Tests.{passed-if}
 use Rattle.inotree.specs.declared.index.Slot.{Slot}
+use Rattle.inotree.specs.declared.node.Node.{Node}
 use Rattle.inotree.specs.declared.node.Site.{Site}
 use Rattle.inotree.specs.declared.node.Site.TheVariants.{Root, Under, Stray}
 use Rattle.inotree.specs.declared.node.Place.{Place}
@@ -12,9 +20,9 @@ use Rattle.inotree.specs.Names.{is_bad_name, is_bad_attribute}
 use Rattle.inotree.specs.Inodes.{InodeMap}
 use Rattle.inotree.specs.Index.{NameIndex}
 use Rattle.inotree.specs.Tree.{Nodes, IsTree, IsIndexed, IsUnder, site_of, place, place_at, path_at, slot_at, is_directory, child, depth, reaches, is_within}
-use Rattle.inotree.specs.Calls.{fails, or_next, place_fault, create_fault, unlink_fault, rmdir_fault, rename_fault, set_xattr_fault, snap_add_fault, directory_fault, name_fault, inode_fault}
+use Rattle.inotree.specs.Tests.{is_no_ino, is_gone, is_root_site, inode_tests, root_test, directory_test, name_tests, test_at, create_tests, unlink_tests, rmdir_tests, rename_tests, set_xattr_tests, remove_xattr_tests, snap_add_tests, snap_remove_tests}
 use Rattle.inotree.proofs.Growing.{reach_up}
-use Rattle.inotree.proofs.Inner.{long_name}
+use Rattle.inotree.proofs.Inner.{long_name, no_long_attribute, no_long_snapshot}
 use Rattle.inotree.proofs.Named.{child-index}
 
 gone_at : (s : Option Site) → place_at s ≡ Gone → s ≡ Some Stray
@@ -40,22 +48,10 @@ no_path NoIno names h = refl
 no_path Gone names h = refl
 no_path Here names h = elim h [ inl e ↦ cc | inr e ↦ cc ]
 
-or_none : (a b : Option TreeFault) → or_next a b ≡ None → (a ≡ None) × (b ≡ None)
-or_none None b e = (refl, e)
-or_none (Some f) b e = cc
-
--- the last test fails, where none before it does
-pub fails_last : (before : Option TreeFault) (b : Bool) (f : TreeFault) → None ≡ before → b ≡ true → Some f ≡ or_next before (fails b f)
-fails_last before b f passed is = sym (ap (λ o. or_next o (fails b f)) (sym passed) ∙ ap (λ x. fails x f) is)
-
-fails_none : (b : Bool) (f : TreeFault) → fails b f ≡ None → b ≡ false
-fails_none true f e = cc
-fails_none false f e = refl
-
-here_none : (p : Place) → place_fault p ≡ None → p ≡ Here
-here_none NoIno e = cc
-here_none Gone e = cc
-here_none Here e = refl
+here_by : (p : Place) → is_no_ino p ≡ false → is_gone p ≡ false → p ≡ Here
+here_by NoIno is was = cc
+here_by Gone is was = cc
+here_by Here is was = refl
 
 not_false : (b : Bool) → not b ≡ false → b ≡ true
 not_false true e = refl
@@ -69,6 +65,14 @@ or_both : (a b : Bool) → (a || b) ≡ false → (a ≡ false) × (b ≡ false)
 or_both true b e = cc
 or_both false b e = (refl, e)
 
+-- an inode that passed its tests is there, and so what comes behind them passed
+pub here : (t : Nodes) (i : ℕ) (rest : Option Refusal) → (if is_no_ino (place t.nodes i) then Some refusal.NoIno else if is_gone (place t.nodes i) then Some refusal.Gone else rest) ≡ None →
+    (place t.nodes i ≡ Here) × (rest ≡ None)
+here t i rest passed =
+    let no = passed-if (is_no_ino (place t.nodes i)) refusal.NoIno _ passed in
+    let gone = passed-if (is_gone (place t.nodes i)) refusal.Gone rest no.1 in
+    (here_by (place t.nodes i) no.0 gone.0, gone.1)
+
 -- the new name and its directory
 pub record Placeable (m : InodeMap) (d : ℕ) (a : List ℕ) : Type 0 where
   pub kind : is_directory m d ≡ true
@@ -76,16 +80,15 @@ pub record Placeable (m : InodeMap) (d : ℕ) (a : List ℕ) : Type 0 where
   pub good : is_bad_name a ≡ false
   pub free : child m d a ≡ None
 
-placeable : (t : Nodes) (d : ℕ) (a : List ℕ) → directory_fault t d ≡ None → name_fault t d a ≡ None → Placeable t.nodes d a
-placeable t d a p q =
-    let dir = or_none (inode_fault t d) _ p in
-    let name = or_none _ _ q in
-    record {
-      kind = not_false (is_directory t.nodes d) (fails_none _ _ dir.1);
-      here = here_none (place t.nodes d) dir.0;
-      good = fails_none _ _ name.0;
-      free = none_of (child t.nodes d a) (fails_none _ _ name.1);
-    }
+placeable : (t : Nodes) (d : ℕ) (a : List ℕ) (rest : Option Refusal) →
+    (if is_no_ino (place t.nodes d) then Some refusal.NoIno else if is_gone (place t.nodes d) then Some refusal.Gone else if not (is_directory t.nodes d) then Some refusal.NotDir else
+    if is_bad_name a then Some refusal.NameBad else if is_some (child t.nodes d a) then Some refusal.Exists else rest) ≡ None → Placeable t.nodes d a × (rest ≡ None)
+placeable t d a rest passed =
+    let at = here t d _ passed in
+    let dir = passed-if (not (is_directory t.nodes d)) refusal.NotDir _ at.1 in
+    let bad = passed-if (is_bad_name a) refusal.NameBad _ dir.1 in
+    let taken = passed-if (is_some (child t.nodes d a)) refusal.Exists rest bad.1 in
+    (record { kind = not_false (is_directory t.nodes d) dir.0; here = at.0; good = bad.0; free = none_of (child t.nodes d a) taken.0 }, taken.1)
 
 below_limit : (n : ℕ) → nat_le 32 n ≡ false → n < 32
 below_limit n e = grind (arith, nat_tests)
@@ -93,36 +96,86 @@ below_limit n e = grind (arith, nat_tests)
 not_last : (n : ℕ) → (n == 18446744073709551615) ≡ false → n ≡ 18446744073709551615 → ⊥
 not_last n e is = grind (arith, nat_tests)
 
-pub passed-create : (t : Nodes) (d : ℕ) (a : List ℕ) → create_fault t d a ≡ None → Placeable t.nodes d a × (depth t.nodes d < 32) × (t.last ≡ 18446744073709551615 → ⊥)
-passed-create t d a e =
-    let p = or_none (directory_fault t d) _ e in
-    let q = or_none (name_fault t d a) _ p.1 in
-    let r = or_none _ _ q.1 in
-    let s = or_both _ _ (fails_none _ _ r.1) in
-    (placeable t d a p.0 q.0, below_limit (depth t.nodes d) (fails_none _ _ r.0), not_last t.last s.1)
+pub passed-create : (t : Nodes) (d : ℕ) (a : List ℕ) → first_failing (create_tests t d a) ≡ None → Placeable t.nodes d a × (depth t.nodes d < 32) × (t.last ≡ 18446744073709551615 → ⊥)
+passed-create t d a passed =
+    let p = placeable t d a _ passed in
+    let deep = passed-if (nat_le 32 (depth t.nodes d)) refusal.TooDeep _ p.1 in
+    let full = passed-if (nat_le 65536 (map.len t.nodes) || (t.last == 18446744073709551615)) refusal.Limit _ deep.1 in
+    (p.0, below_limit (depth t.nodes d) deep.0, not_last t.last (or_both (nat_le 65536 (map.len t.nodes)) (t.last == 18446744073709551615) full.0).1)
 
-pub passed-unlink : (t : Nodes) (i : ℕ) → unlink_fault t i ≡ None → is_directory t.nodes i ≡ false
-passed-unlink t i e = let p = or_none (inode_fault t i) _ e in let q = or_none _ _ p.1 in fails_none _ _ q.1
+-- a name that can be given is not too long
+pub short : (a : List ℕ) → (255 < length a → ⊥) → length a ≤ 255
+short a not_long = elim (cases_lt 255 (length a)) [ inl long ↦ absurd (not_long long) | inr fits ↦ fits ]
 
-pub passed-rmdir : (t : Nodes) (i : ℕ) → rmdir_fault t i ≡ None → reaches 1 t.nodes i ≡ false
-passed-rmdir t i e =
-    let p = or_none (inode_fault t i) _ e in let q = or_none _ _ p.1 in let r = or_none _ _ q.1 in
-    (or_both (reaches 1 t.nodes i) _ (fails_none _ _ r.1)).0
+pub short_name : (a : List ℕ) → is_bad_name a ≡ false → length a ≤ 255
+short_name a good = short a (λ long. let bad = long_name a long in cc)
 
-pub passed-rename : (t : Nodes) (i d : ℕ) (a : List ℕ) → rename_fault t i d a ≡ None → Placeable t.nodes d a × (is_within t.nodes d i ≡ false) × (reaches (32 - depth t.nodes d) t.nodes i ≡ false)
-passed-rename t i d a e =
-    let p = or_none (inode_fault t i) _ e in
-    let q = or_none _ _ p.1 in
-    let r = or_none (directory_fault t d) _ q.1 in
-    let s = or_none (name_fault t d a) _ r.1 in
-    let u = or_none _ _ s.1 in
-    (placeable t d a r.0 s.0, fails_none _ _ u.0, fails_none _ _ u.1)
+known_at : (o : Option Node) → place_at (option_map (λ n. n.site) o) ≡ Here → (n : Node) × (o ≡ Some n)
+known_at None at = cc
+known_at (Some n) at = (n, refl)
 
-pub passed-set_xattr : (t : Nodes) (i : ℕ) (a v : List ℕ) → set_xattr_fault t i a v ≡ None → is_bad_attribute a ≡ false
-passed-set_xattr t i a v e = let p = or_none (inode_fault t i) _ e in let q = or_none _ _ p.1 in fails_none _ _ q.0
+known : (t : Nodes) (i : ℕ) → place t.nodes i ≡ Here → (n : Node) × (map.get t.nodes i ≡ Some n)
+known t i at = known_at (map.get t.nodes i) at
 
-pub passed-snap_add : (t : Nodes) (i : ℕ) (a : List ℕ) → snap_add_fault t i a ≡ None → is_bad_name a ≡ false
-passed-snap_add t i a e = let p = or_none (directory_fault t i) _ e in let q = or_none _ _ p.1 in fails_none _ _ q.0
+-- an inode that is not the root, and has a path, stands in a directory
+stands : (s : Option Site) → place_at s ≡ Here → is_root_site s ≡ false → (slot : Slot) × (slot_at s ≡ Some slot)
+stands None at root = cc
+stands (Some Root) at root = cc
+stands (Some Stray) at root = cc
+stands (Some (Under dir name)) at root = (record { dir = dir.0; name = name }, refl)
+
+-- so does one that may leave its place
+leaves : (t : Nodes) (i : ℕ) (rest : Option Refusal) →
+    (if is_no_ino (place t.nodes i) then Some refusal.NoIno else if is_gone (place t.nodes i) then Some refusal.Gone else if is_root_site (site_of t.nodes i) then Some refusal.Root else rest) ≡ None →
+    ((slot : Slot) × (slot_at (site_of t.nodes i) ≡ Some slot)) × (rest ≡ None)
+leaves t i rest passed =
+    let at = here t i _ passed in
+    let root = passed-if (is_root_site (site_of t.nodes i)) refusal.Root rest at.1 in
+    (stands (site_of t.nodes i) at.0 root.0, root.1)
+
+pub passed-unlink : (t : Nodes) (i : ℕ) → first_failing (unlink_tests t i) ≡ None → ((slot : Slot) × (slot_at (site_of t.nodes i) ≡ Some slot)) × (is_directory t.nodes i ≡ false)
+passed-unlink t i passed =
+    let p = leaves t i _ passed in
+    (p.0, (passed-if (is_directory t.nodes i) refusal.IsDir _ p.1).0)
+
+pub passed-rmdir : (t : Nodes) (i : ℕ) → first_failing (rmdir_tests t i) ≡ None → ((slot : Slot) × (slot_at (site_of t.nodes i) ≡ Some slot)) × (reaches 1 t.nodes i ≡ false)
+passed-rmdir t i passed =
+    let p = leaves t i _ passed in
+    let dir = passed-if (not (is_directory t.nodes i)) refusal.NotDir _ p.1 in
+    let empty = passed-if (reaches 1 t.nodes i || test_at (λ n. nat_lt 0 (set.len n.snapshots)) t i) refusal.NotEmpty _ dir.1 in
+    (p.0, (or_both (reaches 1 t.nodes i) _ empty.0).0)
+
+pub passed-rename : (t : Nodes) (i d : ℕ) (a : List ℕ) → first_failing (rename_tests t i d a) ≡ None →
+    ((slot : Slot) × (slot_at (site_of t.nodes i) ≡ Some slot)) × Placeable t.nodes d a × (is_within t.nodes d i ≡ false) × (reaches (32 - depth t.nodes d) t.nodes i ≡ false)
+passed-rename t i d a passed =
+    let p = leaves t i _ passed in
+    let q = placeable t d a _ p.1 in
+    let loop = passed-if (is_within t.nodes d i) refusal.Loop _ q.1 in
+    let deep = passed-if (reaches (32 - depth t.nodes d) t.nodes i) refusal.TooDeep _ loop.1 in
+    (p.0, q.0, loop.0, deep.0)
+
+pub passed-set_xattr : (t : Nodes) (i : ℕ) (a v : List ℕ) → first_failing (set_xattr_tests t i a v) ≡ None → is_bad_attribute a ≡ false
+passed-set_xattr t i a v passed = (passed-if (is_bad_attribute a) refusal.NameBad _ (here t i _ passed).1).0
+
+pub passed-snap_add : (t : Nodes) (i : ℕ) (a : List ℕ) → first_failing (snap_add_tests t i a) ≡ None → is_bad_name a ≡ false
+passed-snap_add t i a passed =
+    let dir = passed-if (not (is_directory t.nodes i)) refusal.NotDir _ (here t i _ passed).1 in
+    (passed-if (is_bad_name a) refusal.NameBad _ dir.1).0
+
+pub short_attribute : (t : Nodes) → IsTree t → (i : ℕ) (a : List ℕ) → first_failing (remove_xattr_tests t i a) ≡ None → length a ≤ 255
+short_attribute t tree i a passed =
+    let at = here t i _ passed in
+    let inode = known t i at.0 in
+    let found = (passed-if (test_at (λ n. not (map.contains_key n.attributes a)) t i) refusal.NoXattr _ at.1).0 in
+    short a (λ long. let absent = no_long_attribute t tree i inode.0 a inode.1 long in cc)
+
+pub short_snapshot : (t : Nodes) → IsTree t → (i : ℕ) (a : List ℕ) → first_failing (snap_remove_tests t i a) ≡ None → length a ≤ 255
+short_snapshot t tree i a passed =
+    let at = here t i _ passed in
+    let inode = known t i at.0 in
+    let dir = passed-if (not (is_directory t.nodes i)) refusal.NotDir _ at.1 in
+    let found = (passed-if (test_at (λ n. not (set.contains n.snapshots a)) t i) refusal.NoEnt _ dir.1).0 in
+    short a (λ long. let absent = no_long_snapshot t tree i inode.0 a inode.1 long in cc)
 
 pub childless_file : (m : InodeMap) (last k : ℕ) → IsTree (record { nodes = m; last = last }) → is_directory m k ≡ false → (i : ℕ) (b : List ℕ) → IsUnder m i k b → ⊥
 childless_file m last k t file i b u = let dir = (t.parents i k b u).0 in cc

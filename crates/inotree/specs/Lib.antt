@@ -5,3 +5,4 @@ pub mod Inodes
 pub mod Index
 pub mod Tree
 pub mod Calls
+pub mod Tests

@@ -3,7 +3,6 @@ ghost use Rattle.std.specs.Prelude.{◌≡◌, IfOk, OnOk, OnErr};
 ghost use Rattle.std.specs.Option.{option_copied};
 ghost use Rattle.std.specs.FinMap as map;
 
-use crate::fault::NoMemory;
 use crate::name::Name;
 use std::alloc::{AllocError, Global};
 use std::collections::{BTreeMap, btree_map};
@@ -31,12 +30,12 @@ impl Model for Value {
 
 impl Value {
     // A value with these bytes.
-    pub(crate) fn read(alloc: Global, bytes: &[u8]) -> Result<Value, NoMemory>
+    pub(crate) fn read(alloc: Global, bytes: &[u8]) -> Result<Value, AllocError>
         ensures { IfOk result (λ value. value ≡ bytes.now) }
     {
         match Vec::from_slice(alloc, bytes) {
             Ok(bytes) => Ok(Value { bytes }),
-            Err(AllocError) => Err(NoMemory),
+            Err(AllocError) => Err(AllocError),
         }
     }
 
@@ -97,7 +96,7 @@ impl Attributes {
     }
 
     // The same attributes once more.
-    pub(crate) fn copy(&self, alloc: Global) -> Result<Attributes, NoMemory>
+    pub(crate) fn copy(&self, alloc: Global) -> Result<Attributes, AllocError>
         ensures { IfOk result (λ copy. copy ≡ self.now) }
     {
         let mut made = Attributes::new(alloc);
@@ -109,7 +108,7 @@ impl Attributes {
     }
 
     // Gives the attribute this value, in place of one that is there.
-    pub(crate) fn insert(&mut self, name: Name, value: Value) -> Result<(), NoMemory>
+    pub(crate) fn insert(&mut self, name: Name, value: Value) -> Result<(), AllocError>
         ensures ok { OnOk result (self.new ≡ map.insert self.old name value) }
         ensures err { OnErr result (self.new ≡ self.old) }
     {

@@ -3,9 +3,8 @@ ghost use Rattle.std.specs.Prelude.{◌≡◌, IfOk, OnOk, OnErr};
 ghost use Rattle.std.specs.FinMap as map;
 ghost use Rattle.inotree.specs.Index.{names_in, AreInodes, index_reaches};
 
-use crate::fault::NoMemory;
 use crate::name::Name;
-use std::alloc::Global;
+use std::alloc::{AllocError, Global};
 use std::collections::{BTreeMap, btree_map};
 use std::marker::Model;
 use std::ops::Bound;
@@ -65,7 +64,7 @@ impl Index {
     }
 
     // The same names once more.
-    pub(crate) fn copy(&self, alloc: Global) -> Result<Index, NoMemory>
+    pub(crate) fn copy(&self, alloc: Global) -> Result<Index, AllocError>
         ensures { IfOk result (λ copy. copy ≡ self.now) }
     {
         let mut made = Index::new(alloc);
@@ -83,7 +82,7 @@ impl Index {
     }
 
     // Puts an inode at a name.
-    pub(crate) fn insert(&mut self, slot: Slot, ino: u64) -> Result<(), NoMemory>
+    pub(crate) fn insert(&mut self, slot: Slot, ino: u64) -> Result<(), AllocError>
         ensures ok { OnOk result (self.new ≡ map.insert self.old slot ino) }
         ensures err { OnErr result (self.new ≡ self.old) }
     {

@@ -7,13 +7,12 @@ ghost use Rattle.inotree.specs.Inodes.{with_setting, with_site, with_attribute, 
 ghost use Rattle.inotree.specs.Tree.{site_of, slot_at, parent, is_within, names_up};
 
 use crate::attributes::Value;
-use crate::fault::NoMemory;
 use crate::index::Slot;
 use crate::name::Name;
 use crate::names::{MAX_NAMES, Names};
 use crate::node::{Node, Setting, Site};
 use capbits::Ino;
-use std::alloc::Global;
+use std::alloc::{AllocError, Global};
 use std::collections::{BTreeMap, btree_map};
 use std::marker::Model;
 
@@ -52,7 +51,7 @@ impl Inodes {
     }
 
     // The same inodes once more.
-    pub(crate) fn copy(&self, alloc: Global) -> Result<Inodes, NoMemory>
+    pub(crate) fn copy(&self, alloc: Global) -> Result<Inodes, AllocError>
         ensures { IfOk result (λ copy. copy ≡ self.now) }
     {
         let mut made = Inodes::new(alloc);
@@ -77,7 +76,7 @@ impl Inodes {
     }
 
     // Puts an inode under this number.
-    pub(crate) fn insert(&mut self, ino: u64, node: Node) -> Result<(), NoMemory>
+    pub(crate) fn insert(&mut self, ino: u64, node: Node) -> Result<(), AllocError>
         ensures ok { OnOk result (self.new ≡ map.insert self.old ino node) }
         ensures err { OnErr result (self.new ≡ self.old) }
     {
@@ -175,7 +174,7 @@ impl Inodes {
         ino: u64,
         name: Name,
         value: Value,
-    ) -> Result<(), NoMemory>
+    ) -> Result<(), AllocError>
         ensures ok { OnOk result (self.new ≡ change_at (with_attribute name value) self.old ino) }
         ensures err { OnErr result (self.new ≡ self.old) }
     {
@@ -195,7 +194,7 @@ impl Inodes {
     }
 
     // Adds a snapshot name to an inode, if there is one of this number.
-    pub(crate) fn add_snapshot(&mut self, ino: u64, name: Name) -> Result<(), NoMemory>
+    pub(crate) fn add_snapshot(&mut self, ino: u64, name: Name) -> Result<(), AllocError>
         ensures ok { OnOk result (self.new ≡ change_at (with_snapshot name) self.old ino) }
         ensures err { OnErr result (self.new ≡ self.old) }
     {

@@ -4,7 +4,6 @@
 #![tactic(auto)]
 
 mod attributes;
-mod fault;
 mod index;
 mod inodes;
 mod laws;
@@ -15,7 +14,6 @@ mod snapshots;
 mod tree;
 
 pub use attributes::{Attributes, MAX_ATTRIBUTES, MAX_VALUE, Value};
-pub use fault::{NoMemory, TreeFault};
 pub use laws::{
     a_child_stands_under_its_name, depth_is_the_length_of_the_path,
     too_deep_is_a_path_of_too_many_names, within_is_below,

@@ -3,12 +3,11 @@
 ghost use Rattle.std.specs.Prelude.{◌≡◌, IfOk};
 
 use crate::attributes::Attributes;
-use crate::fault::NoMemory;
 use crate::name::Name;
 use crate::snapshots::Snapshots;
 use capbits::{Ino, Mode};
 use capgrant::Attr;
-use std::alloc::Global;
+use std::alloc::{AllocError, Global};
 
 /// What an inode is.
 #[derive(Clone, Copy, Debug, PartialEq, Eq)]
@@ -74,7 +73,7 @@ impl Node {
     ghost use Rattle.inotree.specs.Inodes.{with_setting};
 
     // The same node once more.
-    pub(crate) fn copy(&self, alloc: Global) -> Result<Node, NoMemory>
+    pub(crate) fn copy(&self, alloc: Global) -> Result<Node, AllocError>
         ensures { IfOk result (λ copy. copy ≡ self.now) }
     {
         Ok(Node {

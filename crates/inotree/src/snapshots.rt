@@ -6,9 +6,8 @@ ghost use Rattle.std.specs.Ordering.{eq_by_cmp};
 ghost use Rattle.std.specs.FinSet as set;
 ghost use Rattle.inotree.specs.Names.{name_cmp};
 
-use crate::fault::NoMemory;
 use crate::name::Name;
-use std::alloc::Global;
+use std::alloc::{AllocError, Global};
 use std::collections::{BTreeSet, btree_set};
 use std::marker::Model;
 
@@ -65,7 +64,7 @@ impl Snapshots {
     }
 
     // The same names once more.
-    pub(crate) fn copy(&self, alloc: Global) -> Result<Snapshots, NoMemory>
+    pub(crate) fn copy(&self, alloc: Global) -> Result<Snapshots, AllocError>
         ensures { IfOk result (λ copy. copy ≡ self.now) }
     {
         let mut made = Snapshots::new(alloc);
@@ -76,7 +75,7 @@ impl Snapshots {
     }
 
     // Takes the name in.
-    pub(crate) fn insert(&mut self, name: Name) -> Result<(), NoMemory>
+    pub(crate) fn insert(&mut self, name: Name) -> Result<(), AllocError>
         ensures ok { OnOk result (self.new ≡ set.insert self.old name) }
         ensures err { OnErr result (self.new ≡ self.old) }
     {

@@ -1,24 +1,25 @@
 //! The tree of inodes.
-ghost use Rattle.std.specs.Prelude.{◌≡◌, ◌+◌, ◌≤◌, IfOk, IfErr, IfSome, OnOk, OnErr, All, IsTrue, unwrap_or, map as each};
+ghost use Rattle.std.specs.Prelude.{◌≡◌, ◌+◌, ◌≤◌, ◌&&◌, not, nat_le, [], ◌∷◌, is_some, IfOk, IfSome, OnOk, OnErr, All, IsTrue, map as each};
 ghost use Rattle.std.specs.Option.{option_copied, option_map};
-ghost use Rattle.std.specs.Result.{result_err};
 ghost use Rattle.std.specs.FinMap as map;
 ghost use Rattle.capspec.specs.Names.{is_name};
 ghost use Rattle.inotree.specs.Inodes.{with_setting, with_attribute, without_attribute, with_snapshot, without_snapshot};
-ghost use Rattle.inotree.specs.Tree.{IsTree, place, parent, child, follow, path_of, depth, reaches};
-ghost use Rattle.inotree.specs.Calls.{first_tree, inode_fault, directory_fault, name_fault, create_fault, unlink_fault, rmdir_fault, rename_fault, set_fault, set_xattr_fault, remove_xattr_fault, snap_add_fault, snap_remove_fault, with_new, changed, unlinked, moved, forgotten};
+ghost use Rattle.capbits.specs.Refusal.{first_failing};
+ghost use Rattle.inotree.specs.Tree.{IsTree, place, parent, child, follow, path_of, is_directory, depth, reaches};
+ghost use Rattle.inotree.specs.Tests.{inode_tests, root_test, file_test, directory_test, empty_test, name_tests, new_inode_tests, new_place_tests, setting_tests, test_at, new_attribute_tests, old_attribute_tests, new_snapshot_tests, old_snapshot_tests};
+ghost use Rattle.inotree.specs.Tests.{create_tests, unlink_tests, rmdir_tests, rename_tests, set_tests, set_xattr_tests, remove_xattr_tests, snap_add_tests, snap_remove_tests};
+ghost use Rattle.inotree.specs.Calls.{first_tree, with_new, changed, unlinked, moved, forgotten};
 
 use crate::attributes::{Attributes, MAX_ATTRIBUTES, MAX_VALUE, Value};
-use crate::fault::{NoMemory, TreeFault};
 use crate::index::{Index, Slot};
 use crate::inodes::Inodes;
 use crate::name::{Name, is_bad_attribute, is_bad_name};
 use crate::names::{MAX_NAMES, Names};
 use crate::node::{Kind, Node, Place, Setting, Site};
 use crate::snapshots::{MAX_SNAPSHOTS, Snapshots};
-use capbits::Ino;
+use capbits::{Ino, Refusal};
 use capgrant::Attr;
-use std::alloc::Global;
+use std::alloc::{AllocError, Global};
 use std::marker::Model;
 
 /// How many inodes there may be at a time, with the root and the strays.
@@ -52,7 +53,7 @@ impl Model for Tree {
 
 impl Tree {
     /// A root alone, with this owner, group and mode.
-    pub fn new(alloc: Global, attr: Attr) -> Result<Tree, NoMemory>
+    pub fn new(alloc: Global, attr: Attr) -> Result<Tree, AllocError>
         ensures { IfOk result (λ tree. tree ≡ first_tree attr) }
     {
         let mut inodes = Inodes::new(alloc);
@@ -75,7 +76,7 @@ impl Tree {
     }
 
     /// The same tree once more.
-    pub fn copy(&self) -> Result<Tree, NoMemory>
+    pub fn copy(&self) -> Result<Tree, AllocError>
         ensures { IfOk result (λ copy. copy ≡ self.now) }
     {
         Ok(Tree {
@@ -161,29 +162,16 @@ impl Tree {
         }
     }
 
-    // The inode, if it is there and no stray.
-    fn living(&self, ino: Ino) -> Result<&Node, TreeFault>
-        ensures fault { result_err result ≡ inode_fault self.now ino.0 }
-        ensures node { IfOk result (λ node. map.get self.now.nodes ino.0 ≡ Some node.now) }
+    // The inode, if it is there and a directory.
+    fn directory(&self, ino: Ino) -> Option<&Node>
+        ensures is { is_some result ≡ is_directory self.now.nodes ino.0 }
+        ensures sound { IsTree self.now }
+        ensures node { IfSome result (λ node. map.get self.now.nodes ino.0 ≡ Some node.now) }
     {
-        match self.inodes.get(ino.0) {
-            None => Err(TreeFault::NoIno),
-            Some(node) => match &node.site {
-                Site::Stray => Err(TreeFault::Gone),
-                Site::Root | Site::Under { .. } => Ok(node),
-            },
-        }
-    }
-
-    // The inode, if it is there, no stray and a directory.
-    fn living_directory(&self, ino: Ino) -> Result<&Node, TreeFault>
-        ensures fault { result_err result ≡ directory_fault self.now ino.0 }
-        ensures node { IfOk result (λ node. map.get self.now.nodes ino.0 ≡ Some node.now) }
-    {
-        let node = self.living(ino)?;
+        let node = self.inodes.get(ino.0)?;
         match node.kind {
-            Kind::Directory => Ok(node),
-            Kind::File => Err(TreeFault::NotDir),
+            Kind::Directory => Some(node),
+            Kind::File => None,
         }
     }
 
@@ -203,138 +191,213 @@ impl Tree {
         self.names.reaches(ino.0, steps)
     }
 
-    // The tests of a new name in a directory.
-    fn check_name(&self, dir: Ino, name: &[u8]) -> Result<(), TreeFault>
-        ensures { result_err result ≡ name_fault self.now dir.0 name.now }
+    // ---- what would be refused
+
+    /// Why nothing can be asked of an inode: it is not there, or a stray.
+    pub fn inode_refusal(&self, ino: Ino) -> Option<Refusal>
+        ensures { result ≡ first_failing (inode_tests self.now ino.0) }
     {
+        match self.place(ino) {
+            Place::NoIno => Some(Refusal::NoIno),
+            Place::Gone => Some(Refusal::Gone),
+            Place::Here => None,
+        }
+    }
+
+    /// Why an inode can't leave its place: it is the root.
+    pub fn root_refusal(&self, ino: Ino) -> Option<Refusal>
+        ensures { result ≡ first_failing (root_test self.now ino.0 ∷ []) }
+    {
+        match &self.inodes.get(ino.0)?.site {
+            Site::Root => Some(Refusal::Root),
+            Site::Under { .. } | Site::Stray => None,
+        }
+    }
+
+    /// Why an inode can't be unlinked or be given a size: it is a directory.
+    pub fn file_refusal(&self, ino: Ino) -> Option<Refusal>
+        ensures { result ≡ first_failing (file_test self.now ino.0 ∷ []) }
+    {
+        match self.directory(ino) {
+            Some(_directory) => Some(Refusal::IsDir),
+            None => None,
+        }
+    }
+
+    /// Why an inode can't be removed as an empty directory.
+    pub fn empty_refusal(&self, ino: Ino) -> Option<Refusal>
+        ensures { result ≡ first_failing (directory_test self.now ino.0 ∷ empty_test self.now ino.0 ∷ []) }
+    {
+        let Some(node) = self.directory(ino) else {
+            return Some(Refusal::NotDir);
+        };
+        if self.reaches(ino, 1) || node.snapshots.len() > 0 {
+            return Some(Refusal::NotEmpty);
+        }
+        None
+    }
+
+    // Why a name can't be given in a directory.
+    fn name_refusal(&self, dir: Ino, name: &[u8]) -> Option<Refusal>
+        ensures { result ≡ first_failing (directory_test self.now dir.0 ∷ name_tests self.now dir.0 name.now) }
+    {
+        if self.directory(dir).is_none() {
+            return Some(Refusal::NotDir);
+        }
         if is_bad_name(name) {
-            return Err(TreeFault::NameBad);
+            return Some(Refusal::NameBad);
         }
         if self.child(dir, name).is_some() {
-            return Err(TreeFault::Exists);
+            return Some(Refusal::Exists);
         }
-        Ok(())
+        None
     }
 
-    // The tests of a new inode.
-    fn check_create(&self, dir: Ino, name: &[u8]) -> Result<(), TreeFault>
-        ensures { result_err result ≡ create_fault self.now dir.0 name.now }
+    /// Why a directory can't have a new inode under a name.
+    pub fn new_inode_refusal(&self, dir: Ino, name: &[u8]) -> Option<Refusal>
+        ensures { result ≡ first_failing (new_inode_tests self.now dir.0 name.now) }
     {
-        self.living_directory(dir)?;
-        self.check_name(dir, name)?;
+        if let Some(refusal) = self.name_refusal(dir, name) {
+            return Some(refusal);
+        }
         if self.depth(dir) >= MAX_NAMES {
-            return Err(TreeFault::TooDeep);
+            return Some(Refusal::TooDeep);
         }
         if self.inodes.len() >= MAX_INODES || self.last == u64::MAX {
-            return Err(TreeFault::Limit);
+            return Some(Refusal::Limit);
         }
-        Ok(())
+        None
     }
 
-    // The tests of a file that is unlinked.
-    fn check_unlink(&self, ino: Ino) -> Result<(), TreeFault>
-        ensures { result_err result ≡ unlink_fault self.now ino.0 }
+    /// Why an inode can't stand in a directory under a name.
+    pub fn new_place_refusal(&self, ino: Ino, dir: Ino, name: &[u8]) -> Option<Refusal>
+        ensures { result ≡ first_failing (new_place_tests self.now ino.0 dir.0 name.now) }
     {
-        let node = self.living(ino)?;
-        if matches!(&node.site, Site::Root) {
-            return Err(TreeFault::Root);
+        if let Some(refusal) = self.name_refusal(dir, name) {
+            return Some(refusal);
         }
-        match node.kind {
-            Kind::Directory => Err(TreeFault::IsDir),
-            Kind::File => Ok(()),
-        }
-    }
-
-    // The tests of a directory that is removed.
-    fn check_rmdir(&self, ino: Ino) -> Result<(), TreeFault>
-        ensures { result_err result ≡ rmdir_fault self.now ino.0 }
-    {
-        let node = self.living(ino)?;
-        if matches!(&node.site, Site::Root) {
-            return Err(TreeFault::Root);
-        }
-        if node.kind == Kind::File {
-            return Err(TreeFault::NotDir);
-        }
-        if self.reaches(ino, 1) || node.snapshots.len() > 0 {
-            return Err(TreeFault::NotEmpty);
-        }
-        Ok(())
-    }
-
-    // The tests of a move.
-    fn check_rename(&self, ino: Ino, dir: Ino, name: &[u8]) -> Result<(), TreeFault>
-        ensures { result_err result ≡ rename_fault self.now ino.0 dir.0 name.now }
-    {
-        let node = self.living(ino)?;
-        if matches!(&node.site, Site::Root) {
-            return Err(TreeFault::Root);
-        }
-        self.living_directory(dir)?;
-        self.check_name(dir, name)?;
         if self.inodes.is_within(dir.0, ino.0) {
-            return Err(TreeFault::Loop);
+            return Some(Refusal::Loop);
         }
         if self.reaches(ino, MAX_NAMES - self.depth(dir)) {
-            return Err(TreeFault::TooDeep);
+            return Some(Refusal::TooDeep);
         }
-        Ok(())
+        None
     }
 
-    /// Why `create` or `mkdir` would be refused now, if it would. Want of memory is not foreseen.
-    pub fn create_fault(&self, dir: Ino, name: &[u8]) -> Option<TreeFault>
-        ensures { result ≡ create_fault self.now dir.0 name.now }
+    /// Why a field of an inode can't be set: a file alone has a size.
+    pub fn setting_refusal(&self, ino: Ino, setting: Setting) -> Option<Refusal>
+        ensures { result ≡ first_failing (setting_tests self.now ino.0 setting) }
     {
-        self.check_create(dir, name).err()
+        match setting {
+            Setting::Size(_) => self.file_refusal(ino),
+            Setting::Mode(_) | Setting::Uid(_) | Setting::Gid(_) | Setting::Time(_) => None,
+        }
     }
 
-    /// Why `rmdir` would be refused now, if it would.
-    pub fn rmdir_fault(&self, ino: Ino) -> Option<TreeFault>
-        ensures { result ≡ rmdir_fault self.now ino.0 }
+    /// Why an inode can't have a value in an attribute.
+    pub fn new_attribute_refusal(&self, ino: Ino, name: &[u8], value: &[u8]) -> Option<Refusal>
+        ensures { result ≡ first_failing (new_attribute_tests self.now ino.0 name.now value.now) }
     {
-        self.check_rmdir(ino).err()
+        if is_bad_attribute(name) {
+            return Some(Refusal::NameBad);
+        }
+        if value.len() > MAX_VALUE || self.is_full(ino, &Name::of(name)) {
+            return Some(Refusal::Limit);
+        }
+        None
     }
 
-    /// Why `rename` would be refused now, if it would. Want of memory is not foreseen.
-    pub fn rename_fault(&self, ino: Ino, dir: Ino, name: &[u8]) -> Option<TreeFault>
-        ensures { result ≡ rename_fault self.now ino.0 dir.0 name.now }
+    // Whether an inode has as many attributes as it may, and not this one.
+    fn is_full(&self, ino: Ino, name: &Name) -> bool
+        ensures { result ≡ test_at (λ n. not (map.contains_key n.attributes name.now) && nat_le MAX_ATTRIBUTES (map.len n.attributes)) self.now ino.0 }
     {
-        self.check_rename(ino, dir, name).err()
+        match self.inodes.get(ino.0) {
+            Some(node) => {
+                node.attributes.get(name).is_none() && node.attributes.len() >= MAX_ATTRIBUTES
+            }
+            None => false,
+        }
     }
+
+    /// Why an attribute can't be taken from an inode: it has none of this name.
+    pub fn old_attribute_refusal(&self, ino: Ino, name: &[u8]) -> Option<Refusal>
+        ensures { result ≡ first_failing (old_attribute_tests self.now ino.0 name.now) }
+    {
+        let node = self.inodes.get(ino.0)?;
+        let Some(name) = Name::read(name) else {
+            return Some(Refusal::NoXattr);
+        };
+        match node.attributes.get(&name) {
+            Some(_value) => None,
+            None => Some(Refusal::NoXattr),
+        }
+    }
+
+    /// Why an inode can't have a new snapshot of a name.
+    pub fn new_snapshot_refusal(&self, ino: Ino, name: &[u8]) -> Option<Refusal>
+        ensures { result ≡ first_failing (new_snapshot_tests self.now ino.0 name.now) }
+    {
+        let Some(node) = self.directory(ino) else {
+            return Some(Refusal::NotDir);
+        };
+        if is_bad_name(name) {
+            return Some(Refusal::NameBad);
+        }
+        if node.snapshots.contains(&Name::of(name)) {
+            return Some(Refusal::Exists);
+        }
+        if node.snapshots.len() >= MAX_SNAPSHOTS {
+            return Some(Refusal::Limit);
+        }
+        None
+    }
+
+    /// Why a snapshot can't be taken from an inode.
+    pub fn old_snapshot_refusal(&self, ino: Ino, name: &[u8]) -> Option<Refusal>
+        ensures { result ≡ first_failing (old_snapshot_tests self.now ino.0 name.now) }
+    {
+        let Some(node) = self.directory(ino) else {
+            return Some(Refusal::NotDir);
+        };
+        let Some(name) = Name::read(name) else {
+            return Some(Refusal::NoEnt);
+        };
+        if !node.snapshots.contains(&name) {
+            return Some(Refusal::NoEnt);
+        }
+        None
+    }
+
+    // ---- changes, whose tests were passed
 
     /// Makes a file in a directory, with this owner, group and mode, and answers its number.
-    pub fn create(&mut self, dir: Ino, name: &[u8], attr: Attr) -> Result<Ino, TreeFault>
-        ensures passed { OnOk result (create_fault self.old dir.0 name.now ≡ None) }
+    pub fn create(&mut self, dir: Ino, name: &[u8], attr: Attr) -> Result<Ino, AllocError>
+        requires passed { first_failing (create_tests self.old dir.0 name.now) ≡ None }
         ensures ok { OnOk result (self.new ≡ with_new self.old Kind.File dir.0 name.now attr) }
         ensures ino { IfOk result (λ ino. ino.0 ≡ self.old.last + 1) }
-        // The first test that fails, and for want of memory only where none does.
-        ensures fault { IfErr result (λ fault. fault ≡ unwrap_or (create_fault self.old dir.0 name.now) TreeFault.NoMemory) }
         ensures err { OnErr result (self.new ≡ self.old) }
     {
         self.add(Kind::File, dir, name, attr)
     }
 
     /// Makes a directory in a directory, with this owner, group and mode, and answers its number.
-    pub fn mkdir(&mut self, dir: Ino, name: &[u8], attr: Attr) -> Result<Ino, TreeFault>
-        ensures passed { OnOk result (create_fault self.old dir.0 name.now ≡ None) }
+    pub fn mkdir(&mut self, dir: Ino, name: &[u8], attr: Attr) -> Result<Ino, AllocError>
+        requires passed { first_failing (create_tests self.old dir.0 name.now) ≡ None }
         ensures ok { OnOk result (self.new ≡ with_new self.old Kind.Directory dir.0 name.now attr) }
         ensures ino { IfOk result (λ ino. ino.0 ≡ self.old.last + 1) }
-        // The first test that fails, and for want of memory only where none does.
-        ensures fault { IfErr result (λ fault. fault ≡ unwrap_or (create_fault self.old dir.0 name.now) TreeFault.NoMemory) }
         ensures err { OnErr result (self.new ≡ self.old) }
     {
         self.add(Kind::Directory, dir, name, attr)
     }
 
     // Makes an inode of this kind.
-    fn add(&mut self, kind: Kind, dir: Ino, name: &[u8], attr: Attr) -> Result<Ino, TreeFault>
-        ensures passed { OnOk result (create_fault self.old dir.0 name.now ≡ None) }
+    fn add(&mut self, kind: Kind, dir: Ino, name: &[u8], attr: Attr) -> Result<Ino, AllocError>
+        requires passed { first_failing (create_tests self.old dir.0 name.now) ≡ None }
         ensures ok { OnOk result (self.new ≡ with_new self.old kind dir.0 name.now attr) }
         ensures ino { IfOk result (λ ino. ino.0 ≡ self.old.last + 1) }
-        ensures fault { IfErr result (λ fault. fault ≡ unwrap_or (create_fault self.old dir.0 name.now) TreeFault.NoMemory) }
         ensures err { OnErr result (self.new ≡ self.old) }
     {
-        self.check_create(dir, name)?;
         let ino = self.last + 1;
         let node = Node {
             kind,
@@ -353,55 +416,46 @@ impl Tree {
             name: Name::of(name),
         };
         if self.inodes.insert(ino, node).is_err() {
-            return Err(TreeFault::NoMemory);
+            return Err(AllocError);
         }
         if self.names.insert(slot, ino).is_err() {
             self.inodes.remove(ino);
-            return Err(TreeFault::NoMemory);
+            return Err(AllocError);
         }
         self.last = ino;
         Ok(Ino(ino))
     }
 
-    /// Unlinks a file, which stays as a stray until it is forgotten. A refusal changes nothing.
-    pub fn unlink(&mut self, ino: Ino) -> Result<(), TreeFault>
-        ensures fault { result_err result ≡ unlink_fault self.old ino.0 }
-        ensures ok { OnOk result (self.new ≡ unlinked self.old ino.0) }
-        ensures err { OnErr result (self.new ≡ self.old) }
+    /// Unlinks a file, which stays as a stray until it is forgotten.
+    pub fn unlink(&mut self, ino: Ino)
+        requires passed { first_failing (unlink_tests self.old ino.0) ≡ None }
+        ensures { self.new ≡ unlinked self.old ino.0 }
     {
-        self.check_unlink(ino)?;
         let Some(slot) = self.inodes.slot_of(ino.0) else {
             unreachable!()
         };
         self.names.remove(&slot);
         self.inodes.set_site(ino.0, Site::Stray);
-        Ok(())
     }
 
-    /// Removes an empty directory, which stays as a stray until it is forgotten. A refusal changes nothing.
-    pub fn rmdir(&mut self, ino: Ino) -> Result<(), TreeFault>
-        ensures fault { result_err result ≡ rmdir_fault self.old ino.0 }
-        ensures ok { OnOk result (self.new ≡ unlinked self.old ino.0) }
-        ensures err { OnErr result (self.new ≡ self.old) }
+    /// Removes an empty directory, which stays as a stray until it is forgotten.
+    pub fn rmdir(&mut self, ino: Ino)
+        requires passed { first_failing (rmdir_tests self.old ino.0) ≡ None }
+        ensures { self.new ≡ unlinked self.old ino.0 }
     {
-        self.check_rmdir(ino)?;
         let Some(slot) = self.inodes.slot_of(ino.0) else {
             unreachable!()
         };
         self.names.remove(&slot);
         self.inodes.set_site(ino.0, Site::Stray);
-        Ok(())
     }
 
-    /// Moves an inode into a directory, under a name. A refusal changes nothing.
-    pub fn rename(&mut self, ino: Ino, dir: Ino, name: &[u8]) -> Result<(), TreeFault>
-        ensures passed { OnOk result (rename_fault self.old ino.0 dir.0 name.now ≡ None) }
+    /// Moves an inode into a directory, under a name.
+    pub fn rename(&mut self, ino: Ino, dir: Ino, name: &[u8]) -> Result<(), AllocError>
+        requires passed { first_failing (rename_tests self.old ino.0 dir.0 name.now) ≡ None }
         ensures ok { OnOk result (self.new ≡ moved self.old ino.0 dir.0 name.now) }
-        // The first test that fails, and for want of memory only where none does.
-        ensures fault { IfErr result (λ fault. fault ≡ unwrap_or (rename_fault self.old ino.0 dir.0 name.now) TreeFault.NoMemory) }
         ensures err { OnErr result (self.new ≡ self.old) }
     {
-        self.check_rename(ino, dir, name)?;
         let Some(old) = self.inodes.slot_of(ino.0) else {
             unreachable!()
         };
@@ -410,7 +464,7 @@ impl Tree {
             name: Name::of(name),
         };
         if self.names.insert(slot, ino.0).is_err() {
-            return Err(TreeFault::NoMemory);
+            return Err(AllocError);
         }
         self.names.remove(&old);
         let site = Site::Under {
@@ -421,119 +475,55 @@ impl Tree {
         Ok(())
     }
 
-    /// Sets a field of an inode. A refusal changes nothing.
-    pub fn set(&mut self, ino: Ino, setting: Setting) -> Result<(), TreeFault>
-        ensures fault { result_err result ≡ set_fault self.old ino.0 setting }
-        ensures ok { OnOk result (self.new ≡ changed (with_setting setting) self.old ino.0) }
-        ensures err { OnErr result (self.new ≡ self.old) }
+    /// Sets a field of an inode.
+    pub fn set(&mut self, ino: Ino, setting: Setting)
+        requires passed { first_failing (set_tests self.old ino.0 setting) ≡ None }
+        ensures { self.new ≡ changed (with_setting setting) self.old ino.0 }
     {
-        let node = self.living(ino)?;
-        if matches!(setting, Setting::Size(_)) && node.kind == Kind::Directory {
-            return Err(TreeFault::IsDir);
-        }
         self.inodes.set(ino.0, setting);
-        Ok(())
     }
 
-    // The tests of a new value of an attribute.
-    fn check_set_xattr(&self, ino: Ino, name: &[u8], value: &[u8]) -> Result<(), TreeFault>
-        ensures { result_err result ≡ set_xattr_fault self.now ino.0 name.now value.now }
-    {
-        let node = self.living(ino)?;
-        if is_bad_attribute(name) {
-            return Err(TreeFault::NameBad);
-        }
-        let name = Name::of(name);
-        let is_new = node.attributes.get(&name).is_none();
-        if value.len() > MAX_VALUE || (is_new && node.attributes.len() >= MAX_ATTRIBUTES) {
-            return Err(TreeFault::Limit);
-        }
-        Ok(())
-    }
-
-    /// Gives an attribute of an inode a value, in place of the one that it may have. A refusal changes nothing.
-    pub fn set_xattr(&mut self, ino: Ino, name: &[u8], value: &[u8]) -> Result<(), TreeFault>
-        ensures passed { OnOk result (set_xattr_fault self.old ino.0 name.now value.now ≡ None) }
+    /// Gives an attribute of an inode a value, in place of the one that it may have.
+    pub fn set_xattr(&mut self, ino: Ino, name: &[u8], value: &[u8]) -> Result<(), AllocError>
+        requires passed { first_failing (set_xattr_tests self.old ino.0 name.now value.now) ≡ None }
         ensures ok { OnOk result (self.new ≡ changed (with_attribute name.now value.now) self.old ino.0) }
-        // The first test that fails, and for want of memory only where none does.
-        ensures fault { IfErr result (λ fault. fault ≡ unwrap_or (set_xattr_fault self.old ino.0 name.now value.now) TreeFault.NoMemory) }
         ensures err { OnErr result (self.new ≡ self.old) }
     {
-        self.check_set_xattr(ino, name, value)?;
-        let value = match Value::read(self.alloc, value) {
-            Ok(value) => value,
-            Err(NoMemory) => return Err(TreeFault::NoMemory),
-        };
-        match self.inodes.set_attribute(ino.0, Name::of(name), value) {
-            Ok(()) => Ok(()),
-            Err(NoMemory) => Err(TreeFault::NoMemory),
-        }
+        let value = Value::read(self.alloc, value)?;
+        self.inodes.set_attribute(ino.0, Name::of(name), value)
     }
 
-    /// Takes an attribute from an inode. A refusal changes nothing.
-    pub fn remove_xattr(&mut self, ino: Ino, name: &[u8]) -> Result<(), TreeFault>
-        ensures fault { result_err result ≡ remove_xattr_fault self.old ino.0 name.now }
-        ensures ok { OnOk result (self.new ≡ changed (without_attribute name.now) self.old ino.0) }
-        ensures err { OnErr result (self.new ≡ self.old) }
+    /// Takes an attribute from an inode.
+    pub fn remove_xattr(&mut self, ino: Ino, name: &[u8])
+        requires passed { first_failing (remove_xattr_tests self.old ino.0 name.now) ≡ None }
+        ensures { self.new ≡ changed (without_attribute name.now) self.old ino.0 }
     {
-        let node = self.living(ino)?;
+        let inodes = &mut self.inodes;
         let Some(name) = Name::read(name) else {
-            return Err(TreeFault::NoXattr);
+            unreachable!()
         };
-        if node.attributes.get(&name).is_none() {
-            return Err(TreeFault::NoXattr);
-        }
-        self.inodes.remove_attribute(ino.0, &name);
-        Ok(())
+        inodes.remove_attribute(ino.0, &name);
     }
 
-    // The tests of a new snapshot name.
-    fn check_snap_add(&self, ino: Ino, name: &[u8]) -> Result<(), TreeFault>
-        ensures { result_err result ≡ snap_add_fault self.now ino.0 name.now }
-    {
-        let node = self.living_directory(ino)?;
-        if is_bad_name(name) {
-            return Err(TreeFault::NameBad);
-        }
-        if node.snapshots.contains(&Name::of(name)) {
-            return Err(TreeFault::Exists);
-        }
-        if node.snapshots.len() >= MAX_SNAPSHOTS {
-            return Err(TreeFault::Limit);
-        }
-        Ok(())
-    }
-
-    /// Gives a directory a snapshot of this name. A refusal changes nothing.
-    pub fn snap_add(&mut self, ino: Ino, name: &[u8]) -> Result<(), TreeFault>
-        ensures passed { OnOk result (snap_add_fault self.old ino.0 name.now ≡ None) }
+    /// Gives a directory a snapshot of this name.
+    pub fn snap_add(&mut self, ino: Ino, name: &[u8]) -> Result<(), AllocError>
+        requires passed { first_failing (snap_add_tests self.old ino.0 name.now) ≡ None }
         ensures ok { OnOk result (self.new ≡ changed (with_snapshot name.now) self.old ino.0) }
-        // The first test that fails, and for want of memory only where none does.
-        ensures fault { IfErr result (λ fault. fault ≡ unwrap_or (snap_add_fault self.old ino.0 name.now) TreeFault.NoMemory) }
         ensures err { OnErr result (self.new ≡ self.old) }
     {
-        self.check_snap_add(ino, name)?;
-        match self.inodes.add_snapshot(ino.0, Name::of(name)) {
-            Ok(()) => Ok(()),
-            Err(NoMemory) => Err(TreeFault::NoMemory),
-        }
+        self.inodes.add_snapshot(ino.0, Name::of(name))
     }
 
-    /// Takes a snapshot name from a directory. A refusal changes nothing.
-    pub fn snap_remove(&mut self, ino: Ino, name: &[u8]) -> Result<(), TreeFault>
-        ensures fault { result_err result ≡ snap_remove_fault self.old ino.0 name.now }
-        ensures ok { OnOk result (self.new ≡ changed (without_snapshot name.now) self.old ino.0) }
-        ensures err { OnErr result (self.new ≡ self.old) }
+    /// Takes a snapshot name from a directory.
+    pub fn snap_remove(&mut self, ino: Ino, name: &[u8])
+        requires passed { first_failing (snap_remove_tests self.old ino.0 name.now) ≡ None }
+        ensures { self.new ≡ changed (without_snapshot name.now) self.old ino.0 }
     {
-        let node = self.living_directory(ino)?;
+        let inodes = &mut self.inodes;
         let Some(name) = Name::read(name) else {
-            return Err(TreeFault::NoEnt);
+            unreachable!()
         };
-        if !node.snapshots.contains(&name) {
-            return Err(TreeFault::NoEnt);
-        }
-        self.inodes.remove_snapshot(ino.0, &name);
-        Ok(())
+        inodes.remove_snapshot(ino.0, &name);
     }
 
     /// Forgets a stray. Its number is not given again.

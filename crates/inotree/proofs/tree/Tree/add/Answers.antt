@@ -6,7 +6,9 @@ use Rattle.inotree.specs.declared.node.Site.TheVariants.{Under}
 use Rattle.inotree.specs.Inodes.{InodeMap}
 use Rattle.inotree.specs.Index.{NameIndex}
 use Rattle.inotree.specs.Tree.{Nodes}
-use Rattle.inotree.specs.Calls.{create_fault, new_node}
+use Rattle.capbits.specs.Refusal.{first_failing}
+use Rattle.inotree.specs.Calls.{new_node}
+use Rattle.inotree.specs.Tests.{create_tests}
 use Rattle.inotree.proofs.Changes.{kept-added, kept_at}
 use Rattle.inotree.proofs.Maps.{put_back}
 use Rattle.inotree.proofs.Named.{child-index}
@@ -17,8 +19,8 @@ use Rattle.inotree.proofs.tree.Tree.add.Goals as goal
 pub overflow_add-ino : goal.overflow_add-ino
 overflow_add-ino c =
     let before : Nodes = record { nodes = c.self.inside.inodes; last = c.self.inside.last } in
-    let no_fault : create_fault before c.args.dir.0 c.args.name.now ≡ None =
-    subst (λ (t : Nodes). create_fault t c.args.dir.0 c.args.name.now ≡ None) (sym c.self.view_is) (sym c.in_ok-check_create.ensures) in
+    let no_fault : first_failing (create_tests before c.args.dir.0 c.args.name.now) ≡ None =
+    subst (λ (t : Nodes). first_failing (create_tests t c.args.dir.0 c.args.name.now) ≡ None) (sym c.self.view_is) c.requires.passed in
     let more = (passed-create before c.args.dir.0 c.args.name.now no_fault).2 in
     omega (arith, more)
 
@@ -52,7 +54,7 @@ invariant_of-self-2 c =
     let d : ℕ = c.args.dir.0 in
     let a : List ℕ = c.args.name.now in
     let before : Nodes = record { nodes = m; last = c.self.inside.last } in
-    let no_fault : create_fault before d a ≡ None = subst (λ (t : Nodes). create_fault t d a ≡ None) (sym c.self.view_is) (sym c.in_ok-check_create.ensures) in
+    let no_fault : first_failing (create_tests before d a) ≡ None = subst (λ (t : Nodes). first_failing (create_tests t d a) ≡ None) (sym c.self.view_is) c.requires.passed in
     let passed = passed-create before d a no_fault in
     let free : map.get index (record { dir = d; name = a }) ≡ None = sym (child-index m index c.self.invariant.1 d a) ∙ passed.0.free in
     let node : Node = record { kind = c.args.kind; site = Under c.args.dir c.of.result; attr = c.args.attr; size = 0; time = 0; attributes = c.new.result; snapshots = c.new-2.result } in

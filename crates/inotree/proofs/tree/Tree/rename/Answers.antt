@@ -5,7 +5,8 @@ use Rattle.inotree.specs.Maps.{change_at}
 use Rattle.inotree.specs.Inodes.{InodeMap, with_site}
 use Rattle.inotree.specs.Index.{NameIndex}
 use Rattle.inotree.specs.Tree.{Nodes, IsUnder, site_of}
-use Rattle.inotree.specs.Calls.{rename_fault}
+use Rattle.capbits.specs.Refusal.{first_failing}
+use Rattle.inotree.specs.Tests.{rename_tests}
 use Rattle.inotree.proofs.Changes.{kept-moved, kept_at}
 use Rattle.inotree.proofs.Named.{child-index}
 use Rattle.inotree.proofs.Passing.{slot_site, passed-rename}
@@ -20,14 +21,14 @@ invariant_of-self-2 c =
     let d : ℕ = c.args.dir.0 in
     let a : List ℕ = c.args.name.now in
     let before : Nodes = record { nodes = m; last = c.self.inside.last } in
-    let no_fault : rename_fault before k d a ≡ None = subst (λ (t : Nodes). rename_fault t k d a ≡ None) (sym c.self.view_is) (sym c.in_ok-check_rename.ensures) in
+    let no_fault : first_failing (rename_tests before k d a) ≡ None = subst (λ (t : Nodes). first_failing (rename_tests t k d a) ≡ None) (sym c.self.view_is) c.requires.passed in
     let passed = passed-rename before k d a no_fault in
     let under : IsUnder m k c.in-Some.old.dir c.in-Some.old.name = slot_site (site_of m k) c.in-Some.old (sym c.in-Some.ensures) in
-    let free : map.get index (record { dir = d; name = a }) ≡ None = sym (child-index m index c.self.invariant.1 d a) ∙ passed.0.free in
+    let free : map.get index (record { dir = d; name = a }) ≡ None = sym (child-index m index c.self.invariant.1 d a) ∙ passed.1.free in
     let added : c.insert.new.self ≡ map.insert index (record { dir = d; name = a }) k =
     at_ok c.insert.result c.if-is_err.ensures.value c.insert.ensures.ok ∙ ap (λ b. map.insert index (record { dir = d; name = b }) k) c.of.ensures in
     kept_at _ _ c.self.inside.last _ _
     (c.set_site.ensures ∙ ap (λ b. change_at (with_site (Under c.args.dir b)) m k) c.of-2.ensures)
     (c.remove.ensures ∙ ap (λ (x : NameIndex). map.remove x c.in-Some.old) added)
     (kept-moved m c.self.inside.last k d c.in-Some.old.dir a c.in-Some.old.name index c.self.invariant.0 c.self.invariant.1 under
-    passed.0.kind passed.0.here passed.0.good free passed.1 passed.2)
+    passed.1.kind passed.1.here passed.1.good free passed.2 passed.3)

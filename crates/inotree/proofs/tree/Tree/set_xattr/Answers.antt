@@ -11,10 +11,10 @@ use Rattle.inotree.proofs.tree.Tree.set_xattr.Goals as goal
 pub invariant_of-self : goal.invariant_of-self
 invariant_of-self c =
     let m : InodeMap = c.self.inside.inodes in
-    let passed = passed-set_xattr c.args.self.now c.args.ino.0 c.args.name.now c.args.value.now (sym c.in_ok-check_set_xattr.ensures) in
+    let passed = passed-set_xattr c.args.self.now c.args.ino.0 c.args.name.now c.args.value.now c.requires.passed in
     let good : is_bad_attribute c.of.result ≡ false = ap is_bad_attribute c.of.ensures ∙ passed in
     either c.set_attribute.result c.set_attribute.ensures.ok c.set_attribute.ensures.err
-    (λ (done : c.set_attribute.new.self ≡ change_at (with_attribute c.of.result c.in-Ok.value) m c.args.ino.0).
+    (λ (done : c.set_attribute.new.self ≡ change_at (with_attribute c.of.result c.in_ok-value.value) m c.args.ino.0).
     kept_at _ _ c.self.inside.last _ _ done refl
-    (kept-any m c.self.inside.last c.args.ino.0 (with_attribute c.of.result c.in-Ok.value) c.self.inside.names c.self.invariant.0 c.self.invariant.1 (λ y. refl) (λ y. refl) (attribute_good c.of.result c.in-Ok.value good)))
+    (kept-any m c.self.inside.last c.args.ino.0 (with_attribute c.of.result c.in_ok-value.value) c.self.inside.names c.self.invariant.0 c.self.invariant.1 (λ y. refl) (λ y. refl) (attribute_good c.of.result c.in_ok-value.value good)))
     (λ (same : c.set_attribute.new.self ≡ m). kept_at _ _ c.self.inside.last _ _ same refl (c.self.invariant.0, c.self.invariant.1))

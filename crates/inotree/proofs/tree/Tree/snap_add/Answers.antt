@@ -11,7 +11,7 @@ use Rattle.inotree.proofs.tree.Tree.snap_add.Goals as goal
 pub invariant_of-self : goal.invariant_of-self
 invariant_of-self c =
     let m : InodeMap = c.self.inside.inodes in
-    let passed = passed-snap_add c.args.self.now c.args.ino.0 c.args.name.now (sym c.in_ok-check_snap_add.ensures) in
+    let passed = passed-snap_add c.args.self.now c.args.ino.0 c.args.name.now c.requires.passed in
     let good : is_bad_name c.of.result ≡ false = ap is_bad_name c.of.ensures ∙ passed in
     either c.add_snapshot.result c.add_snapshot.ensures.ok c.add_snapshot.ensures.err
     (λ (done : c.add_snapshot.new.self ≡ change_at (with_snapshot c.of.result) m c.args.ino.0).

@@ -1,0 +1,157 @@
+-- The tests of what is asked of a tree, each with what is answered where it fails.
+use Rattle.std.specs.Prelude.{ℕ, ◌-◌, ◌==◌, ◌&&◌, ◌||◌, Bool, true, false, not, nat_le, nat_lt, List, [], ◌∷◌, ◌++◌, length, Option, None, Some, is_some}
+use Rattle.std.specs.Option.{option_map_or}
+use Rattle.std.specs.FinMap as map
+use Rattle.std.specs.FinSet as set
+use Rattle.capbits.specs.declared.refusal.Refusal.TheVariants as refusal
+use Rattle.capbits.specs.Refusal.{Test, refused_if}
+use Rattle.inotree.specs.declared.attributes.TheConstants.{MAX_ATTRIBUTES, MAX_VALUE}
+use Rattle.inotree.specs.declared.names.TheConstants.{MAX_NAMES}
+use Rattle.inotree.specs.declared.snapshots.TheConstants.{MAX_SNAPSHOTS}
+use Rattle.inotree.specs.declared.tree.TheConstants.{MAX_INODES}
+use Rattle.inotree.specs.declared.node.Node.{Node}
+use Rattle.inotree.specs.declared.node.Site.{Site}
+use Rattle.inotree.specs.declared.node.Site.TheVariants.{Root, Under, Stray}
+use Rattle.inotree.specs.declared.node.Place.{Place}
+use Rattle.inotree.specs.declared.node.Place.TheVariants as place_kind
+use Rattle.inotree.specs.declared.node.Setting.{Setting}
+use Rattle.inotree.specs.declared.node.Setting.TheVariants.{Mode, Uid, Gid, Size, Time}
+use Rattle.inotree.specs.Names.{is_bad_name, is_bad_attribute}
+use Rattle.inotree.specs.Tree.{Nodes, site_of, place, is_directory, child, depth, is_within, reaches}
+
+-- ---- of an inode
+
+abbrev pub is_no_ino : Place → Bool
+is_no_ino place_kind.NoIno = true
+is_no_ino place_kind.Gone = false
+is_no_ino place_kind.Here = false
+
+abbrev pub is_gone : Place → Bool
+is_gone place_kind.Gone = true
+is_gone place_kind.NoIno = false
+is_gone place_kind.Here = false
+
+-- there is such an inode, and it has a path
+abbrev pub inode_tests : Nodes → ℕ → List Test
+inode_tests tree ino = refused_if (is_no_ino (place tree.nodes ino)) refusal.NoIno ∷ refused_if (is_gone (place tree.nodes ino)) refusal.Gone ∷ []
+
+abbrev pub is_root_site : Option Site → Bool
+is_root_site None = false
+is_root_site (Some Root) = true
+is_root_site (Some Stray) = false
+is_root_site (Some (Under dir name)) = false
+
+-- the inode is not the root
+abbrev pub root_test : Nodes → ℕ → Test
+root_test tree ino = refused_if (is_root_site (site_of tree.nodes ino)) refusal.Root
+
+-- the inode is a directory
+abbrev pub directory_test : Nodes → ℕ → Test
+directory_test tree ino = refused_if (not (is_directory tree.nodes ino)) refusal.NotDir
+
+-- the inode is no directory
+abbrev pub file_test : Nodes → ℕ → Test
+file_test tree ino = refused_if (is_directory tree.nodes ino) refusal.IsDir
+
+-- of what the tree keeps of the inode; where there is no inode, it does not hold
+abbrev pub test_at : (Node → Bool) → Nodes → ℕ → Bool
+test_at test tree ino = option_map_or test (map.get tree.nodes ino) false
+
+-- the directory is empty
+abbrev pub empty_test : Nodes → ℕ → Test
+empty_test tree ino = refused_if (reaches 1 tree.nodes ino || test_at (λ n. nat_lt 0 (set.len n.snapshots)) tree ino) refusal.NotEmpty
+
+-- ---- of names in a directory
+
+-- the directory has something under the name
+abbrev pub found_test : Nodes → ℕ → List ℕ → Test
+found_test tree dir name = refused_if (not (is_some (child tree.nodes dir name))) refusal.NoEnt
+
+-- the name can be given in the directory, and is free
+abbrev pub name_tests : Nodes → ℕ → List ℕ → List Test
+name_tests tree dir name = refused_if (is_bad_name name) refusal.NameBad ∷ refused_if (is_some (child tree.nodes dir name)) refusal.Exists ∷ []
+
+-- there may be one more inode, one name below the directory
+abbrev pub room_tests : Nodes → ℕ → List Test
+room_tests tree dir =
+    refused_if (nat_le MAX_NAMES (depth tree.nodes dir)) refusal.TooDeep
+    ∷ refused_if (nat_le MAX_INODES (map.len tree.nodes) || (tree.last == 18446744073709551615)) refusal.Limit
+    ∷ []
+
+-- the directory may have a new inode under the name
+abbrev pub new_inode_tests : Nodes → ℕ → List ℕ → List Test
+new_inode_tests tree dir name = directory_test tree dir ∷ name_tests tree dir name ++ room_tests tree dir
+
+-- the inode, with all below it, may lie one name below the directory
+abbrev pub move_tests : Nodes → ℕ → ℕ → List Test
+move_tests tree ino dir =
+    refused_if (is_within tree.nodes dir ino) refusal.Loop
+    ∷ refused_if (reaches (MAX_NAMES - depth tree.nodes dir) tree.nodes ino) refusal.TooDeep
+    ∷ []
+
+-- the inode may stand in the directory, under the name
+abbrev pub new_place_tests : Nodes → ℕ → ℕ → List ℕ → List Test
+new_place_tests tree ino dir name = directory_test tree dir ∷ name_tests tree dir name ++ move_tests tree ino dir
+
+-- ---- of what an inode keeps
+
+-- the directory may have a new snapshot of this name
+abbrev pub new_snapshot_tests : Nodes → ℕ → List ℕ → List Test
+new_snapshot_tests tree ino name =
+    directory_test tree ino
+    ∷ refused_if (is_bad_name name) refusal.NameBad
+    ∷ refused_if (test_at (λ n. set.contains n.snapshots name) tree ino) refusal.Exists
+    ∷ refused_if (test_at (λ n. nat_le MAX_SNAPSHOTS (set.len n.snapshots)) tree ino) refusal.Limit
+    ∷ []
+
+-- the directory has a snapshot of this name
+abbrev pub old_snapshot_tests : Nodes → ℕ → List ℕ → List Test
+old_snapshot_tests tree ino name = directory_test tree ino ∷ refused_if (test_at (λ n. not (set.contains n.snapshots name)) tree ino) refusal.NoEnt ∷ []
+
+-- a file alone has a size
+abbrev pub setting_tests : Nodes → ℕ → Setting → List Test
+setting_tests tree ino (Size size) = file_test tree ino ∷ []
+setting_tests tree ino (Mode mode) = []
+setting_tests tree ino (Uid uid) = []
+setting_tests tree ino (Gid gid) = []
+setting_tests tree ino (Time time) = []
+
+-- the inode may have this value in this attribute
+abbrev pub new_attribute_tests : Nodes → ℕ → List ℕ → List ℕ → List Test
+new_attribute_tests tree ino name value =
+    refused_if (is_bad_attribute name) refusal.NameBad
+    ∷ refused_if (nat_lt MAX_VALUE (length value) || test_at (λ n. not (map.contains_key n.attributes name) && nat_le MAX_ATTRIBUTES (map.len n.attributes)) tree ino) refusal.Limit
+    ∷ []
+
+-- the inode has the attribute
+abbrev pub old_attribute_tests : Nodes → ℕ → List ℕ → List Test
+old_attribute_tests tree ino name = refused_if (test_at (λ n. not (map.contains_key n.attributes name)) tree ino) refusal.NoXattr ∷ []
+
+-- ---- of each call
+
+abbrev pub create_tests : Nodes → ℕ → List ℕ → List Test
+create_tests tree dir name = inode_tests tree dir ++ new_inode_tests tree dir name
+
+abbrev pub unlink_tests : Nodes → ℕ → List Test
+unlink_tests tree ino = inode_tests tree ino ++ root_test tree ino ∷ file_test tree ino ∷ []
+
+abbrev pub rmdir_tests : Nodes → ℕ → List Test
+rmdir_tests tree ino = inode_tests tree ino ++ root_test tree ino ∷ directory_test tree ino ∷ empty_test tree ino ∷ []
+
+abbrev pub rename_tests : Nodes → ℕ → ℕ → List ℕ → List Test
+rename_tests tree ino dir name = inode_tests tree ino ++ root_test tree ino ∷ inode_tests tree dir ++ new_place_tests tree ino dir name
+
+abbrev pub set_tests : Nodes → ℕ → Setting → List Test
+set_tests tree ino setting = inode_tests tree ino ++ setting_tests tree ino setting
+
+abbrev pub set_xattr_tests : Nodes → ℕ → List ℕ → List ℕ → List Test
+set_xattr_tests tree ino name value = inode_tests tree ino ++ new_attribute_tests tree ino name value
+
+abbrev pub remove_xattr_tests : Nodes → ℕ → List ℕ → List Test
+remove_xattr_tests tree ino name = inode_tests tree ino ++ old_attribute_tests tree ino name
+
+abbrev pub snap_add_tests : Nodes → ℕ → List ℕ → List Test
+snap_add_tests tree ino name = inode_tests tree ino ++ new_snapshot_tests tree ino name
+
+abbrev pub snap_remove_tests : Nodes → ℕ → List ℕ → List Test
+snap_remove_tests tree ino name = inode_tests tree ino ++ old_snapshot_tests tree ino name
