@@ -1,6 +1,6 @@
 -- Each change of the table keeps it sound.
 use Rattle.std.specs.Prelude.{if◌then◌else◌, nat_le}
-use Rattle.std.proofs.Common.{◌≡◌, ℕ, ◌+◌, ◌-◌, ◌<◌, ◌≤◌, Bool, true, false, cond, not, ◌||◌, ◌&&◌, Option, Some, None, is_some, refl, sym, ap, subst, ◌∙◌, arith}
+use Rattle.std.proofs.Common.{◌≡◌, ℕ, ◌+◌, ◌-◌, ◌<◌, ◌≤◌, Bool, true, false, cond, not, ◌||◌, ◌&&◌, Option, Some, None, is_some, Result, Ok, Err, OnOk, OnErr, refl, sym, ap, subst, ◌∙◌, arith}
 use Rattle.std.specs.Cmp.{nat_cmp_total, Equal-is}
 use Rattle.std.specs.FinMap as map
 use Rattle.std.specs.FinSet as set
@@ -11,8 +11,11 @@ use Rattle.sessiontab.specs.declared.table.TheConstants.{MAX_SESSIONS, MAX_BLOCK
 use Rattle.sessiontab.specs.declared.session.Session.{Session}
 use Rattle.sessiontab.specs.Connected.{SessionMap, change_session}
 use Rattle.sessiontab.specs.Table.{SessionTable, IsSound}
-use Rattle.sessiontab.specs.declared.fault.OpenFault.TheVariants.{Blocklisted, SessionOpen, Limit}
-use Rattle.sessiontab.specs.Calls.{has_session, open_fault}
+use Rattle.capbits.specs.declared.refusal.Refusal.TheVariants.{Blocklisted, SessionOpen, NoSession, Limit}
+use Rattle.capbits.specs.Refusal.{first_failing}
+use Rattle.capbits.proofs.Tests.{passed-if}
+use Rattle.sessiontab.specs.Calls.{has_session}
+use Rattle.sessiontab.specs.Tests.{new_session_tests, evict_tests}
 use Rattle.std.proofs.lemmas.Bool.Decides.{nat_tests}
 
 same_key : (q k : ℕ) → eq_by_cmp nat_cmp q k ≡ true → q ≡ k
@@ -102,16 +105,25 @@ module _ (m : SessionMap) (b : FinSet nat_cmp) (k : ℕ) (was : IsSound (record 
     ] (sym (set.contains-remove nat_cmp_total b k q) ∙ blocked));
   }
 
--- where no test of a new session fails, the client is not blocked, and there is room
-pub may_open : (table : SessionTable) (client : ℕ) → open_fault table client ≡ None → (set.contains table.blocked client ≡ false) × (map.len table.sessions < MAX_SESSIONS)
-may_open table client passed = by_tests (set.contains table.blocked client) (has_session table client) (nat_le MAX_SESSIONS (map.len table.sessions)) refl passed
-  where
-    below : nat_le MAX_SESSIONS (map.len table.sessions) ≡ false → map.len table.sessions < MAX_SESSIONS
-    below e = grind (arith, nat_tests)
+below : (n limit : ℕ) → nat_le limit n ≡ false → n < limit
+below n limit e = grind (arith, nat_tests)
 
-    by_tests : (blocked connected full : Bool) → nat_le MAX_SESSIONS (map.len table.sessions) ≡ full →
-        (if blocked then Some Blocklisted else if connected then Some SessionOpen else if full then Some Limit else None) ≡ None → (blocked ≡ false) × (map.len table.sessions < MAX_SESSIONS)
-    by_tests true connected full e passed = cc
-    by_tests false true full e passed = cc
-    by_tests false false true e passed = cc
-    by_tests false false false e passed = (refl, below e)
+-- where no test of a new session fails, the client is not blocked, and there is room
+pub may_open : (table : SessionTable) (client : ℕ) → first_failing (new_session_tests table client) ≡ None → (set.contains table.blocked client ≡ false) × (map.len table.sessions < MAX_SESSIONS)
+may_open table client passed =
+    let blocked = passed-if (set.contains table.blocked client) Blocklisted _ passed in
+    let connected = passed-if (has_session table client) SessionOpen _ blocked.1 in
+    let full = passed-if (nat_le MAX_SESSIONS (map.len table.sessions)) Limit None connected.1 in
+    (blocked.0, below (map.len table.sessions) MAX_SESSIONS full.0)
+
+-- where no test of an eviction fails, the blocklist has room
+pub may_evict : (table : SessionTable) (client : ℕ) → first_failing (evict_tests table client) ≡ None → set.len table.blocked < MAX_BLOCKED
+may_evict table client passed =
+    let connected = passed-if (not (has_session table client)) NoSession _ passed in
+    let full = passed-if (nat_le MAX_BLOCKED (set.len table.blocked)) Limit None connected.1 in
+    below (set.len table.blocked) MAX_BLOCKED full.0
+
+-- from what a call says of its Ok and of its Err
+pub kept_if : {T E P Q R : Type 0} (r : Result T E) → OnOk r P → OnErr r Q → (P → R) → (Q → R) → R
+kept_if (Ok x) p q f g = f p
+kept_if (Err x) p q f g = g q

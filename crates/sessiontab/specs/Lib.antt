@@ -1,3 +1,4 @@
 pub mod Connected
 pub mod Table
 pub mod Calls
+pub mod Tests

@@ -3,9 +3,8 @@ ghost use Rattle.std.specs.Prelude.{◌≡◌, OnOk, OnErr};
 ghost use Rattle.std.specs.Bool.{OnFalse};
 ghost use Rattle.std.specs.FinSet as set;
 
-use crate::fault::NoMemory;
 use capbits::ClientId;
-use std::alloc::Global;
+use std::alloc::{AllocError, Global};
 use std::collections::BTreeSet;
 use std::marker::Model;
 
@@ -53,7 +52,7 @@ impl Blocklist {
     }
 
     // Takes the client in.
-    pub(crate) fn insert(&mut self, client: ClientId) -> Result<(), NoMemory>
+    pub(crate) fn insert(&mut self, client: ClientId) -> Result<(), AllocError>
         ensures ok { OnOk result (self.new ≡ set.insert self.old client.0) }
         ensures err { OnErr result (self.new ≡ self.old) }
     {

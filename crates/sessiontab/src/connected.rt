@@ -5,10 +5,9 @@ ghost use Rattle.std.specs.Option.{option_copied};
 ghost use Rattle.std.specs.FinMap as map;
 ghost use Rattle.sessiontab.specs.Connected.{change_session};
 
-use crate::fault::NoMemory;
 use crate::session::{Session, Status};
 use capbits::ClientId;
-use std::alloc::Global;
+use std::alloc::{AllocError, Global};
 use std::collections::BTreeMap;
 use std::marker::Model;
 
@@ -55,7 +54,7 @@ impl Connected {
     }
 
     // Gives the client this session.
-    pub(crate) fn insert(&mut self, client: ClientId, session: Session) -> Result<(), NoMemory>
+    pub(crate) fn insert(&mut self, client: ClientId, session: Session) -> Result<(), AllocError>
         ensures ok { OnOk result (self.new ≡ map.insert self.old client.0 session) }
         ensures err { OnErr result (self.new ≡ self.old) }
     {

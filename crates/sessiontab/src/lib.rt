@@ -5,10 +5,8 @@
 
 mod blocklist;
 mod connected;
-mod fault;
 mod session;
 mod table;
 
-pub use fault::{EvictFault, NoMemory, NoSession, NotBlocked, OpenFault, RenewFault, StaleFault};
 pub use session::{Session, Status};
 pub use table::{MAX_BLOCKED, MAX_SESSIONS, Sessions};

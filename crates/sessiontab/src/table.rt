@@ -1,19 +1,15 @@
 //! The table of sessions, with the blocklist.
-ghost use Rattle.std.specs.Prelude.{◌≡◌, ◌↔◌, IsTrue, IsOk, IfErr, OnOk, OnErr, IsOkAnd, unwrap_or};
+ghost use Rattle.std.specs.Prelude.{◌≡◌, [], ◌∷◌, None, IfOk, OnOk, OnErr};
 ghost use Rattle.std.specs.Option.{option_map, option_copied};
-ghost use Rattle.std.specs.Result.{result_err};
 ghost use Rattle.std.specs.FinMap as map;
 ghost use Rattle.std.specs.FinSet as set;
 
 use crate::blocklist::Blocklist;
 use crate::connected::Connected;
-use crate::fault::{
-    EvictFault, NoMemory, NoSession, NotBlocked, OpenFault, RenewFault, StaleFault,
-};
 use crate::session::{Session, Status};
-use capbits::{Caller, ClientId};
+use capbits::{Caller, ClientId, Refusal};
 use capspec::Grants;
-use std::alloc::Global;
+use std::alloc::{AllocError, Global};
 use std::marker::Model;
 
 /// How many clients may be connected at a time, by open and stale sessions together.
@@ -44,12 +40,14 @@ impl Model for Sessions {
 
 impl Sessions {
     ghost use Rattle.sessiontab.specs.Table.{IsSound};
-    ghost use Rattle.sessiontab.specs.Calls.{has_session, status_of, open_fault, stale_fault, renew_fault, evict_fault, with_session, without_session, with_status, with_evicted, without_blocked};
+    ghost use Rattle.capbits.specs.Refusal.{first_failing};
+    ghost use Rattle.sessiontab.specs.Calls.{status_of, with_session, without_session, with_status, with_evicted, without_blocked};
+    ghost use Rattle.sessiontab.specs.Tests.{connected_test, session_tests, stale_tests, new_session_tests, evict_tests, blocked_test};
     ghost use Rattle.sessiontab.specs.declared.session.Status.TheVariants.{Open, Stale};
 
-    /// Nobody is connected, and nobody was thrown out. The first session is the first to take memory, so this is `Ok`.
-    pub fn new(alloc: Global) -> Result<Sessions, NoMemory>
-        ensures { IsOkAnd result (λ sessions. sessions ≡ record { sessions = map.empty; blocked = set.empty }) }
+    /// Nobody is connected, and nobody was thrown out.
+    pub fn new(alloc: Global) -> Result<Sessions, AllocError>
+        ensures { IfOk result (λ sessions. sessions ≡ record { sessions = map.empty; blocked = set.empty }) }
     {
         Ok(Sessions {
             connected: Connected::new(alloc),
@@ -57,128 +55,142 @@ impl Sessions {
         })
     }
 
-    /// Why `open_session` would be refused now, if it would. Want of memory is not foreseen.
-    pub fn open_fault(&self, client: ClientId) -> Option<OpenFault>
-        ensures { result ≡ open_fault self.now client.0 }
+    // ---- what would be refused
+
+    /// Why a client can ask for nothing, and can't be marked as stale: it has no session, or a stale one.
+    pub fn session_refusal(&self, client: ClientId) -> Option<Refusal>
+        ensures { result ≡ first_failing (session_tests self.now client.0) }
+    {
+        match self.status(client) {
+            None => Some(Refusal::NoSession),
+            Some(Status::Stale) => Some(Refusal::SessionStale),
+            Some(Status::Open) => None,
+        }
+    }
+
+    /// Why no session of a client can be ended: it has none.
+    pub fn close_refusal(&self, client: ClientId) -> Option<Refusal>
+        ensures { result ≡ first_failing (connected_test self.now client.0 ∷ []) }
+    {
+        match self.status(client) {
+            None => Some(Refusal::NoSession),
+            Some(_status) => None,
+        }
+    }
+
+    /// Why a client's session can't be renewed: it has none, or an open one.
+    pub fn renew_refusal(&self, client: ClientId) -> Option<Refusal>
+        ensures { result ≡ first_failing (stale_tests self.now client.0) }
+    {
+        match self.status(client) {
+            None => Some(Refusal::NoSession),
+            Some(Status::Open) => Some(Refusal::NotStale),
+            Some(Status::Stale) => None,
+        }
+    }
+
+    /// Why a client can't have a new session.
+    pub fn open_refusal(&self, client: ClientId) -> Option<Refusal>
+        ensures { result ≡ first_failing (new_session_tests self.now client.0) }
     {
         if self.blocklist.contains(client) {
-            return Some(OpenFault::Blocklisted);
+            return Some(Refusal::Blocklisted);
         }
         if self.connected.get(client).is_some() {
-            return Some(OpenFault::SessionOpen);
+            return Some(Refusal::SessionOpen);
         }
         if self.connected.len() >= MAX_SESSIONS {
-            return Some(OpenFault::Limit);
+            return Some(Refusal::Limit);
         }
         None
     }
 
-    /// Opens a session for a client. A refusal changes nothing, and drops the caller and the grants.
+    /// Why a client can't be thrown out.
+    pub fn evict_refusal(&self, client: ClientId) -> Option<Refusal>
+        ensures { result ≡ first_failing (evict_tests self.now client.0) }
+    {
+        if self.connected.get(client).is_none() {
+            return Some(Refusal::NoSession);
+        }
+        if self.blocklist.len() >= MAX_BLOCKED {
+            return Some(Refusal::Limit);
+        }
+        None
+    }
+
+    /// Why a client can't be let in again: it was not thrown out.
+    pub fn unblock_refusal(&self, client: ClientId) -> Option<Refusal>
+        ensures { result ≡ first_failing (blocked_test self.now client.0 ∷ []) }
+    {
+        if self.blocklist.contains(client) {
+            None
+        } else {
+            Some(Refusal::NotBlocked)
+        }
+    }
+
+    // ---- changes, whose tests were passed
+
+    /// Opens a session for a client. For want of memory nothing changes, and the caller and the grants are dropped.
     pub fn open_session(
         &mut self,
         client: ClientId,
         caller: Caller,
         grants: Grants,
-    ) -> Result<(), OpenFault>
-        ensures passed { OnOk result (open_fault self.old client.0 ≡ None) }
+    ) -> Result<(), AllocError>
+        requires passed { first_failing (new_session_tests self.old client.0) ≡ None }
         ensures ok { OnOk result (self.new ≡ with_session self.old client.0 caller grants) }
-        // The first test that fails, and for want of memory only where none does.
-        ensures fault { IfErr result (λ fault. fault ≡ unwrap_or (open_fault self.old client.0) OpenFault.NoMemory) }
         ensures err { OnErr result (self.new ≡ self.old) }
     {
-        if let Some(fault) = self.open_fault(client) {
-            return Err(fault);
-        }
         let session = Session {
             status: Status::Open,
             caller,
             grants,
         };
-        match self.connected.insert(client, session) {
-            Ok(()) => Ok(()),
-            Err(NoMemory) => Err(OpenFault::NoMemory),
-        }
+        self.connected.insert(client, session)
     }
 
-    /// Ends a client's session, open or stale. A refusal changes nothing.
-    pub fn close_session(&mut self, client: ClientId) -> Result<(), NoSession>
-        ensures had { IsOk result ↔ IsTrue (has_session self.old client.0) }
-        ensures ok { OnOk result (self.new ≡ without_session self.old client.0) }
-        ensures err { OnErr result (self.new ≡ self.old) }
+    /// Ends a client's session, open or stale.
+    pub fn close_session(&mut self, client: ClientId)
+        requires passed { first_failing (connected_test self.old client.0 ∷ []) ≡ None }
+        ensures { self.new ≡ without_session self.old client.0 }
     {
-        if self.connected.remove(client) {
-            Ok(())
-        } else {
-            Err(NoSession)
-        }
+        self.connected.remove(client);
     }
 
-    /// Marks a client's open session as stale. A refusal changes nothing.
-    pub fn mark_stale(&mut self, client: ClientId) -> Result<(), StaleFault>
-        ensures fault { result_err result ≡ stale_fault (status_of self.old client.0) }
-        ensures ok { OnOk result (self.new ≡ with_status self.old client.0 Stale) }
-        ensures err { OnErr result (self.new ≡ self.old) }
+    /// Marks a client's open session as stale.
+    pub fn mark_stale(&mut self, client: ClientId)
+        requires passed { first_failing (session_tests self.old client.0) ≡ None }
+        ensures { self.new ≡ with_status self.old client.0 Stale }
     {
-        match self.status(client) {
-            None => Err(StaleFault::NoSession),
-            Some(Status::Stale) => Err(StaleFault::SessionStale),
-            Some(Status::Open) => {
-                self.connected.set_status(client, Status::Stale);
-                Ok(())
-            }
-        }
+        self.connected.set_status(client, Status::Stale);
     }
 
-    /// Marks a client's stale session as open again. A refusal changes nothing.
-    pub fn renew(&mut self, client: ClientId) -> Result<(), RenewFault>
-        ensures fault { result_err result ≡ renew_fault (status_of self.old client.0) }
-        ensures ok { OnOk result (self.new ≡ with_status self.old client.0 Open) }
-        ensures err { OnErr result (self.new ≡ self.old) }
+    /// Marks a client's stale session as open again.
+    pub fn renew(&mut self, client: ClientId)
+        requires passed { first_failing (stale_tests self.old client.0) ≡ None }
+        ensures { self.new ≡ with_status self.old client.0 Open }
     {
-        match self.status(client) {
-            None => Err(RenewFault::NoSession),
-            Some(Status::Open) => Err(RenewFault::NotStale),
-            Some(Status::Stale) => {
-                self.connected.set_status(client, Status::Open);
-                Ok(())
-            }
-        }
+        self.connected.set_status(client, Status::Open);
     }
 
-    /// Throws a client out: ends its session, open or stale, and puts it on the blocklist. A refusal changes nothing.
-    pub fn evict(&mut self, client: ClientId) -> Result<(), EvictFault>
-        ensures passed { OnOk result (evict_fault self.old client.0 ≡ None) }
+    /// Throws a client out: ends its session, open or stale, and puts it on the blocklist. For want of memory nothing changes.
+    pub fn evict(&mut self, client: ClientId) -> Result<(), AllocError>
+        requires passed { first_failing (evict_tests self.old client.0) ≡ None }
         ensures ok { OnOk result (self.new ≡ with_evicted self.old client.0) }
-        // The first test that fails, and for want of memory only where none does.
-        ensures fault { IfErr result (λ fault. fault ≡ unwrap_or (evict_fault self.old client.0) EvictFault.NoMemory) }
         ensures err { OnErr result (self.new ≡ self.old) }
     {
-        if self.connected.get(client).is_none() {
-            return Err(EvictFault::NoSession);
-        }
-        if self.blocklist.len() >= MAX_BLOCKED {
-            return Err(EvictFault::Limit);
-        }
-        match self.blocklist.insert(client) {
-            Ok(()) => {
-                self.connected.remove(client);
-                Ok(())
-            }
-            Err(NoMemory) => Err(EvictFault::NoMemory),
-        }
+        self.blocklist.insert(client)?;
+        self.connected.remove(client);
+        Ok(())
     }
 
-    /// Takes a client off the blocklist. A refusal changes nothing.
-    pub fn unblock(&mut self, client: ClientId) -> Result<(), NotBlocked>
-        ensures was { IsOk result ↔ IsTrue (set.contains self.old.blocked client.0) }
-        ensures ok { OnOk result (self.new ≡ without_blocked self.old client.0) }
-        ensures err { OnErr result (self.new ≡ self.old) }
+    /// Takes a client off the blocklist.
+    pub fn unblock(&mut self, client: ClientId)
+        requires passed { first_failing (blocked_test self.old client.0 ∷ []) ≡ None }
+        ensures { self.new ≡ without_blocked self.old client.0 }
     {
-        if self.blocklist.remove(client) {
-            Ok(())
-        } else {
-            Err(NotBlocked)
-        }
+        self.blocklist.remove(client);
     }
 
     /// Whether the client's session is open or stale; none where it has no session.

@@ -1,13 +1,12 @@
-use Rattle.std.proofs.Common.{sym, ap, ◌∙◌}
-use Rattle.sessiontab.specs.Calls.{open_fault}
-use Rattle.sessiontab.proofs.Sound.{sound-insert, may_open}
+use Rattle.std.proofs.Common.{◌≡◌, OnOk, OnErr, None, Ok, Err, sym, subst}
+use Rattle.capbits.specs.Refusal.{first_failing}
+use Rattle.sessiontab.specs.Table.{SessionTable}
+use Rattle.sessiontab.specs.Tests.{new_session_tests}
+use Rattle.sessiontab.proofs.Sound.{sound-insert, may_open, kept_if}
 use Rattle.sessiontab.proofs.table.Sessions.open_session.Goals as goal
-use Rattle.sessiontab.proofs.table.Sessions.open_session.Goals.{in-Ok, in-Err}
 
 pub invariant_of-self : goal.invariant_of-self
-invariant_of-self c = elim c.match-insert.branch [
-  | in-Ok w ↦
-      (let may = may_open (record { sessions = c.self.inside.connected; blocked = c.self.inside.blocklist }) c.args.client.0 (ap (λ t. open_fault t c.args.client.0) c.self.view_is ∙ sym c.in_default.ensures) in
-      rw w.in-Ok.ensures.ok (sound-insert _ _ _ c.self.invariant _ may.0 may.1))
-  | in-Err w ↦ rw w.in-Err.ensures.err c.self.invariant
-]
+invariant_of-self c =
+    let before : SessionTable = record { sessions = c.self.inside.connected; blocked = c.self.inside.blocklist } in
+    let may = may_open before c.args.client.0 (subst (λ (t : SessionTable). first_failing (new_session_tests t c.args.client.0) ≡ None) (sym c.self.view_is) c.requires.passed) in
+    kept_if c.insert.result c.insert.ensures.ok c.insert.ensures.err (λ done. rw done (sound-insert _ _ _ c.self.invariant _ may.0 may.1)) (λ same. rw same c.self.invariant)
