@@ -9,12 +9,12 @@ use Rattle.inotree.specs.Tree.{place}
 use Rattle.sessiontab.specs.Calls.{has_session, status_of}
 use Rattle.lockmachine.specs.Scene.{Scene}
 use Rattle.capcore.specs.declared.event.Event.{Event}
-use Rattle.capcore.specs.declared.refusal.Refusal.{Refusal}
-use Rattle.capcore.specs.declared.refusal.Refusal.TheVariants as refusal
+use Rattle.capbits.specs.declared.refusal.Refusal.{Refusal}
+use Rattle.capbits.specs.declared.refusal.Refusal.TheVariants as refusal
 use Rattle.capcore.specs.declared.stopped.Stopped.{Stopped}
 use Rattle.capcore.specs.declared.stopped.Stopped.TheVariants.{ByTest}
 use Rattle.capcore.specs.State.{State}
-use Rattle.capcore.specs.Tests.{Test, first_failing, session_tests, inode_tests, is_stale, is_no_ino, is_gone}
+use Rattle.capbits.specs.Refusal.{Test, first_failing}
 use Rattle.capcore.specs.Judge.{Need, stop, stop_by, stop_reply, first_denied, judged}
 use Rattle.capcore.specs.Direct.{effect, effect_unless, reply_by, IsDirect}
 
@@ -43,17 +43,6 @@ stop_by-tests s None d l e = refl
 -- and no test before policy failed
 pub no_test : (s : Scene) (tests : List Test) (needed : List Need) (more : List Test) → stop s tests needed more ≡ None → first_failing tests ≡ None
 no_test s tests needed more e = stop_by-tests s (first_failing tests) (first_denied s needed) (first_failing more) e
-
-here_by : (a b : Bool) (p : Place) → (if a then Some refusal.NoSession else if b then Some refusal.SessionStale else if is_no_ino p then Some refusal.NoIno else if is_gone p then Some refusal.Gone else None) ≡ None → p ≡ Here
-here_by true b p e = cc
-here_by false true p e = cc
-here_by false false NoIno e = cc
-here_by false false Gone e = cc
-here_by false false Here e = refl
-
--- an inode that passed its tests has a path
-pub is_here : (s : Scene) (client : ClientId) (ino : ℕ) → first_failing (session_tests s client ++ inode_tests s ino) ≡ None → place s.tree.nodes ino ≡ Here
-is_here s client ino e = here_by (not (has_session s.sessions client.0)) (is_stale (status_of s.sessions client.0)) (place s.tree.nodes ino) e
 
 -- ---- the event by itself
 

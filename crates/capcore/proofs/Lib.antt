@@ -6,7 +6,6 @@ pub mod Growing
 pub mod Judging
 pub mod Numbered
 pub mod Promised
-pub mod Refusals
 pub mod Servings
 pub mod Sounding
 pub mod Stopping

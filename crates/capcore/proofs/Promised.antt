@@ -15,11 +15,11 @@ use Rattle.lockmachine.specs.Policy.{failures}
 use Rattle.lockmachine.specs.Scene.{Scene}
 use Rattle.capcore.specs.declared.event.Event.{Event}
 use Rattle.capcore.specs.declared.event.Event.TheVariants as event
-use Rattle.capcore.specs.declared.refusal.Refusal.{Refusal}
+use Rattle.capbits.specs.declared.refusal.Refusal.{Refusal}
 use Rattle.capcore.specs.declared.reply.Reply.{Reply}
 use Rattle.capcore.specs.declared.reply.Reply.TheVariants as reply
 use Rattle.capcore.specs.State.{State}
-use Rattle.capcore.specs.Tests.{first_failing}
+use Rattle.capbits.specs.Refusal.{first_failing}
 use Rattle.capcore.specs.Judge.{Need, before, needs, after, first_denied, stop_by}
 use Rattle.capcore.specs.Direct.{effect, effect_unless, found, reply_by, IsDirect}
 use Rattle.capcore.specs.Finish.{due}

@@ -12,8 +12,8 @@ use Rattle.lockmachine.specs.Policy.{failures}
 use Rattle.lockmachine.specs.Scene.{Scene}
 use Rattle.capcore.specs.declared.outcome.Outcome.{Outcome}
 use Rattle.capcore.specs.declared.outcome.Outcome.TheVariants as outcome
-use Rattle.capcore.specs.declared.refusal.Refusal.{Refusal}
-use Rattle.capcore.specs.Tests.{first_failing}
+use Rattle.capbits.specs.declared.refusal.Refusal.{Refusal}
+use Rattle.capbits.specs.Refusal.{first_failing}
 use Rattle.capcore.specs.Judge.{Need, first_denied, stop_by}
 use Rattle.capcore.specs.Serving.{MayEndAs, As_judged, Without_memory, ask_before, ask_needs, ask_after, told_of, passed_as, outcome_unless}
 use Rattle.capcore.specs.Settle.{Made, Began, Gathered, Served, Makes, MakesAll}

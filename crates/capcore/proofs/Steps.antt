@@ -23,7 +23,7 @@ use Rattle.capcore.specs.declared.reply.Reply.{Reply}
 use Rattle.capcore.specs.declared.stopped.Stopped.{Stopped}
 use Rattle.capcore.specs.declared.stopped.Stopped.TheVariants.{ByPolicy, ByTest}
 use Rattle.capcore.specs.State.{State}
-use Rattle.capcore.specs.Tests.{is_gone}
+use Rattle.inotree.specs.Tests.{is_gone}
 use Rattle.capcore.specs.Judge.{judged}
 use Rattle.capcore.specs.Direct.{Direct, direct, effect, effect_unless, found, reply_of, reply_by, has_values, shown, IsDirect}
 use Rattle.capcore.specs.Settle.{Settles}

@@ -23,7 +23,7 @@ use Rattle.lockmachine.proofs.Exact.{settled}
 use Rattle.capcore.specs.declared.event.Event.{Event}
 use Rattle.capcore.specs.declared.stopped.Stopped.{Stopped}
 use Rattle.capcore.specs.State.{State}
-use Rattle.capcore.specs.Tests.{is_gone}
+use Rattle.inotree.specs.Tests.{is_gone}
 use Rattle.capcore.specs.Judge.{judged, stop_reply}
 use Rattle.capcore.specs.Direct.{Direct, direct, says, effect_unless, reply_of}
 use Rattle.capcore.specs.Settle.{Settles}

@@ -17,7 +17,7 @@ use Rattle.captable.specs.Calls.{issued, renumbered, is_of_inode}
 use Rattle.lockmachine.specs.Locks.{lock_at}
 use Rattle.lockmachine.specs.Wants.{effective_want}
 use Rattle.lockmachine.specs.Scene.{Scene, told_set}
-use Rattle.capcore.specs.Tests.{is_gone}
+use Rattle.inotree.specs.Tests.{is_gone}
 
 -- ---- issue
 

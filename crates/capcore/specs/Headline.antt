@@ -27,7 +27,7 @@ use Rattle.capcore.specs.Settle.{Made, Served, MakesAll}
 use Rattle.capcore.specs.declared.event.Event.{Event}
 use Rattle.capcore.specs.declared.reply.Reply.{Reply}
 use Rattle.capcore.specs.declared.reply.Reply.TheVariants as reply
-use Rattle.capcore.specs.Tests.{first_failing}
+use Rattle.capbits.specs.Refusal.{first_failing}
 use Rattle.capcore.specs.Judge.{Need, before, needs, first_denied}
 use Rattle.capcore.specs.Finish.{due}
 

@@ -5,18 +5,20 @@ use Rattle.std.specs.Option.{option_map}
 use Rattle.capbits.specs.declared.ids.ClientId.{ClientId}
 use Rattle.capgrant.specs.declared.access.Access.{Access}
 use Rattle.capgrant.specs.declared.access.Access.TheVariants.{Read, Write, Snapshot}
+use Rattle.capbits.specs.Refusal.{Test, first_failing}
+use Rattle.sessiontab.specs.Tests.{session_tests, new_session_tests}
 use Rattle.inotree.specs.Tree.{child}
+use Rattle.inotree.specs.Tests.{inode_tests, directory_test, found_test, new_inode_tests, new_snapshot_tests, old_snapshot_tests}
 use Rattle.captable.specs.declared.entry.Holder.{Holder}
 use Rattle.lockmachine.specs.Policy.{is_granted, failures}
 use Rattle.lockmachine.specs.Scene.{Scene}
-use Rattle.capcore.specs.declared.refusal.Refusal.{Refusal}
+use Rattle.capbits.specs.declared.refusal.Refusal.{Refusal}
 use Rattle.capcore.specs.declared.event.Event.{Event}
 use Rattle.capcore.specs.declared.event.Event.TheVariants as event
 use Rattle.capcore.specs.declared.reply.Reply.{Reply}
 use Rattle.capcore.specs.declared.reply.Reply.TheVariants as reply
 use Rattle.capcore.specs.declared.stopped.Stopped.{Stopped}
 use Rattle.capcore.specs.declared.stopped.Stopped.TheVariants.{ByPolicy, ByTest}
-use Rattle.capcore.specs.Tests.{Test, first_failing, session_tests, new_session_tests, inode_tests, directory_test, found_test, new_inode_tests, new_snapshot_tests, old_snapshot_tests}
 
 -- an access of a client to an inode
 pub record Need : Type 0 where
@@ -33,14 +35,18 @@ need_if client (Some ino) access = need client ino access ∷ []
 
 -- ---- by event
 
+-- the client has an open session, and the inode is there and has a path
+abbrev pub asked_tests : Scene → ClientId → ℕ → List Test
+asked_tests s client ino = session_tests s.sessions client.0 ++ inode_tests s.tree ino
+
 -- the tests that stand before policy
 abbrev pub before : Scene → Event → List Test
-before s (event.Session client caller grants) = new_session_tests s client
-before s (event.Lookup client dir name) = session_tests s client ++ inode_tests s dir.0 ++ directory_test s dir.0 ∷ found_test s dir.0 name ∷ []
-before s (event.Create client dir name mode) = session_tests s client ++ inode_tests s dir.0
-before s (event.Mkdir client dir name mode) = session_tests s client ++ inode_tests s dir.0
-before s (event.MakeSnapshot client ino name) = session_tests s client ++ inode_tests s ino.0
-before s (event.RemoveSnapshot client ino name) = session_tests s client ++ inode_tests s ino.0
+before s (event.Session client caller grants) = new_session_tests s.sessions client.0
+before s (event.Lookup client dir name) = asked_tests s client dir.0 ++ directory_test s.tree dir.0 ∷ found_test s.tree dir.0 name ∷ []
+before s (event.Create client dir name mode) = asked_tests s client dir.0
+before s (event.Mkdir client dir name mode) = asked_tests s client dir.0
+before s (event.MakeSnapshot client ino name) = asked_tests s client ino.0
+before s (event.RemoveSnapshot client ino name) = asked_tests s client ino.0
 
 -- the accesses that an event needs, in order
 abbrev pub needs : Scene → Event → List Need
@@ -55,10 +61,10 @@ needs s (event.RemoveSnapshot client ino name) = need client ino.0 Snapshot ∷ 
 abbrev pub after : Scene → Event → List Test
 after s (event.Session client caller grants) = []
 after s (event.Lookup client dir name) = []
-after s (event.Create client dir name mode) = new_inode_tests s dir.0 name
-after s (event.Mkdir client dir name mode) = new_inode_tests s dir.0 name
-after s (event.MakeSnapshot client ino name) = new_snapshot_tests s ino.0 name
-after s (event.RemoveSnapshot client ino name) = old_snapshot_tests s ino.0 name
+after s (event.Create client dir name mode) = new_inode_tests s.tree dir.0 name
+after s (event.Mkdir client dir name mode) = new_inode_tests s.tree dir.0 name
+after s (event.MakeSnapshot client ino name) = new_snapshot_tests s.tree ino.0 name
+after s (event.RemoveSnapshot client ino name) = old_snapshot_tests s.tree ino.0 name
 
 -- ---- the judgement
 

@@ -1,10 +1,8 @@
 pub mod State
 pub mod Untold
-pub mod Tests
 pub mod Judge
 pub mod Direct
 pub mod Idle
-pub mod Refused
 pub mod Serving
 pub mod Settle
 pub mod Finish

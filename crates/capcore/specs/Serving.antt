@@ -14,6 +14,8 @@ use Rattle.inotree.specs.Names.{name_cmp}
 use Rattle.inotree.specs.Inodes.{with_setting, with_attribute, without_attribute}
 use Rattle.inotree.specs.Tree.{Nodes, parent}
 use Rattle.inotree.specs.Calls.{changed, unlinked, moved}
+use Rattle.inotree.specs.Tests.{inode_tests, root_test, directory_test, file_test, empty_test, new_place_tests, setting_tests, new_attribute_tests, old_attribute_tests}
+use Rattle.capbits.specs.Refusal.{Test}
 use Rattle.lockmachine.specs.declared.request.Change.{Change}
 use Rattle.lockmachine.specs.declared.request.Change.TheVariants.{Set, SetXattr, RemoveXattr}
 use Rattle.lockmachine.specs.declared.request.Ask.{Ask}
@@ -27,7 +29,6 @@ use Rattle.capcore.specs.declared.outcome.Outcome.{Outcome}
 use Rattle.capcore.specs.declared.outcome.Outcome.TheVariants as outcome
 use Rattle.capcore.specs.declared.stopped.Stopped.{Stopped}
 use Rattle.capcore.specs.declared.stopped.Stopped.TheVariants.{ByPolicy, ByTest}
-use Rattle.capcore.specs.Tests.{Test, inode_tests, root_test, directory_test, file_test, empty_test, new_place_tests, new_attribute_tests, old_attribute_tests}
 use Rattle.capcore.specs.Judge.{Need, need, need_if, stop}
 
 -- ---- by what is asked for
@@ -54,11 +55,11 @@ change_access (RemoveXattr name) = attribute_access name
 
 -- the tests before policy, without those of the session
 abbrev pub ask_before : Scene → ℕ → Ask → List Test
-ask_before s ino (Get part) = inode_tests s ino
-ask_before s ino (Alter change) = inode_tests s ino
-ask_before s ino Unlink = inode_tests s ino ++ root_test s ino ∷ []
-ask_before s ino Rmdir = inode_tests s ino ++ root_test s ino ∷ []
-ask_before s ino (Rename dir name) = inode_tests s ino ++ root_test s ino ∷ inode_tests s dir.0
+ask_before s ino (Get part) = inode_tests s.tree ino
+ask_before s ino (Alter change) = inode_tests s.tree ino
+ask_before s ino Unlink = inode_tests s.tree ino ++ root_test s.tree ino ∷ []
+ask_before s ino Rmdir = inode_tests s.tree ino ++ root_test s.tree ino ∷ []
+ask_before s ino (Rename dir name) = inode_tests s.tree ino ++ root_test s.tree ino ∷ inode_tests s.tree dir.0
 
 -- the accesses that it needs, in order
 abbrev pub ask_needs : Scene → ClientId → ℕ → Ask → List Need
@@ -68,25 +69,18 @@ ask_needs s client ino Unlink = need_if client (parent s.tree.nodes ino) access.
 ask_needs s client ino Rmdir = need_if client (parent s.tree.nodes ino) access.Write
 ask_needs s client ino (Rename dir name) = need_if client (parent s.tree.nodes ino) access.Write ++ need client dir.0 access.Write ∷ []
 
-abbrev pub setting_tests : Scene → ℕ → Setting → List Test
-setting_tests s ino (Size size) = file_test s ino ∷ []
-setting_tests s ino (Mode mode) = []
-setting_tests s ino (Uid uid) = []
-setting_tests s ino (Gid gid) = []
-setting_tests s ino (Time time) = []
-
 abbrev pub change_tests : Scene → ℕ → Change → List Test
-change_tests s ino (Set setting) = setting_tests s ino setting
-change_tests s ino (SetXattr name value) = new_attribute_tests s ino name value
-change_tests s ino (RemoveXattr name) = old_attribute_tests s ino name
+change_tests s ino (Set setting) = setting_tests s.tree ino setting
+change_tests s ino (SetXattr name value) = new_attribute_tests s.tree ino name value
+change_tests s ino (RemoveXattr name) = old_attribute_tests s.tree ino name
 
 -- the tests behind policy, without that of the queue's room
 abbrev pub ask_after : Scene → ℕ → Ask → List Test
 ask_after s ino (Get part) = []
 ask_after s ino (Alter change) = change_tests s ino change
-ask_after s ino Unlink = file_test s ino ∷ []
-ask_after s ino Rmdir = directory_test s ino ∷ empty_test s ino ∷ []
-ask_after s ino (Rename dir name) = new_place_tests s ino dir.0 name
+ask_after s ino Unlink = file_test s.tree ino ∷ []
+ask_after s ino Rmdir = directory_test s.tree ino ∷ empty_test s.tree ino ∷ []
+ask_after s ino (Rename dir name) = new_place_tests s.tree ino dir.0 name
 
 -- what stops the request now
 abbrev pub judged_again : Scene → Request → Option Stopped

@@ -9,8 +9,6 @@ mod history;
 mod laws;
 mod messages;
 mod outcome;
-mod refusal;
-mod refused;
 mod reply;
 mod start;
 mod step;
@@ -24,7 +22,7 @@ pub use laws::{
     the_served_are_denied_by_name, the_served_are_denied_exactly,
 };
 pub use outcome::{Ended, Message, Outcome, PartValues};
-pub use refusal::Refusal;
+pub use capbits::Refusal;
 pub use reply::Reply;
 pub use step::Core;
 pub use stopped::Stopped;

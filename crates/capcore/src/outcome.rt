@@ -1,7 +1,6 @@
 //! How requests end that wait for a lock, and the messages that clients are given.
 
-use crate::refusal::Refusal;
-use capbits::{CapSet, ClientId, Ino, Ticket};
+use capbits::{CapSet, ClientId, Ino, Refusal, Ticket};
 use capgrant::{Access, Attr, Rules};
 use inotree::Attributes;
 

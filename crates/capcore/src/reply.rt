@@ -1,8 +1,7 @@
 //! What is answered.
 
 use crate::outcome::PartValues;
-use crate::refusal::Refusal;
-use capbits::{CapSet, Ino, Ticket};
+use capbits::{CapSet, Ino, Refusal, Ticket};
 use capgrant::{Access, Rules};
 
 /// The answer to an event.

@@ -1,36 +1,35 @@
 //! What an event does: all of the core but its history.
 ghost use Rattle.std.specs.Prelude.{◌≡◌, ◌+◌, ◌++◌, false, [], ◌∷◌, None, IfOk, IfErr, OnOk, OnErr};
 ghost use Rattle.inotree.specs.Tree.{is_directory};
-ghost use Rattle.inotree.specs.Calls.{create_fault, with_new};
+ghost use Rattle.inotree.specs.Calls.{with_new};
+ghost use Rattle.inotree.specs.Tests.{create_tests};
 ghost use Rattle.capcore.specs.Idle.{IsIdle};
 ghost use Rattle.capgrant.specs.Verdict.{is_allowed, IfDenied};
 ghost use Rattle.captable.specs.Table.{holder};
 ghost use Rattle.sessiontab.specs.Calls.{status_of};
 ghost use Rattle.lockmachine.specs.Policy.{failures};
-ghost use Rattle.capcore.specs.Judge.{stop, need, is_met};
+ghost use Rattle.capcore.specs.Judge.{stop, need, is_met, asked_tests};
 ghost use Rattle.std.specs.FinMap as map;
 ghost use Rattle.capgrant.specs.declared.answer.Verdict.TheVariants as verdict_kind;
 ghost use Rattle.capcore.specs.Direct.{IsDirect, has_values, made_event, answer_to, owned_by, with_birth};
 ghost use Rattle.capcore.specs.History.{IsOpening, HasNoStray};
 ghost use Rattle.capcore.specs.Step.{Step};
-ghost use Rattle.capcore.specs.Tests.{first_failing, session_tests, inode_tests};
+ghost use Rattle.capbits.specs.Refusal.{first_failing};
 ghost use Rattle.capcore.specs.declared.event.Event.TheVariants as event;
 
 use crate::copies::copy_of_caller;
 use crate::event::Event;
 use crate::history::Stop;
 use crate::messages::Messages;
-use crate::refusal::Refusal;
-use crate::refused::{no_session, refused};
 use crate::reply::Reply;
 use crate::start::first_locks;
 use crate::stopped::Stopped;
 use arrayvec::ArrayVec;
-use capbits::{Caller, ClientId, Ino, Mode};
+use capbits::{Caller, ClientId, Ino, Mode, Refusal};
 use capgrant::{Access, Attr, Rules, Verdict, verdict};
 use capspec::{FsName, Grants};
 use captable::CapTable;
-use inotree::{Kind, Place, Tree};
+use inotree::{Kind, Tree};
 use lockmachine::{Locks, NoMemory};
 use sessiontab::{Sessions, Status};
 use std::alloc::Global;
@@ -154,17 +153,15 @@ impl World {
         ensures err { OnErr result (self.new ≡ self.old) }
         ensures memory { IfErr result (λ stop. stop ≡ Stop.NoMemory) }
     {
-        if let Some(fault) = self.sessions.open_fault(client) {
-            return no_session(fault);
+        if let Some(refusal) = self.sessions.open_refusal(client) {
+            return Ok(Reply::Refused(refusal));
         }
         let Ok(grants) = grants.copy() else {
             return Err(Stop::NoMemory);
         };
         let caller = copy_of_caller(caller);
-        match self.sessions.open_session(client, caller, grants) {
-            Ok(()) => Ok(Reply::Done),
-            Err(_no_memory) => Err(Stop::NoMemory),
-        }
+        self.sessions.open_session(client, caller, grants)?;
+        Ok(Reply::Done)
     }
 
     fn lookup(&self, client: ClientId, dir: Ino, name: &[u8]) -> Reply
@@ -201,8 +198,8 @@ impl World {
         if let Some(stopped) = self.stop(client, dir, Access::Write) {
             return Ok(stopped.into());
         }
-        if let Some(fault) = self.tree.create_fault(dir, name) {
-            return refused(fault);
+        if let Some(refusal) = self.tree.new_inode_refusal(dir, name) {
+            return Ok(Reply::Refused(refusal));
         }
         let attr = self.owned_by(client, mode);
         let ino = self.add(kind, dir, name, attr)?;
@@ -211,7 +208,7 @@ impl World {
 
     // Adds an inode with its locks. For want of memory nothing changes.
     fn add(&mut self, kind: Kind, dir: Ino, name: &[u8], attr: Attr) -> Result<Ino, NoMemory>
-        requires passed { create_fault self.old.scene.tree dir.0 name.now ≡ None }
+        requires passed { first_failing (create_tests self.old.scene.tree dir.0 name.now) ≡ None }
         ensures ok { OnOk result (self.new ≡ with_birth self.old kind dir.0 name.now attr) }
         ensures ino { IfOk result (λ ino. ino.0 ≡ self.old.scene.tree.last + 1) }
         ensures err { OnErr result (self.new ≡ self.old) }
@@ -236,10 +233,11 @@ impl World {
         if let Some(stopped) = self.stop(client, ino, Access::Snapshot) {
             return Ok(stopped.into());
         }
-        match self.tree.snap_add(ino, name) {
-            Ok(()) => Ok(Reply::Done),
-            Err(fault) => refused(fault),
+        if let Some(refusal) = self.tree.new_snapshot_refusal(ino, name) {
+            return Ok(Reply::Refused(refusal));
         }
+        self.tree.snap_add(ino, name)?;
+        Ok(Reply::Done)
     }
 
     fn remove_snapshot(&mut self, client: ClientId, ino: Ino, name: &[u8]) -> Result<Reply, Stop>
@@ -250,10 +248,11 @@ impl World {
         if let Some(stopped) = self.stop(client, ino, Access::Snapshot) {
             return Ok(stopped.into());
         }
-        match self.tree.snap_remove(ino, name) {
-            Ok(()) => Ok(Reply::Done),
-            Err(fault) => refused(fault),
+        if let Some(refusal) = self.tree.old_snapshot_refusal(ino, name) {
+            return Ok(Reply::Refused(refusal));
         }
+        self.tree.snap_remove(ino, name);
+        Ok(Reply::Done)
     }
 
     // The tree.
@@ -274,7 +273,7 @@ impl World {
 
     // What stops a request that needs one access to an inode that it names, before any other test.
     fn stop(&self, client: ClientId, ino: Ino, access: Access) -> Option<Stopped>
-        ensures { result ≡ stop self.now.scene (session_tests self.now.scene client ++ inode_tests self.now.scene ino.0) (need client ino.0 access ∷ []) [] }
+        ensures { result ≡ stop self.now.scene (asked_tests self.now.scene client ino.0) (need client ino.0 access ∷ []) [] }
     {
         match self.inode_stop(client, ino) {
             Some(refusal) => Some(Stopped::ByTest(refusal)),
@@ -284,16 +283,11 @@ impl World {
 
     // The first test of the client's session and of the inode that fails.
     fn inode_stop(&self, client: ClientId, ino: Ino) -> Option<Refusal>
-        ensures { result ≡ first_failing (session_tests self.now.scene client ++ inode_tests self.now.scene ino.0) }
+        ensures { result ≡ first_failing (asked_tests self.now.scene client ino.0) }
     {
-        match self.sessions.status(client) {
-            None => Some(Refusal::NoSession),
-            Some(Status::Stale) => Some(Refusal::SessionStale),
-            Some(Status::Open) => match self.tree.place(ino) {
-                Place::NoIno => Some(Refusal::NoIno),
-                Place::Gone => Some(Refusal::Gone),
-                Place::Here => None,
-            },
+        match self.sessions.session_refusal(client) {
+            Some(refusal) => Some(refusal),
+            None => self.tree.inode_refusal(ino),
         }
     }
 
@@ -370,7 +364,7 @@ fn no_grant() -> Verdict
 
 // Makes an inode of this kind. For want of memory nothing changes.
 fn make_in(tree: &mut Tree, kind: Kind, dir: Ino, name: &[u8], attr: Attr) -> Result<(), NoMemory>
-    requires passed { create_fault tree.old dir.0 name.now ≡ None }
+    requires passed { first_failing (create_tests tree.old dir.0 name.now) ≡ None }
     ensures ok { OnOk result (tree.new ≡ with_new tree.old kind dir.0 name.now attr) }
     ensures err { OnErr result (tree.new ≡ tree.old) }
 {

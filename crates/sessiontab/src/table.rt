@@ -181,7 +181,7 @@ impl Sessions {
         ensures err { OnErr result (self.new ≡ self.old) }
     {
         self.blocklist.insert(client)?;
-        self.connected.remove(client);
+        let _had = self.connected.remove(client);
         Ok(())
     }
 

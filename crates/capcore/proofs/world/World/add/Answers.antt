@@ -1,5 +1,6 @@
 use Rattle.std.proofs.Common.{◌≡◌, ◌+◌, None, sym, subst, arith}
-use Rattle.inotree.specs.Calls.{create_fault}
+use Rattle.capbits.specs.Refusal.{first_failing}
+use Rattle.inotree.specs.Tests.{create_tests}
 use Rattle.inotree.proofs.Passing.{passed-create}
 use Rattle.lockmachine.specs.Scene.{Scene}
 use Rattle.capcore.specs.State.{State}
@@ -8,8 +9,8 @@ use Rattle.capcore.proofs.world.World.add.Goals as goal
 
 pub overflow_add-ino : goal.overflow_add-ino
 overflow_add-ino c =
-    let no_fault : create_fault c.self.inside.tree c.args.dir.0 c.args.name.now ≡ None =
-    subst (λ (s : State). create_fault s.scene.tree c.args.dir.0 c.args.name.now ≡ None) (sym c.self.view_is) c.requires.passed in
+    let no_fault : first_failing (create_tests c.self.inside.tree c.args.dir.0 c.args.name.now) ≡ None =
+    subst (λ (s : State). first_failing (create_tests s.scene.tree c.args.dir.0 c.args.name.now) ≡ None) (sym c.self.view_is) c.requires.passed in
     let more = (passed-create c.self.inside.tree c.args.dir.0 c.args.name.now no_fault).2 in
     let last = c.last.ensures.last in
     omega (arith, more, last)
