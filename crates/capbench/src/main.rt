@@ -2,6 +2,8 @@
 //! line, a sum over every answer, which is the same on each run.
 #![tactic(auto)]
 
+#[cfg(test)]
+mod asserting;
 mod command_line;
 mod commands;
 mod fault;

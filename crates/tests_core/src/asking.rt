@@ -1,6 +1,7 @@
 //! Asking a core: what clients ask for, in short, and the core that is asked.
 
 use crate::asserting::same;
+use crate::looking::{Look, seen};
 use crate::telling::answer_text;
 use capbits::{Caller, ClientId, Groups, Ino, Mode, PassId};
 use capcore::{Core, Event};
@@ -91,8 +92,8 @@ fn grants(alloc: Global, text: &[u8]) -> Result<Grants, Fail> {
     }
 }
 
-/// A core on a tree that has its root alone, which is user 0's. Its history takes so many rows.
-pub fn fresh(alloc: Global, max_rows: u32) -> Result<Core, Fail> {
+// A core on a tree that has its root alone, which is user 0's. Its history takes so many rows.
+fn fresh(alloc: Global, max_rows: u32) -> Result<Core, Fail> {
     let fs = FsName::read(b"cephfs").ok_or("no name")?;
     let attr = Attr {
         uid: 0,
@@ -105,14 +106,14 @@ pub fn fresh(alloc: Global, max_rows: u32) -> Result<Core, Fail> {
     Ok(Core::new(alloc, fs, tree, max_rows)?)
 }
 
-/// The text of what is answered to one who asks by a pass.
-pub fn asked(alloc: Global, core: &mut Core, pass: u32, ask: Ask) -> Result<String, Fail> {
+// The text of what is answered to one who asks by a pass.
+fn asked(alloc: Global, core: &mut Core, pass: u32, ask: Ask) -> Result<String, Fail> {
     let answer = core.apply(PassId(pass), event(alloc, ask)?);
     Ok(answer_text(alloc, answer)?)
 }
 
-/// Asks for all that the script asks for, and compares what is answered.
-pub fn plays(
+// Asks for all that the script asks for, and compares what is answered.
+fn plays(
     rt: &impl Abort,
     alloc: Global,
     core: &mut Core,
@@ -126,14 +127,27 @@ pub fn plays(
     Ok(())
 }
 
-/// A fresh core on which the script was played.
-pub fn played(
+// Compares what is seen in the core.
+fn shows(rt: &impl Abort, alloc: Global, core: &Core, shown: &[(Look, &str)]) -> Result<(), Fail> {
+    for (look, wanted) in shown {
+        let text = seen(alloc, core, *look)?;
+        same(rt, text.as_str(), *wanted, *look);
+    }
+    Ok(())
+}
+
+/// Plays the scripts on a fresh core whose history takes so many rows, each by its pass, and compares what is answered
+/// and what is seen in the core after them. No other function of the tests owns a core: each statement of one that does
+/// is dear to prove.
+pub fn works(
     rt: &(impl AllocGlobal + Abort),
     max_rows: u32,
-    pass: u32,
-    script: &[(Ask, &str)],
-) -> Result<Core, Fail> {
+    scripts: &[(u32, &[(Ask, &str)])],
+    shown: &[(Look, &str)],
+) -> Result<(), Fail> {
     let mut core = fresh(rt.alloc(), max_rows)?;
-    plays(rt, rt.alloc(), &mut core, pass, script)?;
-    Ok(core)
+    for (pass, script) in scripts {
+        plays(rt, rt.alloc(), &mut core, *pass, script)?;
+    }
+    shows(rt, rt.alloc(), &core, shown)
 }

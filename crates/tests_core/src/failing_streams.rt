@@ -66,7 +66,7 @@ fn a_flag_tells_of_a_failed_read(rt: HostRuntime) {
         (2, (None, true)),
         (3, (Some(1), true)),
     ] {
-        same(&rt, &read_once(&mut reader), &wanted, nth);
+        same(&rt, read_once(&mut reader), wanted, nth);
     }
 }
 
@@ -79,34 +79,24 @@ fn a_flag_tells_of_a_failed_write(rt: HostRuntime) {
         ("\n", (None, true)),
     ] {
         let mut writer = watched_shaky();
-        same(
-            &rt,
-            &write_once(&mut writer, text.as_bytes()),
-            &wanted,
-            text,
-        );
+        same(&rt, write_once(&mut writer, text.as_bytes()), wanted, text);
     }
 }
 
 #[test]
 fn a_flag_tells_of_a_failed_flush(rt: HostRuntime) {
     let mut writer = watched_shaky();
-    same(&rt, &flush_once(&mut writer), &(false, true), "flush");
+    same(&rt, flush_once(&mut writer), (false, true), "flush");
 }
 
 #[test]
 fn a_clear_flag_stays_clear(rt: HostRuntime) {
     let mut reader = Watched::new(b"ab".as_slice());
-    same(&rt, &read_once(&mut reader), &(Some(2), false), "all");
-    same(&rt, &read_once(&mut reader), &(Some(0), false), "the end");
+    same(&rt, read_once(&mut reader), (Some(2), false), "all");
+    same(&rt, read_once(&mut reader), (Some(0), false), "the end");
     let mut writer = Watched::new(Vec::new(rt.alloc()));
-    same(
-        &rt,
-        &write_once(&mut writer, b"ab"),
-        &(Some(2), false),
-        "ab",
-    );
-    same(&rt, &flush_once(&mut writer), &(true, false), "flush");
+    same(&rt, write_once(&mut writer, b"ab"), (Some(2), false), "ab");
+    same(&rt, flush_once(&mut writer), (true, false), "flush");
 }
 
 // Gives so many bytes at a time, and fails once it was read so often.
@@ -154,12 +144,7 @@ fn a_read_that_fails_writes_nothing(rt: HostRuntime) {
             };
             let found = run_on_reads(rt.alloc(), reads);
             let failed = reads_left < wanted;
-            same(
-                &rt,
-                &found,
-                &(failed, failed, failed),
-                (at_once, reads_left),
-            );
+            same(&rt, found, (failed, failed, failed), (at_once, reads_left));
         }
     }
 }
@@ -214,7 +199,7 @@ fn a_write_that_fails_leaves_a_beginning(rt: HostRuntime) {
             let (failed, ended, text) = run_in_room(rt.alloc(), room, fails);
             let is_short = room < wanted.len();
             let fault = ended == Err(ScriptFault::WriteFault);
-            same(&rt, &(failed, fault), &(is_short, is_short), (room, fails));
+            same(&rt, (failed, fault), (is_short, is_short), (room, fails));
             same(&rt, text.as_slice(), &wanted[..room], (room, fails));
         }
     }

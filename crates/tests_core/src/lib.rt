@@ -15,6 +15,8 @@ mod histories;
 #[cfg(test)]
 mod lines;
 #[cfg(test)]
+mod looking;
+#[cfg(test)]
 mod replies;
 #[cfg(test)]
 mod runs;

@@ -141,7 +141,7 @@ fn lines_have_a_greatest_length(rt: HostRuntime) -> Result<(), Fail> {
     for (front, length, wanted) in LONG_LINES {
         let line = long_line(alloc, front, *length)?;
         let found = says_event(alloc, line.as_slice());
-        same(&rt, &found, wanted, (*front, *length));
+        same(&rt, found, *wanted, (*front, *length));
     }
     Ok(())
 }

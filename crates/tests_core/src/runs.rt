@@ -145,7 +145,7 @@ fn scripts_without_end_are_not_run(rt: HostRuntime) -> Result<(), Fail> {
     let mut reader = Watched::new(io::repeat(b'\n'));
     let mut writer = Watched::new(&mut text);
     let ended = run(alloc, &mut reader, &mut writer);
-    same(&rt, &ended, &Err(ScriptFault::ReadFault), "the end");
+    same(&rt, ended, Err(ScriptFault::ReadFault), "the end");
     holds(&rt, !reader.failed(), "the reader's flag");
     holds(&rt, !writer.failed(), "the writer's flag");
     same(&rt, text.as_slice(), b"", "the text");
@@ -161,6 +161,6 @@ fn many_lines_are_answered(rt: HostRuntime) -> Result<(), Fail> {
     }
     let text = transcript(&rt, script.as_slice())?;
     let wanted = "done\n".len() + 100_000 * "refused NoEnt\n".len();
-    same(&rt, &text.len(), &wanted, "bytes");
+    same(&rt, text.len(), wanted, "bytes");
     Ok(())
 }

@@ -1,11 +1,9 @@
 //! Worked scripts: what clients ask for, with the replies that the rules give.
 
 use crate::asking::Act::{Create, Lookup, MakeSnapshot, Mkdir, Open, RemoveSnapshot};
-use crate::asking::{Ask, asked, fresh, played, plays};
-use crate::asserting::same;
-use capbits::{ClientId, Ino};
-use capcore::Core;
-use sessiontab::Status;
+use crate::asking::{Ask, works};
+use crate::looking::Look::{Last, Session};
+use std::alloc::Global;
 use std::test::Fail;
 
 const A_TENANT: &[(Ask, &str)] = &[
@@ -32,8 +30,7 @@ const A_TENANT: &[(Ask, &str)] = &[
 
 #[test]
 fn a_tenant_is_kept_in_its_path(rt: HostRuntime) -> Result<(), Fail> {
-    played(&rt, 100, 1, A_TENANT)?;
-    Ok(())
+    works(&rt, 100, &[(1, A_TENANT)], &[])
 }
 
 const TWO_GRANTS: &[(Ask, &str)] = &[
@@ -52,8 +49,7 @@ const TWO_GRANTS: &[(Ask, &str)] = &[
 
 #[test]
 fn each_grant_says_why_it_does_not_allow(rt: HostRuntime) -> Result<(), Fail> {
-    played(&rt, 100, 1, TWO_GRANTS)?;
-    Ok(())
+    works(&rt, 100, &[(1, TWO_GRANTS)], &[])
 }
 
 const GRANTS_OF_USERS: &[(Ask, &str)] = &[
@@ -74,8 +70,7 @@ const GRANTS_OF_USERS: &[(Ask, &str)] = &[
 
 #[test]
 fn a_grant_of_a_user_asks_who_owns_the_inode(rt: HostRuntime) -> Result<(), Fail> {
-    played(&rt, 100, 1, GRANTS_OF_USERS)?;
-    Ok(())
+    works(&rt, 100, &[(1, GRANTS_OF_USERS)], &[])
 }
 
 const SNAPSHOTS: &[(Ask, &str)] = &[
@@ -94,8 +89,7 @@ const SNAPSHOTS: &[(Ask, &str)] = &[
 
 #[test]
 fn snapshots_are_made_and_removed(rt: HostRuntime) -> Result<(), Fail> {
-    played(&rt, 100, 1, SNAPSHOTS)?;
-    Ok(())
+    works(&rt, 100, &[(1, SNAPSHOTS)], &[])
 }
 
 const ONE_SESSION_MORE: &[(Ask, &str)] = &[
@@ -103,21 +97,59 @@ const ONE_SESSION_MORE: &[(Ask, &str)] = &[
     ((64, Open, 10, b"allow rw"), "refused SessionOpen"),
 ];
 
-fn session(core: &Core, client: u32) -> Option<Status> {
-    core.session(ClientId(client))
+// So many clients open a session, from client 1 on.
+fn openings(alloc: Global, count: u32) -> Result<Vec<(Ask, &'static str)>, Fail> {
+    let mut script = Vec::new(alloc);
+    for client in 1..=count {
+        let opening: Ask = (client, Open, 10, b"allow rw");
+        script.push((opening, "done"))?;
+    }
+    Ok(script)
 }
 
 #[test]
 fn sixty_four_sessions_are_the_most(rt: HostRuntime) -> Result<(), Fail> {
-    let mut core = fresh(rt.alloc(), 100)?;
-    for client in 1..65 {
-        let text = asked(rt.alloc(), &mut core, 1, (client, Open, 10, b"allow rw"))?;
-        same(&rt, text.as_str(), "done", client);
-    }
-    plays(&rt, rt.alloc(), &mut core, 1, ONE_SESSION_MORE)?;
-    same(&rt, &session(&core, 65), &None, "session 65");
-    Ok(())
+    let openings = openings(rt.alloc(), 64)?;
+    let scripts = [(1, openings.as_slice()), (1, ONE_SESSION_MORE)];
+    works(&rt, 100, &scripts, &[(Session(65), "None")])
 }
+
+// A chain of as many directories as a path may have names.
+const A_CHAIN: &[(Ask, &str)] = &[
+    ((1, Open, 10, b"allow rw"), "done"),
+    ((1, Mkdir(0o755), 1, b"d"), "ino 2"),
+    ((1, Mkdir(0o755), 2, b"d"), "ino 3"),
+    ((1, Mkdir(0o755), 3, b"d"), "ino 4"),
+    ((1, Mkdir(0o755), 4, b"d"), "ino 5"),
+    ((1, Mkdir(0o755), 5, b"d"), "ino 6"),
+    ((1, Mkdir(0o755), 6, b"d"), "ino 7"),
+    ((1, Mkdir(0o755), 7, b"d"), "ino 8"),
+    ((1, Mkdir(0o755), 8, b"d"), "ino 9"),
+    ((1, Mkdir(0o755), 9, b"d"), "ino 10"),
+    ((1, Mkdir(0o755), 10, b"d"), "ino 11"),
+    ((1, Mkdir(0o755), 11, b"d"), "ino 12"),
+    ((1, Mkdir(0o755), 12, b"d"), "ino 13"),
+    ((1, Mkdir(0o755), 13, b"d"), "ino 14"),
+    ((1, Mkdir(0o755), 14, b"d"), "ino 15"),
+    ((1, Mkdir(0o755), 15, b"d"), "ino 16"),
+    ((1, Mkdir(0o755), 16, b"d"), "ino 17"),
+    ((1, Mkdir(0o755), 17, b"d"), "ino 18"),
+    ((1, Mkdir(0o755), 18, b"d"), "ino 19"),
+    ((1, Mkdir(0o755), 19, b"d"), "ino 20"),
+    ((1, Mkdir(0o755), 20, b"d"), "ino 21"),
+    ((1, Mkdir(0o755), 21, b"d"), "ino 22"),
+    ((1, Mkdir(0o755), 22, b"d"), "ino 23"),
+    ((1, Mkdir(0o755), 23, b"d"), "ino 24"),
+    ((1, Mkdir(0o755), 24, b"d"), "ino 25"),
+    ((1, Mkdir(0o755), 25, b"d"), "ino 26"),
+    ((1, Mkdir(0o755), 26, b"d"), "ino 27"),
+    ((1, Mkdir(0o755), 27, b"d"), "ino 28"),
+    ((1, Mkdir(0o755), 28, b"d"), "ino 29"),
+    ((1, Mkdir(0o755), 29, b"d"), "ino 30"),
+    ((1, Mkdir(0o755), 30, b"d"), "ino 31"),
+    ((1, Mkdir(0o755), 31, b"d"), "ino 32"),
+    ((1, Mkdir(0o755), 32, b"d"), "ino 33"),
+];
 
 const ONE_NAME_MORE: &[(Ask, &str)] = &[
     ((1, Mkdir(0o755), 33, b"d"), "refused TooDeep"),
@@ -126,17 +158,12 @@ const ONE_NAME_MORE: &[(Ask, &str)] = &[
     ((1, Create(0o644), 32, b"f"), "ino 34"),
 ];
 
-fn last(core: &Core) -> Ino {
-    core.tree().last()
-}
-
 #[test]
 fn a_path_has_at_most_thirty_two_names(rt: HostRuntime) -> Result<(), Fail> {
-    let mut core = fresh(rt.alloc(), 100)?;
-    asked(rt.alloc(), &mut core, 1, (1, Open, 10, b"allow rw"))?;
-    for dir in 1..33 {
-        asked(rt.alloc(), &mut core, 1, (1, Mkdir(0o755), dir, b"d"))?;
-    }
-    same(&rt, &last(&core), &Ino(33), "the last inode");
-    plays(&rt, rt.alloc(), &mut core, 1, ONE_NAME_MORE)
+    works(
+        &rt,
+        100,
+        &[(1, A_CHAIN), (1, ONE_NAME_MORE)],
+        &[(Last, "34")],
+    )
 }

@@ -1,0 +1,59 @@
+//! What tests look at in a core.
+
+use crate::telling::{inode_text, row_text};
+use capbits::{ClientId, Ino};
+use capcore::Core;
+use sessiontab::Status;
+use std::alloc::{AllocError, Global};
+
+/// What is looked at.
+#[derive(Clone, Copy, Debug)]
+pub enum Look {
+    /// How many rows the history has.
+    Rows,
+    /// A row of the history, by its place from 0.
+    Row(usize),
+    /// The last inode that was made.
+    Last,
+    /// The inode that a directory has under a name.
+    Child(u64, &'static [u8]),
+    /// How a client's session is.
+    Session(u32),
+    /// What an inode is like.
+    Inode(u64),
+}
+
+fn row_count(core: &Core) -> usize {
+    core.history().len()
+}
+
+fn row(alloc: Global, core: &Core, place: usize) -> Result<String, AllocError> {
+    match core.history().get(place) {
+        Some(row) => row_text(alloc, row),
+        None => String::from_str(alloc, "no row"),
+    }
+}
+
+fn last(core: &Core) -> u64 {
+    core.tree().last().0
+}
+
+fn child(core: &Core, dir: u64, name: &[u8]) -> Option<u64> {
+    core.tree().child(Ino(dir), name).map(|ino| ino.0)
+}
+
+fn session(core: &Core, client: u32) -> Option<Status> {
+    core.session(ClientId(client))
+}
+
+/// What is seen there, as a text.
+pub fn seen(alloc: Global, core: &Core, look: Look) -> Result<String, AllocError> {
+    match look {
+        Look::Rows => format!(in alloc; "{}", row_count(core)),
+        Look::Row(place) => row(alloc, core, place),
+        Look::Last => format!(in alloc; "{}", last(core)),
+        Look::Child(dir, name) => format!(in alloc; "{:?}", child(core, dir, name)),
+        Look::Session(client) => format!(in alloc; "{:?}", session(core, client)),
+        Look::Inode(number) => inode_text(alloc, core, number),
+    }
+}
