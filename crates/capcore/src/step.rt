@@ -115,7 +115,7 @@ impl Core {
     /// The history: a row for each event that was answered, the first first.
     pub fn history(&self) -> &[Row]
         ensures rows { result.now ≡ self.now.rows }
-        // It is legal, and leads to the state that the other calls show.
+        // It is legal, and leads to the state that the other calls show, which is sound.
         ensures told { IsTold self.now }
     {
         self.rows.as_slice()
