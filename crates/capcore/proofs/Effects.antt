@@ -27,7 +27,7 @@ use Rattle.capcore.specs.Tests.{Test, first_failing, session_tests, inode_tests,
 use Rattle.capcore.specs.declared.stopped.Stopped.{Stopped}
 use Rattle.capcore.specs.declared.stopped.Stopped.TheVariants.{ByTest}
 use Rattle.capcore.specs.Judge.{Need, stop, stop_reply, need, judged}
-use Rattle.capcore.specs.Direct.{IsDirect, with_tree, with_birth, owned_by, made_event}
+use Rattle.capcore.specs.Direct.{Says, IsDirect, with_tree, with_birth, owned_by, made_event}
 use Rattle.capcore.proofs.Judging.{stopped, passed, no_test, is_here, direct-stopped, direct-passed}
 use Rattle.capcore.proofs.Refusals.{Same, same-create, same-snap_add, same-snap_remove, answered, none_same}
 
@@ -96,11 +96,11 @@ module _ (old : State) (client : ClientId) (dir : Ino) (name : List ℕ) (mode :
   birth-done File ino none is =
       let d = direct-passed old (event.Create client dir name mode) (nothing old (event.Create client dir name mode) (front old.scene client dir) (new_inode_tests old.scene dir.0 name) (need client dir.0 Write ∷ []) refl free
       (create_fault old.scene.tree dir.0 name) (same-create old.scene dir.0 name here) none) in
-      record { answer_is = (λ i. reply.Ino (record { 0 = is i })) ∙ d.answer_is; state_is = d.state_is }
+      record { answer_is = (λ i. Says (reply.Ino (record { 0 = is i }))) ∙ d.answer_is; state_is = d.state_is }
   birth-done Directory ino none is =
       let d = direct-passed old (event.Mkdir client dir name mode) (nothing old (event.Mkdir client dir name mode) (front old.scene client dir) (new_inode_tests old.scene dir.0 name) (need client dir.0 Write ∷ []) refl free
       (create_fault old.scene.tree dir.0 name) (same-create old.scene dir.0 name here) none) in
-      record { answer_is = (λ i. reply.Ino (record { 0 = is i })) ∙ d.answer_is; state_is = d.state_is }
+      record { answer_is = (λ i. Says (reply.Ino (record { 0 = is i }))) ∙ d.answer_is; state_is = d.state_is }
 
 -- what stops a request at the inode that it names stops the event
 pub birth-stopped : (old : State) (kind : Kind) (client : ClientId) (dir : Ino) (name : List ℕ) (mode : Mode) (r : Stopped) → stop old.scene (front old.scene client dir) (need client dir.0 Write ∷ []) [] ≡ Some r → IsDirect old (made_event kind client dir name mode) (stop_reply r) old

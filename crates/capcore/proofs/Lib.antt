@@ -7,6 +7,7 @@ pub mod Judging
 pub mod Numbered
 pub mod Promised
 pub mod Refusals
+pub mod Said
 pub mod Servings
 pub mod Sounding
 pub mod Stopping

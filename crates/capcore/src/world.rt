@@ -10,7 +10,7 @@ ghost use Rattle.lockmachine.specs.Policy.{failures};
 ghost use Rattle.capcore.specs.Judge.{stop, need, is_met};
 ghost use Rattle.std.specs.FinMap as map;
 ghost use Rattle.capgrant.specs.declared.answer.Verdict.TheVariants as verdict_kind;
-ghost use Rattle.capcore.specs.Direct.{IsDirect, has_values, made_event, answer_to, owned_by, with_birth};
+ghost use Rattle.capcore.specs.Direct.{Says, IsDirect, direct, has_values, made_event, owned_by, with_birth};
 ghost use Rattle.capcore.specs.History.{IsOpening, HasNoStray};
 ghost use Rattle.capcore.specs.Step.{Step};
 ghost use Rattle.capcore.specs.Tests.{first_failing, session_tests, inode_tests};
@@ -168,7 +168,7 @@ impl World {
     }
 
     fn lookup(&self, client: ClientId, dir: Ino, name: &[u8]) -> Reply
-        ensures { result ≡ answer_to self.now (event.Lookup client dir name.now) }
+        ensures { Says result ≡ (direct self.now (event.Lookup client dir name.now)).answer }
     {
         if let Some(refusal) = self.inode_stop(client, dir) {
             return Reply::Refused(refusal);
