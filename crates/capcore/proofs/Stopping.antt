@@ -188,10 +188,10 @@ stopped-only count old new e stopped answer ended sound table is (moves, step) =
   step.answer_is ∙ ap (λ (d : Direct). reply_of new.scene (ended_in moves) d.answer) by_itself,
   step.ended_is ∙ ap (λ (d : Direct). all_ended old d moves) by_itself ∙ ap (all_ended old here) none.0,
   step.new_is
-  ∙ ap (λ (d : Direct). state_after old d moves step.settled) by_itself
-  ∙ ap (λ (ms : List Made). state_after old here ms step.settled) none.0
-  ∙ ap (state_after old here []) none.1
-  ∙ (λ i. record old { scene = same-finished count old sound table i; messages = no_more old.messages i }),
+      ∙ ap (λ (d : Direct). state_after old d moves step.settled) by_itself
+      ∙ ap (λ (ms : List Made). state_after old here ms step.settled) none.0
+      ∙ ap (state_after old here []) none.1
+      ∙ (λ i. record old { scene = same-finished count old sound table i; messages = no_more old.messages i }),
 )
   where
     here : Direct

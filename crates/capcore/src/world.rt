@@ -274,7 +274,9 @@ impl World {
 
     // What stops a request that needs one access to an inode that it names, before any other test.
     fn stop(&self, client: ClientId, ino: Ino, access: Access) -> Option<Stopped>
-        ensures { result ≡ stop self.now.scene (session_tests self.now.scene client ++ inode_tests self.now.scene ino.0) (need client ino.0 access ∷ []) [] }
+        ensures { result ≡ stop self.now.scene
+            (session_tests self.now.scene client ++ inode_tests self.now.scene ino.0)
+            (need client ino.0 access ∷ []) [] }
     {
         match self.inode_stop(client, ino) {
             Some(refusal) => Some(Stopped::ByTest(refusal)),
@@ -310,7 +312,8 @@ impl World {
     // What the client's grants say of an access to an inode. Without a session or a path no grant allows it.
     fn verdict(&self, client: ClientId, ino: Ino, access: Access) -> Verdict
         ensures allowed { is_allowed result ≡ is_met self.now.scene (need client ino.0 access) }
-        ensures rules { IfDenied result (λ rules. rules ≡ failures self.now.scene.fs self.now.scene.tree self.now.scene.sessions (holder client ino) access) }
+        ensures rules { IfDenied result (λ rules. rules
+            ≡ failures self.now.scene.fs self.now.scene.tree self.now.scene.sessions (holder client ino) access) }
     {
         let sessions = &self.sessions;
         let (Some(grants), Some(caller)) = (sessions.grants_of(client), sessions.caller_of(client))
