@@ -24,7 +24,7 @@ use Rattle.capcore.specs.declared.stopped.Stopped.{Stopped}
 use Rattle.capcore.specs.declared.stopped.Stopped.TheVariants.{ByTest}
 use Rattle.capcore.specs.State.{State}
 use Rattle.capcore.specs.Judge.{Need, stop, stop_reply, need, judged, asked_tests}
-use Rattle.capcore.specs.Direct.{IsDirect, with_tree, with_birth, owned_by, made_event}
+use Rattle.capcore.specs.Direct.{Says, IsDirect, with_tree, with_birth, owned_by, made_event}
 use Rattle.capcore.proofs.Judging.{stopped, passed, no_test, direct-stopped, direct-passed}
 
 -- the tests behind policy, where what stands before them stops nothing
@@ -80,10 +80,10 @@ module _ (old : State) (client : ClientId) (dir : Ino) (name : List ℕ) (mode :
       IsDirect old (made_event kind client dir name mode) (reply.Ino ino) (with_birth old kind dir.0 name (owned_by (map.get old.scene.sessions.sessions client.0) mode))
   birth-done File ino none is =
       let d = direct-passed old (event.Create client dir name mode) (nothing old (event.Create client dir name mode) (asked_tests old.scene client dir.0) (new_inode_tests old.scene.tree dir.0 name) (need client dir.0 Write ∷ []) refl free none) in
-      record { answer_is = (λ i. reply.Ino (record { 0 = is i })) ∙ d.answer_is; state_is = d.state_is }
+      record { answer_is = (λ i. Says (reply.Ino (record { 0 = is i }))) ∙ d.answer_is; state_is = d.state_is }
   birth-done Directory ino none is =
       let d = direct-passed old (event.Mkdir client dir name mode) (nothing old (event.Mkdir client dir name mode) (asked_tests old.scene client dir.0) (new_inode_tests old.scene.tree dir.0 name) (need client dir.0 Write ∷ []) refl free none) in
-      record { answer_is = (λ i. reply.Ino (record { 0 = is i })) ∙ d.answer_is; state_is = d.state_is }
+      record { answer_is = (λ i. Says (reply.Ino (record { 0 = is i }))) ∙ d.answer_is; state_is = d.state_is }
 
 -- what stops a request at the inode that it names stops the event
 pub birth-stopped : (old : State) (kind : Kind) (client : ClientId) (dir : Ino) (name : List ℕ) (mode : Mode) (r : Stopped) → stop old.scene (asked_tests old.scene client dir.0) (need client dir.0 Write ∷ []) [] ≡ Some r → IsDirect old (made_event kind client dir name mode) (stop_reply r) old

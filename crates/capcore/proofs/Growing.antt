@@ -4,8 +4,10 @@ use Rattle.inotree.specs.Tree.{Nodes}
 use Rattle.capcore.specs.declared.history.Row.{Row}
 use Rattle.capcore.specs.State.{State}
 use Rattle.capcore.specs.Step.{Step}
+use Rattle.capcore.specs.Sound.{IsSound}
 use Rattle.capcore.specs.History.{Told, told, IsTold, IsOpening, HasNoStray, Replays, rows_of}
 use Rattle.capcore.proofs.Numbered.{numbered-nil, numbered-snoc}
+use Rattle.capcore.proofs.Sounding.{opening-sound}
 
 pub replays-more : (first : State) (rows : List Row) (old : State) (row : Row) (new : State) → Replays first rows old → Step old row.event row.reply row.ended new → Replays first (rows ++ row ∷ []) new
 replays-more first [] old row new is step = (new, subst (λ s. Step s row.event row.reply row.ended new) is step, refl)
@@ -25,12 +27,13 @@ first-told fs tree s max_rows none is = record {
   is_opening = is;
   legal = record { replays = refl; numbered = numbered-nil };
   room = omega (arith);
+  sound = opening-sound fs tree s none is;
 }
 
--- one step more, with its row
-pub more-told : (t : Told) (row : Row) (new : State) → IsTold t → Step t.state row.event row.reply row.ended new → row.nth ≡ rows_of row.pass t.rows + 1 → length t.rows < t.max_rows →
+-- one step more, with its row, to a state that is sound
+pub more-told : (t : Told) (row : Row) (new : State) → IsTold t → Step t.state row.event row.reply row.ended new → row.nth ≡ rows_of row.pass t.rows + 1 → length t.rows < t.max_rows → IsSound (length (t.rows ++ row ∷ [])) new →
     IsTold (told new (t.rows ++ row ∷ []) t.max_rows)
-more-told t row new is step nth less = record {
+more-told t row new is step nth less sound = record {
   fs = is.fs;
   tree = is.tree;
   no_strays = is.no_strays;
@@ -41,4 +44,5 @@ more-told t row new is step nth less = record {
     numbered = numbered-snoc t.rows row is.legal.numbered nth;
   };
   room = subst (λ n. n ≤ t.max_rows) (sym (length-more t.rows row)) (omega (arith, less));
+  sound = sound;
 }

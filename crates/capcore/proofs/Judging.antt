@@ -1,5 +1,5 @@
 -- What stops a request, test by test.
-use Rattle.std.proofs.Common.{◌≡◌, ℕ, Bool, true, false, not, List, [], ◌++◌, Option, Some, None, refl, sym, ap}
+use Rattle.std.proofs.Common.{◌≡◌, ℕ, Bool, true, false, not, List, [], ◌++◌, Option, Some, None, refl, sym, ap, ◌∙◌}
 use Rattle.std.specs.Prelude.{if◌then◌else◌}
 use Rattle.std.specs.Option.{option_map}
 use Rattle.capbits.specs.declared.ids.ClientId.{ClientId}
@@ -16,7 +16,8 @@ use Rattle.capcore.specs.declared.stopped.Stopped.TheVariants.{ByTest}
 use Rattle.capcore.specs.State.{State}
 use Rattle.capbits.specs.Refusal.{Test, first_failing}
 use Rattle.capcore.specs.Judge.{Need, stop, stop_by, stop_reply, first_denied, judged}
-use Rattle.capcore.specs.Direct.{effect, effect_unless, reply_by, IsDirect}
+use Rattle.capcore.specs.Direct.{effect, effect_unless, IsDirect}
+use Rattle.capcore.proofs.Said.{said_by, says-effect}
 
 stop_by-stopped : (s : Scene) (o : Option Refusal) (d : Option Need) (l : Option Refusal) (r : Stopped) → stop_by s o d None ≡ Some r → stop_by s o d l ≡ Some r
 stop_by-stopped s (Some x) d l r e = e
@@ -49,13 +50,13 @@ no_test s tests needed more e = stop_by-tests s (first_failing tests) (first_den
 -- what stops an event is its answer, and nothing changes
 pub direct-stopped : (old : State) (e : Event) (r : Stopped) → judged old.scene e ≡ Some r → IsDirect old e (stop_reply r) old
 direct-stopped old e r is = record {
-  answer_is = ap (λ o. reply_by (effect_unless old e o)) (sym is);
+  answer_is = ap (λ o. (effect_unless old e o).answer) (sym is);
   state_is = ap (λ o. (effect_unless old e o).state) (sym is);
 }
 
 -- an event that nothing stops has its effect
-pub direct-passed : (old : State) (e : Event) → judged old.scene e ≡ None → IsDirect old e (reply_by (effect old e)) (effect old e).state
+pub direct-passed : (old : State) (e : Event) → judged old.scene e ≡ None → IsDirect old e (said_by (effect old e)) (effect old e).state
 direct-passed old e is = record {
-  answer_is = ap (λ o. reply_by (effect_unless old e o)) (sym is);
+  answer_is = says-effect old e ∙ ap (λ o. (effect_unless old e o).answer) (sym is);
   state_is = ap (λ o. (effect_unless old e o).state) (sym is);
 }

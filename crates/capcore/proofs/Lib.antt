@@ -6,6 +6,7 @@ pub mod Growing
 pub mod Judging
 pub mod Numbered
 pub mod Promised
+pub mod Said
 pub mod Servings
 pub mod Sounding
 pub mod Stopping

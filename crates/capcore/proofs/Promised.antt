@@ -21,7 +21,8 @@ use Rattle.capcore.specs.declared.reply.Reply.TheVariants as reply
 use Rattle.capcore.specs.State.{State}
 use Rattle.capbits.specs.Refusal.{first_failing}
 use Rattle.capcore.specs.Judge.{Need, before, needs, after, first_denied, stop_by}
-use Rattle.capcore.specs.Direct.{effect, effect_unless, found, reply_by, IsDirect}
+use Rattle.capcore.specs.Direct.{effect, effect_unless, found, direct, IsDirect}
+use Rattle.capcore.proofs.Said.{said, said_by}
 use Rattle.capcore.specs.Finish.{due}
 use Rattle.capcore.specs.Idle.{IsIdle}
 use Rattle.capcore.specs.Headline.{DeniedExactly, DeniesByName, IssuesExactly, AreInPlace, NoneConflict, holds, is_due, is_stop}
@@ -29,11 +30,11 @@ use Rattle.capcore.specs.Headline.{DeniedExactly, DeniesByName, IssuesExactly, A
 -- ---- an event that nothing stops
 
 module _ (old : State) where
-  lookup-no_stop : (o : Option ℕ) → is_stop (reply_by (found old o)) ≡ false
+  lookup-no_stop : (o : Option ℕ) → is_stop (said_by (found old o)) ≡ false
   lookup-no_stop None = refl
   lookup-no_stop (Some ino) = refl
 
-  effect-no_stop : (e : Event) → is_stop (reply_by (effect old e)) ≡ false
+  effect-no_stop : (e : Event) → is_stop (said_by (effect old e)) ≡ false
   effect-no_stop (event.Session client caller grants) = refl
   effect-no_stop (event.Lookup client dir name) = lookup-no_stop (child old.scene.tree.nodes dir.0 name)
   effect-no_stop (event.Create client dir name mode) = refl
@@ -45,7 +46,7 @@ module _ (old : State) where
 
 module _ (old : State) (e : Event) where
   answered_by : Option Refusal → Option Need → Option Refusal → Reply
-  answered_by o d l = reply_by (effect_unless old e (stop_by old.scene o d l))
+  answered_by o d l = said_by (effect_unless old e (stop_by old.scene o d l))
 
   Cause : Option Refusal → Option Need → Access → List Rule → Type 0
   Cause o d access rules = (n : Need) × (o ≡ None) × (d ≡ Some n) × (access ≡ n.access) × (rules ≡ failures old.scene.fs old.scene.tree old.scene.sessions n.holder n.access)
@@ -83,20 +84,23 @@ module _ (old : State) (e : Event) (answer : Reply) (new : State) (is : IsDirect
   l : Option Refusal
   l = first_failing (after old.scene e)
 
+  answered : answer ≡ said_by (direct old e)
+  answered = ap said is.answer_is
+
   pub denied-exactly : DeniedExactly old.scene e answer
   unfolding answered_by Cause o d l
   denied-exactly = (
-    (λ h. let c = cause old e o d l h.0 h.1 (sym is.answer_is ∙ h.2) in (c.0, (c.1, c.2))),
-    (λ h. let b = effect_of old e o d l h.0 h.1.0 h.1.1 in (b.0, b.1, is.answer_is ∙ b.2)),
+    (λ h. let c = cause old e o d l h.0 h.1 (sym answered ∙ h.2) in (c.0, (c.1, c.2))),
+    (λ h. let b = effect_of old e o d l h.0 h.1.0 h.1.1 in (b.0, b.1, answered ∙ b.2)),
   )
 
   pub denies-by_name : DeniesByName old.scene e answer
   unfolding answered_by Cause o d l
-  denies-by_name access rules at = let c = cause old e o d l access rules (sym is.answer_is ∙ at) in (c.0, (c.1, c.2), c.3, c.4)
+  denies-by_name access rules at = let c = cause old e o d l access rules (sym answered ∙ at) in (c.0, (c.1, c.2), c.3, c.4)
 
   pub stopped-unchanged : IsTrue (is_stop answer) → new ≡ old
   unfolding answered_by o d l
-  stopped-unchanged h = is.state_is ∙ stays old e o d l (ap is_stop (sym is.answer_is) ∙ h)
+  stopped-unchanged h = is.state_is ∙ stays old e o d l (ap is_stop (sym answered) ∙ h)
 
 -- ---- caps, where nobody has an entry
 

@@ -26,6 +26,7 @@ idle-sound count s idle none = record {
   waiting = All-same (λ q. IsTrue (has_session s.scene.sessions q.client.0)) s.scene.locks.queue [] idle.nobody_waits (All-nil (λ q. IsTrue (has_session s.scene.sessions q.client.0)));
   messages = All-same (λ m. IsTrue (has_session s.scene.sessions m.client.0)) s.messages [] none (All-nil (λ m. IsTrue (has_session s.scene.sessions m.client.0)));
   last = rw idle.none_numbered (omega arith);
+  made = rw idle.none_made (omega arith);
   locked = λ ino. ap is_some (idle.all_in_sync ino) ∙ same_some (map.get s.scene.tree.nodes ino);
   strays = λ ino gone. absurd (idle.no_strays ino gone);
   in_place = in-place s.scene idle;
@@ -37,6 +38,7 @@ opening-sound fs tree s none is =
     idle-sound 0 s
     (record {
       no_entries = ap (λ t. t.rows) is.table_is;
+      none_made = ap (λ t. t.made) is.table_is;
       nobody_waits = is.queue_is;
       none_numbered = is.last_is;
       all_in_sync = λ ino. is.locks_are ino ∙ ap (λ t. option_map (λ node. in_sync) (map.get t.nodes ino)) (sym is.tree_is);

@@ -56,6 +56,7 @@ same_of_each {A} f g same m k q = ap (option_map g) (get-changed f m k q) ∙ by
 pub idle-changed : (s : Scene) (f : Node → Node) (ino : ℕ) → ((n : Node) → (f n).site ≡ n.site) → IsIdle s → IsIdle (record s { tree = changed f s.tree ino })
 idle-changed s f ino same was = record {
   no_entries = was.no_entries;
+  none_made = was.none_made;
   nobody_waits = was.nobody_waits;
   none_numbered = was.none_numbered;
   all_in_sync = λ q. was.all_in_sync q ∙ sym (same_of_each f (λ node. in_sync) (λ n. refl) s.tree.nodes ino q);
@@ -67,6 +68,7 @@ idle-changed s f ino same was = record {
 pub idle-born : (s : Scene) (kind : Kind) (dir : ℕ) (name : List ℕ) (attr : Attr) → IsIdle s → IsIdle (record s { tree = with_new s.tree kind dir name attr; locks = with_ino s.locks (s.tree.last + 1) })
 idle-born s kind dir name attr was = record {
   no_entries = was.no_entries;
+  none_made = was.none_made;
   nobody_waits = was.nobody_waits;
   none_numbered = was.none_numbered;
   all_in_sync = λ q.

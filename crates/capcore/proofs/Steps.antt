@@ -25,12 +25,13 @@ use Rattle.capcore.specs.declared.stopped.Stopped.TheVariants.{ByPolicy, ByTest}
 use Rattle.capcore.specs.State.{State}
 use Rattle.inotree.specs.Tests.{is_gone}
 use Rattle.capcore.specs.Judge.{judged}
-use Rattle.capcore.specs.Direct.{Direct, direct, effect, effect_unless, found, reply_of, reply_by, has_values, shown, IsDirect}
+use Rattle.capcore.specs.Direct.{Direct, direct, effect, effect_unless, found, reply_of, has_values, shown, IsDirect}
 use Rattle.capcore.specs.Settle.{Settles}
 use Rattle.capcore.specs.Finish.{issue, issue_row, forget, is_kept, number, number_row, finished}
 use Rattle.capcore.specs.Step.{Step}
 use Rattle.capcore.specs.Idle.{IsIdle}
 use Rattle.inotree.specs.Tree.{child}
+use Rattle.capcore.proofs.Said.{said, said_by}
 
 -- ---- the end of a step
 
@@ -105,11 +106,11 @@ none_shown old e (Some r) s = refl
 none_shown old e None s = none_shown-effect old e s
 
 -- and answers with no values
-no_values-found : (old : State) (o : Option ℕ) → has_values (reply_by (found old o)) ≡ false
+no_values-found : (old : State) (o : Option ℕ) → has_values (said_by (found old o)) ≡ false
 no_values-found old None = refl
 no_values-found old (Some ino) = refl
 
-no_values-effect : (old : State) (e : Event) → has_values (reply_by (effect old e)) ≡ false
+no_values-effect : (old : State) (e : Event) → has_values (said_by (effect old e)) ≡ false
 no_values-effect old (event.Session client caller grants) = refl
 no_values-effect old (event.Lookup client dir name) = no_values-found old (child old.scene.tree.nodes dir.0 name)
 no_values-effect old (event.Create client dir name mode) = refl
@@ -117,13 +118,13 @@ no_values-effect old (event.Mkdir client dir name mode) = refl
 no_values-effect old (event.MakeSnapshot client ino name) = refl
 no_values-effect old (event.RemoveSnapshot client ino name) = refl
 
-no_values-unless : (old : State) (e : Event) (o : Option Stopped) → has_values (reply_by (effect_unless old e o)) ≡ false
+no_values-unless : (old : State) (e : Event) (o : Option Stopped) → has_values (said_by (effect_unless old e o)) ≡ false
 no_values-unless old e (Some (ByPolicy access rules)) = refl
 no_values-unless old e (Some (ByTest refusal)) = refl
 no_values-unless old e None = no_values-effect old e
 
 pub no_values : (old : State) (e : Event) (answer : Reply) (new : State) → IsDirect old e answer new → has_values answer ≡ false
-no_values old e answer new is = ap has_values is.answer_is ∙ no_values-unless old e (judged old.scene e)
+no_values old e answer new is = ap (λ a. has_values (said a)) is.answer_is ∙ no_values-unless old e (judged old.scene e)
 
 no_more : {A : Type 0} (xs : List A) → xs ++ [] ≡ xs
 no_more [] = refl
@@ -149,7 +150,7 @@ whole_step old e answer new is idle = (
     new_is =
         is.state_is
         ∙ sym (λ i. record d.state { scene = (none_shown old e (judged old.scene e) (finished old.scene d.state.scene d.state.scene) ∙ same-finished old.scene d.state.scene there) i; messages = no_more d.state.messages i });
-    answer_is = is.answer_is ∙ ap (λ (s : State). reply_of s.scene [] d.answer) (sym is.state_is);
+    answer_is = ap (reply_of new.scene []) is.answer_is;
     ended_is = sym (ap (λ xs. xs ++ []) (none_dropped old e (judged old.scene e)));
   },
 )

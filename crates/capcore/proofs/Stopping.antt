@@ -20,13 +20,17 @@ use Rattle.captable.specs.Table.{IsTable, same, is_row_of, holders_of_rows}
 use Rattle.captable.specs.Calls.{renumbered}
 use Rattle.lockmachine.specs.Scene.{Scene}
 use Rattle.lockmachine.proofs.Exact.{settled}
+use Rattle.lockmachine.specs.Moves.{first_move}
+use Rattle.lockmachine.specs.declared.moves.Move.TheVariants.{Begin, End, Serve, Settled}
 use Rattle.capcore.specs.declared.event.Event.{Event}
+use Rattle.capcore.specs.declared.outcome.Ended.{Ended}
+use Rattle.capcore.specs.declared.reply.Reply.{Reply}
 use Rattle.capcore.specs.declared.stopped.Stopped.{Stopped}
 use Rattle.capcore.specs.State.{State}
 use Rattle.inotree.specs.Tests.{is_gone}
 use Rattle.capcore.specs.Judge.{judged, stop_reply}
 use Rattle.capcore.specs.Direct.{Direct, direct, says, effect_unless, reply_of}
-use Rattle.capcore.specs.Settle.{Settles}
+use Rattle.capcore.specs.Settle.{Made, Began, Gathered, Served, Makes, MakesAll, Settles, ended_in}
 use Rattle.capcore.specs.Finish.{due, issue_row, issue, is_kept, forget, told_before, number_row, number, finished}
 use Rattle.capcore.specs.Step.{Step, all_ended, state_after}
 use Rattle.capcore.specs.Sound.{IsSound, IsSoundEntry}
@@ -156,3 +160,48 @@ stopped-step count old e stopped sound table is = (
   where
     by_itself : direct old e ≡ says old (stop_reply stopped)
     by_itself = ap (effect_unless old e) is
+
+-- ---- and no other step
+
+-- no move is made where none applies
+no_move : (old mid : Scene) (m : Made) → first_move old ≡ Settled → Makes old m mid → ⊥
+no_move old mid (Began ino part to) still made = differs (sym still ∙ made.0)
+  where
+    differs : Settled ≡ Begin ino part to → ⊥
+    differs e = cc
+no_move old mid (Gathered ino part) still made = differs (sym still ∙ made.0)
+  where
+    differs : Settled ≡ End ino part → ⊥
+    differs e = cc
+no_move old mid (Served q o) still made = differs (sym still ∙ made.0)
+  where
+    differs : Settled ≡ Serve q.ticket → ⊥
+    differs e = cc
+
+no_moves : (old : Scene) (moves : List Made) (new : Scene) → first_move old ≡ Settled → MakesAll old moves new → (moves ≡ []) × (new ≡ old)
+no_moves old [] new still made = (refl, made)
+no_moves old (m ∷ ms) new still made = absurd (no_move old made.0 m still made.1)
+
+pub stopped-only : (count : ℕ) (old new : State) (e : Event) (stopped : Stopped) (answer : Reply) (ended : List Ended) → IsSound count old → IsTable old.scene.table → judged old.scene e ≡ Some stopped
+    → Step old e answer ended new → (answer ≡ stop_reply stopped) × (ended ≡ []) × (new ≡ old)
+stopped-only count old new e stopped answer ended sound table is (moves, step) = (
+  step.answer_is ∙ ap (λ (d : Direct). reply_of new.scene (ended_in moves) d.answer) by_itself,
+  step.ended_is ∙ ap (λ (d : Direct). all_ended old d moves) by_itself ∙ ap (all_ended old here) none.0,
+  step.new_is
+      ∙ ap (λ (d : Direct). state_after old d moves step.settled) by_itself
+      ∙ ap (λ (ms : List Made). state_after old here ms step.settled) none.0
+      ∙ ap (state_after old here []) none.1
+      ∙ (λ i. record old { scene = same-finished count old sound table i; messages = no_more old.messages i }),
+)
+  where
+    here : Direct
+    here = says old (stop_reply stopped)
+
+    by_itself : direct old e ≡ says old (stop_reply stopped)
+    by_itself = ap (effect_unless old e) is
+
+    settles : Settles old.scene moves step.settled
+    settles = subst (λ (d : Direct). Settles d.state.scene moves step.settled) by_itself step.settles
+
+    none : (moves ≡ []) × (step.settled ≡ old.scene)
+    none = no_moves old.scene moves step.settled (settled old.scene sound.at_rest) settles.made

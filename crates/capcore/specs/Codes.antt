@@ -19,13 +19,17 @@ use Rattle.capcore.specs.History.{Told, told}
 -- a list with room as its parts
 abbrev pub untold_code : Coded Untold
 untold_code =
-    code_by (List Ended × ℕ) (coded× (coded_list ended.the_row.coded) coded_ℕ) (λ m. (m.items, m.room)) (λ p. record { items = p.0; room = p.1 }) (λ _. refl)
+    code_by (List Ended × ℕ) (coded× (coded_list ended.the_row.coded) coded_ℕ)
+    (λ m. (m.items, m.room)) (λ p. record { items = p.0; room = p.1 }) (λ _. refl)
 
 -- a state as its parts
 abbrev pub scene_code : Coded Scene
 scene_code =
-    code_by (List ℕ × (Nodes × (SessionTable × (Table × LockMap)))) (coded× (coded_list coded_ℕ) (coded× nodes_code (coded× table_code (coded× entries.table_code lock_map_code))))
-    (λ s. (s.fs, (s.tree, (s.sessions, (s.table, s.locks))))) (λ p. record { fs = p.0; tree = p.1.0; sessions = p.1.1.0; table = p.1.1.1.0; locks = p.1.1.1.1 }) (λ _. refl)
+    code_by (List ℕ × (Nodes × (SessionTable × (Table × LockMap))))
+    (coded× (coded_list coded_ℕ) (coded× nodes_code (coded× table_code (coded× entries.table_code lock_map_code))))
+    (λ s. (s.fs, (s.tree, (s.sessions, (s.table, s.locks)))))
+    (λ p. record { fs = p.0; tree = p.1.0; sessions = p.1.1.0; table = p.1.1.1.0; locks = p.1.1.1.1 })
+    (λ _. refl)
 
 abbrev pub state_code : Coded State
 state_code =

@@ -101,11 +101,16 @@ owned_by (Some session) mode = record { uid = session.caller.uid; gid = session.
 -- a new inode, which has the next number, with its locks
 abbrev pub with_birth : State → Kind → ℕ → List ℕ → Attr → State
 with_birth s kind dir name attr =
-    with_scene s (record s.scene { tree = with_new s.scene.tree kind dir name attr; locks = with_ino s.scene.locks (s.scene.tree.last + 1) })
+    with_scene s (record s.scene {
+      tree = with_new s.scene.tree kind dir name attr;
+      locks = with_ino s.scene.locks (s.scene.tree.last + 1);
+    })
 
 abbrev pub born : State → Kind → ClientId → ℕ → List ℕ → Mode → Direct
 born s kind client dir name mode =
-    says (with_birth s kind dir name (owned_by (map.get s.scene.sessions.sessions client.0) mode)) (reply.Ino (record { 0 = s.scene.tree.last + 1 }))
+    says
+    (with_birth s kind dir name (owned_by (map.get s.scene.sessions.sessions client.0) mode))
+    (reply.Ino (record { 0 = s.scene.tree.last + 1 }))
 
 -- the effect of an event that nothing stops
 abbrev pub effect : State → Event → Direct
@@ -125,16 +130,10 @@ effect_unless s e None = effect s e
 abbrev pub direct : State → Event → Direct
 direct s e = effect_unless s e (judged s.scene e)
 
--- what the event answers by itself, where no lock moves
-abbrev pub reply_by : Direct → Reply
-reply_by d = reply_of d.state.scene [] d.answer
-
-abbrev pub answer_to : State → Event → Reply
-answer_to s e = reply_by (direct s e)
-
--- the event by itself answers this and leads to this state
+-- the event answers this, whatever the step still does, and leads by itself to this state. An event whose answer is read off
+-- at the end of the step has no such answer
 pub record IsDirect (old : State) (e : Event) (answer : Reply) (new : State) : Type 0 where
-  pub answer_is : answer ≡ answer_to old e
+  pub answer_is : Says answer ≡ (direct old e).answer
   pub state_is : new ≡ (direct old e).state
 
 -- the event that makes an inode of this kind

@@ -30,7 +30,9 @@ allowed_part s row part = allowed_by part row (lock_at s.locks row.holder.ino.0 
 
 -- what the locks let the entry's client hold, and the pin always
 abbrev pub allowed_to : Scene → EntryRow → Caps
-allowed_to s row = union (caps_in (P ∷ [])) (union (allowed_part s row A) (union (allowed_part s row L) (union (allowed_part s row X) (allowed_part s row F))))
+allowed_to s row =
+    union (caps_in (P ∷ []))
+    (union (allowed_part s row A) (union (allowed_part s row L) (union (allowed_part s row X) (allowed_part s row F))))
 
 -- what the entry's client effectively wants and the locks allow
 abbrev pub due : Scene → EntryRow → Caps
@@ -59,12 +61,12 @@ forget s = record s {
 
 -- ---- numbers
 
--- of an entry as the event left it, what was not being revoked when the event came; nothing of a new entry
+-- of an entry as the event left it, what was not being revoked when the event came; an entry that the event made holds nothing
 abbrev pub told_before : Scene → Option EntryRow → Caps
 told_before old None = no_caps
 told_before old (Some row) = told_set old row
 
--- the entry, whose client was to know of that set, and is to know of another at the end
+-- the entry, renumbered where its client is to know at the end of another set than before
 abbrev pub number_row : Scene → Scene → Scene → EntryRow → EntryRow
 number_row old first last row =
     record row { entry = renumbered (told_before old (find (is_row_of row.holder) first.table.rows)) (told_set last row) row.entry }

@@ -1,5 +1,6 @@
 -- What the core promises of every step, in the words of its users.
-use Rattle.std.specs.Prelude.{◌≡◌, ◌==◌, ◌↔◌, Bool, true, false, ◌||◌, List, ◌∷◌, ◌++◌, Option, Some, None, IsTrue, IsFalse}
+use Rattle.std.specs.Prelude.{◌≡◌, ◌==◌, ◌↔◌, Bool, true, false, ◌||◌, IsTrue, IsFalse}
+use Rattle.std.specs.Prelude.{List, ◌∷◌, ◌++◌, Option, Some, None}
 use Rattle.std.specs.List.{find}
 use Rattle.std.specs.Option.{option_map_or}
 use Rattle.capbits.specs.declared.cap.Cap.{Cap}
@@ -8,6 +9,7 @@ use Rattle.capbits.specs.Caps.{has}
 use Rattle.capbits.specs.Sets.{IsSubset, of_part, no_caps}
 use Rattle.capgrant.specs.declared.access.Access.{Access}
 use Rattle.capgrant.specs.declared.rule.Rule.{Rule}
+use Rattle.locktable.specs.declared.states.State.{State}
 use Rattle.locktable.specs.declared.states.LockState.{LockState}
 use Rattle.locktable.specs.declared.states.LockState.TheVariants.{Stable, Gather}
 use Rattle.locktable.specs.Conflicts.{conflict}
@@ -27,27 +29,36 @@ use Rattle.capcore.specs.Settle.{Made, Served, MakesAll}
 use Rattle.capcore.specs.declared.event.Event.{Event}
 use Rattle.capcore.specs.declared.reply.Reply.{Reply}
 use Rattle.capcore.specs.declared.reply.Reply.TheVariants as reply
-use Rattle.capbits.specs.Refusal.{first_failing}
+use Rattle.capbits.specs.Refusal.{Test, first_failing}
 use Rattle.capcore.specs.Judge.{Need, before, needs, first_denied}
 use Rattle.capcore.specs.Finish.{due}
 
 -- ---- denials
 
--- the event passes the tests that stand before policy, and this is the first of its accesses that has no grant
-abbrev pub IsFirstDenied : Scene → Event → Need → Type 0
-IsFirstDenied s e n = (first_failing (before s e) ≡ None) × (first_denied s (needs s e) ≡ Some n)
+-- the tests pass, and this is the first of the accesses that has no grant
+abbrev pub IsFirstDenied : Scene → List Test → List Need → Need → Type 0
+IsFirstDenied s tests needed n = (first_failing tests ≡ None) × (first_denied s needed ≡ Some n)
 
--- an event is denied exactly if an access that it needs has no grant
-abbrev pub DeniedExactly : Scene → Event → Reply → Type 0
-DeniedExactly s e answer = ((access : Access) × (rules : List Rule) × (answer ≡ reply.Denied access rules)) ↔ ((n : Need) × IsFirstDenied s e n)
+-- there is a denial exactly if the tests pass and an access has no grant
+abbrev pub DenialIsExact : Scene → List Test → List Need → (Access → List Rule → Type 0) → Type 0
+DenialIsExact s tests needed Denied =
+    ((access : Access) × (rules : List Rule) × Denied access rules) ↔ ((n : Need) × IsFirstDenied s tests needed n)
 
 -- a denial names the first such access, and the rule by which each grant fails first
-abbrev pub DeniesByName : Scene → Event → Reply → Type 0
-DeniesByName s e answer =
-    (access : Access) (rules : List Rule) → answer ≡ reply.Denied access rules →
-    (n : Need) × IsFirstDenied s e n × (access ≡ n.access) × (rules ≡ failures s.fs s.tree s.sessions n.holder n.access)
+abbrev pub DenialIsByName : Scene → List Test → List Need → (Access → List Rule → Type 0) → Type 0
+DenialIsByName s tests needed Denied =
+    (access : Access) (rules : List Rule) → Denied access rules →
+    (n : Need) × IsFirstDenied s tests needed n × (access ≡ n.access) × (rules ≡ failures s.fs s.tree s.sessions n.holder n.access)
 
--- what a request is refused or denied by
+-- an event is denied exactly if it passes the tests that stand before policy and an access that it needs has no grant
+abbrev pub DeniedExactly : Scene → Event → Reply → Type 0
+DeniedExactly s e answer = DenialIsExact s (before s e) (needs s e) (λ access rules. answer ≡ reply.Denied access rules)
+
+-- and it is denied by name
+abbrev pub DeniesByName : Scene → Event → Reply → Type 0
+DeniesByName s e answer = DenialIsByName s (before s e) (needs s e) (λ access rules. answer ≡ reply.Denied access rules)
+
+-- whether the answer is a denial or a refusal
 abbrev pub is_stop : Reply → Bool
 is_stop reply.Done = false
 is_stop (reply.Ino ino) = false
@@ -60,24 +71,22 @@ is_stop reply.OutOfMemory = false
 
 -- ---- denials of requests that waited
 
--- the request passes the tests that stand before policy, and this is the first of its accesses that has no grant
-abbrev pub IsFirstDeniedNow : Scene → Request → Need → Type 0
-IsFirstDeniedNow s q n = (first_failing (ask_before s q.ino.0 q.ask) ≡ None) × (first_denied s (ask_needs s q.client q.ino.0 q.ask) ≡ Some n)
-
--- a request that is served is denied exactly if an access that it needs has no grant at that moment
+-- a request that is served is denied exactly if it passes the tests that stand before policy and an access that it needs has
+-- no grant at that moment
 abbrev pub ServedDenied : Scene → Request → Outcome → Type 0
-ServedDenied s q o = ((access : Access) × (rules : List Rule) × (o ≡ outcome.Denied access rules)) ↔ ((n : Need) × IsFirstDeniedNow s q n)
+ServedDenied s q o =
+    DenialIsExact s (ask_before s q.ino.0 q.ask) (ask_needs s q.client q.ino.0 q.ask) (λ access rules. o ≡ outcome.Denied access rules)
 
--- and the denial names the first such access, and the rule by which each grant fails first
+-- and it is denied by name
 abbrev pub ServedByName : Scene → Request → Outcome → Type 0
 ServedByName s q o =
-    (access : Access) (rules : List Rule) → o ≡ outcome.Denied access rules →
-    (n : Need) × IsFirstDeniedNow s q n × (access ≡ n.access) × (rules ≡ failures s.fs s.tree s.sessions n.holder n.access)
+    DenialIsByName s (ask_before s q.ino.0 q.ask) (ask_needs s q.client q.ino.0 q.ask) (λ access rules. o ≡ outcome.Denied access rules)
 
 -- so it is of each serving among the moves, on the scene in which it was made
 abbrev pub EachServing : (Scene → Request → Outcome → Type 0) → Scene → List Made → Type 0
 EachServing Fact first moves =
-    (before_it behind_it : List Made) (q : Request) (o : Outcome) (s : Scene) → moves ≡ before_it ++ Served q o ∷ behind_it → MakesAll first before_it s → Fact s q o
+    (before_it behind_it : List Made) (q : Request) (o : Outcome) (s : Scene) →
+    moves ≡ before_it ++ Served q o ∷ behind_it → MakesAll first before_it s → Fact s q o
 
 -- ---- caps
 
@@ -93,20 +102,31 @@ is_due s k cap = option_map_or (λ row. has (due s row) cap) (find (is_row_of k)
 abbrev pub IssuesExactly : Scene → Scene → Type 0
 IssuesExactly first last = (k : Holder) (cap : Cap) → holds last k cap ≡ (holds first k cap || is_due last k cap)
 
--- each held capability of a part is in the row of the state in which the part's lock is, or which it leaves; and one outside
--- the row of the state to which it gathers is being revoked, and keeps the gather open
+-- what the entry holds of the part is in the row of this state
+abbrev pub IsInRow : EntryRow → Part → State → Type 0
+IsInRow row part state = IsSubset (of_part part row.entry.held) (row_of part state row.holder.client)
+
+-- what it holds of the part outside the row of this state is being revoked, and keeps a gather to this state open
+abbrev pub IsTakenBack : Scene → EntryRow → Part → State → Type 0
+IsTakenBack s row part to =
+    (cap : Cap) → IsTrue (has (of_part part row.entry.held) cap) → IsFalse (has (row_of part to row.holder.client) cap) →
+    IsTrue (has (against s row) cap) × IsTrue (is_open s row.holder.ino.0 part to)
+
+-- it is in the row of the state in which the part's lock is, or which the lock leaves; and where the lock gathers, what is
+-- outside the row of its target is being revoked
 abbrev pub IsInPlace : Scene → EntryRow → Part → Option LockState → Type 0
 IsInPlace s row part None = IsSubset (of_part part row.entry.held) no_caps
-IsInPlace s row part (Some (Stable state)) = IsSubset (of_part part row.entry.held) (row_of part state row.holder.client)
-IsInPlace s row part (Some (Gather from to)) =
-    IsSubset (of_part part row.entry.held) (row_of part from row.holder.client)
-    × ((cap : Cap) → IsTrue (has (of_part part row.entry.held) cap) → IsFalse (has (row_of part to row.holder.client) cap) →
-    IsTrue (has (against s row) cap) × IsTrue (is_open s row.holder.ino.0 part to))
+IsInPlace s row part (Some (Stable state)) = IsInRow row part state
+IsInPlace s row part (Some (Gather from to)) = IsInRow row part from × IsTakenBack s row part to
 
 -- of each entry and each part
 abbrev pub AreInPlace : Scene → Type 0
-AreInPlace s = (row : EntryRow) (part : Part) → find (is_row_of row.holder) s.table.rows ≡ Some row → IsInPlace s row part (lock_at s.locks row.holder.ino.0 part)
+AreInPlace s =
+    (row : EntryRow) (part : Part) → find (is_row_of row.holder) s.table.rows ≡ Some row →
+    IsInPlace s row part (lock_at s.locks row.holder.ino.0 part)
 
 -- no two clients hold what may not be held together
 abbrev pub NoneConflict : Scene → Type 0
-NoneConflict s = (a b : Holder) (c d : Cap) → IsFalse (a.client.0 == b.client.0) → a.ino ≡ b.ino → IsTrue (holds s a c) → IsTrue (holds s b d) → IsFalse (conflict c d)
+NoneConflict s =
+    (a b : Holder) (c d : Cap) → IsFalse (a.client.0 == b.client.0) → a.ino ≡ b.ino →
+    IsTrue (holds s a c) → IsTrue (holds s b d) → IsFalse (conflict c d)

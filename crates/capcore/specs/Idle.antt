@@ -1,4 +1,4 @@
--- The states of today: nobody has an entry and nobody waits or has waited, so that every lock stays in SYNC.
+-- The states of today: nobody has or had an entry and nobody waits or has waited, so that every lock stays in SYNC.
 use Rattle.std.specs.Prelude.{◌≡◌, ◌≢◌, ℕ, []}
 use Rattle.std.specs.Option.{option_map}
 use Rattle.std.specs.FinMap as map
@@ -9,6 +9,7 @@ use Rattle.lockmachine.specs.Scene.{Scene}
 
 pub record IsIdle (s : Scene) : Type 0 where
   pub no_entries : s.table.rows ≡ []
+  pub none_made : s.table.made ≡ 0
   pub nobody_waits : s.locks.queue ≡ []
   pub none_numbered : s.locks.last ≡ 0
   -- each inode has its locks, and no other number has

@@ -13,9 +13,12 @@ use Rattle.capcore.specs.State.{State}
 abbrev pub is_to : ClientId → Ended → Bool
 is_to client m = m.client.0 == client.0
 
--- what the client holds has changed since it was told
+-- what the client is to know that it holds has changed since it was told
 abbrev pub caps_messages : Scene → EntryRow → List Message
-caps_messages s row = if nat_lt row.entry.told_seq row.entry.seq then message.Caps row.holder.ino row.entry.seq (told_set s row) ∷ [] else []
+caps_messages s row =
+    if nat_lt row.entry.told_seq row.entry.seq
+    then message.Caps row.holder.ino row.entry.seq (told_set s row) ∷ []
+    else []
 
 -- the client is asked to give back
 abbrev pub recall_messages : EntryRow → List Message

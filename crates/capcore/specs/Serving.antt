@@ -1,5 +1,6 @@
 -- How a request that waits for a lock is judged when it is served, and what it does then.
-use Rattle.std.specs.Prelude.{◌≡◌, ℕ, Bool, true, false, List, [], ◌∷◌, ◌++◌, take, Option, Some, None, IsTrue, if◌then◌else◌}
+use Rattle.std.specs.Prelude.{◌≡◌, ℕ, Bool, true, false, IsTrue, if◌then◌else◌}
+use Rattle.std.specs.Prelude.{List, [], ◌∷◌, ◌++◌, take, Option, Some, None}
 use Rattle.std.specs.FinMap as map
 use Rattle.std.specs.Ordering.{eq_by_cmp}
 use Rattle.capbits.specs.declared.ids.ClientId.{ClientId}
@@ -21,7 +22,8 @@ use Rattle.lockmachine.specs.declared.request.Change.TheVariants.{Set, SetXattr,
 use Rattle.lockmachine.specs.declared.request.Ask.{Ask}
 use Rattle.lockmachine.specs.declared.request.Ask.TheVariants.{Get, Alter, Unlink, Rmdir, Rename}
 use Rattle.lockmachine.specs.declared.request.Request.{Request}
-use Rattle.lockmachine.specs.Locks.{without_request}
+use Rattle.lockmachine.specs.declared.moves.Move.TheVariants.{Serve}
+use Rattle.lockmachine.specs.Moves.{moved as moved_locks}
 use Rattle.lockmachine.specs.Scene.{Scene}
 use Rattle.capcore.specs.declared.outcome.PartValues.{PartValues}
 use Rattle.capcore.specs.declared.outcome.PartValues.TheVariants as values
@@ -164,4 +166,4 @@ tree_after tree q outcome.Dropped = tree
 
 -- it waits no more
 abbrev pub served : Scene → Request → Outcome → Scene
-served s q o = record s { tree = tree_after s.tree q o; locks = without_request s.locks q.ticket.0 }
+served s q o = record s { tree = tree_after s.tree q o; locks = moved_locks s.locks (Serve q.ticket) }

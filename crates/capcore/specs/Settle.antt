@@ -8,7 +8,7 @@ use Rattle.lockmachine.specs.declared.request.Request.{Request}
 use Rattle.lockmachine.specs.declared.moves.Move.TheVariants.{Begin, End, Serve, Settled}
 use Rattle.lockmachine.specs.Locks.{request_at}
 use Rattle.lockmachine.specs.Scene.{Scene}
-use Rattle.lockmachine.specs.Moves.{first_move, begun, gathered}
+use Rattle.lockmachine.specs.Moves.{first_move, with_moved}
 use Rattle.capcore.specs.declared.outcome.Outcome.{Outcome}
 use Rattle.capcore.specs.declared.outcome.Ended.{Ended}
 use Rattle.capcore.specs.Serving.{MayEndAs, served}
@@ -21,8 +21,8 @@ pub data Made : Type 0 where
 
 -- the move is the first that applies, and leads from the old scene to the new
 abbrev pub Makes : Scene → Made → Scene → Type 0
-Makes old (Began ino part to) new = (first_move old ≡ Begin ino part to) × (new ≡ begun old ino.0 part to)
-Makes old (Gathered ino part) new = (first_move old ≡ End ino part) × (new ≡ gathered old ino.0 part)
+Makes old (Began ino part to) new = (first_move old ≡ Begin ino part to) × (new ≡ with_moved old (Begin ino part to))
+Makes old (Gathered ino part) new = (first_move old ≡ End ino part) × (new ≡ with_moved old (End ino part))
 Makes old (Served q o) new =
     (first_move old ≡ Serve q.ticket)
     × (request_at old.locks q.ticket.0 ≡ Some q)

@@ -36,12 +36,14 @@ pub record IsSound (count : ℕ) (s : State) : Type 0 where
   -- who waits or is still to be told has a session
   pub waiting : All (λ q. IsTrue (has_session s.scene.sessions q.client.0)) s.scene.locks.queue
   pub messages : All (λ m. IsTrue (has_session s.scene.sessions m.client.0)) s.messages
-  -- each row gives at most one number to a request
+  -- each row gives at most one number to a request, and makes at most one entry
   pub last : s.scene.locks.last ≤ count
+  pub made : s.scene.table.made ≤ count
   -- the inodes that are there have locks, and no others
   pub locked : (ino : ℕ) → map.contains_key s.scene.locks.states ino ≡ map.contains_key s.scene.tree.nodes ino
   -- somebody has an entry on each stray
-  pub strays : (ino : ℕ) → place s.scene.tree.nodes ino ≡ Gone → IsTrue (list_any (is_of_inode (record { 0 = ino })) s.scene.table.rows)
+  pub strays : (ino : ℕ) → place s.scene.tree.nodes ino ≡ Gone →
+      IsTrue (list_any (is_of_inode (record { 0 = ino })) s.scene.table.rows)
   -- what is held is where it may be, and the locks are at rest, so that who waits, waits at a gather that is open
   pub in_place : AreInPlace s.scene
   pub at_rest : IsAtRest s.scene

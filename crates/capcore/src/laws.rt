@@ -8,6 +8,8 @@ ghost use Rattle.captable.specs.Table.{IsTable};
 ghost use Rattle.lockmachine.specs.Locks.{lock_at};
 ghost use Rattle.lockmachine.specs.Scene.{Scene, told_set};
 ghost use Rattle.capcore.specs.declared.event.Event.{Event};
+ghost use Rattle.capcore.specs.declared.outcome.Ended.{Ended};
+ghost use Rattle.capcore.specs.declared.reply.Reply.{Reply};
 ghost use Rattle.capcore.specs.declared.stopped.Stopped.{Stopped};
 ghost use Rattle.capcore.specs.State.{State};
 ghost use Rattle.capcore.specs.Judge.{judged, stop_reply};
@@ -27,14 +29,18 @@ pub fn the_held_are_apart()
     ensures { (count : ℕ) (s : State) → IsSound count s → NoneConflict s.scene }
 {}
 
-/// In a sound state nothing is left to do: what stops an event is all of its step, and nothing changes.
+/// In a sound state nothing is left to do: of an event that is stopped there is a step, which says what stopped it, ends no
+/// request and changes nothing; and there is no other.
 pub fn a_stop_changes_nothing()
-    ensures { (count : ℕ) (old : State) (e : Event) (stopped : Stopped) → IsSound count old → IsTable old.scene.table
+    ensures step { (count : ℕ) (old : State) (e : Event) (stopped : Stopped) → IsSound count old → IsTable old.scene.table
         → judged old.scene e ≡ Some stopped → Step old e (stop_reply stopped) [] old }
+    ensures only { (count : ℕ) (old new : State) (e : Event) (stopped : Stopped) (answer : Reply) (ended : List Ended)
+        → IsSound count old → IsTable old.scene.table → judged old.scene e ≡ Some stopped
+        → Step old e answer ended new → (answer ≡ stop_reply stopped) × (ended ≡ []) × (new ≡ old) }
 {}
 
-/// Whatever moves are made, each request that is served is denied exactly if an access that it needs has no grant on the
-/// tree of that moment.
+/// Whatever moves are made, each request that is served is denied exactly if it passes the tests that stand before policy
+/// and an access that it needs has no grant on the tree of that moment.
 pub fn the_served_are_denied_exactly()
     ensures { (first last : Scene) (moves : List Made) → MakesAll first moves last
         → EachServing ServedDenied first moves }
@@ -46,8 +52,9 @@ pub fn the_served_are_denied_by_name()
         → EachServing ServedByName first moves }
 {}
 
-/// What a client is to know that it holds on an inode is the same before and after an event that leaves the locks of the
-/// inode: whether it is read off the scene when the event came, or off the one that the event made.
+/// What the client of an entry is to know that it holds is the same on two scenes that have the same locks of the entry's
+/// inode. So, of one and the same entry, whether it is read off the scene when an event came or off the one that the event
+/// made, where the event leaves these locks.
 pub fn numbers_begin_at_the_event()
     ensures { (old first : Scene) (row : EntryRow)
         → ((part : Part) → lock_at old.locks row.holder.ino.0 part ≡ lock_at first.locks row.holder.ino.0 part)

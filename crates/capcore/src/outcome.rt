@@ -44,7 +44,7 @@ pub enum Outcome {
     Dropped,
 }
 
-/// A request that ended in another step than the one that brought it.
+/// A request that waited for a lock and ended, in a later step or in the one that brought it.
 #[derive(Debug, Drop)]
 pub struct Ended {
     /// Whose it was.
@@ -65,13 +65,13 @@ pub enum Message {
         /// How it ended.
         outcome: Outcome,
     },
-    /// What it holds on an inode has changed.
+    /// What it is to know that it holds on an inode has changed.
     Caps {
         /// The inode.
         ino: Ino,
         /// The number of the change.
         seq: u64,
-        /// What it is to know that it holds.
+        /// What it is to know now.
         caps: CapSet,
     },
     /// It is asked to give back what it holds on an inode.

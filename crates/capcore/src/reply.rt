@@ -11,7 +11,7 @@ pub enum Reply {
     Done,
     /// The inode that was found or made.
     Ino(Ino),
-    /// What the client is to know that it holds on the inode that it opened, or wants more of.
+    /// What the client is to know that it holds on the inode that it opened, or says what it wants of.
     Opened {
         /// The number of the last change.
         seq: u64,

@@ -15,7 +15,8 @@ use std::alloc::Global;
 pub(crate) fn first_locks(alloc: Global, tree: &Tree) -> Result<Locks, NoMemory>
     ensures queue { IfOk result (λ locks. locks.queue ≡ []) }
     ensures last { IfOk result (λ locks. locks.last ≡ 0) }
-    ensures states { IfOk result (λ locks. (ino : ℕ) → map.get locks.states ino ≡ option_map (λ node. in_sync) (map.get tree.now.nodes ino)) }
+    ensures states { IfOk result (λ locks. (ino : ℕ)
+        → map.get locks.states ino ≡ option_map (λ node. in_sync) (map.get tree.now.nodes ino)) }
 {
     let mut locks = Locks::new(alloc)?;
     let last = tree.last();

@@ -64,7 +64,8 @@ impl Core {
     pub fn apply(&mut self, pass: PassId, event: Event) -> Result<Reply, Stop>
         // One step of the rules, and one row.
         ensures next { IfOk result (λ answer. IsNext self.old pass event answer self.new) }
-        // A request is denied exactly if an access that it needs has no grant, and each denial names what each grant lacks.
+        // A request is denied exactly if it passes the tests that stand before policy and an access that it needs has no grant,
+        // and each denial names the rule by which each grant fails.
         ensures denied { IfOk result (λ answer. DeniedExactly self.old.state.scene event answer) }
         ensures named { IfOk result (λ answer. DeniesByName self.old.state.scene event answer) }
         // What is issued is what is wanted, permitted and allowed; and no two clients hold what may not be held together.
@@ -77,7 +78,8 @@ impl Core {
         ensures at_rest { OnOk result (IsAtRest self.new.state.scene) }
         ensures unchanged { IfOk result (λ answer. IsTrue (is_stop answer) → self.new.state ≡ self.old.state) }
         // Wherever the history began, it goes on from there.
-        ensures legal { OnOk result ((first : State) → Replays first self.old.rows self.old.state → Replays first self.new.rows self.new.state) }
+        ensures legal { OnOk result ((first : State) → Replays first self.old.rows self.old.state
+            → Replays first self.new.rows self.new.state) }
         ensures full { (result ≡ Err stop_kind.Full) ↔ (length self.old.rows ≡ self.old.max_rows) }
         ensures err { OnErr result (self.new ≡ self.old) }
     {
@@ -115,7 +117,7 @@ impl Core {
     /// The history: a row for each event that was answered, the first first.
     pub fn history(&self) -> &[Row]
         ensures rows { result.now ≡ self.now.rows }
-        // It is legal, and leads to the state that the other calls show.
+        // It is legal, and leads to the state that the other calls show, which is sound.
         ensures told { IsTold self.now }
     {
         self.rows.as_slice()

@@ -11,7 +11,7 @@ ghost use Rattle.lockmachine.specs.Policy.{failures};
 ghost use Rattle.capcore.specs.Judge.{stop, need, is_met, asked_tests};
 ghost use Rattle.std.specs.FinMap as map;
 ghost use Rattle.capgrant.specs.declared.answer.Verdict.TheVariants as verdict_kind;
-ghost use Rattle.capcore.specs.Direct.{IsDirect, has_values, made_event, answer_to, owned_by, with_birth};
+ghost use Rattle.capcore.specs.Direct.{Says, IsDirect, direct, has_values, made_event, owned_by, with_birth};
 ghost use Rattle.capcore.specs.History.{IsOpening, HasNoStray};
 ghost use Rattle.capcore.specs.Step.{Step};
 ghost use Rattle.capbits.specs.Refusal.{first_failing};
@@ -165,7 +165,7 @@ impl World {
     }
 
     fn lookup(&self, client: ClientId, dir: Ino, name: &[u8]) -> Reply
-        ensures { result ≡ answer_to self.now (event.Lookup client dir name.now) }
+        ensures { Says result ≡ (direct self.now (event.Lookup client dir name.now)).answer }
     {
         if let Some(refusal) = self.inode_stop(client, dir) {
             return Reply::Refused(refusal);
@@ -304,7 +304,8 @@ impl World {
     // What the client's grants say of an access to an inode. Without a session or a path no grant allows it.
     fn verdict(&self, client: ClientId, ino: Ino, access: Access) -> Verdict
         ensures allowed { is_allowed result ≡ is_met self.now.scene (need client ino.0 access) }
-        ensures rules { IfDenied result (λ rules. rules ≡ failures self.now.scene.fs self.now.scene.tree self.now.scene.sessions (holder client ino) access) }
+        ensures rules { IfDenied result (λ rules. rules
+            ≡ failures self.now.scene.fs self.now.scene.tree self.now.scene.sessions (holder client ino) access) }
     {
         let sessions = &self.sessions;
         let (Some(grants), Some(caller)) = (sessions.grants_of(client), sessions.caller_of(client))

@@ -6,8 +6,7 @@ use Rattle.capbits.specs.Text.{text_of}
 use Rattle.capgrant.specs.declared.rule.Rule.{Rule}
 use Rattle.capgrant.specs.Access.{access_word}
 use Rattle.capgrant.specs.Rule.{rule_number}
-use Rattle.capcore.specs.declared.refusal.Refusal.{Refusal}
-use Rattle.capcore.specs.declared.refusal.Refusal.TheVariants as refusals
+use Rattle.capbits.specs.Refusal.{refusal_word}
 use Rattle.capcore.specs.declared.reply.Reply.{Reply}
 use Rattle.capcore.specs.declared.reply.Reply.TheVariants.{Done, Ino, Opened, Values, Waiting, Denied, Refused, OutOfMemory}
 use Rattle.capscript.specs.PartTexts.{values_text}
@@ -20,26 +19,6 @@ rule_text numbered = decimal numbered.0 ++ codes ":" ++ decimal (rule_number num
 abbrev pub rules_text : List Rule → List ℕ
 rules_text [] = codes "-"
 rules_text (rule ∷ rules) = join_by rule_text (codes ",") (enumerate_from 1 (rule ∷ rules))
-
--- the name of a refusal
-abbrev pub refusal_word : Refusal → List ℕ
-refusal_word refusals.Blocklisted = codes "Blocklisted"
-refusal_word refusals.SessionOpen = codes "SessionOpen"
-refusal_word refusals.NoSession = codes "NoSession"
-refusal_word refusals.SessionStale = codes "SessionStale"
-refusal_word refusals.NoIno = codes "NoIno"
-refusal_word refusals.Gone = codes "Gone"
-refusal_word refusals.Root = codes "Root"
-refusal_word refusals.NotDir = codes "NotDir"
-refusal_word refusals.IsDir = codes "IsDir"
-refusal_word refusals.NoEnt = codes "NoEnt"
-refusal_word refusals.NameBad = codes "NameBad"
-refusal_word refusals.Exists = codes "Exists"
-refusal_word refusals.NotEmpty = codes "NotEmpty"
-refusal_word refusals.Loop = codes "Loop"
-refusal_word refusals.TooDeep = codes "TooDeep"
-refusal_word refusals.NoXattr = codes "NoXattr"
-refusal_word refusals.Limit = codes "Limit"
 
 -- the line of a reply, without the line feed that ends it
 abbrev pub reply_line : Reply → List ℕ

@@ -1,11 +1,11 @@
 //! The texts of replies.
 ghost use Rattle.std.specs.Prelude.{◌≡◌, ◌++◌, IfOk, IfSome, OnOk};
-ghost use Rattle.capscript.specs.Replies.{reply_text, rules_text, rule_text, refusal_word};
+ghost use Rattle.capscript.specs.Replies.{reply_text, rules_text, rule_text};
 
 use crate::fault::NoMemory;
 use crate::part_text::print_values;
 use capbits::write_caps;
-use capcore::{Refusal, Reply};
+use capcore::Reply;
 use capgrant::Rule;
 use std::alloc::Global;
 use std::fmt::Display;
@@ -32,10 +32,7 @@ pub fn reply_lines(alloc: Global, reply: &Reply) -> Result<Vec<u8>, NoMemory>
             print(&mut text, format_args!("denied {access} "))?;
             print_rules(&mut text, rules.as_slice())?;
         }
-        Reply::Refused(refusal) => {
-            let word = refusal_word(*refusal);
-            print(&mut text, format_args!("refused {word}"))?;
-        }
+        Reply::Refused(refusal) => print(&mut text, format_args!("refused {refusal}"))?,
         Reply::OutOfMemory => print(&mut text, "out-of-memory")?,
     }
     text.push(b'\n')?;
@@ -70,29 +67,4 @@ fn print_rule(text: &mut Vec<u8>, grant: usize, rule: Rule) -> Result<(), NoMemo
 {
     let rule = rule.number();
     print(text, format_args!("{grant}:{rule}"))
-}
-
-// The name of a refusal.
-fn refusal_word(refusal: Refusal) -> &'static str
-    ensures { result.now ≡ refusal_word refusal }
-{
-    match refusal {
-        Refusal::Blocklisted => "Blocklisted",
-        Refusal::SessionOpen => "SessionOpen",
-        Refusal::NoSession => "NoSession",
-        Refusal::SessionStale => "SessionStale",
-        Refusal::NoIno => "NoIno",
-        Refusal::Gone => "Gone",
-        Refusal::Root => "Root",
-        Refusal::NotDir => "NotDir",
-        Refusal::IsDir => "IsDir",
-        Refusal::NoEnt => "NoEnt",
-        Refusal::NameBad => "NameBad",
-        Refusal::Exists => "Exists",
-        Refusal::NotEmpty => "NotEmpty",
-        Refusal::Loop => "Loop",
-        Refusal::TooDeep => "TooDeep",
-        Refusal::NoXattr => "NoXattr",
-        Refusal::Limit => "Limit",
-    }
 }

@@ -95,7 +95,7 @@ parts (x ∷ xs) q rising (suc k, room, at) =
 
 pub taken_alone : (locks : LockMap) (q : Request) → IsLockMap locks → Contains locks.queue q → TakesOnly q locks (without_request locks q.ticket.0)
 unfolding others
-taken_alone locks q is inside = let p = parts locks.queue q is.rising inside in record { earlier = p.earlier; later = p.later; queue_was = p.was; queue_is = p.is }
+taken_alone locks q is inside = let p = parts locks.queue q is.rising inside in record { earlier = p.earlier; later = p.later; queue_was = p.was; queue_is = p.is; states_are = refl; last_is = refl }
 
 -- ---- the request that is served
 

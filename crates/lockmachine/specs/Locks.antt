@@ -65,9 +65,11 @@ with_request locks client ino ask = record locks { queue = locks.queue ++ next_r
 abbrev pub without_request : LockMap → ℕ → LockMap
 without_request locks ticket = record locks { queue = filter (λ q. not (is_numbered ticket q)) locks.queue }
 
--- the request alone is taken out of the queue: those before it and those behind it are left
+-- the request alone is taken out: those before it and those behind it are left, and the locks and the last number are as before
 pub record TakesOnly (q : Request) (old new : LockMap) : Type 0 where
   pub earlier : List Request
   pub later : List Request
   pub queue_was : old.queue ≡ earlier ++ q ∷ later
   pub queue_is : new.queue ≡ earlier ++ later
+  pub states_are : new.states ≡ old.states
+  pub last_is : new.last ≡ old.last

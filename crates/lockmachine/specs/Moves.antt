@@ -1,5 +1,6 @@
 -- Which move comes next, what each does to the locks, and when they are at rest.
-use Rattle.std.specs.Prelude.{◌≡◌, ◌≤◌, ℕ, Bool, true, false, ◌&&◌, not, ◌==◌, List, [], ◌∷◌, Option, Some, None, Contains, IsTrue}
+use Rattle.std.specs.Prelude.{◌≡◌, ◌≤◌, ℕ, Bool, true, false, ◌&&◌, not, ◌==◌, IsTrue}
+use Rattle.std.specs.Prelude.{List, [], ◌∷◌, Option, Some, None, Contains}
 use Rattle.std.specs.List.{find, list_any, flat_map}
 use Rattle.std.specs.Option.{option_map_or}
 use Rattle.std.specs.FinMap as map
@@ -133,11 +134,9 @@ handed locks (End ino part) = None
 handed locks (Serve ticket) = request_at locks ticket.0
 handed locks Settled = None
 
-abbrev pub begun : Scene → ℕ → Part → State → Scene
-begun s ino part to = record s { locks = begun_locks s.locks ino part to }
-
-abbrev pub gathered : Scene → ℕ → Part → Scene
-gathered s ino part = record s { locks = gathered_locks s.locks ino part }
+-- the scene with the locks as a move leaves them
+abbrev pub with_moved : Scene → Move → Scene
+with_moved s step = record s { locks = moved s.locks step }
 
 -- ---- rest
 

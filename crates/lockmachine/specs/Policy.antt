@@ -31,7 +31,8 @@ abbrev pub subject_of : Option Session → Option (List (List ℕ)) → Option N
 subject_of None path inode = None
 subject_of (Some session) None inode = None
 subject_of (Some session) (Some path) None = None
-subject_of (Some session) (Some path) (Some node) = Some (record { caller = session.caller; grants = session.grants; path = path; attr = node.attr })
+subject_of (Some session) (Some path) (Some node) =
+    Some (record { caller = session.caller; grants = session.grants; path = path; attr = node.attr })
 
 -- the client has a session, and the inode a path
 abbrev pub subject : Nodes → SessionTable → Holder → Option Subject
@@ -57,7 +58,7 @@ failures_of fs (Some s) access = first_failures (question_of fs s access) s.gran
 abbrev pub failures : List ℕ → Nodes → SessionTable → Holder → Access → List Rule
 failures fs tree sessions k access = failures_of fs (subject tree sessions k) access
 
--- on a stray, which has no path, the pin alone is permitted
+-- without a session, and on a stray, which has no path, the pin alone is permitted
 abbrev pub permitted_to : List ℕ → Option Subject → Caps
 permitted_to fs None = caps_in (P ∷ [])
 permitted_to fs (Some s) = permitted_of (question_of fs s) s.grants

@@ -14,7 +14,9 @@ use Rattle.lockmachine.specs.Policy.{permitted, is_open_session}
 -- what the entry's client wants and is permitted, if its session is open
 abbrev pub effective_want : List ℕ → Nodes → SessionTable → EntryRow → Caps
 effective_want fs tree sessions row =
-    if is_open_session (map.get sessions.sessions row.holder.client.0) then meet row.entry.want (permitted fs tree sessions row.holder) else no_caps
+    if is_open_session (map.get sessions.sessions row.holder.client.0)
+    then meet row.entry.want (permitted fs tree sessions row.holder)
+    else no_caps
 
 -- a client, and what it effectively wants
 abbrev pub Want : Type 0

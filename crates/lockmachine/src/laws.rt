@@ -45,7 +45,7 @@ pub fn a_number_finds_its_request()
         → request_at locks q.ticket.0 ≡ Some q }
 {}
 
-/// By its number it is taken out of the queue, and no other is.
+/// By its number it is taken out of the queue, and no other is; the locks and the last number stay.
 pub fn a_number_takes_its_request()
     ensures { (locks : LockMap) (q : Request) → IsLockMap locks → Contains locks.queue q
         → TakesOnly q locks (without_request locks q.ticket.0) }

@@ -1,5 +1,8 @@
-use Rattle.capcore.proofs.Stopping.{stopped-step}
+use Rattle.capcore.proofs.Stopping.{stopped-step, stopped-only}
 use Rattle.capcore.proofs.laws.a_stop_changes_nothing.Goals as goal
 
-pub returns : goal.returns
-returns c = stopped-step
+pub returns-clause-step : goal.returns-clause-step
+returns-clause-step c = stopped-step
+
+pub returns-clause-only : goal.returns-clause-only
+returns-clause-only c = stopped-only

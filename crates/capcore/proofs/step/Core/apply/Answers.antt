@@ -1,4 +1,4 @@
-use Rattle.std.proofs.Common.{◌≡◌, ◌<◌, ◌+◌, length, ap, subst, ◌∙◌, arith}
+use Rattle.std.proofs.Common.{◌≡◌, ◌<◌, ◌+◌, [], ◌∷◌, ◌++◌, length, ap, subst, ◌∙◌, arith}
 use Rattle.capcore.specs.State.{State}
 use Rattle.capcore.specs.declared.history.Row.{Row}
 use Rattle.capcore.specs.Headline.{DeniedExactly, DeniesByName}
@@ -17,7 +17,8 @@ invariant_of-self-2 c =
     let nth : row.nth ≡ rows_of row.pass c.self.inside.rows.items + 1 = c.next_number-nth.ensures ∙ ap (λ rows. rows_of c.args.pass rows + 1) (c.deref.ensures.value ∙ c.reserve.ensures.items) in
     let less : length c.self.inside.rows.items < c.self.inside.max_rows = omega (arith, c.len.ensures, c.if-len-self.false) in
     rw (c.in_ok-push.ensures.items, c.reserve.ensures.items)
-    (more-told (told c.self.inside.world c.self.inside.rows.items c.self.inside.max_rows) row c.step.new.self c.self.invariant step nth less)
+    (more-told (told c.self.inside.world c.self.inside.rows.items c.self.inside.max_rows) row c.step.new.self c.self.invariant step nth less
+    (idle-sound (length (c.self.inside.rows.items ++ row ∷ [])) c.step.new.self c.in_ok-reply.ensures.idle c.in_ok-reply.ensures.messages))
 
 pub returns-clause-denied : goal.returns-clause-denied
 returns-clause-denied c =
