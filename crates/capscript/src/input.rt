@@ -2,7 +2,7 @@
 ghost use Rattle.std.specs.Prelude.{◌≡◌, ◌⊎◌, ◌↔◌, ◌+◌, ◌<◌, ◌≤◌, ◌++◌, ℕ, List, length, IsTrue, IsFalse, IfOk, IfSome, OnOk, OnErr, Err};
 ghost use Rattle.std.specs.Io.KnownBytes.{Appends, Consumes, IsAtEnd};
 ghost use Rattle.capscript.specs.declared.fault.ScriptFault.TheVariants as stops;
-ghost use Rattle.capscript.specs.Watched.{inner_of, has_failed};
+ghost use Rattle.capscript.specs.Watched.{inner_of, has_failed, has_ended};
 
 use crate::fault::ScriptFault;
 use crate::watched::Watched;
@@ -20,10 +20,14 @@ pub(crate) fn read_script<R: Read>(
     alloc: Global,
     reader: &mut Watched<R>,
 ) -> Result<Vec<u8>, ScriptFault>
-    requires { IsFalse (has_failed reader.old) }
+    requires clear { IsFalse (has_failed reader.old) }
+    requires unended { IsFalse (has_ended reader.old) }
     ensures ok { IfOk result (λ script.
         Consumes (R.remaining (inner_of reader.old)) (R.remaining (inner_of reader.new)) script.items) }
     ensures end { OnOk result (IsAtEnd (R.remaining (inner_of reader.new))) }
+    // Its end was seen, and where memory was missed, it was not.
+    ensures seen { OnOk result (IsTrue (has_ended reader.new)) }
+    ensures unseen { result ≡ Err stops.NoMemory → IsFalse (has_ended reader.new) }
     ensures short { IfOk result (λ script. length script.items ≤ MAX_SCRIPT) }
     ensures taken { (taken : List ℕ)
         × Consumes (R.remaining (inner_of reader.old)) (R.remaining (inner_of reader.new)) taken

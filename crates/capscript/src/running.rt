@@ -6,7 +6,7 @@ ghost use Rattle.capcore.specs.History.{IsOpening};
 ghost use Rattle.capscript.specs.declared.fault.ScriptFault.TheVariants as stops;
 ghost use Rattle.capscript.specs.Lines.{lines};
 ghost use Rattle.capscript.specs.Transcript.{Ran, Answered, Answers, AnswersLine, StopsIn, fs_name, root_attr};
-ghost use Rattle.capscript.specs.Watched.{inner_of, has_failed};
+ghost use Rattle.capscript.specs.Watched.{inner_of, has_failed, has_ended};
 
 use crate::fault::ScriptFault;
 use crate::input::{MAX_SCRIPT, read_script, write_text};
@@ -35,11 +35,12 @@ pub fn run<R: Read, W: Write>(
     writer: &mut Watched<W>,
 ) -> Result<(), ScriptFault>
     requires reader_clear { IsFalse (has_failed reader.old) }
+    requires reader_unended { IsFalse (has_ended reader.old) }
     requires writer_clear { IsFalse (has_failed writer.old) }
-    // What was written, where it is known what there was to read. It ends at the first line that has a fault; memory is missed before the
-    // first line, or at one that says an event.
+    // What was written, where it is known what there was to read. It ends at the first line that has a fault; where the script was read
+    // to its end, memory is missed at a line that says an event alone.
     ensures ran { IfSome (R.remaining (inner_of reader.old)) (λ script. (text : List ℕ)
-        × Ran script result text
+        × Ran script (has_ended reader.new) result text
         × Appends (W.contents (inner_of writer.old)) (W.contents (inner_of writer.new)) text) }
     // A read that failed is told, and then nothing was written.
     ensures read_told { IsTrue (has_failed reader.new) → result ≡ Err stops.ReadFault }
@@ -58,8 +59,8 @@ pub fn run<R: Read, W: Write>(
         × Consumes (R.remaining (inner_of reader.old)) (R.remaining (inner_of reader.new)) taken
         × (length taken ≤ MAX_SCRIPT + 1) }
 {
-    let script = read_script(alloc, reader)?;
     let mut core = open_core(alloc)?;
+    let script = read_script(alloc, reader)?;
     answer_lines(alloc, &mut core, script.as_slice(), writer)
 }
 
