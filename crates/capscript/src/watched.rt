@@ -1,7 +1,7 @@
 //! Readers and writers that remember whether they failed, and whether they came to their end.
-ghost use Rattle.std.specs.Prelude.{◌≡◌, ◌<◌, ◌↔◌, ◌⊎◌, IsTrue, IsFalse, IsErr, Ok, length};
+ghost use Rattle.std.specs.Prelude.{◌≡◌, ◌<◌, ◌↔◌, ◌⊎◌, IsTrue, IsFalse, IsErr, OnOk, Ok, length};
 ghost use Rattle.std.specs.Io.{ReadsAtMost, WritesAtMost};
-ghost use Rattle.std.specs.Io.KnownBytes.{Keeps, ReadConsumes, WriteAppends};
+ghost use Rattle.std.specs.Io.KnownBytes.{Keeps, Appends, ReadConsumes, WriteAppends};
 
 use std::io;
 use std::io::{Read, Write};
@@ -81,6 +81,15 @@ impl<W: Write> Write for Watched<W> {
         let result = self.inner.write(buf);
         let took_none = matches!(result, Ok(0)) && !buf.is_empty();
         self.failed = self.failed || result.is_err() || took_none;
+        result
+    }
+
+    fn write_all(&mut self, buf: &[u8]) -> io::Result<()>
+        ensures bytes { OnOk result (Appends (W.contents (inner_of self.old)) (W.contents (inner_of self.new)) buf.now) }
+        ensures flag { IsTrue (has_failed self.new) ↔ (IsTrue (has_failed self.old) ⊎ IsErr result) }
+    {
+        let result = self.inner.write_all(buf);
+        self.failed = self.failed || result.is_err();
         result
     }
 
