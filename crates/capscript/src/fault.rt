@@ -1,25 +1,7 @@
 //! Why a script stopped.
 
 use capspec::{SpecFault, SpecFaultKind};
-use std::alloc::{AllocError, AllocFailed};
 use thiserror::Error;
-
-/// No memory was left.
-#[derive(Clone, Copy, Debug, PartialEq, Eq, Error)]
-#[error("no memory")]
-pub struct NoMemory;
-
-impl From<AllocError> for NoMemory {
-    fn from(_refused: AllocError) -> Self {
-        NoMemory
-    }
-}
-
-impl<T: Drop> From<AllocFailed<T>> for NoMemory {
-    fn from(_failed: AllocFailed<T>) -> Self {
-        NoMemory
-    }
-}
 
 /// What is wrong with a line. It prints as the name of its kind; that of a grant text has the fault of the text behind it.
 #[derive(Clone, Copy, Debug, PartialEq, Eq, Error)]
