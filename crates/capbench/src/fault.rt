@@ -40,12 +40,6 @@ impl<T: Drop> From<AllocFailed<T>> for Fault {
     }
 }
 
-impl From<lockmachine::NoMemory> for Fault {
-    fn from(_: lockmachine::NoMemory) -> Self {
-        Fault::NoMemory
-    }
-}
-
 impl From<SpecFault> for Fault {
     fn from(fault: SpecFault) -> Self {
         Fault::Grants(fault)

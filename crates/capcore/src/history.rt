@@ -5,7 +5,6 @@ use crate::event::Event;
 use crate::outcome::Ended;
 use crate::reply::Reply;
 use capbits::PassId;
-use lockmachine::NoMemory;
 use std::alloc::{AllocError, AllocFailed, Global};
 use std::marker::Model;
 use thiserror::Error;
@@ -107,16 +106,6 @@ impl<T: Drop> From<AllocFailed<T>> for Stop {
     ghost from_gives = { λ _ stop. stop ≡ kind.NoMemory };
 
     fn from(_failed: AllocFailed<T>) -> Stop {
-        Stop::NoMemory
-    }
-}
-
-impl From<NoMemory> for Stop {
-    ghost use Rattle.capcore.specs.declared.history.Stop.TheVariants as kind;
-
-    ghost from_gives = { λ _ stop. stop ≡ kind.NoMemory };
-
-    fn from(_none: NoMemory) -> Stop {
         Stop::NoMemory
     }
 }

@@ -2,8 +2,7 @@
 ghost use Rattle.std.specs.Prelude.{◌≡◌, ◌+◌, ◌≤◌, ◌<◌, ◌++◌, [], ◌∷◌, length, OnOk, OnErr};
 
 use crate::outcome::Ended;
-use lockmachine::NoMemory;
-use std::alloc::Global;
+use std::alloc::{AllocError, Global};
 use std::marker::Model;
 
 // In the order in which they ended. Their room is made when they begin to wait, so that none is lost.
@@ -36,7 +35,7 @@ impl Messages {
     }
 
     // Makes room for so many more.
-    pub(crate) fn reserve(&mut self, more: usize) -> Result<(), NoMemory>
+    pub(crate) fn reserve(&mut self, more: usize) -> Result<(), AllocError>
         ensures items { self.new.items ≡ self.old.items }
         ensures ok { OnOk result (length self.old.items + more ≤ self.new.room) }
         ensures room { self.old.room ≤ self.new.room }

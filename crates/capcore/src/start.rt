@@ -8,11 +8,11 @@ ghost use Rattle.lockmachine.specs.Locks.{with_ino};
 
 use capbits::Ino;
 use inotree::Tree;
-use lockmachine::{Locks, NoMemory};
-use std::alloc::Global;
+use lockmachine::Locks;
+use std::alloc::{AllocError, Global};
 
 // The locks of each inode of the tree, each stable in SYNC.
-pub(crate) fn first_locks(alloc: Global, tree: &Tree) -> Result<Locks, NoMemory>
+pub(crate) fn first_locks(alloc: Global, tree: &Tree) -> Result<Locks, AllocError>
     ensures queue { IfOk result (λ locks. locks.queue ≡ []) }
     ensures last { IfOk result (λ locks. locks.last ≡ 0) }
     ensures states { IfOk result (λ locks. (ino : ℕ)
@@ -29,7 +29,7 @@ pub(crate) fn first_locks(alloc: Global, tree: &Tree) -> Result<Locks, NoMemory>
 }
 
 // Adds the locks of an inode, where the tree has it.
-fn add_locks(locks: &mut Locks, tree: &Tree, ino: Ino) -> Result<(), NoMemory>
+fn add_locks(locks: &mut Locks, tree: &Tree, ino: Ino) -> Result<(), AllocError>
     ensures ok { OnOk result (locks.new ≡ (if map.contains_key tree.now.nodes ino.0 then with_ino locks.old ino.0 else locks.old)) }
     ensures sound { IsTree tree.now }
 {

@@ -17,9 +17,8 @@ use crate::world::World;
 use capbits::{ClientId, PassId};
 use capspec::FsName;
 use inotree::Tree;
-use lockmachine::NoMemory;
 use sessiontab::Status;
-use std::alloc::Global;
+use std::alloc::{AllocError, Global};
 use std::marker::Model;
 
 /// The state of a metadata server's policy, with the history that led to it.
@@ -46,7 +45,7 @@ impl Model for Core {
 
 impl Core {
     /// A core on this file system and tree, in which nobody is connected. Its history takes at most `max_rows` rows.
-    pub fn new(alloc: Global, fs: FsName, tree: Tree, max_rows: u32) -> Result<Core, NoMemory>
+    pub fn new(alloc: Global, fs: FsName, tree: Tree, max_rows: u32) -> Result<Core, AllocError>
         requires strays { HasNoStray tree }
         ensures opening { IfOk result (λ core. IsOpening fs tree core.state) }
         ensures rows { IfOk result (λ core. core.rows ≡ []) }

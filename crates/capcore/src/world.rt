@@ -30,9 +30,9 @@ use capgrant::{Access, Attr, Rules, Verdict, verdict};
 use capspec::{FsName, Grants};
 use captable::CapTable;
 use inotree::{Kind, Tree};
-use lockmachine::{Locks, NoMemory};
+use lockmachine::Locks;
 use sessiontab::{Sessions, Status};
-use std::alloc::Global;
+use std::alloc::{AllocError, Global};
 use std::marker::Model;
 
 // The state that events change: tree, sessions, entries, locks, and what clients are still to be told.
@@ -71,13 +71,13 @@ impl Model for World {
 
 impl World {
     // Nobody is connected, nobody has an entry, and each lock is in SYNC.
-    pub(crate) fn new(alloc: Global, fs: FsName, tree: Tree) -> Result<World, NoMemory>
+    pub(crate) fn new(alloc: Global, fs: FsName, tree: Tree) -> Result<World, AllocError>
         requires strays { HasNoStray tree }
         ensures { IfOk result (λ world. IsOpening fs tree world) }
     {
         let locks = first_locks(alloc, &tree)?;
         let (Ok(sessions), Ok(table)) = (Sessions::new(alloc), CapTable::new(alloc)) else {
-            return Err(NoMemory);
+            return Err(AllocError);
         };
         Ok(World {
             fs,
@@ -207,7 +207,7 @@ impl World {
     }
 
     // Adds an inode with its locks. For want of memory nothing changes.
-    fn add(&mut self, kind: Kind, dir: Ino, name: &[u8], attr: Attr) -> Result<Ino, NoMemory>
+    fn add(&mut self, kind: Kind, dir: Ino, name: &[u8], attr: Attr) -> Result<Ino, AllocError>
         requires passed { first_failing (create_tests self.old.scene.tree dir.0 name.now) ≡ None }
         ensures ok { OnOk result (self.new ≡ with_birth self.old kind dir.0 name.now attr) }
         ensures ino { IfOk result (λ ino. ino.0 ≡ self.old.scene.tree.last + 1) }
@@ -218,9 +218,9 @@ impl World {
         self.locks.add_ino(ino)?;
         match make_in(&mut self.tree, kind, dir, name, attr) {
             Ok(()) => Ok(ino),
-            Err(NoMemory) => {
+            Err(AllocError) => {
                 self.locks.drop_ino(ino);
-                Err(NoMemory)
+                Err(AllocError)
             }
         }
     }
@@ -364,7 +364,7 @@ fn no_grant() -> Verdict
 }
 
 // Makes an inode of this kind. For want of memory nothing changes.
-fn make_in(tree: &mut Tree, kind: Kind, dir: Ino, name: &[u8], attr: Attr) -> Result<(), NoMemory>
+fn make_in(tree: &mut Tree, kind: Kind, dir: Ino, name: &[u8], attr: Attr) -> Result<(), AllocError>
     requires passed { first_failing (create_tests tree.old dir.0 name.now) ≡ None }
     ensures ok { OnOk result (tree.new ≡ with_new tree.old kind dir.0 name.now attr) }
     ensures err { OnErr result (tree.new ≡ tree.old) }
@@ -375,6 +375,6 @@ fn make_in(tree: &mut Tree, kind: Kind, dir: Ino, name: &[u8], attr: Attr) -> Re
     };
     match made {
         Ok(_ino) => Ok(()),
-        Err(_no_memory) => Err(NoMemory),
+        Err(_no_memory) => Err(AllocError),
     }
 }

@@ -1,5 +1,5 @@
 //! The commands of the program, over streams that the caller passes.
-ghost use Rattle.std.specs.Prelude.{◌≡◌, ◌≤◌, ◌⊎◌, ◌++◌, List, codes, OnOk, IfErr, MatchResult};
+ghost use Rattle.std.specs.Prelude.{◌≡◌, ◌≤◌, ◌⊎◌, ◌++◌, ℕ, List, codes, OnOk, IfErr, IfSome, IsTrue, IsFalse};
 ghost use Rattle.std.specs.Io.KnownBytes.{Appends, Keeps};
 ghost use Rattle.capspec.specs.Grants.{Reads};
 ghost use Rattle.capspec.specs.Written.{written};
@@ -7,8 +7,13 @@ ghost use Rattle.capspec.specs.declared.grant.Grant.{Grant};
 ghost use Rattle.capquestion.specs.declared.question.Question.{Question as Asked};
 ghost use Rattle.capquestion.specs.Fault.{IsFaultOfText};
 ghost use Rattle.capquestion.specs.Question.{AsksFor, IsFaultIn, answer_text};
+ghost use Rattle.capscript.specs.declared.fault.ScriptFault.{ScriptFault as AScriptFault};
+ghost use Rattle.capscript.specs.Lines.{lines};
+ghost use Rattle.capscript.specs.Transcript.{IsTranscript};
+ghost use Rattle.capscript.specs.Watched.{inner_of, has_failed, has_ended};
+ghost use Rattle.capd.specs.declared.fault.Fault.{Fault as AFault};
 ghost use Rattle.capd.specs.declared.fault.Fault.TheVariants as faults;
-ghost use Rattle.capd.specs.Fault.{Tells};
+ghost use Rattle.capd.specs.Commands.{Answers, Stops, StopsBefore, RunStops};
 
 use crate::command_line::{Ask, parse};
 use crate::fault::Fault;
@@ -31,34 +36,83 @@ pub const USAGE: u8 = 2;
 
 /// Does what the words behind the program's name ask for, and returns the status. What is wrong is written to `faults`;
 /// where that fails, nothing else can be said, and the status stays.
-pub fn dispatch<R: AllocGlobal>(
-    rt: &R,
+pub fn dispatch<E: AllocGlobal, R: Read, W: Write, F: Write>(
+    rt: &E,
     words: &[Vec<u8>],
-    reader: &mut impl Read,
-    writer: &mut impl Write,
-    faults: &mut impl Write,
+    reader: &mut R,
+    writer: &mut W,
+    faults: &mut F,
 ) -> u8
-    ensures { result ≤ USAGE }
+    ensures status { result ≤ USAGE }
+    ensures done { result ≡ DONE → Keeps (F.contents faults.old) (F.contents faults.new) }
+    ensures usage { result ≡ USAGE → Keeps (W.contents writer.old) (W.contents writer.new) }
 {
-    let done = match parse(rt.alloc(), words) {
-        Ok(Ask::Explain(values)) => explain(rt.alloc(), &values, writer),
-        Ok(Ask::Grants(text)) => grants(rt.alloc(), text.as_slice(), writer),
-        Ok(Ask::Run) => run_script(rt.alloc(), reader, writer),
+    let ask = match parse(rt.alloc(), words) {
+        Ok(ask) => ask,
         Err(error) => return show(rt.alloc(), &error, writer, faults),
     };
-    match done {
+    let mut reader = Watched::new(reader);
+    let mut writer = Watched::new(writer);
+    carry_out(rt.alloc(), &ask, &mut reader, &mut writer, faults)
+}
+
+// Does what is asked, and returns the status: `DONE` where all of the answer was written, and nothing else.
+fn carry_out<R: Read, W: Write, F: Write>(
+    alloc: Global,
+    ask: &Ask,
+    reader: &mut Watched<R>,
+    writer: &mut Watched<W>,
+    faults: &mut F,
+) -> u8
+    requires reader_clear { IsFalse (has_failed reader.old) }
+    requires reader_unended { IsFalse (has_ended reader.old) }
+    requires writer_clear { IsFalse (has_failed writer.old) }
+    ensures { ((result ≡ DONE) × IsFalse (has_failed writer.new) × Keeps (F.contents faults.old) (F.contents faults.new)
+        × Answers ask.now (R.remaining (inner_of reader.old))
+        (W.contents (inner_of writer.old)) (W.contents (inner_of writer.new)))
+        ⊎ ((result ≡ FAILED) × ((fault : AFault)
+        × Stops ask.now fault (R.remaining (inner_of reader.old)) (has_ended reader.new) (has_failed writer.new)
+        (W.contents (inner_of writer.old)) (W.contents (inner_of writer.new)))) }
+{
+    match answer(alloc, ask, reader, writer) {
         Ok(()) => DONE,
         Err(fault) => report(fault, faults),
     }
 }
 
+// Writes the answer to what is asked.
+fn answer<R: Read, W: Write>(
+    alloc: Global,
+    ask: &Ask,
+    reader: &mut Watched<R>,
+    writer: &mut Watched<W>,
+) -> Result<(), Fault>
+    requires reader_clear { IsFalse (has_failed reader.old) }
+    requires reader_unended { IsFalse (has_ended reader.old) }
+    requires writer_clear { IsFalse (has_failed writer.old) }
+    ensures ok { OnOk result (IsFalse (has_failed writer.new)
+        × Answers ask.now (R.remaining (inner_of reader.old))
+        (W.contents (inner_of writer.old)) (W.contents (inner_of writer.new))) }
+    ensures err { IfErr result (λ fault.
+        Stops ask.now fault (R.remaining (inner_of reader.old)) (has_ended reader.new) (has_failed writer.new)
+        (W.contents (inner_of writer.old)) (W.contents (inner_of writer.new))) }
+{
+    match ask {
+        Ask::Explain(values) => explain(alloc, values, writer),
+        Ask::Grants(text) => grants(alloc, text.as_slice(), writer),
+        Ask::Run => run_script(alloc, reader, writer),
+    }
+}
+
 // Writes the answer to a question, as a line.
-fn explain<W: Write>(alloc: Global, values: &Values, writer: &mut W) -> Result<(), Fault>
+fn explain<W: Write>(alloc: Global, values: &Values, writer: &mut Watched<W>) -> Result<(), Fault>
+    requires { IsFalse (has_failed writer.old) }
+    ensures ok { OnOk result (IsFalse (has_failed writer.new)) }
     ensures answer { OnOk result ((asked : Asked) × AsksFor values.now asked
-        × Appends (W.contents writer.old) (W.contents writer.new) (answer_text asked ++ codes "\n")) }
+        × Appends (W.contents (inner_of writer.old)) (W.contents (inner_of writer.new)) (answer_text asked ++ codes "\n")) }
     // A fault of the values, or want of memory, comes before anything is written.
-    ensures fault { IfErr result (λ fault. (fault ≡ faults.WriteFailed)
-        ⊎ (Tells (IsFaultIn values.now) fault × Keeps (W.contents writer.old) (W.contents writer.new))) }
+    ensures fault { IfErr result (λ fault. StopsBefore (IsFaultIn values.now) fault (has_failed writer.new)
+        (W.contents (inner_of writer.old)) (W.contents (inner_of writer.new))) }
 {
     let question = Question::read(alloc, values)?;
     let line = question.answer(alloc)?;
@@ -66,45 +120,67 @@ fn explain<W: Write>(alloc: Global, values: &Values, writer: &mut W) -> Result<(
 }
 
 // Writes the grants that a text means in their written form, as a line.
-fn grants<W: Write>(alloc: Global, text: &[u8], writer: &mut W) -> Result<(), Fault>
+fn grants<W: Write>(alloc: Global, text: &[u8], writer: &mut Watched<W>) -> Result<(), Fault>
+    requires { IsFalse (has_failed writer.old) }
+    ensures ok { OnOk result (IsFalse (has_failed writer.new)) }
     ensures form { OnOk result ((grants : List Grant) × Reads text.now grants
-        × Appends (W.contents writer.old) (W.contents writer.new) (written grants ++ codes "\n")) }
-    ensures fault { IfErr result (λ fault. (fault ≡ faults.WriteFailed)
-        ⊎ (Tells (IsFaultOfText text.now) fault × Keeps (W.contents writer.old) (W.contents writer.new))) }
+        × Appends (W.contents (inner_of writer.old)) (W.contents (inner_of writer.new)) (written grants ++ codes "\n")) }
+    ensures fault { IfErr result (λ fault. StopsBefore (IsFaultOfText text.now) fault (has_failed writer.new)
+        (W.contents (inner_of writer.old)) (W.contents (inner_of writer.new))) }
 {
     let grants = read_grants(alloc, text)?;
     let line = write_grants(alloc, &grants).map_err(|_| Fault::NoMemory)?;
     write_line(line, writer)
 }
 
-// Writes the transcript of the script that is read, up to its end or to the first line that says nothing. What that is, and
-// what was written where it stops before, is the contract of `capscript::run`.
+// Writes the transcript of the script that is read, up to its end or to the first line that says nothing.
 fn run_script<R: Read, W: Write>(
     alloc: Global,
-    reader: &mut R,
-    writer: &mut W,
-) -> Result<(), Fault> {
-    let mut reader = Watched::new(reader);
-    let mut writer = Watched::new(writer);
-    run(alloc, &mut reader, &mut writer)?;
-    Ok(())
+    reader: &mut Watched<R>,
+    writer: &mut Watched<W>,
+) -> Result<(), Fault>
+    requires reader_clear { IsFalse (has_failed reader.old) }
+    requires reader_unended { IsFalse (has_ended reader.old) }
+    requires writer_clear { IsFalse (has_failed writer.old) }
+    ensures ok { OnOk result (IsFalse (has_failed writer.new)) }
+    ensures ran { OnOk result (IfSome (R.remaining (inner_of reader.old)) (λ script. (text : List ℕ)
+        × IsTranscript (lines script) text
+        × Appends (W.contents (inner_of writer.old)) (W.contents (inner_of writer.new)) text)) }
+    ensures stops { IfErr result (λ fault. (stop : AScriptFault) × (fault ≡ faults.Script stop)
+        × RunStops stop (R.remaining (inner_of reader.old)) (has_ended reader.new) (has_failed writer.new)
+        (W.contents (inner_of writer.old)) (W.contents (inner_of writer.new))) }
+{
+    match run(alloc, reader, writer) {
+        Ok(()) => Ok(()),
+        Err(stop) => Err(Fault::Script(stop)),
+    }
 }
 
 // Writes the line and a line feed behind it, or nothing where memory is missing.
-fn write_line<W: Write>(mut line: Vec<u8>, writer: &mut W) -> Result<(), Fault>
-    ensures { MatchResult result
-        (λ _. Appends (W.contents writer.old) (W.contents writer.new) (line.items ++ codes "\n"))
-        (λ fault. (fault ≡ faults.WriteFailed) ⊎ ((fault ≡ faults.NoMemory) × Keeps (W.contents writer.old) (W.contents writer.new))) }
+fn write_line<W: Write>(mut line: Vec<u8>, writer: &mut Watched<W>) -> Result<(), Fault>
+    requires { IsFalse (has_failed writer.old) }
+    ensures ok { OnOk result (IsFalse (has_failed writer.new)
+        × Appends (W.contents (inner_of writer.old)) (W.contents (inner_of writer.new)) (line.items ++ codes "\n")) }
+    ensures err { IfErr result (λ fault. ((fault ≡ faults.WriteFailed) × IsTrue (has_failed writer.new))
+        ⊎ ((fault ≡ faults.NoMemory) × Keeps (W.contents (inner_of writer.old)) (W.contents (inner_of writer.new)))) }
 {
     line.push(b'\n')?;
-    writer
-        .write_all(line.as_slice())
-        .map_err(|_| Fault::WriteFailed)
+    match writer.write_all(line.as_slice()) {
+        Ok(()) => Ok(()),
+        Err(_) => Err(Fault::WriteFailed),
+    }
 }
 
-// Shows what the parser of the command line says, with the words in it as they came.
-fn show(alloc: Global, error: &clap::Error, writer: &mut impl Write, faults: &mut impl Write) -> u8
-    ensures { result ≤ USAGE }
+// Shows what the parser of the command line says, with the words in it as they came: the help on `writer`, what is wrong on `faults`.
+fn show<W: Write, F: Write>(
+    alloc: Global,
+    error: &clap::Error,
+    writer: &mut W,
+    faults: &mut F,
+) -> u8
+    ensures status { result ≤ USAGE }
+    ensures done { result ≡ DONE → Keeps (F.contents faults.old) (F.contents faults.new) }
+    ensures usage { result ≡ USAGE → Keeps (W.contents writer.old) (W.contents writer.new) }
 {
     if error.kind() == ErrorKind::OutOfMemory {
         return report(Fault::NoMemory, faults);

@@ -1,11 +1,11 @@
 -- Each option in turn is the first bad one.
-use Rattle.std.proofs.Common.{◌≡◌, ◌∙◌, ℕ, List, [], ◌∷◌, ◌++◌, inl, inr, ap, subst, refl}
-use Rattle.std.specs.Prelude.{◌≢◌, ◌⊎◌, Result, Ok, Err, IfErr, IsErrAnd}
+use Rattle.std.proofs.Common.{◌≡◌, ℕ, List, [], ◌∷◌, ◌++◌, subst, refl}
+use Rattle.std.specs.Prelude.{◌≢◌, Result, Err, IfErr}
 use Rattle.std.specs.List.{AllByRecursion}
 use Rattle.std.proofs.lemmas.List.Elements.{All-from_recursion}
 use Rattle.capspec.specs.declared.grant.Grant.{Grant}
 use Rattle.capspec.specs.declared.fault.SpecFault.{SpecFault}
-use Rattle.capspec.specs.Faults.{IsFault, IsNoMemory}
+use Rattle.capspec.specs.Faults.{IsFault}
 use Rattle.capspec.specs.Grants.{Reads}
 use Rattle.capspec.specs.Items.{IsNumber}
 use Rattle.capgrant.specs.declared.access.Access.{Access as AnAccess}
@@ -15,9 +15,7 @@ use Rattle.capquestion.specs.declared.fault.QuestionFault.TheVariants.{BadValue}
 use Rattle.capquestion.specs.declared.options.Opt.{Opt}
 use Rattle.capquestion.specs.declared.options.Opt.TheVariants.{Grants, Fs, Uid, Gid, Groups, Path, Owner, Group, Mode, Access}
 use Rattle.capquestion.specs.declared.question.Values.{Values}
-use Rattle.capquestion.proofs.TextFault.{text_fault}
 use Rattle.capquestion.specs.Access.{IsAccessWord}
-use Rattle.capquestion.specs.Fault.{IsFaultOf, IsFaultOfText}
 use Rattle.capquestion.specs.Options.{all_options}
 use Rattle.capquestion.specs.Question.{IsGood, IsFirstBad, IsFaultIn}
 use Rattle.capquestion.specs.Values.{IsFs, AreGroupsIf, ArePathNames, IsModeText}
@@ -50,12 +48,6 @@ bad_groups v g fs uid gid is_g is_fs is_uid is_gid none = first_bad v Groups (Gr
 pub bad_path : (v : Values) (g : List Grant) (fs : List ℕ) (uid : ℕ) (gid : ℕ) (gids : List ℕ) → Reads v.grants.items g → IsFs v.fs.items fs → IsNumber v.uid.items uid → IsNumber v.gid.items gid → AreGroupsIf v.groups gids → ((names : List (List ℕ)) → ¬ ArePathNames v.path.items names) → IsFirstBad v Path
 bad_path v g fs uid gid gids is_g is_fs is_uid is_gid is_gids none = first_bad v Path (Grants ∷ Fs ∷ Uid ∷ Gid ∷ Groups ∷ []) (Owner ∷ Group ∷ Mode ∷ Access ∷ []) refl ((g, is_g), ((fs, is_fs), ((uid, is_uid), ((gid, is_gid), ((gids, is_gids), tt))))) (λ found. none found.0 found.1)
 
--- where there is no path, it is the first bad value, or memory was missing
-pub no_path : {T : Type 0} (v : Values) (g : List Grant) (fs : List ℕ) (uid : ℕ) (gid : ℕ) (gids : List ℕ) → Reads v.grants.items g → IsFs v.fs.items fs → IsNumber v.uid.items uid → IsNumber v.gid.items gid → AreGroupsIf v.groups gids
-    → (text : List ℕ) → text ≡ v.path.items → (fault : QuestionFault) → (fault ≡ faults.NoMemory) × ((names : List (List ℕ)) × ArePathNames text names) ⊎ (fault ≡ BadValue Path) × ((names : List (List ℕ)) → ¬ ArePathNames text names) → (r : Result T QuestionFault) → r ≡ Err fault → IfErr r (IsFaultIn v)
-no_path v g fs uid gid gids is_g is_fs is_uid is_gid is_gids text same fault (inl memory) r is = rw (is, memory.0) (g, is_g)
-no_path v g fs uid gid gids is_g is_fs is_uid is_gid is_gids text same fault (inr bad) r is = names_first_bad v Path r (λ e. cc) (bad_path v g fs uid gid gids is_g is_fs is_uid is_gid is_gids (subst (λ (t : List ℕ). (names : List (List ℕ)) → ¬ ArePathNames t names) same bad.1)) (is ∙ ap Err bad.0)
-
 pub bad_owner : (v : Values) (g : List Grant) (fs : List ℕ) (uid : ℕ) (gid : ℕ) (gids : List ℕ) (names : List (List ℕ)) → Reads v.grants.items g → IsFs v.fs.items fs → IsNumber v.uid.items uid → IsNumber v.gid.items gid → AreGroupsIf v.groups gids → ArePathNames v.path.items names → ((owner : ℕ) → ¬ IsNumber v.owner.items owner) → IsFirstBad v Owner
 bad_owner v g fs uid gid gids names is_g is_fs is_uid is_gid is_gids is_names none = first_bad v Owner (Grants ∷ Fs ∷ Uid ∷ Gid ∷ Groups ∷ Path ∷ []) (Group ∷ Mode ∷ Access ∷ []) refl ((g, is_g), ((fs, is_fs), ((uid, is_uid), ((gid, is_gid), ((gids, is_gids), ((names, is_names), tt)))))) (λ found. none found.0 found.1)
 
@@ -68,13 +60,13 @@ bad_mode v g fs uid gid gids names owner group is_g is_fs is_uid is_gid is_gids 
 pub bad_access : (v : Values) (g : List Grant) (fs : List ℕ) (uid : ℕ) (gid : ℕ) (gids : List ℕ) (names : List (List ℕ)) (owner : ℕ) (group : ℕ) (mode : ℕ) → Reads v.grants.items g → IsFs v.fs.items fs → IsNumber v.uid.items uid → IsNumber v.gid.items gid → AreGroupsIf v.groups gids → ArePathNames v.path.items names → IsNumber v.owner.items owner → IsNumber v.group.items group → IsModeText v.mode.items mode → ((access : AnAccess) → ¬ IsAccessWord v.access.items access) → IsFirstBad v Access
 bad_access v g fs uid gid gids names owner group mode is_g is_fs is_uid is_gid is_gids is_names is_owner is_group is_mode none = first_bad v Access (Grants ∷ Fs ∷ Uid ∷ Gid ∷ Groups ∷ Path ∷ Owner ∷ Group ∷ Mode ∷ []) ([]) refl ((g, is_g), ((fs, is_fs), ((uid, is_uid), ((gid, is_gid), ((gids, is_gids), ((names, is_names), ((owner, is_owner), ((group, is_group), ((mode, is_mode), tt))))))))) (λ found. none found.0 found.1)
 
--- what is told of the grants' text is a fault of the values
-of_values : (v : Values) (fault : QuestionFault) → IsFaultOfText v.grants.items fault → IsFaultIn v fault
-of_values v (faults.Grants refused) is = is
-of_values v (BadValue option) is = absurd is
-of_values v faults.NoMemory is = is
+-- the fault of the grants
+pub bad_grants : {T : Type 0} (v : Values) (fault : QuestionFault) (r : Result T QuestionFault) → (refused : SpecFault) × (fault ≡ faults.Grants refused) × IsFault v.grants.items refused → r ≡ Err fault → IfErr r (IsFaultIn v)
+bad_grants v fault r found is = rw (is, found.1) found.2
 
--- the fault of the grants, or want of memory for good ones
-pub bad_grants : {T : Type 0} (v : Values) (refused : SpecFault) (r : Result T QuestionFault) → IsFault v.grants.items refused ⊎ (IsNoMemory refused × (g : List Grant) × Reads v.grants.items g) → IsErrAnd r (IsFaultOf refused) → IfErr r (IsFaultIn v)
-bad_grants v refused (Ok x) found passed = tt
-bad_grants v refused (Err fault) found passed = of_values v fault (text_fault v.grants.items refused fault found passed)
+-- values that are good by what was read of them
+pub good_grants : (v : Values) (text : List ℕ) → text ≡ v.grants.items → (grants : List Grant) × Reads text grants → IsGood v Grants
+good_grants v text same good = (good.0, subst (λ (t : List ℕ). Reads t good.0) same good.1)
+
+pub good_path : (v : Values) (text : List ℕ) → text ≡ v.path.items → (names : List (List ℕ)) × ArePathNames text names → IsGood v Path
+good_path v text same good = (good.0, subst (λ (t : List ℕ). ArePathNames t good.0) same good.1)

@@ -1,7 +1,8 @@
 -- What is told of a grant text that was refused.
-use Rattle.std.proofs.Common.{ℕ, List, ap, sym, subst, inl, inr}
+use Rattle.std.proofs.Common.{◌≡◌, ℕ, List, ap, sym, subst, inl, inr}
 use Rattle.std.specs.Prelude.{◌⊎◌}
 use Rattle.capspec.specs.declared.fault.SpecFault.{SpecFault}
+use Rattle.capspec.specs.declared.fault.SpecFaultKind.TheVariants as kinds
 use Rattle.capspec.specs.declared.grant.Grant.{Grant}
 use Rattle.capspec.specs.Faults.{IsFault, IsNoMemory}
 use Rattle.capspec.specs.Grants.{Reads}
@@ -16,3 +17,8 @@ text_fault text refused (Grants same) (inr missed) passed = absurd (passed.1 (ap
 text_fault text refused (BadValue option) found passed = absurd passed
 text_fault text refused NoMemory (inl is) passed = absurd (fault_told text refused is passed)
 text_fault text refused NoMemory (inr missed) passed = (missed.1, missed.2)
+
+-- a text for which only memory was missing means grants
+pub text_is_good : (text : List ℕ) (refused : SpecFault) → IsFault text refused ⊎ (IsNoMemory refused × (grants : List Grant) × Reads text grants) → refused.kind ≡ kinds.NoMemory → (grants : List Grant) × Reads text grants
+text_is_good text refused (inl is) missed = absurd (fault_told text refused is missed)
+text_is_good text refused (inr good) missed = (good.1, good.2)

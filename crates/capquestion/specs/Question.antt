@@ -52,11 +52,11 @@ pub record IsFirstBad (v : Values) (option : Opt) : Type 0 where
   pub good_before : All (IsGood v) before
   pub bad : ¬ IsGood v option
 
--- why the values got no question: the first of their faults, or want of memory for grants that are good
+-- why the values got no question: the first of their faults, or want of memory where each of them is good
 abbrev pub IsFaultIn : Values → QuestionFault → Type 0
 IsFaultIn v (faults.Grants refused) = IsFault v.grants.items refused
 IsFaultIn v (faults.BadValue option) = (option ≢ Grants) × IsFirstBad v option
-IsFaultIn v faults.NoMemory = IsGood v Grants
+IsFaultIn v faults.NoMemory = All (IsGood v) all_options
 
 -- the line that answers the question: what its grants say
 abbrev pub answer_text : Question → List ℕ

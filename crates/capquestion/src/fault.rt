@@ -14,7 +14,7 @@ pub enum QuestionFault {
     /// The value of this option, which is not `Opt::Grants`, is the first bad one.
     #[error("bad value of --{0}")]
     BadValue(Opt),
-    /// The grants are good, but no memory was left for the question.
+    /// Each value is good, but no memory was left for the question.
     #[error("no memory")]
     NoMemory,
 }

@@ -1,5 +1,9 @@
 //! What the values of options ask.
-ghost use Rattle.std.specs.Prelude.{◌≡◌, ◌⊎◌, ℕ, List, MatchResult};
+ghost use Rattle.std.specs.Prelude.{◌≡◌, ℕ, List, IfOk, OnOk, IfErr, IfSome, MatchResult};
+ghost use Rattle.capspec.specs.declared.fault.SpecFault.{SpecFault as ASpecFault};
+ghost use Rattle.capspec.specs.declared.grant.Grant.{Grant as AGrant};
+ghost use Rattle.capspec.specs.Faults.{IsFault};
+ghost use Rattle.capspec.specs.Grants.{Reads};
 ghost use Rattle.capspec.specs.Items.{IsNumber};
 ghost use Rattle.capquestion.specs.Values.{AreGroupsIf, ArePathNames};
 
@@ -11,7 +15,7 @@ use crate::lists::read_groups;
 use crate::options::Opt;
 use capbits::{Caller, Groups, read_mode, read_u32};
 use capgrant::{Access, Attr, verdict};
-use capspec::{FsName, Grants, TreePath, read_grants};
+use capspec::{FsName, Grants, SpecFaultKind, TreePath, read_grants};
 use std::alloc::{AllocError, Global};
 
 /// The values of the options as they stand on the command line, as bytes.
@@ -61,12 +65,12 @@ impl Question {
     ghost use Rattle.capquestion.specs.Question.{AsksFor, IsFaultIn, answer_text};
 
     /// The question that the values ask. They are read in the order of `Opt::ALL`, and the fault is that of the first bad one.
-    /// `NoMemory` comes only where the grants are good.
+    /// `NoMemory` comes last, and only where each value is good.
     pub fn read(alloc: Global, values: &Values) -> Result<Question, QuestionFault>
         ensures ok { IfOk result (AsksFor values.now) }
         ensures err { IfErr result (IsFaultIn values.now) }
     {
-        let grants = read_grants(alloc, values.grants.as_slice())?;
+        let grants = read_given_grants(alloc, values.grants.as_slice())?;
         let fs = FsName::read(values.fs.as_slice()).ok_or(BadValue(Opt::Fs))?;
         let caller = Caller {
             uid: read_number(Opt::Uid, values.uid.as_slice())?,
@@ -80,14 +84,17 @@ impl Question {
             mode: read_mode(values.mode.as_slice()).ok_or(BadValue(Opt::Mode))?,
         };
         let access = read_access(values.access.as_slice()).ok_or(BadValue(Opt::Access))?;
-        Ok(Question {
-            grants,
-            fs,
-            caller,
-            path,
-            attr,
-            access,
-        })
+        match (grants, path) {
+            (Some(grants), Some(path)) => Ok(Question {
+                grants,
+                fs,
+                caller,
+                path,
+                attr,
+                access,
+            }),
+            _ => Err(QuestionFault::NoMemory),
+        }
     }
 
     /// The line that answers the question, without a line feed. Only memory can be missing.
@@ -107,23 +114,47 @@ impl Question {
     }
 }
 
-// The path of the inode.
-fn read_path(alloc: Global, text: &[u8]) -> Result<TreePath, QuestionFault>
-    ensures { MatchResult result (ArePathNames text.now) (λ fault. (fault ≡ QuestionFault.NoMemory) × ((names : List (List ℕ)) × ArePathNames text.now names) ⊎ (fault ≡ QuestionFault.BadValue Opt.Path) × ((names : List (List ℕ)) → ¬ ArePathNames text.now names)) }
+// The grants that the text means, or None where it means some and no memory was left for them.
+fn read_given_grants(alloc: Global, text: &[u8]) -> Result<Option<Grants>, QuestionFault>
+    ensures good { OnOk result ((grants : List AGrant) × Reads text.now grants) }
+    ensures kept { IfOk result (λ kept. IfSome kept (Reads text.now)) }
+    ensures err { IfErr result (λ fault. (refused : ASpecFault) × (fault ≡ QuestionFault.Grants refused) × IsFault text.now refused) }
 {
-    TreePath::read(alloc, text)?.ok_or(BadValue(Opt::Path))
+    match read_grants(alloc, text) {
+        Ok(grants) => Ok(Some(grants)),
+        Err(refused) => match refused.kind {
+            SpecFaultKind::NoMemory => Ok(None),
+            _ => Err(QuestionFault::Grants(refused)),
+        },
+    }
+}
+
+// The path of the inode, or None where the text names one and no memory was left for it.
+fn read_path(alloc: Global, text: &[u8]) -> Result<Option<TreePath>, QuestionFault>
+    ensures good { OnOk result ((names : List (List ℕ)) × ArePathNames text.now names) }
+    ensures kept { IfOk result (λ kept. IfSome kept (ArePathNames text.now)) }
+    ensures err { IfErr result (λ fault. (fault ≡ QuestionFault.BadValue Opt.Path)
+        × ((names : List (List ℕ)) → ¬ ArePathNames text.now names)) }
+{
+    match TreePath::read(alloc, text) {
+        Ok(Some(path)) => Ok(Some(path)),
+        Ok(None) => Err(BadValue(Opt::Path)),
+        Err(AllocError) => Ok(None),
+    }
 }
 
 // The number that the value of an option writes.
 fn read_number(option: Opt, text: &[u8]) -> Result<u32, QuestionFault>
-    ensures { MatchResult result (IsNumber text.now) (λ fault. (fault ≡ QuestionFault.BadValue option) × ((n : ℕ) → ¬ IsNumber text.now n)) }
+    ensures { MatchResult result (IsNumber text.now) (λ fault.
+        (fault ≡ QuestionFault.BadValue option) × ((n : ℕ) → ¬ IsNumber text.now n)) }
 {
     read_u32(text).ok_or(BadValue(option))
 }
 
 // The groups that are given, or none.
 fn read_given_groups(groups: &Option<Vec<u8>>) -> Result<Groups, QuestionFault>
-    ensures { MatchResult result (AreGroupsIf groups.now) (λ fault. (fault ≡ QuestionFault.BadValue Opt.Groups) × ((gids : List ℕ) → ¬ AreGroupsIf groups.now gids)) }
+    ensures { MatchResult result (AreGroupsIf groups.now) (λ fault.
+        (fault ≡ QuestionFault.BadValue Opt.Groups) × ((gids : List ℕ) → ¬ AreGroupsIf groups.now gids)) }
 {
     match groups {
         Some(text) => read_groups(text.as_slice()).ok_or(BadValue(Opt::Groups)),

@@ -1,7 +1,7 @@
 -- Histories that grow by one row, for scripts that grow by one line.
 use Rattle.std.proofs.Common.{◌≡◌, ℕ, ◌+◌, ◌<◌, ◌≤◌, Bool, true, false, cond, not, List, [], ◌∷◌, ◌++◌, length, map, refl, sym, ap, ◌∙◌, subst, arith, inl, inr, append_assoc, length-append}
-use Rattle.std.specs.Prelude.{◌⊎◌, IsTrue, filter, Option, Some, None, IfSome, Result, Ok, Err, OnOk, OnErr, IfErr, IsErrAnd}
-use Rattle.std.specs.Io.KnownBytes.{Appends}
+use Rattle.std.specs.Prelude.{◌⊎◌, ◌≢◌, IsTrue, IsFalse, filter, Option, Some, None, IfSome, Result, Ok, Err, OnOk, OnErr, IfErr, IsErrAnd}
+use Rattle.std.specs.Io.KnownBytes.{Appends, Consumes, IsAtEnd}
 use Rattle.std.specs.List.{AllByRecursion}
 use Rattle.std.specs.FinMap as map
 use Rattle.std.specs.Ordering.{nat_cmp, eq_by_cmp}
@@ -254,19 +254,41 @@ room_left first now script rest number old new so short room = omega (arith, so.
 
 -- ---- before any line
 
--- a fault that told of no script: nothing was written
-pub nothing_ran : (T : Type 0) (script : List ℕ) (known : Option (List ℕ)) (fault : ScriptFault) (result : Result T ScriptFault) → IsErrAnd result (λ told. told ≡ fault) → (fault ≡ stops.ReadFault) ⊎ (fault ≡ stops.NoMemory) → (t : List ℕ) × Ran script result t × Appends known known t
-nothing_ran T script known fault (Ok done) told why = absurd told
-nothing_ran T script known fault (Err same) told (inl read) = ([], rw (told, read) refl, none_appended known)
-nothing_ran T script known fault (Err same) told (inr missed) = ([], rw (told, missed) (inl refl), none_appended known)
+-- why nothing was run: reading failed, or memory was missed before the end was read
+abbrev pub IsEarly : Bool → ScriptFault → Type 0
+IsEarly ended fault = (fault ≡ stops.ReadFault) ⊎ ((fault ≡ stops.NoMemory) × IsFalse ended)
 
-pub either_fault : {T : Type 0} (result : Result T ScriptFault) (fault : ScriptFault) → result ≡ Err fault → (result ≡ Err stops.ReadFault) ⊎ (result ≡ Err stops.NoMemory) → (fault ≡ stops.ReadFault) ⊎ (fault ≡ stops.NoMemory)
-either_fault result fault same (inl is) = inl (cc)
-either_fault result fault same (inr is) = inr (cc)
+-- then nothing was written
+nothing_ran : (T : Type 0) (script : List ℕ) (ended : Bool) (known : Option (List ℕ)) (fault : ScriptFault) (result : Result T ScriptFault) → IsErrAnd result (λ told. told ≡ fault) → IsEarly ended fault → (t : List ℕ) × Ran script ended result t × Appends known known t
+nothing_ran T script ended known fault (Ok done) told why = absurd told
+nothing_ran T script ended known fault (Err same) told (inl read) = ([], rw (told, read) refl, none_appended known)
+nothing_ran T script ended known fault (Err same) told (inr missed) = ([], rw (told, missed.0, missed.1) refl, none_appended known)
 
-pub known_ran : (T : Type 0) (remaining known : Option (List ℕ)) (fault : ScriptFault) (result : Result T ScriptFault) → IsErrAnd result (λ told. told ≡ fault) → (fault ≡ stops.ReadFault) ⊎ (fault ≡ stops.NoMemory) → IfSome remaining (λ script. (t : List ℕ) × Ran script result t × Appends known known t)
-known_ran T None known fault result told why = tt
-known_ran T (Some script) known fault result told why = nothing_ran T script known fault result told why
+pub early_fault : {T : Type 0} (result : Result T ScriptFault) (fault : ScriptFault) (ended : Bool) → result ≡ Err fault → (result ≡ Err stops.ReadFault) ⊎ (result ≡ Err stops.NoMemory) → (result ≡ Err stops.NoMemory → IsFalse ended) → IsEarly ended fault
+early_fault result fault ended same (inl is) unseen = inl (cc)
+early_fault result fault ended same (inr is) unseen = inr (cc, unseen is)
+
+pub known_ran : (T : Type 0) (remaining known : Option (List ℕ)) (ended : Bool) (fault : ScriptFault) (result : Result T ScriptFault) → IsErrAnd result (λ told. told ≡ fault) → IsEarly ended fault → IfSome remaining (λ script. (t : List ℕ) × Ran script ended result t × Appends known known t)
+known_ran T None known ended fault result told why = tt
+known_ran T (Some script) known ended fault result told why = nothing_ran T script ended known fault result told why
+
+-- ---- behind the end
+
+-- what the lines were answered is what was run, where the script was read to its end
+answered_ran : {T : Type 0} (script : List ℕ) (ended : Bool) (result : Result T ScriptFault) (text : List ℕ) → IsTrue ended → result ≢ Err stops.ReadFault → Answered (lines script) result text → Ran script ended result text
+answered_ran script ended (Ok done) text seen read is = is
+answered_ran script ended (Err (stops.LineFault line kind)) text seen read is = is
+answered_ran script ended (Err stops.WriteFault) text seen read is = is
+answered_ran script ended (Err stops.NoMemory) text seen read is = rw seen is
+answered_ran script ended (Err stops.ReadFault) text seen read is = absurd (read refl)
+
+pub whole_ran : {T : Type 0} (remaining rest old new : Option (List ℕ)) (script : List ℕ) (ended : Bool) (result : Result T ScriptFault) → Consumes remaining rest script → IsAtEnd rest → IsTrue ended → result ≢ Err stops.ReadFault
+    → (t : List ℕ) × Answered (lines script) result t × Appends old new t → IfSome remaining (λ all. (t : List ℕ) × Ran all ended result t × Appends old new t)
+whole_ran None rest old new script ended result taken end seen read ran = tt
+whole_ran (Some all) None old new script ended result taken end seen read ran = absurd taken
+whole_ran (Some all) (Some rest) old new script ended result taken end seen read ran =
+    let same : all ≡ script = taken ∙ ap (λ (t : List ℕ). script ++ t) end ∙ append-nil script in
+    (ran.0, subst (λ (t : List ℕ). Ran t ended result ran.0) (sym same) (answered_ran script ended result ran.0 seen read ran.1), ran.2)
 
 -- ---- an answered event as the answer to its line
 

@@ -11,8 +11,7 @@ use Rattle.capscript.specs.declared.command.Command.{Command}
 use Rattle.capscript.specs.declared.command.Command.TheVariants as commands
 use Rattle.capscript.specs.declared.fault.LineFault.{LineFault}
 use Rattle.capscript.specs.declared.fault.LineFault.TheVariants as faults
-use Rattle.capscript.specs.declared.line.TheConstants.{MAX_LINE}
-use Rattle.capscript.specs.Lines.{is_skipped}
+use Rattle.capscript.specs.Lines.{is_skipped, longest_line}
 use Rattle.capscript.specs.Values.{number_in, client_in, ino_in, mode_in, groups_in}
 use Rattle.capscript.specs.Words.{parts, command_in}
 
@@ -84,7 +83,7 @@ abbrev pub said_by : ℕ → List (List ℕ) → Line
 said_by size [] = Faulty faults.Command
 said_by size (word ∷ arguments) = do
   command ← command_in word
-  if nat_le size MAX_LINE then said_with command arguments else Faulty faults.Count
+  if nat_le size longest_line then said_with command arguments else Faulty faults.Count
 
 -- what a line says that is not skipped
 abbrev pub said_in : List ℕ → Line

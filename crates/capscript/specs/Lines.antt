@@ -2,6 +2,14 @@
 use Rattle.std.specs.Prelude.{◌==◌, ℕ, Bool, true, List, [], ◌∷◌}
 use Rattle.std.specs.List.{slice_split}
 
+-- how many bytes a script may have
+abbrev pub longest_script : ℕ
+longest_script = 16777216
+
+-- how many bytes a line may have that is not skipped, without its line feed
+abbrev pub longest_line : ℕ
+longest_line = 65536
+
 abbrev pub is_line_feed : ℕ → Bool
 is_line_feed b = b == 10
 

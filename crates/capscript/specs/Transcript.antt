@@ -1,5 +1,5 @@
 -- What a run over a script writes.
-use Rattle.std.specs.Prelude.{◌≡◌, ◌+◌, ◌⊎◌, ℕ, not, List, [], ◌∷◌, ◌++◌, Result, Ok, Err, length, map, filter, codes, IsTrue}
+use Rattle.std.specs.Prelude.{◌≡◌, ◌+◌, ◌⊎◌, ℕ, Bool, false, not, List, [], ◌∷◌, ◌++◌, Result, Ok, Err, length, map, filter, codes, IsTrue}
 use Rattle.std.specs.List.{AllByRecursion, flat_map}
 use Rattle.capbits.specs.declared.ids.PassId.{PassId}
 use Rattle.capgrant.specs.declared.access.Attr.{Attr}
@@ -82,11 +82,12 @@ Answered script (Err stops.WriteFault) text = IsBeginning script text
 Answered script (Err stops.NoMemory) text = StopsAtEvent script text
 Answered script (Err stops.ReadFault) text = ⊥
 
--- what was written, by how the run over the script ended: before the first line, by a fault of reading or for want of memory, or behind it
-abbrev pub Ran : {T : Type 0} → List ℕ → Result T ScriptFault → List ℕ → Type 0
-Ran script (Err stops.ReadFault) text = text ≡ []
-Ran script (Err stops.NoMemory) text = (text ≡ []) ⊎ StopsAtEvent (lines script) text
-Ran script result text = Answered (lines script) result text
+-- What was written, by whether the script was read to its end and by how the run over it ended. Nothing is answered before all is read; so
+-- where reading failed, or memory was missed on the way to the end, nothing was written.
+abbrev pub Ran : {T : Type 0} → List ℕ → Bool → Result T ScriptFault → List ℕ → Type 0
+Ran script ended (Err stops.ReadFault) text = text ≡ []
+Ran script false (Err stops.NoMemory) text = text ≡ []
+Ran script ended result text = Answered (lines script) result text
 
 -- ---- one event
 

@@ -1,25 +1,8 @@
 //! Why a script stopped.
 
 use capspec::{SpecFault, SpecFaultKind};
-use std::alloc::{AllocError, AllocFailed};
+use std::alloc::AllocError;
 use thiserror::Error;
-
-/// No memory was left.
-#[derive(Clone, Copy, Debug, PartialEq, Eq, Error)]
-#[error("no memory")]
-pub struct NoMemory;
-
-impl From<AllocError> for NoMemory {
-    fn from(_refused: AllocError) -> Self {
-        NoMemory
-    }
-}
-
-impl<T: Drop> From<AllocFailed<T>> for NoMemory {
-    fn from(_failed: AllocFailed<T>) -> Self {
-        NoMemory
-    }
-}
 
 /// What is wrong with a line. It prints as the name of its kind; that of a grant text has the fault of the text behind it.
 #[derive(Clone, Copy, Debug, PartialEq, Eq, Error)]
@@ -97,13 +80,13 @@ impl From<SpecFault> for Refused {
     }
 }
 
-impl From<lockmachine::NoMemory> for Refused {
+impl From<AllocError> for Refused {
     ghost use Rattle.std.specs.Prelude.{◌≡◌};
     ghost use Rattle.capscript.specs.declared.fault.Refused.TheVariants as refusals;
 
     ghost from_gives = { λ _ refused. refused ≡ refusals.NoMemory };
 
-    fn from(_missing: lockmachine::NoMemory) -> Self {
+    fn from(_missing: AllocError) -> Self {
         Refused::NoMemory
     }
 }

@@ -2,7 +2,8 @@
 ghost use Rattle.std.specs.Prelude.{◌≡◌, ◌⊎◌, ◌↔◌, ◌+◌, ◌<◌, ◌≤◌, ◌++◌, ℕ, List, length, IsTrue, IsFalse, IfOk, IfSome, OnOk, OnErr, Err};
 ghost use Rattle.std.specs.Io.KnownBytes.{Appends, Consumes, IsAtEnd};
 ghost use Rattle.capscript.specs.declared.fault.ScriptFault.TheVariants as stops;
-ghost use Rattle.capscript.specs.Watched.{inner_of, has_failed};
+ghost use Rattle.capscript.specs.Lines.{longest_script};
+ghost use Rattle.capscript.specs.Watched.{inner_of, has_failed, has_ended};
 
 use crate::fault::ScriptFault;
 use crate::watched::Watched;
@@ -20,23 +21,27 @@ pub(crate) fn read_script<R: Read>(
     alloc: Global,
     reader: &mut Watched<R>,
 ) -> Result<Vec<u8>, ScriptFault>
-    requires { IsFalse (has_failed reader.old) }
+    requires clear { IsFalse (has_failed reader.old) }
+    requires unended { IsFalse (has_ended reader.old) }
     ensures ok { IfOk result (λ script.
         Consumes (R.remaining (inner_of reader.old)) (R.remaining (inner_of reader.new)) script.items) }
     ensures end { OnOk result (IsAtEnd (R.remaining (inner_of reader.new))) }
-    ensures short { IfOk result (λ script. length script.items ≤ MAX_SCRIPT) }
+    // Its end was seen, and where memory was missed, it was not.
+    ensures seen { OnOk result (IsTrue (has_ended reader.new)) }
+    ensures unseen { result ≡ Err stops.NoMemory → IsFalse (has_ended reader.new) }
+    ensures short { IfOk result (λ script. length script.items ≤ longest_script) }
     ensures taken { (taken : List ℕ)
         × Consumes (R.remaining (inner_of reader.old)) (R.remaining (inner_of reader.new)) taken
-        × (length taken ≤ MAX_SCRIPT + 1) }
+        × (length taken ≤ longest_script + 1) }
     // A read that failed is told.
     ensures told { IsTrue (has_failed reader.new) → result ≡ Err stops.ReadFault }
     // A script that is too long is never read; memory may run out on the way to its end.
-    ensures long { IfSome (R.remaining (inner_of reader.old)) (λ script. MAX_SCRIPT < length script
+    ensures long { IfSome (R.remaining (inner_of reader.old)) (λ script. longest_script < length script
         → (result ≡ Err stops.ReadFault) ⊎ (result ≡ Err stops.NoMemory)) }
     // Where it is not too long, a read failed.
     ensures fault { result ≡ Err stops.ReadFault
         → IsTrue (has_failed reader.new)
-        ⊎ IfSome (R.remaining (inner_of reader.old)) (λ script. MAX_SCRIPT < length script) }
+        ⊎ IfSome (R.remaining (inner_of reader.old)) (λ script. longest_script < length script) }
     ensures err { OnErr result ((result ≡ Err stops.ReadFault) ⊎ (result ≡ Err stops.NoMemory)) }
 {
     let mut script = Vec::new(alloc);

@@ -13,7 +13,7 @@ mod values;
 mod watched;
 mod words;
 
-pub use fault::{LineFault, NoMemory, ScriptFault};
+pub use fault::{LineFault, ScriptFault};
 pub use input::MAX_SCRIPT;
 pub use line::{MAX_LINE, read_line};
 pub use reply::reply_lines;

@@ -3,15 +3,15 @@ ghost use Rattle.std.specs.Prelude.{◌≡◌, ◌++◌, OnOk};
 ghost use Rattle.std.specs.List.{flat_map};
 ghost use Rattle.capscript.specs.PartTexts.{attr_text, attribute_text, byte_text, mode_text, values_text};
 
-use crate::fault::NoMemory;
 use crate::reply::print;
 use capbits::Mode;
 use capcore::PartValues;
 use capgrant::Attr;
 use inotree::Attributes;
+use std::alloc::AllocError;
 
 // Appends what an inode keeps of a part.
-pub(crate) fn print_values(text: &mut Vec<u8>, values: &PartValues) -> Result<(), NoMemory>
+pub(crate) fn print_values(text: &mut Vec<u8>, values: &PartValues) -> Result<(), AllocError>
     ensures { OnOk result (text.new.items ≡ text.old.items ++ values_text values.now) }
 {
     match values {
@@ -22,7 +22,7 @@ pub(crate) fn print_values(text: &mut Vec<u8>, values: &PartValues) -> Result<()
     }
 }
 
-fn print_attr(text: &mut Vec<u8>, attr: &Attr) -> Result<(), NoMemory>
+fn print_attr(text: &mut Vec<u8>, attr: &Attr) -> Result<(), AllocError>
     ensures { OnOk result (text.new.items ≡ text.old.items ++ attr_text attr.now) }
 {
     let Attr { uid, gid, mode } = *attr;
@@ -31,7 +31,7 @@ fn print_attr(text: &mut Vec<u8>, attr: &Attr) -> Result<(), NoMemory>
 }
 
 // The four octal digits.
-fn print_mode(text: &mut Vec<u8>, mode: Mode) -> Result<(), NoMemory>
+fn print_mode(text: &mut Vec<u8>, mode: Mode) -> Result<(), AllocError>
     ensures { OnOk result (text.new.items ≡ text.old.items ++ mode_text mode) }
 {
     let bits = mode.bits();
@@ -39,7 +39,7 @@ fn print_mode(text: &mut Vec<u8>, mode: Mode) -> Result<(), NoMemory>
     print(text, format_args!("{first}{second}{third}{fourth}"))
 }
 
-fn print_attributes(text: &mut Vec<u8>, attributes: &Attributes) -> Result<(), NoMemory>
+fn print_attributes(text: &mut Vec<u8>, attributes: &Attributes) -> Result<(), AllocError>
     ensures { OnOk result (text.new.items ≡ text.old.items ++ values_text (PartValues.Xattr attributes.now)) }
 {
     let count = attributes.len();
@@ -50,7 +50,7 @@ fn print_attributes(text: &mut Vec<u8>, attributes: &Attributes) -> Result<(), N
     Ok(())
 }
 
-fn print_attribute(text: &mut Vec<u8>, name: &[u8], value: &[u8]) -> Result<(), NoMemory>
+fn print_attribute(text: &mut Vec<u8>, name: &[u8], value: &[u8]) -> Result<(), AllocError>
     ensures { OnOk result (text.new.items ≡ text.old.items ++ attribute_text (name.now, value.now)) }
 {
     text.push(b' ')?;
@@ -59,7 +59,7 @@ fn print_attribute(text: &mut Vec<u8>, name: &[u8], value: &[u8]) -> Result<(), 
     print_bytes(text, value)
 }
 
-fn print_bytes(text: &mut Vec<u8>, bytes: &[u8]) -> Result<(), NoMemory>
+fn print_bytes(text: &mut Vec<u8>, bytes: &[u8]) -> Result<(), AllocError>
     ensures { OnOk result (text.new.items ≡ text.old.items ++ flat_map byte_text bytes.now) }
 {
     for byte in bytes {
@@ -69,7 +69,7 @@ fn print_bytes(text: &mut Vec<u8>, bytes: &[u8]) -> Result<(), NoMemory>
 }
 
 // Two hexadecimal digits.
-fn print_byte(text: &mut Vec<u8>, byte: u8) -> Result<(), NoMemory>
+fn print_byte(text: &mut Vec<u8>, byte: u8) -> Result<(), AllocError>
     ensures { OnOk result (text.new.items ≡ text.old.items ++ byte_text byte) }
 {
     print(text, format_args!("{byte:02x}"))

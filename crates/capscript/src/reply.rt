@@ -2,17 +2,16 @@
 ghost use Rattle.std.specs.Prelude.{◌≡◌, ◌++◌, IfOk, IfSome, OnOk};
 ghost use Rattle.capscript.specs.Replies.{reply_text, rules_text, rule_text};
 
-use crate::fault::NoMemory;
 use crate::part_text::print_values;
 use capbits::write_caps;
 use capcore::Reply;
 use capgrant::Rule;
-use std::alloc::Global;
+use std::alloc::{AllocError, Global};
 use std::fmt::Display;
 use std::io::Write;
 
 /// The text of a reply: one line, with its line feed.
-pub fn reply_lines(alloc: Global, reply: &Reply) -> Result<Vec<u8>, NoMemory>
+pub fn reply_lines(alloc: Global, reply: &Reply) -> Result<Vec<u8>, AllocError>
     ensures { IfOk result (λ text. text.items ≡ reply_text reply.now) }
 {
     let mut text = Vec::new(alloc);
@@ -40,14 +39,14 @@ pub fn reply_lines(alloc: Global, reply: &Reply) -> Result<Vec<u8>, NoMemory>
 }
 
 // Appends what a value prints. Only memory can be missing.
-pub(crate) fn print<D: Display + Drop>(text: &mut Vec<u8>, more: D) -> Result<(), NoMemory>
+pub(crate) fn print<D: Display + Drop>(text: &mut Vec<u8>, more: D) -> Result<(), AllocError>
     ensures { OnOk result (IfSome (D.output more) (λ bytes. text.new.items ≡ text.old.items ++ bytes)) }
 {
-    text.write_fmt(more).map_err(|_| NoMemory)
+    text.write_fmt(more).map_err(|_| AllocError)
 }
 
 // The rules by which the grants fail, each behind the number of its grant, from 1.
-fn print_rules(text: &mut Vec<u8>, rules: &[Rule]) -> Result<(), NoMemory>
+fn print_rules(text: &mut Vec<u8>, rules: &[Rule]) -> Result<(), AllocError>
     ensures { OnOk result (text.new.items ≡ text.old.items ++ rules_text rules.now) }
 {
     if rules.is_empty() {
@@ -62,7 +61,7 @@ fn print_rules(text: &mut Vec<u8>, rules: &[Rule]) -> Result<(), NoMemory>
     Ok(())
 }
 
-fn print_rule(text: &mut Vec<u8>, grant: usize, rule: Rule) -> Result<(), NoMemory>
+fn print_rule(text: &mut Vec<u8>, grant: usize, rule: Rule) -> Result<(), AllocError>
     ensures { OnOk result (text.new.items ≡ text.old.items ++ rule_text (grant, rule)) }
 {
     let rule = rule.number();

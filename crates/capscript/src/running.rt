@@ -4,12 +4,12 @@ ghost use Rattle.std.specs.Io.KnownBytes.{Keeps, Appends, Consumes};
 ghost use Rattle.inotree.specs.Calls.{first_tree};
 ghost use Rattle.capcore.specs.History.{IsOpening};
 ghost use Rattle.capscript.specs.declared.fault.ScriptFault.TheVariants as stops;
-ghost use Rattle.capscript.specs.Lines.{lines};
+ghost use Rattle.capscript.specs.Lines.{lines, longest_script};
 ghost use Rattle.capscript.specs.Transcript.{Ran, Answered, Answers, AnswersLine, StopsIn, fs_name, root_attr};
-ghost use Rattle.capscript.specs.Watched.{inner_of, has_failed};
+ghost use Rattle.capscript.specs.Watched.{inner_of, has_failed, has_ended};
 
 use crate::fault::ScriptFault;
-use crate::input::{MAX_SCRIPT, read_script, write_text};
+use crate::input::{read_script, write_text};
 use crate::line::read_line;
 use crate::reply::reply_lines;
 use crate::watched::Watched;
@@ -35,31 +35,32 @@ pub fn run<R: Read, W: Write>(
     writer: &mut Watched<W>,
 ) -> Result<(), ScriptFault>
     requires reader_clear { IsFalse (has_failed reader.old) }
+    requires reader_unended { IsFalse (has_ended reader.old) }
     requires writer_clear { IsFalse (has_failed writer.old) }
-    // What was written, where it is known what there was to read. It ends at the first line that has a fault; memory is missed before the
-    // first line, or at one that says an event.
+    // What was written, where it is known what there was to read. It ends at the first line that has a fault; where the script was read
+    // to its end, memory is missed at a line that says an event alone.
     ensures ran { IfSome (R.remaining (inner_of reader.old)) (λ script. (text : List ℕ)
-        × Ran script result text
+        × Ran script (has_ended reader.new) result text
         × Appends (W.contents (inner_of writer.old)) (W.contents (inner_of writer.new)) text) }
     // A read that failed is told, and then nothing was written.
     ensures read_told { IsTrue (has_failed reader.new) → result ≡ Err stops.ReadFault }
     // A script that is too long is not run; memory may run out on the way to its end.
-    ensures long { IfSome (R.remaining (inner_of reader.old)) (λ script. MAX_SCRIPT < length script
+    ensures long { IfSome (R.remaining (inner_of reader.old)) (λ script. longest_script < length script
         → (result ≡ Err stops.ReadFault) ⊎ (result ≡ Err stops.NoMemory)) }
     // Only a read that failed and a script that is too long are told of.
     ensures read { result ≡ Err stops.ReadFault
         → (IsTrue (has_failed reader.new)
-        ⊎ IfSome (R.remaining (inner_of reader.old)) (λ script. MAX_SCRIPT < length script))
+        ⊎ IfSome (R.remaining (inner_of reader.old)) (λ script. longest_script < length script))
         × Appends (W.contents (inner_of writer.old)) (W.contents (inner_of writer.new)) [] }
     // A write that failed is told, and only that.
     ensures written { (result ≡ Err stops.WriteFault) ↔ IsTrue (has_failed writer.new) }
     // At most one byte too many is taken from the reader.
     ensures taken { (taken : List ℕ)
         × Consumes (R.remaining (inner_of reader.old)) (R.remaining (inner_of reader.new)) taken
-        × (length taken ≤ MAX_SCRIPT + 1) }
+        × (length taken ≤ longest_script + 1) }
 {
-    let script = read_script(alloc, reader)?;
     let mut core = open_core(alloc)?;
+    let script = read_script(alloc, reader)?;
     answer_lines(alloc, &mut core, script.as_slice(), writer)
 }
 
@@ -97,7 +98,7 @@ fn answer_lines<W: Write>(
     requires opens { IsOpening fs_name (first_tree root_attr) core.old.state }
     requires empty { core.old.rows ≡ [] }
     requires room { core.old.max_rows ≡ u32.MAX }
-    requires short { length script.now ≤ MAX_SCRIPT }
+    requires short { length script.now ≤ longest_script }
     requires clear { IsFalse (has_failed writer.old) }
     ensures ran { (text : List ℕ)
         × Answered (lines script.now) result text

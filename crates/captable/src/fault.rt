@@ -2,21 +2,9 @@
 ghost use Rattle.std.specs.Prelude.{Some};
 ghost use Rattle.captable.specs.Faults.{text_of_ack_fault};
 
-use std::alloc::AllocError;
 use std::error::Error;
 use std::fmt;
 use thiserror::Error;
-
-/// There was no memory left.
-#[derive(Clone, Copy, Debug, PartialEq, Eq, Error)]
-#[error("NoMemory")]
-pub struct NoMemory;
-
-impl From<AllocError> for NoMemory {
-    fn from(_refused: AllocError) -> NoMemory {
-        NoMemory
-    }
-}
 
 /// Why no entry was made.
 #[derive(Clone, Copy, Debug, PartialEq, Eq, Error)]

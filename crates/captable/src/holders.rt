@@ -2,7 +2,7 @@
 ghost use Rattle.std.specs.Prelude.{◌≡◌, IfOk, length, take};
 
 use crate::entry::Holder;
-use crate::fault::NoMemory;
+use std::alloc::AllocError;
 use std::marker::Model;
 
 /// A list of holders.
@@ -51,7 +51,7 @@ impl Holders {
 }
 
 // A copy of the first `n` of these.
-pub(crate) fn first_of(holders: &Vec<Holder>, n: u32) -> Result<Holders, NoMemory>
+pub(crate) fn first_of(holders: &Vec<Holder>, n: u32) -> Result<Holders, AllocError>
     ensures { IfOk result (λ named. named ≡ take n holders.now.items) }
 {
     let count = (n as usize).min(holders.len());

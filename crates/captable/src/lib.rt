@@ -12,7 +12,7 @@ mod table;
 mod walk;
 
 pub use entry::{Entry, EntryRow, Holder};
-pub use fault::{AckFault, NoMemory, OpenFault, ReleaseFault};
+pub use fault::{AckFault, OpenFault, ReleaseFault};
 pub use holders::Holders;
 pub use laws::{
     a_change_is_of_one_holder, a_drop_is_of_one_client, a_recall_is_of_the_first,

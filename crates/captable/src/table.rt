@@ -3,7 +3,7 @@ ghost use Rattle.std.specs.Prelude.{◌≡◌, ◌<◌, ◌^◌, ◌-◌, IfSome
 ghost use Rattle.std.specs.Result.{result_err};
 
 use crate::entry::{Entry, EntryRow, Holder};
-use crate::fault::{AckFault, NoMemory, OpenFault, ReleaseFault};
+use crate::fault::{AckFault, OpenFault, ReleaseFault};
 use crate::holders::{Holders, first_of};
 use crate::rows::{
     ask_all, drop_holder, drop_holders_of, drop_row, drop_rows_of, holder_at, holder_place,
@@ -49,7 +49,7 @@ impl CapTable {
     ghost use Rattle.captable.specs.Calls.{opened, open_fault, changed, wanting, issued, taken, renumbered, told, with_asked, ack_fault, release_fault, released, without, without_client, newer_in, touched, recalled, is_of_client, is_of_inode};
 
     /// A table without entries, of which none was made yet. No clause can say that the memory for it is there.
-    pub fn new(alloc: Global) -> Result<CapTable, NoMemory>
+    pub fn new(alloc: Global) -> Result<CapTable, AllocError>
         ensures { IfOk result (λ table. table ≡ words.empty) }
     {
         Ok(CapTable {
@@ -284,7 +284,7 @@ impl CapTable {
 
     /// Marks the first `n` entries in the order of recall as asked for capabilities, and answers whose they are, in this
     /// order; all of them if there are fewer. It moves none. For want of memory nothing changes.
-    pub fn recall(&mut self, n: u32) -> Result<Holders, NoMemory>
+    pub fn recall(&mut self, n: u32) -> Result<Holders, AllocError>
         ensures named { IfOk result (λ named. named ≡ take n self.old.recall) }
         ensures ok { OnOk result (self.new ≡ recalled self.old n) }
         ensures err { OnErr result (self.new ≡ self.old) }

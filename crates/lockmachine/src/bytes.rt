@@ -1,8 +1,7 @@
 //! Bytes that a client sent: a name, or the value of an attribute.
 ghost use Rattle.std.specs.Prelude.{◌≡◌, IfOk};
 
-use crate::fault::NoMemory;
-use std::alloc::Global;
+use std::alloc::{AllocError, Global};
 use std::marker::Model;
 
 /// Any number of any bytes. Whether they can be a name is for the tree to say.
@@ -21,7 +20,7 @@ impl Model for Bytes {
 
 impl Bytes {
     /// These bytes.
-    pub fn read(alloc: Global, bytes: &[u8]) -> Result<Bytes, NoMemory>
+    pub fn read(alloc: Global, bytes: &[u8]) -> Result<Bytes, AllocError>
         ensures { IfOk result (λ read. read ≡ bytes.now) }
     {
         let bytes = Vec::from_slice(alloc, bytes)?;

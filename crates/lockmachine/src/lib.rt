@@ -4,7 +4,6 @@
 #![tactic(auto)]
 
 mod bytes;
-mod fault;
 mod laws;
 mod locks;
 mod moves;
@@ -12,7 +11,6 @@ mod request;
 mod states;
 
 pub use bytes::Bytes;
-pub use fault::NoMemory;
 pub use laws::{
     a_new_request_keeps_the_order, a_number_finds_its_request, a_number_takes_its_request,
     at_rest_is_settled, moves_keep_the_order, nothing_wanted_is_settled, settled_is_at_rest,

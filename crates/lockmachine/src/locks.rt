@@ -2,12 +2,11 @@
 ghost use Rattle.std.specs.Prelude.{◌≡◌, IfOk, OnOk, OnErr};
 ghost use Rattle.lockmachine.specs.Locks as words;
 
-use crate::fault::NoMemory;
 use crate::request::Request;
 use crate::states::{InodeLocks, States};
 use capbits::{Ino, Part};
 use locktable::LockState;
-use std::alloc::Global;
+use std::alloc::{AllocError, Global};
 use std::marker::Model;
 
 /// The locks of all inodes, and the requests that wait for them.
@@ -35,7 +34,7 @@ impl Model for Locks {
 
 impl Locks {
     /// No locks, and nobody waits.
-    pub fn new(alloc: Global) -> Result<Locks, NoMemory>
+    pub fn new(alloc: Global) -> Result<Locks, AllocError>
         ensures { IfOk result (λ locks. locks ≡ words.no_locks) }
     {
         Ok(Locks {
@@ -46,7 +45,7 @@ impl Locks {
     }
 
     /// Adds the locks of a new inode, each stable in SYNC. For want of memory nothing changes.
-    pub fn add_ino(&mut self, ino: Ino) -> Result<(), NoMemory>
+    pub fn add_ino(&mut self, ino: Ino) -> Result<(), AllocError>
         ensures ok { OnOk result (self.new ≡ words.with_ino self.old ino.0) }
         ensures err { OnErr result (self.new ≡ self.old) }
     {

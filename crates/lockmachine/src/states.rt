@@ -4,10 +4,9 @@ ghost use Rattle.std.specs.Option.{option_copied};
 ghost use Rattle.std.specs.FinMap as map;
 ghost use Rattle.lockmachine.specs.Inodes as words;
 
-use crate::fault::NoMemory;
 use capbits::{Ino, Part};
 use locktable::{LockState, State};
-use std::alloc::Global;
+use std::alloc::{AllocError, Global};
 use std::collections::BTreeMap;
 use std::marker::Model;
 
@@ -88,7 +87,7 @@ impl States {
     }
 
     // Gives an inode these locks.
-    pub(crate) fn insert(&mut self, ino: Ino, locks: InodeLocks) -> Result<(), NoMemory>
+    pub(crate) fn insert(&mut self, ino: Ino, locks: InodeLocks) -> Result<(), AllocError>
         ensures ok { OnOk result (self.new ≡ map.insert self.old ino.0 locks) }
         ensures err { OnErr result (self.new ≡ self.old) }
     {

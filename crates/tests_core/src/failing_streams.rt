@@ -99,6 +99,28 @@ fn a_clear_flag_stays_clear(rt: HostRuntime) {
     same(&rt, flush_once(&mut writer), (true, false), "flush");
 }
 
+// Reads once into so much room: whether the reader came to its end.
+fn ends_with<R: Read>(reader: &mut Watched<R>, room: usize) -> bool {
+    let mut buffer = [0; 4];
+    let _ = reader.read(&mut buffer[..room.min(4)]);
+    reader.ended()
+}
+
+#[test]
+fn a_flag_tells_of_the_end(rt: HostRuntime) {
+    let mut reader = Watched::new(b"ab".as_slice());
+    for (nth, room, wanted) in [
+        (1, 0, false),
+        (2, 4, false),
+        (3, 0, false),
+        (4, 1, true),
+        (5, 0, true),
+    ] {
+        same(&rt, &ends_with(&mut reader, room), &wanted, nth);
+    }
+    same(&rt, &ends_with(&mut watched_shaky(), 4), &false, "shaky");
+}
+
 // Gives so many bytes at a time, and fails once it was read so often.
 #[derive(Drop)]
 struct Failing<'a> {

@@ -1,10 +1,10 @@
 //! Worked runs: inodes that come and go with their locks, and what is kept beside them.
 
-use crate::asserting::{same, same_bytes, same_text};
+use crate::asserting::{same, same_bytes};
 use capbits::{ClientId, Ino, Part};
-use lockmachine::{Bytes, InodeLocks, Locks, NoMemory};
+use lockmachine::{Bytes, InodeLocks, Locks};
 use locktable::{LockState, State};
-use std::alloc::Global;
+use std::alloc::{AllocError, Global};
 use std::process::Abort;
 use std::test::Fail;
 
@@ -23,7 +23,7 @@ fn made(alloc: Global) -> Result<Locks, Fail> {
     Ok(Locks::new(alloc)?)
 }
 
-fn take(locks: &mut Locks, step: Step) -> Result<(), NoMemory> {
+fn take(locks: &mut Locks, step: Step) -> Result<(), AllocError> {
     match step {
         Add(ino) => locks.add_ino(Ino(ino)),
         Drop(ino) => {
@@ -130,12 +130,5 @@ fn bytes_are_made_of_a_vector_and_give_one_back(rt: HostRuntime) -> Result<(), F
         same_bytes(&rt, made.as_slice(), bytes, bytes);
         same_bytes(&rt, made.into_inner().as_slice(), bytes, bytes);
     }
-    Ok(())
-}
-
-#[test]
-fn want_of_memory_has_a_name(rt: HostRuntime) -> Result<(), Fail> {
-    let text = format!(in rt.alloc(); "{NoMemory}")?;
-    same_text(&rt, text.as_str(), "NoMemory", "want of memory");
     Ok(())
 }

@@ -11,7 +11,8 @@ loop-buffer-init g c = record {
   taken = rw c.new-script.ensures.items (none_consumed (g.R.Read.remaining (inner_of c.args.reader.now)));
   few = omega (arith, c.new-script.ensures.len);
   room = refl;
-  clear = c.requires;
+  clear = c.requires.clear;
+  unended = c.requires.unended;
 }
 
 pub returns-in-Err-clause-taken : goal.returns-in-Err-clause-taken
@@ -44,6 +45,9 @@ returns-then-is_err-clause-taken g c =
       omega (arith, length-append items chunk, c.in-Ok.ensures.bound.0, c.in-Ok.ensures.bound.1, c.read.auto.buf, length-take c.min-room.result c.loop-buffer.buffer, c.min-room.ensures, c.len-in-loop-buffer.ensures, c.loop-buffer.script.ok.0),
     )
 
+pub returns-then-is_err-clause-unseen : goal.returns-then-is_err-clause-unseen
+returns-then-is_err-clause-unseen g c missed = still_clear _ _ c.in-Ok.ensures.ended (λ end. let none : c.in-Ok.taken ≡ 0 = cc in absurd (omega (arith, none))) c.loop-buffer.invariant.unended
+
 pub loop-buffer-smaller : goal.loop-buffer-smaller
 loop-buffer-smaller g c =
     let items = c.loop-buffer.script.items in
@@ -62,6 +66,7 @@ loop-buffer-preserved g c =
       few = omega (arith, ap length pushed, length-append items chunk, c.in-Ok.ensures.bound.0, c.in-Ok.ensures.bound.1, c.read.auto.buf, length-take c.min-room.result c.loop-buffer.buffer, c.min-room.ensures, c.len-in-loop-buffer.ensures, c.loop-buffer.script.ok.0);
       room = omega (arith, length-append c.read.new.buf (drop c.min-room.result c.loop-buffer.buffer), length-drop c.min-room.result c.loop-buffer.buffer, length-take c.min-room.result c.loop-buffer.buffer, c.read.auto.buf, c.min-room.ensures, c.loop-buffer.invariant.room);
       clear = still_clear _ _ c.in-Ok.ensures.flag (λ bad. false≢true bad) c.loop-buffer.invariant.clear;
+      unended = still_clear _ _ c.in-Ok.ensures.ended (λ end. let none : c.in-Ok.taken ≡ 0 = cc in absurd (omega (arith, none))) c.loop-buffer.invariant.unended;
     }
 
 pub returns-clause-taken : goal.returns-clause-taken
