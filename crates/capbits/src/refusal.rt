@@ -2,6 +2,7 @@
 ghost use Rattle.std.specs.Prelude.{Some};
 ghost use Rattle.capbits.specs.Refusal.{refusal_word};
 
+use std::error::Error;
 use std::fmt;
 
 /// Why a request is refused, other than by policy. It has changed nothing. Each prints as its name.
@@ -74,3 +75,5 @@ impl fmt::Display for Refusal {
         })
     }
 }
+
+impl Error for Refusal {}

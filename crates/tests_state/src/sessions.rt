@@ -1,11 +1,10 @@
 //! Worked runs: clients that connect, go stale, leave, are thrown out, and come back.
 
 use crate::asserting::{holds, same, same_text};
-use capbits::{Caller, ClientId, Groups};
+use capbits::{Caller, ClientId, Groups, Refusal};
 use capspec::{Flags4, Grants, SpecFault, read_grants};
-use sessiontab::{EvictFault, MAX_BLOCKED, MAX_SESSIONS, NoMemory, OpenFault, Sessions, Status};
+use sessiontab::{MAX_BLOCKED, MAX_SESSIONS, Sessions, Status};
 use std::alloc::{AllocError, Global};
-use std::fmt::Display;
 use std::process::Abort;
 use std::test::Fail;
 
@@ -34,27 +33,79 @@ fn allow_rw(alloc: Global) -> Result<Grants, SpecFault> {
     read_grants(alloc, b"allow rw")
 }
 
+// ---- the tests of each call, and then the call
+
+fn opened(
+    sessions: &mut Sessions,
+    client: ClientId,
+    caller: Caller,
+    grants: Grants,
+) -> Result<Option<Refusal>, AllocError> {
+    if let Some(refusal) = sessions.open_refusal(client) {
+        return Ok(Some(refusal));
+    }
+    sessions.open_session(client, caller, grants)?;
+    Ok(None)
+}
+
+fn closed(sessions: &mut Sessions, client: ClientId) -> Option<Refusal> {
+    if let Some(refusal) = sessions.close_refusal(client) {
+        return Some(refusal);
+    }
+    sessions.close_session(client);
+    None
+}
+
+fn marked(sessions: &mut Sessions, client: ClientId) -> Option<Refusal> {
+    if let Some(refusal) = sessions.session_refusal(client) {
+        return Some(refusal);
+    }
+    sessions.mark_stale(client);
+    None
+}
+
+fn renewed(sessions: &mut Sessions, client: ClientId) -> Option<Refusal> {
+    if let Some(refusal) = sessions.renew_refusal(client) {
+        return Some(refusal);
+    }
+    sessions.renew(client);
+    None
+}
+
+fn evicted(sessions: &mut Sessions, client: ClientId) -> Result<Option<Refusal>, AllocError> {
+    if let Some(refusal) = sessions.evict_refusal(client) {
+        return Ok(Some(refusal));
+    }
+    sessions.evict(client)?;
+    Ok(None)
+}
+
+fn unblocked(sessions: &mut Sessions, client: ClientId) -> Option<Refusal> {
+    if let Some(refusal) = sessions.unblock_refusal(client) {
+        return Some(refusal);
+    }
+    sessions.unblock(client);
+    None
+}
+
 // `done`, or the text of the refusal.
-fn text_of<E: Display + Drop>(alloc: Global, answer: Result<(), E>) -> Result<String, AllocError> {
-    match answer {
-        Ok(()) => String::from_str(alloc, "done"),
-        Err(refusal) => format!(in alloc; "{refusal}"),
+fn text_of(alloc: Global, refusal: Option<Refusal>) -> Result<String, AllocError> {
+    match refusal {
+        None => String::from_str(alloc, "done"),
+        Some(refusal) => format!(in alloc; "{refusal}"),
     }
 }
 
 fn asked(alloc: Global, sessions: &mut Sessions, ask: Ask) -> Result<String, Fail> {
-    let text = match ask {
-        Open(client) => {
-            let answer = sessions.open_session(ClientId(client), caller(10), allow_rw(alloc)?);
-            text_of(alloc, answer)?
-        }
-        Close(client) => text_of(alloc, sessions.close_session(ClientId(client)))?,
-        Stale(client) => text_of(alloc, sessions.mark_stale(ClientId(client)))?,
-        Renew(client) => text_of(alloc, sessions.renew(ClientId(client)))?,
-        Evict(client) => text_of(alloc, sessions.evict(ClientId(client)))?,
-        Unblock(client) => text_of(alloc, sessions.unblock(ClientId(client)))?,
+    let refusal = match ask {
+        Open(client) => opened(sessions, ClientId(client), caller(10), allow_rw(alloc)?)?,
+        Close(client) => closed(sessions, ClientId(client)),
+        Stale(client) => marked(sessions, ClientId(client)),
+        Renew(client) => renewed(sessions, ClientId(client)),
+        Evict(client) => evicted(sessions, ClientId(client))?,
+        Unblock(client) => unblocked(sessions, ClientId(client)),
     };
-    Ok(text)
+    Ok(text_of(alloc, refusal)?)
 }
 
 fn made(alloc: Global) -> Result<Sessions, Fail> {
@@ -135,8 +186,8 @@ fn open(
     grants: &[u8],
 ) -> Result<(), Fail> {
     let grants = read_grants(rt.alloc(), grants)?;
-    let answer = sessions.open_session(ClientId(client), caller(uid), grants);
-    same(rt, answer, Ok(()), client);
+    let answer = opened(sessions, ClientId(client), caller(uid), grants)?;
+    same(rt, answer, None, client);
     Ok(())
 }
 
@@ -179,8 +230,8 @@ fn each_client_has_its_own_caller_and_grants(rt: HostRuntime) -> Result<(), Fail
 }
 
 // What a session would be refused for now.
-fn fault_at(sessions: &Sessions, client: u32) -> Option<OpenFault> {
-    sessions.open_fault(ClientId(client))
+fn refusal_at(sessions: &Sessions, client: u32) -> Option<Refusal> {
+    sessions.open_refusal(ClientId(client))
 }
 
 // As many sessions as there may be, of the clients 0 to 63, and client 99 on the blocklist.
@@ -213,16 +264,16 @@ fn sixty_four_sessions_are_the_most(rt: HostRuntime) -> Result<(), Fail> {
         (Open(7), "Limit"),
     ];
     play(&rt, rt.alloc(), &mut sessions, &steps)?;
-    same(&rt, fault_at(&sessions, 7), Some(OpenFault::Limit), 7);
-    same(&rt, fault_at(&sessions, 8), Some(OpenFault::SessionOpen), 8);
+    same(&rt, refusal_at(&sessions, 7), Some(Refusal::Limit), 7);
+    same(&rt, refusal_at(&sessions, 8), Some(Refusal::SessionOpen), 8);
     same(
         &rt,
-        fault_at(&sessions, 99),
-        Some(OpenFault::Blocklisted),
+        refusal_at(&sessions, 99),
+        Some(Refusal::Blocklisted),
         99,
     );
     play(&rt, rt.alloc(), &mut sessions, &[(Close(8), "done")])?;
-    same(&rt, fault_at(&sessions, 7), None, 7);
+    same(&rt, refusal_at(&sessions, 7), None, 7);
     Ok(())
 }
 
@@ -253,24 +304,4 @@ fn a_thousand_and_twenty_four_blocked_clients_are_the_most(rt: HostRuntime) -> R
         (Evict(512), "Limit"),
     ];
     play(&rt, rt.alloc(), &mut sessions, &steps)
-}
-
-// Sees what a refusal prints as.
-fn prints<E: Display + Drop>(
-    rt: &impl Abort,
-    alloc: Global,
-    refusal: E,
-    want: &str,
-) -> Result<(), Fail> {
-    let text = text_of(alloc, Err(refusal))?;
-    same_text(rt, text.as_str(), want, want);
-    Ok(())
-}
-
-#[test]
-fn want_of_memory_has_a_name(rt: HostRuntime) -> Result<(), Fail> {
-    prints(&rt, rt.alloc(), NoMemory, "NoMemory")?;
-    prints(&rt, rt.alloc(), OpenFault::NoMemory, "NoMemory")?;
-    prints(&rt, rt.alloc(), EvictFault::NoMemory, "NoMemory")?;
-    Ok(())
 }

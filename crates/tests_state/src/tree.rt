@@ -3,10 +3,11 @@
 use crate::asserting::{present, same, same_items, same_text};
 use crate::tree_steps::Ask::*;
 use crate::tree_steps::{
-    child, first_attribute, forget, last, path_length, place, play, played, resolved, snap_add,
+    child, first_attribute, forget, last, path_length, place, play, played, refused, resolved,
+    snap_add,
 };
-use capbits::Ino;
-use inotree::{Place, Setting, Tree, TreeFault};
+use capbits::{Ino, Refusal};
+use inotree::{Place, Setting, Tree};
 use std::alloc::Global;
 use std::process::Abort;
 use std::test::Fail;
@@ -16,20 +17,20 @@ fn a_directory_moves_neither_into_itself_nor_over_another(rt: HostRuntime) -> Re
     let steps = [
         (Mkdir(1, b'a'), Ok(2)),
         (Mkdir(2, b'b'), Ok(3)),
-        (Rename(2, 3, b'c'), Err(TreeFault::Loop)),
-        (Rename(2, 2, b'c'), Err(TreeFault::Loop)),
-        (Rename(1, 2, b'z'), Err(TreeFault::Root)),
-        (Rename(3, 2, b'b'), Err(TreeFault::Exists)),
-        (Rmdir(2), Err(TreeFault::NotEmpty)),
-        (Rmdir(1), Err(TreeFault::Root)),
-        (Unlink(2), Err(TreeFault::IsDir)),
+        (Rename(2, 3, b'c'), refused(Refusal::Loop)),
+        (Rename(2, 2, b'c'), refused(Refusal::Loop)),
+        (Rename(1, 2, b'z'), refused(Refusal::Root)),
+        (Rename(3, 2, b'b'), refused(Refusal::Exists)),
+        (Rmdir(2), refused(Refusal::NotEmpty)),
+        (Rmdir(1), refused(Refusal::Root)),
+        (Unlink(2), refused(Refusal::IsDir)),
         (Rename(3, 1, b'b'), Ok(0)),
-        (Mkdir(1, b'b'), Err(TreeFault::Exists)),
+        (Mkdir(1, b'b'), refused(Refusal::Exists)),
         (Rename(2, 3, b'c'), Ok(0)),
         (Mkdir(1, b'a'), Ok(4)),
         (Rmdir(2), Ok(0)),
-        (Rename(3, 2, b'd'), Err(TreeFault::Gone)),
-        (Rename(9, 1, b'd'), Err(TreeFault::NoIno)),
+        (Rename(3, 2, b'd'), refused(Refusal::Gone)),
+        (Rename(9, 1, b'd'), refused(Refusal::NoIno)),
     ];
     played(&rt, rt.alloc(), &steps)?;
     Ok(())
@@ -40,8 +41,8 @@ fn an_inode_moves_only_into_a_directory(rt: HostRuntime) -> Result<(), Fail> {
     let steps = [
         (Create(1, b'f'), Ok(2)),
         (Create(1, b'g'), Ok(3)),
-        (Rename(3, 2, b'h'), Err(TreeFault::NotDir)),
-        (Rename(3, 9, b'h'), Err(TreeFault::NoIno)),
+        (Rename(3, 2, b'h'), refused(Refusal::NotDir)),
+        (Rename(3, 9, b'h'), refused(Refusal::NoIno)),
         (Rename(3, 1, b'h'), Ok(0)),
     ];
     played(&rt, rt.alloc(), &steps)?;
@@ -52,12 +53,12 @@ fn an_inode_moves_only_into_a_directory(rt: HostRuntime) -> Result<(), Fail> {
 fn with_a_stray(rt: &impl Abort, alloc: Global) -> Result<Tree, Fail> {
     let steps = [
         (Create(1, b'f'), Ok(2)),
-        (Create(1, b'f'), Err(TreeFault::Exists)),
-        (Mkdir(2, b'g'), Err(TreeFault::NotDir)),
-        (Rmdir(2), Err(TreeFault::NotDir)),
+        (Create(1, b'f'), refused(Refusal::Exists)),
+        (Mkdir(2, b'g'), refused(Refusal::NotDir)),
+        (Rmdir(2), refused(Refusal::NotDir)),
         (Unlink(2), Ok(0)),
-        (Unlink(2), Err(TreeFault::Gone)),
-        (Set(2, Setting::Uid(5)), Err(TreeFault::Gone)),
+        (Unlink(2), refused(Refusal::Gone)),
+        (Set(2, Setting::Uid(5)), refused(Refusal::Gone)),
     ];
     played(rt, alloc, &steps)
 }
@@ -82,17 +83,17 @@ fn a_directory_with_a_snapshot_is_not_empty(rt: HostRuntime) -> Result<(), Fail>
         (Mkdir(1, b'd'), Ok(2)),
         (Create(1, b'f'), Ok(3)),
         (SnapAdd(2, b's'), Ok(0)),
-        (SnapAdd(2, b's'), Err(TreeFault::Exists)),
-        (SnapAdd(3, b's'), Err(TreeFault::NotDir)),
-        (Rmdir(2), Err(TreeFault::NotEmpty)),
-        (SnapRemove(2, b't'), Err(TreeFault::NoEnt)),
+        (SnapAdd(2, b's'), refused(Refusal::Exists)),
+        (SnapAdd(3, b's'), refused(Refusal::NotDir)),
+        (Rmdir(2), refused(Refusal::NotEmpty)),
+        (SnapRemove(2, b't'), refused(Refusal::NoEnt)),
         (SnapRemove(2, b's'), Ok(0)),
         (Rmdir(2), Ok(0)),
     ];
     let mut tree = played(&rt, rt.alloc(), &steps)?;
     same(&rt, child(&tree, 1, b"e"), None, "the root");
     let dots = snap_add(&mut tree, 1, b"..");
-    same(&rt, dots, Err(TreeFault::NameBad), "the root");
+    same(&rt, dots, refused(Refusal::NameBad), "the root");
     Ok(())
 }
 
@@ -164,7 +165,7 @@ fn a_copy_equals_its_source_and_goes_its_own_way(rt: HostRuntime) -> Result<(), 
         "the copy",
     );
     let steps = [
-        (SnapAdd(2, b's'), Err(TreeFault::Exists)),
+        (SnapAdd(2, b's'), refused(Refusal::Exists)),
         (Create(1, b'f'), Ok(4)),
     ];
     play(&rt, &mut copy, &steps);

@@ -1,10 +1,10 @@
 //! What the tests ask of a tree, and what they read in it.
 
 use crate::asserting::same;
-use capbits::{Ino, Mode};
+use capbits::{Ino, Mode, Refusal};
 use capgrant::Attr;
-use inotree::{Kind, Name, Place, Setting, Tree, TreeFault};
-use std::alloc::Global;
+use inotree::{Kind, Name, Place, Setting, Tree};
+use std::alloc::{AllocError, Global};
 use std::process::Abort;
 use std::test::Fail;
 
@@ -29,8 +29,20 @@ pub(crate) enum Ask {
 
 use Ask::*;
 
+// Why what is asked for was not done.
+#[derive(Clone, Copy, Debug, PartialEq, Eq)]
+pub(crate) enum Fault {
+    Refused(Refusal),
+    NoMemory,
+}
+
 // The number of a new inode, or 0 where the call makes none.
-pub(crate) type Answer = Result<u64, TreeFault>;
+pub(crate) type Answer = Result<u64, Fault>;
+
+// The answer to what is refused.
+pub(crate) const fn refused(refusal: Refusal) -> Answer {
+    Err(Fault::Refused(refusal))
+}
 
 // Reading and entering for all, and writing for the owner.
 fn open_mode() -> Mode {
@@ -49,61 +61,200 @@ fn attr() -> Attr {
     }
 }
 
-fn number(answer: Result<Ino, TreeFault>) -> Answer {
+fn number(answer: Result<Ino, AllocError>) -> Answer {
     match answer {
         Ok(ino) => Ok(ino.0),
-        Err(fault) => Err(fault),
+        Err(_none) => Err(Fault::NoMemory),
     }
 }
 
-fn done(answer: Result<(), TreeFault>) -> Answer {
+fn done(answer: Result<(), AllocError>) -> Answer {
     match answer {
         Ok(()) => Ok(0),
-        Err(fault) => Err(fault),
-    }
-}
-
-fn foreseen(fault: Option<TreeFault>) -> Answer {
-    match fault {
-        None => Ok(0),
-        Some(fault) => Err(fault),
+        Err(_none) => Err(Fault::NoMemory),
     }
 }
 
 pub(crate) fn asked(tree: &mut Tree, ask: Ask) -> Answer {
     match ask {
-        Mkdir(dir, name) => number(tree.mkdir(Ino(dir), &[name], attr())),
+        Mkdir(dir, name) => mkdir(tree, Ino(dir), &[name]),
         Create(dir, name) => create(tree, dir, &[name]),
-        Unlink(ino) => done(tree.unlink(Ino(ino))),
-        Rmdir(ino) => done(tree.rmdir(Ino(ino))),
+        Unlink(ino) => unlink(tree, Ino(ino)),
+        Rmdir(ino) => rmdir(tree, Ino(ino)),
         Rename(ino, dir, name) => rename(tree, ino, dir, &[name]),
-        Set(ino, setting) => done(tree.set(Ino(ino), setting)),
+        Set(ino, setting) => set(tree, Ino(ino), setting),
         SetXattr(ino, name, value) => set_xattr(tree, ino, &[name], &[value]),
-        RemoveXattr(ino, name) => done(tree.remove_xattr(Ino(ino), &[name])),
+        RemoveXattr(ino, name) => remove_xattr(tree, Ino(ino), &[name]),
         SnapAdd(ino, name) => snap_add(tree, ino, &[name]),
-        SnapRemove(ino, name) => done(tree.snap_remove(Ino(ino), &[name])),
-        MayCreate(dir, name) => foreseen(tree.create_fault(Ino(dir), &[name])),
-        MayRmdir(ino) => foreseen(tree.rmdir_fault(Ino(ino))),
-        MayRename(ino, dir, name) => foreseen(tree.rename_fault(Ino(ino), Ino(dir), &[name])),
+        SnapRemove(ino, name) => snap_remove(tree, Ino(ino), &[name]),
+        MayCreate(dir, name) => may_create(tree, Ino(dir), &[name]),
+        MayRmdir(ino) => may_rmdir(tree, Ino(ino)),
+        MayRename(ino, dir, name) => may_rename(tree, Ino(ino), Ino(dir), &[name]),
     }
 }
 
-// What is asked with names of other lengths too.
+// ---- the tests of each call alone
+
+fn may_create(tree: &Tree, dir: Ino, name: &[u8]) -> Answer {
+    if let Some(refusal) = tree.inode_refusal(dir) {
+        return refused(refusal);
+    }
+    match tree.new_inode_refusal(dir, name) {
+        Some(refusal) => refused(refusal),
+        None => Ok(0),
+    }
+}
+
+fn may_rmdir(tree: &Tree, ino: Ino) -> Answer {
+    if let Some(refusal) = tree.inode_refusal(ino) {
+        return refused(refusal);
+    }
+    if let Some(refusal) = tree.root_refusal(ino) {
+        return refused(refusal);
+    }
+    match tree.empty_refusal(ino) {
+        Some(refusal) => refused(refusal),
+        None => Ok(0),
+    }
+}
+
+fn may_rename(tree: &Tree, ino: Ino, dir: Ino, name: &[u8]) -> Answer {
+    if let Some(refusal) = tree.inode_refusal(ino) {
+        return refused(refusal);
+    }
+    if let Some(refusal) = tree.root_refusal(ino) {
+        return refused(refusal);
+    }
+    if let Some(refusal) = tree.inode_refusal(dir) {
+        return refused(refusal);
+    }
+    match tree.new_place_refusal(ino, dir, name) {
+        Some(refusal) => refused(refusal),
+        None => Ok(0),
+    }
+}
+
+// ---- the tests of each call, and then the call
+
+fn mkdir(tree: &mut Tree, dir: Ino, name: &[u8]) -> Answer {
+    if let Some(refusal) = tree.inode_refusal(dir) {
+        return refused(refusal);
+    }
+    if let Some(refusal) = tree.new_inode_refusal(dir, name) {
+        return refused(refusal);
+    }
+    number(tree.mkdir(dir, name, attr()))
+}
 
 pub(crate) fn create(tree: &mut Tree, dir: u64, name: &[u8]) -> Answer {
-    number(tree.create(Ino(dir), name, attr()))
+    let dir = Ino(dir);
+    if let Some(refusal) = tree.inode_refusal(dir) {
+        return refused(refusal);
+    }
+    if let Some(refusal) = tree.new_inode_refusal(dir, name) {
+        return refused(refusal);
+    }
+    number(tree.create(dir, name, attr()))
+}
+
+fn unlink(tree: &mut Tree, ino: Ino) -> Answer {
+    if let Some(refusal) = tree.inode_refusal(ino) {
+        return refused(refusal);
+    }
+    if let Some(refusal) = tree.root_refusal(ino) {
+        return refused(refusal);
+    }
+    if let Some(refusal) = tree.file_refusal(ino) {
+        return refused(refusal);
+    }
+    tree.unlink(ino);
+    Ok(0)
+}
+
+fn rmdir(tree: &mut Tree, ino: Ino) -> Answer {
+    if let Some(refusal) = tree.inode_refusal(ino) {
+        return refused(refusal);
+    }
+    if let Some(refusal) = tree.root_refusal(ino) {
+        return refused(refusal);
+    }
+    if let Some(refusal) = tree.empty_refusal(ino) {
+        return refused(refusal);
+    }
+    tree.rmdir(ino);
+    Ok(0)
 }
 
 pub(crate) fn rename(tree: &mut Tree, ino: u64, dir: u64, name: &[u8]) -> Answer {
-    done(tree.rename(Ino(ino), Ino(dir), name))
+    let (ino, dir) = (Ino(ino), Ino(dir));
+    if let Some(refusal) = tree.inode_refusal(ino) {
+        return refused(refusal);
+    }
+    if let Some(refusal) = tree.root_refusal(ino) {
+        return refused(refusal);
+    }
+    if let Some(refusal) = tree.inode_refusal(dir) {
+        return refused(refusal);
+    }
+    if let Some(refusal) = tree.new_place_refusal(ino, dir, name) {
+        return refused(refusal);
+    }
+    done(tree.rename(ino, dir, name))
+}
+
+fn set(tree: &mut Tree, ino: Ino, setting: Setting) -> Answer {
+    if let Some(refusal) = tree.inode_refusal(ino) {
+        return refused(refusal);
+    }
+    if let Some(refusal) = tree.setting_refusal(ino, setting) {
+        return refused(refusal);
+    }
+    tree.set(ino, setting);
+    Ok(0)
 }
 
 pub(crate) fn set_xattr(tree: &mut Tree, ino: u64, name: &[u8], value: &[u8]) -> Answer {
-    done(tree.set_xattr(Ino(ino), name, value))
+    let ino = Ino(ino);
+    if let Some(refusal) = tree.inode_refusal(ino) {
+        return refused(refusal);
+    }
+    if let Some(refusal) = tree.new_attribute_refusal(ino, name, value) {
+        return refused(refusal);
+    }
+    done(tree.set_xattr(ino, name, value))
+}
+
+fn remove_xattr(tree: &mut Tree, ino: Ino, name: &[u8]) -> Answer {
+    if let Some(refusal) = tree.inode_refusal(ino) {
+        return refused(refusal);
+    }
+    if let Some(refusal) = tree.old_attribute_refusal(ino, name) {
+        return refused(refusal);
+    }
+    tree.remove_xattr(ino, name);
+    Ok(0)
 }
 
 pub(crate) fn snap_add(tree: &mut Tree, ino: u64, name: &[u8]) -> Answer {
-    done(tree.snap_add(Ino(ino), name))
+    let ino = Ino(ino);
+    if let Some(refusal) = tree.inode_refusal(ino) {
+        return refused(refusal);
+    }
+    if let Some(refusal) = tree.new_snapshot_refusal(ino, name) {
+        return refused(refusal);
+    }
+    done(tree.snap_add(ino, name))
+}
+
+fn snap_remove(tree: &mut Tree, ino: Ino, name: &[u8]) -> Answer {
+    if let Some(refusal) = tree.inode_refusal(ino) {
+        return refused(refusal);
+    }
+    if let Some(refusal) = tree.old_snapshot_refusal(ino, name) {
+        return refused(refusal);
+    }
+    tree.snap_remove(ino, name);
+    Ok(0)
 }
 
 // A tree that has its root alone.
