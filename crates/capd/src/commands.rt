@@ -133,7 +133,7 @@ fn grants<W: Write>(alloc: Global, text: &[u8], writer: &mut Watched<W>) -> Resu
     write_line(line, writer)
 }
 
-// Writes the transcript of the script that is read, up to its end or to the first line that says nothing.
+// Writes the transcript of the script that is read, up to its end or to the first line that has a fault.
 fn run_script<R: Read, W: Write>(
     alloc: Global,
     reader: &mut Watched<R>,

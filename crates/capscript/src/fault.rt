@@ -33,7 +33,7 @@ pub enum ScriptFault {
     /// An answer could not be written.
     #[error("write failed")]
     WriteFault,
-    /// A line says nothing.
+    /// A line has a fault.
     #[error("line {line}: {kind}")]
     LineFault {
         /// The number of the line, the first being 1. Skipped lines count.
@@ -87,17 +87,6 @@ impl From<AllocError> for Refused {
     ghost from_gives = { λ _ refused. refused ≡ refusals.NoMemory };
 
     fn from(_missing: AllocError) -> Self {
-        Refused::NoMemory
-    }
-}
-
-impl From<capspec::NoMemory> for Refused {
-    ghost use Rattle.std.specs.Prelude.{◌≡◌};
-    ghost use Rattle.capscript.specs.declared.fault.Refused.TheVariants as refusals;
-
-    ghost from_gives = { λ _ refused. refused ≡ refusals.NoMemory };
-
-    fn from(_missing: capspec::NoMemory) -> Self {
         Refused::NoMemory
     }
 }

@@ -19,7 +19,7 @@ pub const MAX_LINE: usize = 65536;
 /// Reads a line, which has no line feed, by its number in the script: the event that it says, with the client who asks.
 /// None for a line that is skipped: it is empty, or begins with `#`.
 ///
-/// A line that says no event has one fault, which is told with the line's number. `NoMemory` comes last, and only for a line that
+/// A line that says no event and is not skipped has one fault, which is told with the line's number. `NoMemory` comes last, and only for a line that
 /// says an event.
 pub fn read_line(
     alloc: Global,

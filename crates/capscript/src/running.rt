@@ -27,8 +27,7 @@ const FS_NAME: &[u8] = b"cephfs";
 /// The mode of its root, which is owned by 0:0.
 const ROOT_MODE: u16 = 0o755;
 
-/// Reads a whole script, runs it on a root alone, and writes the text of each reply, up to the end or to the first line that says no
-/// event. All is read before anything is written.
+/// Reads a whole script, runs it on a root alone, and writes the text of each reply, up to the end or to the first line that has a fault. All is read before anything is written.
 pub fn run<R: Read, W: Write>(
     alloc: Global,
     reader: &mut Watched<R>,
@@ -44,9 +43,10 @@ pub fn run<R: Read, W: Write>(
         × Appends (W.contents (inner_of writer.old)) (W.contents (inner_of writer.new)) text) }
     // A read that failed is told, and then nothing was written.
     ensures read_told { IsTrue (has_failed reader.new) → result ≡ Err stops.ReadFault }
-    // A script that is too long is not run; memory may run out on the way to its end.
+    // A script that is too long is not run, and nothing is written; memory may run out on the way to its end.
     ensures long { IfSome (R.remaining (inner_of reader.old)) (λ script. longest_script < length script
-        → (result ≡ Err stops.ReadFault) ⊎ (result ≡ Err stops.NoMemory)) }
+        → ((result ≡ Err stops.ReadFault) ⊎ (result ≡ Err stops.NoMemory))
+        × Appends (W.contents (inner_of writer.old)) (W.contents (inner_of writer.new)) []) }
     // Only a read that failed and a script that is too long are told of.
     ensures read { result ≡ Err stops.ReadFault
         → (IsTrue (has_failed reader.new)
@@ -88,7 +88,7 @@ fn open_core(alloc: Global) -> Result<Core, ScriptFault>
     }
 }
 
-// Answers the events of the lines, up to the end or to the first line that says none.
+// Answers the events of the lines, up to the end or to the first line that has a fault.
 fn answer_lines<W: Write>(
     alloc: Global,
     core: &mut Core,

@@ -1,24 +1,6 @@
 //! Why a grant text was refused.
 
-use std::alloc::{AllocError, AllocFailed};
 use thiserror::Error;
-
-/// No memory was left.
-#[derive(Clone, Copy, Debug, PartialEq, Eq, Error)]
-#[error("NoMemory")]
-pub struct NoMemory;
-
-impl From<AllocError> for NoMemory {
-    fn from(_failed: AllocError) -> NoMemory {
-        NoMemory
-    }
-}
-
-impl<T: Drop> From<AllocFailed<T>> for NoMemory {
-    fn from(_failed: AllocFailed<T>) -> NoMemory {
-        NoMemory
-    }
-}
 
 /// The test that a grant text failed first.
 #[derive(Clone, Copy, Debug, PartialEq, Eq, Error)]

@@ -22,6 +22,16 @@ impl Model for Gids {
     ghost inverse = { λ gids. record { gids = record { items = gids } } };
 }
 
+impl From<ArrayVec<u32, MAX_GIDS>> for Gids {
+    ghost use Rattle.std.specs.Prelude.{◌≡◌};
+
+    ghost from_gives = { λ given gids. gids ≡ given.items };
+
+    fn from(gids: ArrayVec<u32, MAX_GIDS>) -> Self {
+        Gids { gids }
+    }
+}
+
 impl Default for Gids {
     ghost use Rattle.std.specs.Prelude.{◌≡◌, []};
 
@@ -50,6 +60,14 @@ impl Gids {
         ensures { result.now ≡ self.now }
     {
         self.gids.as_slice()
+    }
+
+    /// The vector of the group numbers.
+    pub fn into_inner(self) -> ArrayVec<u32, MAX_GIDS>
+        ensures { result.items ≡ self }
+    {
+        let Gids { gids } = self;
+        gids
     }
 
     // Adds a group number at the end, if there is room.

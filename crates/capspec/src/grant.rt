@@ -1,6 +1,6 @@
 //! Grants, and lists of them.
 
-use crate::fault::{NoMemory, SpecFault, SpecFaultKind};
+use crate::fault::{SpecFault, SpecFaultKind};
 use crate::flags::Flags4;
 use crate::fsname::FsName;
 use crate::gids::Gids;
@@ -20,7 +20,7 @@ pub struct Grant {
     pub fsname: Option<FsName>,
     /// The directory that the grant is for, with all below it.
     pub path: TreePath,
-    /// The one uid that the grant is for, whose owner, group and mode bits then decide too; none is every caller.
+    /// The one uid that the grant is for; where it names one, owner, group and mode bits of the inode decide too. None is every caller.
     pub uid: Option<u32>,
     /// The groups that count for the grant; none where it lists none.
     pub gids: Gids,
@@ -32,7 +32,7 @@ impl Grant {
     ghost use Rattle.std.specs.Prelude.{◌≡◌, IfOk};
 
     // The same grant, in memory of its own.
-    pub(crate) fn copy(&self) -> Result<Grant, NoMemory>
+    pub(crate) fn copy(&self) -> Result<Grant, AllocError>
         ensures { IfOk result (λ copy. copy ≡ self.now) }
     {
         Ok(Grant {
@@ -85,9 +85,9 @@ impl Grants {
         }
     }
 
-    /// No grant: nothing is allowed. It takes no memory, so it does not fail.
-    pub fn none(alloc: Global) -> Result<Grants, NoMemory>
-        ensures { IsOkAnd result (λ none. none ≡ []) }
+    /// No grant: nothing is allowed.
+    pub fn none(alloc: Global) -> Result<Grants, AllocError>
+        ensures { IfOk result (λ none. none ≡ []) }
     {
         Ok(Grants {
             grants: Vec::new(alloc),
@@ -95,7 +95,7 @@ impl Grants {
     }
 
     /// The same grants, in memory of their own.
-    pub fn copy(&self) -> Result<Grants, NoMemory>
+    pub fn copy(&self) -> Result<Grants, AllocError>
         ensures { IfOk result (λ copy. copy ≡ self.now) }
     {
         let mut grants = Vec::new(*self.grants.allocator());

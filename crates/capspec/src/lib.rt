@@ -20,7 +20,7 @@ mod tree_path;
 mod values;
 mod writing;
 
-pub use fault::{NoMemory, SpecFault, SpecFaultKind};
+pub use fault::{SpecFault, SpecFaultKind};
 pub use flags::Flags4;
 pub use fsname::FsName;
 pub use gids::Gids;

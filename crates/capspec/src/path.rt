@@ -5,7 +5,6 @@ ghost use Rattle.capspec.specs.Names.{names_of, slashed, has_double_slash, are_f
 ghost use Rattle.capspec.specs.Written.{can_be_bare, has_no_double_quote, written_path, path_text};
 
 use crate::bytes::{ByteSet, split_while};
-use crate::fault::NoMemory;
 use crate::tree_path::TreePath;
 use std::alloc::{AllocError, Global};
 
@@ -41,7 +40,7 @@ fn has_double_slash(text: &[u8]) -> bool
 
 /// Appends the item that says a path, behind a space; nothing if the path restricts nothing.
 #[tactic(auto, using(crate::proofs::OneText::item_of))]
-pub(crate) fn write_path(text: &mut Vec<u8>, path: &TreePath) -> Result<(), NoMemory>
+pub(crate) fn write_path(text: &mut Vec<u8>, path: &TreePath) -> Result<(), AllocError>
     ensures { OnOk result (text.new.items ≡ text.old.items ++ path_text path.now) }
 {
     let path = path.as_bytes();
@@ -53,7 +52,7 @@ pub(crate) fn write_path(text: &mut Vec<u8>, path: &TreePath) -> Result<(), NoMe
 }
 
 // Appends a path's text, in quotes where it needs them.
-fn write_value(text: &mut Vec<u8>, path: &[u8]) -> Result<(), NoMemory>
+fn write_value(text: &mut Vec<u8>, path: &[u8]) -> Result<(), AllocError>
     ensures { OnOk result (text.new.items ≡ text.old.items ++ written_path path.now) }
 {
     if can_be_bare(path) {
@@ -88,7 +87,7 @@ fn has_no_double_quote(path: &[u8]) -> bool
 }
 
 /// Appends the names of a path's text, with a slash before each.
-pub(crate) fn write_names(text: &mut Vec<u8>, path: &[u8]) -> Result<(), NoMemory>
+pub(crate) fn write_names(text: &mut Vec<u8>, path: &[u8]) -> Result<(), AllocError>
     ensures { OnOk result (text.new.items ≡ text.old.items ++ slashed (names_of path.now)) }
 {
     let mut rest = path;

@@ -168,7 +168,7 @@ fn gather(
 ///
 /// Each grant is kept as it is read, which takes memory for the list and for the grant's path. Where that is missing,
 /// the text is read to its end all the same. So `NoMemory`, at 0, is told last, and only of a text without a fault.
-/// Every other fault stands at the first byte of the word that failed.
+/// Every other fault stands at the first byte of the word that failed, or where a word is missing.
 pub fn read_grants(alloc: Global, text: &[u8]) -> Result<Grants, SpecFault>
     // What is read is what the text means.
     ensures ok { IfOk result (Reads text.now) }

@@ -1,6 +1,5 @@
 //! Paths in the tree.
 
-use crate::fault::NoMemory;
 use crate::measure::{count_slashes, has_fit_names};
 use crate::names::is_text_of;
 use crate::path::{is_slashed, split_names, write_names};
@@ -44,7 +43,7 @@ impl TreePath {
         let mut slashed = Vec::new(alloc);
         match write_names(&mut slashed, text) {
             Ok(()) => Ok(TreePath::from_slashed(slashed)),
-            Err(NoMemory) => Err(AllocError),
+            Err(AllocError) => Err(AllocError),
         }
     }
 
@@ -97,7 +96,7 @@ impl TreePath {
         split_names(alloc, self.text.as_slice())
     }
 
-    /// Whether names lead from the root to this path or below it. Needs no memory.
+    /// Whether this path is the beginning of these names, so that they lead from the root to it or below it. Needs no memory.
     #[inline(always)]
     pub fn leads_to(&self, names: &[&[u8]]) -> bool
         ensures { result ≡ starts_with bytes_eq (map (λ name. name.now) names.now) self.now }
@@ -106,7 +105,7 @@ impl TreePath {
     }
 
     // The same path, in memory of its own.
-    pub(crate) fn copy(&self) -> Result<TreePath, NoMemory>
+    pub(crate) fn copy(&self) -> Result<TreePath, AllocError>
         ensures { IfOk result (λ copy. copy ≡ self.now) }
     {
         Ok(TreePath {

@@ -7,11 +7,10 @@ ghost use Rattle.capspec.specs.Grants.{Reads};
 ghost use Rattle.capspec.specs.Written.{fsname_text, uid_text, gids_text, root_squash_text, grant_text, written};
 ghost use Rattle.capspec.specs.declared.grant.Grant.{Grant};
 
-use crate::fault::NoMemory;
 use crate::fsname::FsName;
 use crate::grant::{Grant, Grants};
 use crate::path::write_path;
-use std::alloc::Global;
+use std::alloc::{AllocError, Global};
 use std::io::Write;
 
 /// Writes grants in the one form that they have: joined by a comma and a space, each as `allow`, its flags, and of
@@ -19,7 +18,7 @@ use std::io::Write;
 ///
 /// Only memory can be missing. Ceph takes the items in any order ("CephFS Client Capabilities" in its documentation).
 /// The order here, the quotes round a path and the space behind a comma are this project's.
-pub fn write_grants(alloc: Global, grants: &Grants) -> Result<Vec<u8>, NoMemory>
+pub fn write_grants(alloc: Global, grants: &Grants) -> Result<Vec<u8>, AllocError>
     ensures form { IfOk result (λ text. text.items ≡ written grants.now) }
     // It reads as these grants.
     ensures reads { IfOk result (λ text. grants.now ≢ [] → Reads text.items grants.now) }
@@ -37,7 +36,7 @@ pub fn write_grants(alloc: Global, grants: &Grants) -> Result<Vec<u8>, NoMemory>
 }
 
 // Appends a grant.
-fn write_grant(text: &mut Vec<u8>, grant: &Grant) -> Result<(), NoMemory>
+fn write_grant(text: &mut Vec<u8>, grant: &Grant) -> Result<(), AllocError>
     ensures { OnOk result (text.new.items ≡ text.old.items ++ grant_text grant.now) }
 {
     text.extend_from_slice(b"allow ")?;
@@ -51,7 +50,7 @@ fn write_grant(text: &mut Vec<u8>, grant: &Grant) -> Result<(), NoMemory>
 
 // Each of these appends an item behind a space, or nothing where the grant does not have it.
 
-fn write_fsname(text: &mut Vec<u8>, fsname: &Option<FsName>) -> Result<(), NoMemory>
+fn write_fsname(text: &mut Vec<u8>, fsname: &Option<FsName>) -> Result<(), AllocError>
     ensures { OnOk result (text.new.items ≡ text.old.items ++ fsname_text fsname.now) }
 {
     if let Some(name) = fsname {
@@ -61,7 +60,7 @@ fn write_fsname(text: &mut Vec<u8>, fsname: &Option<FsName>) -> Result<(), NoMem
     Ok(())
 }
 
-fn write_uid(text: &mut Vec<u8>, uid: Option<u32>) -> Result<(), NoMemory>
+fn write_uid(text: &mut Vec<u8>, uid: Option<u32>) -> Result<(), AllocError>
     ensures { OnOk result (text.new.items ≡ text.old.items ++ uid_text uid) }
 {
     if let Some(uid) = uid {
@@ -71,7 +70,7 @@ fn write_uid(text: &mut Vec<u8>, uid: Option<u32>) -> Result<(), NoMemory>
     Ok(())
 }
 
-fn write_gids(text: &mut Vec<u8>, gids: &[u32]) -> Result<(), NoMemory>
+fn write_gids(text: &mut Vec<u8>, gids: &[u32]) -> Result<(), AllocError>
     ensures { OnOk result (text.new.items ≡ text.old.items ++ gids_text gids.now) }
 {
     if gids.is_empty() {
@@ -87,7 +86,7 @@ fn write_gids(text: &mut Vec<u8>, gids: &[u32]) -> Result<(), NoMemory>
     Ok(())
 }
 
-fn write_root_squash(text: &mut Vec<u8>, root_squash: bool) -> Result<(), NoMemory>
+fn write_root_squash(text: &mut Vec<u8>, root_squash: bool) -> Result<(), AllocError>
     ensures { OnOk result (text.new.items ≡ text.old.items ++ root_squash_text root_squash) }
 {
     if root_squash {
@@ -97,9 +96,9 @@ fn write_root_squash(text: &mut Vec<u8>, root_squash: bool) -> Result<(), NoMemo
 }
 
 // Appends a number in decimal, without leading zeros. Only memory can be missing.
-fn write_number(text: &mut Vec<u8>, number: u32) -> Result<(), NoMemory>
+fn write_number(text: &mut Vec<u8>, number: u32) -> Result<(), AllocError>
     ensures { OnOk result (text.new.items ≡ text.old.items ++ decimal number) }
 {
     text.write_fmt(format_args!("{number}"))
-        .map_err(|_| NoMemory)
+        .map_err(|_| AllocError)
 }

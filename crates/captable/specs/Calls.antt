@@ -67,8 +67,8 @@ taken caps e = record e { held = minus e.held caps }
 abbrev pub given_back : Caps → Entry → Entry
 given_back caps e = record e { held = minus e.held caps; want = minus e.want caps }
 
--- what the client is to know of changed from one set to another: by a new number, which is that of a revocation too if
--- a capability went
+-- what the client is to know of was one set and is another: the entry's number rises if the sets differ, and it is the
+-- number of a revocation too if a capability went
 abbrev pub renumbered : Caps → Caps → Entry → Entry
 renumbered before after e =
     if not (is_empty (minus before after)) then record e { seq = e.seq + 1; revoke_seq = e.seq + 1 }
@@ -120,10 +120,11 @@ moved_last holders k = filter (λ h. not (same k h)) holders ++ filter (same k) 
 abbrev pub touched : Table → Holder → Table
 touched table k = record table { recall = moved_last table.recall k }
 
--- the first n in the order of recall are asked
+-- the entry is asked, if its holder is among those named
 abbrev pub asked_row : List Holder → EntryRow → EntryRow
 asked_row named row = if is_among named row.holder then record row { entry = with_asked true row.entry } else row
 
+-- the first n in the order of recall are asked
 abbrev pub recalled : Table → ℕ → Table
 recalled table n = record table { rows = map (asked_row (take n table.recall)) table.rows }
 
