@@ -1,10 +1,10 @@
 //! What the tests ask of a tree, and what they read in it.
 
 use crate::asserting::same;
-use capbits::{Ino, Mode};
+use capbits::{Ino, Mode, Refusal};
 use capgrant::Attr;
-use inotree::{Kind, Name, Place, Setting, Tree, TreeFault};
-use std::alloc::Global;
+use inotree::{Kind, Name, Place, Setting, Tree};
+use std::alloc::{AllocError, Global};
 use std::process::Abort;
 use std::test::Fail;
 
@@ -29,8 +29,11 @@ pub(crate) enum Ask {
 
 use Ask::*;
 
-// The number of a new inode, or 0 where the call makes none.
-pub(crate) type Answer = Result<u64, TreeFault>;
+// The number of a new inode, or 0 where the call makes none; else why it is refused.
+pub(crate) type Answer = Result<u64, Refusal>;
+
+// What is answered where there is memory for it.
+pub(crate) type Answered = Result<Answer, AllocError>;
 
 // Reading and entering for all, and writing for the owner.
 fn open_mode() -> Mode {
@@ -49,61 +52,187 @@ fn attr() -> Attr {
     }
 }
 
-fn number(answer: Result<Ino, TreeFault>) -> Answer {
-    match answer {
-        Ok(ino) => Ok(ino.0),
-        Err(fault) => Err(fault),
-    }
-}
-
-fn done(answer: Result<(), TreeFault>) -> Answer {
-    match answer {
-        Ok(()) => Ok(0),
-        Err(fault) => Err(fault),
-    }
-}
-
-fn foreseen(fault: Option<TreeFault>) -> Answer {
-    match fault {
-        None => Ok(0),
-        Some(fault) => Err(fault),
-    }
-}
-
-pub(crate) fn asked(tree: &mut Tree, ask: Ask) -> Answer {
+pub(crate) fn asked(tree: &mut Tree, ask: Ask) -> Answered {
     match ask {
-        Mkdir(dir, name) => number(tree.mkdir(Ino(dir), &[name], attr())),
+        Mkdir(dir, name) => mkdir(tree, dir, &[name]),
         Create(dir, name) => create(tree, dir, &[name]),
-        Unlink(ino) => done(tree.unlink(Ino(ino))),
-        Rmdir(ino) => done(tree.rmdir(Ino(ino))),
+        Unlink(ino) => Ok(unlink(tree, ino)),
+        Rmdir(ino) => Ok(rmdir(tree, ino)),
         Rename(ino, dir, name) => rename(tree, ino, dir, &[name]),
-        Set(ino, setting) => done(tree.set(Ino(ino), setting)),
+        Set(ino, setting) => Ok(set(tree, ino, setting)),
         SetXattr(ino, name, value) => set_xattr(tree, ino, &[name], &[value]),
-        RemoveXattr(ino, name) => done(tree.remove_xattr(Ino(ino), &[name])),
+        RemoveXattr(ino, name) => Ok(remove_xattr(tree, ino, &[name])),
         SnapAdd(ino, name) => snap_add(tree, ino, &[name]),
-        SnapRemove(ino, name) => done(tree.snap_remove(Ino(ino), &[name])),
-        MayCreate(dir, name) => foreseen(tree.create_fault(Ino(dir), &[name])),
-        MayRmdir(ino) => foreseen(tree.rmdir_fault(Ino(ino))),
-        MayRename(ino, dir, name) => foreseen(tree.rename_fault(Ino(ino), Ino(dir), &[name])),
+        SnapRemove(ino, name) => Ok(snap_remove(tree, ino, &[name])),
+        MayCreate(dir, name) => Ok(may_create(tree, dir, &[name])),
+        MayRmdir(ino) => Ok(may_rmdir(tree, ino)),
+        MayRename(ino, dir, name) => Ok(may_rename(tree, ino, dir, &[name])),
     }
 }
 
-// What is asked with names of other lengths too.
+// What would be refused.
 
-pub(crate) fn create(tree: &mut Tree, dir: u64, name: &[u8]) -> Answer {
-    number(tree.create(Ino(dir), name, attr()))
+fn may_create(tree: &Tree, dir: u64, name: &[u8]) -> Answer {
+    if let Some(refusal) = tree.inode_refusal(Ino(dir)) {
+        return Err(refusal);
+    }
+    if let Some(refusal) = tree.new_inode_refusal(Ino(dir), name) {
+        return Err(refusal);
+    }
+    Ok(0)
 }
 
-pub(crate) fn rename(tree: &mut Tree, ino: u64, dir: u64, name: &[u8]) -> Answer {
-    done(tree.rename(Ino(ino), Ino(dir), name))
+fn may_rmdir(tree: &Tree, ino: u64) -> Answer {
+    if let Some(refusal) = tree.inode_refusal(Ino(ino)) {
+        return Err(refusal);
+    }
+    if let Some(refusal) = tree.root_refusal(Ino(ino)) {
+        return Err(refusal);
+    }
+    if let Some(refusal) = tree.empty_refusal(Ino(ino)) {
+        return Err(refusal);
+    }
+    Ok(0)
 }
 
-pub(crate) fn set_xattr(tree: &mut Tree, ino: u64, name: &[u8], value: &[u8]) -> Answer {
-    done(tree.set_xattr(Ino(ino), name, value))
+fn may_rename(tree: &Tree, ino: u64, dir: u64, name: &[u8]) -> Answer {
+    if let Some(refusal) = tree.inode_refusal(Ino(ino)) {
+        return Err(refusal);
+    }
+    if let Some(refusal) = tree.root_refusal(Ino(ino)) {
+        return Err(refusal);
+    }
+    if let Some(refusal) = tree.inode_refusal(Ino(dir)) {
+        return Err(refusal);
+    }
+    if let Some(refusal) = tree.new_place_refusal(Ino(ino), Ino(dir), name) {
+        return Err(refusal);
+    }
+    Ok(0)
 }
 
-pub(crate) fn snap_add(tree: &mut Tree, ino: u64, name: &[u8]) -> Answer {
-    done(tree.snap_add(Ino(ino), name))
+// The tests of each change in their order, and then the change. Names may have other lengths than one byte.
+
+fn mkdir(tree: &mut Tree, dir: u64, name: &[u8]) -> Answered {
+    if let Some(refusal) = tree.inode_refusal(Ino(dir)) {
+        return Ok(Err(refusal));
+    }
+    if let Some(refusal) = tree.new_inode_refusal(Ino(dir), name) {
+        return Ok(Err(refusal));
+    }
+    let ino = tree.mkdir(Ino(dir), name, attr())?;
+    Ok(Ok(ino.0))
+}
+
+pub(crate) fn create(tree: &mut Tree, dir: u64, name: &[u8]) -> Answered {
+    if let Some(refusal) = tree.inode_refusal(Ino(dir)) {
+        return Ok(Err(refusal));
+    }
+    if let Some(refusal) = tree.new_inode_refusal(Ino(dir), name) {
+        return Ok(Err(refusal));
+    }
+    let ino = tree.create(Ino(dir), name, attr())?;
+    Ok(Ok(ino.0))
+}
+
+fn unlink(tree: &mut Tree, ino: u64) -> Answer {
+    if let Some(refusal) = tree.inode_refusal(Ino(ino)) {
+        return Err(refusal);
+    }
+    if let Some(refusal) = tree.root_refusal(Ino(ino)) {
+        return Err(refusal);
+    }
+    if let Some(refusal) = tree.file_refusal(Ino(ino)) {
+        return Err(refusal);
+    }
+    tree.unlink(Ino(ino));
+    Ok(0)
+}
+
+fn rmdir(tree: &mut Tree, ino: u64) -> Answer {
+    if let Some(refusal) = tree.inode_refusal(Ino(ino)) {
+        return Err(refusal);
+    }
+    if let Some(refusal) = tree.root_refusal(Ino(ino)) {
+        return Err(refusal);
+    }
+    if let Some(refusal) = tree.empty_refusal(Ino(ino)) {
+        return Err(refusal);
+    }
+    tree.rmdir(Ino(ino));
+    Ok(0)
+}
+
+pub(crate) fn rename(tree: &mut Tree, ino: u64, dir: u64, name: &[u8]) -> Answered {
+    if let Some(refusal) = tree.inode_refusal(Ino(ino)) {
+        return Ok(Err(refusal));
+    }
+    if let Some(refusal) = tree.root_refusal(Ino(ino)) {
+        return Ok(Err(refusal));
+    }
+    if let Some(refusal) = tree.inode_refusal(Ino(dir)) {
+        return Ok(Err(refusal));
+    }
+    if let Some(refusal) = tree.new_place_refusal(Ino(ino), Ino(dir), name) {
+        return Ok(Err(refusal));
+    }
+    tree.rename(Ino(ino), Ino(dir), name)?;
+    Ok(Ok(0))
+}
+
+fn set(tree: &mut Tree, ino: u64, setting: Setting) -> Answer {
+    if let Some(refusal) = tree.inode_refusal(Ino(ino)) {
+        return Err(refusal);
+    }
+    if let Some(refusal) = tree.setting_refusal(Ino(ino), setting) {
+        return Err(refusal);
+    }
+    tree.set(Ino(ino), setting);
+    Ok(0)
+}
+
+pub(crate) fn set_xattr(tree: &mut Tree, ino: u64, name: &[u8], value: &[u8]) -> Answered {
+    if let Some(refusal) = tree.inode_refusal(Ino(ino)) {
+        return Ok(Err(refusal));
+    }
+    if let Some(refusal) = tree.new_attribute_refusal(Ino(ino), name, value) {
+        return Ok(Err(refusal));
+    }
+    tree.set_xattr(Ino(ino), name, value)?;
+    Ok(Ok(0))
+}
+
+fn remove_xattr(tree: &mut Tree, ino: u64, name: &[u8]) -> Answer {
+    if let Some(refusal) = tree.inode_refusal(Ino(ino)) {
+        return Err(refusal);
+    }
+    if let Some(refusal) = tree.old_attribute_refusal(Ino(ino), name) {
+        return Err(refusal);
+    }
+    tree.remove_xattr(Ino(ino), name);
+    Ok(0)
+}
+
+pub(crate) fn snap_add(tree: &mut Tree, ino: u64, name: &[u8]) -> Answered {
+    if let Some(refusal) = tree.inode_refusal(Ino(ino)) {
+        return Ok(Err(refusal));
+    }
+    if let Some(refusal) = tree.new_snapshot_refusal(Ino(ino), name) {
+        return Ok(Err(refusal));
+    }
+    tree.snap_add(Ino(ino), name)?;
+    Ok(Ok(0))
+}
+
+fn snap_remove(tree: &mut Tree, ino: u64, name: &[u8]) -> Answer {
+    if let Some(refusal) = tree.inode_refusal(Ino(ino)) {
+        return Err(refusal);
+    }
+    if let Some(refusal) = tree.old_snapshot_refusal(Ino(ino), name) {
+        return Err(refusal);
+    }
+    tree.snap_remove(Ino(ino), name);
+    Ok(0)
 }
 
 // A tree that has its root alone.
@@ -112,10 +241,11 @@ pub(crate) fn made(alloc: Global) -> Result<Tree, Fail> {
 }
 
 // Asks one after the other, and sees that the answers are the wanted ones.
-pub(crate) fn play(rt: &impl Abort, tree: &mut Tree, steps: &[(Ask, Answer)]) {
+pub(crate) fn play(rt: &impl Abort, tree: &mut Tree, steps: &[(Ask, Answer)]) -> Result<(), Fail> {
     for (number, (ask, want)) in steps.iter().enumerate() {
-        same(rt, asked(tree, *ask), *want, (number, *ask));
+        same(rt, asked(tree, *ask)?, *want, (number, *ask));
     }
+    Ok(())
 }
 
 // A new tree after these steps.
@@ -125,7 +255,7 @@ pub(crate) fn played(
     steps: &[(Ask, Answer)],
 ) -> Result<Tree, Fail> {
     let mut tree = made(alloc)?;
-    play(rt, &mut tree, steps);
+    play(rt, &mut tree, steps)?;
     Ok(tree)
 }
 
