@@ -273,8 +273,8 @@ impl Tree {
     pub fn new_place_refusal(&self, ino: Ino, dir: Ino, name: &[u8]) -> Option<Refusal>
         ensures { result ≡ first_failing (new_place_tests self.now ino.0 dir.0 name.now) }
     {
-        if let Some(refusal) = self.name_refusal(dir, name) {
-            return Some(refusal);
+        if let Some(of_name) = self.name_refusal(dir, name) {
+            return Some(of_name);
         }
         if self.inodes.is_within(dir.0, ino.0) {
             return Some(Refusal::Loop);
@@ -443,10 +443,10 @@ impl Tree {
         requires passed { first_failing (rmdir_tests self.old ino.0) ≡ None }
         ensures { self.new ≡ unlinked self.old ino.0 }
     {
-        let Some(slot) = self.inodes.slot_of(ino.0) else {
+        let Some(entry) = self.inodes.slot_of(ino.0) else {
             unreachable!()
         };
-        self.names.remove(&slot);
+        self.names.remove(&entry);
         self.inodes.set_site(ino.0, Site::Stray);
     }
 

@@ -3,8 +3,8 @@
 use crate::asserting::same;
 use crate::tree_steps::Ask::*;
 use crate::tree_steps::{
-    attribute, attribute_count, data, first_attribute, has_snapshot, owner, played, refused,
-    set_xattr, snapshot_count,
+    attribute, attribute_count, data, first_attribute, has_snapshot, owner, played, set_xattr,
+    snapshot_count,
 };
 use capbits::{Mode, Refusal};
 use inotree::{Kind, Setting, Tree};
@@ -21,12 +21,12 @@ fn with_fields(rt: &impl Abort, alloc: Global, mode: Mode) -> Result<Tree, Fail>
         (Set(2, Setting::Gid(2)), Ok(0)),
         (Set(2, Setting::Size(3)), Ok(0)),
         (Set(2, Setting::Time(4)), Ok(0)),
-        (Set(1, Setting::Size(3)), refused(Refusal::IsDir)),
+        (Set(1, Setting::Size(3)), Err(Refusal::IsDir)),
         (Set(1, Setting::Time(3)), Ok(0)),
         (SetXattr(2, b'y', b'5'), Ok(0)),
         (SetXattr(2, b'x', b'1'), Ok(0)),
         (SetXattr(2, b'x', b'2'), Ok(0)),
-        (RemoveXattr(2, b'z'), refused(Refusal::NoXattr)),
+        (RemoveXattr(2, b'z'), Err(Refusal::NoXattr)),
         (RemoveXattr(2, b'y'), Ok(0)),
     ];
     played(rt, alloc, &steps)
@@ -41,8 +41,8 @@ fn fields_and_attributes_are_set_one_by_one(rt: HostRuntime) -> Result<(), Fail>
     let wanted = Some((b"x".as_slice(), b"2".as_slice()));
     same(&rt, first_attribute(&tree, 2), wanted, "the file");
     same(&rt, attribute_count(&tree, 2), Some(1), "the file");
-    let unnamed = set_xattr(&mut tree, 2, b"", b"2");
-    same(&rt, unnamed, refused(Refusal::NameBad), "the file");
+    let unnamed = set_xattr(&mut tree, 2, b"", b"2")?;
+    same(&rt, unnamed, Err(Refusal::NameBad), "the file");
     Ok(())
 }
 

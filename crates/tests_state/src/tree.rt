@@ -3,8 +3,7 @@
 use crate::asserting::{present, same, same_items, same_text};
 use crate::tree_steps::Ask::*;
 use crate::tree_steps::{
-    child, first_attribute, forget, last, path_length, place, play, played, refused, resolved,
-    snap_add,
+    child, first_attribute, forget, last, path_length, place, play, played, resolved, snap_add,
 };
 use capbits::{Ino, Refusal};
 use inotree::{Place, Setting, Tree};
@@ -17,20 +16,20 @@ fn a_directory_moves_neither_into_itself_nor_over_another(rt: HostRuntime) -> Re
     let steps = [
         (Mkdir(1, b'a'), Ok(2)),
         (Mkdir(2, b'b'), Ok(3)),
-        (Rename(2, 3, b'c'), refused(Refusal::Loop)),
-        (Rename(2, 2, b'c'), refused(Refusal::Loop)),
-        (Rename(1, 2, b'z'), refused(Refusal::Root)),
-        (Rename(3, 2, b'b'), refused(Refusal::Exists)),
-        (Rmdir(2), refused(Refusal::NotEmpty)),
-        (Rmdir(1), refused(Refusal::Root)),
-        (Unlink(2), refused(Refusal::IsDir)),
+        (Rename(2, 3, b'c'), Err(Refusal::Loop)),
+        (Rename(2, 2, b'c'), Err(Refusal::Loop)),
+        (Rename(1, 2, b'z'), Err(Refusal::Root)),
+        (Rename(3, 2, b'b'), Err(Refusal::Exists)),
+        (Rmdir(2), Err(Refusal::NotEmpty)),
+        (Rmdir(1), Err(Refusal::Root)),
+        (Unlink(2), Err(Refusal::IsDir)),
         (Rename(3, 1, b'b'), Ok(0)),
-        (Mkdir(1, b'b'), refused(Refusal::Exists)),
+        (Mkdir(1, b'b'), Err(Refusal::Exists)),
         (Rename(2, 3, b'c'), Ok(0)),
         (Mkdir(1, b'a'), Ok(4)),
         (Rmdir(2), Ok(0)),
-        (Rename(3, 2, b'd'), refused(Refusal::Gone)),
-        (Rename(9, 1, b'd'), refused(Refusal::NoIno)),
+        (Rename(3, 2, b'd'), Err(Refusal::Gone)),
+        (Rename(9, 1, b'd'), Err(Refusal::NoIno)),
     ];
     played(&rt, rt.alloc(), &steps)?;
     Ok(())
@@ -41,8 +40,8 @@ fn an_inode_moves_only_into_a_directory(rt: HostRuntime) -> Result<(), Fail> {
     let steps = [
         (Create(1, b'f'), Ok(2)),
         (Create(1, b'g'), Ok(3)),
-        (Rename(3, 2, b'h'), refused(Refusal::NotDir)),
-        (Rename(3, 9, b'h'), refused(Refusal::NoIno)),
+        (Rename(3, 2, b'h'), Err(Refusal::NotDir)),
+        (Rename(3, 9, b'h'), Err(Refusal::NoIno)),
         (Rename(3, 1, b'h'), Ok(0)),
     ];
     played(&rt, rt.alloc(), &steps)?;
@@ -53,12 +52,12 @@ fn an_inode_moves_only_into_a_directory(rt: HostRuntime) -> Result<(), Fail> {
 fn with_a_stray(rt: &impl Abort, alloc: Global) -> Result<Tree, Fail> {
     let steps = [
         (Create(1, b'f'), Ok(2)),
-        (Create(1, b'f'), refused(Refusal::Exists)),
-        (Mkdir(2, b'g'), refused(Refusal::NotDir)),
-        (Rmdir(2), refused(Refusal::NotDir)),
+        (Create(1, b'f'), Err(Refusal::Exists)),
+        (Mkdir(2, b'g'), Err(Refusal::NotDir)),
+        (Rmdir(2), Err(Refusal::NotDir)),
         (Unlink(2), Ok(0)),
-        (Unlink(2), refused(Refusal::Gone)),
-        (Set(2, Setting::Uid(5)), refused(Refusal::Gone)),
+        (Unlink(2), Err(Refusal::Gone)),
+        (Set(2, Setting::Uid(5)), Err(Refusal::Gone)),
     ];
     played(rt, alloc, &steps)
 }
@@ -72,7 +71,7 @@ fn an_unlinked_file_is_a_stray_until_it_is_forgotten(rt: HostRuntime) -> Result<
     forget(&rt, &mut tree, 2);
     same(&rt, last(&tree), 2, "forgotten");
     same(&rt, place(&tree, 2), Place::NoIno, "forgotten");
-    play(&rt, &mut tree, &[(Create(1, b'f'), Ok(3))]);
+    play(&rt, &mut tree, &[(Create(1, b'f'), Ok(3))])?;
     same(&rt, place(&tree, 3), Place::Here, "made anew");
     Ok(())
 }
@@ -83,17 +82,17 @@ fn a_directory_with_a_snapshot_is_not_empty(rt: HostRuntime) -> Result<(), Fail>
         (Mkdir(1, b'd'), Ok(2)),
         (Create(1, b'f'), Ok(3)),
         (SnapAdd(2, b's'), Ok(0)),
-        (SnapAdd(2, b's'), refused(Refusal::Exists)),
-        (SnapAdd(3, b's'), refused(Refusal::NotDir)),
-        (Rmdir(2), refused(Refusal::NotEmpty)),
-        (SnapRemove(2, b't'), refused(Refusal::NoEnt)),
+        (SnapAdd(2, b's'), Err(Refusal::Exists)),
+        (SnapAdd(3, b's'), Err(Refusal::NotDir)),
+        (Rmdir(2), Err(Refusal::NotEmpty)),
+        (SnapRemove(2, b't'), Err(Refusal::NoEnt)),
         (SnapRemove(2, b's'), Ok(0)),
         (Rmdir(2), Ok(0)),
     ];
     let mut tree = played(&rt, rt.alloc(), &steps)?;
     same(&rt, child(&tree, 1, b"e"), None, "the root");
-    let dots = snap_add(&mut tree, 1, b"..");
-    same(&rt, dots, refused(Refusal::NameBad), "the root");
+    let dots = snap_add(&mut tree, 1, b"..")?;
+    same(&rt, dots, Err(Refusal::NameBad), "the root");
     Ok(())
 }
 
@@ -118,24 +117,23 @@ fn a_path_has_its_names_from_the_root_down(rt: HostRuntime) -> Result<(), Fail> 
 
 #[test]
 fn a_refusal_prints_as_its_name(rt: HostRuntime) -> Result<(), Fail> {
-    for (fault, name) in [
-        (TreeFault::NoIno, "NoIno"),
-        (TreeFault::Gone, "Gone"),
-        (TreeFault::Root, "Root"),
-        (TreeFault::NotDir, "NotDir"),
-        (TreeFault::IsDir, "IsDir"),
-        (TreeFault::NoEnt, "NoEnt"),
-        (TreeFault::NameBad, "NameBad"),
-        (TreeFault::Exists, "Exists"),
-        (TreeFault::NotEmpty, "NotEmpty"),
-        (TreeFault::Loop, "Loop"),
-        (TreeFault::TooDeep, "TooDeep"),
-        (TreeFault::NoXattr, "NoXattr"),
-        (TreeFault::Limit, "Limit"),
-        (TreeFault::NoMemory, "NoMemory"),
+    for (refusal, name) in [
+        (Refusal::NoIno, "NoIno"),
+        (Refusal::Gone, "Gone"),
+        (Refusal::Root, "Root"),
+        (Refusal::NotDir, "NotDir"),
+        (Refusal::IsDir, "IsDir"),
+        (Refusal::NoEnt, "NoEnt"),
+        (Refusal::NameBad, "NameBad"),
+        (Refusal::Exists, "Exists"),
+        (Refusal::NotEmpty, "NotEmpty"),
+        (Refusal::Loop, "Loop"),
+        (Refusal::TooDeep, "TooDeep"),
+        (Refusal::NoXattr, "NoXattr"),
+        (Refusal::Limit, "Limit"),
     ] {
-        let printed = format!(in rt.alloc(); "{fault}")?;
-        same_text(&rt, printed.as_str(), name, fault);
+        let printed = format!(in rt.alloc(); "{refusal}")?;
+        same_text(&rt, printed.as_str(), name, refusal);
     }
     Ok(())
 }
@@ -155,7 +153,7 @@ fn kept(rt: &impl Abort, alloc: Global) -> Result<Tree, Fail> {
 fn a_copy_equals_its_source_and_goes_its_own_way(rt: HostRuntime) -> Result<(), Fail> {
     let mut tree = kept(&rt, rt.alloc())?;
     let mut copy = tree.copy()?;
-    play(&rt, &mut tree, &[(Unlink(3), Ok(0))]);
+    play(&rt, &mut tree, &[(Unlink(3), Ok(0))])?;
     same(&rt, resolved(&copy, &[b"d", b"f"]), Some(3), "the copy");
     let attribute = first_attribute(&copy, 3);
     same(
@@ -165,9 +163,9 @@ fn a_copy_equals_its_source_and_goes_its_own_way(rt: HostRuntime) -> Result<(), 
         "the copy",
     );
     let steps = [
-        (SnapAdd(2, b's'), refused(Refusal::Exists)),
+        (SnapAdd(2, b's'), Err(Refusal::Exists)),
         (Create(1, b'f'), Ok(4)),
     ];
-    play(&rt, &mut copy, &steps);
+    play(&rt, &mut copy, &steps)?;
     Ok(())
 }

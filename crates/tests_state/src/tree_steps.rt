@@ -29,20 +29,11 @@ pub(crate) enum Ask {
 
 use Ask::*;
 
-// Why what is asked for was not done.
-#[derive(Clone, Copy, Debug, PartialEq, Eq)]
-pub(crate) enum Fault {
-    Refused(Refusal),
-    NoMemory,
-}
+// The number of a new inode, or 0 where the call makes none; else why it is refused.
+pub(crate) type Answer = Result<u64, Refusal>;
 
-// The number of a new inode, or 0 where the call makes none.
-pub(crate) type Answer = Result<u64, Fault>;
-
-// The answer to what is refused.
-pub(crate) const fn refused(refusal: Refusal) -> Answer {
-    Err(Fault::Refused(refusal))
-}
+// What is answered where there is memory for it.
+pub(crate) type Answered = Result<Answer, AllocError>;
 
 // Reading and entering for all, and writing for the owner.
 fn open_mode() -> Mode {
@@ -61,199 +52,186 @@ fn attr() -> Attr {
     }
 }
 
-fn number(answer: Result<Ino, AllocError>) -> Answer {
-    match answer {
-        Ok(ino) => Ok(ino.0),
-        Err(_none) => Err(Fault::NoMemory),
-    }
-}
-
-fn done(answer: Result<(), AllocError>) -> Answer {
-    match answer {
-        Ok(()) => Ok(0),
-        Err(_none) => Err(Fault::NoMemory),
-    }
-}
-
-pub(crate) fn asked(tree: &mut Tree, ask: Ask) -> Answer {
+pub(crate) fn asked(tree: &mut Tree, ask: Ask) -> Answered {
     match ask {
-        Mkdir(dir, name) => mkdir(tree, Ino(dir), &[name]),
+        Mkdir(dir, name) => mkdir(tree, dir, &[name]),
         Create(dir, name) => create(tree, dir, &[name]),
-        Unlink(ino) => unlink(tree, Ino(ino)),
-        Rmdir(ino) => rmdir(tree, Ino(ino)),
+        Unlink(ino) => Ok(unlink(tree, ino)),
+        Rmdir(ino) => Ok(rmdir(tree, ino)),
         Rename(ino, dir, name) => rename(tree, ino, dir, &[name]),
-        Set(ino, setting) => set(tree, Ino(ino), setting),
+        Set(ino, setting) => Ok(set(tree, ino, setting)),
         SetXattr(ino, name, value) => set_xattr(tree, ino, &[name], &[value]),
-        RemoveXattr(ino, name) => remove_xattr(tree, Ino(ino), &[name]),
+        RemoveXattr(ino, name) => Ok(remove_xattr(tree, ino, &[name])),
         SnapAdd(ino, name) => snap_add(tree, ino, &[name]),
-        SnapRemove(ino, name) => snap_remove(tree, Ino(ino), &[name]),
-        MayCreate(dir, name) => may_create(tree, Ino(dir), &[name]),
-        MayRmdir(ino) => may_rmdir(tree, Ino(ino)),
-        MayRename(ino, dir, name) => may_rename(tree, Ino(ino), Ino(dir), &[name]),
+        SnapRemove(ino, name) => Ok(snap_remove(tree, ino, &[name])),
+        MayCreate(dir, name) => Ok(may_create(tree, dir, &[name])),
+        MayRmdir(ino) => Ok(may_rmdir(tree, ino)),
+        MayRename(ino, dir, name) => Ok(may_rename(tree, ino, dir, &[name])),
     }
 }
 
-// ---- the tests of each call alone
+// What would be refused.
 
-fn may_create(tree: &Tree, dir: Ino, name: &[u8]) -> Answer {
-    if let Some(refusal) = tree.inode_refusal(dir) {
-        return refused(refusal);
+fn may_create(tree: &Tree, dir: u64, name: &[u8]) -> Answer {
+    if let Some(refusal) = tree.inode_refusal(Ino(dir)) {
+        return Err(refusal);
     }
-    match tree.new_inode_refusal(dir, name) {
-        Some(refusal) => refused(refusal),
-        None => Ok(0),
+    if let Some(refusal) = tree.new_inode_refusal(Ino(dir), name) {
+        return Err(refusal);
     }
-}
-
-fn may_rmdir(tree: &Tree, ino: Ino) -> Answer {
-    if let Some(refusal) = tree.inode_refusal(ino) {
-        return refused(refusal);
-    }
-    if let Some(refusal) = tree.root_refusal(ino) {
-        return refused(refusal);
-    }
-    match tree.empty_refusal(ino) {
-        Some(refusal) => refused(refusal),
-        None => Ok(0),
-    }
-}
-
-fn may_rename(tree: &Tree, ino: Ino, dir: Ino, name: &[u8]) -> Answer {
-    if let Some(refusal) = tree.inode_refusal(ino) {
-        return refused(refusal);
-    }
-    if let Some(refusal) = tree.root_refusal(ino) {
-        return refused(refusal);
-    }
-    if let Some(refusal) = tree.inode_refusal(dir) {
-        return refused(refusal);
-    }
-    match tree.new_place_refusal(ino, dir, name) {
-        Some(refusal) => refused(refusal),
-        None => Ok(0),
-    }
-}
-
-// ---- the tests of each call, and then the call
-
-fn mkdir(tree: &mut Tree, dir: Ino, name: &[u8]) -> Answer {
-    if let Some(refusal) = tree.inode_refusal(dir) {
-        return refused(refusal);
-    }
-    if let Some(refusal) = tree.new_inode_refusal(dir, name) {
-        return refused(refusal);
-    }
-    number(tree.mkdir(dir, name, attr()))
-}
-
-pub(crate) fn create(tree: &mut Tree, dir: u64, name: &[u8]) -> Answer {
-    let dir = Ino(dir);
-    if let Some(refusal) = tree.inode_refusal(dir) {
-        return refused(refusal);
-    }
-    if let Some(refusal) = tree.new_inode_refusal(dir, name) {
-        return refused(refusal);
-    }
-    number(tree.create(dir, name, attr()))
-}
-
-fn unlink(tree: &mut Tree, ino: Ino) -> Answer {
-    if let Some(refusal) = tree.inode_refusal(ino) {
-        return refused(refusal);
-    }
-    if let Some(refusal) = tree.root_refusal(ino) {
-        return refused(refusal);
-    }
-    if let Some(refusal) = tree.file_refusal(ino) {
-        return refused(refusal);
-    }
-    tree.unlink(ino);
     Ok(0)
 }
 
-fn rmdir(tree: &mut Tree, ino: Ino) -> Answer {
-    if let Some(refusal) = tree.inode_refusal(ino) {
-        return refused(refusal);
+fn may_rmdir(tree: &Tree, ino: u64) -> Answer {
+    if let Some(refusal) = tree.inode_refusal(Ino(ino)) {
+        return Err(refusal);
     }
-    if let Some(refusal) = tree.root_refusal(ino) {
-        return refused(refusal);
+    if let Some(refusal) = tree.root_refusal(Ino(ino)) {
+        return Err(refusal);
     }
-    if let Some(refusal) = tree.empty_refusal(ino) {
-        return refused(refusal);
+    if let Some(refusal) = tree.empty_refusal(Ino(ino)) {
+        return Err(refusal);
     }
-    tree.rmdir(ino);
     Ok(0)
 }
 
-pub(crate) fn rename(tree: &mut Tree, ino: u64, dir: u64, name: &[u8]) -> Answer {
-    let (ino, dir) = (Ino(ino), Ino(dir));
-    if let Some(refusal) = tree.inode_refusal(ino) {
-        return refused(refusal);
+fn may_rename(tree: &Tree, ino: u64, dir: u64, name: &[u8]) -> Answer {
+    if let Some(refusal) = tree.inode_refusal(Ino(ino)) {
+        return Err(refusal);
     }
-    if let Some(refusal) = tree.root_refusal(ino) {
-        return refused(refusal);
+    if let Some(refusal) = tree.root_refusal(Ino(ino)) {
+        return Err(refusal);
     }
-    if let Some(refusal) = tree.inode_refusal(dir) {
-        return refused(refusal);
+    if let Some(refusal) = tree.inode_refusal(Ino(dir)) {
+        return Err(refusal);
     }
-    if let Some(refusal) = tree.new_place_refusal(ino, dir, name) {
-        return refused(refusal);
+    if let Some(refusal) = tree.new_place_refusal(Ino(ino), Ino(dir), name) {
+        return Err(refusal);
     }
-    done(tree.rename(ino, dir, name))
-}
-
-fn set(tree: &mut Tree, ino: Ino, setting: Setting) -> Answer {
-    if let Some(refusal) = tree.inode_refusal(ino) {
-        return refused(refusal);
-    }
-    if let Some(refusal) = tree.setting_refusal(ino, setting) {
-        return refused(refusal);
-    }
-    tree.set(ino, setting);
     Ok(0)
 }
 
-pub(crate) fn set_xattr(tree: &mut Tree, ino: u64, name: &[u8], value: &[u8]) -> Answer {
-    let ino = Ino(ino);
-    if let Some(refusal) = tree.inode_refusal(ino) {
-        return refused(refusal);
+// The tests of each change in their order, and then the change. Names may have other lengths than one byte.
+
+fn mkdir(tree: &mut Tree, dir: u64, name: &[u8]) -> Answered {
+    if let Some(refusal) = tree.inode_refusal(Ino(dir)) {
+        return Ok(Err(refusal));
     }
-    if let Some(refusal) = tree.new_attribute_refusal(ino, name, value) {
-        return refused(refusal);
+    if let Some(refusal) = tree.new_inode_refusal(Ino(dir), name) {
+        return Ok(Err(refusal));
     }
-    done(tree.set_xattr(ino, name, value))
+    let ino = tree.mkdir(Ino(dir), name, attr())?;
+    Ok(Ok(ino.0))
 }
 
-fn remove_xattr(tree: &mut Tree, ino: Ino, name: &[u8]) -> Answer {
-    if let Some(refusal) = tree.inode_refusal(ino) {
-        return refused(refusal);
+pub(crate) fn create(tree: &mut Tree, dir: u64, name: &[u8]) -> Answered {
+    if let Some(refusal) = tree.inode_refusal(Ino(dir)) {
+        return Ok(Err(refusal));
     }
-    if let Some(refusal) = tree.old_attribute_refusal(ino, name) {
-        return refused(refusal);
+    if let Some(refusal) = tree.new_inode_refusal(Ino(dir), name) {
+        return Ok(Err(refusal));
     }
-    tree.remove_xattr(ino, name);
+    let ino = tree.create(Ino(dir), name, attr())?;
+    Ok(Ok(ino.0))
+}
+
+fn unlink(tree: &mut Tree, ino: u64) -> Answer {
+    if let Some(refusal) = tree.inode_refusal(Ino(ino)) {
+        return Err(refusal);
+    }
+    if let Some(refusal) = tree.root_refusal(Ino(ino)) {
+        return Err(refusal);
+    }
+    if let Some(refusal) = tree.file_refusal(Ino(ino)) {
+        return Err(refusal);
+    }
+    tree.unlink(Ino(ino));
     Ok(0)
 }
 
-pub(crate) fn snap_add(tree: &mut Tree, ino: u64, name: &[u8]) -> Answer {
-    let ino = Ino(ino);
-    if let Some(refusal) = tree.inode_refusal(ino) {
-        return refused(refusal);
+fn rmdir(tree: &mut Tree, ino: u64) -> Answer {
+    if let Some(refusal) = tree.inode_refusal(Ino(ino)) {
+        return Err(refusal);
     }
-    if let Some(refusal) = tree.new_snapshot_refusal(ino, name) {
-        return refused(refusal);
+    if let Some(refusal) = tree.root_refusal(Ino(ino)) {
+        return Err(refusal);
     }
-    done(tree.snap_add(ino, name))
+    if let Some(refusal) = tree.empty_refusal(Ino(ino)) {
+        return Err(refusal);
+    }
+    tree.rmdir(Ino(ino));
+    Ok(0)
 }
 
-fn snap_remove(tree: &mut Tree, ino: Ino, name: &[u8]) -> Answer {
-    if let Some(refusal) = tree.inode_refusal(ino) {
-        return refused(refusal);
+pub(crate) fn rename(tree: &mut Tree, ino: u64, dir: u64, name: &[u8]) -> Answered {
+    if let Some(refusal) = tree.inode_refusal(Ino(ino)) {
+        return Ok(Err(refusal));
     }
-    if let Some(refusal) = tree.old_snapshot_refusal(ino, name) {
-        return refused(refusal);
+    if let Some(refusal) = tree.root_refusal(Ino(ino)) {
+        return Ok(Err(refusal));
     }
-    tree.snap_remove(ino, name);
+    if let Some(refusal) = tree.inode_refusal(Ino(dir)) {
+        return Ok(Err(refusal));
+    }
+    if let Some(refusal) = tree.new_place_refusal(Ino(ino), Ino(dir), name) {
+        return Ok(Err(refusal));
+    }
+    tree.rename(Ino(ino), Ino(dir), name)?;
+    Ok(Ok(0))
+}
+
+fn set(tree: &mut Tree, ino: u64, setting: Setting) -> Answer {
+    if let Some(refusal) = tree.inode_refusal(Ino(ino)) {
+        return Err(refusal);
+    }
+    if let Some(refusal) = tree.setting_refusal(Ino(ino), setting) {
+        return Err(refusal);
+    }
+    tree.set(Ino(ino), setting);
+    Ok(0)
+}
+
+pub(crate) fn set_xattr(tree: &mut Tree, ino: u64, name: &[u8], value: &[u8]) -> Answered {
+    if let Some(refusal) = tree.inode_refusal(Ino(ino)) {
+        return Ok(Err(refusal));
+    }
+    if let Some(refusal) = tree.new_attribute_refusal(Ino(ino), name, value) {
+        return Ok(Err(refusal));
+    }
+    tree.set_xattr(Ino(ino), name, value)?;
+    Ok(Ok(0))
+}
+
+fn remove_xattr(tree: &mut Tree, ino: u64, name: &[u8]) -> Answer {
+    if let Some(refusal) = tree.inode_refusal(Ino(ino)) {
+        return Err(refusal);
+    }
+    if let Some(refusal) = tree.old_attribute_refusal(Ino(ino), name) {
+        return Err(refusal);
+    }
+    tree.remove_xattr(Ino(ino), name);
+    Ok(0)
+}
+
+pub(crate) fn snap_add(tree: &mut Tree, ino: u64, name: &[u8]) -> Answered {
+    if let Some(refusal) = tree.inode_refusal(Ino(ino)) {
+        return Ok(Err(refusal));
+    }
+    if let Some(refusal) = tree.new_snapshot_refusal(Ino(ino), name) {
+        return Ok(Err(refusal));
+    }
+    tree.snap_add(Ino(ino), name)?;
+    Ok(Ok(0))
+}
+
+fn snap_remove(tree: &mut Tree, ino: u64, name: &[u8]) -> Answer {
+    if let Some(refusal) = tree.inode_refusal(Ino(ino)) {
+        return Err(refusal);
+    }
+    if let Some(refusal) = tree.old_snapshot_refusal(Ino(ino), name) {
+        return Err(refusal);
+    }
+    tree.snap_remove(Ino(ino), name);
     Ok(0)
 }
 
@@ -263,10 +241,11 @@ pub(crate) fn made(alloc: Global) -> Result<Tree, Fail> {
 }
 
 // Asks one after the other, and sees that the answers are the wanted ones.
-pub(crate) fn play(rt: &impl Abort, tree: &mut Tree, steps: &[(Ask, Answer)]) {
+pub(crate) fn play(rt: &impl Abort, tree: &mut Tree, steps: &[(Ask, Answer)]) -> Result<(), Fail> {
     for (number, (ask, want)) in steps.iter().enumerate() {
-        same(rt, asked(tree, *ask), *want, (number, *ask));
+        same(rt, asked(tree, *ask)?, *want, (number, *ask));
     }
+    Ok(())
 }
 
 // A new tree after these steps.
@@ -276,7 +255,7 @@ pub(crate) fn played(
     steps: &[(Ask, Answer)],
 ) -> Result<Tree, Fail> {
     let mut tree = made(alloc)?;
-    play(rt, &mut tree, steps);
+    play(rt, &mut tree, steps)?;
     Ok(tree)
 }
 

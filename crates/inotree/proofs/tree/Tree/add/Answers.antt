@@ -19,9 +19,9 @@ use Rattle.inotree.proofs.tree.Tree.add.Goals as goal
 pub overflow_add-ino : goal.overflow_add-ino
 overflow_add-ino c =
     let before : Nodes = record { nodes = c.self.inside.inodes; last = c.self.inside.last } in
-    let no_fault : first_failing (create_tests before c.args.dir.0 c.args.name.now) ≡ None =
+    let passing : first_failing (create_tests before c.args.dir.0 c.args.name.now) ≡ None =
     subst (λ (t : Nodes). first_failing (create_tests t c.args.dir.0 c.args.name.now) ≡ None) (sym c.self.view_is) c.requires.passed in
-    let more = (passed-create before c.args.dir.0 c.args.name.now no_fault).2 in
+    let more = (passed-create before c.args.dir.0 c.args.name.now passing).2 in
     omega (arith, more)
 
 pub invariant_of-self-then-is_err-2 : goal.invariant_of-self-then-is_err-2
@@ -54,8 +54,8 @@ invariant_of-self-2 c =
     let d : ℕ = c.args.dir.0 in
     let a : List ℕ = c.args.name.now in
     let before : Nodes = record { nodes = m; last = c.self.inside.last } in
-    let no_fault : first_failing (create_tests before d a) ≡ None = subst (λ (t : Nodes). first_failing (create_tests t d a) ≡ None) (sym c.self.view_is) c.requires.passed in
-    let passed = passed-create before d a no_fault in
+    let passing : first_failing (create_tests before d a) ≡ None = subst (λ (t : Nodes). first_failing (create_tests t d a) ≡ None) (sym c.self.view_is) c.requires.passed in
+    let passed = passed-create before d a passing in
     let free : map.get index (record { dir = d; name = a }) ≡ None = sym (child-index m index c.self.invariant.1 d a) ∙ passed.0.free in
     let node : Node = record { kind = c.args.kind; site = Under c.args.dir c.of.result; attr = c.args.attr; size = 0; time = 0; attributes = c.new.result; snapshots = c.new-2.result } in
     let same : node ≡ new_node c.args.kind d a c.args.attr = λ i. record { kind = c.args.kind; site = Under c.args.dir (c.of.ensures i); attr = c.args.attr; size = 0; time = 0; attributes = c.new.ensures i; snapshots = c.new-2.ensures i } in

@@ -6,4 +6,4 @@ use Rattle.inotree.proofs.tree.Tree.new_place_refusal.Goals as goal
 pub returns-in-Some : goal.returns-in-Some
 returns-in-Some c =
     sym (failing-front (directory_test c.args.self.now c.args.dir.0 ∷ name_tests c.args.self.now c.args.dir.0 c.args.name.now)
-    (move_tests c.args.self.now c.args.ino.0 c.args.dir.0) c.in-Some.refusal (sym c.name_refusal.ensures ∙ c.in-Some.is))
+    (move_tests c.args.self.now c.args.ino.0 c.args.dir.0) c.in-Some.of_name (sym c.name_refusal.ensures ∙ c.in-Some.is))

@@ -21,8 +21,8 @@ invariant_of-self-2 c =
     let d : ℕ = c.args.dir.0 in
     let a : List ℕ = c.args.name.now in
     let before : Nodes = record { nodes = m; last = c.self.inside.last } in
-    let no_fault : first_failing (rename_tests before k d a) ≡ None = subst (λ (t : Nodes). first_failing (rename_tests t k d a) ≡ None) (sym c.self.view_is) c.requires.passed in
-    let passed = passed-rename before k d a no_fault in
+    let passing : first_failing (rename_tests before k d a) ≡ None = subst (λ (t : Nodes). first_failing (rename_tests t k d a) ≡ None) (sym c.self.view_is) c.requires.passed in
+    let passed = passed-rename before k d a passing in
     let under : IsUnder m k c.in-Some.old.dir c.in-Some.old.name = slot_site (site_of m k) c.in-Some.old (sym c.in-Some.ensures) in
     let free : map.get index (record { dir = d; name = a }) ≡ None = sym (child-index m index c.self.invariant.1 d a) ∙ passed.1.free in
     let added : c.insert.new.self ≡ map.insert index (record { dir = d; name = a }) k =

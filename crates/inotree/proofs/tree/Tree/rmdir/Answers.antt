@@ -13,7 +13,7 @@ invariant_of-self c =
     let k : ℕ = c.args.ino.0 in
     let before : Nodes = record { nodes = m; last = c.self.inside.last } in
     let passed : first_failing (rmdir_tests before k) ≡ None = subst (λ (t : Nodes). first_failing (rmdir_tests t k) ≡ None) (sym c.self.view_is) c.requires.passed in
-    let under : IsUnder m k c.in-Some.slot.dir c.in-Some.slot.name = slot_site (site_of m k) c.in-Some.slot (sym c.in-Some.ensures) in
+    let under : IsUnder m k c.in-Some.entry.dir c.in-Some.entry.name = slot_site (site_of m k) c.in-Some.entry (sym c.in-Some.ensures) in
     kept_at _ _ c.self.inside.last _ _ c.set_site.ensures c.remove.ensures
-    (kept-unlinked m c.self.inside.last k c.in-Some.slot.dir c.in-Some.slot.name c.self.inside.names c.self.invariant.0 c.self.invariant.1 under
+    (kept-unlinked m c.self.inside.last k c.in-Some.entry.dir c.in-Some.entry.name c.self.inside.names c.self.invariant.0 c.self.invariant.1 under
     (childless_empty m k (passed-rmdir before k passed).1))
