@@ -3,9 +3,9 @@
 use crate::asserting::same;
 use crate::telling::answer_text;
 use arrayvec::ArrayVec;
-use capbits::{Cap, CapSet, Ino};
-use capcore::{Refusal, Reply, Stop};
-use capgrant::{Access, Rule, Rules};
+use capbits::{Cap, CapSet, Ino, Mode, Ticket};
+use capcore::{PartValues, Refusal, Reply, Stop};
+use capgrant::{Access, Attr, Rule, Rules};
 use capscript::reply_lines;
 use std::test::Fail;
 
@@ -84,6 +84,31 @@ fn replies() -> Result<[(Reply, &'static str); 11], Fail> {
 #[test]
 fn replies_have_texts(rt: HostRuntime) -> Result<(), Fail> {
     for (reply, wanted) in &replies()? {
+        let text = reply_lines(rt.alloc(), reply)?;
+        same(&rt, text.as_slice(), wanted.as_bytes(), *wanted);
+    }
+    Ok(())
+}
+
+fn replies_of_the_waiting() -> Result<[(Reply, &'static str); 5], Fail> {
+    let attr = Attr {
+        uid: 7,
+        gid: 8,
+        mode: Mode::new(0o755).ok_or("no mode")?,
+    };
+    let file = PartValues::File { size: 5, time: 9 };
+    Ok([
+        (Reply::Waiting(Ticket(3)), "waiting 3\n"),
+        (Reply::Values(PartValues::Auth(attr)), "attr A 7 8 0755\n"),
+        (Reply::Values(PartValues::Link), "attr L 1\n"),
+        (Reply::Values(file), "attr F 5 9\n"),
+        (Reply::OutOfMemory, "out-of-memory\n"),
+    ])
+}
+
+#[test]
+fn replies_of_the_waiting_have_texts(rt: HostRuntime) -> Result<(), Fail> {
+    for (reply, wanted) in &replies_of_the_waiting()? {
         let text = reply_lines(rt.alloc(), reply)?;
         same(&rt, text.as_slice(), wanted.as_bytes(), *wanted);
     }

@@ -23,11 +23,14 @@ pub fn reply_text(alloc: Global, reply: &Reply) -> Result<String, AllocError> {
             let caps = caps.bits();
             format!(in alloc; "opened {seq} {caps}")
         }
+        Reply::Values(values) => format!(in alloc; "values {values:?}"),
+        Reply::Waiting(ticket) => format!(in alloc; "waiting {ticket:?}"),
         Reply::Denied { access, rules } => {
             let rules = rules_text(alloc, rules)?;
             format!(in alloc; "denied {access:?}{rules}")
         }
         Reply::Refused(refusal) => format!(in alloc; "refused {refusal}"),
+        Reply::OutOfMemory => String::from_str(alloc, "out of memory"),
     }
 }
 
