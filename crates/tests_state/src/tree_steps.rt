@@ -184,7 +184,9 @@ fn set(tree: &mut Tree, ino: u64, setting: Setting) -> Answer {
     if let Some(refusal) = tree.inode_refusal(Ino(ino)) {
         return Err(refusal);
     }
-    if let Some(refusal) = tree.setting_refusal(Ino(ino), setting) {
+    // The borrow checker wants a value of its own for each of the two calls.
+    let tested = setting;
+    if let Some(refusal) = tree.setting_refusal(Ino(ino), tested) {
         return Err(refusal);
     }
     tree.set(Ino(ino), setting);
