@@ -5,10 +5,10 @@ ghost use Rattle.capbits.specs.Refusal.{refusal_word};
 use std::error::Error;
 use std::fmt;
 
-/// Why a request is refused, other than by policy. It has changed nothing. Each prints as its name.
+/// Why a request is refused, other than by policy: what it asks for was not done. Each prints as its name.
 #[derive(Clone, Copy, PartialEq, Eq, Debug)]
 pub enum Refusal {
-    /// The client was thrown out.
+    /// The client is on the blocklist.
     Blocklisted,
     /// The client has a session, open or stale.
     SessionOpen,

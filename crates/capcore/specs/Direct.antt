@@ -78,7 +78,7 @@ pub record Direct : Type 0 where
   pub answer : Answer
   pub dropped : List Ended
 
--- the event changes nothing and answers this
+-- this state and this answer, and no request ended
 abbrev pub says : State → Reply → Direct
 says s answer = record { state = s; answer = Says answer; dropped = [] }
 

@@ -15,6 +15,7 @@ mod step;
 mod stopped;
 mod world;
 
+pub use capbits::Refusal;
 pub use event::Event;
 pub use history::{EndedList, Row, Stop};
 pub use laws::{
@@ -22,7 +23,6 @@ pub use laws::{
     the_served_are_denied_by_name, the_served_are_denied_exactly,
 };
 pub use outcome::{Ended, Message, Outcome, PartValues};
-pub use capbits::Refusal;
 pub use reply::Reply;
 pub use step::Core;
 pub use stopped::Stopped;

@@ -38,7 +38,7 @@ pub enum Outcome {
     },
     /// It was refused, other than by policy.
     Refused(Refusal),
-    /// There was no memory left for it, and nothing was changed.
+    /// There was no memory left for it, and what it asks for was not done.
     OutOfMemory,
     /// The session of its client ended before it was served.
     Dropped,

@@ -11,7 +11,7 @@ pub enum Reply {
     Done,
     /// The inode that was found or made.
     Ino(Ino),
-    /// What the client is to know that it holds on the inode that it opened, or says what it wants of.
+    /// What the client is to know that it holds on the inode that it opened, or of which it said what it wants.
     Opened {
         /// The number of the last change.
         seq: u64,
@@ -31,6 +31,6 @@ pub enum Reply {
     },
     /// It was refused, other than by policy.
     Refused(Refusal),
-    /// There was no memory left for it, and it has changed nothing.
+    /// There was no memory left for it, and what it asks for was not done.
     OutOfMemory,
 }

@@ -1,8 +1,9 @@
 -- Texts of items, one after another.
-use Rattle.std.proofs.Common.{◌≡◌, ℕ, ◌+◌, ◌<◌, List, [], ◌∷◌, ◌++◌, length, take, get_or, map, sym, ap, ◌∙◌, append_assoc}
+use Rattle.std.proofs.Common.{◌≡◌, ℕ, ◌+◌, ◌<◌, List, [], ◌∷◌, ◌++◌, length, take, get_or, map, refl, sym, ap, ◌∙◌, append_assoc, arith}
 use Rattle.std.specs.List.{flat_map}
 use Rattle.std.proofs.lemmas.List.{append-nil, take_more, map-append}
 use Rattle.std.proofs.lemmas.List.Concat.{flat_map-append}
+use Rattle.capscript.specs.PartTexts.{byte_text, hex_text}
 
 -- the texts so far, and one more
 pub texts-push : {X : Type 0} (f : X → List ℕ) (start line after : List ℕ) (xs : List X) (x : X) → line ≡ start ++ flat_map f xs → after ≡ line ++ f x → after ≡ start ++ flat_map f (xs ++ x ∷ [])
@@ -20,3 +21,8 @@ pub texts-yielded : {A X : Type 0} (f : X → List ℕ) (shows : A → X) (start
     → after ≡ start ++ flat_map f (map shows (xs ++ x ∷ []))
 texts-yielded f shows start line after xs x before now =
     texts-push f start line after (map shows xs) (shows x) before now ∙ ap (λ t. start ++ flat_map f t) (sym (map-append shows xs (x ∷ [])))
+
+-- some bytes have no dash
+pub some_hex : (bytes : List ℕ) → 0 < length bytes → hex_text bytes ≡ flat_map byte_text bytes
+some_hex [] some = absurd (omega arith)
+some_hex (byte ∷ bytes) some = refl

@@ -19,9 +19,14 @@ attr_text attr = codes "A " ++ decimal attr.uid ++ codes " " ++ decimal attr.gid
 abbrev pub byte_text : ℕ → List ℕ
 byte_text byte = digit_glyph false (byte / 16) ∷ digit_glyph false (byte % 16) ∷ []
 
--- the name of an attribute, and its value byte by byte
+-- byte by byte, or a dash for no bytes
+abbrev pub hex_text : List ℕ → List ℕ
+hex_text [] = codes "-"
+hex_text (byte ∷ bytes) = flat_map byte_text (byte ∷ bytes)
+
+-- the name of an attribute, and its value
 abbrev pub attribute_text : List ℕ × List ℕ → List ℕ
-attribute_text attribute = codes " " ++ attribute.0 ++ codes "=" ++ flat_map byte_text attribute.1
+attribute_text attribute = codes " " ++ attribute.0 ++ codes "=" ++ hex_text attribute.1
 
 -- what the inode keeps, behind the letter of the part; attributes by name, in the order of its bytes
 abbrev pub values_text : PartValues → List ℕ

@@ -1,7 +1,6 @@
 //! The texts of what an inode keeps of a part.
 ghost use Rattle.std.specs.Prelude.{◌≡◌, ◌++◌, OnOk};
-ghost use Rattle.std.specs.List.{flat_map};
-ghost use Rattle.capscript.specs.PartTexts.{attr_text, attribute_text, byte_text, mode_text, values_text};
+ghost use Rattle.capscript.specs.PartTexts.{attr_text, attribute_text, byte_text, hex_text, mode_text, values_text};
 
 use crate::reply::print;
 use capbits::Mode;
@@ -59,9 +58,13 @@ fn print_attribute(text: &mut Vec<u8>, name: &[u8], value: &[u8]) -> Result<(), 
     print_bytes(text, value)
 }
 
+// Two hexadecimal digits for each byte, or a dash for no bytes.
 fn print_bytes(text: &mut Vec<u8>, bytes: &[u8]) -> Result<(), AllocError>
-    ensures { OnOk result (text.new.items ≡ text.old.items ++ flat_map byte_text bytes.now) }
+    ensures { OnOk result (text.new.items ≡ text.old.items ++ hex_text bytes.now) }
 {
+    if bytes.is_empty() {
+        return print(text, "-");
+    }
     for byte in bytes {
         print_byte(text, *byte)?;
     }

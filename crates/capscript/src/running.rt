@@ -37,7 +37,7 @@ pub fn run<R: Read, W: Write>(
     requires reader_unended { IsFalse (has_ended reader.old) }
     requires writer_clear { IsFalse (has_failed writer.old) }
     // What was written, where it is known what there was to read. It ends at the first line that has a fault; where the script was read
-    // to its end, memory is missed at a line that says an event alone.
+    // to its end, memory is missed only at a line that says an event.
     ensures ran { IfSome (R.remaining (inner_of reader.old)) (λ script. (text : List ℕ)
         × Ran script (has_ended reader.new) result text
         × Appends (W.contents (inner_of writer.old)) (W.contents (inner_of writer.new)) text) }
@@ -47,7 +47,7 @@ pub fn run<R: Read, W: Write>(
     ensures long { IfSome (R.remaining (inner_of reader.old)) (λ script. longest_script < length script
         → ((result ≡ Err stops.ReadFault) ⊎ (result ≡ Err stops.NoMemory))
         × Appends (W.contents (inner_of writer.old)) (W.contents (inner_of writer.new)) []) }
-    // Only a read that failed and a script that is too long are told of.
+    // ReadFault comes only of a read that failed and of a script that is too long.
     ensures read { result ≡ Err stops.ReadFault
         → (IsTrue (has_failed reader.new)
         ⊎ IfSome (R.remaining (inner_of reader.old)) (λ script. longest_script < length script))

@@ -193,7 +193,7 @@ impl Tree {
 
     // ---- what would be refused
 
-    /// Why nothing can be asked of an inode: it is not there, or a stray.
+    /// Why what needs an inode with a path is refused: it is not there, or a stray.
     pub fn inode_refusal(&self, ino: Ino) -> Option<Refusal>
         ensures { result ≡ first_failing (inode_tests self.now ino.0) }
     {

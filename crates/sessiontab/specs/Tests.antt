@@ -44,6 +44,6 @@ new_session_tests table client =
 abbrev pub evict_tests : SessionTable → ℕ → List Test
 evict_tests table client = connected_test table client ∷ refused_if (nat_le MAX_BLOCKED (set.len table.blocked)) refusal.Limit ∷ []
 
--- the client was thrown out
+-- the client is on the blocklist
 abbrev pub blocked_test : SessionTable → ℕ → Test
 blocked_test table client = refused_if (not (set.contains table.blocked client)) refusal.NotBlocked

@@ -57,7 +57,7 @@ impl Sessions {
 
     // ---- what would be refused
 
-    /// Why a client can ask for nothing, and can't be marked as stale: it has no session, or a stale one.
+    /// Why a client that needs an open session is refused, and can't be marked as stale: it has no session, or a stale one.
     pub fn session_refusal(&self, client: ClientId) -> Option<Refusal>
         ensures { result ≡ first_failing (session_tests self.now client.0) }
     {
@@ -118,7 +118,7 @@ impl Sessions {
         None
     }
 
-    /// Why a client can't be let in again: it was not thrown out.
+    /// Why a client can't be let in again: it is not on the blocklist.
     pub fn unblock_refusal(&self, client: ClientId) -> Option<Refusal>
         ensures { result ≡ first_failing (blocked_test self.now client.0 ∷ []) }
     {
