@@ -2,19 +2,7 @@
 //! line, a sum over every answer, which is the same on each run.
 #![tactic(auto)]
 
-#[cfg(test)]
-mod asserting;
-mod command_line;
-mod commands;
-mod fault;
-mod inodes;
-mod judging;
-#[cfg(test)]
-mod tests;
-mod work;
-
-use crate::commands::{dispatch, report};
-use crate::fault::Fault;
+use capwork::{Fault, dispatch, report};
 use std::alloc::Global;
 use std::env;
 use std::env::Env;

@@ -2,24 +2,7 @@
 //! and what their written form is. And it runs scripts of what clients do, and prints what a server answers.
 #![tactic(auto)]
 
-#[cfg(test)]
-mod asserting;
-mod command_line;
-mod commands;
-mod fault;
-#[cfg(test)]
-mod running;
-#[cfg(test)]
-mod script_tests;
-#[cfg(test)]
-mod tests;
-#[cfg(test)]
-mod word_tests;
-mod words;
-
-use crate::commands::{dispatch, report};
-use crate::fault::Fault;
-use crate::words::words;
+use capcommand::{Fault, dispatch, report, words};
 use std::process::ExitCode;
 
 fn main(rt: HostRuntime) -> ExitCode {

@@ -1,10 +1,12 @@
 -- A question on the command line, and its answer.
 use Rattle.std.specs.Prelude.{◌≡◌, ◌≢◌, ℕ, List, ◌∷◌, ◌++◌, All}
+use Rattle.capbits.specs.declared.caller.Caller.{Caller}
 use Rattle.capspec.specs.declared.grant.Grant.{Grant}
 use Rattle.capspec.specs.Faults.{IsFault}
 use Rattle.capspec.specs.Grants.{Reads}
 use Rattle.capspec.specs.Items.{IsNumber}
 use Rattle.capgrant.specs.declared.access.Access.{Access as AnAccess}
+use Rattle.capgrant.specs.declared.access.Attr.{Attr}
 use Rattle.capgrant.specs.Question.{question}
 use Rattle.capgrant.specs.Verdict.{verdict_of}
 use Rattle.capquestion.specs.declared.fault.QuestionFault.{QuestionFault}
@@ -31,6 +33,14 @@ pub record AsksFor (v : Values) (q : Question) : Type 0 where
   pub mode : IsModeText v.mode.items q.attr.mode
   pub access : IsAccessWord v.access.items q.access
 
+-- the values name the caller
+abbrev pub IsCaller : Values → Caller → Type 0
+IsCaller v caller = IsNumber v.uid.items caller.uid × IsNumber v.gid.items caller.gid × AreGroupsIf v.groups caller.groups
+
+-- the values say whose the inode is
+abbrev pub IsAttr : Values → Attr → Type 0
+IsAttr v attr = IsNumber v.owner.items attr.uid × IsNumber v.group.items attr.gid × IsModeText v.mode.items attr.mode
+
 -- the value of the option means something
 abbrev pub IsGood : Values → Opt → Type 0
 IsGood v Grants = (grants : List Grant) × Reads v.grants.items grants
@@ -44,18 +54,22 @@ IsGood v Group = (gid : ℕ) × IsNumber v.group.items gid
 IsGood v Mode = (mode : ℕ) × IsModeText v.mode.items mode
 IsGood v Access = (access : AnAccess) × IsAccessWord v.access.items access
 
--- the value of the option means nothing, and those that are tested before it are good
-pub record IsFirstBad (v : Values) (option : Opt) : Type 0 where
+-- of these options, its value is the first that means nothing
+pub record IsFirstBad (v : Values) (options : List Opt) (option : Opt) : Type 0 where
   pub before : List Opt
   pub after : List Opt
-  pub order : all_options ≡ before ++ option ∷ after
+  pub order : options ≡ before ++ option ∷ after
   pub good_before : All (IsGood v) before
   pub bad : ¬ IsGood v option
+
+-- a bad value among these options, of which the grants are none
+abbrev pub IsBadAmong : Values → List Opt → QuestionFault → Type 0
+IsBadAmong v options fault = (option : Opt) × (fault ≡ faults.BadValue option) × (option ≢ Grants) × IsFirstBad v options option
 
 -- why the values got no question: the first of their faults, or want of memory where each of them is good
 abbrev pub IsFaultIn : Values → QuestionFault → Type 0
 IsFaultIn v (faults.Grants refused) = IsFault v.grants.items refused
-IsFaultIn v (faults.BadValue option) = (option ≢ Grants) × IsFirstBad v option
+IsFaultIn v (faults.BadValue option) = (option ≢ Grants) × IsFirstBad v all_options option
 IsFaultIn v faults.NoMemory = All (IsGood v) all_options
 
 -- the line that answers the question: what its grants say

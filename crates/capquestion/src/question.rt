@@ -60,6 +60,36 @@ pub struct Question {
     pub access: Access,
 }
 
+impl Values {
+    ghost use Rattle.std.specs.Prelude.{[], ◌∷◌, IfOk, IfErr};
+    ghost use Rattle.capquestion.specs.declared.options.Opt.TheVariants as opt;
+    ghost use Rattle.capquestion.specs.Question.{IsCaller, IsAttr, IsBadAmong};
+
+    // Who asks.
+    fn read_caller(&self) -> Result<Caller, QuestionFault>
+        ensures ok { IfOk result (IsCaller self.now) }
+        ensures err { IfErr result (IsBadAmong self.now (opt.Uid ∷ opt.Gid ∷ opt.Groups ∷ [])) }
+    {
+        Ok(Caller {
+            uid: read_number(Opt::Uid, self.uid.as_slice())?,
+            gid: read_number(Opt::Gid, self.gid.as_slice())?,
+            groups: read_given_groups(&self.groups)?,
+        })
+    }
+
+    // Whose the inode is, and its mode.
+    fn read_attr(&self) -> Result<Attr, QuestionFault>
+        ensures ok { IfOk result (IsAttr self.now) }
+        ensures err { IfErr result (IsBadAmong self.now (opt.Owner ∷ opt.Group ∷ opt.Mode ∷ [])) }
+    {
+        Ok(Attr {
+            uid: read_number(Opt::Owner, self.owner.as_slice())?,
+            gid: read_number(Opt::Group, self.group.as_slice())?,
+            mode: read_mode(self.mode.as_slice()).ok_or(BadValue(Opt::Mode))?,
+        })
+    }
+}
+
 impl Question {
     ghost use Rattle.std.specs.Prelude.{◌≡◌, IfOk, IfErr};
     ghost use Rattle.capquestion.specs.Question.{AsksFor, IsFaultIn, answer_text};
@@ -72,17 +102,9 @@ impl Question {
     {
         let grants = read_given_grants(alloc, values.grants.as_slice())?;
         let fs = FsName::read(values.fs.as_slice()).ok_or(BadValue(Opt::Fs))?;
-        let caller = Caller {
-            uid: read_number(Opt::Uid, values.uid.as_slice())?,
-            gid: read_number(Opt::Gid, values.gid.as_slice())?,
-            groups: read_given_groups(&values.groups)?,
-        };
+        let caller = values.read_caller()?;
         let path = read_path(alloc, values.path.as_slice())?;
-        let attr = Attr {
-            uid: read_number(Opt::Owner, values.owner.as_slice())?,
-            gid: read_number(Opt::Group, values.group.as_slice())?,
-            mode: read_mode(values.mode.as_slice()).ok_or(BadValue(Opt::Mode))?,
-        };
+        let attr = values.read_attr()?;
         let access = read_access(values.access.as_slice()).ok_or(BadValue(Opt::Access))?;
         match (grants, path) {
             (Some(grants), Some(path)) => Ok(Question {

@@ -1,6 +1,9 @@
-use Rattle.std.proofs.Common.{rules}
-use Rattle.capquestion.specs.declared.options.Opt.TheVariants.{Fs, Uid, Gid, Groups, Path, Owner, Group, Mode, Access}
-use Rattle.capquestion.proofs.FirstBad.{names_first_bad, bad_fs, bad_uid, bad_gid, bad_groups, bad_path, bad_owner, bad_group, bad_mode, bad_access, bad_grants, good_grants, good_path}
+use Rattle.std.proofs.Common.{rules, [], ◌∷◌, refl}
+use Rattle.capquestion.specs.declared.fault.QuestionFault.TheVariants.{BadValue}
+use Rattle.capquestion.specs.declared.options.Opt.TheVariants.{Grants, Fs, Uid, Gid, Groups, Path, Owner, Group, Mode, Access}
+use Rattle.capquestion.specs.Access.{IsAccessWord}
+use Rattle.capquestion.specs.Values.{IsFs, ArePathNames}
+use Rattle.capquestion.proofs.FirstBad.{first_bad, none_good, names_first_bad, bad_grants, good_grants, good_path}
 use Rattle.capquestion.proofs.question.Question.read.Goals as goal
 
 pub returns-in_err-grants-clause-err : goal.returns-in_err-grants-clause-err
@@ -10,56 +13,36 @@ pub returns-in_err-fs-clause-err : goal.returns-in_err-fs-clause-err
 returns-in_err-fs-clause-err c =
     let v = c.args.values.now in
     let grants = good_grants v c.as_slice.result.now c.as_slice.ensures.value c.in_ok-grants.ensures.good in
-    names_first_bad v Fs _ (λ e. cc) (bad_fs v grants.0 grants.1 (search rules)) (search rules)
+    names_first_bad v (Grants ∷ []) (Fs ∷ []) (Uid ∷ Gid ∷ Groups ∷ Path ∷ Owner ∷ Group ∷ Mode ∷ Access ∷ []) (BadValue Fs) _ refl (grants, tt)
+    (Fs, refl, (λ e. cc), first_bad v Fs [] [] tt (none_good (IsFs v.fs.items) (search rules)))
+    (search rules)
 
-pub returns-in_err-read_number-clause-err : goal.returns-in_err-read_number-clause-err
-returns-in_err-read_number-clause-err c =
+pub returns-in_err-caller-clause-err : goal.returns-in_err-caller-clause-err
+returns-in_err-caller-clause-err c =
     let v = c.args.values.now in
     let grants = good_grants v c.as_slice.result.now c.as_slice.ensures.value c.in_ok-grants.ensures.good in
-    names_first_bad v Uid _ (λ e. cc) (bad_uid v grants.0 c.in_ok-fs.fs grants.1 (search rules) (search rules)) (search rules)
-
-pub returns-in_err-read_number-2-clause-err : goal.returns-in_err-read_number-2-clause-err
-returns-in_err-read_number-2-clause-err c =
-    let v = c.args.values.now in
-    let grants = good_grants v c.as_slice.result.now c.as_slice.ensures.value c.in_ok-grants.ensures.good in
-    names_first_bad v Gid _ (λ e. cc) (bad_gid v grants.0 c.in_ok-fs.fs c.in_ok-read_number.field-0 grants.1 (search rules) (search rules) (search rules)) (search rules)
-
-pub returns-in_err-read_given_groups-clause-err : goal.returns-in_err-read_given_groups-clause-err
-returns-in_err-read_given_groups-clause-err c =
-    let v = c.args.values.now in
-    let grants = good_grants v c.as_slice.result.now c.as_slice.ensures.value c.in_ok-grants.ensures.good in
-    names_first_bad v Groups _ (λ e. cc) (bad_groups v grants.0 c.in_ok-fs.fs c.in_ok-read_number.field-0 c.in_ok-read_number-2.field-0 grants.1 (search rules) (search rules) (search rules) (search rules)) (search rules)
+    names_first_bad v (Grants ∷ Fs ∷ []) (Uid ∷ Gid ∷ Groups ∷ []) (Path ∷ Owner ∷ Group ∷ Mode ∷ Access ∷ []) c.in_err-caller.field-0.0 _ refl (grants, ((c.in_ok-fs.fs, search rules), tt)) (search rules) (search rules)
 
 pub returns-in_err-path-clause-err : goal.returns-in_err-path-clause-err
 returns-in_err-path-clause-err c =
     let v = c.args.values.now in
     let grants = good_grants v c.as_slice.result.now c.as_slice.ensures.value c.in_ok-grants.ensures.good in
-    names_first_bad v Path _ (λ e. cc) (bad_path v grants.0 c.in_ok-fs.fs c.in_ok-read_number.field-0 c.in_ok-read_number-2.field-0 c.in_ok-read_given_groups.field-0 grants.1 (search rules) (search rules) (search rules) (search rules) (search rules)) (search rules)
+    names_first_bad v (Grants ∷ Fs ∷ Uid ∷ Gid ∷ Groups ∷ []) (Path ∷ []) (Owner ∷ Group ∷ Mode ∷ Access ∷ []) (BadValue Path) _ refl (grants, ((c.in_ok-fs.fs, search rules), ((c.in_ok-caller.caller.uid, search rules), ((c.in_ok-caller.caller.gid, search rules), ((c.in_ok-caller.caller.groups, search rules), tt)))))
+    (Path, refl, (λ e. cc), first_bad v Path [] [] tt (none_good (ArePathNames v.path.items) (search rules)))
+    (search rules)
 
-pub returns-in_err-read_number-3-clause-err : goal.returns-in_err-read_number-3-clause-err
-returns-in_err-read_number-3-clause-err c =
+pub returns-in_err-attr-clause-err : goal.returns-in_err-attr-clause-err
+returns-in_err-attr-clause-err c =
     let v = c.args.values.now in
     let grants = good_grants v c.as_slice.result.now c.as_slice.ensures.value c.in_ok-grants.ensures.good in
-    let path = good_path v c.as_slice-5.result.now c.as_slice-5.ensures.value c.in_ok-path.ensures.good in
-    names_first_bad v Owner _ (λ e. cc) (bad_owner v grants.0 c.in_ok-fs.fs c.in_ok-read_number.field-0 c.in_ok-read_number-2.field-0 c.in_ok-read_given_groups.field-0 path.0 grants.1 (search rules) (search rules) (search rules) (search rules) path.1 (search rules)) (search rules)
-
-pub returns-in_err-read_number-4-clause-err : goal.returns-in_err-read_number-4-clause-err
-returns-in_err-read_number-4-clause-err c =
-    let v = c.args.values.now in
-    let grants = good_grants v c.as_slice.result.now c.as_slice.ensures.value c.in_ok-grants.ensures.good in
-    let path = good_path v c.as_slice-5.result.now c.as_slice-5.ensures.value c.in_ok-path.ensures.good in
-    names_first_bad v Group _ (λ e. cc) (bad_group v grants.0 c.in_ok-fs.fs c.in_ok-read_number.field-0 c.in_ok-read_number-2.field-0 c.in_ok-read_given_groups.field-0 path.0 c.in_ok-read_number-3.field-0 grants.1 (search rules) (search rules) (search rules) (search rules) path.1 (search rules) (search rules)) (search rules)
-
-pub returns-in_err-ok_or-clause-err : goal.returns-in_err-ok_or-clause-err
-returns-in_err-ok_or-clause-err c =
-    let v = c.args.values.now in
-    let grants = good_grants v c.as_slice.result.now c.as_slice.ensures.value c.in_ok-grants.ensures.good in
-    let path = good_path v c.as_slice-5.result.now c.as_slice-5.ensures.value c.in_ok-path.ensures.good in
-    names_first_bad v Mode _ (λ e. cc) (bad_mode v grants.0 c.in_ok-fs.fs c.in_ok-read_number.field-0 c.in_ok-read_number-2.field-0 c.in_ok-read_given_groups.field-0 path.0 c.in_ok-read_number-3.field-0 c.in_ok-read_number-4.field-0 grants.1 (search rules) (search rules) (search rules) (search rules) path.1 (search rules) (search rules) (search rules)) (search rules)
+    let path = good_path v c.as_slice-3.result.now c.as_slice-3.ensures.value c.in_ok-path.ensures.good in
+    names_first_bad v (Grants ∷ Fs ∷ Uid ∷ Gid ∷ Groups ∷ Path ∷ []) (Owner ∷ Group ∷ Mode ∷ []) (Access ∷ []) c.in_err-attr.field-0.0 _ refl (grants, ((c.in_ok-fs.fs, search rules), ((c.in_ok-caller.caller.uid, search rules), ((c.in_ok-caller.caller.gid, search rules), ((c.in_ok-caller.caller.groups, search rules), (path, tt)))))) (search rules) (search rules)
 
 pub returns-in_err-access-clause-err : goal.returns-in_err-access-clause-err
 returns-in_err-access-clause-err c =
     let v = c.args.values.now in
     let grants = good_grants v c.as_slice.result.now c.as_slice.ensures.value c.in_ok-grants.ensures.good in
-    let path = good_path v c.as_slice-5.result.now c.as_slice-5.ensures.value c.in_ok-path.ensures.good in
-    names_first_bad v Access _ (λ e. cc) (bad_access v grants.0 c.in_ok-fs.fs c.in_ok-read_number.field-0 c.in_ok-read_number-2.field-0 c.in_ok-read_given_groups.field-0 path.0 c.in_ok-read_number-3.field-0 c.in_ok-read_number-4.field-0 c.in_ok-ok_or.field-0 grants.1 (search rules) (search rules) (search rules) (search rules) path.1 (search rules) (search rules) (search rules) (search rules)) (search rules)
+    let path = good_path v c.as_slice-3.result.now c.as_slice-3.ensures.value c.in_ok-path.ensures.good in
+    names_first_bad v (Grants ∷ Fs ∷ Uid ∷ Gid ∷ Groups ∷ Path ∷ Owner ∷ Group ∷ Mode ∷ []) (Access ∷ []) ([]) (BadValue Access) _ refl (grants, ((c.in_ok-fs.fs, search rules), ((c.in_ok-caller.caller.uid, search rules), ((c.in_ok-caller.caller.gid, search rules), ((c.in_ok-caller.caller.groups, search rules), (path, ((c.in_ok-attr.attr.uid, search rules), ((c.in_ok-attr.attr.gid, search rules), ((c.in_ok-attr.attr.mode, search rules), tt)))))))))
+    (Access, refl, (λ e. cc), first_bad v Access [] [] tt (none_good (IsAccessWord v.access.items) (search rules)))
+    (search rules)

@@ -1,0 +1,213 @@
+//! The commands of the program, over streams that the caller passes.
+ghost use Rattle.std.specs.Prelude.{◌≡◌, ◌≤◌, ◌⊎◌, ◌++◌, ℕ, List, codes, OnOk, IfErr, IfSome, IsTrue, IsFalse};
+ghost use Rattle.std.specs.Io.KnownBytes.{Appends, Keeps};
+ghost use Rattle.capspec.specs.Grants.{Reads};
+ghost use Rattle.capspec.specs.Written.{written};
+ghost use Rattle.capspec.specs.declared.grant.Grant.{Grant};
+ghost use Rattle.capquestion.specs.declared.question.Question.{Question as Asked};
+ghost use Rattle.capquestion.specs.Fault.{IsFaultOfText};
+ghost use Rattle.capquestion.specs.Question.{AsksFor, IsFaultIn, answer_text};
+ghost use Rattle.capscript.specs.declared.fault.ScriptFault.{ScriptFault as AScriptFault};
+ghost use Rattle.capscript.specs.Lines.{lines};
+ghost use Rattle.capscript.specs.Transcript.{IsTranscript};
+ghost use Rattle.capscript.specs.Watched.{inner_of, has_failed, has_ended};
+ghost use Rattle.capcommand.specs.declared.fault.Fault.{Fault as AFault};
+ghost use Rattle.capcommand.specs.declared.fault.Fault.TheVariants as faults;
+ghost use Rattle.capcommand.specs.Commands.{Answers, Stops, StopsBefore, RunStops};
+
+use crate::command_line::{Ask, parse};
+use crate::fault::Fault;
+use capquestion::{Question, Values, spelled};
+use capscript::{Watched, run};
+use capspec::{read_grants, write_grants};
+use clap::error::ErrorKind;
+use std::alloc::{AllocError, Global};
+use std::io;
+use std::io::{Read, Write};
+
+/// The work was done, or the help was shown. A denial is an answer.
+pub const DONE: u8 = 0;
+
+/// A value is bad, or memory or the output failed.
+pub const FAILED: u8 = 1;
+
+/// The command line is wrong.
+pub const USAGE: u8 = 2;
+
+/// Does what the words behind the program's name ask for, and returns the status. What is wrong is written to `faults`;
+/// where that fails, nothing else can be said, and the status stays.
+pub fn dispatch<E: AllocGlobal, R: Read, W: Write, F: Write>(
+    rt: &E,
+    words: &[Vec<u8>],
+    reader: &mut R,
+    writer: &mut W,
+    faults: &mut F,
+) -> u8
+    ensures status { result ≤ USAGE }
+    ensures done { result ≡ DONE → Keeps (F.contents faults.old) (F.contents faults.new) }
+    ensures usage { result ≡ USAGE → Keeps (W.contents writer.old) (W.contents writer.new) }
+{
+    let ask = match parse(rt.alloc(), words) {
+        Ok(ask) => ask,
+        Err(error) => return show(rt.alloc(), &error, writer, faults),
+    };
+    let mut reader = Watched::new(reader);
+    let mut writer = Watched::new(writer);
+    carry_out(rt.alloc(), &ask, &mut reader, &mut writer, faults)
+}
+
+/// Does what is asked, and returns the status: `DONE` where all of the answer was written, and nothing to `faults`; else
+/// `FAILED`. Neither stream was read or written to yet.
+pub fn carry_out<R: Read, W: Write, F: Write>(
+    alloc: Global,
+    ask: &Ask,
+    reader: &mut Watched<R>,
+    writer: &mut Watched<W>,
+    faults: &mut F,
+) -> u8
+    requires reader_clear { IsFalse (has_failed reader.old) }
+    requires reader_unended { IsFalse (has_ended reader.old) }
+    requires writer_clear { IsFalse (has_failed writer.old) }
+    ensures { ((result ≡ DONE) × IsFalse (has_failed writer.new) × Keeps (F.contents faults.old) (F.contents faults.new)
+        × Answers ask.now (R.remaining (inner_of reader.old))
+        (W.contents (inner_of writer.old)) (W.contents (inner_of writer.new)))
+        ⊎ ((result ≡ FAILED) × ((fault : AFault)
+        × Stops ask.now fault (R.remaining (inner_of reader.old)) (has_ended reader.new) (has_failed writer.new)
+        (W.contents (inner_of writer.old)) (W.contents (inner_of writer.new)))) }
+{
+    match answer(alloc, ask, reader, writer) {
+        Ok(()) => DONE,
+        Err(fault) => report(fault, faults),
+    }
+}
+
+// Writes the answer to what is asked.
+fn answer<R: Read, W: Write>(
+    alloc: Global,
+    ask: &Ask,
+    reader: &mut Watched<R>,
+    writer: &mut Watched<W>,
+) -> Result<(), Fault>
+    requires reader_clear { IsFalse (has_failed reader.old) }
+    requires reader_unended { IsFalse (has_ended reader.old) }
+    requires writer_clear { IsFalse (has_failed writer.old) }
+    ensures ok { OnOk result (IsFalse (has_failed writer.new)
+        × Answers ask.now (R.remaining (inner_of reader.old))
+        (W.contents (inner_of writer.old)) (W.contents (inner_of writer.new))) }
+    ensures err { IfErr result (λ fault.
+        Stops ask.now fault (R.remaining (inner_of reader.old)) (has_ended reader.new) (has_failed writer.new)
+        (W.contents (inner_of writer.old)) (W.contents (inner_of writer.new))) }
+{
+    match ask {
+        Ask::Explain(values) => explain(alloc, values, writer),
+        Ask::Grants(text) => grants(alloc, text.as_slice(), writer),
+        Ask::Run => run_script(alloc, reader, writer),
+    }
+}
+
+// Writes the answer to a question, as a line.
+fn explain<W: Write>(alloc: Global, values: &Values, writer: &mut Watched<W>) -> Result<(), Fault>
+    requires { IsFalse (has_failed writer.old) }
+    ensures ok { OnOk result (IsFalse (has_failed writer.new)) }
+    ensures answer { OnOk result ((asked : Asked) × AsksFor values.now asked
+        × Appends (W.contents (inner_of writer.old)) (W.contents (inner_of writer.new)) (answer_text asked ++ codes "\n")) }
+    // A fault of the values, or want of memory, comes before anything is written.
+    ensures fault { IfErr result (λ fault. StopsBefore (IsFaultIn values.now) fault (has_failed writer.new)
+        (W.contents (inner_of writer.old)) (W.contents (inner_of writer.new))) }
+{
+    let question = Question::read(alloc, values)?;
+    let line = question.answer(alloc)?;
+    write_line(line, writer)
+}
+
+// Writes the grants that a text means in their written form, as a line.
+fn grants<W: Write>(alloc: Global, text: &[u8], writer: &mut Watched<W>) -> Result<(), Fault>
+    requires { IsFalse (has_failed writer.old) }
+    ensures ok { OnOk result (IsFalse (has_failed writer.new)) }
+    ensures form { OnOk result ((grants : List Grant) × Reads text.now grants
+        × Appends (W.contents (inner_of writer.old)) (W.contents (inner_of writer.new)) (written grants ++ codes "\n")) }
+    ensures fault { IfErr result (λ fault. StopsBefore (IsFaultOfText text.now) fault (has_failed writer.new)
+        (W.contents (inner_of writer.old)) (W.contents (inner_of writer.new))) }
+{
+    let grants = read_grants(alloc, text)?;
+    let line = write_grants(alloc, &grants).map_err(|_| Fault::NoMemory)?;
+    write_line(line, writer)
+}
+
+// Writes the transcript of the script that is read, up to its end or to the first line that has a fault.
+fn run_script<R: Read, W: Write>(
+    alloc: Global,
+    reader: &mut Watched<R>,
+    writer: &mut Watched<W>,
+) -> Result<(), Fault>
+    requires reader_clear { IsFalse (has_failed reader.old) }
+    requires reader_unended { IsFalse (has_ended reader.old) }
+    requires writer_clear { IsFalse (has_failed writer.old) }
+    ensures ok { OnOk result (IsFalse (has_failed writer.new)) }
+    ensures ran { OnOk result (IfSome (R.remaining (inner_of reader.old)) (λ script. (text : List ℕ)
+        × IsTranscript (lines script) text
+        × Appends (W.contents (inner_of writer.old)) (W.contents (inner_of writer.new)) text)) }
+    ensures stops { IfErr result (λ fault. (stop : AScriptFault) × (fault ≡ faults.Script stop)
+        × RunStops stop (R.remaining (inner_of reader.old)) (has_ended reader.new) (has_failed writer.new)
+        (W.contents (inner_of writer.old)) (W.contents (inner_of writer.new))) }
+{
+    match run(alloc, reader, writer) {
+        Ok(()) => Ok(()),
+        Err(stop) => Err(Fault::Script(stop)),
+    }
+}
+
+// Writes the line and a line feed behind it, or nothing where memory is missing.
+fn write_line<W: Write>(mut line: Vec<u8>, writer: &mut Watched<W>) -> Result<(), Fault>
+    requires { IsFalse (has_failed writer.old) }
+    ensures ok { OnOk result (IsFalse (has_failed writer.new)
+        × Appends (W.contents (inner_of writer.old)) (W.contents (inner_of writer.new)) (line.items ++ codes "\n")) }
+    ensures err { IfErr result (λ fault. ((fault ≡ faults.WriteFailed) × IsTrue (has_failed writer.new))
+        ⊎ ((fault ≡ faults.NoMemory) × Keeps (W.contents (inner_of writer.old)) (W.contents (inner_of writer.new)))) }
+{
+    line.push(b'\n')?;
+    match writer.write_all(line.as_slice()) {
+        Ok(()) => Ok(()),
+        Err(_) => Err(Fault::WriteFailed),
+    }
+}
+
+// Shows what the parser of the command line says, with the words in it as they came: the help on `writer`, what is wrong on `faults`.
+fn show<W: Write, F: Write>(
+    alloc: Global,
+    error: &clap::Error,
+    writer: &mut W,
+    faults: &mut F,
+) -> u8
+    ensures status { result ≤ USAGE }
+    ensures done { result ≡ DONE → Keeps (F.contents faults.old) (F.contents faults.new) }
+    ensures usage { result ≡ USAGE → Keeps (W.contents writer.old) (W.contents writer.new) }
+{
+    if error.kind() == ErrorKind::OutOfMemory {
+        return report(Fault::NoMemory, faults);
+    }
+    let Ok(text) = shown(alloc, error) else {
+        return report(Fault::NoMemory, faults);
+    };
+    if error.use_stderr() {
+        let _ = faults.write_all(text.as_slice());
+        return USAGE;
+    }
+    match writer.write_all(text.as_slice()) {
+        Ok(()) => DONE,
+        Err(_) => report(Fault::WriteFailed, faults),
+    }
+}
+
+fn shown(alloc: Global, error: &clap::Error) -> Result<Vec<u8>, AllocError> {
+    let text = format!(in alloc; "{error}")?;
+    spelled(alloc, text.as_str())
+}
+
+/// Writes the fault as a line, and returns its status.
+pub fn report(fault: Fault, faults: &mut impl Write) -> u8
+    ensures { result ≡ FAILED }
+{
+    let _ = writeln!(faults, "capd: {fault}");
+    FAILED
+}

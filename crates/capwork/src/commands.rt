@@ -1,0 +1,81 @@
+//! The program, over words and streams that the caller passes.
+ghost use Rattle.std.specs.Prelude.{◌≡◌, ◌≤◌};
+ghost use Rattle.capwork.specs.Status.{status_of};
+
+use crate::command_line::{Task, parse};
+use crate::fault::Fault;
+use crate::inodes::{create, look_up};
+use crate::judging::{judge, read};
+use crate::work::Work;
+use std::alloc::Global;
+use std::io::Write;
+
+/// The work was done, or the help was shown.
+pub const DONE: u8 = 0;
+
+/// Memory or the output failed.
+pub const FAILED: u8 = 1;
+
+/// The command line is wrong, or asks for more than a tree has room for.
+pub const USAGE: u8 = 2;
+
+/// Does what the words ask for, of which the first is the program's own name, and returns the status.
+pub fn dispatch(
+    alloc: Global,
+    words: &[String],
+    writer: &mut impl Write,
+    faults: &mut impl Write,
+) -> u8
+    ensures { result ≤ USAGE }
+{
+    let task = match parse(alloc, words) {
+        Ok(task) => task,
+        Err(error) => return show(&error, writer, faults),
+    };
+    match run(alloc, task, writer) {
+        Ok(()) => DONE,
+        Err(fault) => report(fault, faults),
+    }
+}
+
+// Does the work and writes the sum over its answers, as a line.
+fn run(alloc: Global, task: Task, writer: &mut impl Write) -> Result<(), Fault> {
+    let sum = sum_of(alloc, task)?;
+    writeln!(writer, "sum {sum}").map_err(|_| Fault::WriteFailed)
+}
+
+/// The sum over the answers of a task. It wraps past 64 bits.
+pub fn sum_of(alloc: Global, task: Task) -> Result<u64, Fault> {
+    match task.work {
+        Work::Verdict(shape) => judge(alloc, shape, task.times),
+        Work::Parse(shape) => read(alloc, shape, task.times),
+        Work::Lookup(shape) => look_up(alloc, shape, task.times),
+        Work::Create(shape) => create(alloc, shape, task.times),
+    }
+}
+
+// Shows what the parser of the command line says.
+fn show(error: &clap::Error, writer: &mut impl Write, faults: &mut impl Write) -> u8
+    ensures { result ≤ USAGE }
+{
+    if error.use_stderr() {
+        let _ = write!(faults, "{error}");
+        return USAGE;
+    }
+    match write!(writer, "{error}") {
+        Ok(()) => DONE,
+        Err(_) => report(Fault::WriteFailed, faults),
+    }
+}
+
+/// Writes the fault as a line, and returns its status.
+pub fn report(fault: Fault, faults: &mut impl Write) -> u8
+    ensures status { result ≡ status_of fault }
+    ensures bound { result ≤ USAGE }
+{
+    let _ = writeln!(faults, "capbench: {fault}");
+    match fault {
+        Fault::TooManyCreations => USAGE,
+        _ => FAILED,
+    }
+}

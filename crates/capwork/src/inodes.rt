@@ -1,0 +1,218 @@
+//! The work on inodes: events of one client, which may do all, on the tree of a core.
+ghost use Rattle.std.specs.Prelude.{◌↔◌, ◌+◌, ◌<◌, ◌≤◌, IsTrue};
+
+use crate::fault::Fault;
+use crate::work::{Layout, TreeShape};
+use capbits::{Caller, ClientId, Groups, Ino, Mode, PassId};
+use capcore::{Core, Event, Reply};
+use capgrant::Attr;
+use capspec::{FsName, read_grants};
+use inotree::{MAX_INODES, ROOT, Tree};
+use lockmachine::Bytes;
+use std::alloc::Global;
+
+const FS: &[u8] = b"cephfs";
+
+const CLIENT: ClientId = ClientId(1);
+
+const PASS: PassId = PassId(1);
+
+const USER: u32 = 1000;
+
+const MODE: u16 = 0o755;
+
+/// How many directories a chain has.
+const CHAIN: u64 = 16;
+
+/// How far apart in the tree two operations are that follow each other. It shares no divisor with any size.
+const STRIDE: u64 = 7919;
+
+// What is asked of a core, again and again.
+#[derive(Clone, Copy)]
+enum Asking {
+    // For an inode, by its name.
+    Lookup,
+    // To make a file.
+    Create,
+}
+
+/// Builds a tree, looks up so many of its inodes, and returns the sum of their numbers.
+pub fn look_up(alloc: Global, shape: TreeShape, times: u32) -> Result<u64, Fault> {
+    sum_of_answers(alloc, shape, Asking::Lookup, times)
+}
+
+/// Builds a tree, makes so many files in it, and returns the sum of their numbers.
+pub fn create(alloc: Global, shape: TreeShape, times: u32) -> Result<u64, Fault> {
+    if !is_room(shape.size.number(), times) {
+        return Err(Fault::TooManyCreations);
+    }
+    sum_of_answers(alloc, shape, Asking::Create, times)
+}
+
+// Builds a tree, asks so many times, and returns the sum of the numbers in the answers. No other function owns a core: what it
+// keeps is carried through each way out of its owner.
+fn sum_of_answers(
+    alloc: Global,
+    shape: TreeShape,
+    asking: Asking,
+    times: u32,
+) -> Result<u64, Fault> {
+    let mut core = fresh(alloc)?;
+    build(alloc, &mut core, shape)?;
+    ask(alloc, &mut core, shape, asking, times)
+}
+
+// Asks so many times, and returns the sum of the numbers in the answers.
+fn ask(
+    alloc: Global,
+    core: &mut Core,
+    shape: TreeShape,
+    asking: Asking,
+    times: u32,
+) -> Result<u64, Fault> {
+    let mut sum: u64 = 0;
+    for turn in 0..times {
+        let event = match asking {
+            Asking::Lookup => lookup(alloc, shape, turn)?,
+            Asking::Create => creation(alloc, shape, turn)?,
+        };
+        sum = sum.wrapping_add(answer(core, event)?);
+    }
+    Ok(sum)
+}
+
+// The event that looks up an inode of the tree.
+fn lookup(alloc: Global, shape: TreeShape, turn: u32) -> Result<Event, Fault> {
+    let place = spread(turn, shape.size.number());
+    Ok(Event::Lookup {
+        client: CLIENT,
+        dir: directory_of(shape.layout, place),
+        name: name_of(alloc, place)?,
+    })
+}
+
+// The event that makes one more file.
+fn creation(alloc: Global, shape: TreeShape, turn: u32) -> Result<Event, Fault> {
+    Ok(Event::Create {
+        client: CLIENT,
+        dir: directory_for(shape, turn),
+        name: name_of(alloc, shape.size.number() + u64::from(turn))?,
+        mode: mode()?,
+    })
+}
+
+// Whether so many files fit into a tree beside its root and its first inodes.
+fn is_room(size: u64, times: u32) -> bool
+    requires { size ≤ 60000 }
+    ensures { IsTrue result ↔ (size + 1 + times ≤ MAX_INODES) }
+{
+    size + 1 + u64::from(times) <= MAX_INODES as u64
+}
+
+// A place of the tree for an operation: those of the operations lie spread over it.
+fn spread(turn: u32, places: u64) -> u64
+    requires { 0 < places }
+    ensures { result < places }
+{
+    u64::from(turn) * STRIDE % places
+}
+
+// The directory of the inode that was made at this place.
+fn directory_of(layout: Layout, place: u64) -> Ino
+    requires { place ≤ 60000 }
+{
+    match layout {
+        Layout::Flat => ROOT,
+        Layout::Deep if place % CHAIN == 0 => ROOT,
+        // The inode that was made before it.
+        Layout::Deep => inode_at(place - 1),
+    }
+}
+
+// The directory for a new file: the last but one of a chain, so that the file stands as deep as the chain's last.
+fn directory_for(shape: TreeShape, turn: u32) -> Ino {
+    match shape.layout {
+        Layout::Flat => ROOT,
+        Layout::Deep => inode_at(spread(turn, shape.size.number() / CHAIN) * CHAIN + CHAIN - 2),
+    }
+}
+
+// The number of the inode that was made at this place, the root's being the first number.
+fn inode_at(place: u64) -> Ino
+    requires { place ≤ 60000 }
+{
+    Ino(ROOT.0 + 1 + place)
+}
+
+fn name_of(alloc: Global, place: u64) -> Result<Bytes, Fault> {
+    let name = format!(in alloc; "n{place}")?;
+    Ok(Bytes::read(alloc, name.as_bytes())?)
+}
+
+fn mode() -> Result<Mode, Fault> {
+    Mode::new(MODE).ok_or(Fault::Refused)
+}
+
+// The number of the inode that the core answers with.
+fn answer(core: &mut Core, event: Event) -> Result<u64, Fault> {
+    match core.apply(PASS, event)? {
+        Reply::Ino(ino) => Ok(ino.0),
+        _ => Err(Fault::Refused),
+    }
+}
+
+// Gives the client a session, and the core a tree of this shape.
+fn build(alloc: Global, core: &mut Core, shape: TreeShape) -> Result<(), Fault> {
+    let session = Event::Session {
+        client: CLIENT,
+        caller: Caller {
+            uid: USER,
+            gid: USER,
+            groups: Groups::new(),
+        },
+        grants: read_grants(alloc, b"allow rw")?,
+    };
+    let _done = core.apply(PASS, session)?;
+    for place in 0..shape.size.number() {
+        let event = birth(alloc, shape.layout, place)?;
+        let _made = answer(core, event)?;
+    }
+    Ok(())
+}
+
+// The event that makes the inode at this place.
+fn birth(alloc: Global, layout: Layout, place: u64) -> Result<Event, Fault>
+    requires { place ≤ 60000 }
+{
+    let dir = directory_of(layout, place);
+    let name = name_of(alloc, place)?;
+    let mode = mode()?;
+    Ok(match layout {
+        Layout::Flat => Event::Create {
+            client: CLIENT,
+            dir,
+            name,
+            mode,
+        },
+        Layout::Deep => Event::Mkdir {
+            client: CLIENT,
+            dir,
+            name,
+            mode,
+        },
+    })
+}
+
+// A core on a tree that has its root alone.
+fn fresh(alloc: Global) -> Result<Core, Fault> {
+    let fs = FsName::read(FS).ok_or(Fault::Refused)?;
+    let attr = Attr {
+        uid: USER,
+        gid: USER,
+        mode: mode()?,
+    };
+    let Ok(tree) = Tree::new(alloc, attr) else {
+        return Err(Fault::NoMemory);
+    };
+    Ok(Core::new(alloc, fs, tree, u32::MAX)?)
+}

@@ -1,0 +1,129 @@
+//! The work on grants: reading them, and judging an access by them.
+ghost use Rattle.std.specs.Prelude.{◌≡◌};
+ghost use Rattle.capwork.specs.Score.{score};
+
+use crate::fault::Fault;
+use crate::work::{Callers, GrantShape};
+use capbits::{Caller, Groups, Mode};
+use capgrant::{Access, Attr, Verdict, verdict};
+use capspec::{FsName, Grants, read_grants};
+use std::alloc::{AllocError, Global};
+
+const FS: &[u8] = b"cephfs";
+
+/// The user who asks, its first group, and the owner of the inode.
+const USER: u32 = 1000;
+
+/// The user's other group.
+const GROUP: u32 = 1001;
+
+const MODE: u16 = 0o644;
+
+/// Reads grants once, judges an access by them so many times, and returns the sum of what the verdicts score.
+pub fn judge(alloc: Global, shape: GrantShape, times: u32) -> Result<u64, Fault> {
+    let grants = read_grants(alloc, grants_text(alloc, shape)?.as_bytes())?;
+    let path = path_text(alloc, shape.depth)?;
+    let names = names_of(alloc, path.as_str())?;
+    let caller = caller()?;
+    let (Some(fs), Some(mode)) = (FsName::read(FS), Mode::new(MODE)) else {
+        return Err(Fault::Refused);
+    };
+    let attr = Attr {
+        uid: USER,
+        gid: USER,
+        mode,
+    };
+    let mut sum: u64 = 0;
+    for _ in 0..times {
+        let verdict = verdict(
+            &grants,
+            &fs,
+            &caller,
+            names.as_slice(),
+            &attr,
+            Access::Write,
+        );
+        sum = sum.wrapping_add(score(&verdict));
+    }
+    Ok(sum)
+}
+
+/// Reads a grant text so many times, and returns how many grants were read in all.
+pub fn read(alloc: Global, shape: GrantShape, times: u32) -> Result<u64, Fault> {
+    let text = grants_text(alloc, shape)?;
+    let mut sum: u64 = 0;
+    for _ in 0..times {
+        let grants: Grants = read_grants(alloc, text.as_bytes())?;
+        sum = sum.wrapping_add(grants.len() as u64);
+    }
+    Ok(sum)
+}
+
+// What a verdict adds to the sum: the number of the grant that allows, or what no such number is.
+fn score(verdict: &Verdict) -> u64
+    ensures { result ≡ score verdict.now }
+{
+    match verdict {
+        Verdict::Allowed { grant } => u64::from(*grant),
+        Verdict::Denied { rules } => 100 + rules.len() as u64,
+    }
+}
+
+fn caller() -> Result<Caller, Fault> {
+    let mut groups = Groups::new();
+    groups.try_push(GROUP).map_err(|_| Fault::Refused)?;
+    Ok(Caller {
+        uid: USER,
+        gid: USER,
+        groups,
+    })
+}
+
+/// The text of the grants: on paths that differ in their last name, of which the last is the path that is asked for.
+pub fn grants_text(alloc: Global, shape: GrantShape) -> Result<String, AllocError> {
+    let mut text = String::new(alloc);
+    for grant in 0..shape.grants {
+        if grant > 0 {
+            text.push_str(", ")?;
+        }
+        text.push_str("allow rw path=")?;
+        write_path(&mut text, shape, grant)?;
+        match shape.callers {
+            Callers::Any => (),
+            Callers::OneUser => text.push_str(" uid=1000 gids=1000,1001")?,
+        }
+    }
+    Ok(text)
+}
+
+// Appends the path of a grant.
+fn write_path(text: &mut String, shape: GrantShape, grant: u32) -> Result<(), AllocError> {
+    for place in 0..shape.depth {
+        if place + 1 == shape.depth && grant.saturating_add(1) < shape.grants {
+            write!(text, "/x{grant}")?;
+        } else {
+            write!(text, "/p{place}")?;
+        }
+    }
+    Ok(())
+}
+
+// The path that is asked for.
+fn path_text(alloc: Global, depth: u32) -> Result<String, AllocError> {
+    let mut text = String::new(alloc);
+    for place in 0..depth {
+        write!(text, "/p{place}")?;
+    }
+    Ok(text)
+}
+
+// The names of a path's text.
+fn names_of(alloc: Global, path: &str) -> Result<Vec<&[u8]>, AllocError> {
+    let mut names = Vec::new(alloc);
+    for name in path.split('/') {
+        if !name.is_empty() {
+            names.push(name.as_bytes())?;
+        }
+    }
+    Ok(names)
+}

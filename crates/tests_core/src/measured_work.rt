@@ -1,0 +1,180 @@
+//! Words, grants and sums.
+
+use crate::asserting::same;
+use capwork::{Callers, GrantShape, Layout, Size, TreeShape, Work, dispatch, grants_text};
+use std::alloc::Global;
+use std::process::Abort;
+use std::test::Fail;
+
+fn grants(grants: u32, depth: u32, callers: Callers) -> GrantShape {
+    GrantShape {
+        grants,
+        depth,
+        callers,
+    }
+}
+
+fn tree(size: Size, layout: Layout) -> TreeShape {
+    TreeShape { size, layout }
+}
+
+// Words, and the work that each names.
+fn works() -> [(&'static str, Work); 10] {
+    use Callers::{Any, OneUser};
+    use Layout::{Deep, Flat};
+    use Size::{Hundred, SixtyThousand, TenThousand, Thousand};
+    [
+        ("verdict-1-1-plain", Work::Verdict(grants(1, 1, Any))),
+        ("verdict-4-8-ids", Work::Verdict(grants(4, 8, OneUser))),
+        ("verdict-16-32-plain", Work::Verdict(grants(16, 32, Any))),
+        ("parse-16-plain", Work::Parse(grants(16, 1, Any))),
+        ("parse-16-1-plain", Work::Parse(grants(16, 1, Any))),
+        ("parse-4-32-ids", Work::Parse(grants(4, 32, OneUser))),
+        ("lookup-100-flat", Work::Lookup(tree(Hundred, Flat))),
+        ("lookup-60000-deep", Work::Lookup(tree(SixtyThousand, Deep))),
+        ("create-1000-flat", Work::Create(tree(Thousand, Flat))),
+        ("create-10000-deep", Work::Create(tree(TenThousand, Deep))),
+    ]
+}
+
+#[test]
+fn each_word_names_its_work(rt: HostRuntime) {
+    for (word, wanted) in works() {
+        same(&rt, Work::read(word), Some(wanted), word);
+    }
+}
+
+/// Words that name no work.
+const NO_WORK: [&str; 14] = [
+    "",
+    "verdict",
+    "verdict-1-plain",
+    "verdict-2-1-plain",
+    "verdict-1-2-plain",
+    "verdict-1-1-other",
+    "verdict-1-1-plain-",
+    "verdict-01-1-plain",
+    "parse-4-ids",
+    "parse-4-8",
+    "lookup-100",
+    "lookup-200-flat",
+    "create-100-plain",
+    "remove-100-flat",
+];
+
+#[test]
+fn no_other_word_names_work(rt: HostRuntime) {
+    for word in NO_WORK {
+        same(&rt, Work::read(word), None, word);
+    }
+}
+
+// The shapes of grants, and the text of each.
+fn texts() -> [(GrantShape, &'static str); 3] {
+    [
+        (grants(1, 1, Callers::Any), "allow rw path=/p0"),
+        (
+            grants(4, 1, Callers::Any),
+            "allow rw path=/x0, allow rw path=/x1, allow rw path=/x2, allow rw path=/p0",
+        ),
+        (
+            grants(1, 8, Callers::OneUser),
+            "allow rw path=/p0/p1/p2/p3/p4/p5/p6/p7 uid=1000 gids=1000,1001",
+        ),
+    ]
+}
+
+#[test]
+fn grants_differ_in_their_last_name(rt: HostRuntime) -> Result<(), Fail> {
+    for (shape, wanted) in texts() {
+        let text = grants_text(rt.alloc(), shape)?;
+        same(&rt, text.as_str(), wanted, shape);
+    }
+    Ok(())
+}
+
+// The words behind the program's name, with it.
+fn line_of(alloc: Global, words: &[&str]) -> Result<Vec<String>, Fail> {
+    let mut line = vec![in alloc; String::from_str(alloc, "capbench")?]?;
+    for word in words {
+        line.push(String::from_str(alloc, word)?)?;
+    }
+    Ok(line)
+}
+
+// Runs the program on a line: its status, what it prints, and whether it says nothing of faults.
+fn outcome(alloc: Global, line: &[String]) -> (u8, Vec<u8>, bool) {
+    let (mut text, mut faults) = (Vec::new(alloc), Vec::new(alloc));
+    let status = dispatch(alloc, line, &mut text, &mut faults);
+    (status, text, faults.is_empty())
+}
+
+// Runs the program on these words and compares what it prints and its status.
+fn expect(
+    rt: &impl Abort,
+    alloc: Global,
+    words: &[&str],
+    printed: &str,
+    status: u8,
+) -> Result<(), Fail> {
+    let line = line_of(alloc, words)?;
+    let (ended, text, is_quiet) = outcome(alloc, line.as_slice());
+    same(rt, text.as_slice(), printed.as_bytes(), ("text", words));
+    same(rt, ended, status, ("status", words));
+    same(rt, is_quiet, status == 0, ("no faults", words));
+    Ok(())
+}
+
+/// A piece of work, how many times it is done, and what is printed.
+const SUMS: [(&str, &str, &str); 11] = [
+    // The last grant is the one that allows.
+    ("verdict-1-1-plain", "7", "sum 7\n"),
+    ("verdict-4-8-ids", "7", "sum 28\n"),
+    ("verdict-16-32-ids", "3", "sum 48\n"),
+    // Each time as many grants are read.
+    ("parse-1-plain", "7", "sum 7\n"),
+    ("parse-4-8-ids", "7", "sum 28\n"),
+    ("parse-16-32-plain", "3", "sum 48\n"),
+    // The places are 0, 19 and 38, and the first of a hundred inodes has the number 2.
+    ("lookup-100-flat", "3", "sum 63\n"),
+    ("lookup-100-deep", "3", "sum 63\n"),
+    // After the hundred inodes come those with the numbers 102, 103 and 104.
+    ("create-100-flat", "3", "sum 309\n"),
+    ("create-100-deep", "3", "sum 309\n"),
+    ("create-100-deep", "0", "sum 0\n"),
+];
+
+// Runs the program on a piece of work twice.
+fn expect_twice(rt: &impl Abort, alloc: Global, words: &[&str], printed: &str) -> Result<(), Fail> {
+    for _ in 0..2 {
+        expect(rt, alloc, words, printed, 0)?;
+    }
+    Ok(())
+}
+
+#[test]
+fn each_work_prints_its_sum_twice(rt: HostRuntime) -> Result<(), Fail> {
+    for (work, times, printed) in SUMS {
+        expect_twice(&rt, rt.alloc(), &[work, times], printed)?;
+    }
+    Ok(())
+}
+
+const WRONG_LINES: &[&[&str]] = &[
+    &[],
+    &["parse-1-plain"],
+    &["parse-1-plain", "1", "1"],
+    &["parse-1-plain", "-1"],
+    &["parse-1-plain", "4294967296"],
+    &["parse-2-plain", "1"],
+    // One inode more than the tree has room for.
+    &["create-60000-flat", "5536"],
+];
+
+#[test]
+fn a_wrong_command_line_is_refused(rt: HostRuntime) -> Result<(), Fail> {
+    for words in WRONG_LINES {
+        expect(&rt, rt.alloc(), words, "", 2)?;
+    }
+    Ok(())
+}

@@ -1,0 +1,549 @@
+//! Whole command lines: the words in, the bytes out, the status.
+
+use crate::asserting::{holds, same};
+use crate::program_runs::{ALL_ROOM, Input, Outcome, Rooms, as_bytes, expect, outcome};
+use arrayvec::ArrayVec;
+use capcommand::{Fault, report};
+use capgrant::{Access, Rules, Verdict};
+use capquestion::{explain_line, read_access, spelled};
+use std::alloc::Global;
+use std::process::Abort;
+use std::test::Fail;
+
+/// An option and its value.
+type Given = (&'static str, &'static str);
+
+/// A question with all it needs: each option with its value.
+const QUESTION: [Given; 9] = [
+    ("--fs", "cephfs"),
+    (
+        "--grants",
+        "allow rw fsname=cephfs path=/a, allow r fsname=cephfs",
+    ),
+    ("--uid", "9"),
+    ("--gid", "50"),
+    ("--path", "/b/x"),
+    ("--owner", "7"),
+    ("--group", "50"),
+    ("--mode", "0640"),
+    ("--access", "write"),
+];
+
+/// The words of a question but for its grants and its path.
+const WITHOUT_PLACE: [&str; 8] = [
+    "explain",
+    "--fs=cephfs",
+    "--uid=9",
+    "--gid=50",
+    "--owner=7",
+    "--group=50",
+    "--mode=0640",
+    "--access=write",
+];
+
+const ANSWER: &str = "denied write /b/x grant 1 rule 4 path, grant 2 rule 5 no-write\n";
+
+fn is_changed(name: &str, changes: &[(&str, &str)]) -> bool {
+    changes.iter().any(|change| change.0 == name)
+}
+
+// The words of the question, with these options changed, or added to it at the end.
+fn words<'a>(alloc: Global, changes: &[(&'a str, &'a str)]) -> Result<Vec<Vec<u8>>, Fail> {
+    let mut words = vec![in alloc; "explain"]?;
+    for (name, value) in QUESTION {
+        if !is_changed(name, changes) {
+            words.push(name)?;
+            words.push(value)?;
+        }
+    }
+    push_all(&mut words, changes)?;
+    as_bytes(alloc, words.as_slice())
+}
+
+fn push_all<'a>(words: &mut Vec<&'a str>, options: &[(&'a str, &'a str)]) -> Result<(), Fail> {
+    for (name, value) in options {
+        words.push(*name)?;
+        words.push(*value)?;
+    }
+    Ok(())
+}
+
+// Asks the question with these options changed, and sees what is written, what is said of faults and the status.
+fn ask(
+    rt: &(impl AllocGlobal + Abort),
+    changes: &[(&str, &str)],
+    text: &str,
+    faults: &str,
+    status: u8,
+) -> Result<(), Fail> {
+    let words = words(rt.alloc(), changes)?;
+    expect(rt, words.as_slice(), text, faults, status);
+    Ok(())
+}
+
+const FOO: Given = ("--grants", "allow rw path=/foo");
+
+const SQUASH: Given = ("--grants", "allow rw root_squash");
+
+const OWN: Given = ("--grants", "allow rw uid=9 gids=50");
+
+const ROOT_USER: Given = ("--uid", "0");
+
+const ROOT_GROUP: Given = ("--gid", "0");
+
+const READ: Given = ("--access", "read");
+
+/// The options that are changed, and the answer.
+const ANSWERS: &[(&[Given], &str)] = &[
+    (&[], ANSWER),
+    (
+        &[FOO, ("--path", "/food")],
+        "denied write /food grant 1 rule 4 path\n",
+    ),
+    (&[FOO, ("--path", "/foo")], "allowed write /foo grant 1\n"),
+    (
+        &[FOO, ("--path", "//foo/bar/")],
+        "allowed write /foo/bar grant 1\n",
+    ),
+    (
+        &[FOO, ("--path", "/")],
+        "denied write / grant 1 rule 4 path\n",
+    ),
+    (
+        &[FOO, ("--path", "")],
+        "denied write / grant 1 rule 4 path\n",
+    ),
+    (
+        &[SQUASH, ROOT_USER, ("--gid", "5"), ("--path", "/f"), READ],
+        "allowed read /f grant 1\n",
+    ),
+    (
+        &[SQUASH, ROOT_USER, ("--gid", "5"), ("--path", "/f")],
+        "denied write /f grant 1 rule 6 root-squash\n",
+    ),
+    (
+        &[SQUASH, ("--uid", "5"), ROOT_GROUP, ("--path", "/f"), READ],
+        "allowed read /f grant 1\n",
+    ),
+    (
+        &[SQUASH, ("--uid", "5"), ROOT_GROUP, ("--path", "/f")],
+        "denied write /f grant 1 rule 6 root-squash\n",
+    ),
+    (&[OWN, READ], "allowed read /b/x grant 1\n"),
+    (&[OWN], "denied write /b/x grant 1 rule 11 mode-bits\n"),
+    (
+        &[("--grants", "allow rw uid=9"), READ],
+        "denied read /b/x grant 1 rule 11 mode-bits\n",
+    ),
+    (
+        &[("--access", "chown:9")],
+        "denied chown:9 /b/x grant 1 rule 4 path, grant 2 rule 5 no-write\n",
+    ),
+    (
+        &[("--access", "chgrp:007")],
+        "denied chgrp:7 /b/x grant 1 rule 4 path, grant 2 rule 5 no-write\n",
+    ),
+    // The class is that of a gid that the caller has and the grant lists.
+    (
+        &[OWN, READ, ("--gid", "1")],
+        "denied read /b/x grant 1 rule 3 gids\n",
+    ),
+    (
+        &[OWN, READ, ("--gid", "1"), ("--groups", "2,050")],
+        "allowed read /b/x grant 1\n",
+    ),
+    (&[("--groups", "4294967295")], ANSWER),
+    (&[("--groups", "1,2")], ANSWER),
+    (
+        &[("--groups", "1,2,3,4,5,6,7,8,9,10,11,12,13,14,15,16")],
+        ANSWER,
+    ),
+    // The question of the help's example.
+    (
+        &[
+            (
+                "--grants",
+                "allow r path=/pub, allow rw path=/data uid=1001 gids=200",
+            ),
+            ("--uid", "1001"),
+            ("--gid", "1001"),
+            ("--groups", "200,300"),
+            ("--path", "/data/report"),
+            ("--owner", "1002"),
+            ("--group", "200"),
+        ],
+        "denied write /data/report grant 1 rule 4 path, grant 2 rule 11 mode-bits\n",
+    ),
+];
+
+#[test]
+fn answers_with_one_line(rt: HostRuntime) -> Result<(), Fail> {
+    for (changes, line) in ANSWERS {
+        ask(&rt, changes, line, "", 0)?;
+    }
+    Ok(())
+}
+
+/// A text that means no grants, and what is said of it.
+const BAD_GRANTS: [(&str, &str); 13] = [
+    ("allow rw path=\"/a", "capd: grants: OpenQuote at 9\n"),
+    ("allow rwsp", "capd: grants: BadFlags at 6\n"),
+    ("allow rwf", "capd: grants: LeftOut at 6\n"),
+    ("", "capd: grants: Empty at 0\n"),
+    ("   ", "capd: grants: Empty at 3\n"),
+    (
+        "allow rw network 10.0.0.0/8",
+        "capd: grants: LeftOut at 9\n",
+    ),
+    ("allow r,", "capd: grants: NotAllow at 8\n"),
+    ("allow rw gids=1", "capd: grants: GidsWithoutUid at 9\n"),
+    ("allow rw uid=1 uid=2", "capd: grants: Twice at 15\n"),
+    ("allow rw uid=4294967296", "capd: grants: BadNumber at 9\n"),
+    ("allow rw path=/a*", "capd: grants: BadPath at 9\n"),
+    ("allow rw pa", "capd: grants: BadItem at 9\n"),
+    (
+        "allow r,allow r,allow r,allow r,allow r,allow r,allow r,allow r,allow r,allow r,allow r,allow r,allow r,allow r,allow r,allow r,allow r",
+        "capd: grants: TooMany at 128\n",
+    ),
+];
+
+#[test]
+fn names_the_fault_of_the_grants(rt: HostRuntime) -> Result<(), Fail> {
+    for (grants, faults) in BAD_GRANTS {
+        // A bad file system comes after bad grants.
+        ask(&rt, &[("--grants", grants), ("--fs", "*")], "", faults, 1)?;
+    }
+    Ok(())
+}
+
+/// A text, what is written, what is said of faults, and the status.
+const WRITTEN_GRANTS: [(&str, &str, &str, u8); 6] = [
+    (
+        "allow rw uid=1 gids=1,2,allow r",
+        "allow rw uid=1 gids=1,2, allow r\n",
+        "",
+        0,
+    ),
+    ("allow rwps", "allow rwps\n", "", 0),
+    ("allow *", "allow rwps\n", "", 0),
+    ("allow rwsp", "", "capd: grants: BadFlags at 6\n", 1),
+    ("allow rwf", "", "capd: grants: LeftOut at 6\n", 1),
+    ("", "", "capd: grants: Empty at 0\n", 1),
+];
+
+#[test]
+fn writes_grants_in_their_one_form(rt: HostRuntime) -> Result<(), Fail> {
+    for (text, line, faults, status) in WRITTEN_GRANTS {
+        let words = as_bytes(rt.alloc(), &["grants", text])?;
+        expect(&rt, words.as_slice(), line, faults, status);
+    }
+    Ok(())
+}
+
+/// A bad value of each option but the grants, in the order in which they are read.
+const BAD_VALUES: [Given; 9] = [
+    ("--fs", "*"),
+    ("--uid", "4294967296"),
+    ("--gid", "+5"),
+    ("--groups", ""),
+    (
+        "--path",
+        "/1/2/3/4/5/6/7/8/9/10/11/12/13/14/15/16/17/18/19/20/21/22/23/24/25/26/27/28/29/30/31/32/33",
+    ),
+    ("--owner", ""),
+    ("--group", "x"),
+    ("--mode", "00640"),
+    ("--access", "fly"),
+];
+
+#[test]
+fn names_the_first_bad_value(rt: HostRuntime) -> Result<(), Fail> {
+    for (first, change) in BAD_VALUES.iter().enumerate() {
+        let faults = format!(in rt.alloc(); "capd: bad value of {}\n", change.0)?;
+        // All from this one on are bad.
+        ask(&rt, &BAD_VALUES[first..], "", faults.as_str(), 1)?;
+    }
+    Ok(())
+}
+
+const BAD_GROUPS: [&str; 8] = [
+    "",
+    "-",
+    "1,",
+    ",1",
+    "1,,2",
+    "1, 2",
+    "4294967296",
+    "1,2,3,4,5,6,7,8,9,10,11,12,13,14,15,16,17",
+];
+
+#[test]
+fn refuses_bad_groups(rt: HostRuntime) -> Result<(), Fail> {
+    let faults = "capd: bad value of --groups\n";
+    for groups in BAD_GROUPS {
+        ask(&rt, &[("--groups", groups)], "", faults, 1)?;
+    }
+    Ok(())
+}
+
+// A name of so many bytes.
+fn long_name(alloc: Global, count: usize) -> Result<String, Fail> {
+    let mut name = String::new(alloc);
+    for _ in 0..count {
+        name.push('n')?;
+    }
+    Ok(name)
+}
+
+#[test]
+fn names_have_255_bytes_at_most(rt: HostRuntime) -> Result<(), Fail> {
+    let path = long_name(rt.alloc(), 255)?;
+    let line = format!(in rt.alloc();
+        "denied write /{path} grant 1 rule 4 path, grant 2 rule 5 no-write\n"
+    )?;
+    ask(&rt, &[("--path", path.as_str())], line.as_str(), "", 0)
+}
+
+#[test]
+fn names_of_256_bytes_are_refused(rt: HostRuntime) -> Result<(), Fail> {
+    let path = long_name(rt.alloc(), 256)?;
+    let faults = "capd: bad value of --path\n";
+    ask(&rt, &[("--path", path.as_str())], "", faults, 1)
+}
+
+// The words of the question but for this option.
+fn words_without(alloc: Global, missing: &str) -> Result<Vec<Vec<u8>>, Fail> {
+    let mut words = vec![in alloc; "explain"]?;
+    for (name, value) in QUESTION {
+        if name != missing {
+            words.push(name)?;
+            words.push(value)?;
+        }
+    }
+    as_bytes(alloc, words.as_slice())
+}
+
+// Each option but `--groups` is needed, and is named where it is missing.
+#[test]
+fn a_missing_option_is_a_wrong_command_line(rt: HostRuntime) -> Result<(), Fail> {
+    for (missing, _) in QUESTION {
+        let words = words_without(rt.alloc(), missing)?;
+        expect_part(&rt, words.as_slice(), missing.as_bytes(), 2);
+    }
+    Ok(())
+}
+
+const ACCESSES: [(&str, Option<Access>); 17] = [
+    ("read", Some(Access::Read)),
+    ("write", Some(Access::Write)),
+    ("vxattr", Some(Access::SetVxattr)),
+    ("snapshot", Some(Access::Snapshot)),
+    ("chmod", Some(Access::Chmod)),
+    ("chown:0", Some(Access::Chown(0))),
+    ("chown:4294967295", Some(Access::Chown(4_294_967_295))),
+    ("chgrp:0050", Some(Access::Chgrp(50))),
+    ("", None),
+    ("Read", None),
+    ("reads", None),
+    ("chown", None),
+    ("chown:", None),
+    ("chown:-1", None),
+    ("chown:4294967296", None),
+    ("chgrp:x", None),
+    ("chgrp: 5", None),
+];
+
+#[test]
+fn reads_the_words_of_accesses(rt: HostRuntime) {
+    for (word, access) in ACCESSES {
+        same(&rt, read_access(word.as_bytes()), access, word);
+    }
+}
+
+/// A text, and the bytes that it spells: a character above 255 stands for its bytes in UTF-8.
+const SPELLINGS: [(&str, &[u8]); 7] = [
+    ("", b""),
+    ("a/b", b"a/b"),
+    ("\u{e9}\u{ff}", b"\xe9\xff"),
+    ("\u{100}", b"\xc4\x80"),
+    ("a\u{2019}b", b"a\xe2\x80\x99b"),
+    ("\u{1f980}", b"\xf0\x9f\xa6\x80"),
+    ("\u{ff}\u{101}\u{80}", b"\xff\xc4\x81\x80"),
+];
+
+#[test]
+fn texts_spell_bytes(rt: HostRuntime) -> Result<(), Fail> {
+    for (text, wanted) in SPELLINGS {
+        let bytes = spelled(rt.alloc(), text)?;
+        same(&rt, bytes.as_slice(), wanted, text);
+    }
+    Ok(())
+}
+
+// The status of want of memory, and what is said of it.
+fn reported_want_of_memory(alloc: Global) -> (u8, Vec<u8>) {
+    let mut faults = Vec::new(alloc);
+    let status = report(Fault::NoMemory, &mut faults);
+    (status, faults)
+}
+
+// No command line of a test lacks memory.
+#[test]
+fn want_of_memory_has_its_line(rt: HostRuntime) {
+    let (status, faults) = reported_want_of_memory(rt.alloc());
+    same(&rt, status, 1, "status");
+    same(&rt, faults.as_slice(), b"capd: no memory\n", "faults");
+}
+
+/// Two words that no text holds, and the answer.
+const ANY_BYTES: [(&[u8], &[u8], &[u8]); 3] = [
+    (
+        b"--grants=allow rw path=/a",
+        b"--path=/\xff",
+        b"denied write /\xff grant 1 rule 4 path\n",
+    ),
+    (
+        b"--grants=allow rw path=\"/\xff\xc3\xa9\"",
+        b"--path=/\xff\xc3\xa9/x",
+        b"allowed write /\xff\xc3\xa9/x grant 1\n",
+    ),
+    (
+        b"--grants=allow rw path='/\xc3\xa9'",
+        b"--path=/\xe9",
+        b"denied write /\xe9 grant 1 rule 4 path\n",
+    ),
+];
+
+// A byte that is no UTF-8 comes out as it came in, in the answer and in what is said of a wrong word.
+#[test]
+fn a_word_may_hold_any_byte(rt: HostRuntime) -> Result<(), Fail> {
+    for (grants, path, line) in ANY_BYTES {
+        let mut words = as_bytes(rt.alloc(), &WITHOUT_PLACE)?;
+        words.push(grants.to_vec(rt.alloc())?)?;
+        words.push(path.to_vec(rt.alloc())?)?;
+        expect_part(&rt, words.as_slice(), line, 0);
+    }
+    Ok(())
+}
+
+#[test]
+fn a_wrong_word_may_hold_any_byte(rt: HostRuntime) -> Result<(), Fail> {
+    let unknown = vec![in rt.alloc(); b"fl\xff".to_vec(rt.alloc())?]?;
+    expect_part(
+        &rt,
+        unknown.as_slice(),
+        b"unrecognized subcommand 'fl\xff'",
+        2,
+    );
+    ask_with(&rt, b"--groups=1\xff")
+}
+
+// Asks the question with one word more, which is a bad value of the groups.
+fn ask_with(rt: &(impl AllocGlobal + Abort), word: &[u8]) -> Result<(), Fail> {
+    let mut words = words(rt.alloc(), &[])?;
+    words.push(word.to_vec(rt.alloc())?)?;
+    let faults = "capd: bad value of --groups\n";
+    expect(rt, words.as_slice(), "", faults, 1);
+    Ok(())
+}
+
+fn has_part(text: &[u8], part: &[u8]) -> bool {
+    text.windows(part.len().max(1)).any(|window| window == part)
+}
+
+// Runs `capd` on words that are wrong, or that ask for help: which of its outputs has a text is told by the status.
+fn expect_part(rt: &(impl AllocGlobal + Abort), words: &[Vec<u8>], part: &[u8], status: u8) {
+    let (got, text, faults) = outcome(rt, words, Input::whole(b""), ALL_ROOM);
+    same(rt, got, status, words);
+    let (said, other) = if status == 0 {
+        (text, faults)
+    } else {
+        (faults, text)
+    };
+    holds(rt, other.is_empty(), ("one output alone", words));
+    holds(rt, has_part(said.as_slice(), part), (part, words));
+}
+
+/// Words, a part of what is said of them, and the status.
+const SHOWN: &[(&[&str], &str, u8)] = &[
+    (&[], "requires a subcommand", 2),
+    (&["grants"], "<TEXT>", 2),
+    (&["grants", "allow r", "allow r"], "unexpected argument", 2),
+    (&["fly"], "unrecognized subcommand", 2),
+    (&["explain", "--grants", "allow r"], "--path <PATH>", 2),
+    (&["explain", "--fs", "a", "--fs=b"], "multiple times", 2),
+    (&["explain", "--fast"], "unexpected argument", 2),
+    (&["explain", "left", "over"], "unexpected argument", 2),
+    (&["--help"], "Usage: capd <COMMAND>", 0),
+    (&["grants", "--help"], "allow rwps path=/data uid=1001", 0),
+    (&["explain", "--help"], "Usage: capd explain [OPTIONS]", 0),
+    (&["explain", "-h"], "--mode <OCTAL>", 0),
+    (&["help", "explain"], "grant 2 rule 11 mode-bits", 0),
+];
+
+#[test]
+fn refuses_wrong_command_lines_and_shows_help(rt: HostRuntime) -> Result<(), Fail> {
+    for (words, part, status) in SHOWN {
+        let words = as_bytes(rt.alloc(), words)?;
+        expect_part(&rt, words.as_slice(), part.as_bytes(), *status);
+    }
+    Ok(())
+}
+
+// A value that begins with `-` needs the other form.
+#[test]
+fn a_value_may_begin_with_a_dash(rt: HostRuntime) -> Result<(), Fail> {
+    let apart = words(rt.alloc(), &[("--uid", "-5")])?;
+    expect_part(&rt, apart.as_slice(), b"unexpected argument", 2);
+    ask_with(&rt, b"--groups=-5")
+}
+
+const WRITE_FAILED: &[u8] = b"capd: write failed\n";
+
+// Runs `capd` on words with outputs that may fail.
+fn outcome_in(rt: &impl AllocGlobal, words: &[Vec<u8>], rooms: Rooms) -> Outcome {
+    outcome(rt, words, Input::whole(b""), rooms)
+}
+
+#[test]
+fn a_failing_writer_is_a_fault(rt: HostRuntime) -> Result<(), Fail> {
+    let question = words(rt.alloc(), &[])?;
+    let help = as_bytes(rt.alloc(), &["--help"])?;
+    for words in [question.as_slice(), help.as_slice()] {
+        for room in [0, 7] {
+            let (status, _, faults) = outcome_in(&rt, words, (room, usize::MAX));
+            same(&rt, status, 1, (words, room));
+            same(&rt, faults.as_slice(), WRITE_FAILED, (words, room));
+        }
+    }
+    Ok(())
+}
+
+#[test]
+fn a_fault_that_can_not_be_written_keeps_its_status(rt: HostRuntime) -> Result<(), Fail> {
+    let bad = words(rt.alloc(), &[("--mode", "8")])?;
+    let unknown = as_bytes(rt.alloc(), &["fly"])?;
+    for (words, wanted) in [(bad.as_slice(), 1), (unknown.as_slice(), 2)] {
+        for room in [0, 7] {
+            let (status, text, _) = outcome_in(&rt, words, (usize::MAX, room));
+            same(&rt, status, wanted, (words, room));
+            holds(&rt, text.is_empty(), (words, room));
+        }
+    }
+    Ok(())
+}
+
+#[test]
+fn a_client_without_grants_is_denied(rt: HostRuntime) -> Result<(), Fail> {
+    let denied = Verdict::Denied {
+        rules: Rules::from(ArrayVec::new()),
+    };
+    let line = explain_line(rt.alloc(), Access::Read, &[], &denied)?;
+    same(
+        &rt,
+        line.as_slice(),
+        b"denied read / no grants",
+        "no grants",
+    );
+    Ok(())
+}

@@ -1,0 +1,132 @@
+//! Runs of the program in tests: words and a reader in, a status and two texts out.
+
+use crate::asserting::same;
+use capcommand::dispatch;
+use std::alloc::Global;
+use std::fmt::Debug;
+use std::io;
+use std::io::{ErrorKind, Read, Write};
+use std::process::Abort;
+use std::test::Fail;
+
+/// Gives its bytes one by one, and fails once it was read so often.
+#[derive(Drop)]
+pub struct Input<'a> {
+    bytes: &'a [u8],
+    reads_left: usize,
+}
+
+impl<'a> Input<'a> {
+    pub fn whole(bytes: &'a [u8]) -> Self {
+        Input::failing(bytes, usize::MAX)
+    }
+
+    pub fn failing(bytes: &'a [u8], reads_left: usize) -> Self {
+        Input { bytes, reads_left }
+    }
+}
+
+impl Read for Input<'_> {
+    fn read(&mut self, buf: &mut [u8]) -> io::Result<usize> {
+        if self.reads_left == 0 {
+            return Err(io::Error::from(ErrorKind::BrokenPipe));
+        }
+        self.reads_left -= 1;
+        let count = self.bytes.len().min(1).min(buf.len());
+        let (front, rest) = self.bytes.split_at(count);
+        buf[..count].copy_from_slice(front);
+        self.bytes = rest;
+        Ok(count)
+    }
+}
+
+// Takes so many bytes, and then fails.
+#[derive(Drop)]
+struct Output<'a> {
+    text: &'a mut Vec<u8>,
+    room: usize,
+}
+
+impl Write for Output<'_> {
+    fn write(&mut self, bytes: &[u8]) -> io::Result<usize> {
+        let count = bytes.len().min(self.room);
+        if count == 0 {
+            return Err(io::Error::from(ErrorKind::BrokenPipe));
+        }
+        self.room -= count;
+        self.text.extend_from_slice(&bytes[..count])?;
+        Ok(count)
+    }
+
+    fn flush(&mut self) -> io::Result<()> {
+        Ok(())
+    }
+}
+
+/// How many bytes the output and that for faults take before they fail.
+pub type Rooms = (usize, usize);
+
+/// No output fails.
+pub const ALL_ROOM: Rooms = (usize::MAX, usize::MAX);
+
+/// The status of a run, what it wrote, and what it said of faults.
+pub type Outcome = (u8, Vec<u8>, Vec<u8>);
+
+/// Runs the program on these words.
+pub fn outcome(
+    rt: &impl AllocGlobal,
+    words: &[Vec<u8>],
+    reader: Input<'_>,
+    (room, room_for_faults): Rooms,
+) -> Outcome {
+    let mut reader = reader;
+    let (mut text, mut faults) = (Vec::new(rt.alloc()), Vec::new(rt.alloc()));
+    let mut writer = Output {
+        text: &mut text,
+        room,
+    };
+    let mut fault_writer = Output {
+        text: &mut faults,
+        room: room_for_faults,
+    };
+    let status = dispatch(rt, words, &mut reader, &mut writer, &mut fault_writer);
+    (status, text, faults)
+}
+
+/// Sees that a run had this status, and that these bytes were written and said of faults.
+pub fn had(
+    rt: &impl Abort,
+    found: Outcome,
+    (status, text, faults): (u8, &[u8], &[u8]),
+    place: impl Debug + Copy,
+) {
+    same(rt, found.1.as_slice(), text, ("output", place));
+    same(rt, found.2.as_slice(), faults, ("faults", place));
+    same(rt, found.0, status, ("status", place));
+}
+
+/// The words as a program gets them.
+pub fn as_bytes(alloc: Global, words: &[&str]) -> Result<Vec<Vec<u8>>, Fail> {
+    let mut all = Vec::new(alloc);
+    for word in words {
+        all.push(word.as_bytes().to_vec(alloc)?)?;
+    }
+    Ok(all)
+}
+
+/// Runs the program on the words, with nothing to be read, and sees what it writes, what it says of faults and its status.
+pub fn expect(
+    rt: &(impl AllocGlobal + Abort),
+    words: &[Vec<u8>],
+    text: &str,
+    faults: &str,
+    status: u8,
+) {
+    let found = outcome(rt, words, Input::whole(b"never read"), ALL_ROOM);
+    had(
+        rt,
+        found,
+        (status, text.as_bytes(), faults.as_bytes()),
+        words,
+    );
+}

@@ -1,0 +1,88 @@
+//! The words of command lines of all lengths, over an environment of the tests' own.
+
+use crate::asserting::same;
+use capcommand::words;
+use std::alloc::Global;
+use std::env::{Env, FillError};
+use std::test::Fail;
+
+// A command line. Its first word is the program's name.
+#[derive(Drop)]
+struct Line<'a> {
+    words: &'a [Vec<u8>],
+}
+
+impl Env for Line<'_> {
+    fn arg(&self, i: usize, buf: &mut [u8]) -> Result<usize, FillError> {
+        let word = self.words.get(i).ok_or(FillError::NotPresent)?;
+        if word.len() > buf.len() {
+            return Err(FillError::TooLong);
+        }
+        buf[..word.len()].copy_from_slice(word.as_slice());
+        Ok(word.len())
+    }
+
+    fn var(&self, _name: &str, _buf: &mut [u8]) -> Result<usize, FillError> {
+        Err(FillError::NotPresent)
+    }
+
+    fn var_at(&self, _i: usize, _buf: &mut [u8]) -> Result<usize, FillError> {
+        Err(FillError::NotPresent)
+    }
+}
+
+// A line whose words have these lengths. The bytes of a word are its number and those that follow.
+fn line_of(alloc: Global, lengths: &[usize]) -> Result<Vec<Vec<u8>>, Fail> {
+    let mut line = Vec::new(alloc);
+    for (number, length) in lengths.iter().enumerate() {
+        line.push(word_of(alloc, number, *length)?)?;
+    }
+    Ok(line)
+}
+
+fn word_of(alloc: Global, number: usize, length: usize) -> Result<Vec<u8>, Fail> {
+    let mut word = Vec::new(alloc);
+    for place in 0..length {
+        word.push((number.wrapping_add(place) % 251) as u8)?;
+    }
+    Ok(word)
+}
+
+// The words that are read from a line.
+fn read_words(alloc: Global, line: &[Vec<u8>]) -> Result<Vec<Vec<u8>>, Fail> {
+    Ok(words(&Line { words: line }, alloc)?)
+}
+
+// The lengths of the words of a line, that of the program's name first.
+const LINES: &[&[usize]] = &[
+    &[],
+    &[4],
+    &[4, 3],
+    &[4, 0],
+    &[4, 0, 0, 1],
+    &[4, 255, 256, 257],
+    &[300, 256],
+    &[0, 257, 0, 1000, 511, 512, 513, 1024, 1025],
+    &[4, 70_000],
+];
+
+#[test]
+fn all_bytes_of_all_words_are_read(rt: HostRuntime) -> Result<(), Fail> {
+    for lengths in LINES {
+        let line = line_of(rt.alloc(), lengths)?;
+        let found = read_words(rt.alloc(), line.as_slice())?;
+        let wanted = line.as_slice().get(1..).unwrap_or(&[]);
+        same(&rt, found.as_slice(), wanted, *lengths);
+    }
+    Ok(())
+}
+
+#[test]
+fn seventy_words_are_read(rt: HostRuntime) -> Result<(), Fail> {
+    let line = line_of(rt.alloc(), &[2; 71])?;
+    let found = read_words(rt.alloc(), line.as_slice())?;
+    same(&rt, found.len(), 70, "count");
+    let wanted = line.as_slice().get(1..).unwrap_or(&[]);
+    same(&rt, found.as_slice(), wanted, "words");
+    Ok(())
+}
