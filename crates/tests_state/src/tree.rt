@@ -130,6 +130,15 @@ fn a_refusal_prints_as_its_name(rt: HostRuntime) -> Result<(), Fail> {
         (Refusal::Loop, "Loop"),
         (Refusal::TooDeep, "TooDeep"),
         (Refusal::NoXattr, "NoXattr"),
+        (Refusal::NoEntry, "NoEntry"),
+        (Refusal::NotHeld, "NotHeld"),
+        (Refusal::NothingToAck, "NothingToAck"),
+        (Refusal::BadSeq, "BadSeq"),
+        (Refusal::OldSeq { need: 2 }, "OldSeq 2"),
+        (
+            Refusal::OldSeq { need: u64::MAX },
+            "OldSeq 18446744073709551615",
+        ),
         (Refusal::Limit, "Limit"),
     ] {
         let printed = format!(in rt.alloc(); "{refusal}")?;
