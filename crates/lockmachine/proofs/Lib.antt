@@ -2,3 +2,4 @@ pub mod Idle
 pub mod Rest
 pub mod Exact
 pub mod Queue
+pub mod Elsewhere

@@ -7,6 +7,7 @@ mod bytes;
 mod laws;
 mod locks;
 mod moves;
+mod policy_laws;
 mod request;
 mod states;
 
@@ -18,5 +19,10 @@ pub use laws::{
 };
 pub use locks::Locks;
 pub use moves::Move;
+pub use policy_laws::{
+    a_forgotten_stray_leaves_what_is_permitted, a_new_inode_leaves_what_is_permitted,
+    a_new_session_leaves_other_clients, a_new_session_leaves_what_is_permitted,
+    a_snapshot_leaves_what_is_permitted, policy_reads_one_session_and_one_inode,
+};
 pub use request::{Ask, Change, Request};
 pub use states::InodeLocks;
