@@ -2,3 +2,5 @@ pub mod Idle
 pub mod Rest
 pub mod Exact
 pub mod Queue
+pub mod Permitting
+pub mod Places

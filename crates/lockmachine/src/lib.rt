@@ -6,9 +6,12 @@
 mod bytes;
 mod laws;
 mod locks;
+mod making;
 mod moves;
+mod next;
 mod request;
 mod states;
+mod wants;
 
 pub use bytes::Bytes;
 pub use laws::{
@@ -20,3 +23,4 @@ pub use locks::Locks;
 pub use moves::Move;
 pub use request::{Ask, Change, Request};
 pub use states::InodeLocks;
+pub use wants::{Wants, effective_want, permitted, wants_on};

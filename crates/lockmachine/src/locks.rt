@@ -12,9 +12,9 @@ use std::marker::Model;
 /// The locks of all inodes, and the requests that wait for them.
 #[derive(Debug, Drop)]
 pub struct Locks {
-    states: States,
+    pub(crate) states: States,
     // The oldest first.
-    queue: Vec<Request>,
+    pub(crate) queue: Vec<Request>,
     // The last number that a request was given.
     last: u64,
 }

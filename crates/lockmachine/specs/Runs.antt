@@ -1,0 +1,38 @@
+-- The moves that locks make between two servings.
+use Rattle.std.specs.Prelude.{◌≡◌, ◌≤◌, Bool, true, false, ◌&&◌, ◌==◌, IsTrue, List, [], ◌∷◌, count_by}
+use Rattle.lockmachine.specs.declared.moves.Move.{Move}
+use Rattle.lockmachine.specs.declared.moves.Move.TheVariants.{Begin, End, Serve, Settled}
+use Rattle.lockmachine.specs.Requests.{same_part}
+use Rattle.lockmachine.specs.Scene.{Scene}
+use Rattle.lockmachine.specs.Moves.{LockPlace, first_move, with_moved}
+
+-- the move begins or ends a gather
+abbrev pub is_of_lock : Move → Bool
+is_of_lock (Begin ino part to) = true
+is_of_lock (End ino part) = true
+is_of_lock (Serve ticket) = false
+is_of_lock Settled = false
+
+-- gathers begin and end one after another, each by the first move that applies
+abbrev pub Runs : Scene → List Move → Scene → Type 0
+Runs old [] new = new ≡ old
+Runs old (step ∷ steps) new = (first_move old ≡ step) × IsTrue (is_of_lock step) × Runs (with_moved old step) steps new
+
+-- the move begins a gather of this lock
+abbrev pub is_begin_of : LockPlace → Move → Bool
+is_begin_of at (Begin ino part to) = (ino.0 == at.0) && same_part part at.1
+is_begin_of at (End ino part) = false
+is_begin_of at (Serve ticket) = false
+is_begin_of at Settled = false
+
+-- the move ends a gather of this lock
+abbrev pub is_end_of : LockPlace → Move → Bool
+is_end_of at (Begin ino part to) = false
+is_end_of at (End ino part) = (ino.0 == at.0) && same_part part at.1
+is_end_of at (Serve ticket) = false
+is_end_of at Settled = false
+
+-- each lock begins at most one gather and ends at most two
+pub record AreFew (steps : List Move) : Type 0 where
+  pub begun : (at : LockPlace) → count_by (is_begin_of at) steps ≤ 1
+  pub ended : (at : LockPlace) → count_by (is_end_of at) steps ≤ 2

@@ -1,0 +1,75 @@
+//! Making moves.
+ghost use Rattle.std.specs.Prelude.{◌≡◌, position};
+ghost use Rattle.lockmachine.specs.Requests.{is_numbered};
+ghost use Rattle.lockmachine.specs.Locks as words;
+ghost use Rattle.lockmachine.specs.Moves.{moved, handed, present_state, coming_state};
+
+use crate::locks::Locks;
+use crate::moves::Move;
+use crate::request::Request;
+use capbits::{Ino, Part, Ticket};
+use locktable::{LockState, State};
+
+impl Locks {
+    /// Makes a move. A request that is served waits no more, and is handed out to be judged. Where the move speaks of a
+    /// lock or a request that is not there, nothing happens.
+    pub fn apply_move(&mut self, step: Move) -> Option<Request>
+        ensures locks { self.new ≡ moved self.old step }
+        ensures request { result ≡ handed self.old step }
+    {
+        match step {
+            Move::Begin { ino, part, to } => {
+                let from = self.present_state(ino, part);
+                self.states.set(ino, part, LockState::Gather { from, to });
+                None
+            }
+            Move::End { ino, part } => {
+                let state = self.coming_state(ino, part);
+                self.states.set(ino, part, LockState::Stable(state));
+                None
+            }
+            Move::Serve(ticket) => self.take_request(ticket),
+            Move::Settled => None,
+        }
+    }
+
+    // Takes a request out of the queue.
+    fn take_request(&mut self, ticket: Ticket) -> Option<Request>
+        ensures left { self.new ≡ words.without_request self.old ticket.0 }
+        ensures taken { result ≡ words.request_at self.old ticket.0 }
+    {
+        let place = self.place_of(ticket)?;
+        Some(self.queue.remove(place))
+    }
+
+    // The place of a request in the queue.
+    fn place_of(&self, ticket: Ticket) -> Option<usize>
+        ensures { result ≡ position (is_numbered ticket.0) self.now.queue }
+    {
+        self.queue
+            .iter()
+            .position(|request| request.ticket.0 == ticket.0)
+    }
+
+    // The state that the lock has reached, or leaves in a gather.
+    pub(crate) fn present_state(&self, ino: Ino, part: Part) -> State
+        ensures { result ≡ present_state (words.lock_at self.now ino.0 part) }
+    {
+        match self.state(ino, part) {
+            Some(LockState::Stable(state)) => state,
+            Some(LockState::Gather { from, .. }) => from,
+            None => State::Sync,
+        }
+    }
+
+    // The state that the lock has reached, or is to reach.
+    fn coming_state(&self, ino: Ino, part: Part) -> State
+        ensures { result ≡ coming_state (words.lock_at self.now ino.0 part) }
+    {
+        match self.state(ino, part) {
+            Some(LockState::Stable(state)) => state,
+            Some(LockState::Gather { to, .. }) => to,
+            None => State::Sync,
+        }
+    }
+}
