@@ -4,3 +4,5 @@ pub mod Exact
 pub mod Queue
 pub mod Permitting
 pub mod Places
+pub mod Moving
+pub mod Ending

@@ -20,7 +20,7 @@ Runs old (step ∷ steps) new = (first_move old ≡ step) × IsTrue (is_of_lock 
 
 -- the move begins a gather of this lock
 abbrev pub is_begin_of : LockPlace → Move → Bool
-is_begin_of at (Begin ino part to) = (ino.0 == at.0) && same_part part at.1
+is_begin_of at (Begin ino part to) = (at.0 == ino.0) && same_part at.1 part
 is_begin_of at (End ino part) = false
 is_begin_of at (Serve ticket) = false
 is_begin_of at Settled = false
@@ -28,7 +28,7 @@ is_begin_of at Settled = false
 -- the move ends a gather of this lock
 abbrev pub is_end_of : LockPlace → Move → Bool
 is_end_of at (Begin ino part to) = false
-is_end_of at (End ino part) = (ino.0 == at.0) && same_part part at.1
+is_end_of at (End ino part) = (at.0 == ino.0) && same_part at.1 part
 is_end_of at (Serve ticket) = false
 is_end_of at Settled = false
 

@@ -1,6 +1,6 @@
 //! Laws of the locks. No program needs to call them.
 
-ghost use Rattle.std.specs.Prelude.{◌≡◌, ◌<◌, ℕ, [], Some, Contains, length};
+ghost use Rattle.std.specs.Prelude.{◌≡◌, ◌<◌, ℕ, List, [], Some, Contains, length};
 ghost use Rattle.std.specs.FinMap as map;
 ghost use Rattle.lockmachine.specs.declared.states.InodeLocks.{InodeLocks};
 ghost use Rattle.capbits.specs.declared.ids.ClientId.{ClientId};
@@ -14,6 +14,7 @@ ghost use Rattle.lockmachine.specs.Inodes.{in_sync};
 ghost use Rattle.lockmachine.specs.Scene.{Scene};
 ghost use Rattle.lockmachine.specs.Locks.{LockMap, IsLockMap, TakesOnly, request_at, with_request, without_request};
 ghost use Rattle.lockmachine.specs.Moves.{first_move, moved, IsFirstServed, IsAtRest, WaitAtLocks};
+ghost use Rattle.lockmachine.specs.Runs.{Runs, AreFew};
 
 /// Where no move applies, and who waits, waits for a lock that is there, the locks are at rest: each is stable at its
 /// target and nobody waits for it, or it gathers and some capabilities are still to be told back.
@@ -24,6 +25,11 @@ pub fn settled_is_at_rest()
 /// Where the locks are at rest, no move applies.
 pub fn at_rest_is_settled()
     ensures { (s : Scene) → IsAtRest s → first_move s ≡ Settled }
+{}
+
+/// Between two servings each lock begins at most one gather and ends at most two. So locks come to rest.
+pub fn between_servings_locks_move_little()
+    ensures { (s t : Scene) (steps : List Move) → Runs s steps t → AreFew steps }
 {}
 
 /// Where nobody has an entry and nobody waits, locks that are in SYNC are settled.
