@@ -6,3 +6,5 @@ pub mod Permitting
 pub mod Places
 pub mod Moving
 pub mod Ending
+pub mod Settling
+pub mod InRows

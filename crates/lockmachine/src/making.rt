@@ -1,14 +1,23 @@
 //! Making moves.
-ghost use Rattle.std.specs.Prelude.{◌≡◌, position};
+ghost use Rattle.std.specs.Prelude.{◌≡◌, ◌≢◌, ℕ, List, position};
+ghost use Rattle.capbits.specs.declared.cap.Part.{Part};
+ghost use Rattle.lockmachine.specs.declared.moves.Move.{Move as Step};
+ghost use Rattle.lockmachine.specs.declared.moves.Move.TheVariants.{Settled};
 ghost use Rattle.lockmachine.specs.Requests.{is_numbered};
 ghost use Rattle.lockmachine.specs.Locks as words;
-ghost use Rattle.lockmachine.specs.Moves.{moved, handed, present_state, coming_state};
+ghost use Rattle.lockmachine.specs.Moves.{moved, handed, present_state, coming_state, first_move, IsQuietBut, NobodyWaits};
+ghost use Rattle.lockmachine.specs.Runs.{Runs, AreFew};
+ghost use Rattle.lockmachine.specs.Scene.{scene};
 
 use crate::locks::Locks;
 use crate::moves::Move;
 use crate::request::Request;
 use capbits::{Ino, Part, Ticket};
+use capspec::FsName;
+use captable::CapTable;
+use inotree::Tree;
 use locktable::{LockState, State};
+use sessiontab::Sessions;
 
 impl Locks {
     /// Makes a move. A request that is served waits no more, and is handed out to be judged. Where the move speaks of a
@@ -71,5 +80,42 @@ impl Locks {
             Some(LockState::Gather { to, .. }) => to,
             None => State::Sync,
         }
+    }
+}
+
+impl Locks {
+    /// Makes the moves at one inode, always the first that applies, until none does. Nobody waits at this inode, and the
+    /// locks of every other are quiet.
+    pub fn settle_at(
+        &mut self,
+        table: &CapTable,
+        sessions: &Sessions,
+        tree: &Tree,
+        fs: &FsName,
+        ino: Ino,
+    )
+        requires nobody_waits { NobodyWaits self.old.queue ino.0 }
+        requires quiet { IsQuietBut (scene fs.now tree.now sessions.now table.now self.old) ino.0 }
+
+        // Each lock begins at most one gather and ends at most two.
+        ensures moves { (steps : List Step) × AreFew steps
+            × Runs (scene fs.now tree.now sessions.now table.now self.old) steps (scene fs.now tree.now sessions.now table.now self.new) }
+        ensures settled { first_move (scene fs.now tree.now sessions.now table.now self.new) ≡ Settled }
+        ensures elsewhere { (other : ℕ) (part : Part) → other ≢ ino.0 → words.lock_at self.new other part ≡ words.lock_at self.old other part }
+        ensures queue { self.new.queue ≡ self.old.queue }
+    {
+        'moves: loop {
+            match self.next_move_at(table, sessions, tree, fs, ino) {
+                Move::Settled => return,
+                step => self.make(step),
+            }
+        }
+    }
+
+    // Makes a move that serves nobody.
+    fn make(&mut self, step: Move)
+        ensures { self.new ≡ moved self.old step }
+    {
+        let _nobody = self.apply_move(step);
     }
 }
