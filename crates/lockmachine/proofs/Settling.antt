@@ -1,18 +1,21 @@
--- Moves at one inode, where the locks of all others are quiet and nobody waits at the inode.
-use Rattle.std.proofs.Common.{◌≡◌, ◌≢◌, ℕ, ◌+◌, ◌<◌, Bool, true, false, cond, ◌&&◌, ◌==◌, List, [], ◌∷◌, ◌++◌, refl, sym, ap, subst, ◌∙◌, arith, true≢false, eq-eqb}
+-- Moves at one inode, where the locks of all others are quiet.
+use Rattle.std.proofs.Common.{◌≡◌, ◌≢◌, ℕ, ◌+◌, ◌<◌, Bool, true, false, cond, ◌&&◌, ◌==◌, Option, Some, None, List, [], ◌∷◌, ◌++◌, refl, sym, ap, subst, ◌∙◌, arith, true≢false, eq-eqb}
 use Rattle.std.specs.Prelude.{IsTrue}
 use Rattle.std.specs.Option.{option_map_or}
 use Rattle.std.proofs.lemmas.Bool.{eqb-true, eqb-false}
+use Rattle.std.proofs.lemmas.Option.{none-some}
+use Rattle.capbits.specs.declared.ids.Ticket.{Ticket}
 use Rattle.capbits.specs.declared.cap.Part.{Part}
 use Rattle.capbits.specs.declared.cap.Part.TheVariants.{A, L, X, F}
+use Rattle.locktable.specs.declared.states.LockState.{LockState}
 use Rattle.locktable.specs.declared.states.LockState.TheVariants.{Stable, Gather}
 use Rattle.lockmachine.specs.declared.request.Request.{Request}
 use Rattle.lockmachine.specs.declared.moves.Move.{Move}
 use Rattle.lockmachine.specs.declared.moves.Move.TheVariants.{Begin, End, Serve, Settled}
 use Rattle.lockmachine.specs.Requests.{same_part, part_of_ask, head_of_ask, is_numbered}
-use Rattle.lockmachine.specs.Locks.{LockMap, lock_at}
+use Rattle.lockmachine.specs.Locks.{LockMap, lock_at, with_lock}
 use Rattle.lockmachine.specs.Scene.{Scene}
-use Rattle.lockmachine.specs.Moves.{LockPlace, may_end, may_begin, may_serve, is_served_in, present_state, coming_state, first_move, moved, with_moved, IsQuiet, IsQuietBut, NobodyWaits}
+use Rattle.lockmachine.specs.Moves.{LockPlace, may_end, may_begin, may_serve, is_served_in, present_state, coming_state, first_move, moved, with_moved, serve_or_rest, IsQuiet, IsQuietBut, NobodyWaits}
 use Rattle.lockmachine.specs.Runs.{is_of_lock, Runs, is_begin_of, is_end_of}
 use Rattle.lockmachine.proofs.Exact.{ends_not, begins_not, serves_not}
 use Rattle.lockmachine.proofs.Idle.{find_nothing}
@@ -82,24 +85,43 @@ module _ (s : Scene) (ino : ℕ) (quiet : IsQuietBut s ino) where
     | false ↦ λ e. serves_not s q (lock_at s.locks q.ino.0 (part_of_ask q.ask)) (quiet.each_other q.ino.0 (part_of_ask q.ask) (eqb-false q.ino.0 ino e))
   ] refl
 
-  pub moves_here : NobodyWaits s.locks.queue ino → (step : Move) → IsMove s step → step ≢ Settled → IsMoveAt ino step
-  moves_here nobody (Begin i part to) is unsettled =
+  moves_here : (step : Move) → IsMove s step → IsTrue (is_of_lock step) → IsMoveAt ino step
+  moves_here (Begin i part to) is of_lock =
       only_here (may_begin s) (λ other part n. begins_not s (other, part) (lock_at s.locks other part) (quiet.each_other other part n)) i.0 part is.0
-  moves_here nobody (End i part) is unsettled =
+  moves_here (End i part) is of_lock =
       only_here (may_end s) (λ other part n. ends_not s (other, part) (lock_at s.locks other part) (quiet.each_other other part n)) i.0 part is
-  moves_here nobody (Serve ticket) (q, found) unsettled = let none = find_nothing (may_serve s.locks) (none_served nobody) s.locks.queue in cc
-  moves_here nobody Settled is unsettled = unsettled refl
+  moves_here (Serve ticket) is of_lock = absurd (true≢false (sym of_lock))
+  moves_here Settled is of_lock = absurd (true≢false (sym of_lock))
 
-  -- what it leaves: the locks of every other inode, and the queue
-  pub elsewhere_kept : (step : Move) → IsMoveAt ino step → (other : ℕ) (part : Part) → other ≢ ino → lock_at (with_moved s step).locks other part ≡ lock_at s.locks other part
-  elsewhere_kept (Begin i p to) at other part n =
-      with_lock-each s.locks i.0 p (Gather (present_state (lock_at s.locks i.0 p)) to) (λ b (at : LockPlace) o. at.0 ≢ ino → o ≡ locks_of s at) (λ off. absurd (off at)) (λ (at : LockPlace) off. refl) (other, part) n
-  elsewhere_kept (End i p) at other part n =
-      with_lock-each s.locks i.0 p (Stable (coming_state (lock_at s.locks i.0 p))) (λ b (at : LockPlace) o. at.0 ≢ ino → o ≡ locks_of s at) (λ off. absurd (off at)) (λ (at : LockPlace) off. refl) (other, part) n
-  elsewhere_kept (Serve ticket) at other part n = absurd at
-  elsewhere_kept Settled at other part n = absurd at
+-- where nobody waits at the inode, none is served
+pub settled_by : (s : Scene) (ino : ℕ) (served : Option Ticket) → IsQuietBut s ino → NobodyWaits s.locks.queue ino → first_move s ≡ serve_or_rest served → first_move s ≡ Settled
+settled_by s ino None quiet nobody is = is
+settled_by s ino (Some ticket) quiet nobody is =
+    let found = subst (IsMove s) is (first_is s) in
+    let none = find_nothing (may_serve s.locks) (none_served s ino quiet nobody) s.locks.queue in
+    absurd (none-some found.0 (sym none ∙ found.1))
 
--- ---- a run of them
+-- ---- a move, and a run of them
+
+-- the move puts one lock of the inode in another state
+record IsOfOne (t new : LockMap) (ino : ℕ) : Type 0 where
+  part : Part
+  lock : LockState
+  is : new ≡ with_lock t ino part lock
+
+of_one : (t : LockMap) (ino : ℕ) (step : Move) → IsMoveAt ino step → IsOfOne t (moved t step) ino
+of_one t ino (Begin i p to) at =
+    let lock = Gather (present_state (lock_at t i.0 p)) to in
+    record { part = p; lock = lock; is = ap (λ n. with_lock t n p lock) at }
+of_one t ino (End i p) at =
+    let lock = Stable (coming_state (lock_at t i.0 p)) in
+    record { part = p; lock = lock; is = ap (λ n. with_lock t n p lock) at }
+of_one t ino (Serve ticket) at = absurd at
+of_one t ino Settled at = absurd at
+
+elsewhere_kept : (t : LockMap) (ino : ℕ) (p : Part) (lock : LockState) (other : ℕ) (part : Part) → other ≢ ino → lock_at (with_lock t ino p lock) other part ≡ lock_at t other part
+elsewhere_kept t ino p lock other part =
+    with_lock-each t ino p lock (λ b (at : LockPlace) o. at.0 ≢ ino → o ≡ lock_at t at.0 at.1) (λ off. absurd (off refl)) (λ at off. refl) (other, part)
 
 runs_more : (a : Scene) (steps : List Move) (b : Scene) (step : Move) → Runs a steps b → first_move b ≡ step → IsTrue (is_of_lock step) → Runs a (steps ++ step ∷ []) (with_moved b step)
 runs_more a [] b step is first of_lock = (subst (λ s. first_move s ≡ step) is first, of_lock, ap (λ s. with_moved s step) is)
@@ -110,7 +132,6 @@ pub record SoFar (first now : Scene) (ino : ℕ) : Type 0 where
   pub steps : List Move
   pub runs : Runs first steps now
   pub quiet : IsQuietBut now ino
-  pub nobody : NobodyWaits now.locks.queue ino
   pub elsewhere : (other : ℕ) (part : Part) → other ≢ ino → lock_at now.locks other part ≡ lock_at first.locks other part
   pub queue : now.locks.queue ≡ first.locks.queue
 
@@ -118,42 +139,29 @@ pub record OneMore (first now new : Scene) (ino : ℕ) : Type 0 where
   pub so_far : SoFar first new ino
   pub fewer : moves_left new ino < moves_left now ino
 
-with_quiet : (now : Scene) (ino : ℕ) (step : Move) → IsMoveAt ino step → IsQuietBut now ino → IsQuietBut (with_moved now step) ino
-with_quiet now ino (Begin i p to) at quiet = record {
-  each_other = λ other part n. subst (IsQuiet now other part) (sym (elsewhere_kept now ino quiet (Begin i p to) at other part n)) (quiet.each_other other part n);
-}
-with_quiet now ino (End i p) at quiet = record {
-  each_other = λ other part n. subst (IsQuiet now other part) (sym (elsewhere_kept now ino quiet (End i p) at other part n)) (quiet.each_other other part n);
-}
-with_quiet now ino (Serve ticket) at quiet = absurd at
-with_quiet now ino Settled at quiet = absurd at
+-- what neither serves nor rests begins or ends a gather
+is_lock_move : (step : Move) → step ≢ Settled → ((ticket : Ticket) → step ≢ Serve ticket) → IsTrue (is_of_lock step)
+is_lock_move (Begin ino part to) unsettled unserved = refl
+is_lock_move (End ino part) unsettled unserved = refl
+is_lock_move (Serve ticket) unsettled unserved = absurd (unserved ticket refl)
+is_lock_move Settled unsettled unserved = absurd (unsettled refl)
 
-same_queue : (now : Scene) (ino : ℕ) (step : Move) → IsMoveAt ino step → (with_moved now step).locks.queue ≡ now.locks.queue
-same_queue now ino (Begin i p to) at = refl
-same_queue now ino (End i p) at = refl
-same_queue now ino (Serve ticket) at = absurd at
-same_queue now ino Settled at = absurd at
-
-of_lock_at : (ino : ℕ) (step : Move) → IsMoveAt ino step → IsTrue (is_of_lock step)
-of_lock_at ino (Begin i p to) at = refl
-of_lock_at ino (End i p) at = refl
-of_lock_at ino (Serve ticket) at = absurd at
-of_lock_at ino Settled at = absurd at
-
-pub one_more : (first now : Scene) (ino : ℕ) (step : Move) (new : LockMap) → SoFar first now ino → step ≡ first_move now → step ≢ Settled → new ≡ moved now.locks step → OneMore first now (record now { locks = new }) ino
-one_more first now ino step new so is unsettled new_is =
+pub one_more : (first now : Scene) (ino : ℕ) (step : Move) (new : LockMap) → SoFar first now ino → step ≡ first_move now → step ≢ Settled → ((ticket : Ticket) → step ≢ Serve ticket) → new ≡ moved now.locks step
+    → OneMore first now (record now { locks = new }) ino
+one_more first now ino step new so is unsettled unserved new_is =
     let move = subst (IsMove now) (sym is) (first_is now) in
-    let at = moves_here now ino so.quiet so.nobody step move unsettled in
-    let of_lock = of_lock_at ino step at in
-    subst (λ (t : LockMap). OneMore first now (record now { locks = t }) ino) (sym new_is)
+    let of_lock = is_lock_move step unsettled unserved in
+    let at = moves_here now ino so.quiet step move of_lock in
+    let one = of_one now.locks ino step at in
+    let kept = elsewhere_kept now.locks ino one.part one.lock in
+    subst (λ (t : LockMap). OneMore first now (record now { locks = t }) ino) (sym (new_is ∙ one.is))
     (record {
       so_far = record {
         steps = so.steps ++ step ∷ [];
-        runs = runs_more first so.steps now step so.runs (sym is) of_lock;
-        quiet = with_quiet now ino step at so.quiet;
-        nobody = subst (λ queue. NobodyWaits queue ino) (sym (same_queue now ino step at)) so.nobody;
-        elsewhere = λ other part n. elsewhere_kept now ino so.quiet step at other part n ∙ so.elsewhere other part n;
-        queue = same_queue now ino step at ∙ so.queue;
+        runs = subst (λ (t : LockMap). Runs first (so.steps ++ step ∷ []) (record now { locks = t })) one.is (runs_more first so.steps now step so.runs (sym is) of_lock);
+        quiet = record { each_other = λ other part n. subst (IsQuiet now other part) (sym (kept other part n)) (so.quiet.each_other other part n) };
+        elsewhere = λ other part n. kept other part n ∙ so.elsewhere other part n;
+        queue = so.queue;
       };
-      fewer = fewer now ino step move of_lock at;
+      fewer = subst (λ (t : LockMap). moves_left (record now { locks = t }) ino < moves_left now ino) one.is (fewer now ino step move of_lock at);
     })

@@ -7,6 +7,7 @@ use Rattle.std.specs.FinMap as map
 use Rattle.capbits.specs.declared.cap.Part.{Part}
 use Rattle.capbits.specs.declared.cap.Part.TheVariants.{A, L, X, F}
 use Rattle.capbits.specs.declared.ids.Ino.{Ino}
+use Rattle.capbits.specs.declared.ids.Ticket.{Ticket}
 use Rattle.capbits.specs.Sets.{is_empty}
 use Rattle.locktable.specs.declared.states.State.{State}
 use Rattle.locktable.specs.declared.states.State.TheVariants.{Sync, Lock, Mix, Excl}
@@ -128,6 +129,11 @@ begin_or_rest s (Some at) = beginning s.locks (wanted_in_all s at.0) at
 abbrev pub serve_or_begin : Scene → Option Request → Move
 serve_or_begin s None = begin_or_rest s (find (may_begin s) (places s.locks))
 serve_or_begin s (Some q) = Serve q.ticket
+
+-- the request is served, if one is to be
+abbrev pub serve_or_rest : Option Ticket → Move
+serve_or_rest None = Settled
+serve_or_rest (Some ticket) = Serve ticket
 
 abbrev pub end_or_serve : Scene → Option LockPlace → Move
 end_or_serve s None = serve_or_begin s (find (may_serve s.locks) s.locks.queue)

@@ -5,7 +5,7 @@ ghost use Rattle.lockmachine.specs.declared.moves.Move.{Move as Step};
 ghost use Rattle.lockmachine.specs.declared.moves.Move.TheVariants.{Settled};
 ghost use Rattle.lockmachine.specs.Requests.{is_numbered};
 ghost use Rattle.lockmachine.specs.Locks as words;
-ghost use Rattle.lockmachine.specs.Moves.{moved, handed, present_state, coming_state, first_move, IsQuietBut, NobodyWaits};
+ghost use Rattle.lockmachine.specs.Moves.{moved, handed, present_state, coming_state, first_move, serve_or_rest, IsQuietBut, NobodyWaits};
 ghost use Rattle.lockmachine.specs.Runs.{Runs, AreFew};
 ghost use Rattle.lockmachine.specs.Scene.{scene};
 
@@ -84,6 +84,35 @@ impl Locks {
 }
 
 impl Locks {
+    /// Begins and ends gathers at one inode, always by the first move that applies, until a request is to be served, whose
+    /// number it answers, or no move applies. The locks of every other inode are quiet.
+    pub fn advance_at(
+        &mut self,
+        table: &CapTable,
+        sessions: &Sessions,
+        tree: &Tree,
+        fs: &FsName,
+        ino: Ino,
+    ) -> Option<Ticket>
+        requires quiet { IsQuietBut (scene fs.now tree.now sessions.now table.now self.old) ino.0 }
+
+        // Each lock begins at most one gather and ends at most two.
+        ensures moves { (steps : List Step) × AreFew steps
+            × Runs (scene fs.now tree.now sessions.now table.now self.old) steps (scene fs.now tree.now sessions.now table.now self.new) }
+        ensures next { first_move (scene fs.now tree.now sessions.now table.now self.new) ≡ serve_or_rest result }
+        ensures quiet { IsQuietBut (scene fs.now tree.now sessions.now table.now self.new) ino.0 }
+        ensures elsewhere { (other : ℕ) (part : Part) → other ≢ ino.0 → words.lock_at self.new other part ≡ words.lock_at self.old other part }
+        ensures queue { self.new.queue ≡ self.old.queue }
+    {
+        'moves: loop {
+            match self.next_move_at(table, sessions, tree, fs, ino) {
+                Move::Settled => return None,
+                Move::Serve(ticket) => return Some(ticket),
+                step => self.make(step),
+            }
+        }
+    }
+
     /// Makes the moves at one inode, always the first that applies, until none does. Nobody waits at this inode, and the
     /// locks of every other are quiet.
     pub fn settle_at(
@@ -104,12 +133,7 @@ impl Locks {
         ensures elsewhere { (other : ℕ) (part : Part) → other ≢ ino.0 → words.lock_at self.new other part ≡ words.lock_at self.old other part }
         ensures queue { self.new.queue ≡ self.old.queue }
     {
-        'moves: loop {
-            match self.next_move_at(table, sessions, tree, fs, ino) {
-                Move::Settled => return,
-                step => self.make(step),
-            }
-        }
+        let _nobody = self.advance_at(table, sessions, tree, fs, ino);
     }
 
     // Makes a move that serves nobody.
