@@ -8,3 +8,4 @@ pub mod Moving
 pub mod Ending
 pub mod Settling
 pub mod InRows
+pub mod Elsewhere

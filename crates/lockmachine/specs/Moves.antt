@@ -130,11 +130,6 @@ abbrev pub serve_or_begin : Scene → Option Request → Move
 serve_or_begin s None = begin_or_rest s (find (may_begin s) (places s.locks))
 serve_or_begin s (Some q) = Serve q.ticket
 
--- the request is served, if one is to be
-abbrev pub serve_or_rest : Option Ticket → Move
-serve_or_rest None = Settled
-serve_or_rest (Some ticket) = Serve ticket
-
 abbrev pub end_or_serve : Scene → Option LockPlace → Move
 end_or_serve s None = serve_or_begin s (find (may_serve s.locks) s.locks.queue)
 end_or_serve s (Some at) = End (record { 0 = at.0 }) at.1
@@ -142,6 +137,11 @@ end_or_serve s (Some at) = End (record { 0 = at.0 }) at.1
 -- the least gather that may end; else the oldest request that may be served; else the least lock that may begin
 unfoldable pub first_move : Scene → Move
 first_move s = end_or_serve s (find (may_end s) (places s.locks))
+
+-- a request is to be served, or no move applies
+abbrev pub serve_or_rest : Option Ticket → Move
+serve_or_rest None = Settled
+serve_or_rest (Some ticket) = Serve ticket
 
 -- ---- what they do
 

@@ -156,9 +156,7 @@ impl Locks {
         ensures { result ≡ words.may_begin_by self.now wants.now (ino.0, part) }
     {
         match self.state(ino, part) {
-            Some(LockState::Stable(state)) => {
-                !same_state(self.target(ino, part, state, wants), state)
-            }
+            Some(LockState::Stable(state)) => { self.target(ino, part, state, wants) != state }
             Some(LockState::Gather { .. }) | None => false,
         }
     }
@@ -244,16 +242,4 @@ fn has_outside(part: Part, state: State, entry: EntryRow) -> bool
 {
     let held = entry.entry.held.part(part);
     !held.minus(row(part, state, entry.holder.client)).is_empty()
-}
-
-fn same_state(a: State, b: State) -> bool
-    ensures { result ≡ words.same_state a b }
-{
-    match (a, b) {
-        (State::Sync, State::Sync) => true,
-        (State::Lock, State::Lock) => true,
-        (State::Mix, State::Mix) => true,
-        (State::Excl(a), State::Excl(b)) => a.0 == b.0,
-        _ => false,
-    }
 }
