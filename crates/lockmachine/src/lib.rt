@@ -6,10 +6,9 @@
 mod bytes;
 mod laws;
 mod locks;
-mod making;
 mod moves;
-mod next;
 mod request;
+mod revoked;
 mod states;
 mod wants;
 
