@@ -16,7 +16,7 @@ use Rattle.lockmachine.specs.Requests.{same_part, part_of_ask, head_of_ask, is_n
 use Rattle.lockmachine.specs.Locks.{LockMap, lock_at, with_lock}
 use Rattle.lockmachine.specs.Scene.{Scene}
 use Rattle.lockmachine.specs.Moves.{LockPlace, may_end, may_begin, may_serve, is_served_in, present_state, coming_state, first_move, moved, with_moved, serve_or_rest, IsQuiet, IsQuietBut, NobodyWaits}
-use Rattle.lockmachine.specs.Runs.{is_of_lock, Runs, is_begin_of, is_end_of}
+use Rattle.lockmachine.specs.Runs.{is_of_lock, Runs, is_begin_of, is_end_of, ChangesLocksOf}
 use Rattle.lockmachine.proofs.Exact.{ends_not, begins_not, serves_not}
 use Rattle.lockmachine.proofs.Idle.{find_nothing}
 use Rattle.lockmachine.proofs.Moving.{IsMove, first_is, with_lock-each}
@@ -132,8 +132,7 @@ pub record SoFar (first now : Scene) (ino : ℕ) : Type 0 where
   pub steps : List Move
   pub runs : Runs first steps now
   pub quiet : IsQuietBut now ino
-  pub elsewhere : (other : ℕ) (part : Part) → other ≢ ino → lock_at now.locks other part ≡ lock_at first.locks other part
-  pub queue : now.locks.queue ≡ first.locks.queue
+  pub elsewhere : ChangesLocksOf ino first.locks now.locks
 
 pub record OneMore (first now new : Scene) (ino : ℕ) : Type 0 where
   pub so_far : SoFar first new ino
@@ -160,8 +159,7 @@ one_more first now ino step new so is unsettled unserved new_is =
         steps = so.steps ++ step ∷ [];
         runs = subst (λ (t : LockMap). Runs first (so.steps ++ step ∷ []) (record now { locks = t })) one.is (runs_more first so.steps now step so.runs (sym is) of_lock);
         quiet = record { each_other = λ other part n. subst (IsQuiet now other part) (sym (kept other part n)) (so.quiet.each_other other part n) };
-        elsewhere = λ other part n. kept other part n ∙ so.elsewhere other part n;
-        queue = so.queue;
+        elsewhere = record { others = λ other part n. kept other part n ∙ so.elsewhere.others other part n; queue = so.elsewhere.queue; last = so.elsewhere.last };
       };
       fewer = subst (λ (t : LockMap). moves_left (record now { locks = t }) ino < moves_left now ino) one.is (fewer now ino step move of_lock at);
     })

@@ -92,11 +92,13 @@ is_served_in (Some (Stable state)) head = is_served state head
 abbrev pub is_first : List Request → Request → Bool
 is_first queue q = option_map_or (is_numbered q.ticket.0) (first_for queue q.ino.0 (part_of_ask q.ask)) false
 
--- the request is the first for its lock, which is stable in a state that serves it
+-- its lock is stable in a state that serves it
+abbrev pub is_servable : LockMap → Request → Bool
+is_servable locks q = is_served_in (lock_at locks q.ino.0 (part_of_ask q.ask)) (head_of_ask q.client q.ask)
+
+-- both hold of the request
 abbrev pub may_serve : LockMap → Request → Bool
-may_serve locks q =
-    is_first locks.queue q
-    && is_served_in (lock_at locks q.ino.0 (part_of_ask q.ask)) (head_of_ask q.client q.ask)
+may_serve locks q = is_first locks.queue q && is_servable locks q
 
 -- of the requests that may be served, this one has the least number
 pub record IsFirstServed (locks : LockMap) (q : Request) : Type 0 where
@@ -120,7 +122,8 @@ coming_state (Some (Gather from to)) = to
 
 -- the beginning of a gather that brings the lock to its target, by what is wanted of its inode
 abbrev pub beginning : LockMap → Wants → LockPlace → Move
-beginning locks wants at = Begin (record { 0 = at.0 }) at.1 (target_by locks.queue wants at.0 at.1 (present_state (lock_at locks at.0 at.1)))
+beginning locks wants at =
+    Begin (record { 0 = at.0 }) at.1 (target_by locks.queue wants at.0 at.1 (present_state (lock_at locks at.0 at.1)))
 
 abbrev pub begin_or_rest : Scene → Option LockPlace → Move
 begin_or_rest s None = Settled

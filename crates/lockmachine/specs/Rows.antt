@@ -11,9 +11,10 @@ use Rattle.lockmachine.specs.Moves.{present_state}
 
 abbrev pub IsInRowOf : EntryRow → Part → Option LockState → Type 0
 IsInRowOf row part None = IsSubset (of_part part row.entry.held) no_caps
-IsInRowOf row part (Some lock) = IsSubset (of_part part row.entry.held) (row_of part (present_state (Some lock)) row.holder.client)
+IsInRowOf row part (Some lock) =
+    IsSubset (of_part part row.entry.held) (row_of part (present_state (Some lock)) row.holder.client)
 
--- what the entry holds of the part is in the row of the state that the part's lock has, or leaves in a gather; where there is
--- no lock, it holds nothing of the part
+-- what the entry holds of the part is in the row of the state that the part's lock has, or leaves in a gather; where
+-- there is no lock, it holds nothing of the part
 abbrev pub IsInRow : Scene → EntryRow → Part → Type 0
 IsInRow s row part = IsInRowOf row part (lock_at s.locks row.holder.ino.0 part)

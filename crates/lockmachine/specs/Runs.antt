@@ -1,8 +1,10 @@
 -- The moves that locks make between two servings.
-use Rattle.std.specs.Prelude.{◌≡◌, ◌≤◌, Bool, true, false, ◌&&◌, ◌==◌, IsTrue, List, [], ◌∷◌, count_by}
+use Rattle.std.specs.Prelude.{◌≡◌, ◌≢◌, ◌≤◌, ℕ, Bool, true, false, ◌&&◌, ◌==◌, IsTrue, List, [], ◌∷◌, count_by}
+use Rattle.capbits.specs.declared.cap.Part.{Part}
 use Rattle.lockmachine.specs.declared.moves.Move.{Move}
 use Rattle.lockmachine.specs.declared.moves.Move.TheVariants.{Begin, End, Serve, Settled}
 use Rattle.lockmachine.specs.Requests.{same_part}
+use Rattle.lockmachine.specs.Locks.{LockMap, lock_at}
 use Rattle.lockmachine.specs.Scene.{Scene}
 use Rattle.lockmachine.specs.Moves.{LockPlace, first_move, with_moved}
 
@@ -36,3 +38,13 @@ is_end_of at Settled = false
 pub record AreFew (steps : List Move) : Type 0 where
   pub begun : (at : LockPlace) → count_by (is_begin_of at) steps ≤ 1
   pub ended : (at : LockPlace) → count_by (is_end_of at) steps ≤ 2
+
+-- some such moves lead from one scene to the other
+abbrev pub MoveLittle : Scene → Scene → Type 0
+MoveLittle old new = (steps : List Move) × AreFew steps × Runs old steps new
+
+-- the locks of all other inodes are as they were, and so are the queue and the last number
+pub record ChangesLocksOf (ino : ℕ) (old new : LockMap) : Type 0 where
+  pub others : (other : ℕ) (part : Part) → other ≢ ino → lock_at new other part ≡ lock_at old other part
+  pub queue : new.queue ≡ old.queue
+  pub last : new.last ≡ old.last

@@ -49,8 +49,8 @@ pub fn between_servings_locks_move_little()
 pub fn moves_keep_rows()
     ensures one { (s : Scene) (row : EntryRow) (part : Part) → Contains s.table.rows row
         → IsInRow s row part → IsInRow (with_moved s (first_move s)) row part }
-    ensures all { (s t : Scene) (steps : List Move) (row : EntryRow) (part : Part) → Runs s steps t → Contains s.table.rows row
-        → IsInRow s row part → IsInRow t row part }
+    ensures all { (s t : Scene) (steps : List Move) (row : EntryRow) (part : Part) → Runs s steps t
+        → Contains s.table.rows row → IsInRow s row part → IsInRow t row part }
 {}
 
 /// Where nobody has an entry and nobody waits, locks that are in SYNC are settled.

@@ -1,16 +1,14 @@
 //! The locks by inode, the queue, and the moves of both.
-ghost use Rattle.std.specs.Prelude.{◌≡◌, ◌≢◌, ℕ, List, position, IfOk, OnOk, OnErr};
+ghost use Rattle.std.specs.Prelude.{◌≡◌, position, IfOk, OnOk, OnErr};
 ghost use Rattle.std.specs.List.{find};
 ghost use Rattle.std.specs.Option.{option_map, option_copied};
-ghost use Rattle.capbits.specs.declared.cap.Part.{Part};
-ghost use Rattle.lockmachine.specs.declared.moves.Move.{Move as Step};
 ghost use Rattle.lockmachine.specs.declared.moves.Move.TheVariants.{Settled};
 ghost use Rattle.lockmachine.specs.Locks as words;
 ghost use Rattle.lockmachine.specs.Requests as requests;
 ghost use Rattle.lockmachine.specs.Scene.{scene, head_in, target_by};
 ghost use Rattle.lockmachine.specs.Moves as moves;
 ghost use Rattle.lockmachine.specs.Moves.{first_move, moved, handed, serve_or_rest, IsQuietBut, NobodyWaits};
-ghost use Rattle.lockmachine.specs.Runs.{Runs, AreFew};
+ghost use Rattle.lockmachine.specs.Runs.{MoveLittle, ChangesLocksOf};
 
 use crate::moves::Move;
 use crate::request::Request;
@@ -130,7 +128,8 @@ impl Locks {
 
     // The first lock of all that may end its gather.
     fn first_end_of_all(&self, table: &CapTable) -> Option<(Ino, Part)>
-        ensures { option_map (λ at. (at.0.0, at.1)) result ≡ find (moves.may_end_by table.now self.now) (moves.places self.now) }
+        ensures { option_map (λ at. (at.0.0, at.1)) result
+            ≡ find (moves.may_end_by table.now self.now) (moves.places self.now) }
     {
         for number in self.states.inos() {
             let ino = Ino(*number);
@@ -258,12 +257,12 @@ impl Locks {
     fn may_serve(&self, request: &Request) -> bool
         ensures { result ≡ moves.may_serve self.now request.now }
     {
-        self.is_served(request) && self.is_first(request)
+        self.is_servable(request) && self.is_first(request)
     }
 
     // Whether the lock of the request is stable in a state that serves it.
-    fn is_served(&self, request: &Request) -> bool
-        ensures { result ≡ moves.is_served_in (words.lock_at self.now request.now.ino.0 (requests.part_of_ask request.now.ask)) (requests.head_of_ask request.now.client request.now.ask) }
+    fn is_servable(&self, request: &Request) -> bool
+        ensures { result ≡ moves.is_servable self.now request.now }
     {
         match self.state(request.ino, request.ask.part()) {
             Some(LockState::Stable(state)) => serves(state, request.ask.head(request.client)),
@@ -365,12 +364,11 @@ impl Locks {
         requires quiet { IsQuietBut (scene fs.now tree.now sessions.now table.now self.old) ino.0 }
 
         // Each lock begins at most one gather and ends at most two.
-        ensures moves { (steps : List Step) × AreFew steps
-            × Runs (scene fs.now tree.now sessions.now table.now self.old) steps (scene fs.now tree.now sessions.now table.now self.new) }
+        ensures moves { MoveLittle (scene fs.now tree.now sessions.now table.now self.old)
+            (scene fs.now tree.now sessions.now table.now self.new) }
         ensures next { first_move (scene fs.now tree.now sessions.now table.now self.new) ≡ serve_or_rest result }
         ensures quiet { IsQuietBut (scene fs.now tree.now sessions.now table.now self.new) ino.0 }
-        ensures elsewhere { (other : ℕ) (part : Part) → other ≢ ino.0 → words.lock_at self.new other part ≡ words.lock_at self.old other part }
-        ensures queue { self.new.queue ≡ self.old.queue }
+        ensures elsewhere { ChangesLocksOf ino.0 self.old self.new }
     {
         'moves: loop {
             match self.next_move_at(table, sessions, tree, fs, ino) {
@@ -395,11 +393,10 @@ impl Locks {
         requires quiet { IsQuietBut (scene fs.now tree.now sessions.now table.now self.old) ino.0 }
 
         // Each lock begins at most one gather and ends at most two.
-        ensures moves { (steps : List Step) × AreFew steps
-            × Runs (scene fs.now tree.now sessions.now table.now self.old) steps (scene fs.now tree.now sessions.now table.now self.new) }
+        ensures moves { MoveLittle (scene fs.now tree.now sessions.now table.now self.old)
+            (scene fs.now tree.now sessions.now table.now self.new) }
         ensures settled { first_move (scene fs.now tree.now sessions.now table.now self.new) ≡ Settled }
-        ensures elsewhere { (other : ℕ) (part : Part) → other ≢ ino.0 → words.lock_at self.new other part ≡ words.lock_at self.old other part }
-        ensures queue { self.new.queue ≡ self.old.queue }
+        ensures elsewhere { ChangesLocksOf ino.0 self.old self.new }
     {
         let _nobody = self.advance_at(table, sessions, tree, fs, ino);
     }
