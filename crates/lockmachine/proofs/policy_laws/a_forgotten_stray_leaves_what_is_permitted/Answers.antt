@@ -1,4 +1,4 @@
-use Rattle.lockmachine.proofs.Elsewhere.{permitted-forgotten, want-forgotten}
+use Rattle.lockmachine.proofs.PolicyElsewhere.{permitted-forgotten, want-forgotten}
 use Rattle.lockmachine.proofs.policy_laws.a_forgotten_stray_leaves_what_is_permitted.Goals as goal
 
 pub returns-clause-permitted : goal.returns-clause-permitted

@@ -1,4 +1,4 @@
-use Rattle.lockmachine.proofs.Elsewhere.{permitted-another, want-another}
+use Rattle.lockmachine.proofs.PolicyElsewhere.{permitted-another, want-another}
 use Rattle.lockmachine.proofs.policy_laws.a_new_session_leaves_other_clients.Goals as goal
 
 pub returns-clause-permitted : goal.returns-clause-permitted

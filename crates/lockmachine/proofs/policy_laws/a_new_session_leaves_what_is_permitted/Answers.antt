@@ -1,4 +1,4 @@
-use Rattle.lockmachine.proofs.Elsewhere.{permitted-session, want-session}
+use Rattle.lockmachine.proofs.PolicyElsewhere.{permitted-session, want-session}
 use Rattle.lockmachine.proofs.policy_laws.a_new_session_leaves_what_is_permitted.Goals as goal
 
 pub returns-clause-permitted : goal.returns-clause-permitted

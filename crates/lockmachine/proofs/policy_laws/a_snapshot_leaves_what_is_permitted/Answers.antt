@@ -1,4 +1,4 @@
-use Rattle.lockmachine.proofs.Elsewhere.{permitted-changed, want-changed}
+use Rattle.lockmachine.proofs.PolicyElsewhere.{permitted-changed, want-changed}
 use Rattle.lockmachine.proofs.policy_laws.a_snapshot_leaves_what_is_permitted.Goals as goal
 
 pub returns-clause-permitted : goal.returns-clause-permitted

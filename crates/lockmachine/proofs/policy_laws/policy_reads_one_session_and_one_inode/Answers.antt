@@ -1,4 +1,4 @@
-use Rattle.lockmachine.proofs.Elsewhere.{permitted-kept, want-kept, wants-kept}
+use Rattle.lockmachine.proofs.PolicyElsewhere.{permitted-kept, want-kept, wants-kept}
 use Rattle.lockmachine.proofs.policy_laws.policy_reads_one_session_and_one_inode.Goals as goal
 
 pub returns-clause-permitted : goal.returns-clause-permitted
