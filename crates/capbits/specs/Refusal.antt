@@ -1,9 +1,10 @@
 -- Refusals: their names, and which of some tests answers.
-use Rattle.std.specs.Prelude.{ℕ, Bool, List, [], ◌∷◌, Option, Some, None, codes, if◌then◌else◌}
+use Rattle.std.specs.Prelude.{ℕ, Bool, List, [], ◌∷◌, ◌++◌, Option, Some, None, codes, if◌then◌else◌}
+use Rattle.std.specs.Fmt.{decimal}
 use Rattle.capbits.specs.declared.refusal.Refusal.{Refusal}
 use Rattle.capbits.specs.declared.refusal.Refusal.TheVariants as refusals
 
--- the name of a refusal
+-- the name of a refusal; behind OldSeq the least number that would be taken, in decimal, without leading zeros
 abbrev pub refusal_word : Refusal → List ℕ
 refusal_word refusals.Blocklisted = codes "Blocklisted"
 refusal_word refusals.SessionOpen = codes "SessionOpen"
@@ -23,6 +24,11 @@ refusal_word refusals.NotEmpty = codes "NotEmpty"
 refusal_word refusals.Loop = codes "Loop"
 refusal_word refusals.TooDeep = codes "TooDeep"
 refusal_word refusals.NoXattr = codes "NoXattr"
+refusal_word refusals.NoEntry = codes "NoEntry"
+refusal_word refusals.NotHeld = codes "NotHeld"
+refusal_word refusals.NothingToAck = codes "NothingToAck"
+refusal_word refusals.BadSeq = codes "BadSeq"
+refusal_word (refusals.OldSeq need) = codes "OldSeq " ++ decimal need
 refusal_word refusals.Limit = codes "Limit"
 
 -- a test, and what is answered where it fails

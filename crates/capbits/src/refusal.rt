@@ -5,7 +5,8 @@ ghost use Rattle.capbits.specs.Refusal.{refusal_word};
 use std::error::Error;
 use std::fmt;
 
-/// Why a request is refused, other than by policy: what it asks for was not done. Each prints as its name.
+/// Why a request is refused, other than by policy: what it asks for was not done. Each prints as its name, and `OldSeq`
+/// with its number behind it, in decimal.
 #[derive(Clone, Copy, PartialEq, Eq, Debug)]
 pub enum Refusal {
     /// The client is on the blocklist.
@@ -44,6 +45,19 @@ pub enum Refusal {
     TooDeep,
     /// The inode has no attribute of this name.
     NoXattr,
+    /// The client has no entry on the inode.
+    NoEntry,
+    /// The client does not hold each of the capabilities.
+    NotHeld,
+    /// The client holds no capability that is being revoked.
+    NothingToAck,
+    /// The number is above that of the last message, so the client was not told of it.
+    BadSeq,
+    /// The number is that of a message before the last revocation.
+    OldSeq {
+        /// The least number that would be taken.
+        need: u64,
+    },
     /// There are as many as there may be, or a value is too long.
     Limit,
 }
@@ -52,7 +66,7 @@ impl fmt::Display for Refusal {
     ghost output = { λ refusal. Some (refusal_word refusal) };
 
     fn fmt<W: fmt::Write>(&self, f: &mut fmt::Formatter<W>) -> fmt::Result {
-        f.write_str(match self {
+        let name = match self {
             Refusal::Blocklisted => "Blocklisted",
             Refusal::SessionOpen => "SessionOpen",
             Refusal::NoSession => "NoSession",
@@ -71,8 +85,14 @@ impl fmt::Display for Refusal {
             Refusal::Loop => "Loop",
             Refusal::TooDeep => "TooDeep",
             Refusal::NoXattr => "NoXattr",
+            Refusal::NoEntry => "NoEntry",
+            Refusal::NotHeld => "NotHeld",
+            Refusal::NothingToAck => "NothingToAck",
+            Refusal::BadSeq => "BadSeq",
+            Refusal::OldSeq { need } => return write!(f, "OldSeq {need}"),
             Refusal::Limit => "Limit",
-        })
+        };
+        f.write_str(name)
     }
 }
 

@@ -11,12 +11,15 @@ use Rattle.capbits.specs.declared.cap.Cap.TheVariants.{P}
 use Rattle.capbits.specs.declared.ids.ClientId.{ClientId}
 use Rattle.capbits.specs.Caps.{Caps, has}
 use Rattle.capbits.specs.Sets.{true_eq}
+use Rattle.capbits.specs.declared.refusal.Refusal.TheVariants.{Limit}
+use Rattle.capbits.specs.Refusal.{first_failing}
+use Rattle.capbits.proofs.Tests.{passed-if}
 use Rattle.captable.specs.declared.entry.Holder.{Holder}
 use Rattle.captable.specs.declared.entry.Entry.{Entry}
 use Rattle.captable.specs.declared.entry.EntryRow.{EntryRow}
-use Rattle.captable.specs.declared.fault.OpenFault.TheVariants as open_kind
 use Rattle.captable.specs.Table.{Table, IsTable, same, is_row_of, holders_of_rows, is_among, entry_of, entry_at, empty}
-use Rattle.captable.specs.Calls.{new_entry, opened, open_fault, change_rows, changed, given_back, asked_row, recalled, released, without, without_client}
+use Rattle.captable.specs.Tests.{open_tests}
+use Rattle.captable.specs.Calls.{new_entry, opened, change_rows, changed, given_back, asked_row, recalled, released, without, without_client}
 
 pub same_equiv : IsEquivalence same
 same_equiv =
@@ -90,12 +93,10 @@ holders-append : (rows : List EntryRow) (row : EntryRow) → holders_of_rows (ro
 holders-append [] row = refl
 holders-append (r ∷ rows) row = ap (λ hs. r.holder ∷ hs) (holders-append rows row)
 
-room_left : (t : Table) → open_fault t ≡ None → length t.rows < 65536
-room_left t none =
-    elim (nat_le 65536 (length t.rows)) as (λ b. nat_le 65536 (length t.rows) ≡ b → cond b (Some open_kind.Limit) None ≡ None → length t.rows < 65536)
-    [ true ↦ λ e none. absurd (cc) | false ↦ λ e none. leb-false _ _ e ] refl none
+room_left : (t : Table) → first_failing (open_tests t) ≡ None → length t.rows < 65536
+room_left t passed = let full = passed-if (nat_le 65536 (length t.rows)) Limit None passed in leb-false _ _ full.0
 
-pub IsTable-opened : (t : Table) (k : Holder) → entry_at t k ≡ None → open_fault t ≡ None → IsTable t → IsTable (opened t k)
+pub IsTable-opened : (t : Table) (k : Holder) → entry_at t k ≡ None → first_failing (open_tests t) ≡ None → IsTable t → IsTable (opened t k)
 IsTable-opened t k none has_room is =
     let new_row : EntryRow = record { holder = k; entry = new_entry } in
     let e = holders-append t.rows new_row in

@@ -1,20 +1,14 @@
--- What each call on the table changes and answers, and which of its tests fails first.
-use Rattle.std.specs.Prelude.{ℕ, ◌+◌, Bool, true, false, not, ◌==◌, nat_lt, nat_le, Option, Some, None, List, [], ◌∷◌, ◌++◌, map, filter, length, take, slice_get, if◌then◌else◌}
+-- What each call on the table changes and answers.
+use Rattle.std.specs.Prelude.{ℕ, ◌+◌, Bool, true, false, not, ◌==◌, Option, None, List, [], ◌∷◌, ◌++◌, map, filter, take, slice_get, if◌then◌else◌}
 use Rattle.capbits.specs.declared.cap.Cap.TheVariants.{P}
 use Rattle.capbits.specs.declared.ids.ClientId.{ClientId}
 use Rattle.capbits.specs.declared.ids.Ino.{Ino}
 use Rattle.capbits.specs.Caps.{Caps, has}
-use Rattle.capbits.specs.Sets.{no_caps, is_empty, union, meet, minus}
+use Rattle.capbits.specs.Sets.{no_caps, is_empty, union, minus}
 use Rattle.captable.specs.declared.entry.Holder.{Holder}
 use Rattle.captable.specs.declared.entry.Entry.{Entry}
 use Rattle.captable.specs.declared.entry.EntryRow.{EntryRow}
-use Rattle.captable.specs.declared.fault.OpenFault.{OpenFault}
-use Rattle.captable.specs.declared.fault.OpenFault.TheVariants as open_kind
-use Rattle.captable.specs.declared.fault.AckFault.{AckFault}
-use Rattle.captable.specs.declared.fault.AckFault.TheVariants as ack_kind
-use Rattle.captable.specs.declared.fault.ReleaseFault.{ReleaseFault}
-use Rattle.captable.specs.declared.fault.ReleaseFault.TheVariants as release_kind
-use Rattle.captable.specs.Table.{Table, same, is_row_of, entry_at, is_among}
+use Rattle.captable.specs.Table.{Table, same, is_row_of, is_among}
 
 -- ---- one holder's entry
 
@@ -29,10 +23,6 @@ opened table k = record {
   recall = table.recall ++ k ∷ [];
   made = table.made + 1;
 }
-
--- the first test of a new entry that fails
-abbrev pub open_fault : Table → Option OpenFault
-open_fault table = if nat_le 65536 (length table.rows) then Some open_kind.Limit else None
 
 -- the rows, with the holder's entry changed by f
 abbrev pub change_rows : List EntryRow → Holder → (Entry → Entry) → List EntryRow
@@ -81,26 +71,7 @@ told e = record e { told_seq = e.seq }
 abbrev pub with_asked : Bool → Entry → Entry
 with_asked asked e = record e { asked = asked }
 
--- ---- acknowledgement and release
-
--- the first test of an acknowledgement that fails
-abbrev pub ack_fault_of : Option Entry → ℕ → Caps → Option AckFault
-ack_fault_of None seq against = Some ack_kind.NoEntry
-ack_fault_of (Some e) seq against =
-    if is_empty (meet e.held against) then Some ack_kind.NothingToAck else
-    if nat_lt e.told_seq seq then Some ack_kind.BadSeq else
-    if nat_lt seq e.revoke_seq then Some (ack_kind.OldSeq e.revoke_seq) else None
-
-abbrev pub ack_fault : Table → Holder → ℕ → Caps → Option AckFault
-ack_fault table k seq against = ack_fault_of (entry_at table k) seq against
-
--- the first test of a release that fails
-abbrev pub release_fault_of : Option Entry → Caps → Option ReleaseFault
-release_fault_of None caps = Some release_kind.NoEntry
-release_fault_of (Some e) caps = if is_empty (minus caps e.held) then None else Some release_kind.NotHeld
-
-abbrev pub release_fault : Table → Holder → Caps → Option ReleaseFault
-release_fault table k caps = release_fault_of (entry_at table k) caps
+-- ---- release
 
 -- the table after a release: with the pin the whole entry goes
 abbrev pub released : Table → Holder → Caps → Table

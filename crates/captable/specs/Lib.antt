@@ -2,5 +2,5 @@ pub mod Table
 pub mod Calls
 pub mod Codes
 pub mod Many
-pub mod Faults
+pub mod Tests
 pub mod Walks

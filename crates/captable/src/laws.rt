@@ -7,11 +7,13 @@ ghost use Rattle.capbits.specs.declared.cap.Cap.TheVariants.{P};
 ghost use Rattle.capbits.specs.declared.ids.ClientId.{ClientId};
 ghost use Rattle.capbits.specs.declared.ids.Ino.{Ino};
 ghost use Rattle.capbits.specs.Caps.{Caps, has};
+ghost use Rattle.capbits.specs.Refusal.{first_failing};
 ghost use Rattle.captable.specs.declared.entry.Holder.{Holder};
 ghost use Rattle.captable.specs.declared.entry.Entry.{Entry};
 ghost use Rattle.captable.specs.declared.entry.EntryRow.{EntryRow};
 ghost use Rattle.captable.specs.Table.{Table, IsTable, same, is_row_of, entry_at, is_among, holders_of_rows};
-ghost use Rattle.captable.specs.Calls.{new_entry, opened, open_fault, changed, given_back, with_asked, released, without, without_client, touched, asked_row, recalled, is_of_client, is_of_inode, entries_on};
+ghost use Rattle.captable.specs.Calls.{new_entry, opened, changed, given_back, with_asked, released, without, without_client, touched, asked_row, recalled, is_of_client, is_of_inode, entries_on};
+ghost use Rattle.captable.specs.Tests.{open_tests};
 ghost use Rattle.captable.specs.Many.{changed_by, changed_where, remade};
 
 /// A row of the table is the one that is found for its holder.
@@ -99,7 +101,7 @@ pub fn one_by_one_is_at_once()
 /// Each change leaves every holder once in both orders, and no more than 65,536 entries.
 pub fn a_table_stays_a_table()
     ensures changed { (t : Table) (k : Holder) (f : Entry → Entry) → IsTable t → IsTable (changed t k f) }
-    ensures opened { (t : Table) (k : Holder) → IsTable t → entry_at t k ≡ None → open_fault t ≡ None → IsTable (opened t k) }
+    ensures opened { (t : Table) (k : Holder) → IsTable t → entry_at t k ≡ None → first_failing (open_tests t) ≡ None → IsTable (opened t k) }
     ensures without { (t : Table) (k : Holder) → IsTable t → IsTable (without t k) }
     ensures without_client { (t : Table) (client : ClientId) → IsTable t → IsTable (without_client t client) }
     ensures touched { (t : Table) (k : Holder) → IsTable t → IsTable (touched t k) }

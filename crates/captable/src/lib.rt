@@ -4,7 +4,6 @@
 #![tactic(auto)]
 
 mod entry;
-mod fault;
 mod holders;
 mod laws;
 mod rows;
@@ -12,7 +11,6 @@ mod table;
 mod walk;
 
 pub use entry::{Entry, EntryRow, Holder};
-pub use fault::{AckFault, OpenFault, ReleaseFault};
 pub use holders::Holders;
 pub use laws::{
     a_change_is_of_one_holder, a_drop_is_of_one_client, a_recall_is_of_the_first,

@@ -1,16 +1,14 @@
 //! The table of entries.
-ghost use Rattle.std.specs.Prelude.{◌≡◌, ◌<◌, ◌^◌, ◌-◌, IfSome, IfOk, IfErr, OnOk, OnErr, None, slice_get, take, filter, unwrap_or};
-ghost use Rattle.std.specs.Result.{result_err};
+ghost use Rattle.std.specs.Prelude.{◌≡◌, ◌<◌, ◌^◌, ◌-◌, [], ◌∷◌, IfSome, IfOk, OnOk, OnErr, None, slice_get, take, filter};
 
 use crate::entry::{Entry, EntryRow, Holder};
-use crate::fault::{AckFault, OpenFault, ReleaseFault};
 use crate::holders::{Holders, first_of};
 use crate::rows::{
     ask_all, drop_holder, drop_holders_of, drop_row, drop_rows_of, holder_at, holder_place,
     is_same, move_last, row_place,
 };
 use crate::walk::{Sought, Walk};
-use capbits::{Cap, CapSet, ClientId, Ino};
+use capbits::{Cap, CapSet, ClientId, Ino, Refusal};
 use std::alloc::{AllocError, Global};
 use std::marker::Model;
 
@@ -46,7 +44,9 @@ impl Model for CapTable {
 impl CapTable {
     ghost use Rattle.captable.specs.Table as words;
     ghost use Rattle.captable.specs.Table.{IsTable, holder, entry_at};
-    ghost use Rattle.captable.specs.Calls.{opened, open_fault, changed, wanting, issued, taken, renumbered, told, with_asked, ack_fault, release_fault, released, without, without_client, newer_in, touched, recalled, is_of_client, is_of_inode};
+    ghost use Rattle.capbits.specs.Refusal.{first_failing};
+    ghost use Rattle.captable.specs.Tests.{open_tests, entry_test, ack_tests, release_tests};
+    ghost use Rattle.captable.specs.Calls.{opened, changed, wanting, issued, taken, renumbered, told, with_asked, released, without, without_client, newer_in, touched, recalled, is_of_client, is_of_inode};
 
     /// A table without entries, of which none was made yet. No clause can say that the memory for it is there.
     pub fn new(alloc: Global) -> Result<CapTable, AllocError>
@@ -79,34 +79,81 @@ impl CapTable {
         }
     }
 
-    /// Makes the client's entry on the inode, last in both orders, which holds and wants nothing. A refusal changes
-    /// nothing.
-    pub fn open_entry(&mut self, client: ClientId, ino: Ino) -> Result<(), OpenFault>
-        requires new { entry_at self.old (holder client ino) ≡ None }
-        requires made { self.old.made < 2 ^ 64 - 1 }
-        ensures passed { OnOk result (open_fault self.old ≡ None) }
-        ensures ok { OnOk result (self.new ≡ opened self.old (holder client ino)) }
-        // The first test that fails, and for want of memory only where none does.
-        ensures fault { IfErr result (λ fault. fault ≡ unwrap_or (open_fault self.old) OpenFault.NoMemory) }
-        ensures err { OnErr result (self.new ≡ self.old) }
+    // ---- what would be refused
+
+    /// Why no entry can be made: there are as many as there may be.
+    pub fn open_refusal(&self) -> Option<Refusal>
+        ensures { result ≡ first_failing (open_tests self.now) }
     {
         if self.rows.len() >= MAX_ENTRIES {
-            return Err(OpenFault::Limit);
+            return Some(Refusal::Limit);
         }
-        match self.add(Holder { client, ino }) {
-            Ok(()) => Ok(()),
-            Err(_refused) => Err(OpenFault::NoMemory),
+        None
+    }
+
+    /// Why nothing can be asked of the client's entry on the inode: it has none.
+    pub fn entry_refusal(&self, client: ClientId, ino: Ino) -> Option<Refusal>
+        ensures { result ≡ first_failing (entry_test self.now (holder client ino) ∷ []) }
+    {
+        match self.find(client, ino) {
+            Some(_entry) => None,
+            None => Some(Refusal::NoEntry),
         }
     }
 
-    // Makes room in both lists, and then adds to both and counts.
-    fn add(&mut self, holder: Holder) -> Result<(), AllocError>
-        requires new { entry_at self.old holder ≡ None }
+    /// Why an acknowledgement is not taken that names the message with the number `seq`, where the capabilities of
+    /// `against` are being revoked.
+    pub fn ack_refusal(
+        &self,
+        client: ClientId,
+        ino: Ino,
+        seq: u64,
+        against: CapSet,
+    ) -> Option<Refusal>
+        ensures { result ≡ first_failing (ack_tests self.now (holder client ino) seq against) }
+    {
+        let Some(entry) = self.find(client, ino) else {
+            return Some(Refusal::NoEntry);
+        };
+        if entry.held.meet(against).is_empty() {
+            return Some(Refusal::NothingToAck);
+        }
+        if seq > entry.told_seq {
+            return Some(Refusal::BadSeq);
+        }
+        let need = entry.revoke_seq;
+        if seq < need {
+            return Some(Refusal::OldSeq { need });
+        }
+        None
+    }
+
+    /// Why the client can't give these capabilities back: it has no entry on the inode, or does not hold each of them.
+    pub fn release_refusal(&self, client: ClientId, ino: Ino, caps: CapSet) -> Option<Refusal>
+        ensures { result ≡ first_failing (release_tests self.now (holder client ino) caps) }
+    {
+        let Some(entry) = self.find(client, ino) else {
+            return Some(Refusal::NoEntry);
+        };
+        if !caps.minus(entry.held).is_empty() {
+            return Some(Refusal::NotHeld);
+        }
+        None
+    }
+
+    // ---- changes
+
+    /// Makes the client's entry on the inode, last in both orders, which holds and wants nothing. For want of memory
+    /// nothing changes.
+    pub fn open_entry(&mut self, client: ClientId, ino: Ino) -> Result<(), AllocError>
+        requires new { entry_at self.old (holder client ino) ≡ None }
         requires made { self.old.made < 2 ^ 64 - 1 }
-        requires room { open_fault self.old ≡ None }
-        ensures ok { OnOk result (self.new ≡ opened self.old holder) }
+        requires passed { first_failing (open_tests self.old) ≡ None }
+        ensures ok { OnOk result (self.new ≡ opened self.old (holder client ino)) }
         ensures err { OnErr result (self.new ≡ self.old) }
     {
+        let holder = Holder { client, ino };
+        // Room in both lists comes first.
         self.rows.reserve(1)?;
         self.recall.push(holder)?;
         let entry = Entry::new();
@@ -144,33 +191,14 @@ impl CapTable {
     }
 
     /// Takes an acknowledgement, which names the message with the number `seq`: the client gives back the capabilities
-    /// of `against`, which are being revoked, and no longer holds any of them. A refusal changes nothing.
-    pub fn ack(
-        &mut self,
-        client: ClientId,
-        ino: Ino,
-        seq: u64,
-        against: CapSet,
-    ) -> Result<(), AckFault>
-        ensures fault { result_err result ≡ ack_fault self.old (holder client ino) seq against }
-        ensures ok { OnOk result (self.new ≡ changed self.old (holder client ino) (taken against)) }
-        ensures err { OnErr result (self.new ≡ self.old) }
+    /// of `against`, which are being revoked, and no longer holds any of them.
+    pub fn ack(&mut self, client: ClientId, ino: Ino, seq: u64, against: CapSet)
+        requires passed { first_failing (ack_tests self.old (holder client ino) seq against) ≡ None }
+        ensures { self.new ≡ changed self.old (holder client ino) (taken against) }
     {
-        let Some(entry) = self.find(client, ino) else {
-            return Err(AckFault::NoEntry);
-        };
-        if entry.held.meet(against).is_empty() {
-            return Err(AckFault::NothingToAck);
+        if let Some(entry) = self.find(client, ino) {
+            self.put(Holder { client, ino }, entry.taken(against));
         }
-        if seq > entry.told_seq {
-            return Err(AckFault::BadSeq);
-        }
-        let need = entry.revoke_seq;
-        if seq < need {
-            return Err(AckFault::OldSeq { need });
-        }
-        self.put(Holder { client, ino }, entry.taken(against));
-        Ok(())
     }
 
     /// What the client is to know that it holds changed in one step of the server, from `before` to `after`. If they
@@ -229,25 +257,17 @@ impl CapTable {
     }
 
     /// The client gives back these capabilities: it neither holds nor wants them any more. With the pin among them its
-    /// whole entry goes, from both orders. A refusal changes nothing.
-    pub fn release(&mut self, client: ClientId, ino: Ino, caps: CapSet) -> Result<(), ReleaseFault>
-        ensures fault { result_err result ≡ release_fault self.old (holder client ino) caps }
-        ensures ok { OnOk result (self.new ≡ released self.old (holder client ino) caps) }
-        ensures err { OnErr result (self.new ≡ self.old) }
+    /// whole entry goes, from both orders.
+    pub fn release(&mut self, client: ClientId, ino: Ino, caps: CapSet)
+        requires passed { first_failing (release_tests self.old (holder client ino) caps) ≡ None }
+        ensures { self.new ≡ released self.old (holder client ino) caps }
     {
-        let Some(entry) = self.find(client, ino) else {
-            return Err(ReleaseFault::NoEntry);
-        };
-        if !caps.minus(entry.held).is_empty() {
-            return Err(ReleaseFault::NotHeld);
-        }
         let holder = Holder { client, ino };
         if caps.has(Cap::P) {
             self.remove(holder);
-        } else {
+        } else if let Some(entry) = self.find(client, ino) {
             self.put(holder, entry.given_back(caps));
         }
-        Ok(())
     }
 
     // Takes the holder out of both orders.

@@ -1,6 +1,7 @@
 pub mod Below
 pub mod Changes
 pub mod Copies
+pub mod Elsewhere
 pub mod Entries
 pub mod Found
 pub mod Growing

@@ -1,5 +1,5 @@
 -- What the tests of a call that were passed say of the tree.
-use Rattle.std.proofs.Common.{◌≡◌, ℕ, ◌-◌, Bool, true, false, not, nat_le, nat_lt, ◌<◌, ◌≤◌, ◌||◌, ◌==◌, List, [], ◌∷◌, ◌++◌, length, Option, Some, None, is_some, ◌⊎◌, inl, inr, refl, sym, ap, ◌∙◌, arith}
+use Rattle.std.proofs.Common.{◌≡◌, ℕ, ◌-◌, Bool, true, false, not, nat_le, nat_lt, ◌<◌, ◌≤◌, ◌||◌, ◌==◌, List, [], ◌∷◌, length, Option, Some, None, is_some, ◌⊎◌, inl, inr, refl, ◌∙◌, arith}
 use Rattle.std.specs.Prelude.{if◌then◌else◌}
 use Rattle.std.specs.Option.{option_map}
 use Rattle.std.proofs.lemmas.Bool.{cases_lt}
@@ -20,7 +20,7 @@ use Rattle.inotree.specs.Names.{is_bad_name, is_bad_attribute}
 use Rattle.inotree.specs.Inodes.{InodeMap}
 use Rattle.inotree.specs.Index.{NameIndex}
 use Rattle.inotree.specs.Tree.{Nodes, IsTree, IsIndexed, IsUnder, site_of, place, place_at, path_at, slot_at, is_directory, child, depth, reaches, is_within}
-use Rattle.inotree.specs.Tests.{is_no_ino, is_gone, is_root_site, inode_tests, root_test, directory_test, name_tests, test_at, create_tests, unlink_tests, rmdir_tests, rename_tests, set_xattr_tests, remove_xattr_tests, snap_add_tests, snap_remove_tests}
+use Rattle.inotree.specs.Tests.{is_no_ino, is_gone, is_root_site, test_at, create_tests, unlink_tests, rmdir_tests, rename_tests, set_xattr_tests, remove_xattr_tests, snap_add_tests, snap_remove_tests}
 use Rattle.inotree.proofs.Growing.{reach_up}
 use Rattle.inotree.proofs.Inner.{long_name, no_long_attribute, no_long_snapshot}
 use Rattle.inotree.proofs.Named.{child-index}

@@ -6,3 +6,4 @@ pub mod Index
 pub mod Tree
 pub mod Calls
 pub mod Tests
+pub mod Alike

@@ -31,9 +31,17 @@ is_gone place_kind.Gone = true
 is_gone place_kind.NoIno = false
 is_gone place_kind.Here = false
 
+-- there is such an inode
+abbrev pub known_test : Nodes → ℕ → Test
+known_test tree ino = refused_if (is_no_ino (place tree.nodes ino)) refusal.NoIno
+
+-- the inode is no stray
+abbrev pub here_test : Nodes → ℕ → Test
+here_test tree ino = refused_if (is_gone (place tree.nodes ino)) refusal.Gone
+
 -- there is such an inode, and it has a path
 abbrev pub inode_tests : Nodes → ℕ → List Test
-inode_tests tree ino = refused_if (is_no_ino (place tree.nodes ino)) refusal.NoIno ∷ refused_if (is_gone (place tree.nodes ino)) refusal.Gone ∷ []
+inode_tests tree ino = known_test tree ino ∷ here_test tree ino ∷ []
 
 abbrev pub is_root_site : Option Site → Bool
 is_root_site None = false

@@ -6,7 +6,7 @@ ghost use Rattle.capspec.specs.Names.{is_name};
 ghost use Rattle.inotree.specs.Inodes.{with_setting, with_attribute, without_attribute, with_snapshot, without_snapshot};
 ghost use Rattle.capbits.specs.Refusal.{first_failing};
 ghost use Rattle.inotree.specs.Tree.{IsTree, place, parent, child, follow, path_of, is_directory, depth, reaches};
-ghost use Rattle.inotree.specs.Tests.{inode_tests, root_test, file_test, directory_test, empty_test, name_tests, new_inode_tests, new_place_tests, setting_tests, test_at, new_attribute_tests, old_attribute_tests, new_snapshot_tests, old_snapshot_tests};
+ghost use Rattle.inotree.specs.Tests.{known_test, inode_tests, root_test, file_test, directory_test, empty_test, name_tests, new_inode_tests, new_place_tests, setting_tests, test_at, new_attribute_tests, old_attribute_tests, new_snapshot_tests, old_snapshot_tests};
 ghost use Rattle.inotree.specs.Tests.{create_tests, unlink_tests, rmdir_tests, rename_tests, set_tests, set_xattr_tests, remove_xattr_tests, snap_add_tests, snap_remove_tests};
 ghost use Rattle.inotree.specs.Calls.{first_tree, with_new, changed, unlinked, moved, forgotten};
 
@@ -192,6 +192,16 @@ impl Tree {
     }
 
     // ---- what would be refused
+
+    /// Why what needs an inode, also a stray, is refused: it is not there.
+    pub fn known_refusal(&self, ino: Ino) -> Option<Refusal>
+        ensures { result ≡ first_failing (known_test self.now ino.0 ∷ []) }
+    {
+        match self.place(ino) {
+            Place::NoIno => Some(Refusal::NoIno),
+            Place::Gone | Place::Here => None,
+        }
+    }
 
     /// Why what needs an inode with a path is refused: it is not there, or a stray.
     pub fn inode_refusal(&self, ino: Ino) -> Option<Refusal>

@@ -10,7 +10,7 @@ use Rattle.lockmachine.specs.declared.request.Request.{Request}
 use Rattle.lockmachine.specs.declared.moves.Move.TheVariants.{Settled}
 use Rattle.lockmachine.specs.Requests.{part_of_ask, head_of_ask, first_for, is_numbered}
 use Rattle.lockmachine.specs.Locks.{lock_at}
-use Rattle.lockmachine.specs.Scene.{Scene}
+use Rattle.lockmachine.specs.Scene.{Scene, wanted_in_all}
 use Rattle.lockmachine.specs.Moves.{LockPlace, same_state, places, may_end, may_end_in, may_begin, may_begin_in, may_serve, is_served_in, serve_or_begin, begin_or_rest, end_or_serve, first_move, IsQuiet, IsAtRest}
 use Rattle.lockmachine.proofs.Idle.{find_nothing}
 
@@ -18,23 +18,23 @@ and_false : (b : Bool) → (b && false) ≡ false
 and_false true = refl
 and_false false = refl
 
-same_state_itself : (state : State) → same_state state state ≡ true
+pub same_state_itself : (state : State) → same_state state state ≡ true
 same_state_itself Sync = refl
 same_state_itself Lock = refl
 same_state_itself Mix = refl
 same_state_itself (Excl c) = nat_eq_equiv.refl c.0
 
-ends_not : (s : Scene) (at : LockPlace) (o : Option LockState) → IsQuiet s at.0 at.1 o → may_end_in s at o ≡ false
+pub ends_not : (s : Scene) (at : LockPlace) (o : Option LockState) → IsQuiet s at.0 at.1 o → may_end_in s.table at o ≡ false
 ends_not s at None q = refl
 ends_not s at (Some (Stable state)) q = refl
 ends_not s at (Some (Gather from to)) q = ap not q
 
-begins_not : (s : Scene) (at : LockPlace) (o : Option LockState) → IsQuiet s at.0 at.1 o → may_begin_in s at o ≡ false
+pub begins_not : (s : Scene) (at : LockPlace) (o : Option LockState) → IsQuiet s at.0 at.1 o → may_begin_in s.locks.queue (wanted_in_all s at.0) at o ≡ false
 begins_not s at None q = refl
 begins_not s at (Some (Gather from to)) q = refl
 begins_not s at (Some (Stable state)) q = ap (λ st. not (same_state st state)) q.0 ∙ ap not (same_state_itself state)
 
-serves_not : (s : Scene) (r : Request) (o : Option LockState) → IsQuiet s r.ino.0 (part_of_ask r.ask) o
+pub serves_not : (s : Scene) (r : Request) (o : Option LockState) → IsQuiet s r.ino.0 (part_of_ask r.ask) o
     → (option_map_or (is_numbered r.ticket.0) (first_for s.locks.queue r.ino.0 (part_of_ask r.ask)) false && is_served_in o (head_of_ask r.client r.ask)) ≡ false
 serves_not s r None q = and_false _
 serves_not s r (Some (Gather from to)) q = and_false _

@@ -2,3 +2,11 @@ pub mod Idle
 pub mod Rest
 pub mod Exact
 pub mod Queue
+pub mod Permitting
+pub mod Places
+pub mod Moving
+pub mod Ending
+pub mod Settling
+pub mod InRows
+pub mod Elsewhere
+pub mod PolicyElsewhere

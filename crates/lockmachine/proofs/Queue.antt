@@ -1,14 +1,17 @@
 -- The queue: requests stand in it by their numbers.
-use Rattle.std.proofs.Common.{◌≡◌, ℕ, zero, suc, ◌+◌, ◌<◌, ◌≤◌, Bool, true, false, not, cond, Option, Some, None, List, [], ◌∷◌, ◌++◌, length, refl, ap, ◌∙◌, All, Contains, arith}
+use Rattle.std.proofs.Common.{◌≡◌, ℕ, zero, suc, ◌+◌, ◌<◌, ◌≤◌, Bool, true, false, not, cond, Option, Some, None, List, [], ◌∷◌, ◌++◌, length, take, drop, get_or, refl, sym, ap, ◌∙◌, All, Contains, arith, drop-cons}
 use Rattle.std.specs.Prelude.{filter}
-use Rattle.std.specs.List.{find}
+use Rattle.std.specs.List.{find, position, remove, slice_get}
 use Rattle.std.specs.Cmp.{nat_eq_equiv}
-use Rattle.std.proofs.lemmas.Bool.{ne_eqb, both_ways}
-use Rattle.std.proofs.lemmas.List.{length-append}
+use Rattle.std.proofs.lemmas.Bool.{ne_eqb, both_ways, eqb-true}
+use Rattle.std.proofs.lemmas.List.{length-append, take-append-drop}
+use Rattle.std.proofs.lemmas.List.Folds.{find_at}
+use Rattle.std.proofs.lemmas.Option.{slice_get-get_or}
 use Rattle.std.proofs.lemmas.List.Elements.{All-head, All-tail, All-contains, All-filter, All-push, All-weaker}
 use Rattle.std.proofs.lemmas.List.Kept.{AllPairs-filter}
 use Rattle.std.proofs.lemmas.List.Quantifiers.{all_pairs_push}
 use Rattle.std.proofs.lemmas.List.Sums.{length-filter, count_by-le-length}
+use Rattle.captable.proofs.Changes.{at_position}
 use Rattle.capbits.specs.declared.ids.ClientId.{ClientId}
 use Rattle.capbits.specs.declared.ids.Ino.{Ino}
 use Rattle.capbits.specs.declared.ids.Ticket.{Ticket}
@@ -20,6 +23,7 @@ use Rattle.lockmachine.specs.Requests.{is_numbered, AreTicketsRising}
 use Rattle.lockmachine.specs.Locks.{LockMap, IsLockMap, TakesOnly, request_at, next_request, with_request, without_request}
 use Rattle.lockmachine.specs.Scene.{Scene}
 use Rattle.lockmachine.specs.Moves.{LockPlace, places, may_end, may_serve, begin_or_rest, serve_or_begin, end_or_serve, first_move, moved, IsFirstServed}
+use Rattle.lockmachine.proofs.Rest.{not_found, passes}
 
 -- ---- a queue whose numbers rise
 
@@ -62,40 +66,48 @@ all_others ticket (x ∷ xs) above =
     ap (λ b. cond (not b) (x ∷ others ticket xs) (others ticket xs)) (ne_eqb x.ticket.0 ticket (λ same. absurd (omega arith)))
     ∙ ap (λ ys. x ∷ ys) (all_others ticket xs (All-tail (λ r. ticket < r.ticket.0) x xs above))
 
-record Parts (qs : List Request) (q : Request) : Type 0 where
-  earlier : List Request
-  later : List Request
-  was : qs ≡ earlier ++ q ∷ later
-  is : others q.ticket.0 qs ≡ earlier ++ later
-
-parts : (qs : List Request) (q : Request) → AreTicketsRising qs → Contains qs q → Parts qs q
+-- a request that is removed from its place is taken out alone
+removed : (qs : List Request) (q : Request) → AreTicketsRising qs → (inside : Contains qs q) → remove qs inside.0 ≡ others q.ticket.0 qs
 unfolding others
-parts [] q rising (k, room, at) = absurd (omega arith)
-parts (x ∷ xs) q rising (zero, room, at) =
+removed [] q rising (k, room, at) = absurd (omega arith)
+removed (x ∷ xs) q rising (zero, room, at) =
     let e : x ≡ q = at in
-    record {
-      earlier = [];
-      later = xs;
-      was = ap (λ y. y ∷ xs) e;
-      is =
-          ap (λ y. others q.ticket.0 (y ∷ xs)) e
-          ∙ ap (λ b. cond (not b) (q ∷ others q.ticket.0 xs) (others q.ticket.0 xs)) (nat_eq_equiv.refl q.ticket.0)
-          ∙ all_others q.ticket.0 xs (rw (← e) (rising-head x xs rising));
-    }
-parts (x ∷ xs) q rising (suc k, room, at) =
+    sym (ap (λ y. others q.ticket.0 (y ∷ xs)) e ∙ ap (λ b. cond (not b) (q ∷ others q.ticket.0 xs) (others q.ticket.0 xs)) (nat_eq_equiv.refl q.ticket.0)
+    ∙ all_others q.ticket.0 xs (rw (← e) (rising-head x xs rising)))
+removed (x ∷ xs) q rising (suc k, room, at) =
     let inside : Contains xs q = (k, omega arith, at) in
     let less : x.ticket.0 < q.ticket.0 = All-contains (λ r. x.ticket.0 < r.ticket.0) xs q (rising-head x xs rising) inside in
-    let p = parts xs q (rising-tail x xs rising) inside in
-    record {
-      earlier = x ∷ p.earlier;
-      later = p.later;
-      was = ap (λ ys. x ∷ ys) p.was;
-      is = ap (λ b. cond (not b) (x ∷ others q.ticket.0 xs) (others q.ticket.0 xs)) (not_numbered' x q less) ∙ ap (λ ys. x ∷ ys) p.is;
-    }
+    ap (λ ys. x ∷ ys) (removed xs q (rising-tail x xs rising) inside)
+    ∙ sym (ap (λ b. cond (not b) (x ∷ others q.ticket.0 xs) (others q.ticket.0 xs)) (not_numbered' x q less))
 
 pub taken_alone : (locks : LockMap) (q : Request) → IsLockMap locks → Contains locks.queue q → TakesOnly q locks (without_request locks q.ticket.0)
 unfolding others
-taken_alone locks q is inside = let p = parts locks.queue q is.rising inside in record { earlier = p.earlier; later = p.later; queue_was = p.was; queue_is = p.is; states_are = refl; last_is = refl }
+taken_alone locks q is (k, room, at) = record {
+  earlier = take k locks.queue;
+  later = drop (suc k) locks.queue;
+  queue_was = sym (take-append-drop k locks.queue) ∙ ap (λ qs. take k locks.queue ++ qs) (drop-cons locks.queue k q room ∙ ap (λ r. r ∷ drop (suc k) locks.queue) at);
+  queue_is = sym (removed locks.queue q is.rising (k, room, at));
+  states_are = refl;
+  last_is = refl;
+}
+
+-- what stands at the place of a number is the request that it finds, and without it the others are left
+pub taken : (qs : List Request) (ticket i : ℕ) (q : Request) → AreTicketsRising qs → position (is_numbered ticket) qs ≡ Some i → q ≡ get_or qs i q
+    → (find (is_numbered ticket) qs ≡ Some q) × (remove qs i ≡ filter (λ r. not (is_numbered ticket r)) qs)
+unfolding others
+taken qs ticket i q rising at is =
+    let place = at_position (is_numbered ticket) qs i at in
+    let room : i < length qs = rw place.0 place.1 in
+    let found : find (is_numbered ticket) qs ≡ Some q = find_at (is_numbered ticket) qs ∙ ap (slice_get qs) (sym place.0) ∙ slice_get-get_or qs i q room ∙ ap Some (sym is) in
+    let number : q.ticket.0 ≡ ticket = eqb-true q.ticket.0 ticket (passes (is_numbered ticket) qs q found) in
+    (found, removed qs q rising (i, room, sym is) ∙ ap (λ n. filter (λ r. not (is_numbered n r)) qs) number)
+
+-- where it finds none, all are left
+pub none_taken : (p : Request → Bool) (qs : List Request) → find p qs ≡ None → filter (λ r. not (p r)) qs ≡ qs
+none_taken p [] none = refl
+none_taken p (x ∷ xs) none =
+    let n = not_found p x xs none in
+    ap (λ b. cond (not b) (x ∷ filter (λ r. not (p r)) xs) (filter (λ r. not (p r)) xs)) n.0 ∙ ap (λ ys. x ∷ ys) (none_taken p xs n.1)
 
 -- ---- the request that is served
 

@@ -26,6 +26,7 @@ use Rattle.lockmachine.specs.Inodes.{lock_in}
 use Rattle.lockmachine.specs.Locks.{lock_at}
 use Rattle.lockmachine.specs.Scene.{Scene, target, loner, wanted}
 use Rattle.lockmachine.specs.Moves.{LockPlace, same_state, is_open, places_of, places, may_end, may_begin, may_serve, is_served_in, begin_or_rest, serve_or_begin, end_or_serve, first_move, IsQuiet, IsAtRest, WaitAtLocks}
+use Rattle.lockmachine.proofs.Idle.{find_nothing}
 
 -- ---- what is known where no move applies
 
@@ -55,7 +56,7 @@ no_move s is =
 
 -- ---- what a test that finds nothing says
 
-not_found : {T : Type 0} (p : T → Bool) (x : T) (xs : List T) → find p (x ∷ xs) ≡ None → (p x ≡ false) × (find p xs ≡ None)
+pub not_found : {T : Type 0} (p : T → Bool) (x : T) (xs : List T) → find p (x ∷ xs) ≡ None → (p x ≡ false) × (find p xs ≡ None)
 not_found p x xs none =
     elim (p x) as (λ b. cond b (Some x) (find p xs) ≡ None → (b ≡ false) × (find p xs ≡ None)) [
       | true ↦ λ none. absurd (cc)
@@ -63,7 +64,7 @@ not_found p x xs none =
     ] none
 
 -- what one test finds passes it, and fails each test that finds nothing
-found_not : {T : Type 0} (p r : T → Bool) (xs : List T) (x : T) → find p xs ≡ Some x → find r xs ≡ None → (p x ≡ true) × (r x ≡ false)
+pub found_not : {T : Type 0} (p r : T → Bool) (xs : List T) (x : T) → find p xs ≡ Some x → find r xs ≡ None → (p x ≡ true) × (r x ≡ false)
 found_not p r [] x found none = absurd (cc)
 found_not p r (y ∷ ys) x found none =
     let n = not_found r y ys none in
@@ -72,7 +73,11 @@ found_not p r (y ∷ ys) x found none =
       | false ↦ λ py found. found_not p r ys x found n.1
     ] refl found
 
-same_key : (ino x : ℕ) → eq_by_cmp nat_cmp ino x ≡ true → x ≡ ino
+-- what is found passes
+pub passes : {T : Type 0} (p : T → Bool) (xs : List T) (x : T) → find p xs ≡ Some x → p x ≡ true
+passes p xs x found = (found_not p (λ y. false) xs x found (find_nothing (λ y. false) (λ y. refl) xs)).0
+
+pub same_key : (ino x : ℕ) → eq_by_cmp nat_cmp ino x ≡ true → x ≡ ino
 same_key ino x e = sym (eqb-true ino x (sym (unsigned_tied ino x) ∙ e))
 
 -- a test that finds none of the locks fails at each
@@ -112,7 +117,7 @@ part_at-place L = refl
 part_at-place X = refl
 part_at-place F = refl
 
-same_part_is : (a b : Part) → same_part a b ≡ true → a ≡ b
+pub same_part_is : (a b : Part) → same_part a b ≡ true → a ≡ b
 same_part_is a b e = sym (part_at-place a) ∙ ap part_at (eqb-true (part_place a) (part_place b) e) ∙ part_at-place b
 
 same_state_is : (a b : State) → same_state a b ≡ true → a ≡ b

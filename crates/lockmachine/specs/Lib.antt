@@ -6,3 +6,5 @@ pub mod Policy
 pub mod Wants
 pub mod Scene
 pub mod Moves
+pub mod Runs
+pub mod Rows

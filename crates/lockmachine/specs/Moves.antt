@@ -1,11 +1,13 @@
 -- Which move comes next, what each does to the locks, and when they are at rest.
-use Rattle.std.specs.Prelude.{◌≡◌, ◌≤◌, ℕ, Bool, true, false, ◌&&◌, not, ◌==◌, IsTrue}
-use Rattle.std.specs.Prelude.{List, [], ◌∷◌, Option, Some, None, Contains}
+use Rattle.std.specs.Prelude.{◌≡◌, ◌≢◌, ◌≤◌, ℕ, Bool, true, false, ◌&&◌, not, ◌==◌, IsTrue}
+use Rattle.std.specs.Prelude.{List, [], ◌∷◌, Option, Some, None, Contains, map as each}
 use Rattle.std.specs.List.{find, list_any, flat_map}
 use Rattle.std.specs.Option.{option_map_or}
 use Rattle.std.specs.FinMap as map
 use Rattle.capbits.specs.declared.cap.Part.{Part}
 use Rattle.capbits.specs.declared.cap.Part.TheVariants.{A, L, X, F}
+use Rattle.capbits.specs.declared.ids.Ino.{Ino}
+use Rattle.capbits.specs.declared.ids.Ticket.{Ticket}
 use Rattle.capbits.specs.Sets.{is_empty}
 use Rattle.locktable.specs.declared.states.State.{State}
 use Rattle.locktable.specs.declared.states.State.TheVariants.{Sync, Lock, Mix, Excl}
@@ -13,12 +15,15 @@ use Rattle.locktable.specs.declared.states.LockState.{LockState}
 use Rattle.locktable.specs.declared.states.LockState.TheVariants.{Stable, Gather}
 use Rattle.locktable.specs.declared.targets.Head.{Head}
 use Rattle.locktable.specs.Targets.{is_served}
+use Rattle.captable.specs.Table.{Table}
+use Rattle.captable.specs.Calls.{entries_on}
 use Rattle.lockmachine.specs.declared.request.Request.{Request}
+use Rattle.lockmachine.specs.declared.wants.Wants.{Wants}
 use Rattle.lockmachine.specs.declared.moves.Move.{Move}
 use Rattle.lockmachine.specs.declared.moves.Move.TheVariants.{Begin, End, Serve, Settled}
 use Rattle.lockmachine.specs.Requests.{first_for, part_of_ask, head_of_ask, is_numbered}
 use Rattle.lockmachine.specs.Locks.{LockMap, lock_at, with_lock, request_at, without_request}
-use Rattle.lockmachine.specs.Scene.{Scene, rows_on, target, outside}
+use Rattle.lockmachine.specs.Scene.{Scene, wanted_in_all, target_by, target, outside}
 
 abbrev pub same_state : State → State → Bool
 same_state Sync Sync = true
@@ -27,9 +32,13 @@ same_state Mix Mix = true
 same_state (Excl a) (Excl b) = a.0 == b.0
 same_state a b = false
 
+-- some client has capabilities of the part that it may not hold where the part's lock is stable in a state
+abbrev pub is_held_outside : Table → Ino → Part → State → Bool
+is_held_outside table ino part state = list_any (λ row. not (is_empty (outside part state row))) (entries_on table ino)
+
 -- some capabilities are still to be told back before the lock can be in its target
 abbrev pub is_open : Scene → ℕ → Part → State → Bool
-is_open s ino part to = list_any (λ row. not (is_empty (outside part to row))) (rows_on s ino)
+is_open s ino part to = is_held_outside s.table (record { 0 = ino }) part to
 
 -- ---- which moves apply
 
@@ -37,42 +46,59 @@ is_open s ino part to = list_any (λ row. not (is_empty (outside part to row))) 
 abbrev pub LockPlace : Type 0
 LockPlace = ℕ × Part
 
+-- the parts, in their order
+abbrev pub parts : List Part
+parts = A ∷ L ∷ X ∷ F ∷ []
+
 -- the locks, by inode and then in the order A, L, X, F
 abbrev pub places_of : ℕ → List LockPlace
-places_of ino = (ino, A) ∷ (ino, L) ∷ (ino, X) ∷ (ino, F) ∷ []
+places_of ino = each (λ part. (ino, part)) parts
 
 abbrev pub places : LockMap → List LockPlace
 places locks = flat_map places_of (map.keys locks.states)
 
-abbrev pub may_end_in : Scene → LockPlace → Option LockState → Bool
-may_end_in s at None = false
-may_end_in s at (Some (Stable state)) = false
-may_end_in s at (Some (Gather from to)) = not (is_open s at.0 at.1 to)
+abbrev pub may_end_in : Table → LockPlace → Option LockState → Bool
+may_end_in table at None = false
+may_end_in table at (Some (Stable state)) = false
+may_end_in table at (Some (Gather from to)) = not (is_held_outside table (record { 0 = at.0 }) at.1 to)
 
--- the lock is in a gather that is not open
+-- the lock is in a gather that is not open, by the entries of the table
+abbrev pub may_end_by : Table → LockMap → LockPlace → Bool
+may_end_by table locks at = may_end_in table at (lock_at locks at.0 at.1)
+
+-- and so in the scene
 abbrev pub may_end : Scene → LockPlace → Bool
-may_end s at = may_end_in s at (lock_at s.locks at.0 at.1)
+may_end s at = may_end_by s.table s.locks at
 
-abbrev pub may_begin_in : Scene → LockPlace → Option LockState → Bool
-may_begin_in s at None = false
-may_begin_in s at (Some (Gather from to)) = false
-may_begin_in s at (Some (Stable state)) = not (same_state (target s at.0 at.1 state) state)
+abbrev pub may_begin_in : List Request → Wants → LockPlace → Option LockState → Bool
+may_begin_in queue wants at None = false
+may_begin_in queue wants at (Some (Gather from to)) = false
+may_begin_in queue wants at (Some (Stable state)) = not (same_state (target_by queue wants at.0 at.1 state) state)
 
--- the lock is stable, and not at its target
+-- the lock is stable, and not at its target, by what is wanted of its inode
+abbrev pub may_begin_by : LockMap → Wants → LockPlace → Bool
+may_begin_by locks wants at = may_begin_in locks.queue wants at (lock_at locks at.0 at.1)
+
+-- and so in the scene
 abbrev pub may_begin : Scene → LockPlace → Bool
-may_begin s at = may_begin_in s at (lock_at s.locks at.0 at.1)
+may_begin s at = may_begin_by s.locks (wanted_in_all s at.0) at
 
 abbrev pub is_served_in : Option LockState → Head → Bool
 is_served_in None head = false
 is_served_in (Some (Gather from to)) head = false
 is_served_in (Some (Stable state)) head = is_served state head
 
--- the request is the first for its lock, which is stable in a state that serves it
+-- no other request waits longer for its lock
+abbrev pub is_first : List Request → Request → Bool
+is_first queue q = option_map_or (is_numbered q.ticket.0) (first_for queue q.ino.0 (part_of_ask q.ask)) false
+
+-- its lock is stable in a state that serves it
+abbrev pub is_servable : LockMap → Request → Bool
+is_servable locks q = is_served_in (lock_at locks q.ino.0 (part_of_ask q.ask)) (head_of_ask q.client q.ask)
+
+-- both hold of the request
 abbrev pub may_serve : LockMap → Request → Bool
-may_serve locks q =
-    let part = part_of_ask q.ask in
-    option_map_or (is_numbered q.ticket.0) (first_for locks.queue q.ino.0 part) false
-    && is_served_in (lock_at locks q.ino.0 part) (head_of_ask q.client q.ask)
+may_serve locks q = is_first locks.queue q && is_servable locks q
 
 -- of the requests that may be served, this one has the least number
 pub record IsFirstServed (locks : LockMap) (q : Request) : Type 0 where
@@ -94,9 +120,14 @@ coming_state None = Sync
 coming_state (Some (Stable state)) = state
 coming_state (Some (Gather from to)) = to
 
+-- the beginning of a gather that brings the lock to its target, by what is wanted of its inode
+abbrev pub beginning : LockMap → Wants → LockPlace → Move
+beginning locks wants at =
+    Begin (record { 0 = at.0 }) at.1 (target_by locks.queue wants at.0 at.1 (present_state (lock_at locks at.0 at.1)))
+
 abbrev pub begin_or_rest : Scene → Option LockPlace → Move
 begin_or_rest s None = Settled
-begin_or_rest s (Some at) = Begin (record { 0 = at.0 }) at.1 (target s at.0 at.1 (present_state (lock_at s.locks at.0 at.1)))
+begin_or_rest s (Some at) = beginning s.locks (wanted_in_all s at.0) at
 
 abbrev pub serve_or_begin : Scene → Option Request → Move
 serve_or_begin s None = begin_or_rest s (find (may_begin s) (places s.locks))
@@ -109,6 +140,11 @@ end_or_serve s (Some at) = End (record { 0 = at.0 }) at.1
 -- the least gather that may end; else the oldest request that may be served; else the least lock that may begin
 unfoldable pub first_move : Scene → Move
 first_move s = end_or_serve s (find (may_end s) (places s.locks))
+
+-- a request is to be served, or no move applies
+abbrev pub serve_or_rest : Option Ticket → Move
+serve_or_rest None = Settled
+serve_or_rest (Some ticket) = Serve ticket
 
 -- ---- what they do
 
@@ -154,3 +190,11 @@ pub record IsAtRest (s : Scene) : Type 0 where
 -- who waits, waits for a lock that is there
 abbrev pub WaitAtLocks : Scene → Type 0
 WaitAtLocks s = (ino : ℕ) (part : Part) → lock_at s.locks ino part ≡ None → first_for s.locks.queue ino part ≡ None
+
+-- each lock of another inode is quiet
+pub record IsQuietBut (s : Scene) (ino : ℕ) : Type 0 where
+  pub each_other : (other : ℕ) (part : Part) → other ≢ ino → IsQuiet s other part (lock_at s.locks other part)
+
+-- nobody waits for a lock of the inode
+abbrev pub NobodyWaits : List Request → ℕ → Type 0
+NobodyWaits queue ino = (part : Part) → first_for queue ino part ≡ None

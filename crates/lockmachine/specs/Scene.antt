@@ -15,9 +15,11 @@ use Rattle.sessiontab.specs.Table.{SessionTable}
 use Rattle.captable.specs.declared.entry.EntryRow.{EntryRow}
 use Rattle.captable.specs.Table.{Table}
 use Rattle.captable.specs.Calls.{is_of_inode}
+use Rattle.lockmachine.specs.declared.request.Request.{Request}
+use Rattle.lockmachine.specs.declared.wants.Wants.{Wants}
 use Rattle.lockmachine.specs.Requests.{first_for, head_of}
 use Rattle.lockmachine.specs.Locks.{LockMap, lock_at}
-use Rattle.lockmachine.specs.Wants.{Want, want_of, union_of, loner_of}
+use Rattle.lockmachine.specs.Wants.{Want, want_of, union_of, loner_of, in_all}
 
 pub record Scene : Type 0 where
   -- the name of the file system
@@ -26,6 +28,10 @@ pub record Scene : Type 0 where
   pub sessions : SessionTable
   pub table : Table
   pub locks : LockMap
+
+-- the scene that a call is handed
+abbrev pub scene : List ℕ → Nodes → SessionTable → Table → LockMap → Scene
+scene fs tree sessions table locks = record { fs = fs; tree = tree; sessions = sessions; table = table; locks = locks }
 
 -- the entries on an inode
 abbrev pub rows_on : Scene → ℕ → List EntryRow
@@ -43,13 +49,21 @@ wanted s ino = union_of (wants s ino)
 abbrev pub loner : Scene → ℕ → Option Want
 loner s ino = loner_of (wants s ino)
 
--- what stands first in the queue of a lock
-abbrev pub head : Scene → ℕ → Part → Head
-head s ino part = head_of (first_for s.locks.queue ino part)
+-- what is wanted of it in all
+abbrev pub wanted_in_all : Scene → ℕ → Wants
+wanted_in_all s ino = in_all (wants s ino)
 
--- where a lock that is stable in a state is to go
+-- what stands first in the queue of a lock
+abbrev pub head_in : List Request → ℕ → Part → Head
+head_in queue ino part = head_of (first_for queue ino part)
+
+-- where a lock that is stable in a state is to go, by what waits and by what is wanted of its inode
+abbrev pub target_by : List Request → Wants → ℕ → Part → State → State
+target_by queue wants ino part state = table_of_targets.target_of part state (head_in queue ino part) wants.loner wants.wanted
+
+-- where it is to go in the scene
 abbrev pub target : Scene → ℕ → Part → State → State
-target s ino part state = table_of_targets.target_of part state (head s ino part) (loner s ino) (wanted s ino)
+target s ino part state = target_by s.locks.queue (wanted_in_all s ino) ino part state
 
 -- ---- what is being revoked
 

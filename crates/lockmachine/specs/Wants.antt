@@ -1,14 +1,20 @@
 -- What clients want of an inode, so far as it counts.
-use Rattle.std.specs.Prelude.{ℕ, Bool, not, List, [], ◌∷◌, Option, Some, None, filter, if◌then◌else◌}
+use Rattle.std.specs.Prelude.{ℕ, Bool, not, List, [], ◌∷◌, Option, Some, None, filter, map as each, if◌then◌else◌}
 use Rattle.std.specs.List.{fold}
 use Rattle.std.specs.FinMap as map
 use Rattle.capbits.specs.declared.cap.Cap.TheVariants.{P}
 use Rattle.capbits.specs.declared.ids.ClientId.{ClientId}
+use Rattle.capbits.specs.declared.ids.Ino.{Ino}
 use Rattle.capbits.specs.Caps.{Caps}
 use Rattle.capbits.specs.Sets.{no_caps, caps_in, is_empty, union, meet, minus}
 use Rattle.sessiontab.specs.Table.{SessionTable}
 use Rattle.inotree.specs.Tree.{Nodes}
 use Rattle.captable.specs.declared.entry.EntryRow.{EntryRow}
+use Rattle.captable.specs.Table.{Table}
+use Rattle.captable.specs.Calls.{entries_on}
+use Rattle.lockmachine.specs.declared.wants.Wants.{Wants}
+use Rattle.lockmachine.specs.declared.wants.Wanting.{Wanting}
+use Rattle.lockmachine.specs.declared.wants.Wanting.TheVariants.{Nobody, One, Several}
 use Rattle.lockmachine.specs.Policy.{permitted, is_open_session}
 
 -- what the entry's client wants and is permitted, if its session is open
@@ -24,6 +30,10 @@ Want = ClientId × Caps
 
 abbrev pub want_of : List ℕ → Nodes → SessionTable → EntryRow → Want
 want_of fs tree sessions row = (row.holder.client, effective_want fs tree sessions row)
+
+-- what the clients with an entry on an inode effectively want of it
+abbrev pub wants_on : List ℕ → Nodes → SessionTable → Table → Ino → List Want
+wants_on fs tree sessions table ino = each (want_of fs tree sessions) (entries_on table ino)
 
 -- what somebody wants, of these
 abbrev pub union_of : List Want → Caps
@@ -42,3 +52,13 @@ only (x ∷ y ∷ rest) = None
 -- the one that wants more than the pin, where no other does
 abbrev pub loner_of : List Want → Option Want
 loner_of wants = only (filter (λ want. is_more want.1) wants)
+
+-- what is wanted in all, of these
+abbrev pub in_all : List Want → Wants
+in_all wants = record { wanted = union_of wants; loner = loner_of wants }
+
+-- the loner, where these want more than the pin and those of a list too
+abbrev pub loner_with : Wanting → List Want → Option Want
+loner_with Nobody rest = only rest
+loner_with (One client want) rest = only ((client, want) ∷ rest)
+loner_with Several rest = None

@@ -1,11 +1,15 @@
 //! Laws of the locks. No program needs to call them.
 
-ghost use Rattle.std.specs.Prelude.{◌≡◌, ◌<◌, ℕ, [], Some, Contains, length};
+ghost use Rattle.std.specs.Prelude.{◌≡◌, ◌≢◌, ◌<◌, ℕ, List, [], Some, Contains, length};
 ghost use Rattle.std.specs.FinMap as map;
 ghost use Rattle.lockmachine.specs.declared.states.InodeLocks.{InodeLocks};
 ghost use Rattle.capbits.specs.declared.ids.ClientId.{ClientId};
 ghost use Rattle.capbits.specs.declared.ids.Ino.{Ino};
 ghost use Rattle.capbits.specs.declared.ids.Ticket.{Ticket};
+ghost use Rattle.capbits.specs.declared.cap.Part.{Part};
+ghost use Rattle.captable.specs.declared.entry.EntryRow.{EntryRow};
+ghost use Rattle.captable.specs.Table.{Table};
+ghost use Rattle.captable.specs.Calls.{entries_on};
 ghost use Rattle.lockmachine.specs.declared.request.Ask.{Ask};
 ghost use Rattle.lockmachine.specs.declared.request.Request.{Request};
 ghost use Rattle.lockmachine.specs.declared.moves.Move.{Move};
@@ -13,7 +17,9 @@ ghost use Rattle.lockmachine.specs.declared.moves.Move.TheVariants.{Serve, Settl
 ghost use Rattle.lockmachine.specs.Inodes.{in_sync};
 ghost use Rattle.lockmachine.specs.Scene.{Scene};
 ghost use Rattle.lockmachine.specs.Locks.{LockMap, IsLockMap, TakesOnly, request_at, with_request, without_request};
-ghost use Rattle.lockmachine.specs.Moves.{first_move, moved, IsFirstServed, IsAtRest, WaitAtLocks};
+ghost use Rattle.lockmachine.specs.Moves.{first_move, moved, with_moved, IsFirstServed, IsAtRest, IsQuietBut, WaitAtLocks};
+ghost use Rattle.lockmachine.specs.Runs.{Runs, AreFew};
+ghost use Rattle.lockmachine.specs.Rows.{IsInRow};
 
 /// Where no move applies, and who waits, waits for a lock that is there, the locks are at rest: each is stable at its
 /// target and nobody waits for it, or it gathers and some capabilities are still to be told back.
@@ -24,6 +30,27 @@ pub fn settled_is_at_rest()
 /// Where the locks are at rest, no move applies.
 pub fn at_rest_is_settled()
     ensures { (s : Scene) → IsAtRest s → first_move s ≡ Settled }
+{}
+
+/// Where the locks are at rest, a change of the entries of one inode leaves those of all others quiet.
+pub fn other_inodes_stay_quiet()
+    ensures { (s : Scene) (table : Table) (ino : ℕ) → IsAtRest s
+        → ((other : Ino) → other.0 ≢ ino → entries_on table other ≡ entries_on s.table other)
+        → IsQuietBut (record s { table = table }) ino }
+{}
+
+/// Between two servings each lock begins at most one gather and ends at most two. So locks come to rest.
+pub fn between_servings_locks_move_little()
+    ensures { (s t : Scene) (steps : List Move) → Runs s steps t → AreFew steps }
+{}
+
+/// Moves keep what is held in the rows of the states that locks have, or leave in a gather: a beginning leaves a state, and
+/// a gather ends only where nothing is held outside the row of its target.
+pub fn moves_keep_rows()
+    ensures one { (s : Scene) (row : EntryRow) (part : Part) → Contains s.table.rows row
+        → IsInRow s row part → IsInRow (with_moved s (first_move s)) row part }
+    ensures all { (s t : Scene) (steps : List Move) (row : EntryRow) (part : Part) → Runs s steps t
+        → Contains s.table.rows row → IsInRow s row part → IsInRow t row part }
 {}
 
 /// Where nobody has an entry and nobody waits, locks that are in SYNC are settled.

@@ -7,16 +7,26 @@ mod bytes;
 mod laws;
 mod locks;
 mod moves;
+mod policy_laws;
 mod request;
+mod revoked;
 mod states;
+mod wants;
 
 pub use bytes::Bytes;
 pub use laws::{
     a_new_request_keeps_the_order, a_number_finds_its_request, a_number_takes_its_request,
-    at_rest_is_settled, moves_keep_the_order, nothing_wanted_is_settled, settled_is_at_rest,
+    at_rest_is_settled, between_servings_locks_move_little, moves_keep_rows, moves_keep_the_order,
+    nothing_wanted_is_settled, other_inodes_stay_quiet, settled_is_at_rest,
     the_least_number_is_served,
 };
 pub use locks::Locks;
 pub use moves::Move;
+pub use policy_laws::{
+    a_forgotten_stray_leaves_what_is_permitted, a_new_inode_leaves_what_is_permitted,
+    a_new_session_leaves_other_clients, a_new_session_leaves_what_is_permitted,
+    a_snapshot_leaves_what_is_permitted, policy_reads_one_session_and_one_inode,
+};
 pub use request::{Ask, Change, Request};
 pub use states::InodeLocks;
+pub use wants::{Wants, effective_want, permitted, wants_on};

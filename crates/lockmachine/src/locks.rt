@@ -1,13 +1,31 @@
-//! The locks by inode, and the queue.
-ghost use Rattle.std.specs.Prelude.{◌≡◌, IfOk, OnOk, OnErr};
+//! The locks by inode, the queue, and the moves of both.
+ghost use Rattle.std.specs.Prelude.{◌≡◌, position, IfOk, OnOk, OnErr};
+ghost use Rattle.std.specs.List.{find};
+ghost use Rattle.std.specs.Option.{option_map, option_copied};
+ghost use Rattle.lockmachine.specs.declared.moves.Move.TheVariants.{Settled};
 ghost use Rattle.lockmachine.specs.Locks as words;
+ghost use Rattle.lockmachine.specs.Requests as requests;
+ghost use Rattle.lockmachine.specs.Scene.{scene, head_in, target_by};
+ghost use Rattle.lockmachine.specs.Moves as moves;
+ghost use Rattle.lockmachine.specs.Moves.{first_move, moved, handed, serve_or_rest, IsQuietBut, NobodyWaits};
+ghost use Rattle.lockmachine.specs.Runs.{MoveLittle, ChangesLocksOf};
 
+use crate::moves::Move;
 use crate::request::Request;
+use crate::revoked::is_held_outside;
 use crate::states::{InodeLocks, States};
-use capbits::{Ino, Part};
-use locktable::LockState;
+use crate::wants::{Wants, wants_on};
+use capbits::{Ino, Part, Ticket};
+use capspec::FsName;
+use captable::CapTable;
+use inotree::Tree;
+use locktable::{Head, LockState, State, serves, target};
+use sessiontab::Sessions;
 use std::alloc::{AllocError, Global};
 use std::marker::Model;
+
+// The parts, in their order.
+const PARTS: [Part; 4] = [Part::A, Part::L, Part::X, Part::F];
 
 /// The locks of all inodes, and the requests that wait for them.
 #[derive(Debug, Drop)]
@@ -66,5 +84,327 @@ impl Locks {
     {
         let locks = self.states.get(ino)?;
         Some(locks.of_part(part))
+    }
+
+    // ---- which move comes next
+
+    /// The first move that applies: the least gather that may end; else the oldest request that may be served; else the
+    /// least lock that may begin; else none is left. It looks at all inodes.
+    pub fn next_move(&self, table: &CapTable, sessions: &Sessions, tree: &Tree, fs: &FsName) -> Move
+        ensures { result ≡ first_move (scene fs.now tree.now sessions.now table.now self.now) }
+    {
+        if let Some((ino, part)) = self.first_end_of_all(table) {
+            return Move::End { ino, part };
+        }
+        if let Some(ticket) = self.first_serve() {
+            return Move::Serve(ticket);
+        }
+        self.first_begin_of_all(fs, tree, sessions, table)
+    }
+
+    /// The same move, where the locks of every other inode are quiet. It looks at this inode alone.
+    pub fn next_move_at(
+        &self,
+        table: &CapTable,
+        sessions: &Sessions,
+        tree: &Tree,
+        fs: &FsName,
+        ino: Ino,
+    ) -> Move
+        requires quiet { IsQuietBut (scene fs.now tree.now sessions.now table.now self.now) ino.0 }
+        ensures { result ≡ first_move (scene fs.now tree.now sessions.now table.now self.now) }
+    {
+        if let Some(part) = self.first_end(table, ino) {
+            return Move::End { ino, part };
+        }
+        if let Some(ticket) = self.first_serve() {
+            return Move::Serve(ticket);
+        }
+        let wants = wants_on(fs, tree, sessions, table, ino);
+        self.first_begin(ino, &wants).unwrap_or(Move::Settled)
+    }
+
+    // ---- among all
+
+    // The first lock of all that may end its gather.
+    fn first_end_of_all(&self, table: &CapTable) -> Option<(Ino, Part)>
+        ensures { option_map (λ at. (at.0.0, at.1)) result
+            ≡ find (moves.may_end_by table.now self.now) (moves.places self.now) }
+    {
+        for number in self.states.inos() {
+            let ino = Ino(*number);
+            if let Some(part) = self.first_end(table, ino) {
+                return Some((ino, part));
+            }
+        }
+        None
+    }
+
+    // The oldest request that may be served.
+    fn first_serve(&self) -> Option<Ticket>
+        ensures { result ≡ option_map (λ q. q.ticket) (find (moves.may_serve self.now) self.now.queue) }
+    {
+        for request in &self.queue {
+            if self.may_serve(request) {
+                return Some(request.ticket);
+            }
+        }
+        None
+    }
+
+    // The beginning of the first lock of all that may begin.
+    fn first_begin_of_all(
+        &self,
+        fs: &FsName,
+        tree: &Tree,
+        sessions: &Sessions,
+        table: &CapTable,
+    ) -> Move
+        ensures { let s = scene fs.now tree.now sessions.now table.now self.now in
+            result ≡ moves.begin_or_rest s (find (moves.may_begin s) (moves.places self.now)) }
+    {
+        for number in self.states.inos() {
+            let ino = Ino(*number);
+            let wants = wants_on(fs, tree, sessions, table, ino);
+            if let Some(step) = self.first_begin(ino, &wants) {
+                return step;
+            }
+        }
+        Move::Settled
+    }
+
+    // ---- at one inode
+
+    // The first part of an inode whose lock may end its gather.
+    fn first_end(&self, table: &CapTable, ino: Ino) -> Option<Part>
+        ensures { result ≡ find (λ part. moves.may_end_by table.now self.now (ino.0, part)) moves.parts }
+    {
+        PARTS
+            .iter()
+            .copied()
+            .find(|part| self.may_end(table, ino, *part))
+    }
+
+    // The beginning of the first lock of an inode that may begin.
+    fn first_begin(&self, ino: Ino, wants: &Wants) -> Option<Move>
+        ensures { result ≡ option_map (λ part. moves.beginning self.now wants.now (ino.0, part))
+            (find (λ part. moves.may_begin_by self.now wants.now (ino.0, part)) moves.parts) }
+    {
+        let part = self.first_to_begin(ino, wants)?;
+        Some(self.beginning(ino, part, wants))
+    }
+
+    // The first part of an inode whose lock may begin.
+    fn first_to_begin(&self, ino: Ino, wants: &Wants) -> Option<Part>
+        ensures { result ≡ find (λ part. moves.may_begin_by self.now wants.now (ino.0, part)) moves.parts }
+    {
+        PARTS
+            .iter()
+            .copied()
+            .find(|part| self.may_begin(ino, *part, wants))
+    }
+
+    // ---- at one lock
+
+    // Whether the lock is in a gather that is not open.
+    fn may_end(&self, table: &CapTable, ino: Ino, part: Part) -> bool
+        ensures { result ≡ moves.may_end_by table.now self.now (ino.0, part) }
+    {
+        match self.state(ino, part) {
+            Some(LockState::Gather { to, .. }) => !is_held_outside(table, ino, part, to),
+            Some(LockState::Stable(_)) | None => false,
+        }
+    }
+
+    // Whether the lock is stable, and not at its target.
+    fn may_begin(&self, ino: Ino, part: Part, wants: &Wants) -> bool
+        ensures { result ≡ moves.may_begin_by self.now wants.now (ino.0, part) }
+    {
+        match self.state(ino, part) {
+            Some(LockState::Stable(state)) => { self.target(ino, part, state, wants) != state }
+            Some(LockState::Gather { .. }) | None => false,
+        }
+    }
+
+    // The beginning of a gather that brings the lock to its target.
+    fn beginning(&self, ino: Ino, part: Part, wants: &Wants) -> Move
+        ensures { result ≡ moves.beginning self.now wants.now (ino.0, part) }
+    {
+        let to = self.target(ino, part, self.present_state(ino, part), wants);
+        Move::Begin { ino, part, to }
+    }
+
+    // Where the lock is to go, stable in this state.
+    fn target(&self, ino: Ino, part: Part, state: State, wants: &Wants) -> State
+        ensures { result ≡ target_by self.now.queue wants.now ino.0 part state }
+    {
+        target(part, state, self.head(ino, part), wants.loner, wants.wanted)
+    }
+
+    // What stands first in the queue of a lock.
+    fn head(&self, ino: Ino, part: Part) -> Head
+        ensures { result ≡ head_in self.now.queue ino.0 part }
+    {
+        match self.first_for(ino, part) {
+            None => Head::Empty,
+            Some(request) => request.ask.head(request.client),
+        }
+    }
+
+    // ---- at one request
+
+    // Whether the request is the first for its lock, which is stable in a state that serves it.
+    fn may_serve(&self, request: &Request) -> bool
+        ensures { result ≡ moves.may_serve self.now request.now }
+    {
+        self.is_servable(request) && self.is_first(request)
+    }
+
+    // Whether the lock of the request is stable in a state that serves it.
+    fn is_servable(&self, request: &Request) -> bool
+        ensures { result ≡ moves.is_servable self.now request.now }
+    {
+        match self.state(request.ino, request.ask.part()) {
+            Some(LockState::Stable(state)) => serves(state, request.ask.head(request.client)),
+            Some(LockState::Gather { .. }) | None => false,
+        }
+    }
+
+    // Whether no other request waits longer for its lock.
+    fn is_first(&self, request: &Request) -> bool
+        ensures { result ≡ moves.is_first self.now.queue request.now }
+    {
+        match self.first_for(request.ino, request.ask.part()) {
+            Some(first) => first.ticket.0 == request.ticket.0,
+            None => false,
+        }
+    }
+
+    // The request that waits longest for the lock.
+    fn first_for(&self, ino: Ino, part: Part) -> Option<&Request>
+        ensures { option_copied result ≡ requests.first_for self.now.queue ino.0 part }
+    {
+        self.queue.iter().find(|request| request.is_for(ino, part))
+    }
+
+    // ---- making moves
+
+    /// Makes a move. A request that is served waits no more, and is handed out to be judged. Where the move speaks of a
+    /// lock or a request that is not there, nothing happens.
+    pub fn apply_move(&mut self, step: Move) -> Option<Request>
+        ensures locks { self.new ≡ moved self.old step }
+        ensures request { result ≡ handed self.old step }
+    {
+        match step {
+            Move::Begin { ino, part, to } => {
+                let from = self.present_state(ino, part);
+                self.states.set(ino, part, LockState::Gather { from, to });
+                None
+            }
+            Move::End { ino, part } => {
+                let state = self.coming_state(ino, part);
+                self.states.set(ino, part, LockState::Stable(state));
+                None
+            }
+            Move::Serve(ticket) => self.take_request(ticket),
+            Move::Settled => None,
+        }
+    }
+
+    // Takes a request out of the queue.
+    fn take_request(&mut self, ticket: Ticket) -> Option<Request>
+        ensures left { self.new ≡ words.without_request self.old ticket.0 }
+        ensures taken { result ≡ words.request_at self.old ticket.0 }
+    {
+        let place = self.place_of(ticket)?;
+        Some(self.queue.remove(place))
+    }
+
+    // The place of a request in the queue.
+    fn place_of(&self, ticket: Ticket) -> Option<usize>
+        ensures { result ≡ position (requests.is_numbered ticket.0) self.now.queue }
+    {
+        self.queue
+            .iter()
+            .position(|request| request.ticket.0 == ticket.0)
+    }
+
+    // The state that the lock has reached, or leaves in a gather.
+    pub(crate) fn present_state(&self, ino: Ino, part: Part) -> State
+        ensures { result ≡ moves.present_state (words.lock_at self.now ino.0 part) }
+    {
+        match self.state(ino, part) {
+            Some(LockState::Stable(state)) => state,
+            Some(LockState::Gather { from, .. }) => from,
+            None => State::Sync,
+        }
+    }
+
+    // The state that the lock has reached, or is to reach.
+    fn coming_state(&self, ino: Ino, part: Part) -> State
+        ensures { result ≡ moves.coming_state (words.lock_at self.now ino.0 part) }
+    {
+        match self.state(ino, part) {
+            Some(LockState::Stable(state)) => state,
+            Some(LockState::Gather { to, .. }) => to,
+            None => State::Sync,
+        }
+    }
+
+    /// Begins and ends gathers at one inode, always by the first move that applies, until a request is to be served, whose
+    /// number it answers, or no move applies. The locks of every other inode are quiet.
+    pub fn advance_at(
+        &mut self,
+        table: &CapTable,
+        sessions: &Sessions,
+        tree: &Tree,
+        fs: &FsName,
+        ino: Ino,
+    ) -> Option<Ticket>
+        requires quiet { IsQuietBut (scene fs.now tree.now sessions.now table.now self.old) ino.0 }
+
+        // Each lock begins at most one gather and ends at most two.
+        ensures moves { MoveLittle (scene fs.now tree.now sessions.now table.now self.old)
+            (scene fs.now tree.now sessions.now table.now self.new) }
+        ensures next { first_move (scene fs.now tree.now sessions.now table.now self.new) ≡ serve_or_rest result }
+        ensures quiet { IsQuietBut (scene fs.now tree.now sessions.now table.now self.new) ino.0 }
+        ensures elsewhere { ChangesLocksOf ino.0 self.old self.new }
+    {
+        'moves: loop {
+            match self.next_move_at(table, sessions, tree, fs, ino) {
+                Move::Settled => return None,
+                Move::Serve(ticket) => return Some(ticket),
+                step => self.make(step),
+            }
+        }
+    }
+
+    /// Makes the moves at one inode, always the first that applies, until none does. Nobody waits at this inode, and the
+    /// locks of every other are quiet.
+    pub fn settle_at(
+        &mut self,
+        table: &CapTable,
+        sessions: &Sessions,
+        tree: &Tree,
+        fs: &FsName,
+        ino: Ino,
+    )
+        requires nobody_waits { NobodyWaits self.old.queue ino.0 }
+        requires quiet { IsQuietBut (scene fs.now tree.now sessions.now table.now self.old) ino.0 }
+
+        // Each lock begins at most one gather and ends at most two.
+        ensures moves { MoveLittle (scene fs.now tree.now sessions.now table.now self.old)
+            (scene fs.now tree.now sessions.now table.now self.new) }
+        ensures settled { first_move (scene fs.now tree.now sessions.now table.now self.new) ≡ Settled }
+        ensures elsewhere { ChangesLocksOf ino.0 self.old self.new }
+    {
+        let _nobody = self.advance_at(table, sessions, tree, fs, ino);
+    }
+
+    // Makes a move that serves nobody.
+    fn make(&mut self, step: Move)
+        ensures { self.new ≡ moved self.old step }
+    {
+        let _nobody = self.apply_move(step);
     }
 }

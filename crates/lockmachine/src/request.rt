@@ -1,8 +1,11 @@
 //! The requests that wait for a lock.
+ghost use Rattle.std.specs.Prelude.{◌≡◌};
+ghost use Rattle.lockmachine.specs.Requests as words;
 
 use crate::bytes::Bytes;
 use capbits::{ClientId, Ino, Part, Ticket};
 use inotree::Setting;
+use locktable::Head;
 
 /// A change of what an inode keeps.
 #[derive(Debug, Drop)]
@@ -54,4 +57,49 @@ pub struct Request {
     pub ino: Ino,
     /// What is asked for.
     pub ask: Ask,
+}
+
+impl Change {
+    // The part that changes.
+    fn part(&self) -> Part
+        ensures { result ≡ words.part_of_change self.now }
+    {
+        match self {
+            Change::Set(Setting::Mode(_) | Setting::Uid(_) | Setting::Gid(_)) => Part::A,
+            Change::Set(Setting::Size(_) | Setting::Time(_)) => Part::F,
+            Change::SetXattr { .. } | Change::RemoveXattr { .. } => Part::X,
+        }
+    }
+}
+
+impl Ask {
+    // The part whose lock the request waits for.
+    pub(crate) fn part(&self) -> Part
+        ensures { result ≡ words.part_of_ask self.now }
+    {
+        match self {
+            Ask::Get(part) => *part,
+            Ask::Alter(change) => change.part(),
+            Ask::Unlink | Ask::Rmdir | Ask::Rename { .. } => Part::L,
+        }
+    }
+
+    // What the lock sees of the request, where it is the first in its queue.
+    pub(crate) fn head(&self, client: ClientId) -> Head
+        ensures { result ≡ words.head_of_ask client self.now }
+    {
+        match self {
+            Ask::Get(_) => Head::Read(client),
+            Ask::Alter(_) | Ask::Unlink | Ask::Rmdir | Ask::Rename { .. } => Head::Change,
+        }
+    }
+}
+
+impl Request {
+    // Whether it waits for the lock of this part.
+    pub(crate) fn is_for(&self, ino: Ino, part: Part) -> bool
+        ensures { result ≡ words.is_for ino.0 part self.now }
+    {
+        self.ino.0 == ino.0 && self.ask.part() == part
+    }
 }

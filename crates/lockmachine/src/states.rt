@@ -2,12 +2,14 @@
 ghost use Rattle.std.specs.Prelude.{◌≡◌, OnOk, OnErr};
 ghost use Rattle.std.specs.Option.{option_copied};
 ghost use Rattle.std.specs.FinMap as map;
+ghost use Rattle.inotree.specs.Maps.{change_at};
 ghost use Rattle.lockmachine.specs.Inodes as words;
 
 use capbits::{Ino, Part};
 use locktable::{LockState, State};
 use std::alloc::{AllocError, Global};
 use std::collections::BTreeMap;
+use std::collections::btree_map::Keys;
 use std::marker::Model;
 
 /// The four locks of an inode, one for each part.
@@ -48,6 +50,18 @@ impl InodeLocks {
             Part::F => self.file,
         }
     }
+
+    // The lock of a part is in another state.
+    pub(crate) fn set(&mut self, part: Part, state: LockState)
+        ensures { self.new ≡ words.with_lock_in part state self.old }
+    {
+        match part {
+            Part::A => self.auth = state,
+            Part::L => self.link = state,
+            Part::X => self.xattr = state,
+            Part::F => self.file = state,
+        }
+    }
 }
 
 // The locks of each inode that has any.
@@ -86,6 +100,15 @@ impl States {
         self.locks.get(&ino.0)
     }
 
+    // The inodes that have locks, in the order of their numbers.
+    pub(crate) fn inos(&self) -> Keys<'_, u64, InodeLocks>
+        ensures { result ≡ map.keys self.now }
+    {
+        // For what it says of the order.
+        let _count = self.locks.len();
+        self.locks.keys()
+    }
+
     // Gives an inode these locks.
     pub(crate) fn insert(&mut self, ino: Ino, locks: InodeLocks) -> Result<(), AllocError>
         ensures ok { OnOk result (self.new ≡ map.insert self.old ino.0 locks) }
@@ -100,5 +123,14 @@ impl States {
         ensures { self.new ≡ map.remove self.old ino.0 }
     {
         self.locks.remove(&ino.0);
+    }
+
+    // Puts the lock of an inode's part, if it has one, in another state.
+    pub(crate) fn set(&mut self, ino: Ino, part: Part, state: LockState)
+        ensures { self.new ≡ change_at (words.with_lock_in part state) self.old ino.0 }
+    {
+        if let Some(locks) = self.locks.get_mut(&ino.0) {
+            locks.set(part, state);
+        }
     }
 }

@@ -1,5 +1,5 @@
 -- Each change of the table keeps it sound.
-use Rattle.std.specs.Prelude.{if◌then◌else◌, nat_le}
+use Rattle.std.specs.Prelude.{nat_le}
 use Rattle.std.proofs.Common.{◌≡◌, ℕ, ◌+◌, ◌-◌, ◌<◌, ◌≤◌, Bool, true, false, cond, not, ◌||◌, ◌&&◌, Option, Some, None, is_some, Result, Ok, Err, OnOk, OnErr, refl, sym, ap, subst, ◌∙◌, arith}
 use Rattle.std.specs.Cmp.{nat_cmp_total, Equal-is}
 use Rattle.std.specs.FinMap as map
@@ -18,7 +18,7 @@ use Rattle.sessiontab.specs.Calls.{has_session}
 use Rattle.sessiontab.specs.Tests.{new_session_tests, evict_tests}
 use Rattle.std.proofs.lemmas.Bool.Decides.{nat_tests}
 
-same_key : (q k : ℕ) → eq_by_cmp nat_cmp q k ≡ true → q ≡ k
+pub same_key : (q k : ℕ) → eq_by_cmp nat_cmp q k ≡ true → q ≡ k
 same_key q k e = map.nat_cmp-IsAntisymmetric q k ((Equal-is (nat_cmp q k)).0 e)
 
 one_more : (b : Bool) (n limit : ℕ) → n < limit → cond b n (n + 1) ≤ limit
@@ -108,7 +108,13 @@ module _ (m : SessionMap) (b : FinSet nat_cmp) (k : ℕ) (was : IsSound (record 
 below : (n limit : ℕ) → nat_le limit n ≡ false → n < limit
 below n limit e = grind (arith, nat_tests)
 
--- where no test of a new session fails, the client is not blocked, and there is room
+-- where no test of a new session fails, the client has none
+pub not_connected : (table : SessionTable) (client : ℕ) → first_failing (new_session_tests table client) ≡ None → has_session table client ≡ false
+not_connected table client passed =
+    let blocked = passed-if (set.contains table.blocked client) Blocklisted _ passed in
+    (passed-if (has_session table client) SessionOpen _ blocked.1).0
+
+-- the client is not blocked, and there is room
 pub may_open : (table : SessionTable) (client : ℕ) → first_failing (new_session_tests table client) ≡ None → (set.contains table.blocked client ≡ false) × (map.len table.sessions < MAX_SESSIONS)
 may_open table client passed =
     let blocked = passed-if (set.contains table.blocked client) Blocklisted _ passed in

@@ -24,9 +24,13 @@ is_open None = false
 abbrev pub connected_test : SessionTable → ℕ → Test
 connected_test table client = refused_if (not (has_session table client)) refusal.NoSession
 
+-- the client's session is not stale
+abbrev pub not_stale_test : SessionTable → ℕ → Test
+not_stale_test table client = refused_if (is_stale (status_of table client)) refusal.SessionStale
+
 -- the client has an open session
 abbrev pub session_tests : SessionTable → ℕ → List Test
-session_tests table client = connected_test table client ∷ refused_if (is_stale (status_of table client)) refusal.SessionStale ∷ []
+session_tests table client = connected_test table client ∷ not_stale_test table client ∷ []
 
 -- the client has a stale session
 abbrev pub stale_tests : SessionTable → ℕ → List Test

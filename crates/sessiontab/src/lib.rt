@@ -5,8 +5,10 @@
 
 mod blocklist;
 mod connected;
+mod laws;
 mod session;
 mod table;
 
+pub use laws::a_new_session_leaves_the_others;
 pub use session::{Session, Status};
 pub use table::{MAX_BLOCKED, MAX_SESSIONS, Sessions};

@@ -68,8 +68,8 @@ impl Sessions {
         }
     }
 
-    /// Why no session of a client can be ended: it has none.
-    pub fn close_refusal(&self, client: ClientId) -> Option<Refusal>
+    /// Why what needs a session, open or stale, is refused: the client has none. So no session of it can be ended.
+    pub fn connected_refusal(&self, client: ClientId) -> Option<Refusal>
         ensures { result ≡ first_failing (connected_test self.now client.0 ∷ []) }
     {
         match self.status(client) {

@@ -26,6 +26,11 @@ const REFUSALS: &[(Refusal, &str)] = &[
     (Refusal::Loop, "refused Loop"),
     (Refusal::TooDeep, "refused TooDeep"),
     (Refusal::NoXattr, "refused NoXattr"),
+    (Refusal::NoEntry, "refused NoEntry"),
+    (Refusal::NotHeld, "refused NotHeld"),
+    (Refusal::NothingToAck, "refused NothingToAck"),
+    (Refusal::BadSeq, "refused BadSeq"),
+    (Refusal::OldSeq { need: 12 }, "refused OldSeq 12"),
     (Refusal::Limit, "refused Limit"),
 ];
 

@@ -1,8 +1,8 @@
 //! Worked runs: clients that take, give back and are asked for capabilities.
 
 use crate::asserting::{same, same_items};
-use capbits::{CapSet, ClientId, Ino, read_caps};
-use captable::{AckFault, CapTable, Entry, Holder, Holders, OpenFault, ReleaseFault, Walk};
+use capbits::{CapSet, ClientId, Ino, Refusal, read_caps};
+use captable::{CapTable, Entry, Holder, Holders, Walk};
 use std::alloc::{AllocError, Global};
 use std::process::Abort;
 use std::test::Fail;
@@ -19,13 +19,19 @@ fn made(alloc: Global) -> Result<CapTable, Fail> {
     Ok(CapTable::new(alloc)?)
 }
 
-// Makes the entry where there is none.
-fn open(table: &mut CapTable, client: u32, ino: u64) -> Result<(), OpenFault> {
+// Makes the entry where there is none, if that is not refused.
+fn open(table: &mut CapTable, client: u32, ino: u64) -> Result<Result<(), Refusal>, AllocError> {
     let (client, ino) = (ClientId(client), Ino(ino));
+    if let Some(refusal) = table.open_refusal() {
+        return Ok(Err(refusal));
+    }
     match table.find(client, ino) {
-        Some(_entry) => Ok(()),
-        None if table.made() < u64::MAX => table.open_entry(client, ino),
-        None => Err(OpenFault::Limit),
+        Some(_entry) => Ok(Ok(())),
+        None if table.made() < u64::MAX => {
+            table.open_entry(client, ino)?;
+            Ok(Ok(()))
+        }
+        None => Ok(Err(Refusal::Limit)),
     }
 }
 
@@ -58,6 +64,11 @@ fn issue(table: &mut CapTable, client: u32, want: &[u8], held: &[u8]) {
 
 fn entry(table: &CapTable, client: u32, ino: u64) -> Option<Entry> {
     table.find(ClientId(client), Ino(ino))
+}
+
+// Why nothing can be asked of the entry.
+fn entry_refusal(table: &CapTable, client: u32, ino: u64) -> Option<Refusal> {
+    table.entry_refusal(ClientId(client), Ino(ino))
 }
 
 // The number of the entry's last change, of its last revocation, and of the last change that the client was told of.
@@ -121,7 +132,7 @@ fn named(alloc: Global, holders: &Holders) -> Result<Vec<(u32, u64)>, AllocError
 fn a_new_entry_is_empty(rt: HostRuntime) -> Result<(), Fail> {
     let mut table = made(rt.alloc())?;
     same(&rt, entry(&table, 1, 2), None, "no entry yet");
-    same(&rt, open(&mut table, 1, 2), Ok(()), "a new entry");
+    same(&rt, open(&mut table, 1, 2)?, Ok(()), "a new entry");
     let empty = Entry {
         held: CapSet::empty(),
         want: CapSet::empty(),
@@ -132,6 +143,9 @@ fn a_new_entry_is_empty(rt: HostRuntime) -> Result<(), Fail> {
     };
     same(&rt, entry(&table, 1, 2), Some(empty), "a new entry");
     same(&rt, entry(&table, 2, 1), None, "client and inode exchanged");
+    same(&rt, entry_refusal(&table, 1, 2), None, "a new entry");
+    let missing = entry_refusal(&table, 2, 1);
+    same(&rt, missing, Some(Refusal::NoEntry), "no entry");
     Ok(())
 }
 
@@ -139,17 +153,22 @@ fn a_new_entry_is_empty(rt: HostRuntime) -> Result<(), Fail> {
 // writing.
 fn shared_file(alloc: Global) -> Result<CapTable, Fail> {
     let mut table = CapTable::new(alloc)?;
-    open(&mut table, 1, 2)?;
+    open(&mut table, 1, 2)??;
     issue(&mut table, 1, b"pFsxcrwb", b"pFsxcrwb");
-    open(&mut table, 2, 2)?;
+    open(&mut table, 2, 2)??;
     issue(&mut table, 2, b"pFscr", b"p");
     renumber(&mut table, 1, b"pFsxcrwb", b"pFrw");
     Ok(table)
 }
 
 // The first client acknowledges what the shared file asks of it.
-fn ack(table: &mut CapTable, ino: u64, seq: u64) -> Result<(), AckFault> {
-    table.ack(ClientId(1), Ino(ino), seq, caps(b"Fsxcb"))
+fn ack(table: &mut CapTable, ino: u64, seq: u64) -> Result<(), Refusal> {
+    let (client, ino, against) = (ClientId(1), Ino(ino), caps(b"Fsxcb"));
+    if let Some(refusal) = table.ack_refusal(client, ino, seq, against) {
+        return Err(refusal);
+    }
+    table.ack(client, ino, seq, against);
+    Ok(())
 }
 
 #[test]
@@ -157,18 +176,18 @@ fn acknowledgements_name_the_last_revocation(rt: HostRuntime) -> Result<(), Fail
     let mut table = shared_file(rt.alloc())?;
     same(&rt, numbers(&table, 1), Some((2, 2, 1)), "not told yet");
     let early = ack(&mut table, 2, 2);
-    same(&rt, early, Err(AckFault::BadSeq), "not told yet");
+    same(&rt, early, Err(Refusal::BadSeq), "not told yet");
     tell(&mut table, 1);
-    for (seq, fault) in [(1, AckFault::OldSeq { need: 2 }), (3, AckFault::BadSeq)] {
+    for (seq, fault) in [(1, Refusal::OldSeq { need: 2 }), (3, Refusal::BadSeq)] {
         same(&rt, ack(&mut table, 2, seq), Err(fault), seq);
         same(&rt, held(&table, 1), Some(caps(b"pFsxcrwb")), seq);
     }
     same(&rt, ack(&mut table, 2, 2), Ok(()), "the last one");
     same(&rt, held(&table, 1), Some(caps(b"pFrw")), "the last one");
     let again = ack(&mut table, 2, 2);
-    same(&rt, again, Err(AckFault::NothingToAck), "once more");
+    same(&rt, again, Err(Refusal::NothingToAck), "once more");
     let elsewhere = ack(&mut table, 3, 2);
-    same(&rt, elsewhere, Err(AckFault::NoEntry), "another inode");
+    same(&rt, elsewhere, Err(Refusal::NoEntry), "another inode");
     // The other client keeps what it has.
     same(&rt, held(&table, 2), Some(caps(b"p")), "client 2");
     same(&rt, numbers(&table, 2), Some((1, 0, 1)), "client 2");
@@ -176,8 +195,13 @@ fn acknowledgements_name_the_last_revocation(rt: HostRuntime) -> Result<(), Fail
 }
 
 // The first client gives these back.
-fn release(table: &mut CapTable, ino: u64, text: &[u8]) -> Result<(), ReleaseFault> {
-    table.release(ClientId(1), Ino(ino), caps(text))
+fn release(table: &mut CapTable, ino: u64, text: &[u8]) -> Result<(), Refusal> {
+    let (client, ino, caps) = (ClientId(1), Ino(ino), caps(text));
+    if let Some(refusal) = table.release_refusal(client, ino, caps) {
+        return Err(refusal);
+    }
+    table.release(client, ino, caps);
+    Ok(())
 }
 
 // The shared file after the first client has given back what it was asked for: it holds pFrw.
@@ -192,9 +216,9 @@ fn given_back(rt: &impl Abort, alloc: Global) -> Result<CapTable, Fail> {
 fn released_capabilities_are_neither_held_nor_wanted(rt: HostRuntime) -> Result<(), Fail> {
     let mut table = given_back(&rt, rt.alloc())?;
     let too_much = release(&mut table, 2, b"Fxw");
-    same(&rt, too_much, Err(ReleaseFault::NotHeld), "Fxw");
+    same(&rt, too_much, Err(Refusal::NotHeld), "Fxw");
     let elsewhere = release(&mut table, 3, b"Fw");
-    same(&rt, elsewhere, Err(ReleaseFault::NoEntry), "inode 3");
+    same(&rt, elsewhere, Err(Refusal::NoEntry), "inode 3");
     same(&rt, release(&mut table, 2, b"-"), Ok(()), "nothing");
     same(&rt, held(&table, 1), Some(caps(b"pFrw")), "nothing");
     same(&rt, release(&mut table, 2, b"Fw"), Ok(()), "Fw");
@@ -247,7 +271,7 @@ fn three_entries(rt: &impl Abort, alloc: Global) -> Result<CapTable, Fail> {
     let mut table = made(alloc)?;
     same(rt, table.oldest(), None, "no entry yet");
     for (client, ino) in [(1, 2), (1, 3), (2, 2)] {
-        same(rt, open(&mut table, client, ino), Ok(()), (client, ino));
+        same(rt, open(&mut table, client, ino)?, Ok(()), (client, ino));
     }
     touch(&mut table, 1, 2);
     touch(&mut table, 7, 2);
@@ -292,7 +316,7 @@ fn a_client_that_goes_takes_its_entries_with_it(rt: HostRuntime) -> Result<(), F
 fn one_client(rt: &impl Abort, alloc: Global) -> Result<CapTable, Fail> {
     let mut table = made(alloc)?;
     for ino in 2..5 {
-        same(rt, open(&mut table, 1, ino), Ok(()), ino);
+        same(rt, open(&mut table, 1, ino)?, Ok(()), ino);
     }
     touch(&mut table, 1, 2);
     Ok(table)

@@ -49,7 +49,7 @@ fn opened(
 }
 
 fn closed(sessions: &mut Sessions, client: ClientId) -> Option<Refusal> {
-    if let Some(refusal) = sessions.close_refusal(client) {
+    if let Some(refusal) = sessions.connected_refusal(client) {
         return Some(refusal);
     }
     sessions.close_session(client);

@@ -3,7 +3,8 @@
 use crate::asserting::{present, same, same_items, same_text};
 use crate::tree_steps::Ask::*;
 use crate::tree_steps::{
-    child, first_attribute, forget, last, path_length, place, play, played, resolved, snap_add,
+    child, first_attribute, forget, known_refusal, last, path_length, place, play, played,
+    resolved, snap_add,
 };
 use capbits::{Ino, Refusal};
 use inotree::{Place, Setting, Tree};
@@ -66,11 +67,14 @@ fn with_a_stray(rt: &impl Abort, alloc: Global) -> Result<Tree, Fail> {
 fn an_unlinked_file_is_a_stray_until_it_is_forgotten(rt: HostRuntime) -> Result<(), Fail> {
     let mut tree = with_a_stray(&rt, rt.alloc())?;
     same(&rt, place(&tree, 2), Place::Gone, "unlinked");
+    same(&rt, known_refusal(&tree, 2), None, "unlinked");
     same(&rt, path_length(&tree, 2), None, "unlinked");
     same(&rt, child(&tree, 1, b"f"), None, "unlinked");
     forget(&rt, &mut tree, 2);
     same(&rt, last(&tree), 2, "forgotten");
     same(&rt, place(&tree, 2), Place::NoIno, "forgotten");
+    let missing = known_refusal(&tree, 2);
+    same(&rt, missing, Some(Refusal::NoIno), "forgotten");
     play(&rt, &mut tree, &[(Create(1, b'f'), Ok(3))])?;
     same(&rt, place(&tree, 3), Place::Here, "made anew");
     Ok(())
@@ -130,6 +134,15 @@ fn a_refusal_prints_as_its_name(rt: HostRuntime) -> Result<(), Fail> {
         (Refusal::Loop, "Loop"),
         (Refusal::TooDeep, "TooDeep"),
         (Refusal::NoXattr, "NoXattr"),
+        (Refusal::NoEntry, "NoEntry"),
+        (Refusal::NotHeld, "NotHeld"),
+        (Refusal::NothingToAck, "NothingToAck"),
+        (Refusal::BadSeq, "BadSeq"),
+        (Refusal::OldSeq { need: 2 }, "OldSeq 2"),
+        (
+            Refusal::OldSeq { need: u64::MAX },
+            "OldSeq 18446744073709551615",
+        ),
         (Refusal::Limit, "Limit"),
     ] {
         let printed = format!(in rt.alloc(); "{refusal}")?;

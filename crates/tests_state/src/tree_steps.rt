@@ -275,6 +275,11 @@ pub(crate) fn place(tree: &Tree, ino: u64) -> Place {
     tree.place(Ino(ino))
 }
 
+// Why nothing can be asked of the inode.
+pub(crate) fn known_refusal(tree: &Tree, ino: u64) -> Option<Refusal> {
+    tree.known_refusal(Ino(ino))
+}
+
 pub(crate) fn child(tree: &Tree, dir: u64, name: &[u8]) -> Option<u64> {
     tree.child(Ino(dir), name).map(|ino| ino.0)
 }

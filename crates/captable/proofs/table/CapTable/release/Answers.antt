@@ -6,8 +6,8 @@ use Rattle.captable.specs.Calls.{given_back, changed, without}
 use Rattle.captable.proofs.Changes.{put_found}
 use Rattle.captable.proofs.table.CapTable.release.Goals as goal
 
-pub returns-else-has-clause-ok : goal.returns-else-has-clause-ok
-returns-else-has-clause-ok c =
+pub returns-in-Some : goal.returns-in-Some
+returns-in-Some c =
     let t : Table = c.args.self.now in
     let found : entry_at t (holder c.args.client c.args.ino) ≡ Some c.in-Some.entry = cc in
     let no_pin : has c.args.caps P ≡ false = sym c.has.ensures ∙ c.if-has.false in

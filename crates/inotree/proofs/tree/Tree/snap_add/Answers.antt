@@ -1,4 +1,4 @@
-use Rattle.std.proofs.Common.{◌≡◌, false, refl, sym, ap, ◌∙◌}
+use Rattle.std.proofs.Common.{◌≡◌, false, refl, ap, ◌∙◌}
 use Rattle.inotree.specs.Names.{is_bad_name}
 use Rattle.inotree.specs.Maps.{change_at}
 use Rattle.inotree.specs.Inodes.{InodeMap, with_snapshot}

@@ -1,0 +1,30 @@
+use Rattle.std.proofs.Common.{List, sym, ap, ◌∙◌}
+use Rattle.std.specs.List.{position}
+use Rattle.captable.proofs.Changes.{no_position}
+use Rattle.lockmachine.specs.declared.request.Request.{Request}
+use Rattle.lockmachine.specs.Requests.{is_numbered}
+use Rattle.lockmachine.specs.Locks.{LockMap, request_at, without_request}
+use Rattle.lockmachine.proofs.Queue.{taken, none_taken}
+use Rattle.lockmachine.proofs.locks.Locks.take_request.Goals as goal
+
+pub returns-in_err-place-clause-left : goal.returns-in_err-place-clause-left
+returns-in_err-place-clause-left c =
+    let none = no_position (is_numbered c.args.ticket.0) c.args.self.now.queue (sym c.place_of.ensures ∙ c.in_err-place.was) in
+    ap (λ (qs : List Request). record c.args.self.now { queue = qs }) (sym (none_taken (is_numbered c.args.ticket.0) c.args.self.now.queue none))
+
+pub returns-in_err-place-clause-taken : goal.returns-in_err-place-clause-taken
+returns-in_err-place-clause-taken c =
+    c.from_residual.ensures ∙ sym (no_position (is_numbered c.args.ticket.0) c.args.self.now.queue (sym c.place_of.ensures ∙ c.in_err-place.was))
+
+pub returns-clause-left : goal.returns-clause-left
+returns-clause-left c =
+    let at = ap (λ (l : LockMap). position (is_numbered c.args.ticket.0) l.queue) c.self.view_is ∙ sym c.place_of.ensures ∙ c.in_ok-place.was in
+    let both = taken c.self.inside.queue.items c.args.ticket.0 c.in_ok-place.place c.remove.result c.self.invariant.rising at c.remove.ensures.value in
+    ap (λ (qs : List Request). record { states = c.self.inside.states; queue = qs; last = c.self.inside.last }) (c.remove.ensures.items ∙ both.1)
+    ∙ ap (λ (l : LockMap). without_request l c.args.ticket.0) c.self.view_is
+
+pub returns-clause-taken : goal.returns-clause-taken
+returns-clause-taken c =
+    let at = ap (λ (l : LockMap). position (is_numbered c.args.ticket.0) l.queue) c.self.view_is ∙ sym c.place_of.ensures ∙ c.in_ok-place.was in
+    let both = taken c.self.inside.queue.items c.args.ticket.0 c.in_ok-place.place c.remove.result c.self.invariant.rising at c.remove.ensures.value in
+    sym both.0 ∙ ap (λ (l : LockMap). request_at l c.args.ticket.0) c.self.view_is

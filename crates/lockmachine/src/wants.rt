@@ -1,0 +1,109 @@
+//! What clients want of an inode, so far as it counts.
+ghost use Rattle.std.specs.Prelude.{◌≡◌, List, [], ◌∷◌};
+ghost use Rattle.captable.specs.Table.{holder};
+ghost use Rattle.lockmachine.specs.Policy as policy;
+ghost use Rattle.lockmachine.specs.Wants as words;
+
+use capbits::{Cap, CapSet, ClientId, Ino};
+use capspec::FsName;
+use captable::{CapTable, EntryRow};
+use inotree::Tree;
+use sessiontab::{Sessions, Status};
+
+/// What the clients with an entry on an inode effectively want of it.
+#[derive(Clone, Copy, Debug, PartialEq, Eq)]
+pub struct Wants {
+    /// What somebody wants.
+    pub wanted: CapSet,
+    /// The one client that wants more than the pin, with what it wants, if there is exactly one.
+    pub loner: Option<(ClientId, CapSet)>,
+}
+
+/// What is wanted of an inode, found in one walk over its entries.
+pub fn wants_on(fs: &FsName, tree: &Tree, sessions: &Sessions, table: &CapTable, ino: Ino) -> Wants
+    ensures { result ≡ words.in_all (words.wants_on fs.now tree.now sessions.now table.now ino) }
+{
+    let mut wanted = CapSet::empty();
+    let mut wanting = Wanting::Nobody;
+    let mut walk = table.holders_of(ino);
+    'rows: while let Some(row) = walk.next() {
+        let client = row.holder.client;
+        let want = effective_want(fs, tree, sessions, row);
+        wanted = wanted.union(want);
+        if is_more(want) {
+            wanting = wanting.and(client, want);
+        }
+    }
+    let loner = wanting.loner();
+    Wants { wanted, loner }
+}
+
+/// What the entry's client wants and is permitted, if its session is open.
+pub fn effective_want(fs: &FsName, tree: &Tree, sessions: &Sessions, row: EntryRow) -> CapSet
+    ensures { result ≡ words.effective_want fs.now tree.now sessions.now row }
+{
+    match sessions.status(row.holder.client) {
+        Some(Status::Open) => {
+            let permitted = permitted(fs, tree, sessions, row.holder.client, row.holder.ino);
+            row.entry.want.meet(permitted)
+        }
+        Some(Status::Stale) | None => CapSet::empty(),
+    }
+}
+
+/// What the grants permit the client to hold of an inode. Without a session or a path, the pin alone.
+pub fn permitted(
+    fs: &FsName,
+    tree: &Tree,
+    sessions: &Sessions,
+    client: ClientId,
+    ino: Ino,
+) -> CapSet
+    ensures { result ≡ policy.permitted fs.now tree.now sessions.now (holder client ino) }
+{
+    let (Some(grants), Some(caller)) = (sessions.grants_of(client), sessions.caller_of(client))
+    else {
+        return CapSet::of(&[Cap::P]);
+    };
+    let (Some(path), Some(node)) = (tree.path_of(ino), tree.node(ino)) else {
+        return CapSet::of(&[Cap::P]);
+    };
+    capgrant::permitted(grants, fs, caller, path.as_slice(), &node.attr)
+}
+
+// Who wants more than the pin, of the clients that a walk came by.
+#[derive(Clone, Copy, Debug)]
+pub(crate) enum Wanting {
+    Nobody,
+    One(ClientId, CapSet),
+    Several,
+}
+
+impl Wanting {
+    // These, and one more.
+    fn and(self, client: ClientId, want: CapSet) -> Wanting
+        ensures { (rest : List words.Want) → words.loner_with result rest ≡ words.loner_with self ((client, want) ∷ rest) }
+    {
+        match self {
+            Wanting::Nobody => Wanting::One(client, want),
+            Wanting::One(_, _) | Wanting::Several => Wanting::Several,
+        }
+    }
+
+    // The one, where there is no other.
+    fn loner(self) -> Option<(ClientId, CapSet)>
+        ensures { result ≡ words.loner_with self [] }
+    {
+        match self {
+            Wanting::One(client, want) => Some((client, want)),
+            Wanting::Nobody | Wanting::Several => None,
+        }
+    }
+}
+
+// Whether this is more than the pin.
+fn is_more(want: CapSet) -> bool
+    ensures { result ≡ words.is_more want }
+{
+    !want.minus(CapSet::of(&[Cap::P])).is_empty()
+}
