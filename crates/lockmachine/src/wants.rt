@@ -72,7 +72,7 @@ pub fn permitted(
 }
 
 // Who wants more than the pin, of the clients that a walk came by.
-#[derive(Clone, Copy, Debug)]
+#[derive(Clone, Copy)]
 pub(crate) enum Wanting {
     Nobody,
     One(ClientId, CapSet),
