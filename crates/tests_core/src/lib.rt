@@ -1,5 +1,4 @@
-//! Tests of the public calls of the core, of scripts and of the programs' commands: worked scripts and command lines with the
-//! answers that the rules give.
+//! Tests of the public calls of the core and of scripts: worked scripts with the answers that the rules give.
 //!
 //! They stand in a crate of their own, since a crate with tests is proved twice. The asserts stand in helpers without a
 //! contract, and so do the reads of values, since the proof of a test goes through each fact that its body is told.
@@ -17,16 +16,6 @@ mod histories;
 mod lines;
 #[cfg(test)]
 mod looking;
-#[cfg(test)]
-mod measured_work;
-#[cfg(test)]
-mod program_lines;
-#[cfg(test)]
-mod program_runs;
-#[cfg(test)]
-mod program_scripts;
-#[cfg(test)]
-mod program_words;
 #[cfg(test)]
 mod replies;
 #[cfg(test)]

@@ -8,7 +8,7 @@ use std::process::Abort;
 use std::test::Fail;
 
 // The set that a text names; no set for a text that names none.
-fn caps(text: &[u8]) -> CapSet {
+pub(crate) fn caps(text: &[u8]) -> CapSet {
     match read_caps(text) {
         Ok(set) => set,
         Err(_fault) => CapSet::empty(),

@@ -11,6 +11,8 @@ mod cap_table;
 #[cfg(test)]
 mod limits;
 #[cfg(test)]
+mod lock_moves;
+#[cfg(test)]
 mod locks;
 #[cfg(test)]
 mod sessions;

@@ -1,7 +1,7 @@
 //! Whole command lines: the words in, the bytes out, the status.
 
 use crate::asserting::{holds, same};
-use crate::program_runs::{ALL_ROOM, Input, Outcome, Rooms, as_bytes, expect, outcome};
+use crate::runs::{ALL_ROOM, Input, Outcome, Rooms, as_bytes, expect, outcome};
 use arrayvec::ArrayVec;
 use capcommand::{Fault, report};
 use capgrant::{Access, Rules, Verdict};

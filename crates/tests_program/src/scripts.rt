@@ -1,6 +1,6 @@
 //! Whole scripts: the bytes in, the bytes out, the status.
 
-use crate::program_runs::{ALL_ROOM, Input, Outcome, Rooms, as_bytes, had, outcome};
+use crate::runs::{ALL_ROOM, Input, Outcome, Rooms, as_bytes, had, outcome};
 use std::process::Abort;
 use std::test::Fail;
 

@@ -1,0 +1,18 @@
+//! Tests of the public calls of the programs' commands: whole command lines, with what they write and their status.
+//!
+//! They stand in a crate of their own, since a crate with tests is proved twice, and apart from the tests of the core, since
+//! a function of a test costs the more the more its crate stands on and has.
+#![tactic(auto)]
+
+#[cfg(test)]
+mod asserting;
+#[cfg(test)]
+mod lines;
+#[cfg(test)]
+mod measured_work;
+#[cfg(test)]
+mod runs;
+#[cfg(test)]
+mod scripts;
+#[cfg(test)]
+mod words;
