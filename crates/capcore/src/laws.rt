@@ -15,7 +15,8 @@ ghost use Rattle.capcore.specs.State.{State};
 ghost use Rattle.capcore.specs.Judge.{judged, stop_reply};
 ghost use Rattle.capcore.specs.Step.{Step};
 ghost use Rattle.capcore.specs.History.{HasNoStray, IsOpening};
-ghost use Rattle.capcore.specs.Settle.{Made, MakesAll};
+ghost use Rattle.capcore.specs.Settle.{Made, MakesAll, Settles};
+ghost use Rattle.capcore.specs.Finish.{finished};
 ghost use Rattle.capcore.specs.Headline.{EachServing, ServedDenied, ServedByName, NoneConflict};
 ghost use Rattle.capcore.specs.Sound.{IsSound};
 
@@ -29,7 +30,14 @@ pub fn the_held_are_apart()
     ensures { (count : ℕ) (s : State) → IsSound count s → NoneConflict s.scene }
 {}
 
-/// In a sound state nothing is left to do: of an event that is stopped there is a step, which says what stopped it, ends no
+/// In a sound state nothing is left to do: no move applies, and the end of a step changes nothing.
+pub fn a_sound_state_has_nothing_left_to_do()
+    ensures settles { (count : ℕ) (s : State) → IsSound count s → Settles s.scene [] s.scene }
+    ensures finished { (count : ℕ) (s : State) → IsSound count s → IsTable s.scene.table
+        → finished s.scene s.scene s.scene ≡ s.scene }
+{}
+
+/// So of an event that is stopped there is a step, which says what stopped it, ends no
 /// request and changes nothing; and there is no other.
 pub fn a_stop_changes_nothing()
     ensures step { (count : ℕ) (old : State) (e : Event) (stopped : Stopped) → IsSound count old → IsTable old.scene.table
