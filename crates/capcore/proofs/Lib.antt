@@ -5,6 +5,7 @@ pub mod FirstLocks
 pub mod Fresh
 pub mod Growing
 pub mod Judging
+pub mod Leaving
 pub mod Numbered
 pub mod Promised
 pub mod Said
@@ -13,4 +14,5 @@ pub mod Sounding
 pub mod Stopping
 pub mod Staying
 pub mod Steps
+pub mod Untouched
 pub mod Verdicts

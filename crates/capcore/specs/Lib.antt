@@ -12,3 +12,4 @@ pub mod History
 pub mod Codes
 pub mod Headline
 pub mod Sound
+pub mod Leaving

@@ -1,17 +1,30 @@
 //! Laws of the core. No program needs to call them.
 
-ghost use Rattle.std.specs.Prelude.{◌≡◌, ℕ, List, [], Some};
+ghost use Rattle.std.specs.Prelude.{◌≡◌, ℕ, ◌+◌, List, [], Some, None};
 ghost use Rattle.capbits.specs.declared.cap.Part.{Part};
-ghost use Rattle.inotree.specs.Tree.{Nodes};
+ghost use Rattle.inotree.specs.Tree.{Nodes, IsTree};
+ghost use Rattle.capbits.specs.declared.caller.Caller.{Caller};
+ghost use Rattle.capbits.specs.Refusal.{first_failing};
+ghost use Rattle.capspec.specs.declared.grant.Grant.{Grant};
+ghost use Rattle.capgrant.specs.declared.access.Attr.{Attr};
+ghost use Rattle.inotree.specs.declared.node.Kind.{Kind};
+ghost use Rattle.inotree.specs.declared.node.Node.{Node};
+ghost use Rattle.inotree.specs.Calls.{with_new, changed};
+ghost use Rattle.sessiontab.specs.Table.{SessionTable};
+ghost use Rattle.sessiontab.specs.Calls.{with_session};
+ghost use Rattle.sessiontab.specs.Tests.{new_session_tests};
+ghost use Rattle.lockmachine.specs.Inodes.{StateMap};
 ghost use Rattle.captable.specs.declared.entry.EntryRow.{EntryRow};
 ghost use Rattle.captable.specs.Table.{IsTable};
-ghost use Rattle.lockmachine.specs.Locks.{lock_at};
+ghost use Rattle.lockmachine.specs.Locks.{lock_at, with_ino};
 ghost use Rattle.lockmachine.specs.Scene.{Scene, told_set};
 ghost use Rattle.capcore.specs.declared.event.Event.{Event};
 ghost use Rattle.capcore.specs.declared.outcome.Ended.{Ended};
 ghost use Rattle.capcore.specs.declared.reply.Reply.{Reply};
 ghost use Rattle.capcore.specs.declared.stopped.Stopped.{Stopped};
 ghost use Rattle.capcore.specs.State.{State};
+ghost use Rattle.capcore.specs.Direct.{with_scene};
+ghost use Rattle.capcore.specs.Leaving.{with_parts, LeavesEntries};
 ghost use Rattle.capcore.specs.Judge.{judged, stop_reply};
 ghost use Rattle.capcore.specs.Step.{Step};
 ghost use Rattle.capcore.specs.History.{HasNoStray, IsOpening};
@@ -35,6 +48,33 @@ pub fn a_sound_state_has_nothing_left_to_do()
     ensures settles { (count : ℕ) (s : State) → IsSound count s → Settles s.scene [] s.scene }
     ensures finished { (count : ℕ) (s : State) → IsSound count s → IsTable s.scene.table
         → finished s.scene s.scene s.scene ≡ s.scene }
+{}
+
+/// Nor is there after an event that leaves alone all that entries and requests depend on: the state is sound, no move
+/// applies, and nothing is issued, forgotten or numbered.
+pub fn what_leaves_entries_alone_leaves_nothing_to_do()
+    ensures sound { (count : ℕ) (s : State) (tree : Nodes) (sessions : SessionTable) (states : StateMap) → IsSound count s
+        → LeavesEntries s.scene tree sessions states → IsSound count (with_scene s (with_parts s.scene tree sessions states)) }
+    ensures settles { (count : ℕ) (s : State) (tree : Nodes) (sessions : SessionTable) (states : StateMap) → IsSound count s
+        → LeavesEntries s.scene tree sessions states
+        → Settles (with_parts s.scene tree sessions states) [] (with_parts s.scene tree sessions states) }
+    ensures finished { (count : ℕ) (s : State) (tree : Nodes) (sessions : SessionTable) (states : StateMap) → IsSound count s
+        → LeavesEntries s.scene tree sessions states → IsTable s.scene.table
+        → finished s.scene (with_parts s.scene tree sessions states) (with_parts s.scene tree sessions states)
+        ≡ with_parts s.scene tree sessions states }
+{}
+
+/// A new session, a new inode, and a snapshot that comes or goes are such events.
+pub fn sessions_inodes_and_snapshots_leave_entries_alone()
+    ensures session { (count : ℕ) (s : State) (client : ℕ) (caller : Caller) (grants : List Grant) → IsSound count s
+        → first_failing (new_session_tests s.scene.sessions client) ≡ None
+        → LeavesEntries s.scene s.scene.tree (with_session s.scene.sessions client caller grants) s.scene.locks.states }
+    ensures inode { (count : ℕ) (s : State) (kind : Kind) (dir : ℕ) (name : List ℕ) (attr : Attr) → IsSound count s
+        → IsTree s.scene.tree → LeavesEntries s.scene (with_new s.scene.tree kind dir name attr) s.scene.sessions
+        (with_ino s.scene.locks (s.scene.tree.last + 1)).states }
+    ensures snapshot { (count : ℕ) (s : State) (f : Node → Node) (ino : ℕ) → IsSound count s
+        → ((n : Node) → (f n).site ≡ n.site) → ((n : Node) → (f n).attr ≡ n.attr)
+        → LeavesEntries s.scene (changed f s.scene.tree ino) s.scene.sessions s.scene.locks.states }
 {}
 
 /// So of an event that is stopped there is a step, which says what stopped it, ends no
