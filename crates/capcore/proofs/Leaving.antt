@@ -55,7 +55,7 @@ allowed_with row o =
 
 -- ---- lists of rows
 
-found-contains : (p : EntryRow → Bool) (rows : List EntryRow) (row : EntryRow) → find p rows ≡ Some row → Contains rows row
+pub found-contains : (p : EntryRow → Bool) (rows : List EntryRow) (row : EntryRow) → find p rows ≡ Some row → Contains rows row
 found-contains p [] row found = cc
 found-contains p (x ∷ xs) row found = elim (p x) as (λ b. cond b (Some x) (find p xs) ≡ Some row → Contains (x ∷ xs) row) [
   | true ↦ λ found. let same : x ≡ row = cc in (0, omega arith, same)

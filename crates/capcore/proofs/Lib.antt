@@ -12,7 +12,7 @@ pub mod Said
 pub mod Servings
 pub mod Sounding
 pub mod Stopping
-pub mod Staying
+pub mod Undone
 pub mod Steps
 pub mod Untouched
 pub mod Verdicts

@@ -28,9 +28,10 @@ use Rattle.lockmachine.specs.Locks.{with_ino}
 use Rattle.lockmachine.specs.Wants.{effective_want}
 use Rattle.lockmachine.proofs.PolicyElsewhere.{want-session, want-new, want-changed}
 use Rattle.capcore.specs.State.{State}
+use Rattle.capcore.specs.Direct.{with_scene, with_tree, with_birth}
 use Rattle.capcore.specs.Sound.{IsSoundEntry, IsSound}
 use Rattle.capcore.specs.Leaving.{LeavesEntries}
-use Rattle.capcore.proofs.Leaving.{none_if, some_same, no_locks}
+use Rattle.capcore.proofs.Leaving.{kept-sound, none_if, some_same, no_locks}
 
 -- the locks that an inode begins with, where there is an inode
 abbrev first_of : Option Node → Option InodeLocks
@@ -110,3 +111,19 @@ module _ (count : ℕ) (s : State) (sound : IsSound count s) where
       by_test : (q : ℕ) (b : Bool) → place_at (option_map (λ n. n.site) (cond b (Some node) (map.get s.scene.tree.nodes q))) ≡ Gone → place_at (option_map (λ n. n.site) (map.get s.scene.tree.nodes q)) ≡ Gone
       by_test q true gone = cc
       by_test q false gone = gone
+
+-- ---- so they keep a sound state sound
+
+module _ {count : ℕ} {s : State} (sound : IsSound count s) where
+  pub session-sound : (client : ℕ) (caller : Caller) (grants : List Grant) → first_failing (new_session_tests s.scene.sessions client) ≡ None
+      → IsSound count (with_scene s (record s.scene { sessions = with_session s.scene.sessions client caller grants }))
+  session-sound client caller grants passed =
+      kept-sound count s sound s.scene.tree (with_session s.scene.sessions client caller grants) s.scene.locks.states (session-leaves count s sound client caller grants passed)
+
+  pub changed-sound : (f : Node → Node) (ino : ℕ) → ((n : Node) → (f n).site ≡ n.site) → ((n : Node) → (f n).attr ≡ n.attr)
+      → IsSound count (with_tree s (changed f s.scene.tree ino))
+  changed-sound f ino site attr = kept-sound count s sound (changed f s.scene.tree ino) s.scene.sessions s.scene.locks.states (changed-leaves count s sound f ino site attr)
+
+  pub birth-sound : (kind : Kind) (dir : ℕ) (name : List ℕ) (attr : Attr) → IsTree s.scene.tree → IsSound count (with_birth s kind dir name attr)
+  birth-sound kind dir name attr tree =
+      kept-sound count s sound (with_new s.scene.tree kind dir name attr) s.scene.sessions (with_ino s.scene.locks (s.scene.tree.last + 1)).states (birth-leaves count s sound kind dir name attr tree)

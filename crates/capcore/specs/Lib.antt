@@ -2,7 +2,6 @@ pub mod State
 pub mod Untold
 pub mod Judge
 pub mod Direct
-pub mod Idle
 pub mod Serving
 pub mod Settle
 pub mod Finish

@@ -50,8 +50,18 @@ pub fn a_sound_state_has_nothing_left_to_do()
         → finished s.scene s.scene s.scene ≡ s.scene }
 {}
 
-/// Nor is there after an event that leaves alone all that entries and requests depend on: the state is sound, no move
-/// applies, and nothing is issued, forgotten or numbered.
+/// So of an event that is stopped there is a step, which says what stopped it, ends no request and changes nothing; and
+/// there is no other.
+pub fn a_stop_changes_nothing()
+    ensures step { (count : ℕ) (old : State) (e : Event) (stopped : Stopped) → IsSound count old → IsTable old.scene.table
+        → judged old.scene e ≡ Some stopped → Step old e (stop_reply stopped) [] old }
+    ensures only { (count : ℕ) (old new : State) (e : Event) (stopped : Stopped) (answer : Reply) (ended : List Ended)
+        → IsSound count old → IsTable old.scene.table → judged old.scene e ≡ Some stopped
+        → Step old e answer ended new → (answer ≡ stop_reply stopped) × (ended ≡ []) × (new ≡ old) }
+{}
+
+/// After an event that leaves alone all that entries and requests depend on, a state that was sound is sound, no move
+/// applies, and nothing is to be issued, forgotten or numbered.
 pub fn what_leaves_entries_alone_leaves_nothing_to_do()
     ensures sound { (count : ℕ) (s : State) (tree : Nodes) (sessions : SessionTable) (states : StateMap) → IsSound count s
         → LeavesEntries s.scene tree sessions states → IsSound count (with_scene s (with_parts s.scene tree sessions states)) }
@@ -75,16 +85,6 @@ pub fn sessions_inodes_and_snapshots_leave_entries_alone()
     ensures snapshot { (count : ℕ) (s : State) (f : Node → Node) (ino : ℕ) → IsSound count s
         → ((n : Node) → (f n).site ≡ n.site) → ((n : Node) → (f n).attr ≡ n.attr)
         → LeavesEntries s.scene (changed f s.scene.tree ino) s.scene.sessions s.scene.locks.states }
-{}
-
-/// So of an event that is stopped there is a step, which says what stopped it, ends no
-/// request and changes nothing; and there is no other.
-pub fn a_stop_changes_nothing()
-    ensures step { (count : ℕ) (old : State) (e : Event) (stopped : Stopped) → IsSound count old → IsTable old.scene.table
-        → judged old.scene e ≡ Some stopped → Step old e (stop_reply stopped) [] old }
-    ensures only { (count : ℕ) (old new : State) (e : Event) (stopped : Stopped) (answer : Reply) (ended : List Ended)
-        → IsSound count old → IsTable old.scene.table → judged old.scene e ≡ Some stopped
-        → Step old e answer ended new → (answer ≡ stop_reply stopped) × (ended ≡ []) × (new ≡ old) }
 {}
 
 /// Whatever moves are made, each request that is served is denied exactly if it passes the tests that stand before policy
