@@ -1,14 +1,14 @@
 -- In a sound state the end of a step changes nothing.
 use Rattle.std.proofs.Common.{◌≡◌, ℕ, suc, Bool, true, false, cond, not, ◌&&◌, ◌||◌, Some, None, List, [], ◌∷◌, refl, sym, ap, ◌∙◌, Contains, arith}
 use Rattle.std.specs.Prelude.{IsTrue, map}
-use Rattle.std.specs.List.{find, list_all}
+use Rattle.std.specs.List.{find}
 use Rattle.std.specs.Cmp.{nat_cmp_total}
 use Rattle.std.specs.Ordering.{nat_cmp}
 use Rattle.std.specs.FinMap as finite
 use Rattle.std.proofs.lemmas.List.Elements.{All-contains}
-use Rattle.capbits.specs.declared.cap.Cap.{Cap}
-use Rattle.capbits.specs.Caps.{Caps, has, all_caps}
-use Rattle.capbits.specs.Sets.{union, minus, same_caps, IsSubset, has-union, has-minus, is_empty}
+use Rattle.capbits.specs.Caps.{Caps, has}
+use Rattle.capbits.specs.Sets.{no_caps, union, minus, same_caps, IsSubset, has-union, has-minus, has-none, is_empty}
+use Rattle.capbits.proofs.Emptiness.{is_empty-no_caps}
 use Rattle.inotree.specs.declared.node.Place.{Place}
 use Rattle.inotree.specs.declared.node.Place.TheVariants.{NoIno, Gone, Here}
 use Rattle.inotree.specs.Tree.{place}
@@ -54,13 +54,8 @@ and_not : (b : Bool) → (b && not b) ≡ false
 and_not true = refl
 and_not false = refl
 
-all_lack : (s : Caps) (cs : List Cap) → ((c : Cap) → has s c ≡ false) → list_all (λ c. not (has s c)) cs ≡ true
-all_lack s [] none = refl
-all_lack s (c ∷ cs) none = ap (λ b. not b && list_all (λ c. not (has s c)) cs) (none c) ∙ all_lack s cs none
-
 none_lost : (a : Caps) → is_empty (minus a a) ≡ true
-unfolding is_empty
-none_lost a = all_lack (minus a a) all_caps (λ c. has-minus a a c ∙ and_not (has a c))
+none_lost a = (is_empty-no_caps (minus a a)).1 (same_caps (minus a a) no_caps (λ c. has-minus a a c ∙ and_not (has a c) ∙ sym (has-none c)))
 
 -- where nothing changed, no number rises
 same-renumbered : (before after : Caps) (e : Entry) → before ≡ after → renumbered before after e ≡ e
