@@ -1,5 +1,5 @@
 -- What each event by itself comes to, from what the calls below answered.
-use Rattle.std.proofs.Common.{◌≡◌, ℕ, ◌+◌, List, [], ◌∷◌, ◌++◌, Option, Some, None, refl, ap, ◌∙◌}
+use Rattle.std.proofs.Common.{◌≡◌, ℕ, ◌+◌, List, [], ◌∷◌, ◌++◌, Some, None, refl, ap, ◌∙◌}
 use Rattle.std.specs.Option.{option_map}
 use Rattle.std.specs.FinMap as map
 use Rattle.capbits.specs.declared.ids.ClientId.{ClientId}
@@ -18,7 +18,6 @@ use Rattle.sessiontab.specs.Tests.{session_tests}
 use Rattle.lockmachine.specs.Scene.{Scene}
 use Rattle.capcore.specs.declared.event.Event.{Event}
 use Rattle.capcore.specs.declared.event.Event.TheVariants as event
-use Rattle.capcore.specs.declared.reply.Reply.{Reply}
 use Rattle.capcore.specs.declared.reply.Reply.TheVariants as reply
 use Rattle.capcore.specs.declared.stopped.Stopped.{Stopped}
 use Rattle.capcore.specs.declared.stopped.Stopped.TheVariants.{ByTest}

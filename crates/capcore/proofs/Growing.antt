@@ -30,8 +30,11 @@ first-told fs tree s max_rows none is = record {
   sound = opening-sound fs tree s none is;
 }
 
+pub sound-more : (rows : List Row) (row : Row) (new : State) → IsSound (length rows + 1) new → IsSound (length (rows ++ row ∷ [])) new
+sound-more rows row new = subst (λ n. IsSound n new) (sym (length-more rows row))
+
 -- one step more, with its row, to a state that is sound
-pub more-told : (t : Told) (row : Row) (new : State) → IsTold t → Step t.state row.event row.reply row.ended new → row.nth ≡ rows_of row.pass t.rows + 1 → length t.rows < t.max_rows → IsSound (length (t.rows ++ row ∷ [])) new →
+pub more-told : (t : Told) (row : Row) (new : State) → IsTold t → Step t.state row.event row.reply row.ended new → row.nth ≡ rows_of row.pass t.rows + 1 → length t.rows < t.max_rows → IsSound (length t.rows + 1) new →
     IsTold (told new (t.rows ++ row ∷ []) t.max_rows)
 more-told t row new is step nth less sound = record {
   fs = is.fs;
@@ -44,5 +47,5 @@ more-told t row new is step nth less sound = record {
     numbered = numbered-snoc t.rows row is.legal.numbered nth;
   };
   room = subst (λ n. n ≤ t.max_rows) (sym (length-more t.rows row)) (omega (arith, less));
-  sound = sound;
+  sound = sound-more t.rows row new sound;
 }

@@ -1,18 +1,16 @@
 -- The main promise, from what a step is.
-use Rattle.std.proofs.Common.{◌≡◌, ℕ, true, false, ◌||◌, List, [], Option, Some, None, refl, sym, ap, ◌∙◌, true≢false}
+use Rattle.std.proofs.Common.{◌≡◌, ℕ, Bool, true, false, ◌||◌, List, Option, Some, None, refl, sym, ap, subst, ◌∙◌, true≢false}
 use Rattle.std.specs.Prelude.{IsTrue}
 use Rattle.std.specs.List.{find}
 use Rattle.std.specs.Option.{option_map_or}
-use Rattle.capbits.specs.declared.cap.Cap.{Cap}
+use Rattle.std.proofs.lemmas.List.Elements.{All-contains}
 use Rattle.capbits.specs.Caps.{has}
 use Rattle.capgrant.specs.declared.access.Access.{Access}
 use Rattle.capgrant.specs.declared.rule.Rule.{Rule}
 use Rattle.captable.specs.declared.entry.EntryRow.{EntryRow}
-use Rattle.captable.specs.declared.entry.Holder.{Holder}
 use Rattle.captable.specs.Table.{is_row_of}
 use Rattle.inotree.specs.Tree.{child}
 use Rattle.lockmachine.specs.Policy.{failures}
-use Rattle.lockmachine.specs.Scene.{Scene}
 use Rattle.capcore.specs.declared.event.Event.{Event}
 use Rattle.capcore.specs.declared.event.Event.TheVariants as event
 use Rattle.capbits.specs.declared.refusal.Refusal.{Refusal}
@@ -24,8 +22,9 @@ use Rattle.capcore.specs.Judge.{Need, before, needs, after, first_denied, stop_b
 use Rattle.capcore.specs.Direct.{effect, effect_unless, found, direct, IsDirect}
 use Rattle.capcore.proofs.Said.{said, said_by}
 use Rattle.capcore.specs.Finish.{due}
-use Rattle.capcore.specs.Idle.{IsIdle}
-use Rattle.capcore.specs.Headline.{DeniedExactly, DeniesByName, IssuesExactly, AreInPlace, NoneConflict, holds, is_due, is_stop}
+use Rattle.capcore.specs.Sound.{IsSoundEntry, IsSound}
+use Rattle.capcore.proofs.Leaving.{found-contains}
+use Rattle.capcore.specs.Headline.{DeniedExactly, DeniesByName, IssuesExactly, is_stop}
 
 -- ---- an event that nothing stops
 
@@ -102,24 +101,24 @@ module _ (old : State) (e : Event) (answer : Reply) (new : State) (is : IsDirect
   unfolding answered_by o d l
   stopped-unchanged h = is.state_is ∙ stays old e o d l (ap is_stop (sym answered) ∙ h)
 
--- ---- caps, where nobody has an entry
+-- ---- caps
 
-none_found : (s : Scene) (k : Holder) → s.table.rows ≡ [] → find (is_row_of k) s.table.rows ≡ None
-none_found s k none = ap (find (is_row_of k)) none
+held_due : (held due : Bool) → (IsTrue due → IsTrue held) → held ≡ (held || due)
+held_due true due all = refl
+held_due false false all = refl
+held_due false true all = all refl
 
-none_held : (s : Scene) (k : Holder) (cap : Cap) → s.table.rows ≡ [] → holds s k cap ≡ false
-none_held s k cap none = ap (λ row. option_map_or (λ row. has row.entry.held cap) row false) (none_found s k none)
-
-pub issues-exactly : (first last : Scene) → IsIdle first → IsIdle last → IssuesExactly first last
-issues-exactly first last was is k cap =
-    none_held last k cap is.no_entries
-    ∙ sym (ap (λ b. b || is_due last k cap) (none_held first k cap was.no_entries) ∙ ap (λ row. option_map_or (λ row. has (due last row) cap) row false) (none_found last k is.no_entries))
-
-pub in-place : (s : Scene) → IsIdle s → AreInPlace s
-in-place s is row part here = absurd (none_some (sym (none_found s row.holder is.no_entries) ∙ here))
+-- in a sound state all that is due is held
+has-due : (count : ℕ) (s : State) → IsSound count s → IssuesExactly s.scene s.scene
+has-due count s sound k cap = by_entry (find (is_row_of k) s.scene.table.rows) refl
   where
-    none_some : ◌≡◌ {A = Option EntryRow} None (Some row) → ⊥
-    none_some e = cc
+    by_entry : (o : Option EntryRow) → find (is_row_of k) s.scene.table.rows ≡ o
+        → option_map_or (λ row. has row.entry.held cap) o false ≡ (option_map_or (λ row. has row.entry.held cap) o false || option_map_or (λ row. has (due s.scene row) cap) o false)
+    by_entry None found = refl
+    by_entry (Some row) found =
+        let entry = All-contains (IsSoundEntry count s.scene) s.scene.table.rows row sound.entries (found-contains (is_row_of k) s.scene.table.rows row found) in
+        held_due (has row.entry.held cap) (has (due s.scene row) cap) (entry.has_due cap)
 
-pub none-conflict : (s : Scene) → IsIdle s → NoneConflict s
-none-conflict s is a b c d apart same ha hb = absurd (true≢false (sym ha ∙ none_held s a c is.no_entries))
+-- so an event that leads to one has issued what it must
+pub issues-exactly : (count : ℕ) (old : State) (e : Event) (answer : Reply) (new : State) → IsDirect old e answer new → IsSound count new → IssuesExactly (direct old e).state.scene new.scene
+issues-exactly count old e answer new is sound = subst (λ (s : State). IssuesExactly s.scene new.scene) is.state_is (has-due count new sound)

@@ -1,47 +1,76 @@
 -- States that are sound.
-use Rattle.std.proofs.Common.{◌≡◌, ℕ, List, [], Option, Some, None, is_some, refl, sym, ap, subst, ◌∙◌, arith}
+use Rattle.std.proofs.Common.{◌≡◌, ℕ, ◌+◌, List, [], Option, Some, None, sym, ap, ◌∙◌, is_some, arith}
 use Rattle.std.specs.Prelude.{IsTrue}
 use Rattle.std.specs.Option.{option_map}
+use Rattle.std.specs.List.{find}
 use Rattle.std.specs.FinMap as map
-use Rattle.std.proofs.lemmas.List.Elements.{All-nil, All-same}
+use Rattle.std.proofs.lemmas.List.Elements.{All-nil, All-same, All-weaker}
 use Rattle.inotree.specs.declared.node.Node.{Node}
-use Rattle.inotree.specs.Tree.{Nodes}
+use Rattle.inotree.specs.Tree.{Nodes, place}
 use Rattle.sessiontab.specs.Calls.{has_session}
+use Rattle.captable.specs.declared.entry.EntryRow.{EntryRow}
+use Rattle.captable.specs.Table.{is_row_of}
+use Rattle.lockmachine.specs.declared.states.InodeLocks.{InodeLocks}
 use Rattle.lockmachine.specs.Inodes.{in_sync}
+use Rattle.lockmachine.specs.Requests.{first_for}
+use Rattle.lockmachine.specs.Scene.{Scene}
+use Rattle.lockmachine.proofs.Idle.{InSync, idle}
+use Rattle.lockmachine.proofs.Rest.{at_rest}
 use Rattle.capcore.specs.State.{State}
 use Rattle.capcore.specs.History.{HasNoStray, IsOpening}
-use Rattle.capcore.specs.Idle.{IsIdle}
 use Rattle.capcore.specs.Sound.{IsSoundEntry, IsSound}
-use Rattle.capcore.proofs.Promised.{in-place}
-use Rattle.capcore.proofs.Steps.{resting}
+use Rattle.capcore.proofs.Leaving.{some_same}
 
-same_some : (o : Option Node) → is_some (option_map (λ node. in_sync) o) ≡ is_some o
-same_some None = refl
-same_some (Some node) = refl
-
--- where nobody has an entry, nobody waits and nobody is to be told
-pub idle-sound : (count : ℕ) (s : State) → IsIdle s.scene → s.messages ≡ [] → IsSound count s
-idle-sound count s idle none = record {
-  entries = All-same (IsSoundEntry count s.scene) s.scene.table.rows [] idle.no_entries (All-nil (IsSoundEntry count s.scene));
-  waiting = All-same (λ q. IsTrue (has_session s.scene.sessions q.client.0)) s.scene.locks.queue [] idle.nobody_waits (All-nil (λ q. IsTrue (has_session s.scene.sessions q.client.0)));
-  messages = All-same (λ m. IsTrue (has_session s.scene.sessions m.client.0)) s.messages [] none (All-nil (λ m. IsTrue (has_session s.scene.sessions m.client.0)));
-  last = rw idle.none_numbered (omega arith);
-  made = rw idle.none_made (omega arith);
-  locked = λ ino. ap is_some (idle.all_in_sync ino) ∙ same_some (map.get s.scene.tree.nodes ino);
-  strays = λ ino gone. absurd (idle.no_strays ino gone);
-  in_place = in-place s.scene idle;
-  at_rest = resting s.scene idle;
+-- behind one row more
+later-entry : (count : ℕ) (s : Scene) (row : EntryRow) → IsSoundEntry count s row → IsSoundEntry (count + 1) s row
+later-entry count s row was = record {
+  of_session = was.of_session;
+  on_inode = was.on_inode;
+  holds_pin = was.holds_pin;
+  wants_pin = was.wants_pin;
+  has_due = was.has_due;
+  told = was.told;
+  revoked = was.revoked;
+  given = let given = was.given in omega (arith, given);
 }
 
+pub later-sound : (count : ℕ) (s : State) → IsSound count s → IsSound (count + 1) s
+later-sound count s was = record {
+  entries = All-weaker (IsSoundEntry count s.scene) (IsSoundEntry (count + 1) s.scene) (later-entry count s.scene) s.scene.table.rows was.entries;
+  waiting = was.waiting;
+  messages = was.messages;
+  last = let last = was.last in omega (arith, last);
+  made = let made = was.made in omega (arith, made);
+  locked = was.locked;
+  strays = was.strays;
+  in_place = was.in_place;
+  at_rest = was.at_rest;
+}
+
+-- ---- the opening
+
+sync_of : (o : Option Node) (locks : InodeLocks) → option_map (λ node. in_sync) o ≡ Some locks → locks ≡ in_sync
+sync_of None locks e = cc
+sync_of (Some node) locks e = cc
+
 pub opening-sound : (fs : List ℕ) (tree : Nodes) (s : State) → HasNoStray tree → IsOpening fs tree s → IsSound 0 s
-opening-sound fs tree s none is =
-    idle-sound 0 s
-    (record {
-      no_entries = ap (λ t. t.rows) is.table_is;
-      none_made = ap (λ t. t.made) is.table_is;
-      nobody_waits = is.queue_is;
-      none_numbered = is.last_is;
-      all_in_sync = λ ino. is.locks_are ino ∙ ap (λ t. option_map (λ node. in_sync) (map.get t.nodes ino)) (sym is.tree_is);
-      no_strays = subst HasNoStray (sym is.tree_is) none;
-    })
-    is.messages_are
+opening-sound fs tree s none is = record {
+  entries = All-same (IsSoundEntry 0 s.scene) s.scene.table.rows [] no_rows (All-nil (IsSoundEntry 0 s.scene));
+  waiting = All-same (λ q. IsTrue (has_session s.scene.sessions q.client.0)) s.scene.locks.queue [] is.queue_is (All-nil (λ q. IsTrue (has_session s.scene.sessions q.client.0)));
+  messages = All-same (λ m. IsTrue (has_session s.scene.sessions m.client.0)) s.messages [] is.messages_are (All-nil (λ m. IsTrue (has_session s.scene.sessions m.client.0)));
+  last = rw is.last_is (omega arith);
+  made = rw is.table_is (omega arith);
+  locked = λ ino. ap is_some (is.locks_are ino) ∙ some_same (map.get tree.nodes ino) ∙ ap (λ t. is_some (map.get t.nodes ino)) (sym is.tree_is);
+  strays = λ ino gone. absurd (none ino (ap (λ t. place t.nodes ino) (sym is.tree_is) ∙ gone));
+  in_place = λ row part found. absurd (not_found row (sym (ap (find (is_row_of row.holder)) no_rows) ∙ found));
+  at_rest = at_rest s.scene (λ ino part none. ap (λ queue. first_for queue ino part) is.queue_is) (idle s.scene no_rows is.queue_is sync);
+}
+  where
+    no_rows : s.scene.table.rows ≡ []
+    no_rows = ap (λ t. t.rows) is.table_is
+
+    sync : InSync s.scene
+    sync ino locks there = sync_of (map.get tree.nodes ino) locks (sym (is.locks_are ino) ∙ there)
+
+    not_found : (row : EntryRow) → ◌≡◌ {A = Option EntryRow} None (Some row) → ⊥
+    not_found row e = cc

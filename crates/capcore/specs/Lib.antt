@@ -2,7 +2,6 @@ pub mod State
 pub mod Untold
 pub mod Judge
 pub mod Direct
-pub mod Idle
 pub mod Serving
 pub mod Settle
 pub mod Finish
@@ -12,3 +11,4 @@ pub mod History
 pub mod Codes
 pub mod Headline
 pub mod Sound
+pub mod Leaving

@@ -1,21 +1,35 @@
 //! Laws of the core. No program needs to call them.
 
-ghost use Rattle.std.specs.Prelude.{◌≡◌, ℕ, List, [], Some};
+ghost use Rattle.std.specs.Prelude.{◌≡◌, ℕ, ◌+◌, List, [], Some, None};
 ghost use Rattle.capbits.specs.declared.cap.Part.{Part};
-ghost use Rattle.inotree.specs.Tree.{Nodes};
+ghost use Rattle.inotree.specs.Tree.{Nodes, IsTree};
+ghost use Rattle.capbits.specs.declared.caller.Caller.{Caller};
+ghost use Rattle.capbits.specs.Refusal.{first_failing};
+ghost use Rattle.capspec.specs.declared.grant.Grant.{Grant};
+ghost use Rattle.capgrant.specs.declared.access.Attr.{Attr};
+ghost use Rattle.inotree.specs.declared.node.Kind.{Kind};
+ghost use Rattle.inotree.specs.declared.node.Node.{Node};
+ghost use Rattle.inotree.specs.Calls.{with_new, changed};
+ghost use Rattle.sessiontab.specs.Table.{SessionTable};
+ghost use Rattle.sessiontab.specs.Calls.{with_session};
+ghost use Rattle.sessiontab.specs.Tests.{new_session_tests};
+ghost use Rattle.lockmachine.specs.Inodes.{StateMap};
 ghost use Rattle.captable.specs.declared.entry.EntryRow.{EntryRow};
 ghost use Rattle.captable.specs.Table.{IsTable};
-ghost use Rattle.lockmachine.specs.Locks.{lock_at};
+ghost use Rattle.lockmachine.specs.Locks.{lock_at, with_ino};
 ghost use Rattle.lockmachine.specs.Scene.{Scene, told_set};
 ghost use Rattle.capcore.specs.declared.event.Event.{Event};
 ghost use Rattle.capcore.specs.declared.outcome.Ended.{Ended};
 ghost use Rattle.capcore.specs.declared.reply.Reply.{Reply};
 ghost use Rattle.capcore.specs.declared.stopped.Stopped.{Stopped};
 ghost use Rattle.capcore.specs.State.{State};
+ghost use Rattle.capcore.specs.Direct.{with_scene};
+ghost use Rattle.capcore.specs.Leaving.{with_parts, LeavesEntries};
 ghost use Rattle.capcore.specs.Judge.{judged, stop_reply};
 ghost use Rattle.capcore.specs.Step.{Step};
 ghost use Rattle.capcore.specs.History.{HasNoStray, IsOpening};
-ghost use Rattle.capcore.specs.Settle.{Made, MakesAll};
+ghost use Rattle.capcore.specs.Settle.{Made, MakesAll, Settles};
+ghost use Rattle.capcore.specs.Finish.{finished};
 ghost use Rattle.capcore.specs.Headline.{EachServing, ServedDenied, ServedByName, NoneConflict};
 ghost use Rattle.capcore.specs.Sound.{IsSound};
 
@@ -29,14 +43,48 @@ pub fn the_held_are_apart()
     ensures { (count : ℕ) (s : State) → IsSound count s → NoneConflict s.scene }
 {}
 
-/// In a sound state nothing is left to do: of an event that is stopped there is a step, which says what stopped it, ends no
-/// request and changes nothing; and there is no other.
+/// In a sound state nothing is left to do: no move applies, and the end of a step changes nothing.
+pub fn a_sound_state_has_nothing_left_to_do()
+    ensures settles { (count : ℕ) (s : State) → IsSound count s → Settles s.scene [] s.scene }
+    ensures finished { (count : ℕ) (s : State) → IsSound count s → IsTable s.scene.table
+        → finished s.scene s.scene s.scene ≡ s.scene }
+{}
+
+/// So of an event that is stopped there is a step, which says what stopped it, ends no request and changes nothing; and
+/// there is no other.
 pub fn a_stop_changes_nothing()
     ensures step { (count : ℕ) (old : State) (e : Event) (stopped : Stopped) → IsSound count old → IsTable old.scene.table
         → judged old.scene e ≡ Some stopped → Step old e (stop_reply stopped) [] old }
     ensures only { (count : ℕ) (old new : State) (e : Event) (stopped : Stopped) (answer : Reply) (ended : List Ended)
         → IsSound count old → IsTable old.scene.table → judged old.scene e ≡ Some stopped
         → Step old e answer ended new → (answer ≡ stop_reply stopped) × (ended ≡ []) × (new ≡ old) }
+{}
+
+/// After an event that leaves alone all that entries and requests depend on, a state that was sound is sound, no move
+/// applies, and nothing is to be issued, forgotten or numbered.
+pub fn what_leaves_entries_alone_leaves_nothing_to_do()
+    ensures sound { (count : ℕ) (s : State) (tree : Nodes) (sessions : SessionTable) (states : StateMap) → IsSound count s
+        → LeavesEntries s.scene tree sessions states → IsSound count (with_scene s (with_parts s.scene tree sessions states)) }
+    ensures settles { (count : ℕ) (s : State) (tree : Nodes) (sessions : SessionTable) (states : StateMap) → IsSound count s
+        → LeavesEntries s.scene tree sessions states
+        → Settles (with_parts s.scene tree sessions states) [] (with_parts s.scene tree sessions states) }
+    ensures finished { (count : ℕ) (s : State) (tree : Nodes) (sessions : SessionTable) (states : StateMap) → IsSound count s
+        → LeavesEntries s.scene tree sessions states → IsTable s.scene.table
+        → finished s.scene (with_parts s.scene tree sessions states) (with_parts s.scene tree sessions states)
+        ≡ with_parts s.scene tree sessions states }
+{}
+
+/// A new session, a new inode, and a snapshot that comes or goes are such events.
+pub fn sessions_inodes_and_snapshots_leave_entries_alone()
+    ensures session { (count : ℕ) (s : State) (client : ℕ) (caller : Caller) (grants : List Grant) → IsSound count s
+        → first_failing (new_session_tests s.scene.sessions client) ≡ None
+        → LeavesEntries s.scene s.scene.tree (with_session s.scene.sessions client caller grants) s.scene.locks.states }
+    ensures inode { (count : ℕ) (s : State) (kind : Kind) (dir : ℕ) (name : List ℕ) (attr : Attr) → IsSound count s
+        → IsTree s.scene.tree → LeavesEntries s.scene (with_new s.scene.tree kind dir name attr) s.scene.sessions
+        (with_ino s.scene.locks (s.scene.tree.last + 1)).states }
+    ensures snapshot { (count : ℕ) (s : State) (f : Node → Node) (ino : ℕ) → IsSound count s
+        → ((n : Node) → (f n).site ≡ n.site) → ((n : Node) → (f n).attr ≡ n.attr)
+        → LeavesEntries s.scene (changed f s.scene.tree ino) s.scene.sessions s.scene.locks.states }
 {}
 
 /// Whatever moves are made, each request that is served is denied exactly if it passes the tests that stand before policy

@@ -19,8 +19,10 @@ pub use capbits::Refusal;
 pub use event::Event;
 pub use history::{EndedList, Row, Stop};
 pub use laws::{
-    a_stop_changes_nothing, an_opening_is_sound, numbers_begin_at_the_event, the_held_are_apart,
-    the_served_are_denied_by_name, the_served_are_denied_exactly,
+    a_sound_state_has_nothing_left_to_do, a_stop_changes_nothing, an_opening_is_sound,
+    numbers_begin_at_the_event, sessions_inodes_and_snapshots_leave_entries_alone,
+    the_held_are_apart, the_served_are_denied_by_name, the_served_are_denied_exactly,
+    what_leaves_entries_alone_leaves_nothing_to_do,
 };
 pub use outcome::{Ended, Message, Outcome, PartValues};
 pub use reply::Reply;

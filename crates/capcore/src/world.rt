@@ -1,9 +1,9 @@
 //! What an event does: all of the core but its history.
-ghost use Rattle.std.specs.Prelude.{◌≡◌, ◌+◌, ◌++◌, false, [], ◌∷◌, None, IfOk, IfErr, OnOk, OnErr};
+ghost use Rattle.std.specs.Prelude.{◌≡◌, ℕ, ◌+◌, ◌++◌, false, [], ◌∷◌, None, IfOk, IfErr, OnOk, OnErr};
 ghost use Rattle.inotree.specs.Tree.{is_directory};
 ghost use Rattle.inotree.specs.Calls.{with_new};
 ghost use Rattle.inotree.specs.Tests.{create_tests};
-ghost use Rattle.capcore.specs.Idle.{IsIdle};
+ghost use Rattle.capcore.specs.Sound.{IsSound};
 ghost use Rattle.capgrant.specs.Verdict.{is_allowed, IfDenied};
 ghost use Rattle.captable.specs.Table.{holder};
 ghost use Rattle.sessiontab.specs.Calls.{status_of};
@@ -48,10 +48,10 @@ pub(crate) struct World {
 }
 
 impl Model for World {
-    ghost use Rattle.std.specs.Prelude.{◌≡◌, []};
+    ghost use Rattle.std.specs.Prelude.{ℕ};
     ghost use Rattle.capcore.specs.State.{State};
     ghost use Rattle.capcore.specs.Codes.{state_code};
-    ghost use Rattle.capcore.specs.Idle.{IsIdle};
+    ghost use Rattle.capcore.specs.Sound.{IsSound};
     ghost use Rattle.capcore.specs.Untold.{HasRoom};
 
     ghost Value = { State };
@@ -63,10 +63,13 @@ impl Model for World {
       messages = w.messages.items;
     } };
 
+    // Sound behind a history of some length; and there is room for each message that is to come.
     ghost invariant = { λ w.
-        IsIdle (record { fs = w.fs; tree = w.tree; sessions = w.sessions; table = w.table; locks = w.locks })
-        × HasRoom w.messages w.locks
-        × (w.messages.items ≡ []) };
+        ((count : ℕ) × IsSound count (record {
+          scene = record { fs = w.fs; tree = w.tree; sessions = w.sessions; table = w.table; locks = w.locks };
+          messages = w.messages.items;
+        }))
+        × HasRoom w.messages w.locks };
 }
 
 impl World {
@@ -93,18 +96,17 @@ impl World {
     pub(crate) fn step(&mut self, event: &Event) -> Result<Reply, Stop>
         ensures step { IfOk result (λ reply. Step self.old event.now reply [] self.new) }
         ensures direct { IfOk result (λ reply. IsDirect self.old event.now reply self.new) }
-        ensures idle { OnOk result (IsIdle self.new.scene) }
-        ensures messages { OnOk result (self.new.messages ≡ []) }
+        // The state stays sound, behind one row more.
+        ensures sound { OnOk result ((count : ℕ) → IsSound count self.old → IsSound (count + 1) self.new) }
         // No event of these asks what an inode keeps.
         ensures values { IfOk result (λ reply. has_values reply ≡ false) }
         ensures err { OnErr result (self.new ≡ self.old) }
         ensures memory { IfErr result (λ stop. stop ≡ Stop.NoMemory) }
     {
-        // Nobody has an entry and nobody waits: no lock moves, and all is done when the event is.
-        let reply = self.act(event)?;
-        // A look at the world, by which the proof knows what each keeps.
-        let _kept = &self.table;
-        Ok(reply)
+        // A look at the tree and at the entries, by which the proof knows what they keep.
+        let (_last, _oldest) = (self.tree.last(), self.table.oldest());
+        // The event leaves alone what entries and requests depend on: no lock moves, and all is done when it is.
+        self.act(event)
     }
 
     // The event by itself.

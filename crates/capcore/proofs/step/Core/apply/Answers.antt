@@ -1,14 +1,16 @@
-use Rattle.std.proofs.Common.{◌≡◌, ◌<◌, ◌+◌, [], ◌∷◌, ◌++◌, length, ap, subst, ◌∙◌, arith}
+use Rattle.std.proofs.Common.{◌≡◌, ◌<◌, ◌+◌, length, ap, subst, ◌∙◌, arith}
 use Rattle.capcore.specs.State.{State}
 use Rattle.capcore.specs.declared.history.Row.{Row}
-use Rattle.capcore.specs.Headline.{DeniedExactly, DeniesByName}
+use Rattle.capcore.specs.Direct.{direct}
+use Rattle.capcore.specs.Headline.{DeniedExactly, DeniesByName, IssuesExactly}
 use Rattle.capcore.specs.History.{Told, told, Replays, rows_of}
+use Rattle.capcore.specs.Sound.{IsSound}
 use Rattle.capcore.specs.Step.{Step}
-use Rattle.capcore.proofs.Promised.{denied-exactly, denies-by_name}
-use Rattle.capcore.proofs.Growing.{more-told, replays-more}
-use Rattle.capcore.proofs.Sounding.{idle-sound}
-use Rattle.capcore.proofs.Steps.{resting}
+use Rattle.capcore.proofs.Apart.{held-apart}
+use Rattle.capcore.proofs.Promised.{denied-exactly, denies-by_name, issues-exactly}
+use Rattle.capcore.proofs.Growing.{more-told, replays-more, sound-more}
 use Rattle.capcore.proofs.step.Core.apply.Goals as goal
+use Rattle.capcore.proofs.step.Core.apply.Goals.{In_ok-push}
 
 pub invariant_of-self-2 : goal.invariant_of-self-2
 invariant_of-self-2 c =
@@ -18,7 +20,7 @@ invariant_of-self-2 c =
     let less : length c.self.inside.rows.items < c.self.inside.max_rows = omega (arith, c.len.ensures, c.if-len-self.false) in
     rw (c.in_ok-push.ensures.items, c.reserve.ensures.items)
     (more-told (told c.self.inside.world c.self.inside.rows.items c.self.inside.max_rows) row c.step.new.self c.self.invariant step nth less
-    (idle-sound (length (c.self.inside.rows.items ++ row ∷ [])) c.step.new.self c.in_ok-reply.ensures.idle c.in_ok-reply.ensures.messages))
+    (c.in_ok-reply.ensures.sound (length c.self.inside.rows.items) c.self.invariant.sound))
 
 pub returns-clause-denied : goal.returns-clause-denied
 returns-clause-denied c =
@@ -30,11 +32,28 @@ returns-clause-named c =
     subst (λ (t : Told). DeniesByName t.state.scene c.args.event c.in_ok-reply.reply) c.self.view_is
     (denies-by_name c.self.inside.world c.args.event c.in_ok-reply.reply c.step.new.self c.in_ok-reply.ensures.direct)
 
+-- the world is sound behind one row more
+next : (c : In_ok-push) → IsSound (length c.self.inside.rows.items + 1) c.step.new.self
+next c = c.in_ok-reply.ensures.sound (length c.self.inside.rows.items) c.self.invariant.sound
+
+pub returns-clause-issued : goal.returns-clause-issued
+returns-clause-issued c =
+    subst (λ (t : Told). IssuesExactly (direct t.state c.args.event).state.scene c.step.new.self.scene) c.self.view_is
+    (issues-exactly (length c.self.inside.rows.items + 1) c.self.inside.world c.args.event c.in_ok-reply.reply c.step.new.self c.in_ok-reply.ensures.direct (next c))
+
+pub returns-clause-in_place : goal.returns-clause-in_place
+returns-clause-in_place c = let sound = next c in sound.in_place
+
+pub returns-clause-apart : goal.returns-clause-apart
+returns-clause-apart c = held-apart (length c.self.inside.rows.items + 1) c.step.new.self (next c)
+
 pub returns-clause-sound : goal.returns-clause-sound
-returns-clause-sound c = idle-sound (length c.push.new.self.items) c.step.new.self c.in_ok-reply.ensures.idle c.in_ok-reply.ensures.messages
+returns-clause-sound c =
+    let row : Row = record { pass = c.args.pass; nth = c.next_number-nth.result; event = c.args.event; reply = c.copy_of_reply.result; ended = c.new.result } in
+    rw (c.in_ok-push.ensures.items, c.reserve.ensures.items) (sound-more c.self.inside.rows.items row c.step.new.self (next c))
 
 pub returns-clause-at_rest : goal.returns-clause-at_rest
-returns-clause-at_rest c = resting c.step.new.self.scene c.in_ok-reply.ensures.idle
+returns-clause-at_rest c = let sound = next c in sound.at_rest
 
 pub returns-clause-legal : goal.returns-clause-legal
 returns-clause-legal c =

@@ -2,9 +2,9 @@ use Rattle.std.proofs.Common.{◌≡◌, ◌+◌, None, sym, subst, arith}
 use Rattle.capbits.specs.Refusal.{first_failing}
 use Rattle.inotree.specs.Tests.{create_tests}
 use Rattle.inotree.proofs.Passing.{passed-create}
-use Rattle.lockmachine.specs.Scene.{Scene}
 use Rattle.capcore.specs.State.{State}
-use Rattle.capcore.proofs.Staying.{idle-born, added-dropped, not_given}
+use Rattle.capcore.proofs.Undone.{added-dropped, not_given}
+use Rattle.capcore.proofs.Untouched.{birth-sound}
 use Rattle.capcore.proofs.world.World.add.Goals as goal
 
 pub overflow_add-ino : goal.overflow_add-ino
@@ -17,15 +17,16 @@ overflow_add-ino c =
 
 pub invariant_of-self-in-Ok : goal.invariant_of-self-in-Ok
 invariant_of-self-in-Ok c =
-    let s : Scene = record { fs = c.self.inside.fs; tree = c.self.inside.tree; sessions = c.self.inside.sessions; table = c.self.inside.table; locks = c.self.inside.locks } in
-    rw (c.in-Ok.ensures.ok, c.in_ok-add_ino.ensures.ok, c.last.ensures.last) (idle-born s c.args.kind c.args.dir.0 c.args.name.now c.args.attr c.self.invariant.0, c.self.invariant.1, c.self.invariant.2)
+    let sound = c.self.invariant.0 in
+    rw (c.in-Ok.ensures.ok, c.in_ok-add_ino.ensures.ok, c.last.ensures.last)
+    ((sound.0, birth-sound sound.1 c.args.kind c.args.dir.0 c.args.name.now c.args.attr c.last.ensures.sound), c.self.invariant.1)
 
 pub invariant_of-self-in-Err : goal.invariant_of-self-in-Err
 invariant_of-self-in-Err c =
-    let s : Scene = record { fs = c.self.inside.fs; tree = c.self.inside.tree; sessions = c.self.inside.sessions; table = c.self.inside.table; locks = c.self.inside.locks } in
-    rw (c.in-Err.ensures.err, c.drop_ino.ensures, c.in_ok-add_ino.ensures.ok, c.last.ensures.last, added-dropped c.self.inside.locks (c.self.inside.tree.last + 1) (not_given s c.self.invariant.0 c.last.ensures.sound)) c.self.invariant
+    let undone = added-dropped c.self.inside.locks (c.self.inside.tree.last + 1) (not_given c.self.invariant.0.1 c.last.ensures.sound) in
+    rw (c.in-Err.ensures.err, c.drop_ino.ensures, c.in_ok-add_ino.ensures.ok, c.last.ensures.last, undone) c.self.invariant
 
 pub returns-in-Err-clause-err : goal.returns-in-Err-clause-err
 returns-in-Err-clause-err c =
-    let s : Scene = record { fs = c.self.inside.fs; tree = c.self.inside.tree; sessions = c.self.inside.sessions; table = c.self.inside.table; locks = c.self.inside.locks } in
-    rw (c.in-Err.ensures.err, c.drop_ino.ensures, c.in_ok-add_ino.ensures.ok, c.last.ensures.last, added-dropped c.self.inside.locks (c.self.inside.tree.last + 1) (not_given s c.self.invariant.0 c.last.ensures.sound)) c.self.view_is
+    let undone = added-dropped c.self.inside.locks (c.self.inside.tree.last + 1) (not_given c.self.invariant.0.1 c.last.ensures.sound) in
+    rw (c.in-Err.ensures.err, c.drop_ino.ensures, c.in_ok-add_ino.ensures.ok, c.last.ensures.last, undone) c.self.view_is

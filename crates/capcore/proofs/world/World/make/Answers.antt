@@ -1,7 +1,7 @@
 use Rattle.std.proofs.Common.{ap, sym, ◌∙◌}
 use Rattle.capbits.specs.Refusal.{first_failing}
 use Rattle.inotree.specs.Tests.{new_inode_tests}
-use Rattle.capcore.proofs.Effects.{birth-stopped, birth-refused, birth-passed, birth-done}
+use Rattle.capcore.proofs.Effects.{birth-stopped, birth-refused, birth-done}
 use Rattle.capcore.proofs.world.World.make.Goals as goal
 
 pub returns-in-Some-clause-direct : goal.returns-in-Some-clause-direct

@@ -3,7 +3,7 @@ use Rattle.capbits.specs.Refusal.{first_failing}
 use Rattle.inotree.specs.Inodes.{with_snapshot}
 use Rattle.inotree.specs.Tests.{new_snapshot_tests}
 use Rattle.capcore.proofs.Effects.{making-stopped, snapshot-refused}
-use Rattle.capcore.proofs.Staying.{idle-changed}
+use Rattle.capcore.proofs.Untouched.{changed-sound}
 use Rattle.capcore.proofs.world.World.make_snapshot.Goals as goal
 
 pub returns-in-Some-clause-direct : goal.returns-in-Some-clause-direct
@@ -15,9 +15,6 @@ returns-in-Some-new_snapshot_refusal-clause-direct c =
     (ap (λ s. first_failing (new_snapshot_tests s.scene.tree c.args.ino.0 c.args.name.now)) (sym c.self.view_is) ∙ sym c.new_snapshot_refusal.ensures ∙ c.in-Some-new_snapshot_refusal.is)
 
 pub invariant_of-self-2 : goal.invariant_of-self-2
-invariant_of-self-2 c = rw c.in_ok-snap_add.ensures.ok (
-  idle-changed (record { fs = c.self.inside.fs; tree = c.self.inside.tree; sessions = c.self.inside.sessions; table = c.self.inside.table; locks = c.self.inside.locks })
-      (with_snapshot c.args.name.now) c.args.ino.0 (λ n. refl) c.self.invariant.0,
-  c.self.invariant.1,
-  c.self.invariant.2,
-)
+invariant_of-self-2 c =
+    let sound = c.self.invariant.0 in
+    rw c.in_ok-snap_add.ensures.ok ((sound.0, changed-sound sound.1 (with_snapshot c.args.name.now) c.args.ino.0 (λ n. refl) (λ n. refl)), c.self.invariant.1)

@@ -1,0 +1,11 @@
+use Rattle.capcore.proofs.Untouched.{session-leaves, changed-leaves, birth-leaves}
+use Rattle.capcore.proofs.laws.sessions_inodes_and_snapshots_leave_entries_alone.Goals as goal
+
+pub returns-clause-session : goal.returns-clause-session
+returns-clause-session c = λ count s client caller grants sound. session-leaves count s sound client caller grants
+
+pub returns-clause-inode : goal.returns-clause-inode
+returns-clause-inode c = λ count s kind dir name attr sound. birth-leaves count s sound kind dir name attr
+
+pub returns-clause-snapshot : goal.returns-clause-snapshot
+returns-clause-snapshot c = λ count s f ino sound. changed-leaves count s sound f ino
