@@ -172,6 +172,16 @@ fn ack(table: &mut CapTable, ino: u64, seq: u64) -> Result<(), Refusal> {
 }
 
 #[test]
+fn a_number_above_what_was_told_is_bad_before_it_is_old(rt: HostRuntime) -> Result<(), Fail> {
+    let mut table = shared_file(rt.alloc())?;
+    renumber(&mut table, 1, b"pFrw", b"pFr");
+    same(&rt, numbers(&table, 1), Some((3, 3, 1)), "numbers");
+    let early = ack(&mut table, 2, 2);
+    same(&rt, early, Err(Refusal::BadSeq), "told 1, revoked 3");
+    Ok(())
+}
+
+#[test]
 fn acknowledgements_name_the_last_revocation(rt: HostRuntime) -> Result<(), Fail> {
     let mut table = shared_file(rt.alloc())?;
     same(&rt, numbers(&table, 1), Some((2, 2, 1)), "not told yet");
@@ -184,8 +194,11 @@ fn acknowledgements_name_the_last_revocation(rt: HostRuntime) -> Result<(), Fail
     }
     same(&rt, ack(&mut table, 2, 2), Ok(()), "the last one");
     same(&rt, held(&table, 1), Some(caps(b"pFrw")), "the last one");
-    let again = ack(&mut table, 2, 2);
-    same(&rt, again, Err(Refusal::NothingToAck), "once more");
+    // Nothing is against any more, whatever the number.
+    for seq in [2, 9, 0] {
+        let again = ack(&mut table, 2, seq);
+        same(&rt, again, Err(Refusal::NothingToAck), seq);
+    }
     let elsewhere = ack(&mut table, 3, 2);
     same(&rt, elsewhere, Err(Refusal::NoEntry), "another inode");
     // The other client keeps what it has.

@@ -236,8 +236,14 @@ const NOTHING_MOVES: &[&[Act]] = &[
     // Nor does what a stale client wants, or what anybody wants of an inode without a path.
     &[Want(1, 2, WRITER), Goes(1)],
     &[Want(1, 2, WRITER), Unlink(2)],
-    // An inode without locks.
+    // An inode that is not there, and the root, which has no locks here.
     &[Want(1, 9, WRITER)],
+    &[Want(1, 1, "pAsx")],
+    // Two that want more than the pin, of whom none writes; and each alone would have the lock to itself.
+    &[Want(1, 2, "pAsx"), Want(2, 2, "pAsx")],
+    &[Want(1, 2, "pFsxcb"), Want(2, 2, READER)],
+    // A lock stays where it is when nobody wants its part.
+    &[Want(1, 2, WRITER), Settle, Want(1, 2, "p")],
 ];
 
 #[test]
@@ -249,7 +255,7 @@ fn what_does_not_count_moves_no_lock(rt: HostRuntime) -> Result<(), Fail> {
 }
 
 // The acts, and where the lock of a part goes by a gather that ends at once.
-fn goals() -> [(&'static [Act], Part, State); 10] {
+fn goals() -> [(&'static [Act], Part, State); 12] {
     let first = State::Excl(ClientId(1));
     let second = State::Excl(ClientId(2));
     [
@@ -266,6 +272,17 @@ fn goals() -> [(&'static [Act], Part, State); 10] {
         ),
         (&[Want(1, 2, "pAsx")], Part::A, first),
         (&[Want(1, 2, "pLx")], Part::L, first),
+        (&[Want(1, 2, "pFw"), Want(2, 2, "pFa")], Part::F, first),
+        (
+            &[
+                Want(1, 2, WRITER),
+                Settle,
+                Want(1, 2, "p"),
+                Want(2, 2, WRITER),
+            ],
+            Part::F,
+            second,
+        ),
         // Two that want more: shared writing, where one of them writes.
         (
             &[Want(1, 2, "pFrw"), Want(2, 2, READER)],
@@ -330,8 +347,43 @@ fn a_gather_waits_for_what_is_held(rt: HostRuntime) -> Result<(), Fail> {
     )
 }
 
-// Two clients write, of whom the second holds what reading takes: its own wants count while the gather is open, and another
-// goal is found once it has ended.
+// A holder that is stale wants nothing that counts, and still holds.
+#[test]
+fn a_gather_waits_for_a_stale_holder(rt: HostRuntime) -> Result<(), Fail> {
+    let stale: &[Act] = &[
+        Want(1, 2, WRITER),
+        Settle,
+        Issue(1, 2, WRITER),
+        Goes(1),
+        Want(2, 2, READER),
+    ];
+    expect(&rt, stale, &[begin(2, Part::F, State::Sync)])?;
+    let gone: &[Act] = &[
+        Want(1, 2, WRITER),
+        Settle,
+        Issue(1, 2, WRITER),
+        Goes(1),
+        Want(2, 2, READER),
+        Settle,
+        Release(1, 2, "Fxwb"),
+    ];
+    expect(&rt, gone, &[end(2, Part::F)])
+}
+
+// From one client to another: what the first holds is outside the row of the second.
+#[test]
+fn a_gather_waits_for_the_client_before(rt: HostRuntime) -> Result<(), Fail> {
+    let acts: &[Act] = &[
+        Want(1, 2, WRITER),
+        Settle,
+        Issue(1, 2, "pFr"),
+        Want(1, 2, "p"),
+        Want(2, 2, WRITER),
+    ];
+    expect(&rt, acts, &[begin(2, Part::F, State::Excl(ClientId(2)))])
+}
+
+// A gather ends where it was to end, though its goal is another by then; the next gather goes there.
 #[test]
 fn a_goal_that_changes_in_a_gather_comes_after_it(rt: HostRuntime) -> Result<(), Fail> {
     let acts: &[Act] = &[
@@ -376,6 +428,44 @@ fn moves_come_in_their_order(rt: HostRuntime) -> Result<(), Fail> {
             end(3, Part::X),
         ],
     )?;
+    expect(
+        &rt,
+        &[Want(1, 2, "pAsxLsxXsxFw")],
+        &[
+            begin(2, Part::A, first),
+            end(2, Part::A),
+            begin(2, Part::L, first),
+            end(2, Part::L),
+            begin(2, Part::X, first),
+            end(2, Part::X),
+            begin(2, Part::F, first),
+            end(2, Part::F),
+        ],
+    )?;
+    // Two gathers of one inode that may end at once, and one of each of two inodes.
+    let parts: &[Act] = &[
+        Want(1, 2, "pAsxFsxcrwb"),
+        Settle,
+        Issue(1, 2, "pAsxFsxcrwb"),
+        Want(2, 2, "pAsFr"),
+        Settle,
+        Release(1, 2, "AxFsxcb"),
+    ];
+    expect(&rt, parts, &[end(2, Part::A), end(2, Part::F)])?;
+    let inodes: &[Act] = &[
+        File(3),
+        Want(1, 3, WRITER),
+        Want(1, 2, WRITER),
+        Settle,
+        Issue(1, 3, WRITER),
+        Issue(1, 2, WRITER),
+        Want(2, 3, READER),
+        Want(2, 2, READER),
+        Settle,
+        Release(1, 3, "Fsxcb"),
+        Release(1, 2, "Fsxcb"),
+    ];
+    expect(&rt, inodes, &[end(2, Part::F), end(3, Part::F)])?;
     let ends_first: &[Act] = &[
         File(3),
         Want(1, 3, WRITER),
