@@ -106,7 +106,8 @@ IssuesExactly first last = (k : Holder) (cap : Cap) → holds last k cap ≡ (ho
 abbrev pub IsInRow : EntryRow → Part → State → Type 0
 IsInRow row part state = IsSubset (of_part part row.entry.held) (row_of part state row.holder.client)
 
--- what it holds of the part outside the row of this state is being revoked, and keeps a gather to this state open
+-- what it holds of the part outside the row of this state is being revoked, and keeps a gather to this state open: so it is
+-- by what revoking and an open gather are, of each entry of the table
 abbrev pub IsTakenBack : Scene → EntryRow → Part → State → Type 0
 IsTakenBack s row part to =
     (cap : Cap) → IsTrue (has (of_part part row.entry.held) cap) → IsFalse (has (row_of part to row.holder.client) cap) →

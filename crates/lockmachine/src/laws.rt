@@ -39,7 +39,7 @@ pub fn other_inodes_stay_quiet()
         → IsQuietBut (record s { table = table }) ino }
 {}
 
-/// Between two servings each lock begins at most one gather and ends at most two. So locks come to rest.
+/// Between two servings each lock begins at most one gather and ends at most two.
 pub fn between_servings_locks_move_little()
     ensures { (s t : Scene) (steps : List Move) → Runs s steps t → AreFew steps }
 {}

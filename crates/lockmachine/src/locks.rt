@@ -102,7 +102,7 @@ impl Locks {
         self.first_begin_of_all(fs, tree, sessions, table)
     }
 
-    /// The same move, where the locks of every other inode are quiet. It looks at this inode alone.
+    /// The same move, where the locks of every other inode are quiet. It looks at the entries of this inode alone.
     pub fn next_move_at(
         &self,
         table: &CapTable,

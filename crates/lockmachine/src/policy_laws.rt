@@ -23,7 +23,7 @@ ghost use Rattle.lockmachine.specs.Wants.{effective_want};
 ghost use Rattle.lockmachine.specs.Scene.{Scene, wants};
 
 /// What a client is permitted on an inode, and what counts of its want, depends on its session and on the inode's path,
-/// owner, group and mode alone. What is wanted of an inode stays where it does for each entry.
+/// owner, group and mode alone. What is wanted of an inode stays where it does for every entry of the table.
 pub fn policy_reads_one_session_and_one_inode()
     ensures permitted { (fs : List ℕ) (old new : Nodes) (before after : SessionTable) (k : Holder) → IsAlike old new k.ino.0
         → map.get after.sessions k.client.0 ≡ map.get before.sessions k.client.0
