@@ -1,7 +1,7 @@
 //! Tests of the public calls of the programs' commands: whole command lines, with what they write and their status.
 //!
-//! They stand in a crate of their own, since a crate with tests is proved twice, and apart from the tests of the core, since
-//! a function of a test costs the more the more its crate stands on and has.
+//! They stand in a crate of their own, since a crate with tests is proved twice, and apart from the tests of the core, which
+//! need none of what the programs load.
 #![tactic(auto)]
 
 #[cfg(test)]
