@@ -95,12 +95,9 @@ fn want(table: &mut CapTable, client: u32, ino: u64, text: &str) -> Result<(), F
 }
 
 fn release(table: &mut CapTable, client: u32, ino: u64, text: &str) {
-    let (client, ino) = (ClientId(client), Ino(ino));
-    if table
-        .release_refusal(client, ino, caps(text.as_bytes()))
-        .is_none()
-    {
-        table.release(client, ino, caps(text.as_bytes()));
+    let (client, ino, caps) = (ClientId(client), Ino(ino), caps(text.as_bytes()));
+    if table.release_refusal(client, ino, caps).is_none() {
+        table.release(client, ino, caps);
     }
 }
 
