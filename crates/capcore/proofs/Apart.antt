@@ -101,8 +101,8 @@ held_by s k c (Some row) found held =
     let is = same_holder k row.holder (passes (is_row_of k) s.table.rows row found) in
     record { row = row; is = is; found = subst (λ (h : Holder). find (is_row_of h) s.table.rows ≡ Some row) is found; held = held }
 
-pub held-apart : (count : ℕ) (s : State) → IsSound count s → NoneConflict s.scene
-held-apart count s sound a b c d differ same_ino has_a has_b =
+pub held-apart : (s : State) → IsSound s → NoneConflict s.scene
+held-apart s sound a b c d differ same_ino has_a has_b =
     elim (conflict c d) as (λ v. conflict c d ≡ v → v ≡ false) [
       | false ↦ λ e. refl
       | true ↦ λ e. (

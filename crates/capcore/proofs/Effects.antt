@@ -49,7 +49,7 @@ module _ (old : State) (client : ClientId) (ino : Ino) (name : List ℕ) (free :
   pub snapshot-made : first_failing (new_snapshot_tests old.scene.tree ino.0 name) ≡ None →
       IsDirect old (event.MakeSnapshot client ino name) reply.Done (with_tree old (changed (with_snapshot name) old.scene.tree ino.0))
   snapshot-made none =
-      direct-passed old (event.MakeSnapshot client ino name)
+      direct-passed old (event.MakeSnapshot client ino name) reply.Done refl
       (nothing old (event.MakeSnapshot client ino name) (asked_tests old.scene client ino.0) (new_snapshot_tests old.scene.tree ino.0 name) (need client ino.0 Snapshot ∷ []) refl free none)
 
   pub snapshot-refused : (r : Refusal) → first_failing (new_snapshot_tests old.scene.tree ino.0 name) ≡ Some r → IsDirect old (event.MakeSnapshot client ino name) (reply.Refused r) old
@@ -61,7 +61,7 @@ module _ (old : State) (client : ClientId) (ino : Ino) (name : List ℕ) (free :
   pub snapshot-removed : first_failing (old_snapshot_tests old.scene.tree ino.0 name) ≡ None →
       IsDirect old (event.RemoveSnapshot client ino name) reply.Done (with_tree old (changed (without_snapshot name) old.scene.tree ino.0))
   snapshot-removed none =
-      direct-passed old (event.RemoveSnapshot client ino name)
+      direct-passed old (event.RemoveSnapshot client ino name) reply.Done refl
       (nothing old (event.RemoveSnapshot client ino name) (asked_tests old.scene client ino.0) (old_snapshot_tests old.scene.tree ino.0 name) (need client ino.0 Snapshot ∷ []) refl free none)
 
   pub snapshot-kept : (r : Refusal) → first_failing (old_snapshot_tests old.scene.tree ino.0 name) ≡ Some r → IsDirect old (event.RemoveSnapshot client ino name) (reply.Refused r) old
@@ -78,10 +78,10 @@ module _ (old : State) (client : ClientId) (dir : Ino) (name : List ℕ) (mode :
   pub birth-done : (kind : Kind) (ino : Ino) → first_failing (new_inode_tests old.scene.tree dir.0 name) ≡ None → ino.0 ≡ old.scene.tree.last + 1 →
       IsDirect old (made_event kind client dir name mode) (reply.Ino ino) (with_birth old kind dir.0 name (owned_by (map.get old.scene.sessions.sessions client.0) mode))
   birth-done File ino none is =
-      let d = direct-passed old (event.Create client dir name mode) (nothing old (event.Create client dir name mode) (asked_tests old.scene client dir.0) (new_inode_tests old.scene.tree dir.0 name) (need client dir.0 Write ∷ []) refl free none) in
+      let d = direct-passed old (event.Create client dir name mode) (reply.Ino (record { 0 = old.scene.tree.last + 1 })) refl (nothing old (event.Create client dir name mode) (asked_tests old.scene client dir.0) (new_inode_tests old.scene.tree dir.0 name) (need client dir.0 Write ∷ []) refl free none) in
       record { answer_is = (λ i. Says (reply.Ino (record { 0 = is i }))) ∙ d.answer_is; state_is = d.state_is }
   birth-done Directory ino none is =
-      let d = direct-passed old (event.Mkdir client dir name mode) (nothing old (event.Mkdir client dir name mode) (asked_tests old.scene client dir.0) (new_inode_tests old.scene.tree dir.0 name) (need client dir.0 Write ∷ []) refl free none) in
+      let d = direct-passed old (event.Mkdir client dir name mode) (reply.Ino (record { 0 = old.scene.tree.last + 1 })) refl (nothing old (event.Mkdir client dir name mode) (asked_tests old.scene client dir.0) (new_inode_tests old.scene.tree dir.0 name) (need client dir.0 Write ∷ []) refl free none) in
       record { answer_is = (λ i. Says (reply.Ino (record { 0 = is i }))) ∙ d.answer_is; state_is = d.state_is }
 
 -- what stops a request at the inode that it names stops the event

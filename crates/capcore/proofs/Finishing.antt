@@ -77,13 +77,13 @@ same_kept m p all = finite.same_map nat_cmp_total finite.nat_cmp-IsAntisymmetric
 
 -- ---- the end of a step
 
-module _ (count : ℕ) (s : State) (sound : IsSound count s) (table : IsTable s.scene.table) where
+module _ (s : State) (sound : IsSound s) (table : IsTable s.scene.table) where
   same-issue : issue s.scene ≡ s.scene
   unfolding with_rows
   same-issue = ap (with_rows s.scene) (same_rows (issue_row s.scene) s.scene.table.rows (λ row inside. same-issue_row s.scene row (has_due row inside)))
     where
       has_due : (row : EntryRow) → Contains s.scene.table.rows row → IsSubset (due s.scene row) row.entry.held
-      has_due row inside = let entry = All-contains (IsSoundEntry count s.scene) s.scene.table.rows row sound.entries inside in entry.has_due
+      has_due row inside = let entry = All-contains (IsSoundEntry s.scene) s.scene.table.rows row sound.entries inside in entry.has_due
 
   same-forget : forget s.scene ≡ s.scene
   same-forget = λ i. record s.scene {
@@ -107,5 +107,5 @@ module _ (count : ℕ) (s : State) (sound : IsSound count s) (table : IsTable s.
   sound-finished = same-finished s.scene (λ row inside. refl)
 
 -- and no move applies
-pub sound-settles : (count : ℕ) (s : State) → IsSound count s → Settles s.scene [] s.scene
-sound-settles count s sound = record { made = refl; settled = settled s.scene sound.at_rest }
+pub sound-settles : (s : State) → IsSound s → Settles s.scene [] s.scene
+sound-settles s sound = record { made = refl; settled = settled s.scene sound.at_rest }

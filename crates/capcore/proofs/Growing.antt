@@ -4,10 +4,10 @@ use Rattle.inotree.specs.Tree.{Nodes}
 use Rattle.capcore.specs.declared.history.Row.{Row}
 use Rattle.capcore.specs.State.{State}
 use Rattle.capcore.specs.Step.{Step}
-use Rattle.capcore.specs.Sound.{IsSound}
+use Rattle.capcore.specs.Sound.{IsSound, AreGiven}
 use Rattle.capcore.specs.History.{Told, told, IsTold, IsOpening, HasNoStray, Replays, rows_of}
 use Rattle.capcore.proofs.Numbered.{numbered-nil, numbered-snoc}
-use Rattle.capcore.proofs.Sounding.{opening-sound}
+use Rattle.capcore.proofs.Sounding.{opening-sound, opening-given}
 
 pub replays-more : (first : State) (rows : List Row) (old : State) (row : Row) (new : State) → Replays first rows old → Step old row.event row.reply row.ended new → Replays first (rows ++ row ∷ []) new
 replays-more first [] old row new is step = (new, subst (λ s. Step s row.event row.reply row.ended new) is step, refl)
@@ -28,15 +28,16 @@ first-told fs tree s max_rows none is = record {
   legal = record { replays = refl; numbered = numbered-nil };
   room = omega (arith);
   sound = opening-sound fs tree s none is;
+  given = opening-given fs tree s is;
 }
 
-pub sound-more : (rows : List Row) (row : Row) (new : State) → IsSound (length rows + 1) new → IsSound (length (rows ++ row ∷ [])) new
-sound-more rows row new = subst (λ n. IsSound n new) (sym (length-more rows row))
+pub given-more : (rows : List Row) (row : Row) (new : State) → AreGiven (length rows + 1) new → AreGiven (length (rows ++ row ∷ [])) new
+given-more rows row new = subst (λ n. AreGiven n new) (sym (length-more rows row))
 
 -- one step more, with its row, to a state that is sound
-pub more-told : (t : Told) (row : Row) (new : State) → IsTold t → Step t.state row.event row.reply row.ended new → row.nth ≡ rows_of row.pass t.rows + 1 → length t.rows < t.max_rows → IsSound (length t.rows + 1) new →
+pub more-told : (t : Told) (row : Row) (new : State) → IsTold t → Step t.state row.event row.reply row.ended new → row.nth ≡ rows_of row.pass t.rows + 1 → length t.rows < t.max_rows → IsSound new → AreGiven (length t.rows + 1) new →
     IsTold (told new (t.rows ++ row ∷ []) t.max_rows)
-more-told t row new is step nth less sound = record {
+more-told t row new is step nth less sound given = record {
   fs = is.fs;
   tree = is.tree;
   no_strays = is.no_strays;
@@ -47,5 +48,6 @@ more-told t row new is step nth less sound = record {
     numbered = numbered-snoc t.rows row is.legal.numbered nth;
   };
   room = subst (λ n. n ≤ t.max_rows) (sym (length-more t.rows row)) (omega (arith, less));
-  sound = sound-more t.rows row new sound;
+  sound = sound;
+  given = given-more t.rows row new given;
 }

@@ -4,13 +4,13 @@ use Rattle.std.specs.Option.{option_map}
 use Rattle.lockmachine.specs.Scene.{Scene}
 use Rattle.capcore.specs.declared.event.Event.{Event}
 use Rattle.capbits.specs.declared.refusal.Refusal.{Refusal}
+use Rattle.capcore.specs.declared.reply.Reply.{Reply}
 use Rattle.capcore.specs.declared.stopped.Stopped.{Stopped}
 use Rattle.capcore.specs.declared.stopped.Stopped.TheVariants.{ByTest}
 use Rattle.capcore.specs.State.{State}
 use Rattle.capbits.specs.Refusal.{Test, first_failing}
 use Rattle.capcore.specs.Judge.{Need, stop, stop_by, stop_reply, first_denied, judged}
-use Rattle.capcore.specs.Direct.{effect, effect_unless, IsDirect}
-use Rattle.capcore.proofs.Said.{said_by, says-effect}
+use Rattle.capcore.specs.Direct.{Says, effect, effect_unless, IsDirect}
 
 stop_by-stopped : (s : Scene) (o : Option Refusal) (d : Option Need) (l : Option Refusal) (r : Stopped) → stop_by s o d None ≡ Some r → stop_by s o d l ≡ Some r
 stop_by-stopped s (Some x) d l r e = e
@@ -48,8 +48,8 @@ direct-stopped old e r is = record {
 }
 
 -- an event that nothing stops has its effect
-pub direct-passed : (old : State) (e : Event) → judged old.scene e ≡ None → IsDirect old e (said_by (effect old e)) (effect old e).state
-direct-passed old e is = record {
-  answer_is = says-effect old e ∙ ap (λ o. (effect_unless old e o).answer) (sym is);
+pub direct-passed : (old : State) (e : Event) (answer : Reply) → Says answer ≡ (effect old e).answer → judged old.scene e ≡ None → IsDirect old e answer (effect old e).state
+direct-passed old e answer says is = record {
+  answer_is = says ∙ ap (λ o. (effect_unless old e o).answer) (sym is);
   state_is = ap (λ o. (effect_unless old e o).state) (sym is);
 }

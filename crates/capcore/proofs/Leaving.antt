@@ -91,7 +91,7 @@ pub some_same : (o : Option Node) → is_some (option_map (λ node. in_sync) o) 
 some_same None = refl
 some_same (Some node) = refl
 
-module _ (count : ℕ) (s : State) (sound : IsSound count s) where
+module _ (s : State) (sound : IsSound s) where
   -- an inode that is not there has no locks, nobody waits there, and nobody has an entry on it
   pub no_locks : (ino : ℕ) → map.contains_key s.scene.tree.nodes ino ≡ false → map.get s.scene.locks.states ino ≡ None
   no_locks ino out = none_if (map.get s.scene.locks.states ino) (sound.locked ino ∙ out)
@@ -100,8 +100,8 @@ module _ (count : ℕ) (s : State) (sound : IsSound count s) where
   nobody_waits ino part out =
       subst (λ o. IsQuiet s.scene ino part (option_map (lock_in part) o)) (no_locks ino out) (sound.at_rest.each ino part)
 
-  entry_of : (row : EntryRow) → Contains s.scene.table.rows row → IsSoundEntry count s.scene row
-  entry_of row inside = All-contains (IsSoundEntry count s.scene) s.scene.table.rows row sound.entries inside
+  entry_of : (row : EntryRow) → Contains s.scene.table.rows row → IsSoundEntry s.scene row
+  entry_of row inside = All-contains (IsSoundEntry s.scene) s.scene.table.rows row sound.entries inside
 
   no_rows : (ino : ℕ) → map.contains_key s.scene.tree.nodes ino ≡ false → rows_on s.scene ino ≡ []
   no_rows ino out = none_passes (is_of_inode (record { 0 = ino })) s.scene.table.rows (λ row inside. by_test row inside (row.holder.ino.0 == ino) refl)
@@ -115,12 +115,12 @@ module _ (count : ℕ) (s : State) (sound : IsSound count s) where
 
 -- ---- what is left alone
 
-module _ (count : ℕ) (s : State) (sound : IsSound count s) (tree : Nodes) (sessions : SessionTable) (states : StateMap) (leaves : LeavesEntries s.scene tree sessions states) where
+module _ (s : State) (sound : IsSound s) (tree : Nodes) (sessions : SessionTable) (states : StateMap) (leaves : LeavesEntries s.scene tree sessions states) where
   abbrev new : Scene
   new = with_parts s.scene tree sessions states
 
   same_locks : (row : EntryRow) → Contains s.scene.table.rows row → map.get states row.holder.ino.0 ≡ map.get s.scene.locks.states row.holder.ino.0
-  same_locks row inside = let entry = entry_of count s sound row inside in leaves.locks row.holder.ino.0 entry.on_inode
+  same_locks row inside = let entry = entry_of s sound row inside in leaves.locks row.holder.ino.0 entry.on_inode
 
   same_against : (row : EntryRow) → Contains s.scene.table.rows row → against new row ≡ against s.scene row
   same_against row inside = ap (against_by row) (same_locks row inside)
@@ -130,8 +130,8 @@ module _ (count : ℕ) (s : State) (sound : IsSound count s) (tree : Nodes) (ses
       let want = All-contains (λ row. effective_want s.scene.fs tree sessions row ≡ effective_want s.scene.fs s.scene.tree s.scene.sessions row) s.scene.table.rows row leaves.wants inside in
       λ i. meet (want i) (allowed_with row (same_locks row inside i))
 
-  entry_kept : (row : EntryRow) → Contains s.scene.table.rows row → IsSoundEntry count new row
-  entry_kept row inside = let was = entry_of count s sound row inside in record {
+  entry_kept : (row : EntryRow) → Contains s.scene.table.rows row → IsSoundEntry new row
+  entry_kept row inside = let was = entry_of s sound row inside in record {
     of_session = leaves.connected row.holder.client.0 was.of_session;
     on_inode = leaves.there row.holder.ino.0 was.on_inode;
     holds_pin = was.holds_pin;
@@ -139,7 +139,6 @@ module _ (count : ℕ) (s : State) (sound : IsSound count s) (tree : Nodes) (ses
     has_due = subst (λ caps. IsSubset caps row.entry.held) (sym (same_due row inside)) was.has_due;
     told = was.told;
     revoked = was.revoked;
-    given = was.given;
   }
 
   -- ---- locks
@@ -151,13 +150,13 @@ module _ (count : ℕ) (s : State) (sound : IsSound count s) (tree : Nodes) (ses
   quiet_kept ino part (Some (Gather from to)) quiet = quiet
 
   quiet_new : (ino : ℕ) (part : Part) → map.contains_key s.scene.tree.nodes ino ≡ false → (o : Option Node) → IsQuiet new ino part (option_map (lock_in part) (option_map (λ node. in_sync) o))
-  quiet_new ino part out None = nobody_waits count s sound ino part out
-  quiet_new ino part out (Some node) = subst (λ lock. IsQuiet new ino part (Some lock)) (sym (each_in_sync part)) (stays, nobody_waits count s sound ino part out)
+  quiet_new ino part out None = nobody_waits s sound ino part out
+  quiet_new ino part out (Some node) = subst (λ lock. IsQuiet new ino part (Some lock)) (sym (each_in_sync part)) (stays, nobody_waits s sound ino part out)
     where
       stays : target_of part Sync (head_of (first_for s.scene.locks.queue ino part)) (loner new ino) (wanted new ino) ≡ Sync
       stays =
-          ap (λ q. target_of part Sync (head_of q) (loner new ino) (wanted new ino)) (nobody_waits count s sound ino part out)
-          ∙ ap (λ rows. let each = map_rows (want_of s.scene.fs tree sessions) rows in target_of part Sync Empty (loner_of each) (union_of each)) (no_rows count s sound ino out)
+          ap (λ q. target_of part Sync (head_of q) (loner new ino) (wanted new ino)) (nobody_waits s sound ino part out)
+          ∙ ap (λ rows. let each = map_rows (want_of s.scene.fs tree sessions) rows in target_of part Sync Empty (loner_of each) (union_of each)) (no_rows s sound ino out)
           ∙ unwanted part
 
   quiet_at : (ino : ℕ) (part : Part) (b : Bool) → map.contains_key s.scene.tree.nodes ino ≡ b → IsQuiet new ino part (option_map (lock_in part) (map.get states ino))
@@ -185,13 +184,11 @@ module _ (count : ℕ) (s : State) (sound : IsSound count s) (tree : Nodes) (ses
 
   -- ---- all together
 
-  pub kept-sound : IsSound count (with_scene s (with_parts s.scene tree sessions states))
+  pub kept-sound : IsSound (with_scene s (with_parts s.scene tree sessions states))
   kept-sound = record {
-    entries = All-weaker (Contains s.scene.table.rows) (IsSoundEntry count new) entry_kept s.scene.table.rows (All-contains_itself s.scene.table.rows);
+    entries = All-weaker (Contains s.scene.table.rows) (IsSoundEntry new) entry_kept s.scene.table.rows (All-contains_itself s.scene.table.rows);
     waiting = All-weaker (λ q. IsTrue (has_session s.scene.sessions q.client.0)) (λ q. IsTrue (has_session sessions q.client.0)) (λ q. leaves.connected q.client.0) s.scene.locks.queue sound.waiting;
     messages = All-weaker (λ m. IsTrue (has_session s.scene.sessions m.client.0)) (λ m. IsTrue (has_session sessions m.client.0)) (λ m. leaves.connected m.client.0) s.messages sound.messages;
-    last = sound.last;
-    made = sound.made;
     locked = λ ino. locked_at ino (map.contains_key s.scene.tree.nodes ino) refl;
     strays = λ ino gone. sound.strays ino (leaves.strays ino gone);
     in_place = λ row part found. in_place row part (found-contains (is_row_of row.holder) s.scene.table.rows row found) (sound.in_place row part found);
@@ -200,4 +197,4 @@ module _ (count : ℕ) (s : State) (sound : IsSound count s) (tree : Nodes) (ses
 
   pub kept-finished : IsTable s.scene.table → finished s.scene (with_parts s.scene tree sessions states) (with_parts s.scene tree sessions states) ≡ with_parts s.scene tree sessions states
   kept-finished table =
-      same-finished count (with_scene s (with_parts s.scene tree sessions states)) kept-sound table s.scene (λ row inside. ap (minus row.entry.held) (sym (same_against row inside)))
+      same-finished (with_scene s (with_parts s.scene tree sessions states)) kept-sound table s.scene (λ row inside. ap (minus row.entry.held) (sym (same_against row inside)))

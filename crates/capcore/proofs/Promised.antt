@@ -8,7 +8,7 @@ use Rattle.capbits.specs.Caps.{has}
 use Rattle.capgrant.specs.declared.access.Access.{Access}
 use Rattle.capgrant.specs.declared.rule.Rule.{Rule}
 use Rattle.captable.specs.declared.entry.EntryRow.{EntryRow}
-use Rattle.captable.specs.Table.{is_row_of}
+use Rattle.captable.specs.Table.{IsTable, holder, is_row_of}
 use Rattle.inotree.specs.Tree.{child}
 use Rattle.lockmachine.specs.Policy.{failures}
 use Rattle.capcore.specs.declared.event.Event.{Event}
@@ -19,8 +19,13 @@ use Rattle.capcore.specs.declared.reply.Reply.TheVariants as reply
 use Rattle.capcore.specs.State.{State}
 use Rattle.capbits.specs.Refusal.{first_failing}
 use Rattle.capcore.specs.Judge.{Need, before, needs, after, first_denied, stop_by}
-use Rattle.capcore.specs.Direct.{effect, effect_unless, found, direct, IsDirect}
-use Rattle.capcore.proofs.Said.{said, said_by}
+use Rattle.capcore.specs.declared.outcome.Ended.{Ended}
+use Rattle.capcore.specs.declared.stopped.Stopped.{Stopped}
+use Rattle.capcore.specs.declared.stopped.Stopped.TheVariants.{ByPolicy, ByTest}
+use Rattle.capcore.specs.Direct.{Direct, effect, effect_unless, found, direct, opened_as, reply_of, IsDirect}
+use Rattle.capcore.specs.Settle.{ended_in}
+use Rattle.capcore.specs.Step.{Step, state_after}
+use Rattle.capcore.proofs.Stopping.{stopped-only}
 use Rattle.capcore.specs.Finish.{due}
 use Rattle.capcore.specs.Sound.{IsSoundEntry, IsSound}
 use Rattle.capcore.proofs.Leaving.{found-contains}
@@ -28,24 +33,37 @@ use Rattle.capcore.specs.Headline.{DeniedExactly, DeniesByName, IssuesExactly, i
 
 -- ---- an event that nothing stops
 
-module _ (old : State) where
-  lookup-no_stop : (o : Option ℕ) → is_stop (said_by (found old o)) ≡ false
+module _ (old last : State) (ended : List Ended) where
+  -- what the event by itself comes to at the end of the step
+  abbrev read_off : Direct → Reply
+  read_off d = reply_of last ended d.answer
+
+  lookup-no_stop : (o : Option ℕ) → is_stop (read_off (found old o)) ≡ false
   lookup-no_stop None = refl
   lookup-no_stop (Some ino) = refl
 
-  effect-no_stop : (e : Event) → is_stop (said_by (effect old e)) ≡ false
+  opened-no_stop : (o : Option EntryRow) → is_stop (opened_as last.scene o) ≡ false
+  opened-no_stop None = refl
+  opened-no_stop (Some row) = refl
+
+  effect-no_stop : (e : Event) → is_stop (read_off (effect old e)) ≡ false
   effect-no_stop (event.Session client caller grants) = refl
   effect-no_stop (event.Lookup client dir name) = lookup-no_stop (child old.scene.tree.nodes dir.0 name)
   effect-no_stop (event.Create client dir name mode) = refl
   effect-no_stop (event.Mkdir client dir name mode) = refl
   effect-no_stop (event.MakeSnapshot client ino name) = refl
   effect-no_stop (event.RemoveSnapshot client ino name) = refl
+  effect-no_stop (event.Open client ino mode) = opened-no_stop (find (is_row_of (holder client ino)) last.scene.table.rows)
+  effect-no_stop (event.Want client ino caps) = opened-no_stop (find (is_row_of (holder client ino)) last.scene.table.rows)
+  effect-no_stop (event.Ack client ino seq) = refl
+  effect-no_stop (event.Release client ino caps) = refl
+  effect-no_stop (event.Poll client max) = refl
 
 -- ---- denials
 
-module _ (old : State) (e : Event) where
+module _ (old last : State) (ended : List Ended) (e : Event) where
   answered_by : Option Refusal → Option Need → Option Refusal → Reply
-  answered_by o d l = said_by (effect_unless old e (stop_by old.scene o d l))
+  answered_by o d l = read_off old last ended (effect_unless old e (stop_by old.scene o d l))
 
   Cause : Option Refusal → Option Need → Access → List Rule → Type 0
   Cause o d access rules = (n : Need) × (o ≡ None) × (d ≡ Some n) × (access ≡ n.access) × (rules ≡ failures old.scene.fs old.scene.tree old.scene.sessions n.holder n.access)
@@ -58,7 +76,7 @@ module _ (old : State) (e : Event) where
       let rs : failures old.scene.fs old.scene.tree old.scene.sessions n.holder n.access ≡ rules = cc in
       (n, refl, refl, sym accesses, sym rs)
   cause None None (Some r) access rules is = cc
-  cause None None None access rules is = absurd (true≢false (sym (ap is_stop is) ∙ effect-no_stop old e))
+  cause None None None access rules is = absurd (true≢false (sym (ap is_stop is) ∙ effect-no_stop old last ended e))
 
   effect_of : (o : Option Refusal) (d : Option Need) (l : Option Refusal) (n : Need) → o ≡ None → d ≡ Some n → (access : Access) × (rules : List Rule) × (answered_by o d l ≡ reply.Denied access rules)
   unfolding answered_by
@@ -66,14 +84,14 @@ module _ (old : State) (e : Event) where
   effect_of None None l n none some = cc
   effect_of None (Some m) l n none some = (m.access, failures old.scene.fs old.scene.tree old.scene.sessions m.holder m.access, refl)
 
-  stays : (o : Option Refusal) (d : Option Need) (l : Option Refusal) → is_stop (answered_by o d l) ≡ true → (effect_unless old e (stop_by old.scene o d l)).state ≡ old
+  stops : (o : Option Refusal) (d : Option Need) (l : Option Refusal) → is_stop (answered_by o d l) ≡ true → (stopped : Stopped) × (stop_by old.scene o d l ≡ Some stopped)
   unfolding answered_by
-  stays (Some r) d l is = refl
-  stays None (Some n) l is = refl
-  stays None None (Some r) is = refl
-  stays None None None is = absurd (true≢false (sym is ∙ effect-no_stop old e))
+  stops (Some r) d l is = (ByTest r, refl)
+  stops None (Some n) l is = (ByPolicy n.access (failures old.scene.fs old.scene.tree old.scene.sessions n.holder n.access), refl)
+  stops None None (Some r) is = (ByTest r, refl)
+  stops None None None is = absurd (true≢false (sym is ∙ effect-no_stop old last ended e))
 
-module _ (old : State) (e : Event) (answer : Reply) (new : State) (is : IsDirect old e answer new) where
+module _ (old : State) (e : Event) (answer : Reply) (done : List Ended) (new : State) (step : Step old e answer done new) where
   o : Option Refusal
   o = first_failing (before old.scene e)
 
@@ -83,23 +101,34 @@ module _ (old : State) (e : Event) (answer : Reply) (new : State) (is : IsDirect
   l : Option Refusal
   l = first_failing (after old.scene e)
 
-  answered : answer ≡ said_by (direct old e)
-  answered = ap said is.answer_is
+  -- the state in which the answer is read off, and what the moves ended
+  last : State
+  last = let by = step.1 in state_after old (direct old e) step.0 by.settled
+
+  ended : List Ended
+  ended = ended_in step.0
+
+  answered : answer ≡ answered_by old last ended e o d l
+  unfolding answered_by o d l last ended
+  answered = let by = step.1 in by.answer_is
 
   pub denied-exactly : DeniedExactly old.scene e answer
-  unfolding answered_by Cause o d l
+  unfolding Cause o d l
   denied-exactly = (
-    (λ h. let c = cause old e o d l h.0 h.1 (sym answered ∙ h.2) in (c.0, (c.1, c.2))),
-    (λ h. let b = effect_of old e o d l h.0 h.1.0 h.1.1 in (b.0, b.1, answered ∙ b.2)),
+    (λ h. let c = cause old last ended e o d l h.0 h.1 (sym answered ∙ h.2) in (c.0, (c.1, c.2))),
+    (λ h. let b = effect_of old last ended e o d l h.0 h.1.0 h.1.1 in (b.0, b.1, answered ∙ b.2)),
   )
 
   pub denies-by_name : DeniesByName old.scene e answer
-  unfolding answered_by Cause o d l
-  denies-by_name access rules at = let c = cause old e o d l access rules (sym answered ∙ at) in (c.0, (c.1, c.2), c.3, c.4)
+  unfolding Cause o d l
+  denies-by_name access rules at = let c = cause old last ended e o d l access rules (sym answered ∙ at) in (c.0, (c.1, c.2), c.3, c.4)
 
-  pub stopped-unchanged : IsTrue (is_stop answer) → new ≡ old
-  unfolding answered_by o d l
-  stopped-unchanged h = is.state_is ∙ stays old e o d l (ap is_stop (sym answered) ∙ h)
+  pub stopped-unchanged : IsSound old → IsTable old.scene.table → IsTrue (is_stop answer) → new ≡ old
+  unfolding o d l
+  stopped-unchanged sound table h =
+      let s = stops old last ended e o d l (ap is_stop (sym answered) ∙ h) in
+      let only = stopped-only old new e s.0 answer done sound table s.1 step in
+      only.2
 
 -- ---- caps
 
@@ -109,16 +138,16 @@ held_due false false all = refl
 held_due false true all = all refl
 
 -- in a sound state all that is due is held
-has-due : (count : ℕ) (s : State) → IsSound count s → IssuesExactly s.scene s.scene
-has-due count s sound k cap = by_entry (find (is_row_of k) s.scene.table.rows) refl
+has-due : (s : State) → IsSound s → IssuesExactly s.scene s.scene
+has-due s sound k cap = by_entry (find (is_row_of k) s.scene.table.rows) refl
   where
     by_entry : (o : Option EntryRow) → find (is_row_of k) s.scene.table.rows ≡ o
         → option_map_or (λ row. has row.entry.held cap) o false ≡ (option_map_or (λ row. has row.entry.held cap) o false || option_map_or (λ row. has (due s.scene row) cap) o false)
     by_entry None found = refl
     by_entry (Some row) found =
-        let entry = All-contains (IsSoundEntry count s.scene) s.scene.table.rows row sound.entries (found-contains (is_row_of k) s.scene.table.rows row found) in
+        let entry = All-contains (IsSoundEntry s.scene) s.scene.table.rows row sound.entries (found-contains (is_row_of k) s.scene.table.rows row found) in
         held_due (has row.entry.held cap) (has (due s.scene row) cap) (entry.has_due cap)
 
 -- so an event that leads to one has issued what it must
-pub issues-exactly : (count : ℕ) (old : State) (e : Event) (answer : Reply) (new : State) → IsDirect old e answer new → IsSound count new → IssuesExactly (direct old e).state.scene new.scene
-issues-exactly count old e answer new is sound = subst (λ (s : State). IssuesExactly s.scene new.scene) is.state_is (has-due count new sound)
+pub issues-exactly : (old : State) (e : Event) (answer : Reply) (new : State) → IsDirect old e answer new → IsSound new → IssuesExactly (direct old e).state.scene new.scene
+issues-exactly old e answer new is sound = subst (λ (s : State). IssuesExactly s.scene new.scene) is.state_is (has-due new sound)

@@ -1,5 +1,5 @@
 -- States that are sound.
-use Rattle.std.proofs.Common.{◌≡◌, ℕ, ◌+◌, List, [], Option, Some, None, sym, ap, ◌∙◌, is_some, arith}
+use Rattle.std.proofs.Common.{◌≡◌, ◌≤◌, ℕ, ◌+◌, List, [], Option, Some, None, sym, ap, ◌∙◌, is_some, arith}
 use Rattle.std.specs.Prelude.{IsTrue}
 use Rattle.std.specs.Option.{option_map}
 use Rattle.std.specs.List.{find}
@@ -18,33 +18,17 @@ use Rattle.lockmachine.proofs.Idle.{InSync, idle}
 use Rattle.lockmachine.proofs.Rest.{at_rest}
 use Rattle.capcore.specs.State.{State}
 use Rattle.capcore.specs.History.{HasNoStray, IsOpening}
-use Rattle.capcore.specs.Sound.{IsSoundEntry, IsSound}
+use Rattle.capcore.specs.Sound.{IsSoundEntry, IsSound, AreGiven}
 use Rattle.capcore.proofs.Leaving.{some_same}
 
--- behind one row more
-later-entry : (count : ℕ) (s : Scene) (row : EntryRow) → IsSoundEntry count s row → IsSoundEntry (count + 1) s row
-later-entry count s row was = record {
-  of_session = was.of_session;
-  on_inode = was.on_inode;
-  holds_pin = was.holds_pin;
-  wants_pin = was.wants_pin;
-  has_due = was.has_due;
-  told = was.told;
-  revoked = was.revoked;
-  given = let given = was.given in omega (arith, given);
-}
+-- ---- numbers
 
-pub later-sound : (count : ℕ) (s : State) → IsSound count s → IsSound (count + 1) s
-later-sound count s was = record {
-  entries = All-weaker (IsSoundEntry count s.scene) (IsSoundEntry (count + 1) s.scene) (later-entry count s.scene) s.scene.table.rows was.entries;
-  waiting = was.waiting;
-  messages = was.messages;
+-- behind one row more
+pub later-given : (count : ℕ) (s : State) → AreGiven count s → AreGiven (count + 1) s
+later-given count s was = record {
+  entries = All-weaker (λ row. row.entry.seq ≤ count) (λ row. row.entry.seq ≤ count + 1) (λ row given. omega (arith, given)) s.scene.table.rows was.entries;
   last = let last = was.last in omega (arith, last);
   made = let made = was.made in omega (arith, made);
-  locked = was.locked;
-  strays = was.strays;
-  in_place = was.in_place;
-  at_rest = was.at_rest;
 }
 
 -- ---- the opening
@@ -53,13 +37,11 @@ sync_of : (o : Option Node) (locks : InodeLocks) → option_map (λ node. in_syn
 sync_of None locks e = cc
 sync_of (Some node) locks e = cc
 
-pub opening-sound : (fs : List ℕ) (tree : Nodes) (s : State) → HasNoStray tree → IsOpening fs tree s → IsSound 0 s
+pub opening-sound : (fs : List ℕ) (tree : Nodes) (s : State) → HasNoStray tree → IsOpening fs tree s → IsSound s
 opening-sound fs tree s none is = record {
-  entries = All-same (IsSoundEntry 0 s.scene) s.scene.table.rows [] no_rows (All-nil (IsSoundEntry 0 s.scene));
+  entries = All-same (IsSoundEntry s.scene) s.scene.table.rows [] no_rows (All-nil (IsSoundEntry s.scene));
   waiting = All-same (λ q. IsTrue (has_session s.scene.sessions q.client.0)) s.scene.locks.queue [] is.queue_is (All-nil (λ q. IsTrue (has_session s.scene.sessions q.client.0)));
   messages = All-same (λ m. IsTrue (has_session s.scene.sessions m.client.0)) s.messages [] is.messages_are (All-nil (λ m. IsTrue (has_session s.scene.sessions m.client.0)));
-  last = rw is.last_is (omega arith);
-  made = rw is.table_is (omega arith);
   locked = λ ino. ap is_some (is.locks_are ino) ∙ some_same (map.get tree.nodes ino) ∙ ap (λ t. is_some (map.get t.nodes ino)) (sym is.tree_is);
   strays = λ ino gone. absurd (none ino (ap (λ t. place t.nodes ino) (sym is.tree_is) ∙ gone));
   in_place = λ row part found. absurd (not_found row (sym (ap (find (is_row_of row.holder)) no_rows) ∙ found));
@@ -74,3 +56,10 @@ opening-sound fs tree s none is = record {
 
     not_found : (row : EntryRow) → ◌≡◌ {A = Option EntryRow} None (Some row) → ⊥
     not_found row e = cc
+
+pub opening-given : (fs : List ℕ) (tree : Nodes) (s : State) → IsOpening fs tree s → AreGiven 0 s
+opening-given fs tree s is = record {
+  entries = All-same (λ row. row.entry.seq ≤ 0) s.scene.table.rows [] (ap (λ t. t.rows) is.table_is) (All-nil (λ row. row.entry.seq ≤ 0));
+  last = rw is.last_is (omega arith);
+  made = rw is.table_is (omega arith);
+}

@@ -11,20 +11,20 @@ use Rattle.capcore.specs.declared.reply.Reply.{Reply}
 use Rattle.capcore.specs.declared.stopped.Stopped.{Stopped}
 use Rattle.capcore.specs.State.{State}
 use Rattle.capcore.specs.Judge.{judged, stop_reply}
-use Rattle.capcore.specs.Direct.{Direct, direct, says, effect_unless, reply_of}
+use Rattle.capcore.specs.Direct.{Direct, direct, says, effect_unless, reply_of, shown}
 use Rattle.capcore.specs.Settle.{Made, Began, Gathered, Served, Makes, MakesAll, Settles, ended_in}
 use Rattle.capcore.specs.Step.{Step, all_ended, state_after}
 use Rattle.capcore.specs.Sound.{IsSound}
 use Rattle.capcore.proofs.Finishing.{sound-finished, sound-settles}
 
-pub stopped-step : (count : ℕ) (old : State) (e : Event) (stopped : Stopped) → IsSound count old → IsTable old.scene.table → judged old.scene e ≡ Some stopped → Step old e (stop_reply stopped) [] old
-stopped-step count old e stopped sound table is = (
+pub stopped-step : (old : State) (e : Event) (stopped : Stopped) → IsSound old → IsTable old.scene.table → judged old.scene e ≡ Some stopped → Step old e (stop_reply stopped) [] old
+stopped-step old e stopped sound table is = (
   [],
   record {
     settled = old.scene;
-    settles = subst (λ (d : Direct). Settles d.state.scene [] old.scene) (sym by_itself) (sound-settles count old sound);
-    new_is = sym (ap (λ (d : Direct). state_after old d [] old.scene) by_itself ∙ (λ i. record old { scene = sound-finished count old sound table i; messages = append-nil old.messages i }));
-    answer_is = ap (λ (d : Direct). reply_of old.scene [] d.answer) (sym by_itself);
+    settles = subst (λ (d : Direct). Settles d.state.scene [] old.scene) (sym by_itself) (sound-settles old sound);
+    new_is = sym (ap (λ (d : Direct). shown d.answer (state_after old d [] old.scene)) by_itself ∙ (λ i. record old { scene = sound-finished old sound table i; messages = append-nil old.messages i }));
+    answer_is = ap (λ (d : Direct). reply_of (state_after old d [] old.scene) [] d.answer) (sym by_itself);
     ended_is = ap (λ (d : Direct). all_ended old d []) (sym by_itself);
   },
 )
@@ -53,16 +53,16 @@ no_moves : (old : Scene) (moves : List Made) (new : Scene) → first_move old �
 no_moves old [] new still made = (refl, made)
 no_moves old (m ∷ ms) new still made = absurd (no_move old made.0 m still made.1)
 
-pub stopped-only : (count : ℕ) (old new : State) (e : Event) (stopped : Stopped) (answer : Reply) (ended : List Ended) → IsSound count old → IsTable old.scene.table → judged old.scene e ≡ Some stopped
+pub stopped-only : (old new : State) (e : Event) (stopped : Stopped) (answer : Reply) (ended : List Ended) → IsSound old → IsTable old.scene.table → judged old.scene e ≡ Some stopped
     → Step old e answer ended new → (answer ≡ stop_reply stopped) × (ended ≡ []) × (new ≡ old)
-stopped-only count old new e stopped answer ended sound table is (moves, step) = (
-  step.answer_is ∙ ap (λ (d : Direct). reply_of new.scene (ended_in moves) d.answer) by_itself,
+stopped-only old new e stopped answer ended sound table is (moves, step) = (
+  step.answer_is ∙ ap (λ (d : Direct). reply_of (state_after old d moves step.settled) (ended_in moves) d.answer) by_itself,
   step.ended_is ∙ ap (λ (d : Direct). all_ended old d moves) by_itself ∙ ap (all_ended old here) none.0,
   step.new_is
-      ∙ ap (λ (d : Direct). state_after old d moves step.settled) by_itself
+      ∙ ap (λ (d : Direct). shown d.answer (state_after old d moves step.settled)) by_itself
       ∙ ap (λ (ms : List Made). state_after old here ms step.settled) none.0
       ∙ ap (state_after old here []) none.1
-      ∙ (λ i. record old { scene = sound-finished count old sound table i; messages = append-nil old.messages i }),
+      ∙ (λ i. record old { scene = sound-finished old sound table i; messages = append-nil old.messages i }),
 )
   where
     here : Direct

@@ -15,5 +15,5 @@ pub added-dropped : (locks : LockMap) (ino : ℕ) → map.get locks.states ino �
 added-dropped locks ino none = ap (λ (states : StateMap). record locks { states = states }) (put_back nat_cmp_total map.nat_cmp-IsAntisymmetric locks.states ino in_sync none)
 
 -- a number that was not given has no locks
-pub not_given : {count : ℕ} {s : State} → IsSound count s → IsTree s.scene.tree → map.get s.scene.locks.states (s.scene.tree.last + 1) ≡ None
-not_given {count} {s} sound tree = no_locks count s sound (s.scene.tree.last + 1) (ap is_some (tree.given (s.scene.tree.last + 1) (omega (arith))))
+pub not_given : {s : State} → IsSound s → IsTree s.scene.tree → map.get s.scene.locks.states (s.scene.tree.last + 1) ≡ None
+not_given {s} sound tree = no_locks s sound (s.scene.tree.last + 1) (ap is_some (tree.given (s.scene.tree.last + 1) (omega (arith))))

@@ -41,9 +41,9 @@ through : (b : Bool) (node : Node) (o : Option Node) → first_of (cond b (Some 
 through true node o = refl
 through false node o = refl
 
-module _ (count : ℕ) (s : State) (sound : IsSound count s) where
+module _ (s : State) (sound : IsSound s) where
   none_new : (ino : ℕ) → map.contains_key s.scene.tree.nodes ino ≡ false → map.get s.scene.locks.states ino ≡ first_of (map.get s.scene.tree.nodes ino)
-  none_new ino out = no_locks count s sound ino out ∙ sym (ap first_of (none_if (map.get s.scene.tree.nodes ino) out))
+  none_new ino out = no_locks s sound ino out ∙ sym (ap first_of (none_if (map.get s.scene.tree.nodes ino) out))
 
   -- of each entry the same want counts
   abbrev SameWant : Nodes → SessionTable → EntryRow → Type 0
@@ -56,7 +56,7 @@ module _ (count : ℕ) (s : State) (sound : IsSound count s) where
     locks = λ ino here. refl;
     new_locks = none_new;
     strays = λ ino gone. gone;
-    wants = All-weaker (IsSoundEntry count s.scene) (SameWant s.scene.tree s.scene.sessions) (λ row entry. refl) s.scene.table.rows sound.entries;
+    wants = All-weaker (IsSoundEntry s.scene) (SameWant s.scene.tree s.scene.sessions) (λ row entry. refl) s.scene.table.rows sound.entries;
   }
 
   pub session-leaves : (client : ℕ) (caller : Caller) (grants : List Grant) → first_failing (new_session_tests s.scene.sessions client) ≡ None
@@ -67,7 +67,7 @@ module _ (count : ℕ) (s : State) (sound : IsSound count s) where
     locks = λ ino here. refl;
     new_locks = none_new;
     strays = λ ino gone. gone;
-    wants = All-weaker (IsSoundEntry count s.scene) (SameWant s.scene.tree (with_session s.scene.sessions client caller grants))
+    wants = All-weaker (IsSoundEntry s.scene) (SameWant s.scene.tree (with_session s.scene.sessions client caller grants))
         (λ row entry. want-session s.scene.fs s.scene.tree s.scene.sessions client caller grants passed row entry.of_session) s.scene.table.rows sound.entries;
   }
 
@@ -80,7 +80,7 @@ module _ (count : ℕ) (s : State) (sound : IsSound count s) where
     locks = λ q here. refl;
     new_locks = λ q out. none_new q out ∙ sym (same_first q);
     strays = λ q gone. ap place_at (sym (field-changed f (λ n. n.site) site s.scene.tree.nodes ino q)) ∙ gone;
-    wants = All-weaker (IsSoundEntry count s.scene) (SameWant (changed f s.scene.tree ino) s.scene.sessions)
+    wants = All-weaker (IsSoundEntry s.scene) (SameWant (changed f s.scene.tree ino) s.scene.sessions)
         (λ row entry. want-changed s.scene.fs s.scene.tree s.scene.sessions f ino site attr row) s.scene.table.rows sound.entries;
   }
     where
@@ -98,7 +98,7 @@ module _ (count : ℕ) (s : State) (sound : IsSound count s) where
         map.get-insert nat_cmp_total s.scene.locks.states k in_sync q ∙ ap (cond (eq_by_cmp nat_cmp q k) (Some in_sync)) (none_new q out)
         ∙ sym (ap first_of (map.get-insert nat_cmp_total s.scene.tree.nodes k node q) ∙ through (eq_by_cmp nat_cmp q k) node (map.get s.scene.tree.nodes q));
     strays = λ q gone. by_test q (eq_by_cmp nat_cmp q k) (ap (λ o. place_at (option_map (λ n. n.site) o)) (sym (map.get-insert nat_cmp_total s.scene.tree.nodes k node q)) ∙ gone);
-    wants = All-weaker (IsSoundEntry count s.scene) (SameWant (with_new s.scene.tree kind dir name attr) s.scene.sessions)
+    wants = All-weaker (IsSoundEntry s.scene) (SameWant (with_new s.scene.tree kind dir name attr) s.scene.sessions)
         (λ row entry. want-new s.scene.fs s.scene.tree s.scene.sessions tree kind dir name attr row entry.on_inode) s.scene.table.rows sound.entries;
   }
     where
@@ -114,16 +114,16 @@ module _ (count : ℕ) (s : State) (sound : IsSound count s) where
 
 -- ---- so they keep a sound state sound
 
-module _ {count : ℕ} {s : State} (sound : IsSound count s) where
+module _ {s : State} (sound : IsSound s) where
   pub session-sound : (client : ℕ) (caller : Caller) (grants : List Grant) → first_failing (new_session_tests s.scene.sessions client) ≡ None
-      → IsSound count (with_scene s (record s.scene { sessions = with_session s.scene.sessions client caller grants }))
+      → IsSound (with_scene s (record s.scene { sessions = with_session s.scene.sessions client caller grants }))
   session-sound client caller grants passed =
-      kept-sound count s sound s.scene.tree (with_session s.scene.sessions client caller grants) s.scene.locks.states (session-leaves count s sound client caller grants passed)
+      kept-sound s sound s.scene.tree (with_session s.scene.sessions client caller grants) s.scene.locks.states (session-leaves s sound client caller grants passed)
 
   pub changed-sound : (f : Node → Node) (ino : ℕ) → ((n : Node) → (f n).site ≡ n.site) → ((n : Node) → (f n).attr ≡ n.attr)
-      → IsSound count (with_tree s (changed f s.scene.tree ino))
-  changed-sound f ino site attr = kept-sound count s sound (changed f s.scene.tree ino) s.scene.sessions s.scene.locks.states (changed-leaves count s sound f ino site attr)
+      → IsSound (with_tree s (changed f s.scene.tree ino))
+  changed-sound f ino site attr = kept-sound s sound (changed f s.scene.tree ino) s.scene.sessions s.scene.locks.states (changed-leaves s sound f ino site attr)
 
-  pub birth-sound : (kind : Kind) (dir : ℕ) (name : List ℕ) (attr : Attr) → IsTree s.scene.tree → IsSound count (with_birth s kind dir name attr)
+  pub birth-sound : (kind : Kind) (dir : ℕ) (name : List ℕ) (attr : Attr) → IsTree s.scene.tree → IsSound (with_birth s kind dir name attr)
   birth-sound kind dir name attr tree =
-      kept-sound count s sound (with_new s.scene.tree kind dir name attr) s.scene.sessions (with_ino s.scene.locks (s.scene.tree.last + 1)).states (birth-leaves count s sound kind dir name attr tree)
+      kept-sound s sound (with_new s.scene.tree kind dir name attr) s.scene.sessions (with_ino s.scene.locks (s.scene.tree.last + 1)).states (birth-leaves s sound kind dir name attr tree)

@@ -1,7 +1,10 @@
 -- What an event does and answers by itself, before any lock moves.
-use Rattle.std.specs.Prelude.{◌≡◌, ℕ, ◌+◌, ◌==◌, Bool, true, false, List, [], Option, Some, None, unwrap_or}
+use Rattle.std.specs.Prelude.{◌≡◌, ℕ, ◌+◌, ◌==◌, Bool, true, false, List, [], ◌∷◌, Option, Some, None, is_some, unwrap_or, if◌then◌else◌}
 use Rattle.std.specs.List.{find}
 use Rattle.std.specs.FinMap as map
+use Rattle.capbits.specs.declared.cap.Cap.TheVariants.{P, Fs, Fx, Fc, Fr, Fw, Fb}
+use Rattle.capbits.specs.Caps.{Caps}
+use Rattle.capbits.specs.Sets.{caps_in, union}
 use Rattle.capbits.specs.declared.ids.ClientId.{ClientId}
 use Rattle.capbits.specs.declared.ids.Ino.{Ino}
 use Rattle.capbits.specs.declared.ids.Ticket.{Ticket}
@@ -15,13 +18,16 @@ use Rattle.inotree.specs.Calls.{with_new, changed}
 use Rattle.sessiontab.specs.declared.session.Session.{Session}
 use Rattle.sessiontab.specs.Calls.{with_session}
 use Rattle.captable.specs.declared.entry.Holder.{Holder}
+use Rattle.captable.specs.declared.entry.Entry.{Entry}
 use Rattle.captable.specs.declared.entry.EntryRow.{EntryRow}
-use Rattle.captable.specs.Table.{is_row_of}
-use Rattle.captable.specs.Calls.{told, changed as changed_entry}
+use Rattle.captable.specs.Table.{Table, holder, is_row_of, entry_at}
+use Rattle.captable.specs.Calls.{opened, wanting, taken, released, touched, told, changed as changed_entry}
 use Rattle.lockmachine.specs.Locks.{with_ino}
 use Rattle.lockmachine.specs.Scene.{Scene, told_set}
 use Rattle.capcore.specs.declared.event.Event.{Event}
 use Rattle.capcore.specs.declared.event.Event.TheVariants as event
+use Rattle.capcore.specs.declared.event.OpenMode.{OpenMode}
+use Rattle.capcore.specs.declared.event.OpenMode.TheVariants as opening
 use Rattle.capcore.specs.declared.outcome.Ended.{Ended}
 use Rattle.capcore.specs.declared.outcome.Outcome.{Outcome}
 use Rattle.capcore.specs.declared.outcome.Outcome.TheVariants as outcome
@@ -29,13 +35,21 @@ use Rattle.capcore.specs.declared.reply.Reply.{Reply}
 use Rattle.capcore.specs.declared.reply.Reply.TheVariants as reply
 use Rattle.capcore.specs.State.{State}
 use Rattle.capcore.specs.declared.stopped.Stopped.{Stopped}
-use Rattle.capcore.specs.Judge.{judged, stop_reply}
+use Rattle.capcore.specs.Judge.{judged, stop_reply, revoked_of}
+use Rattle.capcore.specs.Messages.{first_messages, with_given}
+
+abbrev pub with_scene : State → Scene → State
+with_scene s scene = record s { scene = scene }
+
+-- ---- answers
 
 -- what is answered: this reply, whatever the step still does; or what an entry's client is to know at the end of the step;
--- or how the request with this number ended in the step, if it did
+-- or the first messages, at most so many, that are due to a client then; or how the request with this number ended in the
+-- step, if it did
 pub data Answer : Type 0 where
   Says : Reply → Answer
   Shows : Holder → Answer
+  Gives : ClientId → ℕ → Answer
   Awaits : Ticket → Answer
 
 -- the number of the entry's last change, and what its client is to know; an entry that was opened is there
@@ -60,16 +74,18 @@ awaited_as ticket (Some m) = unwrap_or (outcome_reply m.outcome) (reply.Waiting 
 abbrev pub is_of_ticket : Ticket → Ended → Bool
 is_of_ticket ticket m = m.ticket.0 == ticket.0
 
--- what is answered at the end, in the last scene, by what the moves ended
-abbrev pub reply_of : Scene → List Ended → Answer → Reply
+-- what is answered at the end, in the last state, by what the moves ended
+abbrev pub reply_of : State → List Ended → Answer → Reply
 reply_of last ended (Says answer) = answer
-reply_of last ended (Shows k) = opened_as last (find (is_row_of k) last.table.rows)
+reply_of last ended (Shows k) = opened_as last.scene (find (is_row_of k) last.scene.table.rows)
+reply_of last ended (Gives client max) = reply.Messages (first_messages last client max)
 reply_of last ended (Awaits ticket) = awaited_as ticket (find (is_of_ticket ticket) ended)
 
--- what is shown, the client was told of
-abbrev pub shown : Answer → Scene → Scene
+-- what is shown or given, the client was told of
+abbrev pub shown : Answer → State → State
 shown (Says answer) last = last
-shown (Shows k) last = record last { table = changed_entry last.table k told }
+shown (Shows k) last = with_scene last (record last.scene { table = changed_entry last.scene.table k told })
+shown (Gives client max) last = with_given last client (first_messages last client max)
 shown (Awaits ticket) last = last
 
 -- the state after an event, the answer, and the requests that the event itself ended
@@ -81,9 +97,6 @@ pub record Direct : Type 0 where
 -- this state and this answer, and no request ended
 abbrev pub says : State → Reply → Direct
 says s answer = record { state = s; answer = Says answer; dropped = [] }
-
-abbrev pub with_scene : State → Scene → State
-with_scene s scene = record s { scene = scene }
 
 abbrev pub with_tree : State → Nodes → State
 with_tree s tree = with_scene s (record s.scene { tree = tree })
@@ -112,7 +125,43 @@ born s kind client dir name mode =
     (with_birth s kind dir name (owned_by (map.get s.scene.sessions.sessions client.0) mode))
     (reply.Ino (record { 0 = s.scene.tree.last + 1 }))
 
--- the effect of an event that nothing stops
+-- ---- of one entry
+
+-- what a client that opens an inode wants of it
+abbrev pub opening_wants : OpenMode → Caps
+opening_wants opening.Read = caps_in (P ∷ Fs ∷ Fc ∷ Fr ∷ [])
+opening_wants opening.Write = caps_in (P ∷ Fx ∷ Fw ∷ Fb ∷ [])
+opening_wants opening.ReadWrite = caps_in (P ∷ Fs ∷ Fx ∷ Fc ∷ Fr ∷ Fw ∷ Fb ∷ [])
+
+-- the table with the holder's entry, made where there is none
+abbrev pub with_entry : Table → Holder → Table
+with_entry table k = if is_some (entry_at table k) then table else opened table k
+
+-- the holder's entry wants something else, and comes last in the order of recall
+abbrev pub with_want : Table → Holder → (Caps → Caps) → Table
+with_want table k f = touched (changed_entry table k (λ e. wanting (f e.want) e)) k
+
+-- the holder has an entry, which wants what the opening takes too
+abbrev pub with_opening : Table → Holder → OpenMode → Table
+with_opening table k mode = with_want (with_entry table k) k (λ want. union want (opening_wants mode))
+
+-- the holder's entry wants these, and the pin
+abbrev pub with_wanted : Table → Holder → Caps → Table
+with_wanted table k caps = with_want table k (λ want. union caps (caps_in (P ∷ [])))
+
+-- what is being revoked of the holder's entry is held no more
+abbrev pub with_taken : Table → Holder → Caps → Table
+with_taken table k revoked = changed_entry table k (taken revoked)
+
+abbrev pub with_table : State → Table → State
+with_table s table = with_scene s (record s.scene { table = table })
+
+-- what was done is shown to the entry's client
+abbrev pub shows : State → Holder → Direct
+shows s k = record { state = s; answer = Shows k; dropped = [] }
+
+-- ---- the effect of an event that nothing stops
+
 abbrev pub effect : State → Event → Direct
 effect s (event.Session client caller grants) =
     says (with_scene s (record s.scene { sessions = with_session s.scene.sessions client.0 caller grants })) reply.Done
@@ -121,6 +170,14 @@ effect s (event.Create client dir name mode) = born s File client dir.0 name mod
 effect s (event.Mkdir client dir name mode) = born s Directory client dir.0 name mode
 effect s (event.MakeSnapshot client ino name) = says (with_tree s (changed (with_snapshot name) s.scene.tree ino.0)) reply.Done
 effect s (event.RemoveSnapshot client ino name) = says (with_tree s (changed (without_snapshot name) s.scene.tree ino.0)) reply.Done
+effect s (event.Open client ino mode) =
+    shows (with_table s (with_opening s.scene.table (holder client ino) mode)) (holder client ino)
+effect s (event.Want client ino caps) =
+    shows (with_table s (with_wanted s.scene.table (holder client ino) caps)) (holder client ino)
+effect s (event.Ack client ino seq) =
+    says (with_table s (with_taken s.scene.table (holder client ino) (revoked_of s.scene (holder client ino)))) reply.Done
+effect s (event.Release client ino caps) = says (with_table s (released s.scene.table (holder client ino) caps)) reply.Done
+effect s (event.Poll client max) = record { state = s; answer = Gives client max; dropped = [] }
 
 abbrev pub effect_unless : State → Event → Option Stopped → Direct
 effect_unless s e (Some stopped) = says s (stop_reply stopped)
@@ -141,13 +198,14 @@ abbrev pub made_event : Kind → ClientId → Ino → List ℕ → Mode → Even
 made_event File client dir name mode = event.Create client dir name mode
 made_event Directory client dir name mode = event.Mkdir client dir name mode
 
--- the reply has what an inode keeps of a part
-abbrev pub has_values : Reply → Bool
-has_values (reply.Values values) = true
-has_values reply.Done = false
-has_values (reply.Ino ino) = false
-has_values (reply.Opened seq caps) = false
-has_values (reply.Waiting ticket) = false
-has_values (reply.Denied access rules) = false
-has_values (reply.Refused refusal) = false
-has_values reply.OutOfMemory = false
+-- the reply has a list, of which a copy takes memory
+abbrev pub has_list : Reply → Bool
+has_list (reply.Values values) = true
+has_list reply.Done = false
+has_list (reply.Ino ino) = false
+has_list (reply.Opened seq caps) = false
+has_list (reply.Waiting ticket) = false
+has_list (reply.Denied access rules) = false
+has_list (reply.Refused refusal) = false
+has_list (reply.Messages messages) = true
+has_list reply.OutOfMemory = false

@@ -15,7 +15,7 @@ use Rattle.capcore.specs.declared.outcome.Ended.{Ended}
 use Rattle.capcore.specs.declared.reply.Reply.{Reply}
 use Rattle.capcore.specs.State.{State}
 use Rattle.capcore.specs.Step.{Step}
-use Rattle.capcore.specs.Sound.{IsSound}
+use Rattle.capcore.specs.Sound.{IsSound, AreGiven}
 
 -- a state, the history that led to it, and how many rows it may have
 pub record Told : Type 0 where
@@ -78,7 +78,8 @@ pub record IsNext (old : Told) (pass : PassId) (e : Event) (answer : Reply) (new
 
 -- ---- what every core keeps
 
--- the history is legal, led here from some opening state and is not longer than it may be; and the state is sound
+-- the history is legal, led here from some opening state and is not longer than it may be; and the state is sound, with the
+-- numbers that so many rows can give
 pub record IsTold (t : Told) : Type 0 where
   pub fs : List ℕ
   pub tree : Nodes
@@ -87,4 +88,5 @@ pub record IsTold (t : Told) : Type 0 where
   pub is_opening : IsOpening fs tree opening
   pub legal : IsLegal opening t.rows t.state
   pub room : length t.rows ≤ t.max_rows
-  pub sound : IsSound (length t.rows) t.state
+  pub sound : IsSound t.state
+  pub given : AreGiven (length t.rows) t.state

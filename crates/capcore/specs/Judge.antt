@@ -1,20 +1,26 @@
 -- What is tested of an event, in order, and what stops it.
-use Rattle.std.specs.Prelude.{ℕ, Bool, not, List, [], ◌∷◌, ◌++◌, Option, Some, None}
+use Rattle.std.specs.Prelude.{ℕ, Bool, true, false, not, List, [], ◌∷◌, ◌++◌, Option, Some, None, is_some, if◌then◌else◌}
 use Rattle.std.specs.List.{find}
-use Rattle.std.specs.Option.{option_map}
+use Rattle.std.specs.Option.{option_map, option_map_or}
 use Rattle.capbits.specs.declared.ids.ClientId.{ClientId}
+use Rattle.capbits.specs.Caps.{Caps}
+use Rattle.capbits.specs.Sets.{no_caps}
 use Rattle.capgrant.specs.declared.access.Access.{Access}
 use Rattle.capgrant.specs.declared.access.Access.TheVariants.{Read, Write, Snapshot}
 use Rattle.capbits.specs.Refusal.{Test, first_failing}
-use Rattle.sessiontab.specs.Tests.{session_tests, new_session_tests}
+use Rattle.sessiontab.specs.Tests.{connected_test, session_tests, new_session_tests}
 use Rattle.inotree.specs.Tree.{child}
-use Rattle.inotree.specs.Tests.{inode_tests, directory_test, found_test, new_inode_tests, new_snapshot_tests, old_snapshot_tests}
+use Rattle.inotree.specs.Tests.{known_test, inode_tests, directory_test, file_test, found_test, new_inode_tests, new_snapshot_tests, old_snapshot_tests}
 use Rattle.captable.specs.declared.entry.Holder.{Holder}
+use Rattle.captable.specs.Table.{Table, holder, is_row_of, entry_at}
+use Rattle.captable.specs.Tests.{open_tests, entry_test, ack_tests, release_tests}
 use Rattle.lockmachine.specs.Policy.{is_granted, failures}
-use Rattle.lockmachine.specs.Scene.{Scene}
+use Rattle.lockmachine.specs.Scene.{Scene, against}
 use Rattle.capbits.specs.declared.refusal.Refusal.{Refusal}
 use Rattle.capcore.specs.declared.event.Event.{Event}
 use Rattle.capcore.specs.declared.event.Event.TheVariants as event
+use Rattle.capcore.specs.declared.event.OpenMode.{OpenMode}
+use Rattle.capcore.specs.declared.event.OpenMode.TheVariants as opening
 use Rattle.capcore.specs.declared.reply.Reply.{Reply}
 use Rattle.capcore.specs.declared.reply.Reply.TheVariants as reply
 use Rattle.capcore.specs.declared.stopped.Stopped.{Stopped}
@@ -35,6 +41,19 @@ need_if client (Some ino) access = need client ino access ∷ []
 
 -- ---- by event
 
+abbrev pub is_writing : OpenMode → Bool
+is_writing opening.Read = false
+is_writing opening.Write = true
+is_writing opening.ReadWrite = true
+
+-- what is being revoked of the holder's entry, where it has one
+abbrev pub revoked_of : Scene → Holder → Caps
+revoked_of s k = option_map_or (against s) (find (is_row_of k) s.table.rows) no_caps
+
+-- the client has a session, open or stale, and the inode is there, with a path or without
+abbrev pub connected_tests : Scene → ClientId → ℕ → List Test
+connected_tests s client ino = connected_test s.sessions client.0 ∷ known_test s.tree ino ∷ []
+
 -- the client has an open session, and the inode is there and has a path
 abbrev pub asked_tests : Scene → ClientId → ℕ → List Test
 asked_tests s client ino = session_tests s.sessions client.0 ++ inode_tests s.tree ino
@@ -47,6 +66,18 @@ before s (event.Create client dir name mode) = asked_tests s client dir.0
 before s (event.Mkdir client dir name mode) = asked_tests s client dir.0
 before s (event.MakeSnapshot client ino name) = asked_tests s client ino.0
 before s (event.RemoveSnapshot client ino name) = asked_tests s client ino.0
+before s (event.Open client ino mode) = asked_tests s client ino.0
+before s (event.Want client ino caps) = asked_tests s client ino.0 ++ entry_test s.table (holder client ino) ∷ []
+before s (event.Ack client ino seq) =
+    connected_tests s client ino.0 ++ ack_tests s.table (holder client ino) seq (revoked_of s (holder client ino))
+before s (event.Release client ino caps) = connected_tests s client ino.0 ++ release_tests s.table (holder client ino) caps
+before s (event.Poll client max) = session_tests s.sessions client.0
+
+-- the accesses that an opening needs, in order
+abbrev pub opening_needs : ClientId → ℕ → OpenMode → List Need
+opening_needs client ino opening.Read = need client ino Read ∷ []
+opening_needs client ino opening.Write = need client ino Write ∷ []
+opening_needs client ino opening.ReadWrite = need client ino Read ∷ need client ino Write ∷ []
 
 -- the accesses that an event needs, in order
 abbrev pub needs : Scene → Event → List Need
@@ -56,6 +87,19 @@ needs s (event.Create client dir name mode) = need client dir.0 Write ∷ []
 needs s (event.Mkdir client dir name mode) = need client dir.0 Write ∷ []
 needs s (event.MakeSnapshot client ino name) = need client ino.0 Snapshot ∷ []
 needs s (event.RemoveSnapshot client ino name) = need client ino.0 Snapshot ∷ []
+needs s (event.Open client ino mode) = opening_needs client ino.0 mode
+needs s (event.Want client ino caps) = []
+needs s (event.Ack client ino seq) = []
+needs s (event.Release client ino caps) = []
+needs s (event.Poll client max) = []
+
+-- there is room for the holder's entry, where it is to be made
+abbrev pub room_for : Table → Holder → List Test
+room_for table k = if is_some (entry_at table k) then [] else open_tests table
+
+-- what is opened to write is no directory
+abbrev pub opening_tests : Scene → Holder → OpenMode → List Test
+opening_tests s k mode = (if is_writing mode then file_test s.tree k.ino.0 ∷ [] else []) ++ room_for s.table k
 
 -- the tests that stand behind policy
 abbrev pub after : Scene → Event → List Test
@@ -65,6 +109,11 @@ after s (event.Create client dir name mode) = new_inode_tests s.tree dir.0 name
 after s (event.Mkdir client dir name mode) = new_inode_tests s.tree dir.0 name
 after s (event.MakeSnapshot client ino name) = new_snapshot_tests s.tree ino.0 name
 after s (event.RemoveSnapshot client ino name) = old_snapshot_tests s.tree ino.0 name
+after s (event.Open client ino mode) = opening_tests s (holder client ino) mode
+after s (event.Want client ino caps) = []
+after s (event.Ack client ino seq) = []
+after s (event.Release client ino caps) = []
+after s (event.Poll client max) = []
 
 -- ---- the judgement
 

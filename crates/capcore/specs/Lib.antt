@@ -7,6 +7,8 @@ pub mod Settle
 pub mod Finish
 pub mod Messages
 pub mod Step
+pub mod Touch
+pub mod Touching
 pub mod History
 pub mod Codes
 pub mod Headline

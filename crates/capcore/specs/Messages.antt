@@ -1,9 +1,13 @@
--- The messages that are due to a client.
-use Rattle.std.specs.Prelude.{Bool, ◌==◌, nat_lt, List, [], ◌∷◌, ◌++◌, map, filter, if◌then◌else◌}
-use Rattle.std.specs.List.{flat_map}
+-- The messages that are due to a client, and what is left when it was given some of them.
+use Rattle.std.specs.Prelude.{ℕ, Bool, false, not, ◌&&◌, ◌==◌, nat_lt, List, [], ◌∷◌, ◌++◌, map, filter, take, if◌then◌else◌}
+use Rattle.std.specs.List.{flat_map, list_any}
 use Rattle.capbits.specs.declared.ids.ClientId.{ClientId}
+use Rattle.capbits.specs.declared.ids.Ino.{Ino}
+use Rattle.capbits.specs.declared.ids.Ticket.{Ticket}
+use Rattle.captable.specs.declared.entry.Entry.{Entry}
 use Rattle.captable.specs.declared.entry.EntryRow.{EntryRow}
-use Rattle.captable.specs.Calls.{is_of_client}
+use Rattle.captable.specs.Calls.{is_of_client, told, with_asked}
+use Rattle.captable.specs.Many.{changed_where}
 use Rattle.lockmachine.specs.Scene.{Scene, told_set}
 use Rattle.capcore.specs.declared.outcome.Ended.{Ended}
 use Rattle.capcore.specs.declared.outcome.Message.{Message}
@@ -30,3 +34,46 @@ abbrev pub messages_to : State → ClientId → List Message
 messages_to s client =
     map (λ m. message.Ended m.ticket m.outcome) (filter (is_to client) s.messages)
     ++ flat_map (λ row. caps_messages s.scene row ++ recall_messages row) (filter (is_of_client client) s.scene.table.rows)
+
+-- those that a poll for at most so many takes
+abbrev pub first_messages : State → ClientId → ℕ → List Message
+first_messages s client max = take max (messages_to s client)
+
+-- ---- what is left
+
+-- the message tells how the request with this number ended
+abbrev pub is_end_of : Ticket → Message → Bool
+is_end_of ticket (message.Ended t outcome) = t.0 == ticket.0
+is_end_of ticket (message.Caps ino seq caps) = false
+is_end_of ticket (message.Recall ino) = false
+
+-- the message tells what the client is to know that it holds on the inode
+abbrev pub is_caps_of : Ino → Message → Bool
+is_caps_of ino (message.Ended ticket outcome) = false
+is_caps_of ino (message.Caps i seq caps) = i.0 == ino.0
+is_caps_of ino (message.Recall i) = false
+
+-- the message asks the client to give back what it holds on the inode
+abbrev pub is_recall_of : Ino → Message → Bool
+is_recall_of ino (message.Ended ticket outcome) = false
+is_recall_of ino (message.Caps i seq caps) = false
+is_recall_of ino (message.Recall i) = i.0 == ino.0
+
+abbrev pub told_if : Bool → Entry → Entry
+told_if b e = if b then told e else e
+
+abbrev pub unasked_if : Bool → Entry → Entry
+unasked_if b e = if b then with_asked false e else e
+
+-- the entry, once its client was given these messages: it was told of the last change if one of them says it, and is asked no
+-- more if one of them asks it
+abbrev pub after_messages : List Message → EntryRow → Entry
+after_messages given row =
+    unasked_if (list_any (is_recall_of row.holder.ino) given) (told_if (list_any (is_caps_of row.holder.ino) given) row.entry)
+
+-- the state, once a client was given messages: those are due no more, and all others are
+abbrev pub with_given : State → ClientId → List Message → State
+with_given s client given = record s {
+  scene = record s.scene { table = changed_where (is_of_client client) (after_messages given) s.scene.table };
+  messages = filter (λ m. not (is_to client m && list_any (is_end_of m.ticket) given)) s.messages;
+}

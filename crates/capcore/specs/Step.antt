@@ -17,10 +17,11 @@ earlier last ended = filter (λ m. nat_le m.ticket.0 last) ended
 abbrev pub all_ended : State → Direct → List Made → List Ended
 all_ended old d moves = d.dropped ++ earlier old.scene.locks.last (ended_in moves)
 
--- the state at the end. What the event dropped is told to nobody, as the session of its client has ended
+-- the state at the end, but for what the answer tells. What the event dropped is told to nobody, as the session of its client
+-- has ended
 abbrev pub state_after : State → Direct → List Made → Scene → State
 state_after old d moves settled = record d.state {
-  scene = shown d.answer (finished old.scene d.state.scene settled);
+  scene = finished old.scene d.state.scene settled;
   messages = d.state.messages ++ earlier old.scene.locks.last (ended_in moves);
 }
 
@@ -28,8 +29,8 @@ state_after old d moves settled = record d.state {
 pub record StepBy (old : State) (e : Event) (moves : List Made) (answer : Reply) (ended : List Ended) (new : State) : Type 0 where
   pub settled : Scene
   pub settles : Settles (direct old e).state.scene moves settled
-  pub new_is : new ≡ state_after old (direct old e) moves settled
-  pub answer_is : answer ≡ reply_of new.scene (ended_in moves) (direct old e).answer
+  pub answer_is : answer ≡ reply_of (state_after old (direct old e) moves settled) (ended_in moves) (direct old e).answer
+  pub new_is : new ≡ shown (direct old e).answer (state_after old (direct old e) moves settled)
   pub ended_is : ended ≡ all_ended old (direct old e) moves
 
 -- the event leads from the old state to the new, with this answer, and ends these requests of earlier steps

@@ -1,6 +1,6 @@
 //! Copies that take no memory.
 ghost use Rattle.std.specs.Prelude.{◌≡◌, false};
-ghost use Rattle.capcore.specs.Direct.{has_values};
+ghost use Rattle.capcore.specs.Direct.{has_list};
 
 use crate::reply::Reply;
 use arrayvec::ArrayVec;
@@ -33,7 +33,7 @@ fn copy_of_rules(rules: &Rules) -> Rules
 
 // The same reply once more, where it has no values: a list of attributes takes memory.
 pub(crate) fn copy_of_reply(reply: &Reply) -> Reply
-    requires { has_values reply.now ≡ false }
+    requires { has_list reply.now ≡ false }
     ensures { result ≡ reply.now }
 {
     match reply {
@@ -48,6 +48,7 @@ pub(crate) fn copy_of_reply(reply: &Reply) -> Reply
             rules: copy_of_rules(rules),
         },
         Reply::Values(_values) => unreachable!(),
+        Reply::Messages(_messages) => unreachable!(),
         Reply::Waiting(ticket) => Reply::Waiting(*ticket),
         Reply::Refused(refusal) => Reply::Refused(*refusal),
         Reply::OutOfMemory => Reply::OutOfMemory,

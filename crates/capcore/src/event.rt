@@ -1,8 +1,19 @@
 //! What happens.
 
-use capbits::{Caller, ClientId, Ino, Mode};
+use capbits::{Caller, CapSet, ClientId, Ino, Mode};
 use capspec::Grants;
 use lockmachine::Bytes;
+
+/// What a client opens an inode for.
+#[derive(Clone, Copy, Debug, PartialEq, Eq)]
+pub enum OpenMode {
+    /// To read it.
+    Read,
+    /// To write it.
+    Write,
+    /// To read and to write it.
+    ReadWrite,
+}
 
 /// Something that happens to the server: what a client asks for, or what is told of one.
 #[derive(Debug, Drop)]
@@ -64,5 +75,48 @@ pub enum Event {
         ino: Ino,
         /// The name of the snapshot.
         name: Bytes,
+    },
+    /// A client opens an inode. From now on it wants what this takes, besides what it wanted.
+    Open {
+        /// The client.
+        client: ClientId,
+        /// The inode.
+        ino: Ino,
+        /// What it opens it for.
+        mode: OpenMode,
+    },
+    /// A client says what it wants of an inode that it has opened.
+    Want {
+        /// The client.
+        client: ClientId,
+        /// The inode.
+        ino: Ino,
+        /// The capabilities. The pin is wanted besides.
+        caps: CapSet,
+    },
+    /// A client acknowledges a message by which capabilities were taken from it: it holds them no more.
+    Ack {
+        /// The client.
+        client: ClientId,
+        /// The inode.
+        ino: Ino,
+        /// The number of the message.
+        seq: u64,
+    },
+    /// A client gives capabilities back, and wants them no more. With the pin its entry ends.
+    Release {
+        /// The client.
+        client: ClientId,
+        /// The inode.
+        ino: Ino,
+        /// The capabilities.
+        caps: CapSet,
+    },
+    /// A client asks for its messages.
+    Poll {
+        /// The client.
+        client: ClientId,
+        /// How many it takes at most.
+        max: u32,
     },
 }

@@ -35,40 +35,40 @@ ghost use Rattle.capcore.specs.Sound.{IsSound};
 
 /// The opening state is sound.
 pub fn an_opening_is_sound()
-    ensures { (fs : List ℕ) (tree : Nodes) (s : State) → HasNoStray tree → IsOpening fs tree s → IsSound 0 s }
+    ensures { (fs : List ℕ) (tree : Nodes) (s : State) → HasNoStray tree → IsOpening fs tree s → IsSound s }
 {}
 
 /// In a sound state no two clients hold what may not be held together.
 pub fn the_held_are_apart()
-    ensures { (count : ℕ) (s : State) → IsSound count s → NoneConflict s.scene }
+    ensures { (s : State) → IsSound s → NoneConflict s.scene }
 {}
 
 /// In a sound state nothing is left to do: no move applies, and the end of a step changes nothing.
 pub fn a_sound_state_has_nothing_left_to_do()
-    ensures settles { (count : ℕ) (s : State) → IsSound count s → Settles s.scene [] s.scene }
-    ensures finished { (count : ℕ) (s : State) → IsSound count s → IsTable s.scene.table
+    ensures settles { (s : State) → IsSound s → Settles s.scene [] s.scene }
+    ensures finished { (s : State) → IsSound s → IsTable s.scene.table
         → finished s.scene s.scene s.scene ≡ s.scene }
 {}
 
 /// So of an event that is stopped there is a step, which says what stopped it, ends no request and changes nothing; and
 /// there is no other.
 pub fn a_stop_changes_nothing()
-    ensures step { (count : ℕ) (old : State) (e : Event) (stopped : Stopped) → IsSound count old → IsTable old.scene.table
+    ensures step { (old : State) (e : Event) (stopped : Stopped) → IsSound old → IsTable old.scene.table
         → judged old.scene e ≡ Some stopped → Step old e (stop_reply stopped) [] old }
-    ensures only { (count : ℕ) (old new : State) (e : Event) (stopped : Stopped) (answer : Reply) (ended : List Ended)
-        → IsSound count old → IsTable old.scene.table → judged old.scene e ≡ Some stopped
+    ensures only { (old new : State) (e : Event) (stopped : Stopped) (answer : Reply) (ended : List Ended)
+        → IsSound old → IsTable old.scene.table → judged old.scene e ≡ Some stopped
         → Step old e answer ended new → (answer ≡ stop_reply stopped) × (ended ≡ []) × (new ≡ old) }
 {}
 
 /// After an event that leaves alone all that entries and requests depend on, a state that was sound is sound, no move
 /// applies, and nothing is to be issued, forgotten or numbered.
 pub fn what_leaves_entries_alone_leaves_nothing_to_do()
-    ensures sound { (count : ℕ) (s : State) (tree : Nodes) (sessions : SessionTable) (states : StateMap) → IsSound count s
-        → LeavesEntries s.scene tree sessions states → IsSound count (with_scene s (with_parts s.scene tree sessions states)) }
-    ensures settles { (count : ℕ) (s : State) (tree : Nodes) (sessions : SessionTable) (states : StateMap) → IsSound count s
+    ensures sound { (s : State) (tree : Nodes) (sessions : SessionTable) (states : StateMap) → IsSound s
+        → LeavesEntries s.scene tree sessions states → IsSound (with_scene s (with_parts s.scene tree sessions states)) }
+    ensures settles { (s : State) (tree : Nodes) (sessions : SessionTable) (states : StateMap) → IsSound s
         → LeavesEntries s.scene tree sessions states
         → Settles (with_parts s.scene tree sessions states) [] (with_parts s.scene tree sessions states) }
-    ensures finished { (count : ℕ) (s : State) (tree : Nodes) (sessions : SessionTable) (states : StateMap) → IsSound count s
+    ensures finished { (s : State) (tree : Nodes) (sessions : SessionTable) (states : StateMap) → IsSound s
         → LeavesEntries s.scene tree sessions states → IsTable s.scene.table
         → finished s.scene (with_parts s.scene tree sessions states) (with_parts s.scene tree sessions states)
         ≡ with_parts s.scene tree sessions states }
@@ -76,13 +76,13 @@ pub fn what_leaves_entries_alone_leaves_nothing_to_do()
 
 /// A new session, a new inode, and a snapshot that comes or goes are such events.
 pub fn sessions_inodes_and_snapshots_leave_entries_alone()
-    ensures session { (count : ℕ) (s : State) (client : ℕ) (caller : Caller) (grants : List Grant) → IsSound count s
+    ensures session { (s : State) (client : ℕ) (caller : Caller) (grants : List Grant) → IsSound s
         → first_failing (new_session_tests s.scene.sessions client) ≡ None
         → LeavesEntries s.scene s.scene.tree (with_session s.scene.sessions client caller grants) s.scene.locks.states }
-    ensures inode { (count : ℕ) (s : State) (kind : Kind) (dir : ℕ) (name : List ℕ) (attr : Attr) → IsSound count s
+    ensures inode { (s : State) (kind : Kind) (dir : ℕ) (name : List ℕ) (attr : Attr) → IsSound s
         → IsTree s.scene.tree → LeavesEntries s.scene (with_new s.scene.tree kind dir name attr) s.scene.sessions
         (with_ino s.scene.locks (s.scene.tree.last + 1)).states }
-    ensures snapshot { (count : ℕ) (s : State) (f : Node → Node) (ino : ℕ) → IsSound count s
+    ensures snapshot { (s : State) (f : Node → Node) (ino : ℕ) → IsSound s
         → ((n : Node) → (f n).site ≡ n.site) → ((n : Node) → (f n).attr ≡ n.attr)
         → LeavesEntries s.scene (changed f s.scene.tree ino) s.scene.sessions s.scene.locks.states }
 {}

@@ -13,10 +13,11 @@ mod reply;
 mod start;
 mod step;
 mod stopped;
+mod touch;
 mod world;
 
 pub use capbits::Refusal;
-pub use event::Event;
+pub use event::{Event, OpenMode};
 pub use history::{EndedList, Row, Stop};
 pub use laws::{
     a_sound_state_has_nothing_left_to_do, a_stop_changes_nothing, an_opening_is_sound,
@@ -24,7 +25,7 @@ pub use laws::{
     the_held_are_apart, the_served_are_denied_by_name, the_served_are_denied_exactly,
     what_leaves_entries_alone_leaves_nothing_to_do,
 };
-pub use outcome::{Ended, Message, Outcome, PartValues};
+pub use outcome::{Ended, Message, MessageList, Outcome, PartValues};
 pub use reply::Reply;
 pub use step::Core;
 pub use stopped::Stopped;

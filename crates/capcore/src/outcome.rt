@@ -1,8 +1,11 @@
 //! How requests end that wait for a lock, and the messages that clients are given.
+ghost use Rattle.std.specs.Prelude.{◌≡◌, ◌++◌, ◌∷◌, [], OnOk, OnErr};
 
 use capbits::{CapSet, ClientId, Ino, Refusal, Ticket};
 use capgrant::{Access, Attr, Rules};
 use inotree::Attributes;
+use std::alloc::{AllocError, Global};
+use std::marker::Model;
 
 /// What an inode keeps of one part.
 #[derive(Debug, Drop)]
@@ -79,4 +82,58 @@ pub enum Message {
         /// The inode.
         ino: Ino,
     },
+}
+
+/// A list of messages, in the order in which they are given.
+#[derive(Debug, Drop)]
+pub struct MessageList {
+    items: Vec<Message>,
+}
+
+impl Model for MessageList {
+    ghost use Rattle.std.specs.Prelude.{List};
+    ghost use Rattle.std.specs.Coded.{coded_list};
+    ghost use Rattle.capcore.specs.declared.outcome.Message.{Message};
+    ghost use Rattle.capcore.specs.contracts.outcome.Message as message;
+
+    ghost Value = { List Message };
+
+    ghost coded = { coded_list message.the_row.coded };
+
+    ghost view = { λ list. list.items.items };
+}
+
+impl MessageList {
+    // No message.
+    pub(crate) fn new(alloc: Global) -> MessageList
+        ensures { result ≡ [] }
+    {
+        MessageList {
+            items: Vec::new(alloc),
+        }
+    }
+
+    // One more.
+    pub(crate) fn push(&mut self, message: Message) -> Result<(), AllocError>
+        ensures ok { OnOk result (self.new ≡ self.old ++ message ∷ []) }
+        ensures err { OnErr result (self.new ≡ self.old) }
+    {
+        self.items.push(message)?;
+        Ok(())
+    }
+
+    /// The messages.
+    pub fn as_slice(&self) -> &[Message]
+        ensures { result.now ≡ self.now }
+    {
+        self.items.as_slice()
+    }
+}
+
+impl From<Vec<Message>> for MessageList {
+    ghost from_gives = { λ given list. list ≡ given.items };
+
+    fn from(items: Vec<Message>) -> Self {
+        MessageList { items }
+    }
 }

@@ -1,6 +1,8 @@
 //! What is answered.
+ghost use Rattle.std.specs.Prelude.{◌≡◌};
+ghost use Rattle.capcore.specs.declared.reply.Reply.TheVariants as reply;
 
-use crate::outcome::PartValues;
+use crate::outcome::{MessageList, PartValues};
 use capbits::{CapSet, Ino, Refusal, Ticket};
 use capgrant::{Access, Rules};
 
@@ -20,6 +22,8 @@ pub enum Reply {
     },
     /// What an inode keeps of the part that the client asked for.
     Values(PartValues),
+    /// The messages that were due to the client, the first of them.
+    Messages(MessageList),
     /// The request waits for a lock, under this number.
     Waiting(Ticket),
     /// No grant of the client allows an access that the request needs.
@@ -33,4 +37,24 @@ pub enum Reply {
     Refused(Refusal),
     /// There was no memory left for it, and what it asks for was not done.
     OutOfMemory,
+}
+
+// A reply, and the same once more for the history.
+#[derive(Debug, Drop)]
+pub(crate) struct Said {
+    pub(crate) reply: Reply,
+    pub(crate) kept: Reply,
+}
+
+impl Said {
+    // A refusal.
+    pub(crate) fn refusal(refusal: Refusal) -> Said
+        ensures reply { result.reply ≡ reply.Refused refusal }
+        ensures kept { result.kept ≡ reply.Refused refusal }
+    {
+        Said {
+            reply: Reply::Refused(refusal),
+            kept: Reply::Refused(refusal),
+        }
+    }
 }

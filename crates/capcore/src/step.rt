@@ -6,17 +6,20 @@ ghost use Rattle.capcore.specs.Direct.{direct};
 ghost use Rattle.capcore.specs.Sound.{IsSound};
 ghost use Rattle.capcore.specs.Headline.{DeniedExactly, DeniesByName, IssuesExactly, AreInPlace, NoneConflict, is_stop};
 ghost use Rattle.sessiontab.specs.Calls.{status_of};
+ghost use Rattle.captable.specs.Table.{holder, entry_at};
+ghost use Rattle.lockmachine.specs.Locks.{lock_at};
 ghost use Rattle.lockmachine.specs.Moves.{IsAtRest};
 ghost use Rattle.capcore.specs.declared.history.Stop.TheVariants as stop_kind;
 
-use crate::copies::copy_of_reply;
 use crate::event::Event;
 use crate::history::{EndedList, Row, Stop};
-use crate::reply::Reply;
+use crate::reply::{Reply, Said};
 use crate::world::World;
-use capbits::{ClientId, PassId};
+use capbits::{ClientId, Ino, Part, PassId};
 use capspec::FsName;
+use captable::Entry;
 use inotree::Tree;
+use locktable::LockState;
 use sessiontab::Status;
 use std::alloc::{AllocError, Global};
 use std::marker::Model;
@@ -72,7 +75,7 @@ impl Core {
         ensures in_place { OnOk result (AreInPlace self.new.state.scene) }
         ensures apart { OnOk result (NoneConflict self.new.state.scene) }
         // All that the state speaks of is there, and nothing is left to do.
-        ensures sound { OnOk result (IsSound (length self.new.rows) self.new.state) }
+        ensures sound { OnOk result (IsSound self.new.state) }
         // Locks are at rest, and a denial or a refusal changes nothing but the history.
         ensures at_rest { OnOk result (IsAtRest self.new.state.scene) }
         ensures unchanged { IfOk result (λ answer. IsTrue (is_stop answer) → self.new.state ≡ self.old.state) }
@@ -87,16 +90,30 @@ impl Core {
         }
         self.rows.reserve(1)?;
         let nth = next_number(&self.rows, pass);
-        let reply = self.world.step(&event)?;
+        let Said { reply, kept } = self.world.step(&event)?;
         let row = Row {
             pass,
             nth,
             event,
-            reply: copy_of_reply(&reply),
+            reply: kept,
             ended: EndedList::new(self.alloc),
         };
         self.rows.push(row)?;
         Ok(reply)
+    }
+
+    /// The client's entry on the inode, where it has one.
+    pub fn entry(&self, client: ClientId, ino: Ino) -> Option<Entry>
+        ensures { result ≡ entry_at self.now.state.scene.table (holder client ino) }
+    {
+        self.world.entry(client, ino)
+    }
+
+    /// The lock of an inode's part, where the inode is there.
+    pub fn lock_state(&self, ino: Ino, part: Part) -> Option<LockState>
+        ensures { result ≡ lock_at self.now.state.scene.locks ino.0 part }
+    {
+        self.world.lock_state(ino, part)
     }
 
     /// The tree of today.

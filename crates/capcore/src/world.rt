@@ -3,34 +3,40 @@ ghost use Rattle.std.specs.Prelude.{◌≡◌, ℕ, ◌+◌, ◌++◌, false, []
 ghost use Rattle.inotree.specs.Tree.{is_directory};
 ghost use Rattle.inotree.specs.Calls.{with_new};
 ghost use Rattle.inotree.specs.Tests.{create_tests};
-ghost use Rattle.capcore.specs.Sound.{IsSound};
+ghost use Rattle.capcore.specs.Sound.{IsSound, AreGiven, NumbersLeft};
+ghost use Rattle.capcore.specs.Touch.{touch_event};
+ghost use Rattle.capcore.specs.Touching.{touched_by, is_poll};
 ghost use Rattle.capgrant.specs.Verdict.{is_allowed, IfDenied};
-ghost use Rattle.captable.specs.Table.{holder};
+ghost use Rattle.captable.specs.Table.{holder, entry_at};
+ghost use Rattle.lockmachine.specs.Locks.{lock_at};
 ghost use Rattle.sessiontab.specs.Calls.{status_of};
 ghost use Rattle.lockmachine.specs.Policy.{failures};
-ghost use Rattle.capcore.specs.Judge.{stop, need, is_met, asked_tests};
+ghost use Rattle.capcore.specs.Judge.{judged, stop, need, is_met, asked_tests};
 ghost use Rattle.std.specs.FinMap as map;
 ghost use Rattle.capgrant.specs.declared.answer.Verdict.TheVariants as verdict_kind;
-ghost use Rattle.capcore.specs.Direct.{Says, IsDirect, direct, has_values, made_event, owned_by, with_birth};
+ghost use Rattle.capcore.specs.Direct.{Says, IsDirect, direct, has_list, made_event, owned_by, with_birth};
 ghost use Rattle.capcore.specs.History.{IsOpening, HasNoStray};
+ghost use Rattle.capcore.specs.Headline.{IssuesExactly};
 ghost use Rattle.capcore.specs.Step.{Step};
 ghost use Rattle.capbits.specs.Refusal.{first_failing};
 ghost use Rattle.capcore.specs.declared.event.Event.TheVariants as event;
 
-use crate::copies::copy_of_caller;
+use crate::copies::{copy_of_caller, copy_of_reply};
 use crate::event::Event;
 use crate::history::Stop;
 use crate::messages::Messages;
-use crate::reply::Reply;
+use crate::reply::{Reply, Said};
 use crate::start::first_locks;
 use crate::stopped::Stopped;
+use crate::touch::Touch;
 use arrayvec::ArrayVec;
-use capbits::{Caller, ClientId, Ino, Mode, Refusal};
+use capbits::{Caller, ClientId, Ino, Mode, Part, Refusal};
 use capgrant::{Access, Attr, Rules, Verdict, verdict};
 use capspec::{FsName, Grants};
-use captable::CapTable;
+use captable::{CapTable, Entry, Holder};
 use inotree::{Kind, Tree};
 use lockmachine::Locks;
+use locktable::LockState;
 use sessiontab::{Sessions, Status};
 use std::alloc::{AllocError, Global};
 use std::marker::Model;
@@ -48,10 +54,12 @@ pub(crate) struct World {
 }
 
 impl Model for World {
-    ghost use Rattle.std.specs.Prelude.{ℕ};
+    ghost use Rattle.std.specs.Prelude.{◌≡◌, []};
     ghost use Rattle.capcore.specs.State.{State};
     ghost use Rattle.capcore.specs.Codes.{state_code};
-    ghost use Rattle.capcore.specs.Sound.{IsSound};
+    ghost use Rattle.capcore.specs.Sound.{IsSound, AreGiven, NumbersLeft};
+ghost use Rattle.capcore.specs.Touch.{touch_event};
+ghost use Rattle.capcore.specs.Touching.{touched_by, is_poll};
     ghost use Rattle.capcore.specs.Untold.{HasRoom};
 
     ghost Value = { State };
@@ -63,13 +71,16 @@ impl Model for World {
       messages = w.messages.items;
     } };
 
-    // Sound behind a history of some length; and there is room for each message that is to come.
+    // Sound; there is room for each message that is to come; and as no event of today waits for a lock, nobody waits, and
+    // no request has ended that did.
     ghost invariant = { λ w.
-        ((count : ℕ) × IsSound count (record {
+        IsSound (record {
           scene = record { fs = w.fs; tree = w.tree; sessions = w.sessions; table = w.table; locks = w.locks };
           messages = w.messages.items;
-        }))
-        × HasRoom w.messages w.locks };
+        })
+        × HasRoom w.messages w.locks
+        × (w.locks.queue ≡ [])
+        × (w.messages.items ≡ []) };
 }
 
 impl World {
@@ -93,24 +104,84 @@ impl World {
     }
 
     // Makes one step.
-    pub(crate) fn step(&mut self, event: &Event) -> Result<Reply, Stop>
+    pub(crate) fn step(&mut self, event: &Event) -> Result<Said, Stop>
+        requires numbers { NumbersLeft self.old }
+        ensures step { IfOk result (λ said. Step self.old event.now said.reply [] self.new) }
+        ensures kept { IfOk result (λ said. said.kept ≡ said.reply) }
+        // The state stays sound, and gives at most one number more.
+        ensures sound { OnOk result (IsSound self.new) }
+        ensures issued { OnOk result (IssuesExactly (direct self.old event.now).state.scene self.new.scene) }
+        ensures given { OnOk result ((count : ℕ) → AreGiven count self.old → AreGiven (count + 1) self.new) }
+        ensures err { OnErr result (self.new ≡ self.old) }
+        ensures memory { IfErr result (λ stop. stop ≡ Stop.NoMemory) }
+    {
+        let reply = match event {
+            Event::Open { client, ino, mode } => self.touch(*client, *ino, Touch::Open(*mode))?,
+            Event::Want { client, ino, caps } => self.touch(*client, *ino, Touch::Want(*caps))?,
+            Event::Ack { client, ino, seq } => self.touch(*client, *ino, Touch::Ack(*seq))?,
+            Event::Release { client, ino, caps } => {
+                self.touch(*client, *ino, Touch::Release(*caps))?
+            }
+            Event::Poll { client, max } => return self.poll(*client, *max),
+            Event::Session { .. }
+            | Event::Lookup { .. }
+            | Event::Create { .. }
+            | Event::Mkdir { .. }
+            | Event::MakeSnapshot { .. }
+            | Event::RemoveSnapshot { .. } => self.act_alone(event)?,
+        };
+        let kept = copy_of_reply(&reply);
+        Ok(Said { reply, kept })
+    }
+
+    // A step that leaves alone what entries and requests depend on: no lock moves, and all is done when the event is.
+    fn act_alone(&mut self, event: &Event) -> Result<Reply, Stop>
+        requires touches { touched_by event.now ≡ None }
+        requires polls { is_poll event.now ≡ false }
         ensures step { IfOk result (λ reply. Step self.old event.now reply [] self.new) }
-        ensures direct { IfOk result (λ reply. IsDirect self.old event.now reply self.new) }
-        // The state stays sound, behind one row more.
-        ensures sound { OnOk result ((count : ℕ) → IsSound count self.old → IsSound (count + 1) self.new) }
+        ensures issued { OnOk result (IssuesExactly (direct self.old event.now).state.scene self.new.scene) }
+        ensures given { OnOk result ((count : ℕ) → AreGiven count self.old → AreGiven (count + 1) self.new) }
         // No event of these asks what an inode keeps.
-        ensures values { IfOk result (λ reply. has_values reply ≡ false) }
+        ensures values { IfOk result (λ reply. has_list reply ≡ false) }
         ensures err { OnErr result (self.new ≡ self.old) }
         ensures memory { IfErr result (λ stop. stop ≡ Stop.NoMemory) }
     {
         // A look at the tree and at the entries, by which the proof knows what they keep.
         let (_last, _oldest) = (self.tree.last(), self.table.oldest());
-        // The event leaves alone what entries and requests depend on: no lock moves, and all is done when it is.
         self.act(event)
+    }
+
+    // A step that is about one entry: what is asked of it is done, the locks of its inode settle, and the step ends there.
+    fn touch(&mut self, client: ClientId, ino: Ino, touch: Touch) -> Result<Reply, Stop>
+        requires numbers { NumbersLeft self.old }
+        ensures step { IfOk result (λ reply. Step self.old (touch_event client ino touch) reply [] self.new) }
+        ensures issued { OnOk result (IssuesExactly (direct self.old (touch_event client ino touch)).state.scene self.new.scene) }
+        ensures given { OnOk result ((count : ℕ) → AreGiven count self.old → AreGiven (count + 1) self.new) }
+        ensures values { IfOk result (λ reply. has_list reply ≡ false) }
+        ensures err { OnErr result (self.new ≡ self.old) }
+        ensures memory { IfErr result (λ stop. stop ≡ Stop.NoMemory) }
+    {
+        let _ = (client, ino, touch);
+        Err(Stop::NoMemory)
+    }
+
+    // A step that gives a client the first messages that are due to it.
+    fn poll(&mut self, client: ClientId, max: u32) -> Result<Said, Stop>
+        ensures step { IfOk result (λ said. Step self.old (event.Poll client max) said.reply [] self.new) }
+        ensures kept { IfOk result (λ said. said.kept ≡ said.reply) }
+        ensures issued { OnOk result (IssuesExactly (direct self.old (event.Poll client max)).state.scene self.new.scene) }
+        ensures given { OnOk result ((count : ℕ) → AreGiven count self.old → AreGiven (count + 1) self.new) }
+        ensures err { OnErr result (self.new ≡ self.old) }
+        ensures memory { IfErr result (λ stop. stop ≡ Stop.NoMemory) }
+    {
+        let _ = (client, max);
+        Err(Stop::NoMemory)
     }
 
     // The event by itself.
     fn act(&mut self, event: &Event) -> Result<Reply, Stop>
+        requires touches { touched_by event.now ≡ None }
+        requires polls { is_poll event.now ≡ false }
         ensures direct { IfOk result (λ reply. IsDirect self.old event.now reply self.new) }
         ensures err { OnErr result (self.new ≡ self.old) }
         ensures memory { IfErr result (λ stop. stop ≡ Stop.NoMemory) }
@@ -142,6 +213,11 @@ impl World {
             Event::RemoveSnapshot { client, ino, name } => {
                 self.remove_snapshot(*client, *ino, name.as_slice())
             }
+            Event::Open { .. }
+            | Event::Want { .. }
+            | Event::Ack { .. }
+            | Event::Release { .. }
+            | Event::Poll { .. } => unreachable!(),
         }
     }
 
@@ -269,6 +345,20 @@ impl World {
         ensures { result ≡ status_of self.now.scene.sessions client.0 }
     {
         self.sessions.status(client)
+    }
+
+    // A client's entry.
+    pub(crate) fn entry(&self, client: ClientId, ino: Ino) -> Option<Entry>
+        ensures { result ≡ entry_at self.now.scene.table (holder client ino) }
+    {
+        self.table.find(client, ino)
+    }
+
+    // A lock.
+    pub(crate) fn lock_state(&self, ino: Ino, part: Part) -> Option<LockState>
+        ensures { result ≡ lock_at self.now.scene.locks ino.0 part }
+    {
+        self.locks.state(ino, part)
     }
 
     // ---- what stops a request

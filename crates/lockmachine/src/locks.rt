@@ -2,6 +2,7 @@
 ghost use Rattle.std.specs.Prelude.{◌≡◌, position, IfOk, OnOk, OnErr};
 ghost use Rattle.std.specs.List.{find};
 ghost use Rattle.std.specs.Option.{option_map, option_copied};
+ghost use Rattle.std.specs.FinMap as map;
 ghost use Rattle.lockmachine.specs.declared.moves.Move.TheVariants.{Settled};
 ghost use Rattle.lockmachine.specs.Locks as words;
 ghost use Rattle.lockmachine.specs.Requests as requests;
@@ -349,6 +350,13 @@ impl Locks {
             Some(LockState::Gather { to, .. }) => to,
             None => State::Sync,
         }
+    }
+
+    /// The locks of an inode, where it has any.
+    pub fn of_ino(&self, ino: Ino) -> Option<InodeLocks>
+        ensures { result ≡ map.get self.now.states ino.0 }
+    {
+        self.states.get(ino).copied()
     }
 
     /// Begins and ends gathers at one inode, always by the first move that applies, until a request is to be served, whose

@@ -2,10 +2,10 @@ use Rattle.capcore.proofs.Untouched.{session-leaves, changed-leaves, birth-leave
 use Rattle.capcore.proofs.laws.sessions_inodes_and_snapshots_leave_entries_alone.Goals as goal
 
 pub returns-clause-session : goal.returns-clause-session
-returns-clause-session c = λ count s client caller grants sound. session-leaves count s sound client caller grants
+returns-clause-session c = λ s client caller grants sound. session-leaves s sound client caller grants
 
 pub returns-clause-inode : goal.returns-clause-inode
-returns-clause-inode c = λ count s kind dir name attr sound. birth-leaves count s sound kind dir name attr
+returns-clause-inode c = λ s kind dir name attr sound. birth-leaves s sound kind dir name attr
 
 pub returns-clause-snapshot : goal.returns-clause-snapshot
-returns-clause-snapshot c = λ count s f ino sound. changed-leaves count s sound f ino
+returns-clause-snapshot c = λ s f ino sound. changed-leaves s sound f ino

@@ -1,4 +1,4 @@
-use Rattle.std.proofs.Common.{◌≡◌, ◌<◌, ◌+◌, length, ap, subst, ◌∙◌, arith}
+use Rattle.std.proofs.Common.{◌≡◌, ◌<◌, ◌+◌, [], length, ap, subst, ◌∙◌, arith}
 use Rattle.capcore.specs.State.{State}
 use Rattle.capcore.specs.declared.history.Row.{Row}
 use Rattle.capcore.specs.Direct.{direct}
@@ -7,57 +7,54 @@ use Rattle.capcore.specs.History.{Told, told, Replays, rows_of}
 use Rattle.capcore.specs.Sound.{IsSound}
 use Rattle.capcore.specs.Step.{Step}
 use Rattle.capcore.proofs.Apart.{held-apart}
-use Rattle.capcore.proofs.Promised.{denied-exactly, denies-by_name, issues-exactly}
-use Rattle.capcore.proofs.Growing.{more-told, replays-more, sound-more}
+use Rattle.capcore.proofs.Promised.{denied-exactly, denies-by_name, stopped-unchanged}
+use Rattle.capcore.proofs.Growing.{more-told, replays-more}
 use Rattle.capcore.proofs.step.Core.apply.Goals as goal
 use Rattle.capcore.proofs.step.Core.apply.Goals.{In_ok-push}
 
 pub invariant_of-self-2 : goal.invariant_of-self-2
 invariant_of-self-2 c =
-    let row : Row = record { pass = c.args.pass; nth = c.next_number-nth.result; event = c.args.event; reply = c.copy_of_reply.result; ended = c.new.result } in
-    let step : Step c.self.inside.world row.event row.reply row.ended c.step.new.self = rw (c.copy_of_reply.ensures, c.new.ensures) c.in_ok-reply.ensures.step in
+    let row : Row = record { pass = c.args.pass; nth = c.next_number-nth.result; event = c.args.event; reply = c.in_ok-reply.kept; ended = c.new.result } in
+    let step : Step c.self.inside.world row.event row.reply row.ended c.step.new.self = rw (c.in_ok-reply.ensures.kept, c.new.ensures) c.in_ok-reply.ensures.step in
     let nth : row.nth ≡ rows_of row.pass c.self.inside.rows.items + 1 = c.next_number-nth.ensures ∙ ap (λ rows. rows_of c.args.pass rows + 1) (c.deref.ensures.value ∙ c.reserve.ensures.items) in
     let less : length c.self.inside.rows.items < c.self.inside.max_rows = omega (arith, c.len.ensures, c.if-len-self.false) in
     rw (c.in_ok-push.ensures.items, c.reserve.ensures.items)
     (more-told (told c.self.inside.world c.self.inside.rows.items c.self.inside.max_rows) row c.step.new.self c.self.invariant step nth less
-    (c.in_ok-reply.ensures.sound (length c.self.inside.rows.items) c.self.invariant.sound))
+    c.in_ok-reply.ensures.sound (c.in_ok-reply.ensures.given (length c.self.inside.rows.items) c.self.invariant.given))
 
 pub returns-clause-denied : goal.returns-clause-denied
 returns-clause-denied c =
     subst (λ (t : Told). DeniedExactly t.state.scene c.args.event c.in_ok-reply.reply) c.self.view_is
-    (denied-exactly c.self.inside.world c.args.event c.in_ok-reply.reply c.step.new.self c.in_ok-reply.ensures.direct)
+    (denied-exactly c.self.inside.world c.args.event c.in_ok-reply.reply [] c.step.new.self c.in_ok-reply.ensures.step)
 
 pub returns-clause-named : goal.returns-clause-named
 returns-clause-named c =
     subst (λ (t : Told). DeniesByName t.state.scene c.args.event c.in_ok-reply.reply) c.self.view_is
-    (denies-by_name c.self.inside.world c.args.event c.in_ok-reply.reply c.step.new.self c.in_ok-reply.ensures.direct)
-
--- the world is sound behind one row more
-next : (c : In_ok-push) → IsSound (length c.self.inside.rows.items + 1) c.step.new.self
-next c = c.in_ok-reply.ensures.sound (length c.self.inside.rows.items) c.self.invariant.sound
+    (denies-by_name c.self.inside.world c.args.event c.in_ok-reply.reply [] c.step.new.self c.in_ok-reply.ensures.step)
 
 pub returns-clause-issued : goal.returns-clause-issued
 returns-clause-issued c =
-    subst (λ (t : Told). IssuesExactly (direct t.state c.args.event).state.scene c.step.new.self.scene) c.self.view_is
-    (issues-exactly (length c.self.inside.rows.items + 1) c.self.inside.world c.args.event c.in_ok-reply.reply c.step.new.self c.in_ok-reply.ensures.direct (next c))
+    subst (λ (t : Told). IssuesExactly (direct t.state c.args.event).state.scene c.step.new.self.scene) c.self.view_is c.in_ok-reply.ensures.issued
+
+-- the world is sound after the step
+next : (c : In_ok-push) → IsSound c.step.new.self
+next c = c.in_ok-reply.ensures.sound
 
 pub returns-clause-in_place : goal.returns-clause-in_place
 returns-clause-in_place c = let sound = next c in sound.in_place
 
 pub returns-clause-apart : goal.returns-clause-apart
-returns-clause-apart c = held-apart (length c.self.inside.rows.items + 1) c.step.new.self (next c)
+returns-clause-apart c = held-apart c.step.new.self (next c)
 
 pub returns-clause-sound : goal.returns-clause-sound
-returns-clause-sound c =
-    let row : Row = record { pass = c.args.pass; nth = c.next_number-nth.result; event = c.args.event; reply = c.copy_of_reply.result; ended = c.new.result } in
-    rw (c.in_ok-push.ensures.items, c.reserve.ensures.items) (sound-more c.self.inside.rows.items row c.step.new.self (next c))
+returns-clause-sound c = next c
 
 pub returns-clause-at_rest : goal.returns-clause-at_rest
 returns-clause-at_rest c = let sound = next c in sound.at_rest
 
 pub returns-clause-legal : goal.returns-clause-legal
 returns-clause-legal c =
-    let row : Row = record { pass = c.args.pass; nth = c.next_number-nth.result; event = c.args.event; reply = c.copy_of_reply.result; ended = c.new.result } in
-    let step : Step c.self.inside.world row.event row.reply row.ended c.step.new.self = rw (c.copy_of_reply.ensures, c.new.ensures) c.in_ok-reply.ensures.step in
+    let row : Row = record { pass = c.args.pass; nth = c.next_number-nth.result; event = c.args.event; reply = c.in_ok-reply.kept; ended = c.new.result } in
+    let step : Step c.self.inside.world row.event row.reply row.ended c.step.new.self = rw (c.in_ok-reply.ensures.kept, c.new.ensures) c.in_ok-reply.ensures.step in
     subst (λ (t : Told). (first : State) → Replays first t.rows t.state → Replays first c.push.new.self.items c.step.new.self) c.self.view_is
     (λ first past. rw (c.in_ok-push.ensures.items, c.reserve.ensures.items) (replays-more first c.self.inside.rows.items c.self.inside.world row c.step.new.self past step))

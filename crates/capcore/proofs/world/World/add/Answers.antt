@@ -19,14 +19,14 @@ pub invariant_of-self-in-Ok : goal.invariant_of-self-in-Ok
 invariant_of-self-in-Ok c =
     let sound = c.self.invariant.0 in
     rw (c.in-Ok.ensures.ok, c.in_ok-add_ino.ensures.ok, c.last.ensures.last)
-    ((sound.0, birth-sound sound.1 c.args.kind c.args.dir.0 c.args.name.now c.args.attr c.last.ensures.sound), c.self.invariant.1)
+    (birth-sound sound c.args.kind c.args.dir.0 c.args.name.now c.args.attr c.last.ensures.sound, c.self.invariant.1, c.self.invariant.2, c.self.invariant.3)
 
 pub invariant_of-self-in-Err : goal.invariant_of-self-in-Err
 invariant_of-self-in-Err c =
-    let undone = added-dropped c.self.inside.locks (c.self.inside.tree.last + 1) (not_given c.self.invariant.0.1 c.last.ensures.sound) in
+    let undone = added-dropped c.self.inside.locks (c.self.inside.tree.last + 1) (not_given c.self.invariant.0 c.last.ensures.sound) in
     rw (c.in-Err.ensures.err, c.drop_ino.ensures, c.in_ok-add_ino.ensures.ok, c.last.ensures.last, undone) c.self.invariant
 
 pub returns-in-Err-clause-err : goal.returns-in-Err-clause-err
 returns-in-Err-clause-err c =
-    let undone = added-dropped c.self.inside.locks (c.self.inside.tree.last + 1) (not_given c.self.invariant.0.1 c.last.ensures.sound) in
+    let undone = added-dropped c.self.inside.locks (c.self.inside.tree.last + 1) (not_given c.self.invariant.0 c.last.ensures.sound) in
     rw (c.in-Err.ensures.err, c.drop_ino.ensures, c.in_ok-add_ino.ensures.ok, c.last.ensures.last, undone) c.self.view_is

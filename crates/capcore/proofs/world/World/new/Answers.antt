@@ -13,4 +13,4 @@ invariant_of-result c =
     } in
     let opening : IsOpening c.args.fs c.args.tree s = search rules in
     let room : HasRoom c.new-3.result c.in_ok-locks.locks = search rules in
-    ((0, opening-sound c.args.fs c.args.tree s c.requires.strays opening), room)
+    (opening-sound c.args.fs c.args.tree s c.requires.strays opening, room, opening.queue_is, opening.messages_are)

@@ -1,0 +1,96 @@
+-- Events that are about the entries of one inode, and how their steps end.
+use Rattle.std.specs.Prelude.{◌≡◌, ◌≢◌, ◌≤◌, ℕ, Bool, true, false, ◌||◌, Option, Some, None, IsTrue, All, if◌then◌else◌}
+use Rattle.std.specs.FinMap as map
+use Rattle.capbits.specs.declared.cap.Cap.TheVariants.{P}
+use Rattle.capbits.specs.declared.cap.Part.{Part}
+use Rattle.capbits.specs.declared.ids.Ino.{Ino}
+use Rattle.capbits.specs.Caps.{has}
+use Rattle.inotree.specs.Calls.{forgotten}
+use Rattle.sessiontab.specs.Calls.{has_session}
+use Rattle.captable.specs.declared.entry.Entry.{Entry}
+use Rattle.captable.specs.declared.entry.EntryRow.{EntryRow}
+use Rattle.captable.specs.declared.entry.Holder.{Holder}
+use Rattle.captable.specs.Table.{holder}
+use Rattle.captable.specs.Calls.{is_of_inode, entries_on, renumbered}
+use Rattle.captable.specs.Many.{changed_where}
+use Rattle.lockmachine.specs.declared.moves.Move.TheVariants.{Settled}
+use Rattle.lockmachine.specs.Wants.{effective_want}
+use Rattle.lockmachine.specs.Locks.{without_ino}
+use Rattle.lockmachine.specs.Scene.{Scene, told_set}
+use Rattle.lockmachine.specs.Moves.{first_move}
+use Rattle.lockmachine.specs.Runs.{MoveLittle, ChangesLocksOf}
+use Rattle.lockmachine.specs.Rows.{IsInRow}
+use Rattle.capcore.specs.declared.event.Event.{Event}
+use Rattle.capcore.specs.declared.event.Event.TheVariants as event
+use Rattle.capcore.specs.Finish.{issue_row, is_kept}
+use Rattle.capcore.specs.State.{State}
+
+-- whose entry the event is about, where it is about one
+abbrev pub touched_by : Event → Option Holder
+touched_by (event.Session client caller grants) = None
+touched_by (event.Lookup client dir name) = None
+touched_by (event.Create client dir name mode) = None
+touched_by (event.Mkdir client dir name mode) = None
+touched_by (event.MakeSnapshot client ino name) = None
+touched_by (event.RemoveSnapshot client ino name) = None
+touched_by (event.Open client ino mode) = Some (holder client ino)
+touched_by (event.Want client ino caps) = Some (holder client ino)
+touched_by (event.Ack client ino seq) = Some (holder client ino)
+touched_by (event.Release client ino caps) = Some (holder client ino)
+touched_by (event.Poll client max) = None
+
+-- the event asks for messages
+abbrev pub is_poll : Event → Bool
+is_poll (event.Session client caller grants) = false
+is_poll (event.Lookup client dir name) = false
+is_poll (event.Create client dir name mode) = false
+is_poll (event.Mkdir client dir name mode) = false
+is_poll (event.MakeSnapshot client ino name) = false
+is_poll (event.RemoveSnapshot client ino name) = false
+is_poll (event.Open client ino mode) = false
+is_poll (event.Want client ino caps) = false
+is_poll (event.Ack client ino seq) = false
+is_poll (event.Release client ino caps) = false
+is_poll (event.Poll client max) = true
+
+-- ---- what they leave
+
+-- an entry on the inode, as the event leaves it: what every state keeps of one, but that what is due is held; and the pin, if it
+-- is not held, is due
+pub record IsTouchedEntry (s : Scene) (row : EntryRow) : Type 0 where
+  pub of_session : IsTrue (has_session s.sessions row.holder.client.0)
+  pub on_inode : IsTrue (map.contains_key s.tree.nodes row.holder.ino.0)
+  pub wants_pin : IsTrue (has row.entry.want P)
+  pub pin : IsTrue (has row.entry.held P || has (effective_want s.fs s.tree s.sessions row) P)
+  pub in_row : (part : Part) → IsInRow s row part
+  pub told : row.entry.told_seq ≤ row.entry.seq
+  pub revoked : row.entry.revoke_seq ≤ row.entry.seq
+
+-- the scene differs from that of the old state in the entries on this inode alone
+pub record Touches (ino : ℕ) (old : State) (first : Scene) : Type 0 where
+  pub is : first ≡ record old.scene { table = first.table }
+  pub others : (other : Ino) → other.0 ≢ ino → entries_on first.table other ≡ entries_on old.scene.table other
+  pub each : All (IsTouchedEntry first) (entries_on first.table (record { 0 = ino }))
+
+-- ---- how their steps end
+
+-- the locks of this inode have settled
+pub record SettlesAt (ino : ℕ) (first settled : Scene) : Type 0 where
+  pub is : settled ≡ record first { locks = settled.locks }
+  pub moves : MoveLittle first settled
+  pub rests : first_move settled ≡ Settled
+  pub elsewhere : ChangesLocksOf ino first.locks settled.locks
+
+-- the entry at the end: it gains what is due, and has a new number if its client is to know of another set than before
+abbrev pub finished_entry : Scene → Scene → EntryRow → Entry
+finished_entry old settled row =
+    renumbered (told_set old row) (told_set settled (issue_row settled row)) (issue_row settled row).entry
+
+-- the inode goes with its locks, if it is a stray that nobody has an entry on
+abbrev pub forget_at : ℕ → Scene → Scene
+forget_at ino s = if is_kept s ino then s else record s { tree = forgotten s.tree ino; locks = without_ino s.locks ino }
+
+-- the end of the step, at this inode alone
+abbrev pub finished_at : ℕ → Scene → Scene → Scene
+finished_at ino old settled =
+    forget_at ino (record settled { table = changed_where (is_of_inode (record { 0 = ino })) (finished_entry old settled) settled.table })
