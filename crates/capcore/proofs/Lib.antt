@@ -16,3 +16,4 @@ pub mod Undone
 pub mod Steps
 pub mod Untouched
 pub mod Verdicts
+pub mod TouchStep

@@ -14,6 +14,7 @@ mod start;
 mod step;
 mod stopped;
 mod touch;
+mod touch_laws;
 mod world;
 
 pub use capbits::Refusal;
@@ -29,3 +30,4 @@ pub use outcome::{Ended, Message, MessageList, Outcome, PartValues};
 pub use reply::Reply;
 pub use step::Core;
 pub use stopped::Stopped;
+pub use touch_laws::an_event_of_one_entry_is_a_step;
