@@ -1,5 +1,6 @@
 pub mod Apart
 pub mod Effects
+pub mod OneInode
 pub mod Finishing
 pub mod FirstLocks
 pub mod Fresh
