@@ -1,6 +1,5 @@
 pub mod Apart
 pub mod Effects
-pub mod OneInode
 pub mod Finishing
 pub mod FirstLocks
 pub mod Fresh
@@ -8,6 +7,7 @@ pub mod Growing
 pub mod Judging
 pub mod Leaving
 pub mod Numbered
+pub mod OneInode
 pub mod Promised
 pub mod Said
 pub mod Servings

@@ -95,7 +95,7 @@ any_elsewhere ino old new others other off =
     sym (any-filter on new.rows) ∙ ap (list_any on) (others (record { 0 = other }) off) ∙ any-filter on old.rows
 
 -- a row fails the test of an inode, so it is on another
-off_inode : (row : EntryRow) (ino : ℕ) → is_of_inode (record { 0 = ino }) row ≡ false → row.holder.ino.0 ≢ ino
+pub off_inode : (row : EntryRow) (ino : ℕ) → is_of_inode (record { 0 = ino }) row ≡ false → row.holder.ino.0 ≢ ino
 off_inode row ino e = λ is. true≢false (sym (eq-eqb row.holder.ino.0 ino is) ∙ e)
 
 -- ---- strays
@@ -160,15 +160,15 @@ module _ (ino : ℕ) (old : State) (table : Table) (locks : LockMap) (sound : Is
   last = forget (issue now)
 
   -- a row as it is at the end, and all of them
-  abbrev ended : EntryRow → EntryRow
+  abbrev pub ended : EntryRow → EntryRow
   ended row = cond (is_of_inode (record { 0 = ino }) row) (remade (finished_entry old.scene now) row) row
 
-  abbrev numbered : Scene
+  abbrev pub numbered : Scene
   numbered = record now { table = record table { rows = map ended table.rows } }
 
   -- ---- elsewhere nothing happens
 
-  off_due : (row : EntryRow) → row.holder.ino.0 ≢ ino → due now row ≡ due old.scene row
+  pub off_due : (row : EntryRow) → row.holder.ino.0 ≢ ino → due now row ≡ due old.scene row
   off_due row off = λ i.
       meet (effective_want old.scene.fs old.scene.tree old.scene.sessions row)
       (union (caps_in (P ∷ []))
@@ -176,19 +176,19 @@ module _ (ino : ℕ) (old : State) (table : Table) (locks : LockMap) (sound : Is
       (union (allowed_by L row (elsewhere row.holder.ino.0 L off i))
       (union (allowed_by X row (elsewhere row.holder.ino.0 X off i)) (allowed_by F row (elsewhere row.holder.ino.0 F off i))))))
 
-  off_told : (row : EntryRow) → row.holder.ino.0 ≢ ino → told_set now row ≡ told_set old.scene row
+  pub off_told : (row : EntryRow) → row.holder.ino.0 ≢ ino → told_set now row ≡ told_set old.scene row
   off_told row off = λ i.
       minus row.entry.held
       (union (against_lock A row (elsewhere row.holder.ino.0 A off i))
       (union (against_lock L row (elsewhere row.holder.ino.0 L off i))
       (union (against_lock X row (elsewhere row.holder.ino.0 X off i)) (against_lock F row (elsewhere row.holder.ino.0 F off i)))))
 
-  off_held : (row : EntryRow) → Contains table.rows row → row.holder.ino.0 ≢ ino → IsSubset (due now row) row.entry.held
+  pub off_held : (row : EntryRow) → Contains table.rows row → row.holder.ino.0 ≢ ino → IsSubset (due now row) row.entry.held
   off_held row inside off =
       let was = All-contains (IsSoundEntry old.scene) old.scene.table.rows row sound.entries (row_elsewhere ino old.scene.table table others row inside off) in
       subst (λ caps. IsSubset caps row.entry.held) (sym (off_due row off)) was.has_due
 
-  off_same : (row : EntryRow) → Contains table.rows row → row.holder.ino.0 ≢ ino → remade (finished_entry old.scene now) row ≡ row
+  pub off_same : (row : EntryRow) → Contains table.rows row → row.holder.ino.0 ≢ ino → remade (finished_entry old.scene now) row ≡ row
   off_same row inside off =
       ap (λ (r : EntryRow). record row { entry = renumbered (told_set old.scene row) (told_set now r) r.entry }) (same-issue_row now row (off_held row inside off))
       ∙ ap (λ (e : Entry). record row { entry = e }) (same-renumbered (told_set old.scene row) (told_set now row) row.entry (sym (off_told row off)))
@@ -205,7 +205,7 @@ module _ (ino : ℕ) (old : State) (table : Table) (locks : LockMap) (sound : Is
       (any-map (is_of_inode row.holder.ino) (issue_row now) (λ row. refl) table.rows
       ∙ any-contains (is_of_inode row.holder.ino) table.rows row inside (eq-eqb row.holder.ino.0 row.holder.ino.0 refl))
 
-  holder_ended : (row : EntryRow) → (ended row).holder ≡ row.holder
+  pub holder_ended : (row : EntryRow) → (ended row).holder ≡ row.holder
   holder_ended row =
       elim (is_of_inode (record { 0 = ino }) row) as (λ b. (cond b (remade (finished_entry old.scene now) row) row).holder ≡ row.holder) [ true ↦ refl | false ↦ refl ]
 
@@ -264,7 +264,7 @@ module _ (ino : ℕ) (old : State) (table : Table) (locks : LockMap) (sound : Is
 
   module _ (tree : IsTree old.scene.tree) where
     -- the inode that is forgotten has no entry, and none elsewhere reads it
-    due_last : (row : EntryRow) → Contains table.rows row → due (finished_at ino old.scene now) row ≡ due now row
+    pub due_last : (row : EntryRow) → Contains table.rows row → due (finished_at ino old.scene now) row ≡ due now row
     due_last row inside = elim (is_kept numbered ino) as (λ b. is_kept numbered ino ≡ b
         → due (cond b numbered (record numbered { tree = forgotten old.scene.tree ino; locks = without_ino locks ino })) row ≡ due now row) [
           | true ↦ λ e. refl
@@ -276,12 +276,12 @@ module _ (ino : ℕ) (old : State) (table : Table) (locks : LockMap) (sound : Is
               λ i. meet (want i) (allowed_with row (states i)))
         ] refl
 
-    rows_last : (finished_at ino old.scene now).table ≡ numbered.table
+    pub rows_last : (finished_at ino old.scene now).table ≡ numbered.table
     rows_last =
         elim (is_kept numbered ino) as (λ b. (cond b numbered (record numbered { tree = forgotten old.scene.tree ino; locks = without_ino locks ino })).table ≡ numbered.table)
         [ true ↦ refl | false ↦ refl ]
 
-    held_last : (row : EntryRow) (cap : Cap) → Contains table.rows row → has (ended row).entry.held cap ≡ (has row.entry.held cap || has (due (finished_at ino old.scene now) (ended row)) cap)
+    pub held_last : (row : EntryRow) (cap : Cap) → Contains table.rows row → has (ended row).entry.held cap ≡ (has row.entry.held cap || has (due (finished_at ino old.scene now) (ended row)) cap)
     held_last row cap inside = elim (is_of_inode (record { 0 = ino }) row) as (λ b. is_of_inode (record { 0 = ino }) row ≡ b
         → has (cond b (remade (finished_entry old.scene now) row) row).entry.held cap
         ≡ (has row.entry.held cap || has (due (finished_at ino old.scene now) (cond b (remade (finished_entry old.scene now) row) row)) cap)) [
@@ -305,7 +305,7 @@ module _ (ino : ℕ) (old : State) (table : Table) (locks : LockMap) (sound : Is
     by_row cap k None e = refl
     by_row cap k (Some row) e = held_last row cap (found-contains (is_row_of k) table.rows row e)
 
-    found_last : (k : Holder) → find (is_row_of k) (finished_at ino old.scene now).table.rows ≡ option_map ended (find (is_row_of k) table.rows)
+    pub found_last : (k : Holder) → find (is_row_of k) (finished_at ino old.scene now).table.rows ≡ option_map ended (find (is_row_of k) table.rows)
     found_last k = ap (λ (t : Table). find (is_row_of k) t.rows) rows_last ∙ find-map (is_row_of k) ended (λ row. ap (same k) (holder_ended row)) table.rows
 
     pub issues_there : IssuesExactly first (finished_at ino old.scene now)
