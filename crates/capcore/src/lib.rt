@@ -4,6 +4,7 @@
 #![tactic(auto)]
 
 mod copies;
+mod ending;
 mod event;
 mod history;
 mod laws;
@@ -18,6 +19,7 @@ mod touch_laws;
 mod world;
 
 pub use capbits::Refusal;
+pub use ending::what_touches_one_inode_ends_there;
 pub use event::{Event, OpenMode};
 pub use history::{EndedList, Row, Stop};
 pub use laws::{
