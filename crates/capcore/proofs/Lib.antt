@@ -7,12 +7,15 @@ pub mod Growing
 pub mod Judging
 pub mod Leaving
 pub mod Numbered
+pub mod Openings
 pub mod Promised
+pub mod Revoking
 pub mod Said
 pub mod Servings
 pub mod Sounding
 pub mod Stopping
 pub mod Undone
 pub mod Steps
+pub mod Touched
 pub mod Untouched
 pub mod Verdicts

@@ -10,10 +10,12 @@ mod laws;
 mod messages;
 mod outcome;
 mod reply;
+mod revoked;
 mod start;
 mod step;
 mod stopped;
 mod touch;
+mod touching;
 mod world;
 
 pub use capbits::Refusal;
@@ -29,3 +31,4 @@ pub use outcome::{Ended, Message, MessageList, Outcome, PartValues};
 pub use reply::Reply;
 pub use step::Core;
 pub use stopped::Stopped;
+pub use touching::events_of_one_entry_touch_its_inode;
