@@ -8,13 +8,16 @@ pub mod Judging
 pub mod Leaving
 pub mod Numbered
 pub mod OneInode
+pub mod Openings
 pub mod Promised
+pub mod Revoking
 pub mod Said
 pub mod Servings
 pub mod Sounding
 pub mod Stopping
 pub mod Undone
 pub mod Steps
+pub mod Touched
 pub mod Untouched
 pub mod Verdicts
 pub mod TouchStep

@@ -11,11 +11,13 @@ mod laws;
 mod messages;
 mod outcome;
 mod reply;
+mod revoked;
 mod start;
 mod step;
 mod stopped;
 mod touch;
 mod touch_laws;
+mod touching;
 mod world;
 
 pub use capbits::Refusal;
@@ -33,3 +35,4 @@ pub use reply::Reply;
 pub use step::Core;
 pub use stopped::Stopped;
 pub use touch_laws::an_event_of_one_entry_is_a_step;
+pub use touching::events_of_one_entry_touch_its_inode;

@@ -1,7 +1,14 @@
-//! What an event asks of one entry.
+//! What an event asks of one entry, and what of the entry that changes.
+ghost use Rattle.std.specs.Prelude.{◌≡◌, ◌<◌, ◌^◌, ◌-◌, None, OnOk, OnErr};
+ghost use Rattle.capbits.specs.Refusal.{first_failing};
+ghost use Rattle.capcore.specs.Judge.{room_for};
+ghost use Rattle.capcore.specs.Direct as effects;
+ghost use Rattle.capcore.specs.Touch as words;
 
 use crate::event::OpenMode;
-use capbits::CapSet;
+use capbits::{Cap, CapSet};
+use captable::{CapTable, Holder};
+use std::alloc::AllocError;
 
 // What is asked of a client's entry on an inode.
 #[derive(Clone, Copy, Debug)]
@@ -14,4 +21,71 @@ pub(crate) enum Touch {
     Ack(u64),
     // It gives these back.
     Release(CapSet),
+}
+
+// Does to the holder's entry what is asked, where what is being revoked of it is this. An opening alone takes memory: for
+// want of it nothing changes.
+pub(crate) fn touch_entry(
+    table: &mut CapTable,
+    holder: Holder,
+    revoked: CapSet,
+    touch: Touch,
+) -> Result<(), AllocError>
+    requires made { table.old.made < 2 ^ 64 - 1 }
+    requires passed { first_failing (words.touch_tests table.old holder revoked touch) ≡ None }
+    ensures ok { OnOk result (table.new ≡ words.touched_table table.old holder revoked touch) }
+    ensures err { OnErr result (table.new ≡ table.old) }
+{
+    match touch {
+        Touch::Open(mode) => open(table, holder, mode)?,
+        Touch::Want(caps) => want(table, holder, caps.union(CapSet::of(&[Cap::P]))),
+        Touch::Ack(seq) => table.ack(holder.client, holder.ino, seq, revoked),
+        Touch::Release(caps) => table.release(holder.client, holder.ino, caps),
+    }
+    Ok(())
+}
+
+// The holder has an entry, made where there is none, which wants what the opening takes too.
+fn open(table: &mut CapTable, holder: Holder, mode: OpenMode) -> Result<(), AllocError>
+    requires made { table.old.made < 2 ^ 64 - 1 }
+    requires passed { first_failing (room_for table.old holder) ≡ None }
+    ensures ok { OnOk result (table.new ≡ effects.with_opening table.old holder mode) }
+    ensures err { OnErr result (table.new ≡ table.old) }
+{
+    let wanted = match table.find(holder.client, holder.ino) {
+        Some(entry) => entry.want,
+        None => {
+            table.open_entry(holder.client, holder.ino)?;
+            CapSet::empty()
+        }
+    };
+    want(table, holder, wanted.union(opening_wants(mode)));
+    Ok(())
+}
+
+// The holder's entry wants these, and comes last in the order of recall.
+fn want(table: &mut CapTable, holder: Holder, caps: CapSet)
+    ensures { table.new ≡ effects.with_want table.old holder (λ _. caps) }
+{
+    table.set_want(holder.client, holder.ino, caps);
+    table.touch(holder.client, holder.ino);
+}
+
+// What a client that opens an inode wants of it.
+fn opening_wants(mode: OpenMode) -> CapSet
+    ensures { result ≡ effects.opening_wants mode }
+{
+    match mode {
+        OpenMode::Read => CapSet::of(&[Cap::P, Cap::Fs, Cap::Fc, Cap::Fr]),
+        OpenMode::Write => CapSet::of(&[Cap::P, Cap::Fx, Cap::Fw, Cap::Fb]),
+        OpenMode::ReadWrite => CapSet::of(&[
+            Cap::P,
+            Cap::Fs,
+            Cap::Fx,
+            Cap::Fc,
+            Cap::Fr,
+            Cap::Fw,
+            Cap::Fb,
+        ]),
+    }
 }

@@ -11,7 +11,10 @@ ghost use Rattle.captable.specs.Table.{IsTable, holder, entry_at};
 ghost use Rattle.lockmachine.specs.Locks.{lock_at};
 ghost use Rattle.sessiontab.specs.Calls.{status_of};
 ghost use Rattle.lockmachine.specs.Policy.{failures};
-ghost use Rattle.capcore.specs.Judge.{judged, stop, need, is_met, asked_tests};
+ghost use Rattle.capcore.specs.Judge.{judged, stop, need, is_met, before, asked_tests, connected_tests, opening_needs, opening_tests, room_for};
+ghost use Rattle.capcore.specs.declared.stopped.Stopped.TheVariants as stopped_kind;
+ghost use Rattle.captable.specs.Tests.{entry_test};
+ghost use Rattle.std.specs.Option.{option_map};
 ghost use Rattle.std.specs.FinMap as map;
 ghost use Rattle.capgrant.specs.declared.answer.Verdict.TheVariants as verdict_kind;
 ghost use Rattle.capcore.specs.Direct.{Says, IsDirect, direct, has_list, made_event, owned_by, with_birth};
@@ -22,15 +25,16 @@ ghost use Rattle.capbits.specs.Refusal.{first_failing};
 ghost use Rattle.capcore.specs.declared.event.Event.TheVariants as event;
 
 use crate::copies::{copy_of_caller, copy_of_reply};
-use crate::event::Event;
+use crate::event::{Event, OpenMode};
 use crate::history::Stop;
 use crate::messages::Messages;
 use crate::reply::{Reply, Said};
+use crate::revoked::revoked_of;
 use crate::start::first_locks;
 use crate::stopped::Stopped;
 use crate::touch::Touch;
 use arrayvec::ArrayVec;
-use capbits::{Caller, ClientId, Ino, Mode, Part, Refusal};
+use capbits::{Caller, CapSet, ClientId, Ino, Mode, Part, Refusal};
 use capgrant::{Access, Attr, Rules, Verdict, verdict};
 use capspec::{FsName, Grants};
 use captable::{CapTable, Entry, Holder};
@@ -58,8 +62,8 @@ impl Model for World {
     ghost use Rattle.capcore.specs.State.{State};
     ghost use Rattle.capcore.specs.Codes.{state_code};
     ghost use Rattle.capcore.specs.Sound.{IsSound, AreGiven, NumbersLeft};
-ghost use Rattle.capcore.specs.Touch.{touch_event};
-ghost use Rattle.capcore.specs.Touching.{touched_by, is_poll};
+    ghost use Rattle.capcore.specs.Touch.{touch_event};
+    ghost use Rattle.capcore.specs.Touching.{touched_by, is_poll};
     ghost use Rattle.capcore.specs.Untold.{HasRoom};
 
     ghost Value = { State };
@@ -186,7 +190,7 @@ impl World {
         ensures err { OnErr result (self.new ≡ self.old) }
         ensures memory { IfErr result (λ stop. stop ≡ Stop.NoMemory) }
     {
-        let _ = (client, ino, touch);
+        let _stopped = self.touch_stop(Holder { client, ino }, touch);
         Err(Stop::NoMemory)
     }
 
@@ -387,6 +391,116 @@ impl World {
         self.locks.state(ino, part)
     }
 
+    // ---- what stops an event of one entry
+
+    // What stops what is asked of an entry.
+    fn touch_stop(&self, holder: Holder, touch: Touch) -> Option<Stopped>
+        ensures { result ≡ judged self.now.scene (touch_event holder.client holder.ino touch) }
+    {
+        let (client, ino) = (holder.client, holder.ino);
+        match touch {
+            Touch::Open(mode) => self.open_stop(client, ino, mode),
+            Touch::Want(_) => by_test(self.want_stop(client, ino)),
+            Touch::Ack(seq) => by_test(self.ack_stop(client, ino, seq)),
+            Touch::Release(caps) => by_test(self.release_stop(client, ino, caps)),
+        }
+    }
+
+    // What stops an opening.
+    fn open_stop(&self, client: ClientId, ino: Ino, mode: OpenMode) -> Option<Stopped>
+        ensures { result ≡ judged self.now.scene (event.Open client ino mode) }
+    {
+        if let Some(refusal) = self.inode_stop(client, ino) {
+            return Some(Stopped::ByTest(refusal));
+        }
+        if let Some(denied) = self.opening_denial(Holder { client, ino }, mode) {
+            return Some(denied);
+        }
+        by_test(self.opening_refusal(client, ino, mode))
+    }
+
+    // The denial of the first access that an opening needs and no grant of the client allows.
+    fn opening_denial(&self, holder: Holder, mode: OpenMode) -> Option<Stopped>
+        ensures { result ≡ stop self.now.scene [] (opening_needs holder.client holder.ino.0 mode) [] }
+    {
+        let (client, inode) = (holder.client, holder.ino);
+        match mode {
+            OpenMode::Read => self.denial(client, inode, Access::Read),
+            OpenMode::Write => self.denial(client, inode, Access::Write),
+            OpenMode::ReadWrite => match self.denial(client, inode, Access::Read) {
+                Some(denied) => Some(denied),
+                None => self.denial(client, inode, Access::Write),
+            },
+        }
+    }
+
+    // The first test of an opening behind policy that fails.
+    fn opening_refusal(&self, client: ClientId, ino: Ino, mode: OpenMode) -> Option<Refusal>
+        ensures { result ≡ first_failing (opening_tests self.now.scene (holder client ino) mode) }
+    {
+        let refusal = match mode {
+            OpenMode::Read => None,
+            OpenMode::Write | OpenMode::ReadWrite => self.tree.file_refusal(ino),
+        };
+        match refusal {
+            Some(refusal) => Some(refusal),
+            None => self.room_refusal(client, ino),
+        }
+    }
+
+    // Why the client's entry on the inode can't be made, where it is to be made.
+    fn room_refusal(&self, client: ClientId, ino: Ino) -> Option<Refusal>
+        ensures { result ≡ first_failing (room_for self.now.scene.table (holder client ino)) }
+    {
+        match self.table.find(client, ino) {
+            Some(_entry) => None,
+            None => self.table.open_refusal(),
+        }
+    }
+
+    // The first test of one that wants something that fails.
+    fn want_stop(&self, client: ClientId, ino: Ino) -> Option<Refusal>
+        ensures { result ≡ first_failing (asked_tests self.now.scene client ino.0 ++ entry_test self.now.scene.table (holder client ino) ∷ []) }
+    {
+        match self.inode_stop(client, ino) {
+            Some(refusal) => Some(refusal),
+            None => self.table.entry_refusal(client, ino),
+        }
+    }
+
+    // The first test of an acknowledgement that fails.
+    fn ack_stop(&self, client: ClientId, ino: Ino, seq: u64) -> Option<Refusal>
+        ensures { result ≡ first_failing (before self.now.scene (event.Ack client ino seq)) }
+    {
+        match self.connected_stop(client, ino) {
+            Some(refusal) => Some(refusal),
+            None => {
+                let revoked = revoked_of(&self.table, &self.locks, Holder { client, ino });
+                self.table.ack_refusal(client, ino, seq, revoked)
+            }
+        }
+    }
+
+    // The first test of a release that fails.
+    fn release_stop(&self, client: ClientId, ino: Ino, caps: CapSet) -> Option<Refusal>
+        ensures { result ≡ first_failing (before self.now.scene (event.Release client ino caps)) }
+    {
+        match self.connected_stop(client, ino) {
+            Some(refusal) => Some(refusal),
+            None => self.table.release_refusal(client, ino, caps),
+        }
+    }
+
+    // The first test of the client, which may be stale, and of the inode, which may be a stray, that fails.
+    fn connected_stop(&self, client: ClientId, ino: Ino) -> Option<Refusal>
+        ensures { result ≡ first_failing (connected_tests self.now.scene client ino.0) }
+    {
+        match self.sessions.connected_refusal(client) {
+            Some(refusal) => Some(refusal),
+            None => self.tree.known_refusal(ino),
+        }
+    }
+
     // ---- what stops a request
 
     // What stops a request that needs one access to an inode that it names, before any other test.
@@ -469,6 +583,16 @@ impl World {
                 mode,
             },
         }
+    }
+}
+
+// What a test stops.
+fn by_test(refusal: Option<Refusal>) -> Option<Stopped>
+    ensures { result ≡ option_map stopped_kind.ByTest refusal }
+{
+    match refusal {
+        Some(refusal) => Some(Stopped::ByTest(refusal)),
+        None => None,
     }
 }
 
