@@ -1,5 +1,5 @@
 -- A state that is sound but for a stray is sound once that stray is forgotten.
-use Rattle.std.proofs.Common.{◌≡◌, ◌≢◌, ℕ, zero, suc, ◌==◌, Bool, true, false, not, cond, ◌||◌, Option, Some, None, is_some, List, [], ◌∷◌, refl, sym, ap, subst, ◌∙◌, Contains, arith, true≢false, ◌⊎◌, inl, inr}
+use Rattle.std.proofs.Common.{◌≡◌, ◌≢◌, ℕ, zero, suc, ◌==◌, Bool, true, false, not, cond, ◌||◌, Option, Some, None, is_some, List, [], ◌∷◌, refl, sym, ap, subst, ◌∙◌, Contains, arith, true≢false, inl, inr}
 use Rattle.std.specs.Prelude.{IsTrue, All}
 use Rattle.std.specs.List.{list_any}
 use Rattle.std.specs.Option.{option_map}
@@ -23,7 +23,7 @@ use Rattle.locktable.specs.declared.states.LockState.TheVariants.{Stable, Gather
 use Rattle.captable.specs.declared.entry.EntryRow.{EntryRow}
 use Rattle.captable.specs.Table.{is_row_of}
 use Rattle.captable.specs.Calls.{is_of_inode}
-use Rattle.lockmachine.specs.Inodes.{StateMap, lock_in}
+use Rattle.lockmachine.specs.Inodes.{lock_in}
 use Rattle.lockmachine.specs.Locks.{LockMap, lock_at, without_ino}
 use Rattle.lockmachine.specs.Requests.{first_for}
 use Rattle.lockmachine.specs.Wants.{Want, effective_want, in_all}
@@ -53,7 +53,7 @@ same-due s t row want locks = λ i. meet (want i) (allowed_under row (λ part. l
 
 -- ---- states that are sound but for a stray
 
--- where a row fails, none passes
+-- where none passes, each row fails
 none_passes : (p : EntryRow → Bool) (rows : List EntryRow) (row : EntryRow) → list_any p rows ≡ false → Contains rows row → p row ≡ false
 none_passes p [] row none (k, room, is) = absurd (omega arith)
 none_passes p (x ∷ xs) row none (zero, room, is) =
@@ -69,7 +69,7 @@ none_passes p (x ∷ xs) row none (suc k, room, is) = none_passes p xs row (late
     later false e = e
     later true e = absurd (true≢false e)
 
--- what each row that is found has, all have
+-- what each row of the list has, all have
 pub all_rows : (Q : EntryRow → Type 0) (rows : List EntryRow) → ((row : EntryRow) → Contains rows row → Q row) → All Q rows
 all_rows Q rows each = All-weaker (Contains rows) Q each rows (All-contains_itself rows)
 
@@ -163,18 +163,19 @@ module _ (ino : ℕ) (s : State) (sound : IsSoundBut ino s) where
 
     quiet_left : (q : ℕ) (part : Part) (o : Option LockState) → IsQuiet s.scene q part o → IsQuiet left q part o
     quiet_left q part None quiet = quiet
-    quiet_left q part (Some (Stable state)) quiet =
-        (
-          ap (λ (ws : List Want). target_by s.scene.locks.queue (in_all ws) q part state) (wants-kept s.scene nodes_left s.scene.sessions q (all_rows _ s.scene.table.rows want_left)) ∙ quiet.0,
-          quiet.1,
-        )
+    quiet_left q part (Some (Stable state)) quiet = (
+      ap (λ (ws : List Want). target_by s.scene.locks.queue (in_all ws) q part state) (wants-kept s.scene nodes_left s.scene.sessions q (all_rows _ s.scene.table.rows want_left)) ∙ quiet.0,
+      quiet.1,
+    )
     quiet_left q part (Some (Gather from to)) quiet = quiet
 
     rest_left : IsAtRest left
-    rest_left = record { each = λ q part. elim (same_or_other nat_cmp_total map.nat_cmp-IsAntisymmetric q ino) as (λ _. IsQuiet left q part (lock_at locks_left q part)) [
-      | inl is ↦ subst (IsQuiet left q part) (sym (no_lock q part is)) (ap (λ queue. first_for queue q part) sound.nobody)
-      | inr off ↦ subst (IsQuiet left q part) (sym (same_lock q part off)) (quiet_left q part (lock_at s.scene.locks q part) (sound.at_rest.each q part))
-    ] }
+    rest_left = record {
+      each = λ q part. elim (same_or_other nat_cmp_total map.nat_cmp-IsAntisymmetric q ino) as (λ _. IsQuiet left q part (lock_at locks_left q part)) [
+        | inl is ↦ subst (IsQuiet left q part) (sym (no_lock q part is)) (ap (λ queue. first_for queue q part) sound.nobody)
+        | inr off ↦ subst (IsQuiet left q part) (sym (same_lock q part off)) (quiet_left q part (lock_at s.scene.locks q part) (sound.at_rest.each q part))
+      ];
+    }
 
     left_but : IsSoundBut ino (with_scene s left)
     left_but = record {
@@ -188,11 +189,6 @@ module _ (ino : ℕ) (s : State) (sound : IsSoundBut ino s) where
     }
 
 -- ---- forgetting
-
-gone_of : (p : Place) → is_gone p ≡ true → p ≡ Gone
-gone_of Gone e = refl
-gone_of NoIno e = absurd (true≢false (sym e))
-gone_of Here e = absurd (true≢false (sym e))
 
 lost : (p : Place) (rest : Bool) → (not (is_gone p) || rest) ≡ false → (p ≡ Gone) × (rest ≡ false)
 lost Gone rest e = (refl, e)

@@ -1,13 +1,13 @@
 -- What the end of a step makes of an entry on the inode: it gains what is due, which its locks allow, and its number may rise.
 use Rattle.std.proofs.Common.{◌≡◌, ◌≤◌, ℕ, ◌+◌, Bool, true, false, not, cond, ◌&&◌, ◌||◌, Option, Some, None, List, [], ◌∷◌, refl, sym, ap, subst, ◌∙◌, true≢false, ◌⊎◌, inl, inr, arith}
-use Rattle.std.specs.Prelude.{if◌then◌else◌, IsTrue}
+use Rattle.std.specs.Prelude.{if◌then◌else◌}
 use Rattle.std.specs.FinMap as map
 use Rattle.capbits.specs.declared.cap.Cap.{Cap}
 use Rattle.capbits.specs.declared.cap.Cap.TheVariants.{P}
 use Rattle.capbits.specs.declared.cap.Part.{Part}
 use Rattle.capbits.specs.declared.cap.Part.TheVariants.{A, L, X, F}
 use Rattle.capbits.specs.Caps.{Caps, has}
-use Rattle.capbits.specs.Sets.{no_caps, caps_in, is_empty, union, meet, minus, of_part, covers, same_caps, and_parts, IsSubset, has-none, has-caps_in, has-union, has-meet, has-minus, has-of_part}
+use Rattle.capbits.specs.Sets.{no_caps, is_empty, union, meet, minus, of_part, covers, same_caps, and_parts, has-none, has-caps_in, has-union, has-meet, has-minus, has-of_part}
 use Rattle.capbits.proofs.Covering.{one_part, same_cap-pin}
 use Rattle.inotree.specs.Tree.{Nodes}
 use Rattle.sessiontab.specs.Table.{SessionTable}
@@ -26,6 +26,7 @@ use Rattle.lockmachine.specs.Scene.{Scene, outside, told_set}
 use Rattle.lockmachine.specs.Rows.{IsInRowOf, IsInRow}
 use Rattle.capcore.specs.Finish.{allowed_by, allowed_part, allowed_to, due, issue_row}
 use Rattle.capcore.specs.Touching.{finished_entry}
+use Rattle.capcore.proofs.Placed.{second_true}
 
 either : (a b : Bool) → (a || b) ≡ true → (a ≡ true) ⊎ (b ≡ true)
 either true b e = inl refl
@@ -34,10 +35,6 @@ either false b e = inr e
 first_true : (a b : Bool) → a ≡ true → (a || b) ≡ true
 first_true true b e = refl
 first_true false b e = absurd (true≢false (sym e))
-
-second_true : (a b : Bool) → b ≡ true → (a || b) ≡ true
-second_true true b e = refl
-second_true false b e = e
 
 both_true : (a b : Bool) → a ≡ true → b ≡ true → (a && b) ≡ true
 both_true true b e f = f

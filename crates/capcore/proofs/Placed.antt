@@ -20,7 +20,7 @@ use Rattle.lockmachine.specs.Scene.{Scene, outside, against_lock, against_part, 
 use Rattle.lockmachine.specs.Rows.{IsInRowOf, IsInRow}
 use Rattle.capcore.specs.Headline.{IsTakenBack, IsInPlace}
 
-second_true : (a b : Bool) → b ≡ true → (a || b) ≡ true
+pub second_true : (a b : Bool) → b ≡ true → (a || b) ≡ true
 second_true true b e = refl
 second_true false b e = e
 
@@ -47,8 +47,7 @@ module _ (s : Scene) (row : EntryRow) (inside : Contains s.table.rows row) (part
   -- what is outside the row of a gather's target is being revoked, and keeps the gather open
   taken_back : (from to : State) → lock_at s.locks row.holder.ino.0 part ≡ Some (Gather from to) → IsTakenBack s row part to
   taken_back from to is c held out =
-      let is_outside : has (outside part to row) c ≡ true = has-minus (of_part part row.entry.held) (row_of part to row.holder.client) c ∙ (λ i. held i && not (out i)) in
-      (
+      let is_outside : has (outside part to row) c ≡ true = has-minus (of_part part row.entry.held) (row_of part to row.holder.client) c ∙ (λ i. held i && not (out i)) in (
         part_in_all s row part c (ap (λ o. has (against_lock part row o) c) is ∙ is_outside),
         any_found (is_of_inode row.holder.ino) (λ r. not (is_empty (outside part to r))) s.table.rows row inside (nat_eq_equiv.refl row.holder.ino.0) (not_empty (is_empty (outside part to row)) refl is_outside),
       )

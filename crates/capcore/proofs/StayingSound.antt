@@ -6,7 +6,7 @@ use Rattle.std.specs.Option.{option_map}
 use Rattle.std.specs.Cmp.{nat_eq_equiv}
 use Rattle.std.specs.FinMap as map
 use Rattle.std.proofs.lemmas.Bool.{eqb-false}
-use Rattle.std.proofs.lemmas.List.Elements.{All-contains, All-contains_itself, All-filter, All-map}
+use Rattle.std.proofs.lemmas.List.Elements.{All-contains, All-contains_itself, All-filter, All-map, All-same, All-weaker}
 use Rattle.std.proofs.lemmas.Map.Views.{any-filter_same}
 use Rattle.capbits.specs.declared.cap.Cap.TheVariants.{P}
 use Rattle.capbits.specs.declared.cap.Part.{Part}
@@ -16,6 +16,7 @@ use Rattle.capbits.specs.Caps.{has}
 use Rattle.capbits.specs.Sets.{meet, IsSubset}
 use Rattle.inotree.specs.declared.node.Place.TheVariants.{Gone}
 use Rattle.inotree.specs.Tree.{IsTree, place}
+use Rattle.inotree.specs.Calls.{forgotten}
 use Rattle.locktable.specs.declared.states.LockState.{LockState}
 use Rattle.locktable.specs.declared.states.LockState.TheVariants.{Stable, Gather}
 use Rattle.captable.specs.declared.entry.EntryRow.{EntryRow}
@@ -25,24 +26,23 @@ use Rattle.captable.specs.Calls.{is_of_inode, entries_on}
 use Rattle.captable.proofs.ByHolder.{row_found}
 use Rattle.captable.proofs.Searches.{find-filter_kept}
 use Rattle.captable.proofs.Tables.{same-is}
-use Rattle.lockmachine.specs.declared.states.InodeLocks.{InodeLocks}
 use Rattle.lockmachine.specs.declared.moves.Move.{Move}
 use Rattle.lockmachine.specs.declared.moves.Move.TheVariants.{Begin, End, Serve, Settled}
 use Rattle.lockmachine.specs.Inodes.{lock_in}
-use Rattle.lockmachine.specs.Locks.{LockMap, lock_at, with_lock}
+use Rattle.lockmachine.specs.Locks.{LockMap, lock_at, with_lock, without_ino}
 use Rattle.lockmachine.specs.Requests.{first_for}
 use Rattle.lockmachine.specs.Scene.{Scene}
 use Rattle.lockmachine.specs.Moves.{LockPlace, present_state, coming_state, first_move, moved, with_moved, IsAtRest}
 use Rattle.lockmachine.specs.Runs.{Runs, MoveLittle, ChangesLocksOf}
-use Rattle.lockmachine.specs.Rows.{IsInRowOf, IsInRow}
+use Rattle.lockmachine.specs.Rows.{IsInRow}
 use Rattle.lockmachine.proofs.InRows.{all_keep}
 use Rattle.lockmachine.proofs.Moving.{with_lock-each}
 use Rattle.lockmachine.proofs.Rest.{at_rest}
 use Rattle.capcore.specs.State.{State}
 use Rattle.capcore.specs.Direct.{with_scene}
-use Rattle.capcore.specs.Finish.{due, allowed_to}
+use Rattle.capcore.specs.Finish.{due, allowed_to, is_kept}
 use Rattle.capcore.specs.Sound.{IsSoundEntry, IsSound, AreGiven}
-use Rattle.capcore.specs.Touching.{IsTouchedEntry, Touches, SettlesAt, forget_at, finished_at}
+use Rattle.capcore.specs.Touching.{IsTouchedEntry, Touches, SettlesAt, finished_at}
 use Rattle.capcore.proofs.IssuedRows.{ended_row, want-ended, told-ended, revoked-ended, seq-ended, effective-ended, holds-due, holds-pin, in_row-ended}
 use Rattle.capcore.proofs.IssuedRest.{on_it, last_row, issued_at, by_place, of_inode-last, rest-issued}
 use Rattle.capcore.proofs.Placed.{in_row}
@@ -186,7 +186,7 @@ module _ (ino : ℕ) (old : State) (table : Table) (locks : LockMap) where
       holds_pin = holds-pin old.scene settled row entry.pin;
       wants_pin = ap (λ caps. has caps P) (want-ended old.scene settled row) ∙ entry.wants_pin;
       has_due = λ c is_due. holds-due old.scene settled row c
-      (ap (λ caps. has caps c) (sym due_as_before) ∙ is_due);
+          (ap (λ caps. has caps c) (sym due_as_before) ∙ is_due);
       told = told-ended old.scene settled row entry.told;
       revoked = revoked-ended old.scene settled row entry.revoked;
     }
@@ -258,3 +258,39 @@ sound-touched ino old first settled sound tree table nobody touches settles =
     let end : settled ≡ record old.scene { table = first.table; locks = settled.locks } = settles.is ∙ ap (λ (s : Scene). record s { locks = settled.locks }) touches.is in
     subst (λ (t : Scene). IsSound (with_scene old (finished_at ino old.scene t))) (sym end)
     (sound_last ino old first.table settled.locks (subst (λ (s : Scene). IsGiven ino old s (record old.scene { table = first.table; locks = settled.locks })) touches.is (subst (IsGiven ino old first) end given)))
+
+-- ---- numbers
+
+module _ (ino count : ℕ) (old : State) (first settled : Scene) (settles : SettlesAt ino first settled) (given : AreGiven count old) (touches : Touches ino old first)
+    (numbers : All (λ row. row.entry.seq ≤ count) first.table.rows) (made : first.table.made ≤ count + 1) where
+  same_table : settled.table ≡ first.table
+  same_table = ap (λ (s : Scene). s.table) settles.is
+
+  numbers_last : All (λ row. row.entry.seq ≤ count + 1) (issued_at old.scene settled ino).table.rows
+  numbers_last =
+      All-map (λ row. row.entry.seq ≤ count + 1) (last_row old.scene settled ino) settled.table.rows
+      (All-weaker (λ row. row.entry.seq ≤ count) (λ row. (last_row old.scene settled ino row).entry.seq ≤ count + 1)
+      (λ row was. by_place old.scene settled ino (λ r. r.entry.seq ≤ count + 1) row (λ at. seq-ended old.scene settled row count was) (λ off. omega (arith, was)))
+      settled.table.rows (All-same (λ row. row.entry.seq ≤ count) settled.table.rows first.table.rows (ap (λ (t : Table). t.rows) same_table) numbers))
+
+  request_last : settled.locks.last ≤ count + 1
+  request_last =
+      let kept = settles.elsewhere in
+      let same : settled.locks.last ≡ old.scene.locks.last = kept.last ∙ ap (λ (s : Scene). s.locks.last) touches.is in
+      let was = given.last in
+      omega (arith, same, was)
+
+  made_last : settled.table.made ≤ count + 1
+  made_last = let same : settled.table.made ≡ first.table.made = ap (λ (t : Table). t.made) same_table in omega (arith, same, made)
+
+  given_last : AreGiven (count + 1) (with_scene old (finished_at ino old.scene settled))
+  given_last =
+      let last = issued_at old.scene settled ino in
+      elim (is_kept last ino) as (λ b. AreGiven (count + 1) (with_scene old (cond b last (record last { tree = forgotten last.tree ino; locks = without_ino last.locks ino })))) [
+        | true ↦ record { entries = numbers_last; last = request_last; made = made_last }
+        | false ↦ record { entries = numbers_last; last = request_last; made = made_last }
+      ]
+
+pub given-touched : (ino count : ℕ) (old : State) (first settled : Scene) → SettlesAt ino first settled → AreGiven count old → Touches ino old first
+    → All (λ row. row.entry.seq ≤ count) first.table.rows → first.table.made ≤ count + 1 → AreGiven (count + 1) (with_scene old (finished_at ino old.scene settled))
+given-touched ino count old first settled settles given touches numbers made = given_last ino count old first settled settles given touches numbers made

@@ -28,6 +28,6 @@ pub use laws::{
 };
 pub use outcome::{Ended, Message, MessageList, Outcome, PartValues};
 pub use reply::Reply;
-pub use staying::{issuing_keeps_rest, what_touches_one_inode_leaves_it_sound};
+pub use staying::what_touches_one_inode_leaves_it_sound;
 pub use step::Core;
 pub use stopped::Stopped;

@@ -3,13 +3,10 @@
 ghost use Rattle.std.specs.Prelude.{◌≡◌, ◌≤◌, ℕ, ◌+◌, [], All};
 ghost use Rattle.inotree.specs.Tree.{IsTree};
 ghost use Rattle.captable.specs.Table.{IsTable};
-ghost use Rattle.captable.specs.Calls.{is_of_inode};
-ghost use Rattle.captable.specs.Many.{changed_where};
 ghost use Rattle.lockmachine.specs.Scene.{Scene};
-ghost use Rattle.lockmachine.specs.Moves.{IsAtRest};
 ghost use Rattle.capcore.specs.State.{State};
 ghost use Rattle.capcore.specs.Direct.{with_scene};
-ghost use Rattle.capcore.specs.Touching.{Touches, SettlesAt, finished_entry, finished_at};
+ghost use Rattle.capcore.specs.Touching.{Touches, SettlesAt, finished_at};
 ghost use Rattle.capcore.specs.Sound.{IsSound, AreGiven};
 
 /// A sound state is sound after the step of an event that touched one inode, and the step gives each entry at most one
@@ -22,10 +19,4 @@ pub fn what_touches_one_inode_leaves_it_sound()
         → AreGiven count old → Touches ino old first
         → All (λ row. row.entry.seq ≤ count) first.table.rows → first.table.made ≤ count + 1
         → AreGiven (count + 1) (with_scene old (finished_at ino old.scene settled)) }
-{}
-
-/// What is issued at one inode keeps the locks at rest.
-pub fn issuing_keeps_rest()
-    ensures { (old s : Scene) (ino : ℕ) → IsAtRest s
-        → IsAtRest (record s { table = changed_where (is_of_inode (record { 0 = ino })) (finished_entry old s) s.table }) }
 {}
