@@ -13,6 +13,7 @@ mod outcome;
 mod reply;
 mod revoked;
 mod start;
+mod staying;
 mod step;
 mod stopped;
 mod touch;
@@ -32,6 +33,7 @@ pub use laws::{
 };
 pub use outcome::{Ended, Message, MessageList, Outcome, PartValues};
 pub use reply::Reply;
+pub use staying::what_touches_one_inode_leaves_it_sound;
 pub use step::Core;
 pub use stopped::Stopped;
 pub use touch_laws::an_event_of_one_entry_is_a_step;
