@@ -10,10 +10,11 @@ use Rattle.captable.specs.Calls.{released}
 use Rattle.captable.specs.Tests.{entry_test, ack_tests, release_tests}
 use Rattle.capcore.specs.declared.event.Event.{Event}
 use Rattle.capcore.specs.declared.event.Event.TheVariants as event
+use Rattle.capcore.specs.declared.reply.Reply.TheVariants as reply
 use Rattle.capcore.specs.declared.touch.Touch.{Touch}
 use Rattle.capcore.specs.declared.touch.Touch.TheVariants.{Open, Want, Ack, Release}
 use Rattle.capcore.specs.Judge.{room_for}
-use Rattle.capcore.specs.Direct.{with_opening, with_wanted, with_taken}
+use Rattle.capcore.specs.Direct.{Answer, Says, Shows, with_opening, with_wanted, with_taken}
 
 -- the event that asks it of the client's entry on the inode
 abbrev pub touch_event : ClientId → Ino → Touch → Event
@@ -35,3 +36,10 @@ touched_table table k revoked (Open mode) = with_opening table k mode
 touched_table table k revoked (Want caps) = with_wanted table k caps
 touched_table table k revoked (Ack seq) = with_taken table k revoked
 touched_table table k revoked (Release caps) = released table k caps
+
+-- what is answered
+abbrev pub touch_answer : Holder → Touch → Answer
+touch_answer k (Open mode) = Shows k
+touch_answer k (Want caps) = Shows k
+touch_answer k (Ack seq) = Says reply.Done
+touch_answer k (Release caps) = Says reply.Done

@@ -6,6 +6,7 @@
 mod copies;
 mod ending;
 mod event;
+mod finish;
 mod history;
 mod laws;
 mod messages;

@@ -1,13 +1,18 @@
 //! What an event asks of one entry, and what of the entry that changes.
-ghost use Rattle.std.specs.Prelude.{◌≡◌, ◌<◌, ◌^◌, ◌-◌, None, OnOk, OnErr};
+ghost use Rattle.std.specs.Prelude.{◌≡◌, ◌<◌, ◌^◌, ◌-◌, [], None, OnOk, OnErr};
 ghost use Rattle.capbits.specs.Refusal.{first_failing};
 ghost use Rattle.capcore.specs.Judge.{room_for};
+ghost use Rattle.capcore.specs.State.{State};
+ghost use Rattle.capcore.specs.Direct.{reply_of, shown, with_table};
 ghost use Rattle.capcore.specs.Direct as effects;
 ghost use Rattle.capcore.specs.Touch as words;
 
 use crate::event::OpenMode;
+use crate::finish::show;
+use crate::reply::Reply;
 use capbits::{Cap, CapSet};
 use captable::{CapTable, Holder};
+use lockmachine::Locks;
 use std::alloc::AllocError;
 
 // What is asked of a client's entry on an inode.
@@ -29,18 +34,18 @@ pub(crate) fn touch_entry(
     table: &mut CapTable,
     holder: Holder,
     revoked: CapSet,
-    touch: Touch,
+    touch: &Touch,
 ) -> Result<(), AllocError>
     requires made { table.old.made < 2 ^ 64 - 1 }
-    requires passed { first_failing (words.touch_tests table.old holder revoked touch) ≡ None }
-    ensures ok { OnOk result (table.new ≡ words.touched_table table.old holder revoked touch) }
+    requires passed { first_failing (words.touch_tests table.old holder revoked touch.now) ≡ None }
+    ensures ok { OnOk result (table.new ≡ words.touched_table table.old holder revoked touch.now) }
     ensures err { OnErr result (table.new ≡ table.old) }
 {
     match touch {
-        Touch::Open(mode) => open(table, holder, mode)?,
+        Touch::Open(mode) => open(table, holder, *mode)?,
         Touch::Want(caps) => want(table, holder, caps.union(CapSet::of(&[Cap::P]))),
-        Touch::Ack(seq) => table.ack(holder.client, holder.ino, seq, revoked),
-        Touch::Release(caps) => table.release(holder.client, holder.ino, caps),
+        Touch::Ack(seq) => table.ack(holder.client, holder.ino, *seq, revoked),
+        Touch::Release(caps) => table.release(holder.client, holder.ino, *caps),
     }
     Ok(())
 }
@@ -87,5 +92,18 @@ fn opening_wants(mode: OpenMode) -> CapSet
             Cap::Fw,
             Cap::Fb,
         ]),
+    }
+}
+
+// Says what is answered to it at the end of the step, and tells the holder's client so.
+pub(crate) fn tell(table: &mut CapTable, locks: &Locks, holder: Holder, touch: &Touch) -> Reply
+    ensures reply { (s : State) → s.scene.table ≡ table.old → s.scene.locks ≡ locks.now
+        → result ≡ reply_of s [] (words.touch_answer holder touch.now) }
+    ensures told { (s : State) → s.scene.table ≡ table.old
+        → with_table s table.new ≡ shown (words.touch_answer holder touch.now) s }
+{
+    match touch {
+        Touch::Open(_) | Touch::Want(_) => show(table, locks, holder),
+        Touch::Ack(_) | Touch::Release(_) => Reply::Done,
     }
 }

@@ -26,13 +26,14 @@ ghost use Rattle.capcore.specs.declared.event.Event.TheVariants as event;
 
 use crate::copies::{copy_of_caller, copy_of_reply};
 use crate::event::{Event, OpenMode};
+use crate::finish::finish_at;
 use crate::history::Stop;
 use crate::messages::Messages;
 use crate::reply::{Reply, Said};
 use crate::revoked::revoked_of;
 use crate::start::first_locks;
 use crate::stopped::Stopped;
-use crate::touch::Touch;
+use crate::touch::{Touch, tell, touch_entry};
 use arrayvec::ArrayVec;
 use capbits::{Caller, CapSet, ClientId, Ino, Mode, Part, Refusal};
 use capgrant::{Access, Attr, Rules, Verdict, verdict};
@@ -190,8 +191,26 @@ impl World {
         ensures err { OnErr result (self.new ≡ self.old) }
         ensures memory { IfErr result (λ stop. stop ≡ Stop.NoMemory) }
     {
-        let _stopped = self.touch_stop(Holder { client, ino }, touch);
-        Err(Stop::NoMemory)
+        if let Some(stopped) = self.touch_stop(Holder { client, ino }, &touch) {
+            return Ok(stopped.into());
+        }
+        // A look at the tree and at the entries, by which the proof knows what they keep.
+        let (_last, _oldest) = (self.tree.last(), self.table.oldest());
+        let before = self.locks.of_ino(ino);
+        let revoked = revoked_of(&self.table, &self.locks, Holder { client, ino });
+        touch_entry(&mut self.table, Holder { client, ino }, revoked, &touch)?;
+        self.locks
+            .settle_at(&self.table, &self.sessions, &self.tree, &self.fs, ino);
+        finish_at(
+            &self.fs,
+            &mut self.tree,
+            &self.sessions,
+            &mut self.table,
+            &mut self.locks,
+            ino,
+            before,
+        );
+        Ok(tell(&mut self.table, &self.locks, Holder { client, ino }, &touch))
     }
 
     // A step that gives a client the first messages that are due to it.
@@ -394,15 +413,15 @@ impl World {
     // ---- what stops an event of one entry
 
     // What stops what is asked of an entry.
-    fn touch_stop(&self, holder: Holder, touch: Touch) -> Option<Stopped>
-        ensures { result ≡ judged self.now.scene (touch_event holder.client holder.ino touch) }
+    fn touch_stop(&self, holder: Holder, touch: &Touch) -> Option<Stopped>
+        ensures { result ≡ judged self.now.scene (touch_event holder.client holder.ino touch.now) }
     {
         let (client, ino) = (holder.client, holder.ino);
         match touch {
-            Touch::Open(mode) => self.open_stop(client, ino, mode),
+            Touch::Open(mode) => self.open_stop(client, ino, *mode),
             Touch::Want(_) => by_test(self.want_stop(client, ino)),
-            Touch::Ack(seq) => by_test(self.ack_stop(client, ino, seq)),
-            Touch::Release(caps) => by_test(self.release_stop(client, ino, caps)),
+            Touch::Ack(seq) => by_test(self.ack_stop(client, ino, *seq)),
+            Touch::Release(caps) => by_test(self.release_stop(client, ino, *caps)),
         }
     }
 
