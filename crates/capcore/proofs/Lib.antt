@@ -14,5 +14,6 @@ pub mod Sounding
 pub mod Stopping
 pub mod Undone
 pub mod Steps
+pub mod Telling
 pub mod Untouched
 pub mod Verdicts

@@ -5,19 +5,23 @@
 
 mod copies;
 mod event;
+mod giving;
 mod history;
 mod laws;
 mod messages;
 mod outcome;
+mod poll;
 mod reply;
 mod start;
 mod step;
 mod stopped;
+mod told;
 mod touch;
 mod world;
 
 pub use capbits::Refusal;
 pub use event::{Event, OpenMode};
+pub use giving::telling_leaves_all_but_what_was_told;
 pub use history::{EndedList, Row, Stop};
 pub use laws::{
     a_sound_state_has_nothing_left_to_do, a_stop_changes_nothing, an_opening_is_sound,
