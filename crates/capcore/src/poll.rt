@@ -29,7 +29,7 @@ pub(crate) fn due_messages(
     'rows: while let Some(row) = walk.next() {
         add_due(&mut due, max, locks, &row)?;
         if due.as_slice().len() >= max as usize {
-            break 'rows;
+            return Ok(due);
         }
     }
     Ok(due)
@@ -73,13 +73,20 @@ fn add(list: &mut MessageList, max: u32, message: Message) -> Result<(), AllocEr
 pub(crate) fn give(table: &mut CapTable, client: ClientId, given: &[Message])
     ensures { table.new ≡ changed_where (is_of_client client) (after_messages given.now) table.old }
 {
+    for message in given {
+        give_one(table, client, message);
+    }
+}
+
+// The same of one message.
+fn give_one(table: &mut CapTable, client: ClientId, message: &Message)
+    ensures { table.new ≡ changed_where (is_of_client client) (after_messages (message.now ∷ [])) table.old }
+{
     // A look at the entries, by which the proof knows what they keep.
     let _oldest = table.oldest();
-    for message in given {
-        match message {
-            Message::Caps { ino, .. } => table.tell(client, *ino),
-            Message::Recall { ino } => table.ask(client, *ino, false),
-            Message::Ended { .. } => {}
-        }
+    match message {
+        Message::Caps { ino, .. } => table.tell(client, *ino),
+        Message::Recall { ino } => table.ask(client, *ino, false),
+        Message::Ended { .. } => {}
     }
 }
