@@ -7,6 +7,7 @@ pub mod Growing
 pub mod Judging
 pub mod Leaving
 pub mod Numbered
+pub mod Polled
 pub mod Polling
 pub mod Promised
 pub mod Said
