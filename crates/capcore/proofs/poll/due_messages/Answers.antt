@@ -1,8 +1,6 @@
-use Rattle.std.proofs.Common.{◌≡◌, ◌≤◌, length, subst, sym}
-use Rattle.captable.specs.declared.entry.EntryRow.{EntryRow}
-use Rattle.lockmachine.specs.Scene.{Scene}
+use Rattle.std.proofs.Common.{◌≤◌, length, subst}
 use Rattle.capcore.specs.declared.outcome.Message.{Message}
-use Rattle.std.specs.Prelude.{List, []}
+use Rattle.std.specs.Prelude.{List}
 use Rattle.capcore.proofs.Polling.{IsListed, few-more, listed-more, listed-all, listed-full, listed-first}
 use Rattle.capcore.proofs.poll.due_messages.Goals as goal
 use Rattle.capcore.proofs.poll.due_messages.Goals.{Then-as_slice-max}

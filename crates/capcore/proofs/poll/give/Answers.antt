@@ -1,6 +1,5 @@
-use Rattle.std.proofs.Common.{◌≡◌, ◌+◌, ◌++◌, [], ◌∷◌, take, get_or, ap, subst, sym, ◌∙◌, arith}
+use Rattle.std.proofs.Common.{◌≡◌, ◌+◌, ◌++◌, [], ◌∷◌, take, ap, sym, ◌∙◌}
 use Rattle.std.proofs.lemmas.List.{take_more, take_all}
-use Rattle.captable.specs.Table.{Table}
 use Rattle.captable.specs.Calls.{is_of_client}
 use Rattle.captable.specs.Many.{changed_where}
 use Rattle.capcore.specs.Messages.{after_messages}

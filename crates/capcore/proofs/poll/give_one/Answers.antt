@@ -1,7 +1,4 @@
-use Rattle.std.proofs.Common.{[], ◌∷◌, ◌∙◌}
-use Rattle.captable.specs.Calls.{is_of_client}
-use Rattle.captable.specs.Many.{changed_where}
-use Rattle.capcore.specs.Messages.{after_messages}
+use Rattle.std.proofs.Common.{◌∙◌}
 use Rattle.capcore.proofs.Polling.{given-none, caps-given, recall-given}
 use Rattle.capcore.proofs.poll.give_one.Goals as goal
 

@@ -1,5 +1,4 @@
 use Rattle.std.proofs.Common.{◌≡◌, ℕ, ◌+◌, List, [], refl, ap, subst, sym, ◌∙◌}
-use Rattle.captable.specs.Table.{IsTable}
 use Rattle.capcore.specs.declared.event.Event.TheVariants as event
 use Rattle.capcore.specs.declared.outcome.Message.{Message}
 use Rattle.capcore.specs.declared.reply.Reply.{Reply}
