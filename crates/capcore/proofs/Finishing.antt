@@ -37,13 +37,13 @@ with_rows s rows = record s { table = record s.table { rows = rows } }
 
 -- ---- issue
 
-or_inside : (h d : Bool) → (IsTrue d → IsTrue h) → (h || d) ≡ h
+pub or_inside : (h d : Bool) → (IsTrue d → IsTrue h) → (h || d) ≡ h
 or_inside true d e = refl
 or_inside false false e = refl
 or_inside false true e = sym (e refl)
 
 -- who has all that is due gains nothing
-same-issue_row : (s : Scene) (row : EntryRow) → IsSubset (due s row) row.entry.held → issue_row s row ≡ row
+pub same-issue_row : (s : Scene) (row : EntryRow) → IsSubset (due s row) row.entry.held → issue_row s row ≡ row
 same-issue_row s row all =
     let held : union row.entry.held (due s row) ≡ row.entry.held = same_caps _ _ (λ c. has-union row.entry.held (due s row) c ∙ or_inside (has row.entry.held c) (has (due s row) c) (all c)) in
     λ i. record row { entry = record row.entry { held = held i } }
@@ -58,7 +58,7 @@ none_lost : (a : Caps) → is_empty (minus a a) ≡ true
 none_lost a = (is_empty-no_caps (minus a a)).1 (same_caps (minus a a) no_caps (λ c. has-minus a a c ∙ and_not (has a c) ∙ sym (has-none c)))
 
 -- where nothing changed, no number rises
-same-renumbered : (before after : Caps) (e : Entry) → before ≡ after → renumbered before after e ≡ e
+pub same-renumbered : (before after : Caps) (e : Entry) → before ≡ after → renumbered before after e ≡ e
 same-renumbered before after e is = ap (λ a. renumbered before a e) (sym is) ∙ rw (none_lost before) refl
 
 same-number_row : (old s : Scene) (row : EntryRow) → find (is_row_of row.holder) s.table.rows ≡ Some row → told_set old row ≡ told_set s row → number_row old s s row ≡ row
@@ -66,12 +66,12 @@ same-number_row old s row found told = ap (λ (e : Entry). record row { entry = 
 
 -- ---- strays
 
-kept_by : (p : Place) (rest : Bool) → (p ≡ Gone → rest ≡ true) → (not (is_gone p) || rest) ≡ true
+pub kept_by : (p : Place) (rest : Bool) → (p ≡ Gone → rest ≡ true) → (not (is_gone p) || rest) ≡ true
 kept_by NoIno rest held = refl
 kept_by Here rest held = refl
 kept_by Gone rest held = held refl
 
-same_kept : {X : Type 0} (m : finite.FinMap nat_cmp X) (p : ℕ → Bool) → ((q : ℕ) → p q ≡ true) → finite.retain_keys m p ≡ m
+pub same_kept : {X : Type 0} (m : finite.FinMap nat_cmp X) (p : ℕ → Bool) → ((q : ℕ) → p q ≡ true) → finite.retain_keys m p ≡ m
 same_kept m p all = finite.same_map nat_cmp_total finite.nat_cmp-IsAntisymmetric _ _ (λ q.
     finite.get-retain_keys m p q (λ x e. all x ∙ sym (all q)) ∙ ap (λ b. cond b (finite.get m q) None) (all q))
 

@@ -42,12 +42,12 @@ use Rattle.capcore.proofs.Finishing.{same-finished}
 -- ---- what reads the locks of one inode
 
 -- of an entry, what is being revoked, and what is allowed, by the locks of its inode
-abbrev against_by : EntryRow → Option InodeLocks → Caps
+abbrev pub against_by : EntryRow → Option InodeLocks → Caps
 against_by row o =
     union (against_lock A row (option_map (lock_in A) o))
     (union (against_lock L row (option_map (lock_in L) o)) (union (against_lock X row (option_map (lock_in X) o)) (against_lock F row (option_map (lock_in F) o))))
 
-abbrev allowed_with : EntryRow → Option InodeLocks → Caps
+abbrev pub allowed_with : EntryRow → Option InodeLocks → Caps
 allowed_with row o =
     union (caps_in (P ∷ []))
     (union (allowed_by A row (option_map (lock_in A) o))

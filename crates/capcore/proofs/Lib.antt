@@ -7,6 +7,7 @@ pub mod Growing
 pub mod Judging
 pub mod Leaving
 pub mod Numbered
+pub mod OneInode
 pub mod Polled
 pub mod Polling
 pub mod Promised
@@ -19,3 +20,4 @@ pub mod Steps
 pub mod Telling
 pub mod Untouched
 pub mod Verdicts
+pub mod TouchStep

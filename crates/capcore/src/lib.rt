@@ -4,6 +4,7 @@
 #![tactic(auto)]
 
 mod copies;
+mod ending;
 mod event;
 mod giving;
 mod history;
@@ -17,9 +18,11 @@ mod step;
 mod stopped;
 mod told;
 mod touch;
+mod touch_laws;
 mod world;
 
 pub use capbits::Refusal;
+pub use ending::what_touches_one_inode_ends_there;
 pub use event::{Event, OpenMode};
 pub use giving::telling_leaves_all_but_what_was_told;
 pub use history::{EndedList, Row, Stop};
@@ -33,3 +36,4 @@ pub use outcome::{Ended, Message, MessageList, Outcome, PartValues};
 pub use reply::Reply;
 pub use step::Core;
 pub use stopped::Stopped;
+pub use touch_laws::an_event_of_one_entry_is_a_step;

@@ -7,7 +7,7 @@ ghost use Rattle.capcore.specs.Sound.{IsSound, AreGiven, NumbersLeft};
 ghost use Rattle.capcore.specs.Touch.{touch_event};
 ghost use Rattle.capcore.specs.Touching.{touched_by, is_poll};
 ghost use Rattle.capgrant.specs.Verdict.{is_allowed, IfDenied};
-ghost use Rattle.captable.specs.Table.{holder, entry_at};
+ghost use Rattle.captable.specs.Table.{IsTable, holder, entry_at};
 ghost use Rattle.lockmachine.specs.Locks.{lock_at};
 ghost use Rattle.sessiontab.specs.Calls.{status_of};
 ghost use Rattle.lockmachine.specs.Policy.{failures};
@@ -109,30 +109,53 @@ impl World {
         requires numbers { NumbersLeft self.old }
         ensures step { IfOk result (λ said. Step self.old event.now said.reply [] self.new) }
         ensures kept { IfOk result (λ said. said.kept ≡ said.reply) }
-        // The state stays sound, and gives at most one number more.
+        // The entries were a table; the state stays sound, and gives at most one number more.
+        ensures table { OnOk result (IsTable self.old.scene.table) }
         ensures sound { OnOk result (IsSound self.new) }
         ensures issued { OnOk result (IssuesExactly (direct self.old event.now).state.scene self.new.scene) }
         ensures given { OnOk result ((count : ℕ) → AreGiven count self.old → AreGiven (count + 1) self.new) }
         ensures err { OnErr result (self.new ≡ self.old) }
         ensures memory { IfErr result (λ stop. stop ≡ Stop.NoMemory) }
     {
-        let reply = match event {
-            Event::Open { client, ino, mode } => self.touch(*client, *ino, Touch::Open(*mode))?,
-            Event::Want { client, ino, caps } => self.touch(*client, *ino, Touch::Want(*caps))?,
-            Event::Ack { client, ino, seq } => self.touch(*client, *ino, Touch::Ack(*seq))?,
-            Event::Release { client, ino, caps } => {
-                self.touch(*client, *ino, Touch::Release(*caps))?
+        // A look at the entries, by which the proof knows what they keep.
+        let _oldest = self.table.oldest();
+        match event {
+            Event::Poll { client, max } => self.poll(*client, *max),
+            _ => {
+                let reply = self.answer(event)?;
+                let kept = copy_of_reply(&reply);
+                Ok(Said { reply, kept })
             }
-            Event::Poll { client, max } => return self.poll(*client, *max),
+        }
+    }
+
+    // A step that answers no list.
+    fn answer(&mut self, event: &Event) -> Result<Reply, Stop>
+        requires numbers { NumbersLeft self.old }
+        requires polls { is_poll event.now ≡ false }
+        ensures step { IfOk result (λ reply. Step self.old event.now reply [] self.new) }
+        ensures list { IfOk result (λ reply. has_list reply ≡ false) }
+        ensures sound { OnOk result (IsSound self.new) }
+        ensures issued { OnOk result (IssuesExactly (direct self.old event.now).state.scene self.new.scene) }
+        ensures given { OnOk result ((count : ℕ) → AreGiven count self.old → AreGiven (count + 1) self.new) }
+        ensures err { OnErr result (self.new ≡ self.old) }
+        ensures memory { IfErr result (λ stop. stop ≡ Stop.NoMemory) }
+    {
+        match event {
+            Event::Open { client, ino, mode } => self.touch(*client, *ino, Touch::Open(*mode)),
+            Event::Want { client, ino, caps } => self.touch(*client, *ino, Touch::Want(*caps)),
+            Event::Ack { client, ino, seq } => self.touch(*client, *ino, Touch::Ack(*seq)),
+            Event::Release { client, ino, caps } => {
+                self.touch(*client, *ino, Touch::Release(*caps))
+            }
+            Event::Poll { .. } => unreachable!(),
             Event::Session { .. }
             | Event::Lookup { .. }
             | Event::Create { .. }
             | Event::Mkdir { .. }
             | Event::MakeSnapshot { .. }
-            | Event::RemoveSnapshot { .. } => self.act_alone(event)?,
-        };
-        let kept = copy_of_reply(&reply);
-        Ok(Said { reply, kept })
+            | Event::RemoveSnapshot { .. } => self.act_alone(event),
+        }
     }
 
     // A step that leaves alone what entries and requests depend on: no lock moves, and all is done when the event is.
@@ -140,10 +163,11 @@ impl World {
         requires touches { touched_by event.now ≡ None }
         requires polls { is_poll event.now ≡ false }
         ensures step { IfOk result (λ reply. Step self.old event.now reply [] self.new) }
+        ensures sound { OnOk result (IsSound self.new) }
         ensures issued { OnOk result (IssuesExactly (direct self.old event.now).state.scene self.new.scene) }
         ensures given { OnOk result ((count : ℕ) → AreGiven count self.old → AreGiven (count + 1) self.new) }
         // No event of these asks what an inode keeps.
-        ensures values { IfOk result (λ reply. has_list reply ≡ false) }
+        ensures list { IfOk result (λ reply. has_list reply ≡ false) }
         ensures err { OnErr result (self.new ≡ self.old) }
         ensures memory { IfErr result (λ stop. stop ≡ Stop.NoMemory) }
     {
@@ -156,9 +180,10 @@ impl World {
     fn touch(&mut self, client: ClientId, ino: Ino, touch: Touch) -> Result<Reply, Stop>
         requires numbers { NumbersLeft self.old }
         ensures step { IfOk result (λ reply. Step self.old (touch_event client ino touch) reply [] self.new) }
+        ensures sound { OnOk result (IsSound self.new) }
         ensures issued { OnOk result (IssuesExactly (direct self.old (touch_event client ino touch)).state.scene self.new.scene) }
         ensures given { OnOk result ((count : ℕ) → AreGiven count self.old → AreGiven (count + 1) self.new) }
-        ensures values { IfOk result (λ reply. has_list reply ≡ false) }
+        ensures list { IfOk result (λ reply. has_list reply ≡ false) }
         ensures err { OnErr result (self.new ≡ self.old) }
         ensures memory { IfErr result (λ stop. stop ≡ Stop.NoMemory) }
     {
@@ -170,6 +195,7 @@ impl World {
     fn poll(&mut self, client: ClientId, max: u32) -> Result<Said, Stop>
         ensures step { IfOk result (λ said. Step self.old (event.Poll client max) said.reply [] self.new) }
         ensures kept { IfOk result (λ said. said.kept ≡ said.reply) }
+        ensures sound { OnOk result (IsSound self.new) }
         ensures issued { OnOk result (IssuesExactly (direct self.old (event.Poll client max)).state.scene self.new.scene) }
         ensures given { OnOk result ((count : ℕ) → AreGiven count self.old → AreGiven (count + 1) self.new) }
         ensures err { OnErr result (self.new ≡ self.old) }

@@ -1,8 +1,9 @@
 use Rattle.std.proofs.Common.{◌≡◌, ◌<◌, ◌+◌, [], length, ap, subst, ◌∙◌, arith}
+use Rattle.std.specs.Prelude.{IsTrue}
 use Rattle.capcore.specs.State.{State}
 use Rattle.capcore.specs.declared.history.Row.{Row}
 use Rattle.capcore.specs.Direct.{direct}
-use Rattle.capcore.specs.Headline.{DeniedExactly, DeniesByName, IssuesExactly}
+use Rattle.capcore.specs.Headline.{DeniedExactly, DeniesByName, IssuesExactly, is_stop}
 use Rattle.capcore.specs.History.{Told, told, Replays, rows_of}
 use Rattle.capcore.specs.Sound.{IsSound}
 use Rattle.capcore.specs.Step.{Step}
@@ -12,10 +13,17 @@ use Rattle.capcore.proofs.Growing.{more-told, replays-more}
 use Rattle.capcore.proofs.step.Core.apply.Goals as goal
 use Rattle.capcore.proofs.step.Core.apply.Goals.{In_ok-push}
 
+-- the step, with what is answered and with what the row keeps of it
+step_of : (c : In_ok-push) → Step c.self.inside.world c.args.event c.in_ok-reply.field-0.reply [] c.step.new.self
+step_of c = c.in_ok-reply.ensures.step
+
+kept_step : (c : In_ok-push) → Step c.self.inside.world c.args.event c.in_ok-reply.field-0.kept c.new.result c.step.new.self
+kept_step c = rw (c.in_ok-reply.ensures.kept, c.new.ensures) c.in_ok-reply.ensures.step
+
 pub invariant_of-self-2 : goal.invariant_of-self-2
 invariant_of-self-2 c =
-    let row : Row = record { pass = c.args.pass; nth = c.next_number-nth.result; event = c.args.event; reply = c.in_ok-reply.kept; ended = c.new.result } in
-    let step : Step c.self.inside.world row.event row.reply row.ended c.step.new.self = rw (c.in_ok-reply.ensures.kept, c.new.ensures) c.in_ok-reply.ensures.step in
+    let row : Row = record { pass = c.args.pass; nth = c.next_number-nth.result; event = c.args.event; reply = c.in_ok-reply.field-0.kept; ended = c.new.result } in
+    let step : Step c.self.inside.world row.event row.reply row.ended c.step.new.self = kept_step c in
     let nth : row.nth ≡ rows_of row.pass c.self.inside.rows.items + 1 = c.next_number-nth.ensures ∙ ap (λ rows. rows_of c.args.pass rows + 1) (c.deref.ensures.value ∙ c.reserve.ensures.items) in
     let less : length c.self.inside.rows.items < c.self.inside.max_rows = omega (arith, c.len.ensures, c.if-len-self.false) in
     rw (c.in_ok-push.ensures.items, c.reserve.ensures.items)
@@ -24,13 +32,13 @@ invariant_of-self-2 c =
 
 pub returns-clause-denied : goal.returns-clause-denied
 returns-clause-denied c =
-    subst (λ (t : Told). DeniedExactly t.state.scene c.args.event c.in_ok-reply.reply) c.self.view_is
-    (denied-exactly c.self.inside.world c.args.event c.in_ok-reply.reply [] c.step.new.self c.in_ok-reply.ensures.step)
+    subst (λ (t : Told). DeniedExactly t.state.scene c.args.event c.in_ok-reply.field-0.reply) c.self.view_is
+    (denied-exactly c.self.inside.world c.args.event c.in_ok-reply.field-0.reply [] c.step.new.self (step_of c))
 
 pub returns-clause-named : goal.returns-clause-named
 returns-clause-named c =
-    subst (λ (t : Told). DeniesByName t.state.scene c.args.event c.in_ok-reply.reply) c.self.view_is
-    (denies-by_name c.self.inside.world c.args.event c.in_ok-reply.reply [] c.step.new.self c.in_ok-reply.ensures.step)
+    subst (λ (t : Told). DeniesByName t.state.scene c.args.event c.in_ok-reply.field-0.reply) c.self.view_is
+    (denies-by_name c.self.inside.world c.args.event c.in_ok-reply.field-0.reply [] c.step.new.self (step_of c))
 
 pub returns-clause-issued : goal.returns-clause-issued
 returns-clause-issued c =
@@ -54,7 +62,12 @@ returns-clause-at_rest c = let sound = next c in sound.at_rest
 
 pub returns-clause-legal : goal.returns-clause-legal
 returns-clause-legal c =
-    let row : Row = record { pass = c.args.pass; nth = c.next_number-nth.result; event = c.args.event; reply = c.in_ok-reply.kept; ended = c.new.result } in
-    let step : Step c.self.inside.world row.event row.reply row.ended c.step.new.self = rw (c.in_ok-reply.ensures.kept, c.new.ensures) c.in_ok-reply.ensures.step in
+    let row : Row = record { pass = c.args.pass; nth = c.next_number-nth.result; event = c.args.event; reply = c.in_ok-reply.field-0.kept; ended = c.new.result } in
+    let step : Step c.self.inside.world row.event row.reply row.ended c.step.new.self = kept_step c in
     subst (λ (t : Told). (first : State) → Replays first t.rows t.state → Replays first c.push.new.self.items c.step.new.self) c.self.view_is
     (λ first past. rw (c.in_ok-push.ensures.items, c.reserve.ensures.items) (replays-more first c.self.inside.rows.items c.self.inside.world row c.step.new.self past step))
+
+pub returns-clause-unchanged : goal.returns-clause-unchanged
+returns-clause-unchanged c =
+    subst (λ (t : Told). IsTrue (is_stop c.in_ok-reply.field-0.reply) → c.step.new.self ≡ t.state) c.self.view_is
+    (stopped-unchanged c.self.inside.world c.args.event c.in_ok-reply.field-0.reply [] c.step.new.self (step_of c) c.self.invariant.sound c.in_ok-reply.ensures.table)

@@ -27,6 +27,11 @@ returns-clause-step c =
     IfOk-weaker c.act.result (λ reply. IsDirect c.args.self.now c.args.event.now reply c.act.new.self) (λ reply. Step c.args.self.now c.args.event.now reply [] c.act.new.self)
     (λ reply is. let k = known c in whole_step c.args.self.now k.0 k.1 c.args.event.now (alone c) reply c.act.new.self is k.2) c.act.ensures.direct
 
+pub returns-clause-sound : goal.returns-clause-sound
+returns-clause-sound c =
+    IfOk-weaker c.act.result (λ reply. IsDirect c.args.self.now c.args.event.now reply c.act.new.self) (λ _. IsSound c.act.new.self)
+    (λ reply is. let k = known c in direct-sound c.args.self.now k.0 k.1 c.args.event.now (alone c) reply c.act.new.self is) c.act.ensures.direct
+
 pub returns-clause-issued : goal.returns-clause-issued
 returns-clause-issued c =
     IfOk-weaker c.act.result (λ reply. IsDirect c.args.self.now c.args.event.now reply c.act.new.self) (λ _. IssuesExactly (direct c.args.self.now c.args.event.now).state.scene c.act.new.self.scene)
@@ -37,7 +42,7 @@ returns-clause-given c =
     IfOk-weaker c.act.result (λ reply. IsDirect c.args.self.now c.args.event.now reply c.act.new.self) (λ _. (count : ℕ) → AreGiven count c.args.self.now → AreGiven (count + 1) c.act.new.self)
     (λ reply is. let k = known c in direct-given c.args.self.now k.0 k.1 c.args.event.now (alone c) reply c.act.new.self is) c.act.ensures.direct
 
-pub returns-clause-values : goal.returns-clause-values
-returns-clause-values c =
+pub returns-clause-list : goal.returns-clause-list
+returns-clause-list c =
     IfOk-weaker c.act.result (λ reply. IsDirect c.args.self.now c.args.event.now reply c.act.new.self) (λ reply. has_list reply ≡ false)
     (λ reply is. no_list c.args.self.now c.args.event.now reply c.act.new.self is) c.act.ensures.direct

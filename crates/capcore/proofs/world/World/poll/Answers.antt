@@ -35,6 +35,9 @@ returns-in-Some-clause-issued c =
     subst (λ (s : State). IssuesExactly (direct s (event.Poll c.args.client c.args.max)).state.scene s.scene) c.self.view_is
     (refused-issued old c.self.invariant.0 c.oldest-oldest.ensures.sound c.args.client c.args.max)
 
+pub returns-in-Some-clause-sound : goal.returns-in-Some-clause-sound
+returns-in-Some-clause-sound c = subst IsSound c.self.view_is c.self.invariant.0
+
 -- ---- an open session
 
 -- the state before the event
@@ -61,14 +64,17 @@ left c =
     polled-new (before c) c.self.invariant.0 c.oldest-oldest.ensures.sound c.args.client c.args.max c.as_slice.result.now c.give.new.table c.self.invariant.3
     (c.as_slice.ensures ∙ first c) c.give.ensures
 
+sound : (c : After-give) → IsSound (behind c)
+unfolding before
+sound c = subst IsSound (left c) (polled-sound (before c) c.self.invariant.0 c.oldest-oldest.ensures.sound c.args.client c.args.max)
+
 pub invariant_of-self : goal.invariant_of-self
-unfolding before behind first left
-invariant_of-self c = (
-  subst IsSound (left c) (polled-sound (before c) c.self.invariant.0 c.oldest-oldest.ensures.sound c.args.client c.args.max),
-  c.self.invariant.1,
-  c.self.invariant.2,
-  c.self.invariant.3,
-)
+unfolding behind
+invariant_of-self c = (sound c, c.self.invariant.1, c.self.invariant.2, c.self.invariant.3)
+
+pub returns-clause-sound : goal.returns-clause-sound
+unfolding behind
+returns-clause-sound c = sound c
 
 pub returns-clause-step : goal.returns-clause-step
 unfolding before behind

@@ -1,0 +1,8 @@
+use Rattle.capcore.proofs.OneInode.{touched-ends, touched-issues}
+use Rattle.capcore.proofs.ending.what_touches_one_inode_ends_there.Goals as goal
+
+pub returns-clause-finished : goal.returns-clause-finished
+returns-clause-finished c = λ ino old first settled sound table touches settles. touched-ends ino old first settled sound table touches settles
+
+pub returns-clause-issued : goal.returns-clause-issued
+returns-clause-issued c = λ ino old first settled sound tree table touches settles. touched-issues ino old first settled sound table touches settles tree
