@@ -1,17 +1,16 @@
 -- The messages that a walk over a client's entries lists, and what giving them leaves.
-use Rattle.std.proofs.Common.{◌≡◌, ◌≤◌, ℕ, zero, suc, Bool, true, false, cond, ◌&&◌, ◌||◌, List, [], ◌∷◌, ◌++◌, length, take, filter, map, refl, sym, ap, subst, ◌∙◌, append_assoc, append-nil, length-append, arith}
+use Rattle.std.proofs.Common.{◌≡◌, ◌≤◌, ℕ, zero, suc, Bool, true, false, cond, ◌&&◌, ◌||◌, List, [], ◌∷◌, ◌++◌, length, take, filter, map, refl, sym, ap, subst, ◌∙◌, append_assoc, append-nil, arith}
 use Rattle.std.specs.Prelude.{◌==◌}
 use Rattle.std.specs.List.{list_any, flat_map, IsDistinct}
 use Rattle.std.specs.Cmp.{nat_eq_equiv}
-use Rattle.std.proofs.lemmas.List.{take-append-le, take_all, length-take}
+use Rattle.std.proofs.lemmas.List.{take-append-le, take_all}
 use Rattle.std.proofs.lemmas.List.Folds.{list_any-append}
 use Rattle.capbits.specs.declared.ids.ClientId.{ClientId}
 use Rattle.capbits.specs.declared.ids.Ino.{Ino}
 use Rattle.capbits.specs.Caps.{Caps}
 use Rattle.captable.specs.declared.entry.Entry.{Entry}
 use Rattle.captable.specs.declared.entry.EntryRow.{EntryRow}
-use Rattle.captable.specs.declared.entry.Holder.{Holder}
-use Rattle.captable.specs.Table.{Table, IsTable, holder, same, is_row_of, is_among}
+use Rattle.captable.specs.Table.{Table, IsTable, holder, same, is_among}
 use Rattle.captable.specs.Calls.{is_of_client, changed, told, with_asked}
 use Rattle.captable.specs.Many.{changed_where, remade}
 use Rattle.captable.proofs.OneByOne.{fold-changed_by}
@@ -19,7 +18,7 @@ use Rattle.lockmachine.specs.Scene.{Scene}
 use Rattle.capcore.specs.declared.outcome.Message.{Message}
 use Rattle.capcore.specs.declared.outcome.Message.TheVariants as message
 use Rattle.capcore.specs.State.{State}
-use Rattle.capcore.specs.Messages.{caps_messages, recall_messages, messages_to, first_messages, is_to, after_messages, is_caps_of, is_recall_of, told_if, unasked_if}
+use Rattle.capcore.specs.Messages.{caps_messages, recall_messages, first_messages, is_to, after_messages, is_caps_of, is_recall_of, told_if, unasked_if}
 use Rattle.capcore.proofs.Telling.{map_alike}
 
 -- ---- the first of a list

@@ -14,7 +14,6 @@ use Rattle.locktable.specs.declared.states.State.{State as LockGoal}
 use Rattle.locktable.specs.declared.states.LockState.{LockState}
 use Rattle.locktable.specs.declared.states.LockState.TheVariants.{Stable, Gather}
 use Rattle.sessiontab.specs.Calls.{has_session}
-use Rattle.captable.specs.declared.entry.Entry.{Entry}
 use Rattle.captable.specs.declared.entry.EntryRow.{EntryRow}
 use Rattle.captable.specs.declared.entry.Holder.{Holder}
 use Rattle.captable.specs.Table.{Table, IsTable, same, is_row_of, is_among}
@@ -32,7 +31,7 @@ use Rattle.capcore.specs.State.{State}
 use Rattle.capcore.specs.Direct.{Answer, Says, Shows, Gives, Awaits, with_scene, shown}
 use Rattle.capcore.specs.Finish.{due}
 use Rattle.capcore.specs.Headline.{holds, is_due, IssuesExactly, IsInPlace, AreInPlace}
-use Rattle.capcore.specs.Messages.{first_messages, with_given, after_messages, is_caps_of, is_recall_of, is_end_of, is_to, told_if, unasked_if}
+use Rattle.capcore.specs.Messages.{first_messages, after_messages, is_caps_of, is_recall_of, is_end_of, is_to, told_if, unasked_if}
 use Rattle.capcore.specs.Sound.{IsSoundEntry, IsSound, AreGiven}
 
 -- ---- lists that are mapped

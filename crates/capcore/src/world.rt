@@ -59,8 +59,8 @@ impl Model for World {
     ghost use Rattle.capcore.specs.State.{State};
     ghost use Rattle.capcore.specs.Codes.{state_code};
     ghost use Rattle.capcore.specs.Sound.{IsSound, AreGiven, NumbersLeft};
-ghost use Rattle.capcore.specs.Touch.{touch_event};
-ghost use Rattle.capcore.specs.Touching.{touched_by, is_poll};
+    ghost use Rattle.capcore.specs.Touch.{touch_event};
+    ghost use Rattle.capcore.specs.Touching.{touched_by, is_poll};
     ghost use Rattle.capcore.specs.Untold.{HasRoom};
 
     ghost Value = { State };
