@@ -13,6 +13,8 @@ pub mod Numbered
 pub mod OneInode
 pub mod Openings
 pub mod Placed
+pub mod Polled
+pub mod Polling
 pub mod Promised
 pub mod Revoking
 pub mod Said
@@ -23,6 +25,7 @@ pub mod Stopping
 pub mod Undone
 pub mod Steps
 pub mod Touched
+pub mod Telling
 pub mod Untouched
 pub mod Verdicts
 pub mod TouchStep

@@ -138,7 +138,7 @@ held_due false false all = refl
 held_due false true all = all refl
 
 -- in a sound state all that is due is held
-has-due : (s : State) → IsSound s → IssuesExactly s.scene s.scene
+pub has-due : (s : State) → IsSound s → IssuesExactly s.scene s.scene
 has-due s sound k cap = by_entry (find (is_row_of k) s.scene.table.rows) refl
   where
     by_entry : (o : Option EntryRow) → find (is_row_of k) s.scene.table.rows ≡ o

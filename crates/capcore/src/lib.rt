@@ -7,16 +7,19 @@ mod copies;
 mod ending;
 mod event;
 mod finish;
+mod giving;
 mod history;
 mod laws;
 mod messages;
 mod outcome;
+mod poll;
 mod reply;
 mod revoked;
 mod start;
 mod staying;
 mod step;
 mod stopped;
+mod told;
 mod touch;
 mod touch_laws;
 mod touching;
@@ -25,6 +28,7 @@ mod world;
 pub use capbits::Refusal;
 pub use ending::what_touches_one_inode_ends_there;
 pub use event::{Event, OpenMode};
+pub use giving::telling_leaves_all_but_what_was_told;
 pub use history::{EndedList, Row, Stop};
 pub use laws::{
     a_sound_state_has_nothing_left_to_do, a_stop_changes_nothing, an_opening_is_sound,

@@ -45,6 +45,11 @@ impl Messages {
         Ok(())
     }
 
+    // The allocator of the list.
+    pub(crate) fn alloc(&self) -> Global {
+        *self.items.allocator()
+    }
+
     // The requests.
     pub(crate) fn as_slice(&self) -> &[Ended]
         ensures { result.now ≡ self.now.items }

@@ -29,6 +29,7 @@ use crate::event::{Event, OpenMode};
 use crate::finish::finish_at;
 use crate::history::Stop;
 use crate::messages::Messages;
+use crate::poll::{due_messages, give};
 use crate::reply::{Reply, Said};
 use crate::revoked::revoked_of;
 use crate::start::first_locks;
@@ -223,8 +224,20 @@ impl World {
         ensures err { OnErr result (self.new ≡ self.old) }
         ensures memory { IfErr result (λ stop. stop ≡ Stop.NoMemory) }
     {
-        let _ = (client, max);
-        Err(Stop::NoMemory)
+        // A look at the entries, by which the proof knows what they keep.
+        let _oldest = self.table.oldest();
+        if let Some(refusal) = self.sessions.session_refusal(client) {
+            return Ok(Said::refusal(refusal));
+        }
+        // The list once for the reply and once for the history, both before the client was told of anything.
+        let alloc = self.messages.alloc();
+        let given = due_messages(alloc, &self.table, &self.locks, client, max)?;
+        let kept = due_messages(alloc, &self.table, &self.locks, client, max)?;
+        give(&mut self.table, client, given.as_slice());
+        Ok(Said {
+            reply: Reply::Messages(given),
+            kept: Reply::Messages(kept),
+        })
     }
 
     // The event by itself.

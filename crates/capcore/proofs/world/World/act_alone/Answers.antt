@@ -1,4 +1,4 @@
-use Rattle.std.proofs.Common.{ℕ, ◌+◌, false, [], subst, sym, ap}
+use Rattle.std.proofs.Common.{ℕ, ◌+◌, false, [], subst}
 use Rattle.std.specs.Prelude.{◌≡◌}
 use Rattle.std.proofs.lemmas.Result.{IfOk-weaker}
 use Rattle.inotree.specs.Tree.{IsTree}

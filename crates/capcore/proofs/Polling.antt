@@ -1,0 +1,196 @@
+-- The messages that a walk over a client's entries lists, and what giving them leaves.
+use Rattle.std.proofs.Common.{◌≡◌, ◌≤◌, ℕ, zero, suc, Bool, true, false, cond, ◌&&◌, ◌||◌, List, [], ◌∷◌, ◌++◌, length, take, filter, map, refl, sym, ap, subst, ◌∙◌, append_assoc, append-nil, arith}
+use Rattle.std.specs.Prelude.{◌==◌}
+use Rattle.std.specs.List.{list_any, flat_map, IsDistinct}
+use Rattle.std.specs.Cmp.{nat_eq_equiv}
+use Rattle.std.proofs.lemmas.List.{take-append-le, take_all}
+use Rattle.std.proofs.lemmas.List.Folds.{list_any-append}
+use Rattle.capbits.specs.declared.ids.ClientId.{ClientId}
+use Rattle.capbits.specs.declared.ids.Ino.{Ino}
+use Rattle.capbits.specs.Caps.{Caps}
+use Rattle.captable.specs.declared.entry.Entry.{Entry}
+use Rattle.captable.specs.declared.entry.EntryRow.{EntryRow}
+use Rattle.captable.specs.Table.{Table, IsTable, holder, same, is_among}
+use Rattle.captable.specs.Calls.{is_of_client, changed, told, with_asked}
+use Rattle.captable.specs.Many.{changed_where, remade}
+use Rattle.captable.proofs.OneByOne.{fold-changed_by}
+use Rattle.lockmachine.specs.Scene.{Scene}
+use Rattle.capcore.specs.declared.outcome.Message.{Message}
+use Rattle.capcore.specs.declared.outcome.Message.TheVariants as message
+use Rattle.capcore.specs.State.{State}
+use Rattle.capcore.specs.Messages.{caps_messages, recall_messages, first_messages, is_to, after_messages, is_caps_of, is_recall_of, told_if, unasked_if}
+use Rattle.capcore.proofs.Telling.{map_alike}
+
+-- ---- the first of a list
+
+take-take_append : {X : Type 0} (n : ℕ) (xs ys : List X) → take n (take n xs ++ ys) ≡ take n (xs ++ ys)
+take-take_append zero xs ys = refl
+take-take_append (suc n) [] ys = refl
+take-take_append (suc n) (x ∷ xs) ys = ap (λ zs. x ∷ zs) (take-take_append n xs ys)
+
+length-take_le : {X : Type 0} (n : ℕ) (xs : List X) → length (take n xs) ≤ n
+length-take_le zero xs = omega arith
+length-take_le (suc n) [] = omega arith
+length-take_le (suc n) (x ∷ xs) = omega (arith, length-take_le n xs)
+
+-- ---- the messages that are listed
+
+-- those that are due to the clients of some entries
+abbrev pub due_of : Scene → List EntryRow → List Message
+due_of s rows = flat_map (λ row. caps_messages s row ++ recall_messages row) rows
+
+-- what is listed so far, and what the entries that are left add to it
+pub record IsListed (max : ℕ) (s : Scene) (rows : List EntryRow) (listed : List Message) (left : List EntryRow) : Type 0 where
+  pub is : take max (listed ++ due_of s left) ≡ take max (due_of s rows)
+
+pub listed-none : (max : ℕ) (s : Scene) (rows : List EntryRow) → IsListed max s rows [] rows
+listed-none max s rows = record { is = refl }
+
+-- one entry more
+pub listed-more : (max : ℕ) (s : Scene) (rows left : List EntryRow) (listed more : List Message) (row : EntryRow)
+    → more ≡ take max (listed ++ (caps_messages s row ++ recall_messages row)) → IsListed max s rows listed (row ∷ left) → IsListed max s rows more left
+listed-more max s rows left listed more row is so_far = record {
+  is =
+      ap (λ xs. take max (xs ++ due_of s left)) is
+      ∙ take-take_append max (listed ++ one) (due_of s left)
+      ∙ ap (take max) (append_assoc listed one (due_of s left))
+      ∙ so_far.is;
+}
+  where
+    one : List Message
+    one = caps_messages s row ++ recall_messages row
+
+pub few-more : (max : ℕ) (xs more : List Message) → more ≡ take max xs → length more ≤ max
+few-more max xs more is = subst (λ (ys : List Message). length ys ≤ max) (sym is) (length-take_le max xs)
+
+-- where no entry is left, or as many are listed as may be, they are the first
+pub listed-all : (max : ℕ) (s : Scene) (rows : List EntryRow) (listed : List Message) → length listed ≤ max → IsListed max s rows listed [] → listed ≡ take max (due_of s rows)
+listed-all max s rows listed few so_far = sym (take_all max listed few) ∙ ap (take max) (sym (append-nil listed)) ∙ so_far.is
+
+pub listed-full : (max : ℕ) (s : Scene) (rows left : List EntryRow) (listed : List Message) → length listed ≤ max → max ≤ length listed → IsListed max s rows listed left → listed ≡ take max (due_of s rows)
+listed-full max s rows left listed few full so_far = sym (take_all max listed few) ∙ sym (take-append-le max listed (due_of s left) full) ∙ so_far.is
+
+-- and so the first that are due to a client of which no request has ended
+first-due : (s : State) (client : ClientId) (max : ℕ) (t : Table) → s.scene.table ≡ t → s.messages ≡ [] → first_messages s client max ≡ take max (due_of s.scene (filter (is_of_client client) t.rows))
+first-due s client max t table none =
+    ap (λ ms. take max (map (λ m. message.Ended m.ticket m.outcome) (filter (is_to client) ms) ++ due_of s.scene (filter (is_of_client client) s.scene.table.rows))) none
+    ∙ ap (λ (t : Table). take max (due_of s.scene (filter (is_of_client client) t.rows))) table
+
+-- what a walk over the client's entries has listed
+pub listed-first : (s : State) (client : ClientId) (max : ℕ) (t : Table) (rows : List EntryRow) (listed : List Message) → rows ≡ filter (is_of_client client) t.rows → s.scene.table ≡ t → s.messages ≡ []
+    → listed ≡ take max (due_of s.scene rows) → listed ≡ first_messages s client max
+listed-first s client max t rows listed of table none is = is ∙ ap (λ rows. take max (due_of s.scene rows)) of ∙ sym (first-due s client max t table none)
+
+-- ---- what giving them leaves
+
+module _ (client : ClientId) where
+  -- the row, once its client was given these, if it is this client
+  abbrev given_to : List Message → EntryRow → EntryRow
+  given_to given row = cond (is_of_client client row) (remade (after_messages given) row) row
+
+  given-row_none : (row : EntryRow) (own : Bool) → cond own (remade (after_messages []) row) row ≡ row
+  given-row_none row true = refl
+  given-row_none row false = refl
+
+  map-same : (f : EntryRow → EntryRow) → ((row : EntryRow) → f row ≡ row) → (rows : List EntryRow) → map f rows ≡ rows
+  map-same f same [] = refl
+  map-same f same (row ∷ rows) = λ i. same row i ∷ map-same f same rows i
+
+  pub given-none : (t : Table) → t ≡ changed_where (is_of_client client) (after_messages []) t
+  given-none t = ap (λ (rows : List EntryRow). record t { rows = rows }) (sym (map-same (given_to []) (λ row. given-row_none row (is_of_client client row)) t.rows))
+
+  -- given once more
+  twice : (e : Entry) (caps recall more_caps more_recall : Bool) → unasked_if more_recall (told_if more_caps (unasked_if recall (told_if caps e))) ≡ unasked_if (recall || more_recall) (told_if (caps || more_caps) e)
+  twice e false false false false = refl
+  twice e false false false true = refl
+  twice e false false true false = refl
+  twice e false false true true = refl
+  twice e false true false false = refl
+  twice e false true false true = refl
+  twice e false true true false = refl
+  twice e false true true true = refl
+  twice e true false false false = refl
+  twice e true false false true = refl
+  twice e true false true false = refl
+  twice e true false true true = refl
+  twice e true true false false = refl
+  twice e true true false true = refl
+  twice e true true true false = refl
+  twice e true true true true = refl
+
+  given-row_more : (done more : List Message) (row : EntryRow) (own : Bool) → is_of_client client row ≡ own → given_to more (given_to done row) ≡ given_to (done ++ more) row
+  given-row_more done more row true is =
+      ap (λ b. given_to more (cond b (remade (after_messages done) row) row)) is
+      ∙ ap (λ b. cond b (remade (after_messages more) (remade (after_messages done) row)) (remade (after_messages done) row)) is
+      ∙ (λ i. record row { entry = both i })
+      ∙ sym (ap (λ b. cond b (remade (after_messages (done ++ more)) row) row) is)
+    where
+      both : after_messages more (remade (after_messages done) row) ≡ after_messages (done ++ more) row
+      both =
+          twice row.entry (list_any (is_caps_of row.holder.ino) done) (list_any (is_recall_of row.holder.ino) done) (list_any (is_caps_of row.holder.ino) more) (list_any (is_recall_of row.holder.ino) more)
+          ∙ sym (λ i. unasked_if (list_any-append (is_recall_of row.holder.ino) done more i) (told_if (list_any-append (is_caps_of row.holder.ino) done more i) row.entry))
+  given-row_more done more row false is =
+      ap (λ b. given_to more (cond b (remade (after_messages done) row) row)) is
+      ∙ ap (λ b. cond b (remade (after_messages more) row) row) is
+      ∙ sym (ap (λ b. cond b (remade (after_messages (done ++ more)) row) row) is)
+
+  map-map : (f g h : EntryRow → EntryRow) → ((row : EntryRow) → f (g row) ≡ h row) → (rows : List EntryRow) → map f (map g rows) ≡ map h rows
+  map-map f g h same [] = refl
+  map-map f g h same (row ∷ rows) = λ i. same row i ∷ map-map f g h same rows i
+
+  pub given-more : (done more : List Message) (t : Table)
+      → changed_where (is_of_client client) (after_messages more) (changed_where (is_of_client client) (after_messages done) t) ≡ changed_where (is_of_client client) (after_messages (done ++ more)) t
+  given-more done more t =
+      ap (λ (rows : List EntryRow). record t { rows = rows })
+      (map-map (given_to more) (given_to done) (given_to (done ++ more)) (λ row. given-row_more done more row (is_of_client client row) refl) t.rows)
+
+-- ---- one message
+
+-- the holder is the client on the inode
+or_false : (b : Bool) → (b || false) ≡ b
+or_false true = refl
+or_false false = refl
+
+and_symm : (a b c d : ℕ) → ((a == b) && (c == d)) ≡ ((a == b) && (d == c))
+and_symm a b c d = λ i. (a == b) && nat_eq_equiv.symm c d i
+
+module _ (g : EntryRow → Entry) (given : List Message) (client : ClientId) (ino : Ino)
+    (does : (row : EntryRow) → after_messages given row ≡ cond (ino.0 == row.holder.ino.0) (g row) row.entry) where
+  one_row : (row : EntryRow) (own there : Bool) → cond (own && there) (record row { entry = g row }) row ≡ cond own (record row { entry = cond there (g row) row.entry }) row
+  one_row row true true = refl
+  one_row row true false = refl
+  one_row row false there = refl
+
+  named : (row : EntryRow) → is_among (holder client ino ∷ []) row.holder ≡ (is_of_client client row && (ino.0 == row.holder.ino.0))
+  named row = or_false (same row.holder (holder client ino)) ∙ and_symm row.holder.client.0 client.0 row.holder.ino.0 ino.0
+
+  each_row : (row : EntryRow) → cond (is_among (holder client ino ∷ []) row.holder) (remade g row) row ≡ cond (is_of_client client row) (remade (after_messages given) row) row
+  each_row row =
+      ap (λ b. cond b (remade g row) row) (named row)
+      ∙ one_row row (is_of_client client row) (ino.0 == row.holder.ino.0)
+      ∙ ap (λ (e : Entry). cond (is_of_client client row) (record row { entry = e }) row) (sym (does row))
+
+  one-given : (t : Table) → IsTable t → changed t (holder client ino) (λ e. g (record { holder = holder client ino; entry = e })) ≡ changed_where (is_of_client client) (after_messages given) t
+  unfolding IsDistinct
+  one-given t is =
+      fold-changed_by g t (holder client ino ∷ []) is (tt, tt)
+      ∙ ap (λ (rows : List EntryRow). record t { rows = rows })
+      (map_alike (λ row. cond (is_among (holder client ino ∷ []) row.holder) (remade g row) row) (λ row. cond (is_of_client client row) (remade (after_messages given) row) row) each_row t.rows)
+
+caps_if : (e : Entry) (b : Bool) → unasked_if false (told_if (b || false) e) ≡ cond b (told e) e
+caps_if e true = refl
+caps_if e false = refl
+
+recall_if : (e : Entry) (b : Bool) → unasked_if (b || false) (told_if false e) ≡ cond b (with_asked false e) e
+recall_if e true = refl
+recall_if e false = refl
+
+pub caps-given : (client : ClientId) (ino : Ino) (seq : ℕ) (caps : Caps) (t : Table) → IsTable t
+    → changed t (holder client ino) told ≡ changed_where (is_of_client client) (after_messages (message.Caps ino seq caps ∷ [])) t
+caps-given client ino seq caps t is =
+    one-given (λ row. told row.entry) (message.Caps ino seq caps ∷ []) client ino (λ row. caps_if row.entry (ino.0 == row.holder.ino.0)) t is
+
+pub recall-given : (client : ClientId) (ino : Ino) (t : Table) → IsTable t
+    → changed t (holder client ino) (with_asked false) ≡ changed_where (is_of_client client) (after_messages (message.Recall ino ∷ [])) t
+recall-given client ino t is =
+    one-given (λ row. with_asked false row.entry) (message.Recall ino ∷ []) client ino (λ row. recall_if row.entry (ino.0 == row.holder.ino.0)) t is

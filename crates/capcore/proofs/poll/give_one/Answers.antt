@@ -1,0 +1,16 @@
+use Rattle.std.proofs.Common.{◌∙◌}
+use Rattle.capcore.proofs.Polling.{given-none, caps-given, recall-given}
+use Rattle.capcore.proofs.poll.give_one.Goals as goal
+
+pub returns-in-Caps : goal.returns-in-Caps
+returns-in-Caps c =
+    rw c.in-Caps.is
+    (c.tell.ensures ∙ caps-given c.args.client c.in-Caps.ino c.in-Caps.seq c.in-Caps.caps c.args.table.now c.oldest-oldest.ensures.sound)
+
+pub returns-in-Recall : goal.returns-in-Recall
+returns-in-Recall c =
+    rw c.in-Recall.is
+    (c.ask.ensures ∙ recall-given c.args.client c.in-Recall.ino c.args.table.now c.oldest-oldest.ensures.sound)
+
+pub returns-in-Ended : goal.returns-in-Ended
+returns-in-Ended c = rw c.in-Ended.is (given-none c.args.client c.args.table.now)

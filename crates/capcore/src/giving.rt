@@ -1,0 +1,17 @@
+//! What a client is told at the end of a step. No program needs to call this law.
+
+ghost use Rattle.std.specs.Prelude.{ℕ};
+ghost use Rattle.captable.specs.Table.{IsTable};
+ghost use Rattle.lockmachine.specs.Scene.{Scene};
+ghost use Rattle.capcore.specs.State.{State};
+ghost use Rattle.capcore.specs.Direct.{Answer, shown};
+ghost use Rattle.capcore.specs.Headline.{IssuesExactly};
+ghost use Rattle.capcore.specs.Sound.{IsSound, AreGiven};
+
+/// What a client is told at the end of a step leaves a sound state sound, nothing to do and all that is held as it was.
+pub fn telling_leaves_all_but_what_was_told()
+    ensures sound { (s : State) (answer : Answer) → IsSound s → IsTable s.scene.table → IsSound (shown answer s) }
+    ensures given { (count : ℕ) (s : State) (answer : Answer) → AreGiven count s → AreGiven count (shown answer s) }
+    ensures issued { (first : Scene) (s : State) (answer : Answer) → IsTable s.scene.table → IssuesExactly first s.scene
+        → IssuesExactly first (shown answer s).scene }
+{}

@@ -1,0 +1,92 @@
+//! The messages that a client is given when it asks for them.
+ghost use Rattle.std.specs.Prelude.{◌≡◌, ◌≤◌, ◌++◌, [], ◌∷◌, length, take, IfOk, OnOk};
+ghost use Rattle.captable.specs.Calls.{is_of_client};
+ghost use Rattle.captable.specs.Many.{changed_where};
+ghost use Rattle.lockmachine.specs.Scene.{Scene};
+ghost use Rattle.capcore.specs.Messages.{after_messages, caps_messages, first_messages, recall_messages};
+ghost use Rattle.capcore.specs.State.{State};
+
+use crate::outcome::{Message, MessageList};
+use crate::told::told_set_of;
+use capbits::ClientId;
+use captable::{CapTable, EntryRow};
+use lockmachine::Locks;
+use std::alloc::{AllocError, Global};
+
+// The first messages that are due to a client, at most so many, where no request of its own has ended.
+pub(crate) fn due_messages(
+    alloc: Global,
+    table: &CapTable,
+    locks: &Locks,
+    client: ClientId,
+    max: u32,
+) -> Result<MessageList, AllocError>
+    ensures { IfOk result (λ due. (s : State) → s.scene.table ≡ table.now → s.scene.locks ≡ locks.now → s.messages ≡ []
+        → due ≡ first_messages s client max) }
+{
+    let mut due = MessageList::new(alloc);
+    let mut walk = table.entries_of(client);
+    'rows: while let Some(row) = walk.next() {
+        add_due(&mut due, max, locks, &row)?;
+        if due.as_slice().len() >= max as usize {
+            return Ok(due);
+        }
+    }
+    Ok(due)
+}
+
+// Adds those that are due to the client of an entry, so far as no more than the most are listed.
+fn add_due(
+    list: &mut MessageList,
+    max: u32,
+    locks: &Locks,
+    row: &EntryRow,
+) -> Result<(), AllocError>
+    requires room { length list.old ≤ max }
+    ensures ok { OnOk result ((s : Scene) → s.locks ≡ locks.now
+        → list.new ≡ take max (list.old ++ (caps_messages s row.now ++ recall_messages row.now))) }
+{
+    let ino = row.holder.ino;
+    if row.entry.told_seq < row.entry.seq {
+        let seq = row.entry.seq;
+        let caps = told_set_of(locks, row);
+        add(list, max, Message::Caps { ino, seq, caps })?;
+    }
+    if row.entry.asked {
+        add(list, max, Message::Recall { ino })?;
+    }
+    Ok(())
+}
+
+// Adds a message, if fewer than the most are listed.
+fn add(list: &mut MessageList, max: u32, message: Message) -> Result<(), AllocError>
+    requires room { length list.old ≤ max }
+    ensures ok { OnOk result (list.new ≡ take max (list.old ++ message ∷ [])) }
+{
+    if list.as_slice().len() < max as usize {
+        list.push(message)?;
+    }
+    Ok(())
+}
+
+// The client is told of the changes that these messages say, and asked no more where they ask.
+pub(crate) fn give(table: &mut CapTable, client: ClientId, given: &[Message])
+    ensures { table.new ≡ changed_where (is_of_client client) (after_messages given.now) table.old }
+{
+    for message in given {
+        give_one(table, client, message);
+    }
+}
+
+// The same of one message.
+fn give_one(table: &mut CapTable, client: ClientId, message: &Message)
+    ensures { table.new ≡ changed_where (is_of_client client) (after_messages (message.now ∷ [])) table.old }
+{
+    // A look at the entries, by which the proof knows what they keep.
+    let _oldest = table.oldest();
+    match message {
+        Message::Caps { ino, .. } => table.tell(client, *ino),
+        Message::Recall { ino } => table.ask(client, *ino, false),
+        Message::Ended { .. } => {}
+    }
+}
