@@ -5,6 +5,7 @@
 
 mod copies;
 mod event;
+mod finish;
 mod history;
 mod laws;
 mod messages;
