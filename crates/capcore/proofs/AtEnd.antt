@@ -1,17 +1,13 @@
 -- The end of a step at one inode: its entries one by one, and the inode itself.
-use Rattle.std.proofs.Common.{◌≡◌, ℕ, zero, suc, ◌+◌, ◌<◌, Bool, true, false, cond, not, ◌||◌, Option, Some, None, List, [], ◌∷◌, ◌++◌, length, filter, map as each, take, get_or, refl, sym, ap, subst, ◌∙◌, arith}
-use Rattle.std.specs.Prelude.{◌≢◌, All, IfSome, ◌==◌}
-use Rattle.std.specs.List.{find, list_any, fold, AllByRecursion, IsDistinct}
+use Rattle.std.proofs.Common.{◌≡◌, ℕ, zero, suc, ◌<◌, Bool, true, false, cond, ◌||◌, Option, Some, None, List, [], ◌∷◌, length, filter, map as each, take, get_or, refl, sym, ap, ◌∙◌, arith}
+use Rattle.std.specs.Prelude.{All, IfSome}
+use Rattle.std.specs.List.{find, list_any, fold, IsDistinct}
 use Rattle.std.specs.FinMap as map
 use Rattle.std.proofs.lemmas.Bool.{eqb-true}
 use Rattle.std.proofs.lemmas.List.Elements.{All-contains}
 use Rattle.std.proofs.lemmas.Map.Keys.{apart_from_distinct}
 use Rattle.capbits.specs.declared.ids.Ino.{Ino}
-use Rattle.inotree.specs.declared.node.Place.{Place}
-use Rattle.inotree.specs.declared.node.Place.TheVariants.{NoIno, Gone, Here}
-use Rattle.inotree.specs.Tree.{Nodes, place}
-use Rattle.inotree.specs.Tests.{is_gone}
-use Rattle.inotree.specs.Calls.{forgotten}
+use Rattle.inotree.specs.Tree.{Nodes}
 use Rattle.sessiontab.specs.Table.{SessionTable}
 use Rattle.captable.specs.declared.entry.Entry.{Entry}
 use Rattle.captable.specs.declared.entry.EntryRow.{EntryRow}
@@ -23,11 +19,10 @@ use Rattle.captable.proofs.Tables.{same_equiv, same-is}
 use Rattle.captable.proofs.ByHolder.{entry_at-changed_other}
 use Rattle.captable.proofs.Searches.{find_passes}
 use Rattle.lockmachine.specs.declared.states.InodeLocks.{InodeLocks}
-use Rattle.lockmachine.specs.Locks.{LockMap, without_ino}
+use Rattle.lockmachine.specs.Locks.{LockMap}
 use Rattle.lockmachine.specs.Scene.{Scene, scene}
-use Rattle.capcore.specs.Finish.{is_kept}
 use Rattle.capcore.specs.Finishing.{entry_under}
-use Rattle.capcore.specs.Touching.{finished_entry, forget_at}
+use Rattle.capcore.specs.Touching.{finished_entry}
 use Rattle.capcore.proofs.Leaving.{found-contains}
 
 -- ---- who has an entry
@@ -119,24 +114,3 @@ at-end fs tree sessions t locks ino old before now was is =
         let then : before ≡ map.get old.locks.states row.holder.ino.0 = sym (ap (map.get old.locks.states) here ∙ was) in
         let at : now ≡ map.get locks.states row.holder.ino.0 = is ∙ sym (ap (map.get locks.states) here) in
         λ i. entry_under fs tree sessions (then i) (at i) row
-
--- ---- the inode
-
--- an inode that stands somewhere, or that somebody has an entry on, stays
-pub stays : (s : Scene) (ino : ℕ) → is_kept s ino ≡ true → s ≡ forget_at ino s
-stays s ino kept = sym (ap (λ b. cond b s (record s { tree = forgotten s.tree ino; locks = without_ino s.locks ino })) kept)
-
--- any other goes
-pub goes : (s : Scene) (ino : ℕ) → is_kept s ino ≡ false → ◌≡◌ {A = Scene} (record s { tree = forgotten s.tree ino; locks = without_ino s.locks ino }) (forget_at ino s)
-goes s ino out = sym (ap (λ b. cond b s (record s { tree = forgotten s.tree ino; locks = without_ino s.locks ino })) out)
-
-pub kept-place : (s : Scene) (ino : ℕ) (p : Place) → place s.tree.nodes ino ≡ p → (p ≡ Gone → ⊥) → is_kept s ino ≡ true
-kept-place s ino p is stands = ap (λ p. not (is_gone p) || list_any (is_of_inode (record { 0 = ino })) s.table.rows) is ∙ by_place p stands
-  where
-    by_place : (p : Place) → (p ≡ Gone → ⊥) → (not (is_gone p) || list_any (is_of_inode (record { 0 = ino })) s.table.rows) ≡ true
-    by_place NoIno stands = refl
-    by_place Here stands = refl
-    by_place Gone stands = absurd (stands refl)
-
-pub kept-stray : (s : Scene) (ino : ℕ) → place s.tree.nodes ino ≡ Gone → is_kept s ino ≡ list_any (is_of_inode (record { 0 = ino })) s.table.rows
-kept-stray s ino is = ap (λ p. not (is_gone p) || list_any (is_of_inode (record { 0 = ino })) s.table.rows) is

@@ -1,17 +1,18 @@
 -- The clients with an entry on an inode have a session each, so they are no more than the sessions.
-use Rattle.std.proofs.Common.{◌≡◌, ℕ, ◌≤◌, Bool, true, false, cond, not, ◌||◌, ◌&&◌, List, [], ◌∷◌, length, filter, map as each, is_some, refl, sym, ap, subst, ◌∙◌, arith, length-map}
+use Rattle.std.proofs.Common.{◌≡◌, ℕ, ◌≤◌, Bool, true, false, cond, ◌||◌, List, [], ◌∷◌, length, filter, map as each, is_some, refl, sym, ap, subst, ◌∙◌, arith}
 use Rattle.std.specs.Prelude.{IsTrue, All, ◌==◌}
 use Rattle.std.specs.List.{list_any, AllByRecursion, IsDistinct}
-use Rattle.std.specs.Map.{lookup}
 use Rattle.std.specs.Ordering.{nat_cmp, eq_by_cmp}
 use Rattle.std.specs.Cmp.{nat_cmp_total, eq_by_cmp_equiv}
 use Rattle.std.specs.FinMap as map
 use Rattle.std.specs.FinMap.Entries.{is_some-find}
 use Rattle.std.proofs.lemmas.Bool.{eqb-true}
+use Rattle.std.proofs.lemmas.List.{length-map}
 use Rattle.std.proofs.lemmas.List.Elements.{All-map, All-filter, recursion_from_All}
 use Rattle.std.proofs.lemmas.Map.Made.{is_some-lookup}
 use Rattle.std.proofs.lemmas.Map.Steps.{length-le_from_keys}
 use Rattle.capbits.specs.declared.ids.Ino.{Ino}
+use Rattle.sessiontab.specs.declared.table.TheConstants.{MAX_SESSIONS}
 use Rattle.sessiontab.specs.Table.{SessionTable, IsSound}
 use Rattle.sessiontab.specs.Calls.{has_session}
 use Rattle.captable.specs.declared.entry.EntryRow.{EntryRow}
@@ -41,12 +42,12 @@ module _ {X : Type 0} (m : map.FinMap nat_cmp X) where
   few_keys : (ks : List ℕ) → IsDistinct same_number ks → AllByRecursion (λ k. map.contains_key m k ≡ true) ks → length ks ≤ map.len m
   few_keys ks apart all =
       let few : length ks ≤ length (map.entries m) = length-le_from_keys (eq_by_cmp_equiv nat_cmp_total) ks (map.entries m) apart (λ q is.
-          is_some-lookup (same_number q) (map.entries m) ∙ sym (is_some-find nat_cmp q (map.entries m)) ∙ sym (ap is_some (map.get-entries m q)) ∙ there ks all q is) in
+      is_some-lookup (same_number q) (map.entries m) ∙ sym (is_some-find nat_cmp q (map.entries m)) ∙ sym (ap is_some (map.get-entries m q)) ∙ there ks all q is) in
       omega (arith, few, map.len-entries m)
 
 -- ---- holders on one inode
 
--- the clients on the inode
+-- the clients, on the inode
 abbrev pub named : Ino → List ℕ → List Holder
 named ino clients = each (λ c. holder (record { 0 = c }) ino) clients
 
@@ -87,13 +88,13 @@ distinct_numbers ino (c ∷ cs) apart = (other_numbers ino c cs apart.0, distinc
 
 -- the entries on an inode are at most as many as the sessions may be
 pub few-entries : (t : Table) (ino : Ino) (s : SessionTable) → IsTable t → IsSound s → All (λ row. IsTrue (has_session s row.holder.client.0)) t.rows
-    → length (entries_on t ino) ≤ 64
+    → length (entries_on t ino) ≤ MAX_SESSIONS
 few-entries t ino s is sound connected =
     let rows : List EntryRow = entries_on t ino in
     let apart : IsDistinct same (named ino (clients_of rows)) = subst (IsDistinct same) (sym (named-clients ino t.rows)) (distinct-on t ino is) in
     let all = recursion_from_All (λ k. map.contains_key s.sessions k ≡ true) (clients_of rows)
-        (All-map (λ k. map.contains_key s.sessions k ≡ true) (λ row. row.holder.client.0) rows
-        (All-filter (is_of_inode ino) (λ row. IsTrue (has_session s row.holder.client.0)) t.rows connected)) in
+    (All-map (λ k. map.contains_key s.sessions k ≡ true) (λ row. row.holder.client.0) rows
+    (All-filter (is_of_inode ino) (λ row. IsTrue (has_session s row.holder.client.0)) t.rows connected)) in
     let few : length (clients_of rows) ≤ map.len s.sessions = few_keys s.sessions (clients_of rows) (distinct_numbers ino (clients_of rows) apart) all in
     let as_many : length (clients_of rows) ≡ length rows = length-map rows (λ (row : EntryRow). row.holder.client.0) in
     omega (arith, few, as_many, sound.sessions)

@@ -1,10 +1,10 @@
 //! The end of a step at the one inode that it touched.
-ghost use Rattle.std.specs.Prelude.{◌≡◌, ◌≤◌, ◌<◌, ◌^◌, ◌-◌, ℕ, List, Some, IsTrue, All, IfSome, length};
+ghost use Rattle.std.specs.Prelude.{◌≡◌, ◌<◌, ◌^◌, ◌-◌, ℕ, List, Some, IsTrue, All, IfSome};
 ghost use Rattle.std.specs.List.{find, list_any};
 ghost use Rattle.std.specs.FinMap as map;
-ghost use Rattle.sessiontab.specs.Table.{SessionTable, IsSound};
+ghost use Rattle.sessiontab.specs.Table.{SessionTable};
 ghost use Rattle.sessiontab.specs.Calls.{has_session};
-ghost use Rattle.captable.specs.Table.{is_row_of, entry_at};
+ghost use Rattle.captable.specs.Table.{IsTable, is_row_of, entry_at};
 ghost use Rattle.captable.specs.Calls.{told, changed, is_of_inode, entries_on};
 ghost use Rattle.captable.specs.Many.{changed_by, changed_where};
 ghost use Rattle.lockmachine.specs.Scene.{Scene, scene, against_lock};
@@ -21,7 +21,7 @@ use captable::{CapTable, Entry, EntryRow, Holder};
 use inotree::{Place, Tree};
 use lockmachine::{InodeLocks, Locks, effective_want};
 use locktable::{LockState, allowed, row};
-use sessiontab::Sessions;
+use sessiontab::{MAX_SESSIONS, Sessions};
 
 // ---- at one inode
 
@@ -64,8 +64,7 @@ fn finish_entries(
     ensures { table.new
         ≡ changed_where (is_of_inode ino) (words.entry_under fs.now tree.now sessions.now before.now now.now) table.old }
 {
-    know_sound(sessions);
-    let clients = clients_on(table, ino);
+    let clients = clients_on(sessions, table, ino);
     let numbers = clients.as_slice();
     for number in numbers {
         let client = ClientId(*number);
@@ -74,18 +73,14 @@ fn finish_entries(
     }
 }
 
-// The sessions are sound, so they are few.
-fn know_sound(sessions: &Sessions)
-    ensures { IsSound sessions.now }
+// The clients with an entry on an inode, in the order of making. Each has a session, so there is room for them.
+fn clients_on(sessions: &Sessions, table: &CapTable, ino: Ino) -> ArrayVec<u32, MAX_SESSIONS>
+    requires { All (λ row. IsTrue (has_session sessions.now row.holder.client.0)) table.now.rows }
+    ensures clients { result.items ≡ words.clients_of (entries_on table.now ino) }
+    ensures sound { IsTable table.now }
 {
+    // Whichever session is looked up, the look-up says that there are at most `MAX_SESSIONS`.
     let _status = sessions.status(ClientId(0));
-}
-
-// The clients with an entry on an inode, in the order of making. Each has a session, so they are few.
-fn clients_on(table: &CapTable, ino: Ino) -> ArrayVec<u32, 64>
-    requires few { length (entries_on table.now ino) ≤ 64 }
-    ensures { result.items ≡ words.clients_of (entries_on table.now ino) }
-{
     let mut clients = ArrayVec::new();
     let mut walk = table.holders_of(ino);
     'rows: while let Some(row) = walk.next() {

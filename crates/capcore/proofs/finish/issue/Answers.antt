@@ -16,7 +16,7 @@ renumber-requires c =
     let k : Holder = c.args.row.now.holder in
     let more : Entry → Entry = issued c.args.due in
     let now : entry_at c.issue.new.self k ≡ Some (more c.args.row.now.entry) =
-        ap (λ (t : Table). entry_at t k) c.issue.ensures ∙ entry_at-changed c.args.table.now k more ∙ ap (option_map more) c.requires.there in
+    ap (λ (t : Table). entry_at t k) c.issue.ensures ∙ entry_at-changed c.args.table.now k more ∙ ap (option_map more) c.requires.there in
     subst (λ (o : Option Entry). IfSome o (λ e. e.seq < 18446744073709551615)) (sym now) c.requires.room
 
 pub returns : goal.returns
@@ -27,9 +27,9 @@ returns c =
     let more : Entry → Entry = issued c.args.due in
     let number : Entry → Entry = renumbered c.told_under-told_before.result c.told_under-told_now.result in
     let told_now : c.told_under-told_now.result ≡ words.told_under c.args.now.now (words.with_issued c.args.due c.args.row.now) =
-        c.told_under-told_now.ensures ∙ ap (words.told_under c.args.now.now) c.with_issued-issued.ensures in
+    c.told_under-told_now.ensures ∙ ap (words.told_under c.args.now.now) c.with_issued-issued.ensures in
     let is : words.numbered_under c.args.before.now c.args.now.now c.args.due c.args.row.now ≡ number (more e) =
-        sym (λ i. renumbered (c.told_under-told_before.ensures i) (told_now i) (more e)) in
+    sym (λ i. renumbered (c.told_under-told_before.ensures i) (told_now i) (more e)) in
     c.renumber.ensures
     ∙ ap (λ (t : Table). changed t k number) c.issue.ensures
     ∙ changed-twice t k more number

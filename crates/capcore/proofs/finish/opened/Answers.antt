@@ -20,5 +20,5 @@ returns c = λ s same.
     let row : EntryRow = record { holder = k; entry = c.in-Some.entry } in
     let found : entry_at t k ≡ Some c.in-Some.entry = cc in
     let told : c.told_under-caps.result ≡ told_set s row =
-        c.told_under-caps.ensures ∙ ap (λ (o : Option InodeLocks). told_under o row) (c.of_ino.ensures ∙ ap (λ (l : LockMap). map.get l.states k.ino.0) (sym same)) in
+    c.told_under-caps.ensures ∙ ap (λ (o : Option InodeLocks). told_under o row) (c.of_ino.ensures ∙ ap (λ (l : LockMap). map.get l.states k.ino.0) (sym same)) in
     ap (λ (caps : Caps). Opened c.in-Some.entry.seq caps) told ∙ sym (ap (opened_as s) (row_of-entry t k c.in-Some.entry found))
