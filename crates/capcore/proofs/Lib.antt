@@ -1,4 +1,6 @@
 pub mod Apart
+pub mod AtEnd
+pub mod Counting
 pub mod Effects
 pub mod Finishing
 pub mod FirstLocks

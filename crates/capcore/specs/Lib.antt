@@ -9,6 +9,7 @@ pub mod Messages
 pub mod Step
 pub mod Touch
 pub mod Touching
+pub mod Finishing
 pub mod History
 pub mod Codes
 pub mod Headline

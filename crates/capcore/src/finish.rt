@@ -1,25 +1,33 @@
 //! The end of a step at the one inode that it touched.
-ghost use Rattle.std.specs.Prelude.{◌≡◌, ◌<◌, ◌^◌, ◌-◌, IsTrue, All};
-ghost use Rattle.std.specs.List.{find};
+ghost use Rattle.std.specs.Prelude.{◌≡◌, ◌<◌, ◌^◌, ◌-◌, ℕ, List, Some, IsTrue, All, IfSome};
+ghost use Rattle.std.specs.List.{find, list_any};
 ghost use Rattle.std.specs.FinMap as map;
+ghost use Rattle.sessiontab.specs.Table.{SessionTable};
 ghost use Rattle.sessiontab.specs.Calls.{has_session};
-ghost use Rattle.captable.specs.Table.{is_row_of};
-ghost use Rattle.captable.specs.Calls.{told, changed};
-ghost use Rattle.lockmachine.specs.Scene.{Scene, scene, told_set};
+ghost use Rattle.captable.specs.Table.{IsTable, is_row_of, entry_at};
+ghost use Rattle.captable.specs.Calls.{told, changed, is_of_inode, entries_on};
+ghost use Rattle.captable.specs.Many.{changed_by, changed_where};
+ghost use Rattle.lockmachine.specs.Scene.{Scene, scene, against_lock};
+ghost use Rattle.capcore.specs.Finish.{allowed_by};
+ghost use Rattle.capcore.specs.Finishing as words;
 ghost use Rattle.capcore.specs.Direct.{opened_as};
-ghost use Rattle.capcore.specs.Judge.{revoked_of};
-ghost use Rattle.capcore.specs.Touching.{finished_at};
+ghost use Rattle.capcore.specs.Touching.{forget_at, finished_at};
 
 use crate::reply::Reply;
-use capbits::{CapSet, Ino};
+use arrayvec::ArrayVec;
+use capbits::{Cap, CapSet, ClientId, Ino, Part};
 use capspec::FsName;
-use captable::{CapTable, Holder};
-use inotree::Tree;
-use lockmachine::{InodeLocks, Locks};
-use sessiontab::Sessions;
+use captable::{CapTable, Entry, EntryRow, Holder};
+use inotree::{Place, Tree};
+use lockmachine::{InodeLocks, Locks, effective_want};
+use locktable::{LockState, allowed, row};
+use sessiontab::{MAX_SESSIONS, Sessions};
+
+// ---- at one inode
 
 // Issues what is due on the inode, numbers what its clients are to know of, and forgets it if it is a stray that nobody has
 // an entry on. Its locks have settled, and were these when the event came.
+#[allow(dead_code)]
 pub(crate) fn finish_at(
     fs: &FsName,
     tree: &mut Tree,
@@ -35,13 +43,213 @@ pub(crate) fn finish_at(
         → scene fs.now tree.new sessions.now table.new locks.new
         ≡ finished_at ino.0 old (scene fs.now tree.old sessions.now table.old locks.old) }
 {
+    let now = locks.of_ino(ino);
+    finish_entries(fs, tree, sessions, table, ino, &before, &now);
+    forget_unheld(tree, table, locks, ino);
 }
 
+// Issues what is due on the inode, and numbers what its clients are to know of, where it had these locks when the event came,
+// and has those now.
+fn finish_entries(
+    fs: &FsName,
+    tree: &Tree,
+    sessions: &Sessions,
+    table: &mut CapTable,
+    ino: Ino,
+    before: &Option<InodeLocks>,
+    now: &Option<InodeLocks>,
+)
+    requires numbers { All (λ row. row.entry.seq < 2 ^ 64 - 1) table.old.rows }
+    requires clients { All (λ row. IsTrue (has_session sessions.now row.holder.client.0)) table.old.rows }
+    ensures { table.new
+        ≡ changed_where (is_of_inode ino) (words.entry_under fs.now tree.now sessions.now before.now now.now) table.old }
+{
+    let clients = clients_on(sessions, table, ino);
+    let numbers = clients.as_slice();
+    for number in numbers {
+        let client = ClientId(*number);
+        let holder = Holder { client, ino };
+        finish_entry(fs, tree, sessions, table, holder, before, now);
+    }
+}
+
+// The clients with an entry on an inode, in the order of making. Each has a session, so there is room for them.
+fn clients_on(sessions: &Sessions, table: &CapTable, ino: Ino) -> ArrayVec<u32, MAX_SESSIONS>
+    requires { All (λ row. IsTrue (has_session sessions.now row.holder.client.0)) table.now.rows }
+    ensures clients { result.items ≡ words.clients_of (entries_on table.now ino) }
+    ensures sound { IsTable table.now }
+{
+    // Whichever session is looked up, the look-up says that there are at most `MAX_SESSIONS`.
+    let _status = sessions.status(ClientId(0));
+    let mut clients = ArrayVec::new();
+    let mut walk = table.holders_of(ino);
+    'rows: while let Some(row) = walk.next() {
+        let client = row.holder.client;
+        clients.push(client.0);
+    }
+    clients
+}
+
+// Forgets the inode and its locks, if it is a stray that nobody has an entry on.
+fn forget_unheld(tree: &mut Tree, table: &CapTable, locks: &mut Locks, ino: Ino)
+    ensures { (fs : List ℕ) (sessions : SessionTable) → scene fs tree.new sessions table.now locks.new
+        ≡ forget_at ino.0 (scene fs tree.old sessions table.now locks.old) }
+{
+    match tree.place(ino) {
+        Place::Gone => {
+            if !is_held(table, ino) {
+                tree.forget(ino);
+                locks.drop_ino(ino);
+            }
+        }
+        Place::NoIno | Place::Here => {}
+    }
+}
+
+// Whether somebody has an entry on the inode.
+fn is_held(table: &CapTable, ino: Ino) -> bool
+    ensures { result ≡ list_any (is_of_inode ino) table.now.rows }
+{
+    let mut walk = table.holders_of(ino);
+    match walk.next() {
+        Some(_row) => true,
+        None => false,
+    }
+}
+
+// ---- of one entry
+
+// Issues what is due to the holder, and numbers what its client is to know of.
+fn finish_entry(
+    fs: &FsName,
+    tree: &Tree,
+    sessions: &Sessions,
+    table: &mut CapTable,
+    holder: Holder,
+    before: &Option<InodeLocks>,
+    now: &Option<InodeLocks>,
+)
+    requires { IfSome (entry_at table.old holder) (λ entry. entry.seq < 2 ^ 64 - 1) }
+    ensures { table.new
+        ≡ changed_by (words.entry_under fs.now tree.now sessions.now before.now now.now) table.old holder }
+{
+    if let Some(entry) = table.find(holder.client, holder.ino) {
+        let row = EntryRow { holder, entry };
+        let due = effective_want(fs, tree, sessions, row).meet(allowed_under(&row, now));
+        issue(table, &row, due, before, now);
+    }
+}
+
+// Issues this to the entry's client, and numbers what it is to know of.
+fn issue(
+    table: &mut CapTable,
+    row: &EntryRow,
+    due: CapSet,
+    before: &Option<InodeLocks>,
+    now: &Option<InodeLocks>,
+)
+    requires there { entry_at table.old row.now.holder ≡ Some row.now.entry }
+    requires room { row.now.entry.seq < 2 ^ 64 - 1 }
+    ensures { table.new ≡ changed table.old row.now.holder (λ _. words.numbered_under before.now now.now due row.now) }
+{
+    let (client, ino) = (row.holder.client, row.holder.ino);
+    let told_before = told_under(row, before);
+    let issued = with_issued(row, due);
+    let told_now = told_under(&issued, now);
+    table.issue(client, ino, due);
+    table.renumber(client, ino, told_before, told_now);
+}
+
+// The entry, with more held.
+fn with_issued(row: &EntryRow, due: CapSet) -> EntryRow
+    ensures { result ≡ words.with_issued due row.now }
+{
+    let held = row.entry.held.union(due);
+    let entry = Entry { held, ..row.entry };
+    EntryRow { entry, ..*row }
+}
+
+// What the client is to know that it holds, under these locks of the inode.
+fn told_under(row: &EntryRow, locks: &Option<InodeLocks>) -> CapSet
+    ensures { result ≡ words.told_under locks.now row.now }
+{
+    let auth = against_under(Part::A, row, locks);
+    let link = against_under(Part::L, row, locks);
+    let xattr = against_under(Part::X, row, locks);
+    let file = against_under(Part::F, row, locks);
+    row.entry
+        .held
+        .minus(auth.union(link.union(xattr.union(file))))
+}
+
+// What is being revoked of a part.
+fn against_under(part: Part, entry: &EntryRow, locks: &Option<InodeLocks>) -> CapSet
+    ensures { result ≡ against_lock part entry.now (words.lock_under locks.now part) }
+{
+    match lock_under(locks, part) {
+        Some(LockState::Gather { to, .. }) => entry
+            .entry
+            .held
+            .part(part)
+            .minus(row(part, to, entry.holder.client)),
+        Some(LockState::Stable(_)) | None => CapSet::empty(),
+    }
+}
+
+// What these locks of the inode let the client hold, and the pin always.
+fn allowed_under(row: &EntryRow, locks: &Option<InodeLocks>) -> CapSet
+    ensures { result ≡ words.allowed_under locks.now row.now }
+{
+    let auth = allowed_part(Part::A, row, locks);
+    let link = allowed_part(Part::L, row, locks);
+    let xattr = allowed_part(Part::X, row, locks);
+    let file = allowed_part(Part::F, row, locks);
+    CapSet::of(&[Cap::P]).union(auth.union(link.union(xattr.union(file))))
+}
+
+// What they let the client hold of a part.
+fn allowed_part(part: Part, row: &EntryRow, locks: &Option<InodeLocks>) -> CapSet
+    ensures { result ≡ allowed_by part row.now (words.lock_under locks.now part) }
+{
+    match lock_under(locks, part) {
+        Some(lock) => allowed(part, lock, row.holder.client),
+        None => CapSet::empty(),
+    }
+}
+
+// The lock of a part.
+fn lock_under(locks: &Option<InodeLocks>, part: Part) -> Option<LockState>
+    ensures { result ≡ words.lock_under locks.now part }
+{
+    match *locks {
+        Some(four) => Some(four.of_part(part)),
+        None => None,
+    }
+}
+
+// ---- what is answered
+
 // Tells the holder's client what it is to know that it holds, and answers it.
+#[allow(dead_code)]
 pub(crate) fn show(table: &mut CapTable, locks: &Locks, holder: Holder) -> Reply
     ensures answer { (s : Scene) → s.table ≡ table.old → s.locks ≡ locks.now
         → result ≡ opened_as s (find (is_row_of holder) table.old.rows) }
     ensures told { table.new ≡ changed table.old holder told }
 {
-    Reply::Done
+    let reply = opened(table, locks, holder);
+    table.tell(holder.client, holder.ino);
+    reply
+}
+
+// What the holder's client is to know that it holds.
+fn opened(table: &CapTable, locks: &Locks, holder: Holder) -> Reply
+    ensures { (s : Scene) → s.locks ≡ locks.now → result ≡ opened_as s (find (is_row_of holder) table.now.rows) }
+{
+    let Some(entry) = table.find(holder.client, holder.ino) else {
+        return Reply::Done;
+    };
+    let seq = entry.seq;
+    let row = EntryRow { holder, entry };
+    let caps = told_under(&row, &locks.of_ino(holder.ino));
+    Reply::Opened { seq, caps }
 }
