@@ -31,3 +31,4 @@ pub mod Telling
 pub mod Untouched
 pub mod Verdicts
 pub mod TouchStep
+pub mod TouchWhole

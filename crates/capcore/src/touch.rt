@@ -2,6 +2,7 @@
 ghost use Rattle.std.specs.Prelude.{◌≡◌, ◌<◌, ◌^◌, ◌-◌, [], None, OnOk, OnErr};
 ghost use Rattle.capbits.specs.Refusal.{first_failing};
 ghost use Rattle.capcore.specs.Judge.{room_for};
+ghost use Rattle.captable.specs.Table.{IsTable};
 ghost use Rattle.capcore.specs.State.{State};
 ghost use Rattle.capcore.specs.Direct.{reply_of, shown, with_table};
 ghost use Rattle.capcore.specs.Direct as effects;
@@ -101,7 +102,10 @@ pub(crate) fn tell(table: &mut CapTable, locks: &Locks, holder: Holder, touch: &
         → result ≡ reply_of s [] (words.touch_answer holder touch.now) }
     ensures told { (s : State) → s.scene.table ≡ table.old
         → with_table s table.new ≡ shown (words.touch_answer holder touch.now) s }
+    ensures table { IsTable table.old }
 {
+    // A look at the entries, by which the proof knows what they keep.
+    let _oldest = table.oldest();
     match touch {
         Touch::Open(_) | Touch::Want(_) => show(table, locks, holder),
         Touch::Ack(_) | Touch::Release(_) => Reply::Done,

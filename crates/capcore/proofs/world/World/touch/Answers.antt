@@ -24,46 +24,46 @@ use Rattle.capbits.specs.Refusal.{first_failing}
 use Rattle.capcore.specs.declared.event.Event.TheVariants as event
 use Rattle.capcore.proofs.world.World.touch.Goals as goal
 
--- src/world.rt:195:13
+-- src/world.rt:196:13
 pub returns-in-Some-clause-step : goal.returns-in-Some-clause-step
 returns-in-Some-clause-step c = ?
 
--- src/world.rt:195:13
+-- src/world.rt:196:13
 pub returns-in-Some-clause-issued : goal.returns-in-Some-clause-issued
 returns-in-Some-clause-issued c = ?
 
--- src/world.rt:202:9
+-- src/world.rt:203:9
 pub settle_at-requires-clause-quiet : goal.settle_at-requires-clause-quiet
 settle_at-requires-clause-quiet c = ?
 
--- src/world.rt:204:9
+-- src/world.rt:205:9
 pub finish_at-requires-clause-numbers : goal.finish_at-requires-clause-numbers
 finish_at-requires-clause-numbers c = ?
 
--- src/world.rt:204:9
+-- src/world.rt:205:9
 pub finish_at-requires-clause-clients : goal.finish_at-requires-clause-clients
 finish_at-requires-clause-clients c = ?
 
--- src/world.rt:184:5
+-- src/world.rt:185:5
 pub invariant_of-self-2 : goal.invariant_of-self-2
 invariant_of-self-2 c = ?
 
--- src/world.rt:184:5
+-- src/world.rt:185:5
 pub returns-clause-step : goal.returns-clause-step
 returns-clause-step c = ?
 
--- src/world.rt:184:5
+-- src/world.rt:185:5
 pub returns-clause-sound : goal.returns-clause-sound
 returns-clause-sound c = ?
 
--- src/world.rt:184:5
+-- src/world.rt:185:5
 pub returns-clause-issued : goal.returns-clause-issued
 returns-clause-issued c = ?
 
--- src/world.rt:184:5
+-- src/world.rt:185:5
 pub returns-clause-given : goal.returns-clause-given
 returns-clause-given c = ?
 
--- src/world.rt:184:5
+-- src/world.rt:185:5
 pub returns-clause-list : goal.returns-clause-list
 returns-clause-list c = ?
