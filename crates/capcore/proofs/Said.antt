@@ -1,12 +1,7 @@
 -- Events that say their answer by themselves, as all of today do.
-use Rattle.std.proofs.Common.{◌≡◌, ℕ, Option, Some, None, refl}
-use Rattle.inotree.specs.Tree.{child}
-use Rattle.capcore.specs.declared.event.Event.{Event}
-use Rattle.capcore.specs.declared.event.Event.TheVariants as event
 use Rattle.capcore.specs.declared.reply.Reply.{Reply}
 use Rattle.capcore.specs.declared.reply.Reply.TheVariants as reply
-use Rattle.capcore.specs.State.{State}
-use Rattle.capcore.specs.Direct.{Answer, Says, Shows, Gives, Awaits, Direct, effect, found}
+use Rattle.capcore.specs.Direct.{Answer, Says, Shows, Gives, Awaits, Direct}
 
 -- the reply that is said; what is read off at the end of the step stands for none
 abbrev pub said : Answer → Reply

@@ -13,7 +13,6 @@ use Rattle.captable.specs.Table.{is_row_of}
 use Rattle.lockmachine.specs.declared.states.InodeLocks.{InodeLocks}
 use Rattle.lockmachine.specs.Inodes.{in_sync}
 use Rattle.lockmachine.specs.Requests.{first_for}
-use Rattle.lockmachine.specs.Scene.{Scene}
 use Rattle.lockmachine.proofs.Idle.{InSync, idle}
 use Rattle.lockmachine.proofs.Rest.{at_rest}
 use Rattle.capcore.specs.State.{State}

@@ -6,7 +6,6 @@ use Rattle.inotree.specs.Tree.{IsTree, child}
 use Rattle.sessiontab.specs.Tests.{new_session_tests}
 use Rattle.captable.specs.declared.entry.Holder.{Holder}
 use Rattle.captable.specs.Table.{IsTable}
-use Rattle.lockmachine.specs.Scene.{Scene}
 use Rattle.capcore.specs.declared.event.Event.{Event}
 use Rattle.capcore.specs.declared.event.Event.TheVariants as event
 use Rattle.capcore.specs.declared.reply.Reply.{Reply}

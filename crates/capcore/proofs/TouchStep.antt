@@ -1,23 +1,20 @@
 -- An event that is about one entry is a whole step, when the locks of its inode have settled and the step has ended there.
-use Rattle.std.proofs.Common.{◌≡◌, ℕ, Bool, true, false, List, [], ◌∷◌, ◌++◌, Option, Some, None, map, refl, sym, ap, subst, ◌∙◌, append-nil, true≢false}
-use Rattle.std.specs.Prelude.{IsTrue}
+use Rattle.std.proofs.Common.{◌≡◌, List, [], ◌∷◌, ◌++◌, Option, Some, None, refl, sym, ap, ◌∙◌, append-nil, true≢false}
 use Rattle.captable.specs.declared.entry.Holder.{Holder}
 use Rattle.lockmachine.specs.declared.moves.Move.{Move}
 use Rattle.lockmachine.specs.declared.moves.Move.TheVariants.{Begin, End, Serve, Settled}
 use Rattle.lockmachine.specs.Scene.{Scene}
-use Rattle.lockmachine.specs.Moves.{first_move, with_moved}
-use Rattle.lockmachine.specs.Runs.{Runs, is_of_lock}
+use Rattle.lockmachine.specs.Moves.{with_moved}
+use Rattle.lockmachine.specs.Runs.{Runs}
 use Rattle.capcore.specs.declared.event.Event.{Event}
 use Rattle.capcore.specs.declared.event.Event.TheVariants as event
-use Rattle.capcore.specs.declared.outcome.Ended.{Ended}
 use Rattle.capcore.specs.declared.reply.Reply.{Reply}
-use Rattle.capcore.specs.declared.stopped.Stopped.{Stopped}
 use Rattle.capcore.specs.State.{State}
 use Rattle.capcore.specs.Judge.{judged}
 use Rattle.capcore.specs.Direct.{Direct, direct, effect, effect_unless, reply_of, shown, with_scene}
-use Rattle.capcore.specs.Settle.{Made, Began, Gathered, MakesAll, Settles, ended_in}
+use Rattle.capcore.specs.Settle.{Made, Began, Gathered, MakesAll, ended_in}
 use Rattle.capcore.specs.Finish.{finished}
-use Rattle.capcore.specs.Step.{Step, all_ended, earlier, state_after}
+use Rattle.capcore.specs.Step.{Step, earlier, state_after}
 use Rattle.capcore.specs.Touching.{touched_by, SettlesAt}
 
 -- ---- moves of locks, as the step names them

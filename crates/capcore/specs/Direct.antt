@@ -18,7 +18,6 @@ use Rattle.inotree.specs.Calls.{with_new, changed}
 use Rattle.sessiontab.specs.declared.session.Session.{Session}
 use Rattle.sessiontab.specs.Calls.{with_session}
 use Rattle.captable.specs.declared.entry.Holder.{Holder}
-use Rattle.captable.specs.declared.entry.Entry.{Entry}
 use Rattle.captable.specs.declared.entry.EntryRow.{EntryRow}
 use Rattle.captable.specs.Table.{Table, holder, is_row_of, entry_at}
 use Rattle.captable.specs.Calls.{opened, wanting, taken, released, touched, told, changed as changed_entry}

@@ -27,7 +27,6 @@ use sessiontab::{MAX_SESSIONS, Sessions};
 
 // Issues what is due on the inode, numbers what its clients are to know of, and forgets it if it is a stray that nobody has
 // an entry on. Its locks have settled, and were these when the event came.
-#[allow(dead_code)]
 pub(crate) fn finish_at(
     fs: &FsName,
     tree: &mut Tree,
@@ -230,7 +229,6 @@ fn lock_under(locks: &Option<InodeLocks>, part: Part) -> Option<LockState>
 // ---- what is answered
 
 // Tells the holder's client what it is to know that it holds, and answers it.
-#[allow(dead_code)]
 pub(crate) fn show(table: &mut CapTable, locks: &Locks, holder: Holder) -> Reply
     ensures answer { (s : Scene) → s.table ≡ table.old → s.locks ≡ locks.now
         → result ≡ opened_as s (find (is_row_of holder) table.old.rows) }

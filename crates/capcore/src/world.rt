@@ -192,11 +192,11 @@ impl World {
         ensures err { OnErr result (self.new ≡ self.old) }
         ensures memory { IfErr result (λ stop. stop ≡ Stop.NoMemory) }
     {
+        // A look at the tree and at the entries, by which the proof knows what they keep.
+        let (_last, _oldest) = (self.tree.last(), self.table.oldest());
         if let Some(stopped) = self.touch_stop(Holder { client, ino }, &touch) {
             return Ok(stopped.into());
         }
-        // A look at the tree and at the entries, by which the proof knows what they keep.
-        let (_last, _oldest) = (self.tree.last(), self.table.oldest());
         let before = self.locks.of_ino(ino);
         let revoked = revoked_of(&self.table, &self.locks, Holder { client, ino });
         touch_entry(&mut self.table, Holder { client, ino }, revoked, &touch)?;
