@@ -5,6 +5,8 @@ use Rattle.std.specs.Prelude.{◌⊎◌, Result, Ok, Err, MatchResult, IsErrAnd}
 use Rattle.std.specs.Borrow.{Bor}
 use Rattle.capbits.specs.declared.caller.Caller.{Caller}
 use Rattle.capbits.specs.declared.ids.ClientId.{ClientId}
+use Rattle.capbits.specs.Caps.{Caps}
+use Rattle.capbits.proofs.Following.{text_of-injective}
 use Rattle.capspec.specs.declared.fault.SpecFault.{SpecFault}
 use Rattle.capspec.specs.declared.grant.Grant.{Grant}
 use Rattle.capspec.specs.Faults.{IsFault, IsNoMemory}
@@ -18,9 +20,10 @@ use Rattle.capscript.specs.declared.fault.LineFault.TheVariants as faults
 use Rattle.capscript.specs.declared.fault.Refused.{Refused}
 use Rattle.capscript.specs.declared.fault.Refused.TheVariants as refusals
 use Rattle.capscript.specs.Events.{Line, said_in, line_says, Tells, Reads}
-use Rattle.capscript.specs.Events.Line.{Nothing, Says, Opens, Faulty}
+use Rattle.capscript.specs.Events.Line.{Nothing, Says, Opens, Names, Faulty}
 use Rattle.capscript.specs.Faults.{Has, HasFault, IsRefused, IsRefusedFor}
 use Rattle.capscript.specs.Lines.{is_skipped}
+use Rattle.capscript.specs.Values.{Spells}
 
 -- ---- want of memory
 
@@ -29,12 +32,14 @@ abbrev pub SaysAny : Line → Type 0
 SaysAny Nothing = ⊥
 SaysAny (Says event) = Unit {0}
 SaysAny (Opens client caller text) = (grants : List Grant) × MeansGrants text grants
+SaysAny (Names said word) = (caps : Caps) × Spells word caps
 SaysAny (Faulty fault) = ⊥
 
 event_said : (line : Line) → SaysAny line → (event : Event) × Tells line event
 event_said Nothing says = absurd says
 event_said (Says event) says = (event, refl)
 event_said (Opens client caller text) says = (events.Session client caller says.0, (says.0, says.1, refl))
+event_said (Names said word) says = (said says.0, (says.0, says.1, refl))
 event_said (Faulty fault) says = absurd says
 
 pub missed : {A : Type 0} (answer : Result A Refused) (IsRight : A → Type 0) (line : Line) → IsErrAnd answer (λ refused. refused ≡ refusals.NoMemory) → SaysAny line → MatchResult answer IsRight (IsRefused line)
@@ -64,6 +69,15 @@ nowhere = record { ref_ptr = (0, 0); now = [] }
 abbrev pub word_at : List (Bor (List ℕ)) → ℕ → List ℕ
 word_at arguments place = (get_or arguments place nowhere).now
 
+-- four arguments by their places
+pub four : (arguments : List (Bor (List ℕ))) → length arguments ≡ 4 → map (λ word. word.now) arguments ≡ word_at arguments 0 ∷ word_at arguments 1 ∷ word_at arguments 2 ∷ word_at arguments 3 ∷ []
+four (a ∷ b ∷ c ∷ d ∷ []) count = refl
+four [] count = absurd (omega arith)
+four (a ∷ []) count = absurd (omega arith)
+four (a ∷ b ∷ []) count = absurd (omega arith)
+four (a ∷ b ∷ c ∷ []) count = absurd (omega arith)
+four (a ∷ b ∷ c ∷ d ∷ e ∷ more) count = absurd (omega arith)
+
 -- five arguments by their places
 pub five : (arguments : List (Bor (List ℕ))) → length arguments ≡ 5 → map (λ word. word.now) arguments ≡ word_at arguments 0 ∷ word_at arguments 1 ∷ word_at arguments 2 ∷ word_at arguments 3 ∷ word_at arguments 4 ∷ []
 five (a ∷ b ∷ c ∷ d ∷ e ∷ []) count = refl
@@ -85,18 +99,21 @@ pub tells_once : (line : Line) (event other : Event) → Tells line event → Te
 tells_once Nothing event other is also = absurd is
 tells_once (Says said) event other is also = is ∙ sym also
 tells_once (Opens client caller text) event other is also = is.2 ∙ ap (events.Session client caller) (reads_once text is.0 also.0 is.1 also.1) ∙ sym also.2
+tells_once (Names said word) event other is also = is.2 ∙ ap said (text_of-injective is.0 also.0 (sym is.1 ∙ also.1)) ∙ sym also.2
 tells_once (Faulty fault) event other is also = absurd is
 
 pub tells_no_fault : (line : Line) (event : Event) (fault : LineFault) → Tells line event → Has line fault → ⊥
 tells_no_fault Nothing event fault is has = is
 tells_no_fault (Says said) event fault is has = has
 tells_no_fault (Opens client caller text) event fault is has = reads_no_fault text is.0 has.0 is.1 has.1
+tells_no_fault (Names said word) event fault is has = has.0 is.0 is.1
 tells_no_fault (Faulty found) event fault is has = is
 
 pub one_fault : (line : Line) (fault other : LineFault) → Has line fault → Has line other → fault ≡ other
 one_fault Nothing fault other is also = absurd is
 one_fault (Says said) fault other is also = absurd is
 one_fault (Opens client caller text) fault other is also = is.2 ∙ ap faults.Grants (one_grant_fault text is.0 also.0 is.1 also.1) ∙ sym also.2
+one_fault (Names said word) fault other is also = is.1 ∙ sym also.1
 one_fault (Faulty found) fault other is also = is ∙ sym also
 
 pub not_skipped : (text : List ℕ) (event : Event) → Reads text event → is_skipped text ≡ false

@@ -3,6 +3,7 @@ use Rattle.std.specs.Prelude.{◌≡◌, ℕ, Result, Ok, Err, List, [], ◌∷�
 use Rattle.capbits.specs.declared.caller.Caller.{Caller}
 use Rattle.capbits.specs.declared.ids.ClientId.{ClientId}
 use Rattle.capbits.specs.declared.ids.Ino.{Ino}
+use Rattle.capbits.specs.Caps.{Caps}
 use Rattle.capspec.specs.declared.grant.Grant.{Grant}
 use Rattle.capspec.specs.Grants.{Reads as MeansGrants}
 use Rattle.capcore.specs.declared.event.Event.{Event}
@@ -12,7 +13,7 @@ use Rattle.capscript.specs.declared.command.Command.TheVariants as commands
 use Rattle.capscript.specs.declared.fault.LineFault.{LineFault}
 use Rattle.capscript.specs.declared.fault.LineFault.TheVariants as faults
 use Rattle.capscript.specs.Lines.{is_skipped, longest_line}
-use Rattle.capscript.specs.Values.{number_in, client_in, ino_in, mode_in, groups_in}
+use Rattle.capscript.specs.Values.{number_in, client_in, ino_in, seq_in, mode_in, open_mode_in, groups_in, Spells}
 use Rattle.capscript.specs.Words.{parts, command_in}
 
 -- the client who asks
@@ -23,13 +24,19 @@ client_of (events.Create client dir name mode) = client
 client_of (events.Mkdir client dir name mode) = client
 client_of (events.MakeSnapshot client ino name) = client
 client_of (events.RemoveSnapshot client ino name) = client
+client_of (events.Open client ino mode) = client
+client_of (events.Want client ino caps) = client
+client_of (events.Ack client ino seq) = client
+client_of (events.Release client ino caps) = client
+client_of (events.Poll client max) = client
 
 -- What a line says: nothing, as it is skipped; an event; that a client opens a session with the grants that a text means, whatever these
--- are; or nothing that can be read, by its fault.
+-- are; an event with the set of capabilities that a word spells; or nothing that can be read, by its fault.
 pub data Line : Type 0 where
   Nothing : Line
   Says : Event → Line
   Opens : ClientId → Caller → List ℕ → Line
+  Names : (Caps → Event) → List ℕ → Line
   Faulty : LineFault → Line
 
 -- a word that can't be read is the fault of its line
@@ -69,6 +76,40 @@ session_by (client_word ∷ uid_word ∷ gid_word ∷ groups_word ∷ text ∷ [
   opened client (record { uid = uid; gid = gid; groups = groups }) text
 session_by arguments = Faulty faults.Count
 
+-- a client, an inode and what it is opened for
+abbrev pub open_by : List (List ℕ) → Line
+open_by (client_word ∷ ino_word ∷ mode_word ∷ []) = do
+  client ← client_in client_word
+  ino ← ino_in ino_word
+  mode ← open_mode_in mode_word
+  Says (events.Open client ino mode)
+open_by arguments = Faulty faults.Count
+
+-- a client, an inode and a set of capabilities
+abbrev pub caps_by : (ClientId → Ino → Caps → Event) → List (List ℕ) → Line
+caps_by event (client_word ∷ ino_word ∷ caps_word ∷ []) = do
+  client ← client_in client_word
+  ino ← ino_in ino_word
+  Names (event client ino) caps_word
+caps_by event arguments = Faulty faults.Count
+
+-- a client, an inode and the number of a change
+abbrev pub ack_by : List (List ℕ) → Line
+ack_by (client_word ∷ ino_word ∷ seq_word ∷ []) = do
+  client ← client_in client_word
+  ino ← ino_in ino_word
+  seq ← seq_in seq_word
+  Says (events.Ack client ino seq)
+ack_by arguments = Faulty faults.Count
+
+-- a client, and how many messages it takes at most
+abbrev pub poll_by : List (List ℕ) → Line
+poll_by (client_word ∷ max_word ∷ []) = do
+  client ← client_in client_word
+  max ← number_in max_word
+  Says (events.Poll client max)
+poll_by arguments = Faulty faults.Count
+
 -- a command with its arguments
 abbrev pub said_with : Command → List (List ℕ) → Line
 said_with commands.Session arguments = session_by arguments
@@ -77,6 +118,11 @@ said_with commands.Create arguments = new_inode_by events.Create arguments
 said_with commands.Mkdir arguments = new_inode_by events.Mkdir arguments
 said_with commands.MakeSnapshot arguments = named_by events.MakeSnapshot arguments
 said_with commands.RemoveSnapshot arguments = named_by events.RemoveSnapshot arguments
+said_with commands.Open arguments = open_by arguments
+said_with commands.Want arguments = caps_by events.Want arguments
+said_with commands.Ack arguments = ack_by arguments
+said_with commands.Release arguments = caps_by events.Release arguments
+said_with commands.Poll arguments = poll_by arguments
 
 -- the parts of a line that has so many bytes; there is always a first
 abbrev pub said_by : ℕ → List (List ℕ) → Line
@@ -98,6 +144,7 @@ abbrev pub Tells : Line → Event → Type 0
 Tells Nothing event = ⊥
 Tells (Says said) event = event ≡ said
 Tells (Opens client caller text) event = (grants : List Grant) × MeansGrants text grants × (event ≡ events.Session client caller grants)
+Tells (Names said word) event = (caps : Caps) × Spells word caps × (event ≡ said caps)
 Tells (Faulty fault) event = ⊥
 
 abbrev pub Reads : List ℕ → Event → Type 0

@@ -1,11 +1,16 @@
 -- What single words write, or the fault of one that does not.
-use Rattle.std.specs.Prelude.{ℕ, ◌^◌, ◌&&◌, Bool, Result, Ok, Err, List, [], ◌∷◌, length, codes, bytes_eq, nat_lt, nat_le, if◌then◌else◌}
+use Rattle.std.specs.Prelude.{◌≡◌, ◌≢◌, ℕ, ◌^◌, ◌&&◌, Bool, Result, Ok, Err, List, [], ◌∷◌, length, find, codes, bytes_eq, nat_lt, nat_le, if◌then◌else◌}
 use Rattle.std.specs.Char.{digit_value}
 use Rattle.std.specs.List.{list_all, slice_split}
+use Rattle.std.specs.Option.{ok_or}
 use Rattle.std.specs.Str.Parse.{digits_value}
+use Rattle.capbits.specs.Caps.{Caps}
+use Rattle.capbits.specs.Text.{text_of}
 use Rattle.capbits.specs.declared.ids.ClientId.{ClientId}
 use Rattle.capbits.specs.declared.ids.Ino.{Ino}
 use Rattle.capspec.specs.Items.{is_comma}
+use Rattle.capcore.specs.declared.event.OpenMode.{OpenMode}
+use Rattle.capcore.specs.declared.event.OpenMode.TheVariants as opens
 use Rattle.capscript.specs.declared.fault.LineFault.{LineFault}
 use Rattle.capscript.specs.declared.fault.LineFault.TheVariants.{Number, Mode}
 
@@ -36,6 +41,10 @@ ino_in word = do
   number ← number_below (2 ^ 64) word
   Ok (record { 0 = number })
 
+-- the number of a change
+abbrev pub seq_in : List ℕ → Result ℕ LineFault
+seq_in word = number_below (2 ^ 64) word
+
 -- one to four octal digits
 abbrev pub mode_in : List ℕ → Result ℕ LineFault
 mode_in word = if is_numeral 8 word && nat_le (length word) 4 then Ok (digits_value 8 word) else Err Mode
@@ -56,3 +65,21 @@ list_in word = do
 -- `-` for none, or a list of them
 abbrev pub groups_in : List ℕ → Result (List ℕ) LineFault
 groups_in word = if bytes_eq word (codes "-") then Ok [] else list_in word
+
+-- the word for what an inode is opened for
+abbrev pub open_word : OpenMode → List ℕ
+open_word opens.Read = codes "r"
+open_word opens.Write = codes "w"
+open_word opens.ReadWrite = codes "rw"
+
+-- what an inode is opened for
+abbrev pub open_mode_in : List ℕ → Result OpenMode LineFault
+open_mode_in word = ok_or (find (λ mode. bytes_eq word (open_word mode)) (opens.Read ∷ opens.Write ∷ opens.ReadWrite ∷ [])) Mode
+
+-- the set of capabilities that is so spelled; a set has one spelling
+abbrev pub Spells : List ℕ → Caps → Type 0
+Spells word caps = word ≡ text_of caps
+
+-- no set is so spelled
+abbrev pub SpellsNone : List ℕ → Type 0
+SpellsNone word = (caps : Caps) → word ≢ text_of caps

@@ -3,7 +3,7 @@ use Rattle.std.specs.Prelude.{◌==◌, ℕ, Bool, Result, List, [], ◌∷◌, 
 use Rattle.std.specs.List.{slice_split, join_with_byte}
 use Rattle.std.specs.Option.{ok_or}
 use Rattle.capscript.specs.declared.command.Command.{Command}
-use Rattle.capscript.specs.declared.command.Command.TheVariants.{Session, Lookup, Create, Mkdir, MakeSnapshot, RemoveSnapshot}
+use Rattle.capscript.specs.declared.command.Command.TheVariants.{Session, Lookup, Create, Mkdir, MakeSnapshot, RemoveSnapshot, Open, Want, Ack, Release, Poll}
 use Rattle.capscript.specs.declared.fault.LineFault.{LineFault}
 use Rattle.capscript.specs.declared.fault.LineFault.TheVariants as faults
 
@@ -36,9 +36,14 @@ command_word Create = codes "create"
 command_word Mkdir = codes "mkdir"
 command_word MakeSnapshot = codes "mksnap"
 command_word RemoveSnapshot = codes "rmsnap"
+command_word Open = codes "open"
+command_word Want = codes "want"
+command_word Ack = codes "ack"
+command_word Release = codes "release"
+command_word Poll = codes "poll"
 
 abbrev pub commands : List Command
-commands = Session ∷ Lookup ∷ Create ∷ Mkdir ∷ MakeSnapshot ∷ RemoveSnapshot ∷ []
+commands = Session ∷ Lookup ∷ Create ∷ Mkdir ∷ MakeSnapshot ∷ RemoveSnapshot ∷ Open ∷ Want ∷ Ack ∷ Release ∷ Poll ∷ []
 
 -- the command that a word is
 abbrev pub command_in : List ℕ → Result Command LineFault

@@ -17,6 +17,16 @@ pub(crate) enum Command {
     MakeSnapshot,
     /// A client removes a snapshot.
     RemoveSnapshot,
+    /// A client opens an inode.
+    Open,
+    /// A client says what it wants of an inode.
+    Want,
+    /// A client acknowledges a message.
+    Ack,
+    /// A client gives capabilities back.
+    Release,
+    /// A client asks for its messages.
+    Poll,
 }
 
 impl Command {
@@ -34,6 +44,11 @@ impl Command {
             b"mkdir" => Ok(Command::Mkdir),
             b"mksnap" => Ok(Command::MakeSnapshot),
             b"rmsnap" => Ok(Command::RemoveSnapshot),
+            b"open" => Ok(Command::Open),
+            b"want" => Ok(Command::Want),
+            b"ack" => Ok(Command::Ack),
+            b"release" => Ok(Command::Release),
+            b"poll" => Ok(Command::Poll),
             _ => Err(LineFault::Command),
         }
     }

@@ -9,6 +9,7 @@ ghost use Rattle.capscript.specs.Events.{Tells, said_in, said_with, session_by, 
 ghost use Rattle.capscript.specs.Faults.{IsRefused};
 
 use crate::command::Command;
+use crate::entry_event::{read_ack, read_open, read_poll, read_release, read_want};
 use crate::fault::{LineFault, Refused};
 use crate::line::MAX_LINE;
 use crate::values::{read_client, read_groups, read_ino, read_number, read_permissions};
@@ -102,6 +103,11 @@ fn read_arguments(alloc: Global, command: Command, arguments: &[&[u8]]) -> Resul
             let Named { client, ino, name } = read_named(alloc, arguments)?;
             Ok(Event::RemoveSnapshot { client, ino, name })
         }
+        Command::Open => read_open(arguments),
+        Command::Want => read_want(arguments),
+        Command::Ack => read_ack(arguments),
+        Command::Release => read_release(arguments),
+        Command::Poll => read_poll(arguments),
     }
 }
 
@@ -145,6 +151,7 @@ fn read_named(alloc: Global, arguments: &[&[u8]]) -> Result<Named, Refused>
 }
 
 // A client, a directory, a name in it and a mode, whichever event they are said for.
+#[tactic(auto, using(crate::proofs::SaidLines::four))]
 fn read_new_inode(alloc: Global, arguments: &[&[u8]]) -> Result<NewInode, Refused>
     ensures { (event : AClient → AnIno → List ℕ → ℕ → AnEvent)
         → let said = new_inode_by event (map (λ word. word.now) arguments.now) in

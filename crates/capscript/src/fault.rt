@@ -16,7 +16,10 @@ pub enum LineFault {
     /// A word is no number of its size, or no list of group numbers.
     #[error("Number")]
     Number,
-    /// A word is no mode.
+    /// A word spells no set of capabilities.
+    #[error("Caps")]
+    Caps,
+    /// A word is no mode of a file, or nothing that an inode is opened for.
     #[error("Mode")]
     Mode,
     /// The rest of the line is no grant text.

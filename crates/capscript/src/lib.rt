@@ -2,10 +2,12 @@
 #![tactic(auto)]
 
 mod command;
+mod entry_event;
 mod event;
 mod fault;
 mod input;
 mod line;
+mod message_text;
 mod part_text;
 mod reply;
 mod running;

@@ -65,6 +65,11 @@ fn client_of(event: &Event) -> ClientId
         | Event::Create { client, .. }
         | Event::Mkdir { client, .. }
         | Event::MakeSnapshot { client, .. }
-        | Event::RemoveSnapshot { client, .. } => *client,
+        | Event::RemoveSnapshot { client, .. }
+        | Event::Open { client, .. }
+        | Event::Want { client, .. }
+        | Event::Ack { client, .. }
+        | Event::Release { client, .. }
+        | Event::Poll { client, .. } => *client,
     }
 }

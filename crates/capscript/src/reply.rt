@@ -1,41 +1,54 @@
 //! The texts of replies.
 ghost use Rattle.std.specs.Prelude.{◌≡◌, ◌++◌, IfOk, IfSome, OnOk};
-ghost use Rattle.capscript.specs.Replies.{reply_text, rules_text, rule_text};
+ghost use Rattle.capscript.specs.Replies.{denial_text, reply_line, reply_text, rules_text, rule_text};
+ghost use Rattle.capbits.specs.Text.{text_of};
 
+use crate::message_text::print_messages;
 use crate::part_text::print_values;
-use capbits::write_caps;
+use capbits::{CapSet, write_caps};
 use capcore::Reply;
-use capgrant::Rule;
+use capgrant::{Access, Rule, Rules};
 use std::alloc::{AllocError, Global};
 use std::fmt::Display;
 use std::io::Write;
 
-/// The text of a reply: one line, with its line feed.
+/// The text of a reply: a line, with its line feed; behind that of messages one more for each of them.
 pub fn reply_lines(alloc: Global, reply: &Reply) -> Result<Vec<u8>, AllocError>
     ensures { IfOk result (λ text. text.items ≡ reply_text reply.now) }
 {
     let mut text = Vec::new(alloc);
+    print_reply(&mut text, reply)?;
+    text.push(b'\n')?;
+    if let Reply::Messages(messages) = reply {
+        print_messages(&mut text, messages.as_slice())?;
+    }
+    Ok(text)
+}
+
+// The first line, without its line feed.
+fn print_reply(text: &mut Vec<u8>, reply: &Reply) -> Result<(), AllocError>
+    ensures { OnOk result (text.new.items ≡ text.old.items ++ reply_line reply.now) }
+{
     match reply {
-        Reply::Done => print(&mut text, "done")?,
-        Reply::Ino(ino) => print(&mut text, format_args!("ino {ino}"))?,
+        Reply::Done => print(text, "done"),
+        Reply::Ino(ino) => print(text, format_args!("ino {ino}")),
         Reply::Opened { seq, caps } => {
-            print(&mut text, format_args!("caps {seq} "))?;
-            text.extend_from_slice(write_caps(*caps).as_slice())?;
+            print(text, format_args!("caps {seq} "))?;
+            print_caps(text, *caps)
         }
         Reply::Values(values) => {
-            print(&mut text, "attr ")?;
-            print_values(&mut text, values)?;
+            print(text, "attr ")?;
+            print_values(text, values)
         }
-        Reply::Waiting(ticket) => print(&mut text, format_args!("waiting {ticket}"))?,
-        Reply::Denied { access, rules } => {
-            print(&mut text, format_args!("denied {access} "))?;
-            print_rules(&mut text, rules.as_slice())?;
+        Reply::Messages(messages) => {
+            let count = messages.as_slice().len();
+            print(text, format_args!("messages {count}"))
         }
-        Reply::Refused(refusal) => print(&mut text, format_args!("refused {refusal}"))?,
-        Reply::OutOfMemory => print(&mut text, "out-of-memory")?,
+        Reply::Waiting(ticket) => print(text, format_args!("waiting {ticket}")),
+        Reply::Denied { access, rules } => print_denial(text, *access, rules),
+        Reply::Refused(refusal) => print(text, format_args!("refused {refusal}")),
+        Reply::OutOfMemory => print(text, "out-of-memory"),
     }
-    text.push(b'\n')?;
-    Ok(text)
 }
 
 // Appends what a value prints. Only memory can be missing.
@@ -43,6 +56,26 @@ pub(crate) fn print<D: Display + Drop>(text: &mut Vec<u8>, more: D) -> Result<()
     ensures { OnOk result (IfSome (D.output more) (λ bytes. text.new.items ≡ text.old.items ++ bytes)) }
 {
     text.write_fmt(more).map_err(|_| AllocError)
+}
+
+// The one spelling of a set of capabilities.
+pub(crate) fn print_caps(text: &mut Vec<u8>, caps: CapSet) -> Result<(), AllocError>
+    ensures { OnOk result (text.new.items ≡ text.old.items ++ text_of caps) }
+{
+    text.extend_from_slice(write_caps(caps).as_slice())?;
+    Ok(())
+}
+
+// The access that no grant allows, and the rules by which the grants fail.
+pub(crate) fn print_denial(
+    text: &mut Vec<u8>,
+    access: Access,
+    rules: &Rules,
+) -> Result<(), AllocError>
+    ensures { OnOk result (text.new.items ≡ text.old.items ++ denial_text access rules.now) }
+{
+    print(text, format_args!("denied {access} "))?;
+    print_rules(text, rules.as_slice())
 }
 
 // The rules by which the grants fail, each behind the number of its grant, from 1.

@@ -1,9 +1,11 @@
 //! The values that single words write.
-ghost use Rattle.std.specs.Prelude.{◌≡◌, ◌^◌};
-ghost use Rattle.capscript.specs.Values.{number_below, number_in, client_in, ino_in, mode_in, groups_in};
+ghost use Rattle.std.specs.Prelude.{◌≡◌, ◌^◌, IfOk, IfErr};
+ghost use Rattle.capscript.specs.declared.fault.LineFault.TheVariants as faults;
+ghost use Rattle.capscript.specs.Values.{number_below, number_in, client_in, ino_in, seq_in, mode_in, open_mode_in, groups_in, Spells, SpellsNone};
 
 use crate::fault::LineFault;
-use capbits::{ClientId, Groups, Ino, Mode, read_mode, read_u32, read_u64};
+use capbits::{CapSet, ClientId, Groups, Ino, Mode, read_caps, read_mode, read_u32, read_u64};
+use capcore::OpenMode;
 
 // The decimal number of 32 bits.
 pub(crate) fn read_number(word: &[u8]) -> Result<u32, LineFault>
@@ -26,6 +28,13 @@ pub(crate) fn read_ino(word: &[u8]) -> Result<Ino, LineFault>
     Ok(Ino(read_long_number(word)?))
 }
 
+// The number of a change, of 64 bits.
+pub(crate) fn read_seq(word: &[u8]) -> Result<u64, LineFault>
+    ensures { result ≡ seq_in word.now }
+{
+    read_long_number(word)
+}
+
 fn read_long_number(word: &[u8]) -> Result<u64, LineFault>
     ensures { result ≡ number_below (2 ^ 64) word.now }
 {
@@ -37,6 +46,30 @@ pub(crate) fn read_permissions(word: &[u8]) -> Result<Mode, LineFault>
     ensures { result ≡ mode_in word.now }
 {
     read_mode(word).ok_or(LineFault::Mode)
+}
+
+// What an inode is opened for.
+pub(crate) fn read_open_mode(word: &[u8]) -> Result<OpenMode, LineFault>
+    ensures { result ≡ open_mode_in word.now }
+{
+    match word {
+        b"r" => Ok(OpenMode::Read),
+        b"w" => Ok(OpenMode::Write),
+        b"rw" => Ok(OpenMode::ReadWrite),
+        _ => Err(LineFault::Mode),
+    }
+}
+
+// The set of capabilities that the word spells.
+pub(crate) fn read_cap_set(word: &[u8]) -> Result<CapSet, LineFault>
+    ensures ok { IfOk result (λ caps. Spells word.now caps) }
+    ensures none { IfErr result (λ _. SpellsNone word.now) }
+    ensures err { IfErr result (λ fault. fault ≡ faults.Caps) }
+{
+    match read_caps(word) {
+        Ok(caps) => Ok(caps),
+        Err(_) => Err(LineFault::Caps),
+    }
 }
 
 // The group numbers between the commas, at most 16 of them, or none where the word is `-`.

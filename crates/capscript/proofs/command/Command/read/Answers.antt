@@ -16,3 +16,6 @@ returns-in-mksnap c = rw (text_from_reads c.args.word.now (codes "mksnap") (omeg
 
 pub returns-in-rmsnap : goal.returns-in-rmsnap
 returns-in-rmsnap c = rw (text_from_reads c.args.word.now (codes "rmsnap") (omega arith) (search rules)) refl
+
+pub returns-in-release : goal.returns-in-release
+returns-in-release c = rw (text_from_reads c.args.word.now (codes "release") (omega arith) (search rules)) refl
