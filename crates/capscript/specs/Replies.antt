@@ -2,6 +2,7 @@
 use Rattle.std.specs.Prelude.{ℕ, List, [], ◌∷◌, ◌++◌, length, codes}
 use Rattle.std.specs.Fmt.{decimal}
 use Rattle.std.specs.List.{join_by, enumerate_from, flat_map}
+use Rattle.std.specs.Option.{option_map_or}
 use Rattle.capbits.specs.Text.{text_of}
 use Rattle.capgrant.specs.declared.access.Access.{Access}
 use Rattle.capgrant.specs.declared.rule.Rule.{Rule}
@@ -11,9 +12,9 @@ use Rattle.capbits.specs.Refusal.{refusal_word}
 use Rattle.capcore.specs.declared.outcome.Message.{Message}
 use Rattle.capcore.specs.declared.outcome.Message.TheVariants as messages
 use Rattle.capcore.specs.declared.outcome.Outcome.{Outcome}
-use Rattle.capcore.specs.declared.outcome.Outcome.TheVariants as outcomes
 use Rattle.capcore.specs.declared.reply.Reply.{Reply}
 use Rattle.capcore.specs.declared.reply.Reply.TheVariants.{Done, Ino, Opened, Values, Messages, Waiting, Denied, Refused, OutOfMemory}
+use Rattle.capcore.specs.Direct.{outcome_reply}
 use Rattle.capscript.specs.PartTexts.{values_text}
 
 -- the number of a grant, and that of the rule by which it fails
@@ -29,24 +30,6 @@ rules_text (rule ∷ rules) = join_by rule_text (codes ",") (enumerate_from 1 (r
 abbrev pub denial_text : Access → List Rule → List ℕ
 denial_text access rules = codes "denied " ++ access_word access ++ codes " " ++ rules_text rules
 
--- how a request ended that waited: as the reply would be, or that its session ended before
-abbrev pub outcome_text : Outcome → List ℕ
-outcome_text outcomes.Done = codes "done"
-outcome_text (outcomes.Values values) = codes "attr " ++ values_text values
-outcome_text (outcomes.Denied access rules) = denial_text access rules
-outcome_text (outcomes.Refused refusal) = codes "refused " ++ refusal_word refusal
-outcome_text outcomes.OutOfMemory = codes "out-of-memory"
-outcome_text outcomes.Dropped = codes "dropped"
-
-abbrev pub message_text : Message → List ℕ
-message_text (messages.Ended ticket outcome) = codes "ended " ++ decimal ticket.0 ++ codes " " ++ outcome_text outcome
-message_text (messages.Caps ino seq caps) = codes "caps " ++ decimal ino.0 ++ codes " " ++ decimal seq ++ codes " " ++ text_of caps
-message_text (messages.Recall ino) = codes "recall " ++ decimal ino.0
-
--- a message on a line of its own, behind two spaces
-abbrev pub message_line : Message → List ℕ
-message_line message = codes "  " ++ message_text message ++ codes "\n"
-
 -- the first line of a reply, without the line feed that ends it
 abbrev pub reply_line : Reply → List ℕ
 reply_line Done = codes "done"
@@ -58,6 +41,19 @@ reply_line (Waiting ticket) = codes "waiting " ++ decimal ticket.0
 reply_line (Denied access rules) = denial_text access rules
 reply_line (Refused refusal) = codes "refused " ++ refusal_word refusal
 reply_line OutOfMemory = codes "out-of-memory"
+
+-- how a request ended that waited: the line of the reply that it would have got, or that its session ended before
+abbrev pub outcome_text : Outcome → List ℕ
+outcome_text outcome = option_map_or reply_line (outcome_reply outcome) (codes "dropped")
+
+abbrev pub message_text : Message → List ℕ
+message_text (messages.Ended ticket outcome) = codes "ended " ++ decimal ticket.0 ++ codes " " ++ outcome_text outcome
+message_text (messages.Caps ino seq caps) = codes "caps " ++ decimal ino.0 ++ codes " " ++ decimal seq ++ codes " " ++ text_of caps
+message_text (messages.Recall ino) = codes "recall " ++ decimal ino.0
+
+-- a message on a line of its own, behind two spaces
+abbrev pub message_line : Message → List ℕ
+message_line message = codes "  " ++ message_text message ++ codes "\n"
 
 -- the lines behind the first, each with its line feed: only messages have some
 abbrev pub further_lines : Reply → List ℕ

@@ -56,6 +56,34 @@ const EVENTS: &[(&str, &str)] = &[
     ("rmsnap 1 2 s1", "rmsnap 1 2 [115, 49]"),
 ];
 
+// A set of capabilities is told by the sum of their values: 1 for `p`, 4 and 8 for `As` and `Ax`, and so on.
+const EVENTS_OF_ENTRIES: &[(&str, &str)] = &[
+    ("open 1 2 r", "open 1 2 Read"),
+    ("open 1 2 w", "open 1 2 Write"),
+    (
+        "open 4294967295 18446744073709551615 rw",
+        "open 4294967295 18446744073709551615 ReadWrite",
+    ),
+    ("want 1 2 -", "want 1 2 0"),
+    ("want 1 2 p", "want 1 2 1"),
+    ("want 1 2 pFr", "want 1 2 2049"),
+    ("want 01 002 AsxLsxXsxFsxcrwbal", "want 1 2 65532"),
+    ("release 1 2 -", "release 1 2 0"),
+    ("release 1 2 pAsLsXsFscr", "release 1 2 3413"),
+    ("ack 1 2 0", "ack 1 2 0"),
+    (
+        "ack 1 2 18446744073709551615",
+        "ack 1 2 18446744073709551615",
+    ),
+    ("poll 1 0", "poll 1 0"),
+    ("poll 1 00004294967295", "poll 1 4294967295"),
+];
+
+#[test]
+fn lines_say_events_of_entries(rt: HostRuntime) -> Result<(), Fail> {
+    say(&rt, EVENTS_OF_ENTRIES)
+}
+
 #[test]
 fn lines_say_events(rt: HostRuntime) -> Result<(), Fail> {
     say(&rt, EVENTS)
@@ -95,6 +123,39 @@ const FAULTS: &[(&str, &str)] = &[
     ("session 1 10 10 -  none", "line 7: Grants NotAllow at 1"),
     ("session 1 10 10 - none ", "line 7: Grants NotAllow at 0"),
 ];
+
+const FAULTS_OF_ENTRIES: &[(&str, &str)] = &[
+    ("acknowledge 1 2 3", "line 7: Command"),
+    ("open 1 2", "line 7: Count"),
+    ("open 1 2 r w", "line 7: Count"),
+    ("want 1 2", "line 7: Count"),
+    ("release x x x x", "line 7: Count"),
+    ("ack 1 2", "line 7: Count"),
+    ("poll 1", "line 7: Count"),
+    ("poll 1 2 3", "line 7: Count"),
+    ("open 1 x x", "line 7: Number"),
+    ("want x 2 x", "line 7: Number"),
+    ("ack 1 2 -1", "line 7: Number"),
+    ("ack 1 2 18446744073709551616", "line 7: Number"),
+    ("poll 1 4294967296", "line 7: Number"),
+    ("poll 4294967296 1", "line 7: Number"),
+    ("open 1 2 x", "line 7: Mode"),
+    ("open 1 2 ", "line 7: Mode"),
+    ("open 1 2 wr", "line 7: Mode"),
+    ("open 1 2 0644", "line 7: Mode"),
+    ("want 1 2 ", "line 7: Caps"),
+    ("want 1 2 rF", "line 7: Caps"),
+    ("want 1 2 Frs", "line 7: Caps"),
+    ("want 1 2 Fp", "line 7: Caps"),
+    ("want 1 2 p-", "line 7: Caps"),
+    ("release 1 2 F", "line 7: Caps"),
+    ("release 1 2 pp", "line 7: Caps"),
+];
+
+#[test]
+fn lines_of_entries_have_faults(rt: HostRuntime) -> Result<(), Fail> {
+    say(&rt, FAULTS_OF_ENTRIES)
+}
 
 #[test]
 fn lines_have_faults(rt: HostRuntime) -> Result<(), Fail> {

@@ -4,9 +4,10 @@ use crate::asserting::same;
 use crate::telling::answer_text;
 use arrayvec::ArrayVec;
 use capbits::{Cap, CapSet, Ino, Mode, Ticket};
-use capcore::{PartValues, Refusal, Reply, Stop};
+use capcore::{Message, MessageList, Outcome, PartValues, Refusal, Reply, Stop};
 use capgrant::{Access, Attr, Rule, Rules};
 use capscript::reply_lines;
+use std::alloc::Global;
 use std::test::Fail;
 
 const REFUSALS: &[(Refusal, &str)] = &[
@@ -117,6 +118,65 @@ fn replies_of_the_waiting_have_texts(rt: HostRuntime) -> Result<(), Fail> {
         let text = reply_lines(rt.alloc(), reply)?;
         same(&rt, text.as_slice(), wanted.as_bytes(), *wanted);
     }
+    Ok(())
+}
+
+fn ended(ticket: u64, outcome: Outcome) -> Message {
+    Message::Ended {
+        ticket: Ticket(ticket),
+        outcome,
+    }
+}
+
+fn some_messages(alloc: Global) -> Result<Reply, Fail> {
+    let file = PartValues::File { size: 5, time: 9 };
+    let mut rules = ArrayVec::new();
+    rules.try_push(Rule::NoWrite)?;
+    let denied = Outcome::Denied {
+        access: Access::Write,
+        rules: Rules::from(rules),
+    };
+    let messages = vec![in alloc;
+        ended(1, Outcome::Done),
+        ended(2, Outcome::Values(file)),
+        ended(3, denied),
+        ended(4, Outcome::Refused(Refusal::NotEmpty)),
+        ended(5, Outcome::OutOfMemory),
+        ended(18446744073709551615, Outcome::Dropped),
+        Message::Caps {
+            ino: Ino(2),
+            seq: 7,
+            caps: CapSet::of(&[Cap::P, Cap::Fr])
+        },
+        Message::Recall { ino: Ino(3) },
+        Message::Caps {
+            ino: Ino(3),
+            seq: 8,
+            caps: CapSet::empty()
+        },
+    ]?;
+    Ok(Reply::Messages(MessageList::from(messages)))
+}
+
+const MESSAGES: &str = "messages 9
+  ended 1 done
+  ended 2 attr F 5 9
+  ended 3 denied write 1:5
+  ended 4 refused NotEmpty
+  ended 5 out-of-memory
+  ended 18446744073709551615 dropped
+  caps 2 7 pFr
+  recall 3
+  caps 3 8 -
+";
+
+#[test]
+fn messages_have_a_line_each(rt: HostRuntime) -> Result<(), Fail> {
+    let text = reply_lines(rt.alloc(), &some_messages(rt.alloc())?)?;
+    same(&rt, text.as_slice(), MESSAGES.as_bytes(), "some");
+    let none = Reply::Messages(MessageList::from(Vec::new(rt.alloc())));
+    let text = reply_lines(rt.alloc(), &none)?;
+    same(&rt, text.as_slice(), b"messages 0\n", "none");
     Ok(())
 }
 

@@ -24,6 +24,10 @@ pub fn reply_text(alloc: Global, reply: &Reply) -> Result<String, AllocError> {
             format!(in alloc; "opened {seq} {caps}")
         }
         Reply::Values(values) => format!(in alloc; "values {values:?}"),
+        Reply::Messages(messages) => {
+            let count = messages.as_slice().len();
+            format!(in alloc; "messages {count}")
+        }
         Reply::Waiting(ticket) => format!(in alloc; "waiting {ticket:?}"),
         Reply::Denied { access, rules } => {
             let rules = rules_text(alloc, rules)?;
@@ -43,7 +47,7 @@ pub fn answer_text(alloc: Global, answer: Result<Reply, Stop>) -> Result<String,
 }
 
 /// What an event says: its kind, its client, and then its fields in order, of grants how many there are. A name is the
-/// list of its bytes, and a mode is in decimal.
+/// list of its bytes, and a mode and a set of capabilities are in decimal.
 pub fn event_text(alloc: Global, event: &Event) -> Result<String, AllocError> {
     match event {
         Event::Session {
@@ -85,6 +89,17 @@ pub fn event_text(alloc: Global, event: &Event) -> Result<String, AllocError> {
             let name = name.as_slice();
             format!(in alloc; "rmsnap {client} {ino} {name:?}")
         }
+        Event::Open { client, ino, mode } => format!(in alloc; "open {client} {ino} {mode:?}"),
+        Event::Want { client, ino, caps } => {
+            let caps = caps.bits();
+            format!(in alloc; "want {client} {ino} {caps}")
+        }
+        Event::Ack { client, ino, seq } => format!(in alloc; "ack {client} {ino} {seq}"),
+        Event::Release { client, ino, caps } => {
+            let caps = caps.bits();
+            format!(in alloc; "release {client} {ino} {caps}")
+        }
+        Event::Poll { client, max } => format!(in alloc; "poll {client} {max}"),
     }
 }
 

@@ -76,13 +76,15 @@ fn snapshots_and_clients_without_grants(rt: HostRuntime) -> Result<(), Fail> {
 }
 
 /// The second line of a script, and what is said of it.
-const BAD_LINES: [(&str, &str); 8] = [
+const BAD_LINES: [(&str, &str); 10] = [
     ("lookup 1 x f", "capd: line 2: Number\n"),
     ("lookup 1  f\n", "capd: line 2: Number\n"),
     ("lookup 1 1", "capd: line 2: Count\n"),
     ("fly 1 1 f\n", "capd: line 2: Command\n"),
     ("threads 2", "capd: line 2: Command\n"),
     ("mkdir 1 1 d 08", "capd: line 2: Mode\n"),
+    ("open 1 2 x", "capd: line 2: Mode\n"),
+    ("want 1 2 rF\n", "capd: line 2: Caps\n"),
     ("session 2 1 1 1,x none", "capd: line 2: Number\n"),
     (
         "session 1 10 10 - allow",
