@@ -7,20 +7,21 @@ ghost use Rattle.sessiontab.specs.Calls.{has_session};
 ghost use Rattle.captable.specs.Table.{IsTable, is_row_of, entry_at};
 ghost use Rattle.captable.specs.Calls.{told, changed, is_of_inode, entries_on};
 ghost use Rattle.captable.specs.Many.{changed_by, changed_where};
-ghost use Rattle.lockmachine.specs.Scene.{Scene, scene, against_lock};
+ghost use Rattle.lockmachine.specs.Scene.{Scene, scene};
 ghost use Rattle.capcore.specs.Finish.{allowed_by};
 ghost use Rattle.capcore.specs.Finishing as words;
 ghost use Rattle.capcore.specs.Direct.{opened_as};
 ghost use Rattle.capcore.specs.Touching.{forget_at, finished_at};
 
 use crate::reply::Reply;
+use crate::told::{lock_under, told_set_of, told_under};
 use arrayvec::ArrayVec;
 use capbits::{Cap, CapSet, ClientId, Ino, Part};
 use capspec::FsName;
 use captable::{CapTable, Entry, EntryRow, Holder};
 use inotree::{Place, Tree};
 use lockmachine::{InodeLocks, Locks, effective_want};
-use locktable::{LockState, allowed, row};
+use locktable::allowed;
 use sessiontab::{MAX_SESSIONS, Sessions};
 
 // ---- at one inode
@@ -168,33 +169,6 @@ fn with_issued(row: &EntryRow, due: CapSet) -> EntryRow
     EntryRow { entry, ..*row }
 }
 
-// What the client is to know that it holds, under these locks of the inode.
-fn told_under(row: &EntryRow, locks: &Option<InodeLocks>) -> CapSet
-    ensures { result ≡ words.told_under locks.now row.now }
-{
-    let auth = against_under(Part::A, row, locks);
-    let link = against_under(Part::L, row, locks);
-    let xattr = against_under(Part::X, row, locks);
-    let file = against_under(Part::F, row, locks);
-    row.entry
-        .held
-        .minus(auth.union(link.union(xattr.union(file))))
-}
-
-// What is being revoked of a part.
-fn against_under(part: Part, entry: &EntryRow, locks: &Option<InodeLocks>) -> CapSet
-    ensures { result ≡ against_lock part entry.now (words.lock_under locks.now part) }
-{
-    match lock_under(locks, part) {
-        Some(LockState::Gather { to, .. }) => entry
-            .entry
-            .held
-            .part(part)
-            .minus(row(part, to, entry.holder.client)),
-        Some(LockState::Stable(_)) | None => CapSet::empty(),
-    }
-}
-
 // What these locks of the inode let the client hold, and the pin always.
 fn allowed_under(row: &EntryRow, locks: &Option<InodeLocks>) -> CapSet
     ensures { result ≡ words.allowed_under locks.now row.now }
@@ -213,16 +187,6 @@ fn allowed_part(part: Part, row: &EntryRow, locks: &Option<InodeLocks>) -> CapSe
     match lock_under(locks, part) {
         Some(lock) => allowed(part, lock, row.holder.client),
         None => CapSet::empty(),
-    }
-}
-
-// The lock of a part.
-fn lock_under(locks: &Option<InodeLocks>, part: Part) -> Option<LockState>
-    ensures { result ≡ words.lock_under locks.now part }
-{
-    match *locks {
-        Some(four) => Some(four.of_part(part)),
-        None => None,
     }
 }
 
@@ -248,6 +212,6 @@ fn opened(table: &CapTable, locks: &Locks, holder: Holder) -> Reply
     };
     let seq = entry.seq;
     let row = EntryRow { holder, entry };
-    let caps = told_under(&row, &locks.of_ino(holder.ino));
+    let caps = told_set_of(locks, &row);
     Reply::Opened { seq, caps }
 }

@@ -14,7 +14,6 @@ mod messages;
 mod outcome;
 mod poll;
 mod reply;
-mod revoked;
 mod start;
 mod staying;
 mod step;
