@@ -25,3 +25,7 @@ module _ {T : Type 0} where
   -- the node, with this key before it in a list of this order
   abbrev pub with_previous : Order → Option ℕ → Linked T → Linked T
   with_previous o key l = with_joint o (record (joint_of o l) { previous = key }) l
+
+  -- the node, with this value
+  abbrev pub with_node_value : T → Linked T → Linked T
+  with_node_value value l = record l { node = record l.node { value = value } }

@@ -3,8 +3,12 @@
 #![tactic(auto)]
 
 mod chain;
+mod heads;
 mod link;
+mod lists;
+mod moves;
 mod nodes;
 
 pub use link::{Link, LinkWrites};
+pub use lists::{MAX_NODES, TripleLists};
 pub use nodes::Node;
