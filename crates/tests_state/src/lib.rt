@@ -20,3 +20,5 @@ mod sessions;
 mod tree;
 #[cfg(test)]
 mod tree_steps;
+#[cfg(test)]
+mod triple_lists;

@@ -1,0 +1,10 @@
+pub mod Additions
+pub mod HeadMaps
+pub mod Readers
+pub mod Removals
+pub mod Rings
+pub mod Sound
+pub mod Stands
+pub mod Touched
+pub mod Values
+pub mod Writes

@@ -1,0 +1,14 @@
+//! One set of nodes, each for one client on one inode, and three lists of them at once: the nodes of an inode, the nodes
+//! of a client, and all nodes in the order of recall.
+#![tactic(auto)]
+
+mod chain;
+mod heads;
+mod link;
+mod lists;
+mod moves;
+mod nodes;
+
+pub use link::{Link, LinkWrites};
+pub use lists::{MAX_NODES, TripleLists};
+pub use nodes::Node;

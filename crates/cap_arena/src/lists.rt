@@ -1,0 +1,220 @@
+//! Nodes in three lists.
+ghost use Rattle.std.specs.Prelude.{◌≡◌, ◌+◌, ◌≤◌, Some, None, IsSome, IfOk, OnErr, IfSome, IfNone, slice_get, option_and_then};
+
+use crate::chain::{move_last, next_of};
+use crate::heads::first_in;
+use crate::link::LinkWrites;
+use crate::moves::{put_value, take_in, take_out};
+use crate::nodes::{Ends, Linked, Node, Order};
+use capbits::{ClientId, Ino, Refusal};
+use slab::Slab;
+use std::alloc::{AllocError, Global};
+use std::collections::HashMap;
+use std::marker::{Brand, Model};
+use std::sync::ledger::{Blank, Ledger};
+
+/// How many nodes there may be.
+pub const MAX_NODES: usize = 65_536;
+
+/// Nodes, at most `MAX_NODES`, each under a key that is its own until it is removed. Each stands at once in three lists:
+/// that of its inode and that of its client, both in the order of making, and the order of recall, in which the node
+/// that was left alone longest is the oldest, and comes first.
+#[derive(Debug, Drop)]
+pub struct TripleLists<T> {
+    nodes: Slab<Linked<T>>,
+    recall: Ends,
+    // By the inode's number.
+    inodes: HashMap<u64, Ends>,
+    // By the client's number.
+    clients: HashMap<u64, Ends>,
+}
+
+impl<T> Model for TripleLists<T> {
+    ghost use Rattle.cap_arena.specs.Lists.{Lists};
+
+    ghost Value = { Lists T };
+
+    ghost use Rattle.std.specs.Coded.{codes};
+    ghost use Rattle.cap_arena.specs.Codes.{ends_code};
+    ghost use Rattle.cap_arena.specs.contracts.nodes.Linked as linked;
+    ghost use Rattle.cap_arena.specs.contracts.nodes.Ends as ends;
+
+    ghost coded = { Prim.hlevel (codes, ends_code, ends.the_row.coded, T.code) };
+
+    ghost use Rattle.cap_arena.specs.Lists.{lists_of, IsLists};
+
+    ghost view = { λ t. lists_of t.nodes.slots t.recall t.inodes t.clients };
+
+    ghost invariant = { λ t. IsLists (lists_of t.nodes.slots t.recall t.inodes t.clients) };
+}
+
+// A list without nodes. Its links are the first writes to them, and nobody counts these.
+fn no_ends<L: Ledger>(blank: Blank) -> Ends
+    requires name { blank.name ≡ L.name }
+    requires parts { blank.parts ≡ L.parts }
+    requires counts { 1 ≤ L.parts }
+    ensures { result ≡ record { first = None; last = None } }
+{
+    let mut writes = LinkWrites::<L>::new(blank);
+    Ends::none(&mut writes)
+}
+
+impl<T: Copy> TripleLists<T> {
+    ghost use Rattle.capbits.specs.Refusal.{first_failing};
+    ghost use Rattle.cap_arena.specs.Walks.{key_after};
+    ghost use Rattle.cap_arena.specs.Lists.{OfInode, OfClient, OfRecall, IsLists, empty, count, keys, node_at};
+    ghost use Rattle.cap_arena.specs.Calls.{node, add_tests, Adds, Removes, Touches, Sets};
+
+    /// No nodes.
+    pub fn new(alloc: Global) -> Result<TripleLists<T>, AllocError>
+        ensures { IfOk result (λ lists. lists ≡ empty) }
+    {
+        Ok(TripleLists {
+            nodes: Slab::new(alloc),
+            recall: no_ends::<Brand>(Blank::new(1)),
+            inodes: HashMap::new(alloc),
+            clients: HashMap::new(alloc),
+        })
+    }
+
+    /// Why no node can be added: there are as many as there may be.
+    pub fn add_refusal(&self) -> Option<Refusal>
+        ensures { result ≡ first_failing (add_tests self.now) }
+    {
+        if self.nodes.len() >= MAX_NODES {
+            return Some(Refusal::Limit);
+        }
+        None
+    }
+
+    /// Adds a node, the last one of each of its lists, and answers its key. For want of memory nothing changes.
+    pub fn add<L: Ledger>(
+        &mut self,
+        client: ClientId,
+        ino: Ino,
+        value: T,
+        writes: &mut LinkWrites<L>,
+    ) -> Result<usize, AllocError>
+        requires passed { first_failing (add_tests self.old) ≡ None }
+        ensures ok { IfOk result (λ key. Adds self.old self.new key (node client ino value)) }
+        ensures err { OnErr result (self.new ≡ self.old) }
+        ensures unwritten { OnErr result (writes.new ≡ writes.old) }
+        ensures count { writes.new ≤ writes.old + 12 }
+        ensures sound { IsLists self.new }
+    {
+        // Room comes first, for the node and for the ends of its lists.
+        self.nodes.reserve(1)?;
+        self.inodes.reserve(1)?;
+        self.clients.reserve(1)?;
+        let node = Node { client, ino, value };
+        Ok(take_in(
+            &mut self.nodes,
+            &mut self.recall,
+            &mut self.inodes,
+            &mut self.clients,
+            node,
+            writes,
+        ))
+    }
+
+    /// The node with this key.
+    pub fn get(&self, key: usize) -> Option<Node<T>>
+        ensures node { result ≡ node_at self.now key }
+        ensures sound { IsLists self.now }
+    {
+        match self.nodes.get(key) {
+            Some(linked) => Some(linked.node),
+            None => None,
+        }
+    }
+
+    /// Keeps this value with the node from now on. Where no node has the key, nothing happens.
+    pub fn set(&mut self, key: usize, value: T)
+        ensures changed { Sets self.old self.new key value }
+        ensures sound { IsLists self.new }
+    {
+        put_value(&mut self.nodes, key, value);
+    }
+
+    /// The first node of the inode.
+    pub fn first_of_ino(&self, ino: Ino) -> Option<usize>
+        ensures first { result ≡ slice_get (keys self.now (OfInode ino)) 0 }
+        ensures sound { IsLists self.now }
+    {
+        first_in(&self.inodes, ino.0)
+    }
+
+    /// The node after this one in the list of its inode.
+    pub fn next_of_ino(&self, key: usize) -> Option<usize>
+        ensures next { result ≡ option_and_then (λ node. key_after (keys self.now (OfInode node.ino)) key) (node_at self.now key) }
+        ensures sound { IsLists self.now }
+    {
+        next_of(&self.nodes, &self.recall, Order::Inode, Some(key))
+    }
+
+    /// The first node of the client.
+    pub fn first_of_client(&self, client: ClientId) -> Option<usize>
+        ensures first { result ≡ slice_get (keys self.now (OfClient client)) 0 }
+        ensures sound { IsLists self.now }
+    {
+        first_in(&self.clients, client.0 as u64)
+    }
+
+    /// The node after this one in the list of its client.
+    pub fn next_of_client(&self, key: usize) -> Option<usize>
+        ensures next { result ≡ option_and_then (λ node. key_after (keys self.now (OfClient node.client)) key) (node_at self.now key) }
+        ensures sound { IsLists self.now }
+    {
+        next_of(&self.nodes, &self.recall, Order::Client, Some(key))
+    }
+
+    /// The first node in the order of recall.
+    pub fn oldest(&self) -> Option<usize>
+        ensures first { result ≡ slice_get (keys self.now OfRecall) 0 }
+        ensures sound { IsLists self.now }
+    {
+        self.recall.first.key()
+    }
+
+    /// The node after this one in the order of recall.
+    pub fn newer(&self, key: usize) -> Option<usize>
+        ensures next { result ≡ key_after (keys self.now OfRecall) key }
+        ensures sound { IsLists self.now }
+    {
+        next_of(&self.nodes, &self.recall, Order::Recall, Some(key))
+    }
+
+    /// The node becomes the last one in the order of recall. Where no node has the key, nothing happens.
+    pub fn touch<L: Ledger>(&mut self, key: usize, writes: &mut LinkWrites<L>)
+        ensures there { IsSome (node_at self.old key) → Touches self.old self.new key }
+        ensures absent { node_at self.old key ≡ None → self.new ≡ self.old }
+        ensures count { writes.new ≤ writes.old + 12 }
+        ensures sound { IsLists self.new }
+    {
+        if !self.nodes.contains(key) {
+            return;
+        }
+        move_last(&mut self.nodes, &mut self.recall, key, writes);
+    }
+
+    /// Takes the node out of each of its lists, and answers it. Where no node has the key, nothing happens.
+    pub fn remove<L: Ledger>(&mut self, key: usize, writes: &mut LinkWrites<L>) -> Option<Node<T>>
+        ensures node { result ≡ node_at self.old key }
+        ensures removed { IfSome result (λ _. Removes self.old self.new key) }
+        ensures absent { IfNone result (self.new ≡ self.old) }
+        ensures count { writes.new ≤ writes.old + 12 }
+        ensures sound { IsLists self.new }
+    {
+        let node = self.get(key)?;
+        take_out(
+            &mut self.nodes,
+            &mut self.recall,
+            &mut self.inodes,
+            &mut self.clients,
+            key,
+            node,
+            writes,
+        );
+        Some(node)
+    }
+}

@@ -1,0 +1,78 @@
+//! A node that is taken into all its lists, or out of them, or has another value.
+ghost use Rattle.std.specs.Prelude.{◌≡◌, ◌+◌, ◌<◌, ◌≤◌, Some};
+ghost use Rattle.std.specs.HashMap.{spare};
+ghost use Rattle.slab.specs.Slab.{HasRoomFor};
+ghost use Rattle.cap_arena.specs.Nodes.{with_node_value};
+ghost use Rattle.cap_arena.specs.Places.{linked_at, changed_in};
+ghost use Rattle.cap_arena.specs.Lists.{IsLists, lists_of, node_at, count};
+ghost use Rattle.cap_arena.specs.Calls.{Adds, Removes};
+
+use crate::chain::{append, unlink};
+use crate::heads::{append_in, last_in, unlink_in};
+use crate::link::LinkWrites;
+use crate::nodes::{Ends, Joint, Linked, Node, Order};
+use slab::Slab;
+use std::collections::HashMap;
+use std::sync::ledger::Ledger;
+
+// Takes a node into its three lists, the last one of each, and answers its key. There is room for it.
+pub(crate) fn take_in<T: Copy, L: Ledger>(
+    nodes: &mut Slab<Linked<T>>,
+    recall: &mut Ends,
+    inodes: &mut HashMap<u64, Ends>,
+    clients: &mut HashMap<u64, Ends>,
+    node: Node<T>,
+    writes: &mut LinkWrites<L>,
+) -> usize
+    requires sound { IsLists (lists_of nodes.old.slots recall.old inodes.old clients.old) }
+    requires below { count (lists_of nodes.old.slots recall.old inodes.old clients.old) < 65536 }
+    requires slot { HasRoomFor nodes.old 1 }
+    requires inode { 0 < spare inodes.old }
+    requires client { 0 < spare clients.old }
+    ensures added { IsLists (lists_of nodes.new.slots recall.new inodes.new clients.new) × Adds (lists_of nodes.old.slots recall.old inodes.old clients.old) (lists_of nodes.new.slots recall.new inodes.new clients.new) result node }
+    ensures count { writes.new ≤ writes.old + 12 }
+{
+    let (ino, client) = (node.ino.0, node.client.0 as u64);
+    let linked = Linked {
+        node,
+        of_ino: Joint::behind(last_in(inodes, ino), writes),
+        of_client: Joint::behind(last_in(clients, client), writes),
+        recall: Joint::behind(recall.last.key(), writes),
+    };
+    let key = nodes.insert_reserved(linked);
+    append_in(inodes, ino, nodes, Order::Inode, key, writes);
+    append_in(clients, client, nodes, Order::Client, key, writes);
+    append(nodes, recall, Order::Recall, key, writes);
+    key
+}
+
+// Takes the node out of its three lists. Its key may be given again from then on.
+pub(crate) fn take_out<T: Copy, L: Ledger>(
+    nodes: &mut Slab<Linked<T>>,
+    recall: &mut Ends,
+    inodes: &mut HashMap<u64, Ends>,
+    clients: &mut HashMap<u64, Ends>,
+    key: usize,
+    node: Node<T>,
+    writes: &mut LinkWrites<L>,
+)
+    requires sound { IsLists (lists_of nodes.old.slots recall.old inodes.old clients.old) }
+    requires there { node_at (lists_of nodes.old.slots recall.old inodes.old clients.old) key ≡ Some node }
+    ensures removed { IsLists (lists_of nodes.new.slots recall.new inodes.new clients.new) × Removes (lists_of nodes.old.slots recall.old inodes.old clients.old) (lists_of nodes.new.slots recall.new inodes.new clients.new) key }
+    ensures count { writes.new ≤ writes.old + 12 }
+{
+    let (ino, client) = (node.ino.0, node.client.0 as u64);
+    unlink_in(inodes, ino, nodes, Order::Inode, key, writes);
+    unlink_in(clients, client, nodes, Order::Client, key, writes);
+    unlink(nodes, recall, Order::Recall, key, writes);
+    let _linked = nodes.try_remove(key);
+}
+
+// Keeps this value with the node. Where no node has the key, nothing happens.
+pub(crate) fn put_value<T: Copy>(nodes: &mut Slab<Linked<T>>, key: usize, value: T)
+    ensures { nodes.new ≡ record nodes.old { slots = changed_in (with_node_value value) nodes.old.slots key (linked_at nodes.old.slots key) } }
+{
+    if let Some(linked) = nodes.get_mut(key) {
+        linked.node.value = value;
+    }
+}
