@@ -2,6 +2,7 @@
 
 use crate::asserting::{holds, same};
 use capbits::{Caller, Groups, TooManyGroups};
+use std::process::Abort;
 
 fn push(groups: &mut Groups, gid: u32) -> Result<(), TooManyGroups> {
     groups.try_push(gid)
@@ -16,26 +17,44 @@ fn caller_of(groups: Groups) -> Caller {
     }
 }
 
+fn count(groups: &Groups) -> usize {
+    groups.len()
+}
+
+fn is_empty(groups: &Groups) -> bool {
+    groups.is_empty()
+}
+
+fn greatest(groups: &Groups) -> Option<u32> {
+    groups.iter().copied().max()
+}
+
+fn has_gid(caller: &Caller, gid: u32) -> bool {
+    caller.has_gid(gid)
+}
+
+// Sixteen groups, and what is said of one more.
+fn sixteen_groups(rt: &impl Abort) -> Groups {
+    let mut groups = Groups::new();
+    holds(rt, is_empty(&groups), "no groups");
+    for gid in 100..116 {
+        same(rt, push(&mut groups, gid), Ok(()), ("push", gid));
+    }
+    let more = push(&mut groups, 116);
+    same(rt, more, Err(TooManyGroups), ("push", 116));
+    groups
+}
+
 #[test]
 fn a_caller_has_its_first_group_and_sixteen_more(rt: HostRuntime) {
-    let mut groups = Groups::new();
-    holds(&rt, groups.is_empty(), "no groups");
-    for gid in 100..116 {
-        same(&rt, push(&mut groups, gid), Ok(()), ("push", gid));
-    }
-    same(
-        &rt,
-        push(&mut groups, 116),
-        Err(TooManyGroups),
-        ("push", 116),
-    );
-    same(&rt, groups.len(), 16, "len");
-    same(&rt, groups.iter().copied().max(), Some(115), "max");
+    let groups = sixteen_groups(&rt);
+    same(&rt, count(&groups), 16, "len");
+    same(&rt, greatest(&groups), Some(115), "max");
     let caller = caller_of(groups);
     for gid in [50, 100, 115] {
-        holds(&rt, caller.has_gid(gid), ("has", gid));
+        holds(&rt, has_gid(&caller, gid), ("has", gid));
     }
     for gid in [10, 99, 116] {
-        holds(&rt, !caller.has_gid(gid), ("lacks", gid));
+        holds(&rt, !has_gid(&caller, gid), ("lacks", gid));
     }
 }

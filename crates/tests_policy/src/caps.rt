@@ -2,6 +2,7 @@
 
 use crate::asserting::{holds, same};
 use capbits::{Cap, CapBytes, CapSet, CapText, Part, read_caps, write_caps};
+use std::alloc::{AllocError, Global};
 use std::process::Abort;
 use std::test::Fail;
 
@@ -36,35 +37,71 @@ fn set_of(bits: u32) -> Result<CapSet, Fail> {
     Ok(CapSet::from_bits(bits).ok_or("no set")?)
 }
 
+// Small readers: what a call promises stays behind in them.
+
+fn bits(set: CapSet) -> u32 {
+    set.bits()
+}
+
+fn has(set: CapSet, cap: Cap) -> bool {
+    set.has(cap)
+}
+
+fn minus(set: CapSet, other: CapSet) -> CapSet {
+    set.minus(other)
+}
+
+fn meet(set: CapSet, other: CapSet) -> CapSet {
+    set.meet(other)
+}
+
+fn union(set: CapSet, other: CapSet) -> CapSet {
+    set.union(other)
+}
+
+fn part(set: CapSet, part: Part) -> CapSet {
+    set.part(part)
+}
+
+fn contains(set: CapSet, other: CapSet) -> bool {
+    set.contains(other)
+}
+
+fn set_with(cap: Cap) -> CapSet {
+    CapSet::of(&[cap])
+}
+
 // Sees that a capability has this bit, and that a set without it has not.
 fn has_bit(rt: &impl Abort, all: CapSet, cap: Cap, bit: u32) {
-    let set = CapSet::of(&[cap]);
-    same(rt, set.bits(), bit, cap);
-    holds(rt, set.has(cap) && all.has(cap), ("has", cap));
-    holds(rt, !all.minus(set).has(cap), ("lacks", cap));
+    let set = set_with(cap);
+    same(rt, bits(set), bit, cap);
+    holds(rt, has(set, cap) && has(all, cap), ("has", cap));
+    holds(rt, !has(minus(all, set), cap), ("lacks", cap));
 }
+
+const BITS: &[(Cap, u32)] = &[
+    (Cap::P, 1),
+    (Cap::As, 4),
+    (Cap::Ax, 8),
+    (Cap::Ls, 16),
+    (Cap::Lx, 32),
+    (Cap::Xs, 64),
+    (Cap::Xx, 128),
+    (Cap::Fs, 256),
+    (Cap::Fx, 512),
+    (Cap::Fc, 1024),
+    (Cap::Fr, 2048),
+    (Cap::Fw, 4096),
+    (Cap::Fb, 8192),
+    (Cap::Fa, 16384),
+    (Cap::Fl, 32768),
+];
 
 #[test]
 fn each_capability_has_a_bit(rt: HostRuntime) -> Result<(), Fail> {
     let all = set_of(65533)?;
-    let bits = [
-        (Cap::P, 1),
-        (Cap::As, 4),
-        (Cap::Ax, 8),
-        (Cap::Ls, 16),
-        (Cap::Lx, 32),
-        (Cap::Xs, 64),
-        (Cap::Xx, 128),
-        (Cap::Fs, 256),
-        (Cap::Fx, 512),
-        (Cap::Fc, 1024),
-        (Cap::Fr, 2048),
-        (Cap::Fw, 4096),
-        (Cap::Fb, 8192),
-        (Cap::Fa, 16384),
-        (Cap::Fl, 32768),
-    ];
-    for (cap, bit) in bits {
+    for row in BITS {
+        let (cap, bit) = *row;
         has_bit(&rt, all, cap, bit);
     }
     Ok(())
@@ -72,15 +109,19 @@ fn each_capability_has_a_bit(rt: HostRuntime) -> Result<(), Fail> {
 
 #[test]
 fn a_set_has_the_sum_of_its_bits(rt: HostRuntime) {
-    same(&rt, CapSet::empty().bits(), 0, "nothing");
+    same(&rt, bits(CapSet::empty()), 0, "nothing");
     let opened = [Cap::P, Cap::Fs, Cap::Fx, Cap::Fc, Cap::Fr, Cap::Fw, Cap::Fb];
-    same(&rt, bits_of(&opened), 16129, opened);
+    same(&rt, bits_of(&opened), 16129, "what is opened");
 }
 
 // Sees that a set has this number, and is empty exactly at 0.
-fn is_set(rt: &impl Abort, set: CapSet, bits: u32) {
-    same(rt, set.bits(), bits, bits);
-    same(rt, set.is_empty(), bits == 0, bits);
+fn is_set(rt: &impl Abort, set: CapSet, wanted: u32) {
+    same(rt, bits(set), wanted, wanted);
+    same(rt, is_empty(set), wanted == 0, wanted);
+}
+
+fn is_empty(set: CapSet) -> bool {
+    set.is_empty()
 }
 
 // Two sets that share one capability. One stands twice in the list of the first.
@@ -94,32 +135,33 @@ fn two_sets() -> (CapSet, CapSet) {
 #[test]
 fn sets_join_and_part(rt: HostRuntime) {
     let (mine, other) = two_sets();
-    is_set(&rt, mine.union(other), 1 + 4 + 8 + 256 + 1024);
-    is_set(&rt, mine.meet(other), 1024);
-    is_set(&rt, mine.minus(other), 1 + 4 + 256);
-    is_set(&rt, mine.part(Part::A), 4);
-    is_set(&rt, mine.part(Part::L), 0);
-    is_set(&rt, mine.part(Part::X), 0);
-    is_set(&rt, mine.part(Part::F), 256 + 1024);
-    holds(&rt, mine.contains(mine.meet(other)), "what both have");
-    holds(&rt, !mine.contains(other), "all that the other has");
-    same(
-        &rt,
-        mine.minus(other).union(mine.meet(other)),
-        mine,
-        "both halves",
-    );
+    is_set(&rt, union(mine, other), 1 + 4 + 8 + 256 + 1024);
+    is_set(&rt, meet(mine, other), 1024);
+    is_set(&rt, minus(mine, other), 1 + 4 + 256);
+    is_set(&rt, part(mine, Part::A), 4);
+    is_set(&rt, part(mine, Part::L), 0);
+    is_set(&rt, part(mine, Part::X), 0);
+    is_set(&rt, part(mine, Part::F), 256 + 1024);
+    holds(&rt, contains(mine, meet(mine, other)), "what both have");
+    holds(&rt, !contains(mine, other), "all that the other has");
+    let halves = union(minus(mine, other), meet(mine, other));
+    same(&rt, halves, mine, "both halves");
+}
+
+// The number of the set of a part's capabilities.
+fn bits_of_part(part: Part) -> u32 {
+    bits_of(part.caps())
 }
 
 #[test]
 fn a_part_has_its_capabilities(rt: HostRuntime) {
-    for (part, bits) in [
+    for (part, wanted) in [
         (Part::A, 12),
         (Part::L, 48),
         (Part::X, 192),
         (Part::F, 65280),
     ] {
-        same(&rt, bits_of(part.caps()), bits, part);
+        same(&rt, bits_of_part(part), wanted, part);
     }
 }
 
@@ -128,52 +170,62 @@ fn bits_read(text: &str) -> Result<u32, CapText> {
     read_caps(text.as_bytes()).map(CapSet::bits)
 }
 
+// Texts, and the numbers of the sets that they name.
+const TEXTS: &[(&str, u32)] = &[
+    ("-", 0),
+    ("p", 1),
+    ("As", 4),
+    ("Frw", 2048 + 4096),
+    ("pAsLsXsFs", 1 + 4 + 16 + 64 + 256),
+    ("pAsxLsXsxFsxcrwb", 16349),
+    ("pFsxcrwb", 16129),
+    ("pAsxLsxXsxFsxcrwbal", 65533),
+];
+
 #[test]
 fn a_text_is_one_set(rt: HostRuntime) {
-    let cases = [
-        ("-", 0),
-        ("p", 1),
-        ("As", 4),
-        ("Frw", 2048 + 4096),
-        ("pAsLsXsFs", 1 + 4 + 16 + 64 + 256),
-        ("pAsxLsXsxFsxcrwb", 16349),
-        ("pFsxcrwb", 16129),
-        ("pAsxLsxXsxFsxcrwbal", 65533),
-    ];
-    for (text, bits) in cases {
+    for row in TEXTS {
+        let (text, bits) = *row;
         same(&rt, bits_read(text), Ok(bits), text);
     }
 }
 
+// Texts, and where the fault of each is.
+const FAULTS: &[(&str, usize)] = &[
+    ("pFcs", 3),
+    ("pF", 2),
+    ("", 0),
+    ("--", 1),
+    ("-p", 1),
+    ("p-", 1),
+    ("pp", 1),
+    ("s", 0),
+    ("ps", 1),
+    ("Asp", 2),
+    ("pAc", 2),
+    ("pAL", 2),
+    ("pFsAs", 3),
+    ("pFss", 3),
+    ("pFsxcrwbalx", 10),
+    ("pfs", 1),
+    ("pFs ", 3),
+];
+
 #[test]
 fn a_fault_is_where_no_spelling_goes_on(rt: HostRuntime) {
-    let cases = [
-        ("pFcs", 3),
-        ("pF", 2),
-        ("", 0),
-        ("--", 1),
-        ("-p", 1),
-        ("p-", 1),
-        ("pp", 1),
-        ("s", 0),
-        ("ps", 1),
-        ("Asp", 2),
-        ("pAc", 2),
-        ("pAL", 2),
-        ("pFsAs", 3),
-        ("pFss", 3),
-        ("pFsxcrwbalx", 10),
-        ("pfs", 1),
-        ("pFs ", 3),
-    ];
-    for (text, at) in cases {
+    for row in FAULTS {
+        let (text, at) = *row;
         same(&rt, bits_read(text), Err(CapText { at }), text);
     }
 }
 
+fn fault_text(alloc: Global, at: usize) -> Result<String, AllocError> {
+    format!(in alloc; "{}", CapText { at })
+}
+
 #[test]
 fn a_fault_prints_its_place(rt: HostRuntime) -> Result<(), Fail> {
-    let text = format!(in rt.alloc(); "{}", CapText { at: 3 })?;
+    let text = fault_text(rt.alloc(), 3)?;
     same(
         &rt,
         text.as_str(),
@@ -188,20 +240,27 @@ fn text_of(bits: u32) -> Result<CapBytes, Fail> {
     Ok(write_caps(set_of(bits)?))
 }
 
+fn length(bytes: CapBytes) -> usize {
+    bytes.into_inner().len()
+}
+
+// The numbers of sets, and their texts.
+const SETS: &[(u32, &str)] = &[
+    (0, "-"),
+    (1, "p"),
+    (4, "As"),
+    (16349, "pAsxLsXsxFsxcrwb"),
+    (16129, "pFsxcrwb"),
+    (65533, "pAsxLsxXsxFsxcrwbal"),
+];
+
 #[test]
 fn each_set_has_one_text(rt: HostRuntime) -> Result<(), Fail> {
-    let cases = [
-        (0, "-"),
-        (1, "p"),
-        (4, "As"),
-        (16349, "pAsxLsXsxFsxcrwb"),
-        (16129, "pFsxcrwb"),
-        (65533, "pAsxLsxXsxFsxcrwbal"),
-    ];
-    for (bits, text) in cases {
-        let bytes = text_of(bits)?;
-        same(&rt, bytes.as_slice(), text.as_bytes(), ("text", bits));
-        same(&rt, bytes.into_inner().len(), text.len(), ("length", bits));
+    for row in SETS {
+        let (number, text) = *row;
+        let bytes = text_of(number)?;
+        same(&rt, bytes.as_slice(), text.as_bytes(), ("text", number));
+        same(&rt, length(bytes), text.len(), ("length", number));
     }
     Ok(())
 }

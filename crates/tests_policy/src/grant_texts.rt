@@ -4,7 +4,7 @@ use crate::asserting::{holds, same};
 use capspec::{
     Flags4, FsName, Grant, Grants, SpecFault, SpecFaultKind, TreePath, read_grants, write_grants,
 };
-use std::alloc::Global;
+use std::alloc::{AllocError, Global};
 use std::process::Abort;
 use std::test::Fail;
 
@@ -16,75 +16,90 @@ fn fault_in(alloc: Global, text: &str) -> Option<(SpecFaultKind, usize)> {
     }
 }
 
+const FAULTS: &[(&str, SpecFaultKind, usize)] = &[
+    ("", SpecFaultKind::Empty, 0),
+    ("   ", SpecFaultKind::Empty, 3),
+    ("allow rwsp", SpecFaultKind::BadFlags, 6),
+    ("allow rwf", SpecFaultKind::LeftOut, 6),
+    ("allow rw network 10.0.0.0/8", SpecFaultKind::LeftOut, 9),
+    ("allow rw path=\"/a", SpecFaultKind::OpenQuote, 9),
+    ("allow r,", SpecFaultKind::NotAllow, 8),
+    ("allow rw gids=1", SpecFaultKind::GidsWithoutUid, 9),
+    ("allow rw uid=1 uid=2", SpecFaultKind::Twice, 15),
+    ("allow rw uid=4294967296", SpecFaultKind::BadNumber, 9),
+    ("allow rw path=/a*", SpecFaultKind::BadPath, 9),
+    ("allow rw pa", SpecFaultKind::BadItem, 9),
+    ("allow rw path=", SpecFaultKind::BadPath, 9),
+    ("allow rw path=/a,", SpecFaultKind::NotAllow, 17),
+    ("allow rw path=/a, allow", SpecFaultKind::BadFlags, 23),
+    ("allo", SpecFaultKind::NotAllow, 0),
+    ("allow rw path=\"/a\"b", SpecFaultKind::BadItem, 9),
+    ("allow rw uid=1 gids=1,", SpecFaultKind::NotAllow, 22),
+    ("allow", SpecFaultKind::BadFlags, 5),
+    ("allow  ", SpecFaultKind::BadFlags, 7),
+    ("allow r, ", SpecFaultKind::NotAllow, 9),
+    ("allow rff", SpecFaultKind::BadFlags, 6),
+    ("allow path=\"a b\"", SpecFaultKind::BadFlags, 6),
+    ("allow rw fsname=* fsname=a", SpecFaultKind::Twice, 18),
+    (
+        "allow rw root_squash root_squashed",
+        SpecFaultKind::BadItem,
+        21,
+    ),
+    (
+        "allow rw gids=1 root_squash",
+        SpecFaultKind::GidsWithoutUid,
+        9,
+    ),
+    ("allow rw uid=1 gids=1,2x", SpecFaultKind::BadNumber, 15),
+    ("allow rw uid=1 gids=", SpecFaultKind::BadNumber, 15),
+    ("allow rw path='/a\"", SpecFaultKind::OpenQuote, 9),
+    ("allow rw path=\"\"", SpecFaultKind::BadPath, 9),
+    (",allow r", SpecFaultKind::NotAllow, 0),
+    ("allow rw uid=1 gids=1,2 ,3", SpecFaultKind::NotAllow, 25),
+    ("allow rw uid=1 uid=x", SpecFaultKind::Twice, 15),
+    (
+        "allow rw uid=1 gids=4294967296,1",
+        SpecFaultKind::BadNumber,
+        15,
+    ),
+    ("allow rw path=\"/a\u{7}\"x", SpecFaultKind::BadItem, 9),
+    ("allow rw root_squash=1", SpecFaultKind::BadItem, 9),
+    ("allowr r", SpecFaultKind::NotAllow, 0),
+    ("allow rw gids=1 uid=x", SpecFaultKind::BadNumber, 16),
+    (
+        "allow rw uid=1 gids=0,1,2,3,4,5,6,7,8,9,10,11,12,13,14,15,16x",
+        SpecFaultKind::BadNumber,
+        15,
+    ),
+    ("allow, allow r", SpecFaultKind::BadFlags, 5),
+];
+
 #[test]
 fn each_fault_has_its_place(rt: HostRuntime) {
-    use SpecFaultKind::*;
-    let cases = [
-        ("", Empty, 0),
-        ("   ", Empty, 3),
-        ("allow rwsp", BadFlags, 6),
-        ("allow rwf", LeftOut, 6),
-        ("allow rw network 10.0.0.0/8", LeftOut, 9),
-        ("allow rw path=\"/a", OpenQuote, 9),
-        ("allow r,", NotAllow, 8),
-        ("allow rw gids=1", GidsWithoutUid, 9),
-        ("allow rw uid=1 uid=2", Twice, 15),
-        ("allow rw uid=4294967296", BadNumber, 9),
-        ("allow rw path=/a*", BadPath, 9),
-        ("allow rw pa", BadItem, 9),
-        ("allow rw path=", BadPath, 9),
-        ("allow rw path=/a,", NotAllow, 17),
-        ("allow rw path=/a, allow", BadFlags, 23),
-        ("allo", NotAllow, 0),
-        ("allow rw path=\"/a\"b", BadItem, 9),
-        ("allow rw uid=1 gids=1,", NotAllow, 22),
-        ("allow", BadFlags, 5),
-        ("allow  ", BadFlags, 7),
-        ("allow r, ", NotAllow, 9),
-        ("allow rff", BadFlags, 6),
-        ("allow path=\"a b\"", BadFlags, 6),
-        ("allow rw fsname=* fsname=a", Twice, 18),
-        ("allow rw root_squash root_squashed", BadItem, 21),
-        ("allow rw gids=1 root_squash", GidsWithoutUid, 9),
-        ("allow rw uid=1 gids=1,2x", BadNumber, 15),
-        ("allow rw uid=1 gids=", BadNumber, 15),
-        ("allow rw path='/a\"", OpenQuote, 9),
-        ("allow rw path=\"\"", BadPath, 9),
-        (",allow r", NotAllow, 0),
-        ("allow rw uid=1 gids=1,2 ,3", NotAllow, 25),
-        ("allow rw uid=1 uid=x", Twice, 15),
-        ("allow rw uid=1 gids=4294967296,1", BadNumber, 15),
-        ("allow rw path=\"/a\u{7}\"x", BadItem, 9),
-        ("allow rw root_squash=1", BadItem, 9),
-        ("allowr r", NotAllow, 0),
-        ("allow rw gids=1 uid=x", BadNumber, 16),
-        (
-            "allow rw uid=1 gids=0,1,2,3,4,5,6,7,8,9,10,11,12,13,14,15,16x",
-            BadNumber,
-            15,
-        ),
-        ("allow, allow r", BadFlags, 5),
-    ];
-    for (text, kind, at) in cases {
-        same(&rt, fault_in(rt.alloc(), text), Some((kind, at)), text);
+    for (text, kind, at) in FAULTS {
+        let found = fault_in(rt.alloc(), text);
+        same(&rt, found, Some((*kind, *at)), *text);
     }
 }
 
-// Sees the first fault of the text that is `part`, so many times, between `head` and `tail`.
+// A text that is `part`, so many times, between `head` and `tail`.
+type Long<'a> = (&'a str, &'a str, usize, &'a str);
+
+fn long_text(alloc: Global, (head, part, times, tail): Long) -> Result<String, AllocError> {
+    let parts = part.repeat(alloc, times)?;
+    format!(in alloc; "{head}{parts}{tail}")
+}
+
+// Sees the first fault of a long text.
 fn long_text_has(
     rt: &(impl Abort + AllocGlobal),
-    (head, part, times, tail): (&str, &str, usize, &str),
+    long: Long,
     fault: Option<(SpecFaultKind, usize)>,
 ) -> Result<(), Fail> {
-    let mut text = String::from_str(rt.alloc(), head)?;
-    text.push_str(&part.repeat(rt.alloc(), times)?)?;
-    text.push_str(tail)?;
-    same(
-        rt,
-        fault_in(rt.alloc(), text.as_str()),
-        fault,
-        (head, part, times, tail),
-    );
+    let text = long_text(rt.alloc(), long)?;
+    let found = fault_in(rt.alloc(), text.as_str());
+    same(rt, found, fault, long);
     Ok(())
 }
 
@@ -135,110 +150,165 @@ struct Fields<'a> {
     root_squash: bool,
 }
 
+// Small readers of grants: what a call promises stays behind in them.
+
+fn grants_of(alloc: Global, text: &[u8]) -> Result<Grants, Fail> {
+    Ok(read_grants(alloc, text)?)
+}
+
+fn count(grants: &Grants) -> usize {
+    grants.len()
+}
+
+fn grant(grants: &Grants, place: usize) -> Option<&Grant> {
+    grants.get(place)
+}
+
+fn leads_to(grants: &Grants, place: usize, names: &[&[u8]]) -> Option<bool> {
+    let grant = grant(grants, place)?;
+    Some(grant.path.leads_to(names))
+}
+
+fn fields_of(grants: &Grants, place: usize) -> Option<Fields<'_>> {
+    let grant = grant(grants, place)?;
+    Some(Fields {
+        flags: grant.flags,
+        fsname: grant.fsname.as_ref().map(FsName::as_bytes),
+        uid: grant.uid,
+        gids: grant.gids.as_slice(),
+        root_squash: grant.root_squash,
+    })
+}
+
 // Sees that the grant at a place has these fields.
 fn has_fields(rt: &impl Abort, grants: &Grants, place: usize, fields: Fields) {
-    let grant = grants.get(place).expect(rt, "a grant");
-    same(rt, grant.flags, fields.flags, ("flags", place));
-    let fsname = grant.fsname.as_ref().map(FsName::as_bytes);
-    same(rt, fsname, fields.fsname, ("fsname", place));
-    same(rt, grant.uid, fields.uid, ("uid", place));
-    same(rt, grant.gids.as_slice(), fields.gids, ("gids", place));
-    same(
-        rt,
-        grant.root_squash,
-        fields.root_squash,
-        ("root_squash", place),
-    );
+    let found = fields_of(grants, place).expect(rt, "a grant");
+    same(rt, found.flags, fields.flags, ("flags", place));
+    same(rt, found.fsname, fields.fsname, ("fsname", place));
+    same(rt, found.uid, fields.uid, ("uid", place));
+    same(rt, found.gids, fields.gids, ("gids", place));
+    let squash = ("root_squash", place);
+    same(rt, found.root_squash, fields.root_squash, squash);
 }
 
 // Sees that names lead to the path of a grant or below it, and that others do not.
 fn has_path(rt: &impl Abort, grants: &Grants, place: usize, path: &[&[u8]], other: &[&[u8]]) {
-    let grant = grants.get(place).expect(rt, "a grant");
-    holds(rt, grant.path.leads_to(path), ("the path of grant", place));
-    holds(
+    same(
         rt,
-        !grant.path.leads_to(other),
-        ("no other path of grant", place),
+        leads_to(grants, place, path),
+        Some(true),
+        ("path", place),
+    );
+    same(
+        rt,
+        leads_to(grants, place, other),
+        Some(false),
+        ("no other path", place),
     );
 }
 
 // Sees that the grant at a place is for the whole tree.
 fn has_root(rt: &impl Abort, grants: &Grants, place: usize) {
-    let grant = grants.get(place).expect(rt, "a grant");
-    holds(rt, grant.path.leads_to(&[]), ("the root of grant", place));
+    same(
+        rt,
+        leads_to(grants, place, &[]),
+        Some(true),
+        ("root", place),
+    );
 }
+
+const FIRST_FIELDS: Fields = Fields {
+    flags: Flags4::Rw,
+    fsname: Some(b"cephfs"),
+    uid: Some(7),
+    gids: &[50, 51],
+    root_squash: false,
+};
+
+const SECOND_FIELDS: Fields = Fields {
+    flags: Flags4::Rwps,
+    fsname: None,
+    uid: None,
+    gids: &[],
+    root_squash: true,
+};
 
 #[test]
 fn grants_have_their_fields(rt: HostRuntime) -> Result<(), Fail> {
     let text =
         b" allow rw path=/a//b/ gids=50,0051 uid=7 fsname=cephfs;allow\tall path='a b,c' root_squash , allow r\n";
-    let grants = read_grants(rt.alloc(), text)?;
-    same(&rt, grants.len(), 3, "len");
-    holds(&rt, grants.get(3).is_none(), "the fourth grant");
+    let grants = grants_of(rt.alloc(), text)?;
+    same(&rt, count(&grants), 3, "len");
+    holds(&rt, grant(&grants, 3).is_none(), "the fourth grant");
     has_path(&rt, &grants, 0, &[b"a", b"b", b"c"], &[b"a"]);
     has_path(&rt, &grants, 1, &[b"a b,c"], &[b"a b"]);
     has_root(&rt, &grants, 2);
-    let first = Fields {
-        flags: Flags4::Rw,
-        fsname: Some(b"cephfs"),
-        uid: Some(7),
-        gids: &[50, 51],
-        root_squash: false,
-    };
-    has_fields(&rt, &grants, 0, first);
-    let second = Fields {
-        flags: Flags4::Rwps,
-        fsname: None,
-        uid: None,
-        gids: &[],
-        root_squash: true,
-    };
-    has_fields(&rt, &grants, 1, second);
+    has_fields(&rt, &grants, 0, FIRST_FIELDS);
+    has_fields(&rt, &grants, 1, SECOND_FIELDS);
     Ok(())
 }
 
 #[test]
 fn a_prefix_is_one_of_names(rt: HostRuntime) -> Result<(), Fail> {
-    let grants = read_grants(rt.alloc(), b"allow rw path=/foo")?;
+    let grants = grants_of(rt.alloc(), b"allow rw path=/foo")?;
     has_path(&rt, &grants, 0, &[b"foo"], &[b"food"]);
     has_path(&rt, &grants, 0, &[b"foo", b"d"], &[b"d", b"foo"]);
     has_path(&rt, &grants, 0, &[b"foo"], &[]);
     Ok(())
 }
 
+fn path_of(alloc: Global, text: &str) -> Result<TreePath, Fail> {
+    Ok(TreePath::from_text(alloc, text.as_bytes())?)
+}
+
+fn path_of_two_names(alloc: Global) -> Result<TreePath, Fail> {
+    Ok(TreePath::of(alloc, &[b"a".as_slice(), b"b c"])?)
+}
+
+fn has_text(rt: &impl Abort, path: &TreePath, wanted: &str, place: &str) {
+    same(rt, path.as_bytes(), wanted.as_bytes(), place);
+}
+
 // Sees which path a text names.
 fn names_path(rt: &(impl Abort + AllocGlobal), text: &str, wanted: &str) -> Result<(), Fail> {
-    let path = TreePath::from_text(rt.alloc(), text.as_bytes())?;
-    same(rt, path.as_bytes(), wanted.as_bytes(), text);
+    let path = path_of(rt.alloc(), text)?;
+    has_text(rt, &path, wanted, text);
     Ok(())
 }
 
+// Texts, and the path that each names.
+const PATHS: &[(&str, &str)] = &[
+    ("", ""),
+    ("/", ""),
+    ("a", "/a"),
+    ("/a/b", "/a/b"),
+    ("/a/b/", "/a/b"),
+    ("/a//b", "/a/b"),
+    ("//a", "/a"),
+];
+
 #[test]
 fn a_path_is_one_text(rt: HostRuntime) -> Result<(), Fail> {
-    let cases = [
-        ("", ""),
-        ("/", ""),
-        ("a", "/a"),
-        ("/a/b", "/a/b"),
-        ("/a/b/", "/a/b"),
-        ("/a//b", "/a/b"),
-        ("//a", "/a"),
-    ];
-    for (text, wanted) in cases {
+    for row in PATHS {
+        let (text, wanted) = *row;
         names_path(&rt, text, wanted)?;
     }
-    let path = TreePath::of(rt.alloc(), &[b"a".as_slice(), b"b c"])?;
-    same(&rt, path.as_bytes(), b"/a/b c".as_slice(), "two names");
+    let path = path_of_two_names(rt.alloc())?;
+    has_text(&rt, &path, "/a/b c", "two names");
     Ok(())
+}
+
+fn is_name(bytes: &[u8]) -> bool {
+    FsName::read(bytes).is_some()
 }
 
 #[test]
 fn a_file_system_has_a_name(rt: HostRuntime) {
     for name in [b"a.B_9-".as_slice(), &[b'a'; 64]] {
-        holds(&rt, FsName::read(name).is_some(), name);
+        holds(&rt, is_name(name), name);
     }
     for bad in [b"".as_slice(), b"a b", b"a/b", b"*", &[b'a'; 65]] {
-        holds(&rt, FsName::read(bad).is_none(), bad);
+        holds(&rt, !is_name(bad), bad);
     }
 }
 
@@ -256,25 +326,38 @@ fn same_fields(rt: &impl Abort, own: &Grant, other: &Grant, place: usize) {
     );
 }
 
-// A copy of the grants of a text, with their fields. It needs nothing of its source, which is gone.
-fn copied(rt: &(impl Abort + AllocGlobal), text: &[u8]) -> Result<Grants, Fail> {
-    let source = read_grants(rt.alloc(), text)?;
-    let copy = source.copy()?;
-    same(rt, copy.len(), source.len(), "len");
-    for (place, (own, other)) in copy.as_slice().iter().zip(source.as_slice()).enumerate() {
+fn copy_of(grants: &Grants) -> Result<Grants, Fail> {
+    Ok(grants.copy()?)
+}
+
+// Sees that grants have the fields of others.
+fn all_same_fields(rt: &impl Abort, grants: &Grants, others: &Grants) {
+    same(rt, count(grants), count(others), "len");
+    for (place, (own, other)) in grants.as_slice().iter().zip(others.as_slice()).enumerate() {
         same_fields(rt, own, other, place);
     }
+}
+
+// A copy of the grants of a text, with their fields. It needs nothing of its source, which is gone.
+fn copied(rt: &(impl Abort + AllocGlobal), text: &[u8]) -> Result<Grants, Fail> {
+    let source = grants_of(rt.alloc(), text)?;
+    let copy = copy_of(&source)?;
+    all_same_fields(rt, &copy, &source);
     Ok(copy)
+}
+
+fn written(alloc: Global, grants: &Grants) -> Result<Vec<u8>, Fail> {
+    Ok(write_grants(alloc, grants)?)
 }
 
 #[test]
 fn a_copy_equals_its_source(rt: HostRuntime) -> Result<(), Fail> {
     let text = b"allow rws fsname=f path='a \"/b' uid=7 gids=50,51 root_squash, allow r";
     let copy = copied(&rt, text)?;
-    same(&rt, copy.len(), 2, "len");
+    same(&rt, count(&copy), 2, "len");
     has_path(&rt, &copy, 0, &[b"a \"", b"b", b"c"], &[b"a \""]);
     has_root(&rt, &copy, 1);
-    let written = write_grants(rt.alloc(), &copy)?;
+    let written = written(rt.alloc(), &copy)?;
     same(
         &rt,
         written.as_slice(),

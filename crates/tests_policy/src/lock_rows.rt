@@ -9,20 +9,39 @@ const HOLDER: ClientId = ClientId(1);
 
 const OTHER: ClientId = ClientId(2);
 
-// Sees what client 1 may hold of A, L, X and F in a state.
-fn has_cells(rt: &impl Abort, state: State, cells: [&[Cap]; 4]) {
-    for (part, caps) in [Part::A, Part::L, Part::X, Part::F].into_iter().zip(cells) {
-        let held = CapSet::of(caps);
-        same(rt, row(part, state, HOLDER), held, (part, state));
-        let stable = LockState::Stable(state);
-        same(rt, allowed(part, stable, HOLDER), held, (part, stable));
-    }
+// Small readers: what a call promises stays behind in them.
+
+fn set_of(caps: &[Cap]) -> CapSet {
+    CapSet::of(caps)
 }
 
-#[test]
-fn every_cell_of_the_table(rt: HostRuntime) {
-    has_cells(
-        &rt,
+fn row_of(part: Part, state: State) -> CapSet {
+    row(part, state, HOLDER)
+}
+
+fn allowed_to(part: Part, lock: LockState, client: ClientId) -> CapSet {
+    allowed(part, lock, client)
+}
+
+// Sees what client 1 may hold of a part in a state.
+fn has_cell(rt: &impl Abort, part: Part, state: State, caps: &[Cap]) {
+    let (held, stable) = (set_of(caps), LockState::Stable(state));
+    same(rt, row_of(part, state), held, (part, state));
+    let found = allowed_to(part, stable, HOLDER);
+    same(rt, found, held, (part, stable));
+}
+
+// Sees what client 1 may hold of A, L, X and F in a state.
+fn has_cells(rt: &impl Abort, state: State, [a, l, x, f]: [&[Cap]; 4]) {
+    has_cell(rt, Part::A, state, a);
+    has_cell(rt, Part::L, state, l);
+    has_cell(rt, Part::X, state, x);
+    has_cell(rt, Part::F, state, f);
+}
+
+// The states, and what client 1 may hold in each.
+const CELLS: &[(State, [&[Cap]; 4])] = &[
+    (
         State::Sync,
         [
             &[Cap::As],
@@ -30,15 +49,10 @@ fn every_cell_of_the_table(rt: HostRuntime) {
             &[Cap::Xs],
             &[Cap::Fs, Cap::Fc, Cap::Fr, Cap::Fl],
         ],
-    );
-    has_cells(&rt, State::Lock, [&[], &[], &[], &[]]);
-    has_cells(
-        &rt,
-        State::Mix,
-        [&[], &[], &[], &[Cap::Fr, Cap::Fw, Cap::Fl]],
-    );
-    has_cells(
-        &rt,
+    ),
+    (State::Lock, [&[], &[], &[], &[]]),
+    (State::Mix, [&[], &[], &[], &[Cap::Fr, Cap::Fw, Cap::Fl]]),
+    (
         State::Excl(HOLDER),
         [
             &[Cap::As, Cap::Ax],
@@ -46,43 +60,58 @@ fn every_cell_of_the_table(rt: HostRuntime) {
             &[Cap::Xs, Cap::Xx],
             &[Cap::Fs, Cap::Fx, Cap::Fc, Cap::Fr, Cap::Fw, Cap::Fb],
         ],
-    );
-    has_cells(&rt, State::Excl(OTHER), [&[], &[], &[], &[]]);
-}
+    ),
+    (State::Excl(OTHER), [&[], &[], &[], &[]]),
+];
 
-// Sees what client 1 and what client 2 may hold in a gather.
-fn gather_has(rt: &impl Abort, part: Part, from: State, to: State, mine: &[Cap], theirs: &[Cap]) {
-    let lock = LockState::Gather { from, to };
-    for (client, caps) in [(HOLDER, mine), (OTHER, theirs)] {
-        let held = allowed(part, lock, client);
-        same(rt, held, CapSet::of(caps), (part, lock, client));
+#[test]
+fn every_cell_of_the_table(rt: HostRuntime) {
+    for (state, cells) in CELLS {
+        has_cells(&rt, *state, *cells);
     }
 }
 
+// A part, a gather from a state to another, and what client 1 and what client 2 may hold in it.
+type Gather = (Part, State, State, &'static [Cap], &'static [Cap]);
+
+fn gather_has(rt: &impl Abort, (part, from, to, mine, theirs): Gather) {
+    let lock = LockState::Gather { from, to };
+    let held = allowed_to(part, lock, HOLDER);
+    same(rt, held, set_of(mine), (part, lock, HOLDER));
+    let held = allowed_to(part, lock, OTHER);
+    same(rt, held, set_of(theirs), (part, lock, OTHER));
+}
+
+const OWN: State = State::Excl(HOLDER);
+
+const LAZY: &[Cap] = &[Cap::Fr, Cap::Fl];
+
+const FILE_GATHERS: &[Gather] = &[
+    (Part::F, OWN, State::Mix, &[Cap::Fr, Cap::Fw], &[]),
+    (Part::F, OWN, State::Sync, &[Cap::Fs, Cap::Fc, Cap::Fr], &[]),
+    (Part::F, OWN, State::Excl(OTHER), &[], &[]),
+    (Part::F, State::Sync, State::Mix, LAZY, LAZY),
+    (Part::F, State::Mix, State::Sync, LAZY, LAZY),
+    (Part::F, State::Mix, State::Lock, &[], &[]),
+];
+
 #[test]
 fn a_gather_of_a_file_allows_what_both_rows_have(rt: HostRuntime) {
-    let own = State::Excl(HOLDER);
-    let lazy: &[Cap] = &[Cap::Fr, Cap::Fl];
-    gather_has(&rt, Part::F, own, State::Mix, &[Cap::Fr, Cap::Fw], &[]);
-    gather_has(
-        &rt,
-        Part::F,
-        own,
-        State::Sync,
-        &[Cap::Fs, Cap::Fc, Cap::Fr],
-        &[],
-    );
-    gather_has(&rt, Part::F, own, State::Excl(OTHER), &[], &[]);
-    gather_has(&rt, Part::F, State::Sync, State::Mix, lazy, lazy);
-    gather_has(&rt, Part::F, State::Mix, State::Sync, lazy, lazy);
-    gather_has(&rt, Part::F, State::Mix, State::Lock, &[], &[]);
+    for gather in FILE_GATHERS {
+        gather_has(&rt, *gather);
+    }
 }
+
+const METADATA_GATHERS: &[Gather] = &[
+    (Part::A, State::Sync, OWN, &[Cap::As], &[]),
+    (Part::A, OWN, State::Sync, &[Cap::As], &[]),
+    (Part::A, State::Sync, State::Lock, &[], &[]),
+    (Part::X, State::Lock, OWN, &[], &[]),
+];
 
 #[test]
 fn a_gather_of_metadata_allows_what_both_rows_have(rt: HostRuntime) {
-    let own = State::Excl(HOLDER);
-    gather_has(&rt, Part::A, State::Sync, own, &[Cap::As], &[]);
-    gather_has(&rt, Part::A, own, State::Sync, &[Cap::As], &[]);
-    gather_has(&rt, Part::A, State::Sync, State::Lock, &[], &[]);
-    gather_has(&rt, Part::X, State::Lock, own, &[], &[]);
+    for gather in METADATA_GATHERS {
+        gather_has(&rt, *gather);
+    }
 }

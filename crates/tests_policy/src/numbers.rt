@@ -11,28 +11,31 @@ fn reads_as(rt: &impl Abort, text: &str, short: Option<u32>, long: Option<u64>) 
     same(rt, read_u64(text.as_bytes()), long, ("64 bits", text));
 }
 
+// Texts, and the numbers of 32 and of 64 bits that they write.
+const NUMBERS: &[(&str, Option<u32>, Option<u64>)] = &[
+    ("0", Some(0), Some(0)),
+    ("4294967295", Some(4294967295), Some(4294967295)),
+    ("4294967296", None, Some(4294967296)),
+    (
+        "00000000000000000000004294967295",
+        Some(4294967295),
+        Some(4294967295),
+    ),
+    ("18446744073709551615", None, Some(18446744073709551615)),
+    ("18446744073709551616", None, None),
+    ("99999999999999999999999999", None, None),
+    ("", None, None),
+    ("+5", None, None),
+    ("-5", None, None),
+    (" 5", None, None),
+    ("5 ", None, None),
+    ("5a", None, None),
+];
+
 #[test]
 fn reads_decimal_numbers(rt: HostRuntime) {
-    let cases = [
-        ("0", Some(0), Some(0)),
-        ("4294967295", Some(4294967295), Some(4294967295)),
-        ("4294967296", None, Some(4294967296)),
-        (
-            "00000000000000000000004294967295",
-            Some(4294967295),
-            Some(4294967295),
-        ),
-        ("18446744073709551615", None, Some(18446744073709551615)),
-        ("18446744073709551616", None, None),
-        ("99999999999999999999999999", None, None),
-        ("", None, None),
-        ("+5", None, None),
-        ("-5", None, None),
-        (" 5", None, None),
-        ("5 ", None, None),
-        ("5a", None, None),
-    ];
-    for (text, short, long) in cases {
+    for row in NUMBERS {
+        let (text, short, long) = *row;
         reads_as(&rt, text, short, long);
     }
 }

@@ -1,26 +1,97 @@
 //! Worked runs: clients that take, give back and are asked for capabilities.
 
-use crate::asserting::{same, same_items};
+use crate::asserting::same;
 use capbits::{CapSet, ClientId, Ino, Refusal, read_caps};
 use captable::{CapTable, Entry, Holder, Holders, Walk};
 use std::alloc::{AllocError, Global};
 use std::process::Abort;
 use std::test::Fail;
 
+// Clients with the numbers of inodes.
+type Places = &'static [(u32, u64)];
+
+// What is done with the entries of a table, with the answer. A text names capabilities.
+#[derive(Clone, Copy)]
+enum Act {
+    // An entry of a client is opened on an inode.
+    Open(u32, u64),
+    // Of inode 2, a client wants the first, holds the second and is told of it.
+    Issue(u32, &'static str, &'static str),
+    // It holds these too.
+    Give(u32, &'static str),
+    // What it is to know of changes: before, and after.
+    Renumber(u32, &'static str, &'static str),
+    // A message tells it.
+    Tell(u32),
+    // Client 1 acknowledges what the shared file asks of it: the inode, and the number of a change.
+    Ack(u64, u64, Result<(), Refusal>),
+    // Client 1 gives these back, of an inode.
+    Release(u64, &'static str, Result<(), Refusal>),
+    Touch(u32, u64),
+    DropClient(u32),
+    // So many entries are recalled, which are these.
+    Recall(u32, Places),
+    // As that, from the list that the holders are made of.
+    RecallAsList(u32, Places),
+    // What a message does to the mark of the entry that it goes to.
+    Unmark(u32, u64),
+}
+
+// What is seen in a table.
+#[derive(Clone, Copy)]
+enum Look {
+    // A client has no entry on an inode, or an empty one.
+    NoEntry(u32, u64),
+    EmptyEntry(u32, u64),
+    // Why nothing can be asked of the entry.
+    EntryRefusal(u32, u64, Option<Refusal>),
+    // The number of the last change of an entry on inode 2, of its last revocation, and of the last change that the
+    // client was told of.
+    Numbers(u32, (u64, u64, u64)),
+    // What a client holds and wants of inode 2.
+    Holds(u32, &'static str),
+    Wants(u32, &'static str),
+    // The order of recall, one by one, and the orders of making, of an inode and of a client.
+    Order(Places),
+    HoldersOf(u64, Places),
+    EntriesOf(u32, Places),
+    // The first in the order of recall, and the next behind one.
+    Oldest(Option<(u32, u64)>),
+    Newer(u32, u64, Option<(u32, u64)>),
+    // Whether an entry is asked for capabilities, and which of the client's entries are, in the order of making.
+    IsAsked(u32, u64, bool),
+    Marks(u32, &'static [bool]),
+}
+
+use Act::*;
+use Look::*;
+
+// What is done, and what is seen then.
+type Round = (&'static [Act], &'static [Look]);
+
+// Where a test fails: the number of the round, and of what is done or seen in it.
+type At = (usize, usize);
+
 // The set that a text names; no set for a text that names none.
-pub(crate) fn caps(text: &[u8]) -> CapSet {
-    match read_caps(text) {
+pub(crate) fn caps(text: &str) -> CapSet {
+    match read_caps(text.as_bytes()) {
         Ok(set) => set,
         Err(_fault) => CapSet::empty(),
     }
 }
 
-fn made(alloc: Global) -> Result<CapTable, Fail> {
+pub(crate) fn made(alloc: Global) -> Result<CapTable, Fail> {
     Ok(CapTable::new(alloc)?)
 }
 
+// ---- what is done
+
 // Makes the entry where there is none, if that is not refused.
-fn open(table: &mut CapTable, client: u32, ino: u64) -> Result<Result<(), Refusal>, AllocError> {
+pub(crate) fn open(
+    table: &mut CapTable,
+    client: u32,
+    ino: u64,
+) -> Result<Result<(), Refusal>, AllocError> {
     let (client, ino) = (ClientId(client), Ino(ino));
     if let Some(refusal) = table.open_refusal() {
         return Ok(Err(refusal));
@@ -35,8 +106,7 @@ fn open(table: &mut CapTable, client: u32, ino: u64) -> Result<Result<(), Refusa
     }
 }
 
-// What the client is to know of changes, and a message tells it.
-fn renumber(table: &mut CapTable, client: u32, before: &[u8], after: &[u8]) {
+fn renumber(table: &mut CapTable, client: u32, before: &str, after: &str) {
     let (client, ino) = (ClientId(client), Ino(2));
     if let Some(entry) = table.find(client, ino) {
         if entry.seq < u64::MAX {
@@ -49,29 +119,126 @@ fn tell(table: &mut CapTable, client: u32) {
     table.tell(ClientId(client), Ino(2));
 }
 
-// The client holds these too.
-fn give(table: &mut CapTable, client: u32, held: &[u8]) {
+fn give(table: &mut CapTable, client: u32, held: &str) {
     table.issue(ClientId(client), Ino(2), caps(held));
 }
 
-// What the client wants, holds and is told of.
-fn issue(table: &mut CapTable, client: u32, want: &[u8], held: &[u8]) {
+fn issue(table: &mut CapTable, client: u32, want: &str, held: &str) {
     table.set_want(ClientId(client), Ino(2), caps(want));
     give(table, client, held);
-    renumber(table, client, b"-", held);
+    renumber(table, client, "-", held);
     tell(table, client);
+}
+
+fn ack(table: &mut CapTable, ino: u64, seq: u64) -> Result<(), Refusal> {
+    let (client, ino, against) = (ClientId(1), Ino(ino), caps("Fsxcb"));
+    if let Some(refusal) = table.ack_refusal(client, ino, seq, against) {
+        return Err(refusal);
+    }
+    table.ack(client, ino, seq, against);
+    Ok(())
+}
+
+fn release(table: &mut CapTable, ino: u64, text: &str) -> Result<(), Refusal> {
+    let (client, ino, caps) = (ClientId(1), Ino(ino), caps(text));
+    if let Some(refusal) = table.release_refusal(client, ino, caps) {
+        return Err(refusal);
+    }
+    table.release(client, ino, caps);
+    Ok(())
+}
+
+fn touch(table: &mut CapTable, client: u32, ino: u64) {
+    table.touch(ClientId(client), Ino(ino));
+}
+
+fn drop_client(table: &mut CapTable, client: u32) {
+    table.drop_client(ClientId(client));
+}
+
+fn named(alloc: Global, holders: &Holders) -> Result<Vec<(u32, u64)>, AllocError> {
+    let mut places = Vec::new(alloc);
+    for holder in holders.as_slice() {
+        places.push((holder.client.0, holder.ino.0))?;
+    }
+    Ok(places)
+}
+
+// Whose entries are named where so many are recalled.
+fn recalled(alloc: Global, table: &mut CapTable, n: u32) -> Result<Vec<(u32, u64)>, AllocError> {
+    let holders = table.recall(n)?;
+    named(alloc, &holders)
+}
+
+fn recalled_as_list(
+    alloc: Global,
+    table: &mut CapTable,
+    n: u32,
+) -> Result<Vec<(u32, u64)>, AllocError> {
+    let list = table.recall(n)?.into_vec();
+    named(alloc, &Holders::from_vec(list))
+}
+
+fn unmark(table: &mut CapTable, client: u32, ino: u64) {
+    table.ask(ClientId(client), Ino(ino), false);
+}
+
+// Sees that the places are the wanted ones, if there was memory for them.
+fn are(
+    rt: &impl Abort,
+    found: Result<Vec<(u32, u64)>, AllocError>,
+    want: Places,
+    at: At,
+) -> Result<(), Fail> {
+    same(rt, found?.as_slice(), want, at);
+    Ok(())
+}
+
+fn take(
+    rt: &impl Abort,
+    alloc: Global,
+    table: &mut CapTable,
+    act: Act,
+    at: At,
+) -> Result<(), Fail> {
+    match act {
+        Open(client, ino) => same(rt, open(table, client, ino)?, Ok(()), at),
+        Issue(client, want, held) => issue(table, client, want, held),
+        Give(client, held) => give(table, client, held),
+        Renumber(client, before, after) => renumber(table, client, before, after),
+        Tell(client) => tell(table, client),
+        Ack(ino, seq, want) => same(rt, ack(table, ino, seq), want, at),
+        Release(ino, text, want) => same(rt, release(table, ino, text), want, at),
+        Touch(client, ino) => touch(table, client, ino),
+        DropClient(client) => drop_client(table, client),
+        Recall(n, want) => are(rt, recalled(alloc, table, n), want, at)?,
+        RecallAsList(n, want) => are(rt, recalled_as_list(alloc, table, n), want, at)?,
+        Unmark(client, ino) => unmark(table, client, ino),
+    }
+    Ok(())
+}
+
+// ---- what is seen
+
+fn empty_entry() -> Entry {
+    Entry {
+        held: CapSet::empty(),
+        want: CapSet::empty(),
+        seq: 0,
+        revoke_seq: 0,
+        told_seq: 0,
+        asked: false,
+    }
 }
 
 fn entry(table: &CapTable, client: u32, ino: u64) -> Option<Entry> {
     table.find(ClientId(client), Ino(ino))
 }
 
-// Why nothing can be asked of the entry.
 fn entry_refusal(table: &CapTable, client: u32, ino: u64) -> Option<Refusal> {
     table.entry_refusal(ClientId(client), Ino(ino))
 }
 
-// The number of the entry's last change, of its last revocation, and of the last change that the client was told of.
 fn numbers(table: &CapTable, client: u32) -> Option<(u64, u64, u64)> {
     let entry = entry(table, client, 2)?;
     Some((entry.seq, entry.revoke_seq, entry.told_seq))
@@ -85,6 +252,11 @@ fn held(table: &CapTable, client: u32) -> Option<CapSet> {
 fn wanted(table: &CapTable, client: u32) -> Option<CapSet> {
     let entry = entry(table, client, 2)?;
     Some(entry.want)
+}
+
+fn is_asked(table: &CapTable, client: u32, ino: u64) -> Option<bool> {
+    let entry = entry(table, client, ino)?;
+    Some(entry.asked)
 }
 
 // The holders of a walk, as client and inode.
@@ -107,7 +279,6 @@ fn entries_of(alloc: Global, table: &CapTable, client: u32) -> Result<Vec<(u32, 
     walked(alloc, table.entries_of(ClientId(client)))
 }
 
-// The order of recall, one by one, as client and inode.
 fn recall_order(alloc: Global, table: &CapTable) -> Result<Vec<(u32, u64)>, AllocError> {
     let mut places = Vec::new(alloc);
     let mut next = table.oldest();
@@ -120,228 +291,19 @@ fn recall_order(alloc: Global, table: &CapTable) -> Result<Vec<(u32, u64)>, Allo
     Ok(places)
 }
 
-fn named(alloc: Global, holders: &Holders) -> Result<Vec<(u32, u64)>, AllocError> {
-    let mut places = Vec::new(alloc);
-    for holder in holders.as_slice() {
-        places.push((holder.client.0, holder.ino.0))?;
-    }
-    Ok(places)
+fn place_of(holder: Option<Holder>) -> Option<(u32, u64)> {
+    let holder = holder?;
+    Some((holder.client.0, holder.ino.0))
 }
 
-#[test]
-fn a_new_entry_is_empty(rt: HostRuntime) -> Result<(), Fail> {
-    let mut table = made(rt.alloc())?;
-    same(&rt, entry(&table, 1, 2), None, "no entry yet");
-    same(&rt, open(&mut table, 1, 2)?, Ok(()), "a new entry");
-    let empty = Entry {
-        held: CapSet::empty(),
-        want: CapSet::empty(),
-        seq: 0,
-        revoke_seq: 0,
-        told_seq: 0,
-        asked: false,
-    };
-    same(&rt, entry(&table, 1, 2), Some(empty), "a new entry");
-    same(&rt, entry(&table, 2, 1), None, "client and inode exchanged");
-    same(&rt, entry_refusal(&table, 1, 2), None, "a new entry");
-    let missing = entry_refusal(&table, 2, 1);
-    same(&rt, missing, Some(Refusal::NoEntry), "no entry");
-    Ok(())
+fn oldest(table: &CapTable) -> Option<(u32, u64)> {
+    place_of(table.oldest())
 }
 
-// A client has a file for itself, another one opens it, and the first is asked to give back all but reading and
-// writing.
-fn shared_file(alloc: Global) -> Result<CapTable, Fail> {
-    let mut table = CapTable::new(alloc)?;
-    open(&mut table, 1, 2)??;
-    issue(&mut table, 1, b"pFsxcrwb", b"pFsxcrwb");
-    open(&mut table, 2, 2)??;
-    issue(&mut table, 2, b"pFscr", b"p");
-    renumber(&mut table, 1, b"pFsxcrwb", b"pFrw");
-    Ok(table)
+fn newer(table: &CapTable, client: u32, ino: u64) -> Option<(u32, u64)> {
+    place_of(table.newer(ClientId(client), Ino(ino)))
 }
 
-// The first client acknowledges what the shared file asks of it.
-fn ack(table: &mut CapTable, ino: u64, seq: u64) -> Result<(), Refusal> {
-    let (client, ino, against) = (ClientId(1), Ino(ino), caps(b"Fsxcb"));
-    if let Some(refusal) = table.ack_refusal(client, ino, seq, against) {
-        return Err(refusal);
-    }
-    table.ack(client, ino, seq, against);
-    Ok(())
-}
-
-#[test]
-fn a_number_above_what_was_told_is_bad_before_it_is_old(rt: HostRuntime) -> Result<(), Fail> {
-    let mut table = shared_file(rt.alloc())?;
-    renumber(&mut table, 1, b"pFrw", b"pFr");
-    same(&rt, numbers(&table, 1), Some((3, 3, 1)), "numbers");
-    let early = ack(&mut table, 2, 2);
-    same(&rt, early, Err(Refusal::BadSeq), "told 1, revoked 3");
-    Ok(())
-}
-
-#[test]
-fn acknowledgements_name_the_last_revocation(rt: HostRuntime) -> Result<(), Fail> {
-    let mut table = shared_file(rt.alloc())?;
-    same(&rt, numbers(&table, 1), Some((2, 2, 1)), "not told yet");
-    let early = ack(&mut table, 2, 2);
-    same(&rt, early, Err(Refusal::BadSeq), "not told yet");
-    tell(&mut table, 1);
-    for (seq, fault) in [(1, Refusal::OldSeq { need: 2 }), (3, Refusal::BadSeq)] {
-        same(&rt, ack(&mut table, 2, seq), Err(fault), seq);
-        same(&rt, held(&table, 1), Some(caps(b"pFsxcrwb")), seq);
-    }
-    same(&rt, ack(&mut table, 2, 2), Ok(()), "the last one");
-    same(&rt, held(&table, 1), Some(caps(b"pFrw")), "the last one");
-    // Nothing is against any more, whatever the number.
-    for seq in [2, 9, 0] {
-        let again = ack(&mut table, 2, seq);
-        same(&rt, again, Err(Refusal::NothingToAck), seq);
-    }
-    let elsewhere = ack(&mut table, 3, 2);
-    same(&rt, elsewhere, Err(Refusal::NoEntry), "another inode");
-    // The other client keeps what it has.
-    same(&rt, held(&table, 2), Some(caps(b"p")), "client 2");
-    same(&rt, numbers(&table, 2), Some((1, 0, 1)), "client 2");
-    Ok(())
-}
-
-// The first client gives these back.
-fn release(table: &mut CapTable, ino: u64, text: &[u8]) -> Result<(), Refusal> {
-    let (client, ino, caps) = (ClientId(1), Ino(ino), caps(text));
-    if let Some(refusal) = table.release_refusal(client, ino, caps) {
-        return Err(refusal);
-    }
-    table.release(client, ino, caps);
-    Ok(())
-}
-
-// The shared file after the first client has given back what it was asked for: it holds pFrw.
-fn given_back(rt: &impl Abort, alloc: Global) -> Result<CapTable, Fail> {
-    let mut table = shared_file(alloc)?;
-    tell(&mut table, 1);
-    same(rt, ack(&mut table, 2, 2), Ok(()), "what was asked for");
-    Ok(table)
-}
-
-#[test]
-fn released_capabilities_are_neither_held_nor_wanted(rt: HostRuntime) -> Result<(), Fail> {
-    let mut table = given_back(&rt, rt.alloc())?;
-    let too_much = release(&mut table, 2, b"Fxw");
-    same(&rt, too_much, Err(Refusal::NotHeld), "Fxw");
-    let elsewhere = release(&mut table, 3, b"Fw");
-    same(&rt, elsewhere, Err(Refusal::NoEntry), "inode 3");
-    same(&rt, release(&mut table, 2, b"-"), Ok(()), "nothing");
-    same(&rt, held(&table, 1), Some(caps(b"pFrw")), "nothing");
-    same(&rt, release(&mut table, 2, b"Fw"), Ok(()), "Fw");
-    same(&rt, held(&table, 1), Some(caps(b"pFr")), "Fw");
-    same(&rt, wanted(&table, 1), Some(caps(b"pFsxcrb")), "Fw");
-    Ok(())
-}
-
-// The shared file after the first client has given back writing too, and holds more anew: pFscr.
-fn held_anew(rt: &impl Abort, alloc: Global) -> Result<CapTable, Fail> {
-    let mut table = given_back(rt, alloc)?;
-    same(rt, release(&mut table, 2, b"Fw"), Ok(()), "Fw");
-    give(&mut table, 1, b"Fsc");
-    renumber(&mut table, 1, b"pFr", b"pFscr");
-    Ok(table)
-}
-
-#[test]
-fn more_has_a_new_number_and_the_same_has_none(rt: HostRuntime) -> Result<(), Fail> {
-    let mut table = held_anew(&rt, rt.alloc())?;
-    // No revocation.
-    same(&rt, numbers(&table, 1), Some((3, 2, 2)), "more");
-    renumber(&mut table, 1, b"pFscr", b"pFscr");
-    same(&rt, numbers(&table, 1), Some((3, 2, 2)), "the same");
-    Ok(())
-}
-
-#[test]
-fn the_pin_takes_the_entry_with_it(rt: HostRuntime) -> Result<(), Fail> {
-    let mut table = held_anew(&rt, rt.alloc())?;
-    same(&rt, release(&mut table, 2, b"pFscr"), Ok(()), "the pin");
-    same(&rt, entry(&table, 1, 2), None, "the pin");
-    let order = recall_order(rt.alloc(), &table)?;
-    same_items(&rt, order.as_slice(), &[(2, 2)], "the order of recall");
-    let holders = holders_of(rt.alloc(), &table, 2)?;
-    same_items(&rt, holders.as_slice(), &[(2, 2)], "the order of making");
-    Ok(())
-}
-
-fn touch(table: &mut CapTable, client: u32, ino: u64) {
-    table.touch(ClientId(client), Ino(ino));
-}
-
-fn newer(table: &CapTable, client: u32, ino: u64) -> Option<Holder> {
-    table.newer(ClientId(client), Ino(ino))
-}
-
-// Three entries, the first of which was touched last; and a client without an entry was touched.
-fn three_entries(rt: &impl Abort, alloc: Global) -> Result<CapTable, Fail> {
-    let mut table = made(alloc)?;
-    same(rt, table.oldest(), None, "no entry yet");
-    for (client, ino) in [(1, 2), (1, 3), (2, 2)] {
-        same(rt, open(&mut table, client, ino)?, Ok(()), (client, ino));
-    }
-    touch(&mut table, 1, 2);
-    touch(&mut table, 7, 2);
-    Ok(table)
-}
-
-#[test]
-fn the_orders_are_kept_apart(rt: HostRuntime) -> Result<(), Fail> {
-    let table = three_entries(&rt, rt.alloc())?;
-    let order = recall_order(rt.alloc(), &table)?;
-    let wanted = [(1, 3), (2, 2), (1, 2)];
-    same_items(&rt, order.as_slice(), &wanted, "the order of recall");
-    let oldest = Holder {
-        client: ClientId(1),
-        ino: Ino(3),
-    };
-    same(&rt, table.oldest(), Some(oldest), "the oldest");
-    same(&rt, newer(&table, 1, 2), None, "the newest");
-    same(&rt, newer(&table, 2, 3), None, "no entry");
-    let holders = holders_of(rt.alloc(), &table, 2)?;
-    same_items(&rt, holders.as_slice(), &[(1, 2), (2, 2)], "inode 2");
-    let entries = entries_of(rt.alloc(), &table, 1)?;
-    same_items(&rt, entries.as_slice(), &[(1, 2), (1, 3)], "client 1");
-    let entries = entries_of(rt.alloc(), &table, 3)?;
-    same_items(&rt, entries.as_slice(), &[], "client 3");
-    Ok(())
-}
-
-#[test]
-fn a_client_that_goes_takes_its_entries_with_it(rt: HostRuntime) -> Result<(), Fail> {
-    let mut table = three_entries(&rt, rt.alloc())?;
-    table.drop_client(ClientId(1));
-    same(&rt, entry(&table, 1, 3), None, "client 1");
-    let order = recall_order(rt.alloc(), &table)?;
-    same_items(&rt, order.as_slice(), &[(2, 2)], "the order of recall");
-    let holders = holders_of(rt.alloc(), &table, 2)?;
-    same_items(&rt, holders.as_slice(), &[(2, 2)], "the order of making");
-    Ok(())
-}
-
-// The entries of client 1 on the inodes 2, 3 and 4, the first of which was touched last.
-fn one_client(rt: &impl Abort, alloc: Global) -> Result<CapTable, Fail> {
-    let mut table = made(alloc)?;
-    for ino in 2..5 {
-        same(rt, open(&mut table, 1, ino)?, Ok(()), ino);
-    }
-    touch(&mut table, 1, 2);
-    Ok(table)
-}
-
-// Whose entries are named where so many are recalled.
-fn recalled(alloc: Global, table: &mut CapTable, n: u32) -> Result<Vec<(u32, u64)>, Fail> {
-    let holders = table.recall(n)?;
-    Ok(named(alloc, &holders)?)
-}
-
-// Which of the client's entries are asked for capabilities, in the order of making.
 fn marks(alloc: Global, table: &CapTable, client: u32) -> Result<Vec<bool>, AllocError> {
     let mut walk = table.entries_of(ClientId(client));
     let mut marks = Vec::new(alloc);
@@ -353,53 +315,263 @@ fn marks(alloc: Global, table: &CapTable, client: u32) -> Result<Vec<bool>, Allo
     Ok(marks)
 }
 
-#[test]
-fn recall_names_the_oldest(rt: HostRuntime) -> Result<(), Fail> {
-    let mut table = one_client(&rt, rt.alloc())?;
-    let cases = [
-        (2, [(1, 3), (1, 4)].as_slice(), [false, true, true]),
-        (0, &[], [false, true, true]),
-        (9, &[(1, 3), (1, 4), (1, 2)], [true, true, true]),
-    ];
-    for (n, places, asked) in cases {
-        let found = recalled(rt.alloc(), &mut table, n)?;
-        same_items(&rt, found.as_slice(), places, n);
-        let marks = marks(rt.alloc(), &table, 1)?;
-        same_items(&rt, marks.as_slice(), &asked, n);
+fn has_marks(
+    rt: &impl Abort,
+    found: Result<Vec<bool>, AllocError>,
+    want: &[bool],
+    at: At,
+) -> Result<(), Fail> {
+    same(rt, found?.as_slice(), want, at);
+    Ok(())
+}
+
+fn see(rt: &impl Abort, alloc: Global, table: &CapTable, look: Look, at: At) -> Result<(), Fail> {
+    match look {
+        NoEntry(client, ino) => same(rt, entry(table, client, ino), None, at),
+        EmptyEntry(client, ino) => same(rt, entry(table, client, ino), Some(empty_entry()), at),
+        EntryRefusal(client, ino, want) => same(rt, entry_refusal(table, client, ino), want, at),
+        Numbers(client, want) => same(rt, numbers(table, client), Some(want), at),
+        Holds(client, want) => same(rt, held(table, client), Some(caps(want)), at),
+        Wants(client, want) => same(rt, wanted(table, client), Some(caps(want)), at),
+        Order(want) => are(rt, recall_order(alloc, table), want, at)?,
+        HoldersOf(ino, want) => are(rt, holders_of(alloc, table, ino), want, at)?,
+        EntriesOf(client, want) => are(rt, entries_of(alloc, table, client), want, at)?,
+        Oldest(want) => same(rt, oldest(table), want, at),
+        Newer(client, ino, want) => same(rt, newer(table, client, ino), want, at),
+        IsAsked(client, ino, want) => same(rt, is_asked(table, client, ino), Some(want), at),
+        Marks(client, want) => has_marks(rt, marks(alloc, table, client), want, at)?,
     }
     Ok(())
 }
 
-fn is_asked(table: &CapTable, client: u32, ino: u64) -> Option<bool> {
-    let entry = entry(table, client, ino)?;
-    Some(entry.asked)
-}
+// ---- whole runs
 
-// What a message does to the mark of the entry that it goes to.
-fn unmark(table: &mut CapTable, client: u32, ino: u64) {
-    table.ask(ClientId(client), Ino(ino), false);
-}
-
-// As `recalled`, from the list that the holders are made of.
-fn recalled_as_a_list(
+fn play(
+    rt: &impl Abort,
     alloc: Global,
     table: &mut CapTable,
-    n: u32,
-) -> Result<Vec<(u32, u64)>, Fail> {
-    let list = table.recall(n)?.into_vec();
-    Ok(named(alloc, &Holders::from_vec(list))?)
+    number: usize,
+    (acts, looks): Round,
+) -> Result<(), Fail> {
+    for (nth, act) in acts.iter().enumerate() {
+        take(rt, alloc, table, *act, (number, nth))?;
+    }
+    for (nth, look) in looks.iter().enumerate() {
+        see(rt, alloc, table, *look, (number, nth))?;
+    }
+    Ok(())
 }
+
+// Plays the rounds on a new table. No other function owns a table: each statement of one that does is dear to prove.
+fn runs(rt: &(impl Abort + AllocGlobal), rounds: &[Round]) -> Result<(), Fail> {
+    let mut table = made(rt.alloc())?;
+    for (number, round) in rounds.iter().enumerate() {
+        play(rt, rt.alloc(), &mut table, number, *round)?;
+    }
+    Ok(())
+}
+
+const A_NEW_ENTRY: &[Round] = &[
+    (&[], &[NoEntry(1, 2)]),
+    (
+        &[Open(1, 2)],
+        &[
+            EmptyEntry(1, 2),
+            // Client and inode exchanged.
+            NoEntry(2, 1),
+            EntryRefusal(1, 2, None),
+            EntryRefusal(2, 1, Some(Refusal::NoEntry)),
+        ],
+    ),
+];
+
+#[test]
+fn a_new_entry_is_empty(rt: HostRuntime) -> Result<(), Fail> {
+    runs(&rt, A_NEW_ENTRY)
+}
+
+// A client has a file for itself, another one opens it, and the first is asked to give back all but reading and
+// writing.
+const SHARED_FILE: &[Act] = &[
+    Open(1, 2),
+    Issue(1, "pFsxcrwb", "pFsxcrwb"),
+    Open(2, 2),
+    Issue(2, "pFscr", "p"),
+    Renumber(1, "pFsxcrwb", "pFrw"),
+];
+
+const TOLD_1_REVOKED_3: &[Round] = &[
+    (SHARED_FILE, &[]),
+    (&[Renumber(1, "pFrw", "pFr")], &[Numbers(1, (3, 3, 1))]),
+    (&[Ack(2, 2, Err(Refusal::BadSeq))], &[]),
+];
+
+#[test]
+fn a_number_above_what_was_told_is_bad_before_it_is_old(rt: HostRuntime) -> Result<(), Fail> {
+    runs(&rt, TOLD_1_REVOKED_3)
+}
+
+const ACKNOWLEDGEMENTS: &[Round] = &[
+    (SHARED_FILE, &[Numbers(1, (2, 2, 1))]),
+    // Not told yet.
+    (&[Ack(2, 2, Err(Refusal::BadSeq))], &[]),
+    (
+        &[Tell(1), Ack(2, 1, Err(Refusal::OldSeq { need: 2 }))],
+        &[Holds(1, "pFsxcrwb")],
+    ),
+    (&[Ack(2, 3, Err(Refusal::BadSeq))], &[Holds(1, "pFsxcrwb")]),
+    (&[Ack(2, 2, Ok(()))], &[Holds(1, "pFrw")]),
+    // Nothing is against any more, whatever the number.
+    (
+        &[
+            Ack(2, 2, Err(Refusal::NothingToAck)),
+            Ack(2, 9, Err(Refusal::NothingToAck)),
+            Ack(2, 0, Err(Refusal::NothingToAck)),
+        ],
+        &[],
+    ),
+    // The other client keeps what it has.
+    (
+        &[Ack(3, 2, Err(Refusal::NoEntry))],
+        &[Holds(2, "p"), Numbers(2, (1, 0, 1))],
+    ),
+];
+
+#[test]
+fn acknowledgements_name_the_last_revocation(rt: HostRuntime) -> Result<(), Fail> {
+    runs(&rt, ACKNOWLEDGEMENTS)
+}
+
+// The first client gives back what it was asked for: it holds pFrw.
+const GIVEN_BACK: &[Act] = &[Tell(1), Ack(2, 2, Ok(()))];
+
+const RELEASES: &[Round] = &[
+    (SHARED_FILE, &[]),
+    (GIVEN_BACK, &[]),
+    (
+        &[
+            Release(2, "Fxw", Err(Refusal::NotHeld)),
+            Release(3, "Fw", Err(Refusal::NoEntry)),
+            Release(2, "-", Ok(())),
+        ],
+        &[Holds(1, "pFrw")],
+    ),
+    (
+        &[Release(2, "Fw", Ok(()))],
+        &[Holds(1, "pFr"), Wants(1, "pFsxcrb")],
+    ),
+];
+
+#[test]
+fn released_capabilities_are_neither_held_nor_wanted(rt: HostRuntime) -> Result<(), Fail> {
+    runs(&rt, RELEASES)
+}
+
+// The first client gives back writing too, and holds more anew: pFscr.
+const HELD_ANEW: &[Act] = &[
+    Release(2, "Fw", Ok(())),
+    Give(1, "Fsc"),
+    Renumber(1, "pFr", "pFscr"),
+];
+
+const MORE: &[Round] = &[
+    (SHARED_FILE, &[]),
+    (GIVEN_BACK, &[]),
+    // No revocation.
+    (HELD_ANEW, &[Numbers(1, (3, 2, 2))]),
+    (&[Renumber(1, "pFscr", "pFscr")], &[Numbers(1, (3, 2, 2))]),
+];
+
+#[test]
+fn more_has_a_new_number_and_the_same_has_none(rt: HostRuntime) -> Result<(), Fail> {
+    runs(&rt, MORE)
+}
+
+const THE_PIN: &[Round] = &[
+    (SHARED_FILE, &[]),
+    (GIVEN_BACK, &[]),
+    (HELD_ANEW, &[]),
+    (
+        &[Release(2, "pFscr", Ok(()))],
+        &[NoEntry(1, 2), Order(&[(2, 2)]), HoldersOf(2, &[(2, 2)])],
+    ),
+];
+
+#[test]
+fn the_pin_takes_the_entry_with_it(rt: HostRuntime) -> Result<(), Fail> {
+    runs(&rt, THE_PIN)
+}
+
+// Three entries, the first of which was touched last; and a client without an entry was touched.
+const THREE_ENTRIES: &[Act] = &[Open(1, 2), Open(1, 3), Open(2, 2), Touch(1, 2), Touch(7, 2)];
+
+const ORDERS: &[Round] = &[
+    (&[], &[Oldest(None)]),
+    (
+        THREE_ENTRIES,
+        &[
+            Order(&[(1, 3), (2, 2), (1, 2)]),
+            Oldest(Some((1, 3))),
+            // The newest, and no entry.
+            Newer(1, 2, None),
+            Newer(2, 3, None),
+            HoldersOf(2, &[(1, 2), (2, 2)]),
+            EntriesOf(1, &[(1, 2), (1, 3)]),
+            EntriesOf(3, &[]),
+        ],
+    ),
+];
+
+#[test]
+fn the_orders_are_kept_apart(rt: HostRuntime) -> Result<(), Fail> {
+    runs(&rt, ORDERS)
+}
+
+const A_CLIENT_GOES: &[Round] = &[
+    (&[], &[Oldest(None)]),
+    (THREE_ENTRIES, &[]),
+    (
+        &[DropClient(1)],
+        &[NoEntry(1, 3), Order(&[(2, 2)]), HoldersOf(2, &[(2, 2)])],
+    ),
+];
+
+#[test]
+fn a_client_that_goes_takes_its_entries_with_it(rt: HostRuntime) -> Result<(), Fail> {
+    runs(&rt, A_CLIENT_GOES)
+}
+
+// The entries of client 1 on the inodes 2, 3 and 4, the first of which was touched last.
+const ONE_CLIENT: &[Act] = &[Open(1, 2), Open(1, 3), Open(1, 4), Touch(1, 2)];
+
+const RECALLS: &[Round] = &[
+    (ONE_CLIENT, &[]),
+    (
+        &[Recall(2, &[(1, 3), (1, 4)])],
+        &[Marks(1, &[false, true, true])],
+    ),
+    (&[Recall(0, &[])], &[Marks(1, &[false, true, true])]),
+    (
+        &[Recall(9, &[(1, 3), (1, 4), (1, 2)])],
+        &[Marks(1, &[true, true, true])],
+    ),
+];
+
+#[test]
+fn recall_names_the_oldest(rt: HostRuntime) -> Result<(), Fail> {
+    runs(&rt, RECALLS)
+}
+
+const A_MESSAGE: &[Round] = &[
+    (ONE_CLIENT, &[]),
+    (
+        &[Recall(9, &[(1, 3), (1, 4), (1, 2)]), Unmark(1, 3)],
+        &[IsAsked(1, 3, false), Order(&[(1, 3), (1, 4), (1, 2)])],
+    ),
+    (&[RecallAsList(1, &[(1, 3)])], &[]),
+];
 
 #[test]
 fn a_message_takes_the_mark_away_and_leaves_the_order(rt: HostRuntime) -> Result<(), Fail> {
-    let mut table = one_client(&rt, rt.alloc())?;
-    recalled(rt.alloc(), &mut table, 9)?;
-    unmark(&mut table, 1, 3);
-    same(&rt, is_asked(&table, 1, 3), Some(false), "a message");
-    let order = recall_order(rt.alloc(), &table)?;
-    let wanted = [(1, 3), (1, 4), (1, 2)];
-    same_items(&rt, order.as_slice(), &wanted, "the order of recall");
-    let oldest = recalled_as_a_list(rt.alloc(), &mut table, 1)?;
-    same_items(&rt, oldest.as_slice(), &[(1, 3)], "the oldest");
-    Ok(())
+    runs(&rt, A_MESSAGE)
 }

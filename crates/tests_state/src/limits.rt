@@ -1,135 +1,178 @@
 //! The limits of a tree, each at the last value that passes and at the first that does not.
 
-use crate::asserting::{holds, present, same, same_bytes};
+use crate::asserting::{holds, present, same};
 use crate::tree_steps::Ask::*;
-use crate::tree_steps::{
-    Answer, asked, child, create, first_snapshot, forget, led_by_path, made, parent, path_length,
-    place, play, rename, set_xattr, snap_add,
-};
+use crate::tree_steps::Look::*;
+use crate::tree_steps::{Answer, Round, asked, create, made, runs, runs_on, set_xattr, snap_add};
 use capbits::Refusal;
 use inotree::{MAX_INODES, MAX_NAMES, Name, Place, Tree, is_bad_attribute, is_bad_name};
-use std::alloc::Global;
+use std::alloc::{AllocError, Global};
 use std::process::Abort;
 use std::test::Fail;
 
-// A chain of as many directories as a path may have names: inode 2 in the root, up to 33 in 32.
-fn deep(rt: &impl Abort, alloc: Global) -> Result<Tree, Fail> {
-    let mut tree = made(alloc)?;
+// What is in a tree before the rounds.
+#[derive(Clone, Copy)]
+enum Full {
+    // A chain of as many directories as a path may have names: inode 2 in the root, up to 33 in 32.
+    Path,
+    // As many attributes and as many snapshots of the root as there may be: n0 to n63.
+    Root,
+    // As many inodes as there may be: the files 2 to 65536 in the root.
+    Tree,
+}
+
+fn fill_path(rt: &impl Abort, tree: &mut Tree) -> Result<(), Fail> {
     let mut deepest = 1;
     for _ in 0..MAX_NAMES {
-        deepest = asked(&mut tree, Mkdir(deepest, b'd'))??;
+        deepest = asked(tree, Mkdir(deepest, b"d"))??;
     }
     same(rt, deepest, 33, "the last of the chain");
-    Ok(tree)
+    Ok(())
 }
+
+fn name_of(alloc: Global, number: u32) -> Result<String, AllocError> {
+    format!(in alloc; "n{number}")
+}
+
+fn keep(alloc: Global, tree: &mut Tree, number: u32) -> Result<(Answer, Answer), AllocError> {
+    let name = name_of(alloc, number)?;
+    let attribute = set_xattr(tree, 1, name.as_bytes(), b"")?;
+    let snapshot = snap_add(tree, 1, name.as_bytes())?;
+    Ok((attribute, snapshot))
+}
+
+fn fill_root(rt: &impl Abort, alloc: Global, tree: &mut Tree) -> Result<(), Fail> {
+    for number in 0..64 {
+        let answers = keep(alloc, tree, number)?;
+        same(rt, answers, (Ok(0), Ok(0)), number);
+    }
+    Ok(())
+}
+
+fn create_numbered(alloc: Global, tree: &mut Tree, number: usize) -> Result<u64, Fail> {
+    let name = format!(in alloc; "{number}")?;
+    Ok(create(tree, 1, name.as_bytes())??)
+}
+
+fn fill_tree(alloc: Global, tree: &mut Tree) -> Result<(), Fail> {
+    for number in 1..MAX_INODES {
+        create_numbered(alloc, tree, number)?;
+    }
+    Ok(())
+}
+
+fn fill(rt: &impl Abort, alloc: Global, tree: &mut Tree, full: Full) -> Result<(), Fail> {
+    match full {
+        Full::Path => fill_path(rt, tree),
+        Full::Root => fill_root(rt, alloc, tree),
+        Full::Tree => fill_tree(alloc, tree),
+    }
+}
+
+// Plays the rounds on a new tree once this is full.
+fn runs_full(rt: &(impl Abort + AllocGlobal), full: Full, rounds: &[Round]) -> Result<(), Fail> {
+    let mut tree = made(rt.alloc())?;
+    fill(rt, rt.alloc(), &mut tree, full)?;
+    runs_on(rt, &mut tree, rounds)
+}
+
+const THIRTY_TWO_NAMES: &[Round] = &[
+    (&[], &[PathLength(33, Some(32)), LedByPath(33, 33)]),
+    (
+        &[
+            (Create(33, b"f"), Err(Refusal::TooDeep)),
+            (MayCreate(33, b"f"), Err(Refusal::TooDeep)),
+            (MayCreate(1, b"d"), Err(Refusal::Exists)),
+            (MayCreate(1, b"f"), Ok(0)),
+            (Create(1, b"f"), Ok(34)),
+            (Rename(34, 33, b"f"), Err(Refusal::TooDeep)),
+            (Rename(34, 32, b"f"), Ok(0)),
+        ],
+        &[],
+    ),
+];
 
 #[test]
 fn no_path_has_more_than_thirty_two_names(rt: HostRuntime) -> Result<(), Fail> {
-    let mut tree = deep(&rt, rt.alloc())?;
-    same(&rt, path_length(&tree, 33), Some(32), "the deepest");
-    same(&rt, led_by_path(&tree, 33), Some(33), "the deepest");
-    let steps = [
-        (Create(33, b'f'), Err(Refusal::TooDeep)),
-        (MayCreate(33, b'f'), Err(Refusal::TooDeep)),
-        (MayCreate(1, b'd'), Err(Refusal::Exists)),
-        (MayCreate(1, b'f'), Ok(0)),
-        (Create(1, b'f'), Ok(34)),
-        (Rename(34, 33, b'f'), Err(Refusal::TooDeep)),
-        (Rename(34, 32, b'f'), Ok(0)),
-    ];
-    play(&rt, &mut tree, &steps)?;
-    Ok(())
+    runs_full(&rt, Full::Path, THIRTY_TWO_NAMES)
 }
 
-#[test]
-fn what_lies_below_counts_too(rt: HostRuntime) -> Result<(), Fail> {
-    let mut tree = deep(&rt, rt.alloc())?;
-    let steps = [
-        (Mkdir(1, b'q'), Ok(34)),
-        (Create(34, b'i'), Ok(35)),
-        (MayRename(34, 32, b'p'), Err(Refusal::TooDeep)),
-        (Rename(34, 32, b'p'), Err(Refusal::TooDeep)),
+const A_PAIR: &[Round] = &[(
+    &[
+        (Mkdir(1, b"q"), Ok(34)),
+        (Create(34, b"i"), Ok(35)),
+        (MayRename(34, 32, b"p"), Err(Refusal::TooDeep)),
+        (Rename(34, 32, b"p"), Err(Refusal::TooDeep)),
         (MayRmdir(34), Err(Refusal::NotEmpty)),
         (Unlink(35), Ok(0)),
         (MayRmdir(34), Ok(0)),
-        (MayRename(34, 32, b'p'), Ok(0)),
-        (Rename(34, 32, b'p'), Ok(0)),
-    ];
-    play(&rt, &mut tree, &steps)?;
-    same(&rt, parent(&tree, 34), Some(32), "the pair");
-    Ok(())
+        (MayRename(34, 32, b"p"), Ok(0)),
+        (Rename(34, 32, b"p"), Ok(0)),
+    ],
+    &[Parent(34, 32)],
+)];
+
+#[test]
+fn what_lies_below_counts_too(rt: HostRuntime) -> Result<(), Fail> {
+    runs_full(&rt, Full::Path, A_PAIR)
 }
 
-// A tree whose root has as many attributes and as many snapshots as there may be: n0 to n63.
-fn kept(rt: &impl Abort, alloc: Global) -> Result<Tree, Fail> {
-    let mut tree = made(alloc)?;
-    for n in 0..64 {
-        let name = format!(in alloc; "n{n}")?;
-        let attribute = set_xattr(&mut tree, 1, name.as_bytes(), b"")?;
-        same(rt, attribute, Ok(0), ("an attribute", n));
-        let snapshot = snap_add(&mut tree, 1, name.as_bytes())?;
-        same(rt, snapshot, Ok(0), ("a snapshot", n));
-    }
-    Ok(tree)
-}
+const LONG_VALUE: &[u8] = &[0; 4096];
+
+const TOO_LONG_A_VALUE: &[u8] = &[0; 4097];
+
+const SIXTY_FOUR: &[Round] = &[(
+    &[
+        (SetXattr(1, b"n64", b""), Err(Refusal::Limit)),
+        (SetXattr(1, b"n63", TOO_LONG_A_VALUE), Err(Refusal::Limit)),
+        (SetXattr(1, b"n63", LONG_VALUE), Ok(0)),
+        (SetXattr(1, b"n0", b"v"), Ok(0)),
+        (SnapAdd(1, b"n64"), Err(Refusal::Limit)),
+    ],
+    &[FirstSnapshot(1, b"n0")],
+)];
 
 #[test]
 fn an_inode_has_sixty_four_attributes_and_snapshots(rt: HostRuntime) -> Result<(), Fail> {
-    let mut tree = kept(&rt, rt.alloc())?;
-    let cases: [(&[u8], &[u8], Answer); 4] = [
-        (b"n64", b"", Err(Refusal::Limit)),
-        (b"n63", &[0; 4097], Err(Refusal::Limit)),
-        (b"n63", &[0; 4096], Ok(0)),
-        (b"n0", b"v", Ok(0)),
-    ];
-    for (name, value, want) in cases {
-        let answer = set_xattr(&mut tree, 1, name, value)?;
-        same(&rt, answer, want, (name, value.len()));
-    }
-    let snapshot = snap_add(&mut tree, 1, b"n64")?;
-    same(&rt, snapshot, Err(Refusal::Limit), "one more snapshot");
-    let first = first_snapshot(&tree, 1);
-    same(&rt, first, Some(b"n0".as_slice()), "the first snapshot");
-    Ok(())
+    runs_full(&rt, Full::Root, SIXTY_FOUR)
 }
 
-// A tree whose file 2 has as long a name as there may be.
-fn with_long_name(rt: &impl Abort, alloc: Global) -> Result<Tree, Fail> {
-    let mut tree = made(alloc)?;
-    let long = create(&mut tree, 1, &[b'n'; 255])?;
-    same(rt, long, Ok(2), "a long name");
-    Ok(tree)
-}
+const LONG_NAME: &[u8] = &[b'n'; 255];
+
+const TOO_LONG_A_NAME: &[u8] = &[b'n'; 256];
+
+const LONG_NAMES: &[Round] = &[(
+    &[
+        (Create(1, LONG_NAME), Ok(2)),
+        (Rename(2, 1, b"a/b"), Err(Refusal::NameBad)),
+        (SetXattr(1, LONG_NAME, b""), Ok(0)),
+    ],
+    &[Child(1, LONG_NAME, Some(2))],
+)];
 
 #[test]
 fn names_have_up_to_255_bytes(rt: HostRuntime) -> Result<(), Fail> {
-    let mut tree = with_long_name(&rt, rt.alloc())?;
-    let long = [b'n'; 255];
-    same(&rt, child(&tree, 1, &long), Some(2), "a long name");
-    let slash = rename(&mut tree, 2, 1, b"a/b")?;
-    same(&rt, slash, Err(Refusal::NameBad), "a slash in a name");
-    let attribute = set_xattr(&mut tree, 1, &long, b"")?;
-    same(&rt, attribute, Ok(0), "a long name of an attribute");
-    Ok(())
+    runs(&rt, LONG_NAMES)
 }
+
+const TOO_LONG_NAMES: &[Round] = &[(
+    &[
+        (Create(1, LONG_NAME), Ok(2)),
+        (Create(1, TOO_LONG_A_NAME), Err(Refusal::NameBad)),
+        (SetXattr(1, TOO_LONG_A_NAME, b""), Err(Refusal::NameBad)),
+    ],
+    &[Child(1, TOO_LONG_A_NAME, None)],
+)];
 
 #[test]
 fn names_of_256_bytes_are_refused(rt: HostRuntime) -> Result<(), Fail> {
-    let mut tree = with_long_name(&rt, rt.alloc())?;
-    let too_long = [b'n'; 256];
-    let bad = Err(Refusal::NameBad);
-    same(&rt, child(&tree, 1, &too_long), None, "no such name");
-    let file = create(&mut tree, 1, &too_long)?;
-    same(&rt, file, bad, "the name of a file");
-    let attribute = set_xattr(&mut tree, 1, &too_long, b"")?;
-    same(&rt, attribute, bad, "the name of an attribute");
-    Ok(())
+    runs(&rt, TOO_LONG_NAMES)
 }
 
 #[test]
 fn a_name_is_read_if_it_is_not_too_long(rt: HostRuntime) {
     let read = present(&rt, Name::read(&[b'n'; 255]), "a long name");
-    same_bytes(&rt, read.as_bytes(), &[b'n'; 255], "a long name");
+    same(&rt, read.as_bytes(), LONG_NAME, "a long name");
     holds(&rt, Name::read(&[b'n'; 256]).is_none(), "too long a name");
 }
 
@@ -145,29 +188,20 @@ fn names_that_can_not_be_given(rt: HostRuntime) {
     holds(&rt, is_bad_attribute(b"a\0b"), "an attribute a\0b");
 }
 
-// A tree with as many inodes as there may be: the files 2 to 65536 in the root.
-fn full(alloc: Global) -> Result<Tree, Fail> {
-    let mut tree = made(alloc)?;
-    for n in 1..MAX_INODES {
-        let name = format!(in alloc; "{n}")?;
-        create(&mut tree, 1, name.as_bytes())??;
-    }
-    Ok(tree)
-}
+const ALL_INODES: &[Round] = &[
+    (&[], &[Child(1, b"65535", Some(65536))]),
+    (
+        &[
+            (Create(1, b"m"), Err(Refusal::Limit)),
+            (Unlink(65536), Ok(0)),
+            (Create(1, b"m"), Err(Refusal::Limit)),
+        ],
+        &[At(65536, Place::Gone)],
+    ),
+    (&[(Forget(65536), Ok(0)), (Create(1, b"m"), Ok(65537))], &[]),
+];
 
 #[test]
 fn one_directory_holds_all_inodes(rt: HostRuntime) -> Result<(), Fail> {
-    let mut tree = full(rt.alloc())?;
-    let steps = [
-        (Create(1, b'm'), Err(Refusal::Limit)),
-        (Unlink(65536), Ok(0)),
-        (Create(1, b'm'), Err(Refusal::Limit)),
-    ];
-    let last = child(&tree, 1, b"65535");
-    same(&rt, last, Some(65536), "the last file");
-    play(&rt, &mut tree, &steps)?;
-    same(&rt, place(&tree, 65536), Place::Gone, "unlinked");
-    forget(&rt, &mut tree, 65536);
-    play(&rt, &mut tree, &[(Create(1, b'm'), Ok(65537))])?;
-    Ok(())
+    runs_full(&rt, Full::Tree, ALL_INODES)
 }

@@ -1,6 +1,6 @@
 //! Worked runs: inodes that come and go with their locks, and what is kept beside them.
 
-use crate::asserting::{same, same_bytes};
+use crate::asserting::same;
 use capbits::{ClientId, Ino, Part};
 use lockmachine::{Bytes, InodeLocks, Locks};
 use locktable::{LockState, State};
@@ -9,7 +9,7 @@ use std::process::Abort;
 use std::test::Fail;
 
 // What is done with the locks of an inode.
-#[derive(Clone, Copy, Debug)]
+#[derive(Clone, Copy)]
 enum Step {
     Add(u64),
     Drop(u64),
@@ -19,7 +19,7 @@ use Step::*;
 
 const PARTS: [Part; 4] = [Part::A, Part::L, Part::X, Part::F];
 
-fn made(alloc: Global) -> Result<Locks, Fail> {
+pub(crate) fn made(alloc: Global) -> Result<Locks, Fail> {
     Ok(Locks::new(alloc)?)
 }
 
@@ -33,57 +33,69 @@ fn take(locks: &mut Locks, step: Step) -> Result<(), AllocError> {
     }
 }
 
-// Sees that each lock of an inode is in this state, or that it has none.
-fn is_in(rt: &impl Abort, locks: &Locks, ino: u64, want: Option<LockState>, after: Option<Step>) {
+fn state(locks: &Locks, ino: u64, part: Part) -> Option<LockState> {
+    locks.state(Ino(ino), part)
+}
+
+// Sees that each lock of an inode is in the first state, or that it has none.
+fn is_in(rt: &impl Abort, locks: &Locks, ino: u64, has_locks: bool, number: usize) {
+    let sync = Some(LockState::Stable(State::Sync));
+    let want = if has_locks { sync } else { None };
     for part in PARTS {
-        same(rt, locks.state(Ino(ino), part), want, (after, ino, part));
+        same(rt, state(locks, ino, part), want, (number, ino, part));
     }
+}
+
+// Inodes, and whether they have locks.
+type Seen = &'static [(u64, bool)];
+
+// Takes the steps, and sees whether inodes have locks after them.
+fn play(
+    rt: &impl Abort,
+    locks: &mut Locks,
+    number: usize,
+    (steps, seen): (&[Step], Seen),
+) -> Result<(), Fail> {
+    for step in steps {
+        take(locks, *step)?;
+    }
+    for (ino, has_locks) in seen {
+        is_in(rt, locks, *ino, *has_locks, number);
+    }
+    Ok(())
+}
+
+fn runs(rt: &impl Abort, alloc: Global, rounds: &[(&[Step], Seen)]) -> Result<(), Fail> {
+    let mut locks = made(alloc)?;
+    for (number, round) in rounds.iter().enumerate() {
+        play(rt, &mut locks, number, *round)?;
+    }
+    Ok(())
 }
 
 #[test]
 fn no_inode_has_locks_at_first(rt: HostRuntime) -> Result<(), Fail> {
-    let locks = made(rt.alloc())?;
-    for ino in [0, 1, u64::MAX] {
-        is_in(&rt, &locks, ino, None, None);
-    }
-    Ok(())
+    let seen: Seen = &[(0, false), (1, false), (u64::MAX, false)];
+    runs(&rt, rt.alloc(), &[(&[], seen)])
 }
 
-// Takes a step, and sees whether the inodes 1, 2 and 3 have locks after it.
-fn take_and_see(
-    rt: &impl Abort,
-    locks: &mut Locks,
-    step: Step,
-    has: [bool; 3],
-) -> Result<(), Fail> {
-    let sync = Some(LockState::Stable(State::Sync));
-    take(locks, step)?;
-    for (ino, has_locks) in [1, 2, 3].into_iter().zip(has) {
-        let want = if has_locks { sync } else { None };
-        is_in(rt, locks, ino, want, Some(step));
-    }
-    Ok(())
-}
+const COMING_AND_GOING: &[(&[Step], Seen)] = &[
+    (&[Drop(1)], &[(1, false), (2, false), (3, false)]),
+    (&[Add(2)], &[(1, false), (2, true), (3, false)]),
+    (&[Add(1)], &[(1, true), (2, true), (3, false)]),
+    (&[Add(3)], &[(1, true), (2, true), (3, true)]),
+    (&[Drop(2)], &[(1, true), (2, false), (3, true)]),
+    (&[Drop(2)], &[(1, true), (2, false), (3, true)]),
+    (&[Drop(4)], &[(1, true), (2, false), (3, true)]),
+    (&[Add(2)], &[(1, true), (2, true), (3, true)]),
+    (&[Drop(1)], &[(1, false), (2, true), (3, true)]),
+    (&[Drop(3)], &[(1, false), (2, true), (3, false)]),
+    (&[Drop(2)], &[(1, false), (2, false), (3, false)]),
+];
 
 #[test]
 fn an_inode_has_locks_from_its_making_to_its_end(rt: HostRuntime) -> Result<(), Fail> {
-    let mut locks = made(rt.alloc())?;
-    for (step, has) in [
-        (Drop(1), [false, false, false]),
-        (Add(2), [false, true, false]),
-        (Add(1), [true, true, false]),
-        (Add(3), [true, true, true]),
-        (Drop(2), [true, false, true]),
-        (Drop(2), [true, false, true]),
-        (Drop(4), [true, false, true]),
-        (Add(2), [true, true, true]),
-        (Drop(1), [false, true, true]),
-        (Drop(3), [false, true, false]),
-        (Drop(2), [false, false, false]),
-    ] {
-        take_and_see(&rt, &mut locks, step, has)?;
-    }
-    Ok(())
+    runs(&rt, rt.alloc(), COMING_AND_GOING)
 }
 
 // The lock of a part, of four that differ.
@@ -117,7 +129,7 @@ fn bytes_are_kept_as_they_are(rt: HostRuntime) -> Result<(), Fail> {
     let cases: [&[u8]; 5] = [b"", b"a", b"report.txt", b"a/b", &[0, 255, 0]];
     for bytes in cases {
         let read = Bytes::read(rt.alloc(), bytes)?;
-        same_bytes(&rt, read.as_slice(), bytes, bytes);
+        same(&rt, read.as_slice(), bytes, bytes);
     }
     Ok(())
 }
@@ -127,8 +139,8 @@ fn bytes_are_made_of_a_vector_and_give_one_back(rt: HostRuntime) -> Result<(), F
     let cases: [&[u8]; 3] = [b"", b"report.txt", &[0, 255, 0]];
     for bytes in cases {
         let made = Bytes::from(bytes.to_vec(rt.alloc())?);
-        same_bytes(&rt, made.as_slice(), bytes, bytes);
-        same_bytes(&rt, made.into_inner().as_slice(), bytes, bytes);
+        same(&rt, made.as_slice(), bytes, bytes);
+        same(&rt, made.into_inner().as_slice(), bytes, bytes);
     }
     Ok(())
 }

@@ -1,6 +1,6 @@
 //! Worked runs: clients that connect, go stale, leave, are thrown out, and come back.
 
-use crate::asserting::{holds, same, same_text};
+use crate::asserting::same;
 use capbits::{Caller, ClientId, Groups, Refusal};
 use capspec::{Flags4, Grants, SpecFault, read_grants};
 use sessiontab::{MAX_BLOCKED, MAX_SESSIONS, Sessions, Status};
@@ -9,9 +9,12 @@ use std::process::Abort;
 use std::test::Fail;
 
 // What is asked of the sessions, for a client.
-#[derive(Clone, Copy, Debug)]
+#[derive(Clone, Copy)]
 enum Ask {
+    // A session of user 10, who may read and write.
     Open(u32),
+    // A session of this user, with these grants.
+    OpenFor(u32, u32, &'static str),
     Close(u32),
     Stale(u32),
     Renew(u32),
@@ -19,7 +22,27 @@ enum Ask {
     Unblock(u32),
 }
 
+// What is seen of a client.
+#[derive(Clone, Copy)]
+enum Look {
+    // How its session is, and whether it is blocked.
+    IsAt(u32, Option<Status>, bool),
+    // The uid of its caller, and the flags of its first grant.
+    Uid(u32, Option<u32>),
+    Flags(u32, Option<Flags4>),
+    HasGrants(u32, bool),
+    // What a session would be refused for now.
+    WouldBe(u32, Option<Refusal>),
+}
+
 use Ask::*;
+use Look::*;
+
+// What is asked, with the answers, and what is seen then.
+type Round = (&'static [(Ask, &'static str)], &'static [Look]);
+
+// Where a test fails: the number of the round, and of what is asked or seen in it.
+type At = (usize, usize);
 
 fn caller(uid: u32) -> Caller {
     Caller {
@@ -29,8 +52,8 @@ fn caller(uid: u32) -> Caller {
     }
 }
 
-fn allow_rw(alloc: Global) -> Result<Grants, SpecFault> {
-    read_grants(alloc, b"allow rw")
+fn grants(alloc: Global, text: &str) -> Result<Grants, SpecFault> {
+    read_grants(alloc, text.as_bytes())
 }
 
 // ---- the tests of each call, and then the call
@@ -48,6 +71,18 @@ fn opened(
     Ok(None)
 }
 
+// Opens a session for a client that is this user, with these grants.
+pub(crate) fn opened_for(
+    alloc: Global,
+    sessions: &mut Sessions,
+    client: u32,
+    uid: u32,
+    text: &str,
+) -> Result<Option<Refusal>, Fail> {
+    let grants = grants(alloc, text)?;
+    Ok(opened(sessions, ClientId(client), caller(uid), grants)?)
+}
+
 fn closed(sessions: &mut Sessions, client: ClientId) -> Option<Refusal> {
     if let Some(refusal) = sessions.connected_refusal(client) {
         return Some(refusal);
@@ -56,7 +91,7 @@ fn closed(sessions: &mut Sessions, client: ClientId) -> Option<Refusal> {
     None
 }
 
-fn marked(sessions: &mut Sessions, client: ClientId) -> Option<Refusal> {
+pub(crate) fn marked(sessions: &mut Sessions, client: ClientId) -> Option<Refusal> {
     if let Some(refusal) = sessions.session_refusal(client) {
         return Some(refusal);
     }
@@ -98,7 +133,8 @@ fn text_of(alloc: Global, refusal: Option<Refusal>) -> Result<String, AllocError
 
 fn asked(alloc: Global, sessions: &mut Sessions, ask: Ask) -> Result<String, Fail> {
     let refusal = match ask {
-        Open(client) => opened(sessions, ClientId(client), caller(10), allow_rw(alloc)?)?,
+        Open(client) => opened_for(alloc, sessions, client, 10, "allow rw")?,
+        OpenFor(client, uid, text) => opened_for(alloc, sessions, client, uid, text)?,
         Close(client) => closed(sessions, ClientId(client)),
         Stale(client) => marked(sessions, ClientId(client)),
         Renew(client) => renewed(sessions, ClientId(client)),
@@ -108,31 +144,82 @@ fn asked(alloc: Global, sessions: &mut Sessions, ask: Ask) -> Result<String, Fai
     Ok(text_of(alloc, refusal)?)
 }
 
-fn made(alloc: Global) -> Result<Sessions, Fail> {
+pub(crate) fn made(alloc: Global) -> Result<Sessions, Fail> {
     Ok(Sessions::new(alloc)?)
 }
 
-// Asks one after the other, and sees that the answers are the wanted ones.
+// ---- what is seen
+
+fn status(sessions: &Sessions, client: u32) -> (Option<Status>, bool) {
+    let id = ClientId(client);
+    (sessions.status(id), sessions.is_blocked(id))
+}
+
+fn uid_of(sessions: &Sessions, client: u32) -> Option<u32> {
+    let caller = sessions.caller_of(ClientId(client))?;
+    Some(caller.uid)
+}
+
+fn flags_of(sessions: &Sessions, client: u32) -> Option<Flags4> {
+    let grants = sessions.grants_of(ClientId(client))?;
+    let first = grants.get(0)?;
+    Some(first.flags)
+}
+
+fn has_grants(sessions: &Sessions, client: u32) -> bool {
+    sessions.grants_of(ClientId(client)).is_some()
+}
+
+fn refusal_at(sessions: &Sessions, client: u32) -> Option<Refusal> {
+    sessions.open_refusal(ClientId(client))
+}
+
+fn see(rt: &impl Abort, sessions: &Sessions, look: Look, at: At) {
+    match look {
+        IsAt(client, want, blocked) => same(rt, status(sessions, client), (want, blocked), at),
+        Uid(client, want) => same(rt, uid_of(sessions, client), want, at),
+        Flags(client, want) => same(rt, flags_of(sessions, client), want, at),
+        HasGrants(client, want) => same(rt, has_grants(sessions, client), want, at),
+        WouldBe(client, want) => same(rt, refusal_at(sessions, client), want, at),
+    }
+}
+
+// ---- whole runs
+
+// Asks one after the other and sees that the answers are the wanted ones, and then looks at the sessions.
 fn play(
     rt: &impl Abort,
     alloc: Global,
     sessions: &mut Sessions,
-    steps: &[(Ask, &str)],
+    number: usize,
+    (asks, looks): (&[(Ask, &'static str)], &[Look]),
 ) -> Result<(), Fail> {
-    for (number, (ask, want)) in steps.iter().enumerate() {
+    for (nth, (ask, want)) in asks.iter().enumerate() {
         let text = asked(alloc, sessions, *ask)?;
-        same_text(rt, text.as_str(), want, (number, *ask));
+        same(rt, text.as_str(), want, (number, nth));
+    }
+    for (nth, look) in looks.iter().enumerate() {
+        see(rt, sessions, *look, (number, nth));
     }
     Ok(())
 }
 
-fn is_at(rt: &impl Abort, sessions: &Sessions, client: u32, status: Option<Status>, blocked: bool) {
-    let id = ClientId(client);
-    same(rt, sessions.status(id), status, client);
-    same(rt, sessions.is_blocked(id), blocked, client);
+// Asks on new sessions, and plays the rounds behind that. No other function owns sessions: each statement of one that
+// does is dear to prove.
+fn runs_behind(
+    rt: &(impl Abort + AllocGlobal),
+    asks: &[(Ask, &'static str)],
+    rounds: &[Round],
+) -> Result<(), Fail> {
+    let mut sessions = made(rt.alloc())?;
+    play(rt, rt.alloc(), &mut sessions, usize::MAX, (asks, &[]))?;
+    for (number, round) in rounds.iter().enumerate() {
+        play(rt, rt.alloc(), &mut sessions, number, *round)?;
+    }
+    Ok(())
 }
 
-const COMING_AND_GOING: [(Ask, &str); 28] = [
+const COMING_AND_GOING: &[(Ask, &str)] = &[
     (Open(1), "done"),
     (Open(2), "done"),
     (Open(3), "done"),
@@ -166,132 +253,94 @@ const COMING_AND_GOING: [(Ask, &str); 28] = [
     (Renew(1), "NotStale"),
 ];
 
+const AT_THE_END: &[Look] = &[
+    IsAt(1, Some(Status::Open), false),
+    IsAt(2, Some(Status::Open), false),
+    IsAt(3, None, true),
+    IsAt(9, None, false),
+];
+
 #[test]
 fn clients_come_and_go(rt: HostRuntime) -> Result<(), Fail> {
-    let mut sessions = made(rt.alloc())?;
-    play(&rt, rt.alloc(), &mut sessions, &COMING_AND_GOING)?;
-    is_at(&rt, &sessions, 1, Some(Status::Open), false);
-    is_at(&rt, &sessions, 2, Some(Status::Open), false);
-    is_at(&rt, &sessions, 3, None, true);
-    is_at(&rt, &sessions, 9, None, false);
-    Ok(())
+    runs_behind(&rt, COMING_AND_GOING, &[(&[], AT_THE_END)])
 }
 
-// Opens a session for a client that is this user, with these grants.
-fn open(
-    rt: &(impl Abort + AllocGlobal),
-    sessions: &mut Sessions,
-    client: u32,
-    uid: u32,
-    grants: &[u8],
-) -> Result<(), Fail> {
-    let grants = read_grants(rt.alloc(), grants)?;
-    let answer = opened(sessions, ClientId(client), caller(uid), grants)?;
-    same(rt, answer, None, client);
-    Ok(())
-}
-
-// The uid of a client's caller.
-fn uid_of(sessions: &Sessions, client: u32) -> Option<u32> {
-    let caller = sessions.caller_of(ClientId(client))?;
-    Some(caller.uid)
-}
-
-// The flags of a client's first grant.
-fn flags_of(sessions: &Sessions, client: u32) -> Option<Flags4> {
-    let grants = sessions.grants_of(ClientId(client))?;
-    let first = grants.get(0)?;
-    Some(first.flags)
-}
-
-fn has_grants(sessions: &Sessions, client: u32) -> bool {
-    sessions.grants_of(ClientId(client)).is_some()
-}
+const THREE_CLIENTS: &[Round] = &[
+    (
+        &[
+            (OpenFor(1, 10, "allow rws"), "done"),
+            (OpenFor(3, 30, "allow r path=/a, allow rwps"), "done"),
+            (OpenFor(2, 20, "allow rw"), "done"),
+            (Stale(3), "done"),
+        ],
+        &[
+            Uid(1, Some(10)),
+            Flags(1, Some(Flags4::Rws)),
+            Uid(3, Some(30)),
+            Flags(3, Some(Flags4::R)),
+            Uid(2, Some(20)),
+            Flags(2, Some(Flags4::Rw)),
+        ],
+    ),
+    (&[(Close(2), "done")], &[Uid(2, None), HasGrants(2, false)]),
+];
 
 #[test]
 fn each_client_has_its_own_caller_and_grants(rt: HostRuntime) -> Result<(), Fail> {
-    let mut sessions = made(rt.alloc())?;
-    open(&rt, &mut sessions, 1, 10, b"allow rws")?;
-    open(&rt, &mut sessions, 3, 30, b"allow r path=/a, allow rwps")?;
-    open(&rt, &mut sessions, 2, 20, b"allow rw")?;
-    play(&rt, rt.alloc(), &mut sessions, &[(Stale(3), "done")])?;
-    for (client, uid, flags) in [
-        (1, 10, Flags4::Rws),
-        (3, 30, Flags4::R),
-        (2, 20, Flags4::Rw),
-    ] {
-        same(&rt, uid_of(&sessions, client), Some(uid), client);
-        same(&rt, flags_of(&sessions, client), Some(flags), client);
-    }
-    play(&rt, rt.alloc(), &mut sessions, &[(Close(2), "done")])?;
-    same(&rt, uid_of(&sessions, 2), None, "closed");
-    holds(&rt, !has_grants(&sessions, 2), "closed");
-    Ok(())
-}
-
-// What a session would be refused for now.
-fn refusal_at(sessions: &Sessions, client: u32) -> Option<Refusal> {
-    sessions.open_refusal(ClientId(client))
+    runs_behind(&rt, &[], THREE_CLIENTS)
 }
 
 // As many sessions as there may be, of the clients 0 to 63, and client 99 on the blocklist.
-fn full(rt: &impl Abort, alloc: Global) -> Result<Sessions, Fail> {
-    let mut sessions = made(alloc)?;
-    play(
-        rt,
-        alloc,
-        &mut sessions,
-        &[(Open(99), "done"), (Evict(99), "done")],
-    )?;
+fn openings(alloc: Global) -> Result<Vec<(Ask, &'static str)>, Fail> {
+    let mut asks = Vec::new(alloc);
+    asks.push((Open(99), "done"))?;
+    asks.push((Evict(99), "done"))?;
     for client in 0..64 {
-        play(rt, alloc, &mut sessions, &[(Open(client), "done")])?;
+        asks.push((Open(client), "done"))?;
     }
-    Ok(sessions)
+    Ok(asks)
 }
+
+const BEHIND_SIXTY_FOUR: &[Round] = &[
+    (
+        &[
+            (Open(64), "Limit"),
+            (Stale(7), "done"),
+            (Open(64), "Limit"),
+            (Open(7), "SessionOpen"),
+            (Open(99), "Blocklisted"),
+            (Close(7), "done"),
+            (Open(64), "done"),
+            (Open(7), "Limit"),
+        ],
+        &[
+            WouldBe(7, Some(Refusal::Limit)),
+            WouldBe(8, Some(Refusal::SessionOpen)),
+            WouldBe(99, Some(Refusal::Blocklisted)),
+        ],
+    ),
+    (&[(Close(8), "done")], &[WouldBe(7, None)]),
+];
 
 #[test]
 fn sixty_four_sessions_are_the_most(rt: HostRuntime) -> Result<(), Fail> {
     same(&rt, MAX_SESSIONS, 64, "the most sessions");
-    let mut sessions = full(&rt, rt.alloc())?;
-    let steps = [
-        (Open(64), "Limit"),
-        (Stale(7), "done"),
-        (Open(64), "Limit"),
-        (Open(7), "SessionOpen"),
-        (Open(99), "Blocklisted"),
-        (Close(7), "done"),
-        (Open(64), "done"),
-        (Open(7), "Limit"),
-    ];
-    play(&rt, rt.alloc(), &mut sessions, &steps)?;
-    same(&rt, refusal_at(&sessions, 7), Some(Refusal::Limit), 7);
-    same(&rt, refusal_at(&sessions, 8), Some(Refusal::SessionOpen), 8);
-    same(
-        &rt,
-        refusal_at(&sessions, 99),
-        Some(Refusal::Blocklisted),
-        99,
-    );
-    play(&rt, rt.alloc(), &mut sessions, &[(Close(8), "done")])?;
-    same(&rt, refusal_at(&sessions, 7), None, 7);
-    Ok(())
+    let openings = openings(rt.alloc())?;
+    runs_behind(&rt, openings.as_slice(), BEHIND_SIXTY_FOUR)
 }
 
 // As many blocked clients as there may be: 0 to 1023.
-fn blocked(rt: &impl Abort, alloc: Global) -> Result<Sessions, Fail> {
-    let mut sessions = made(alloc)?;
+fn evictions(alloc: Global) -> Result<Vec<(Ask, &'static str)>, Fail> {
+    let mut asks = Vec::new(alloc);
     for client in 0..1024 {
-        let steps = [(Open(client), "done"), (Evict(client), "done")];
-        play(rt, alloc, &mut sessions, &steps)?;
+        asks.push((Open(client), "done"))?;
+        asks.push((Evict(client), "done"))?;
     }
-    Ok(sessions)
+    Ok(asks)
 }
 
-#[test]
-fn a_thousand_and_twenty_four_blocked_clients_are_the_most(rt: HostRuntime) -> Result<(), Fail> {
-    same(&rt, MAX_BLOCKED, 1024, "the most blocked clients");
-    let mut sessions = blocked(&rt, rt.alloc())?;
-    let steps = [
+const BEHIND_ALL: &[Round] = &[(
+    &[
         (Evict(1024), "NoSession"),
         (Open(1024), "done"),
         (Evict(1024), "Limit"),
@@ -302,6 +351,13 @@ fn a_thousand_and_twenty_four_blocked_clients_are_the_most(rt: HostRuntime) -> R
         (Open(1023), "Blocklisted"),
         (Open(512), "done"),
         (Evict(512), "Limit"),
-    ];
-    play(&rt, rt.alloc(), &mut sessions, &steps)
+    ],
+    &[],
+)];
+
+#[test]
+fn a_thousand_and_twenty_four_blocked_clients_are_the_most(rt: HostRuntime) -> Result<(), Fail> {
+    same(&rt, MAX_BLOCKED, 1024, "the most blocked clients");
+    let evictions = evictions(rt.alloc())?;
+    runs_behind(&rt, evictions.as_slice(), BEHIND_ALL)
 }
