@@ -14,6 +14,16 @@ pub(crate) fn same<T: PartialEq + Debug + Drop, P: Debug + Copy>(
     assert_eq!(rt; found, want, "at {place:?}");
 }
 
+// Sees that the values are the wanted ones, in this order.
+pub(crate) fn same_items<T: PartialEq + Debug, P: Debug + Copy>(
+    rt: &impl Abort,
+    found: &[T],
+    want: &[T],
+    place: P,
+) {
+    assert_eq!(rt; found, want, "at {place:?}");
+}
+
 // Sees that the condition holds.
 pub(crate) fn holds<P: Debug + Copy>(rt: &impl Abort, condition: bool, place: P) {
     assert!(rt; condition, "at {place:?}");
