@@ -1,4 +1,4 @@
-use Rattle.std.proofs.Common.{◌≡◌, Option, sym, ap, ◌∙◌}
+use Rattle.std.proofs.Common.{Option, sym, ap, ◌∙◌}
 use Rattle.std.specs.FinMap as map
 use Rattle.captable.specs.declared.entry.EntryRow.{EntryRow}
 use Rattle.lockmachine.specs.declared.states.InodeLocks.{InodeLocks}
