@@ -224,7 +224,12 @@ fn no_more_than_65536_nodes(rt: HostRuntime) -> Result<(), Fail> {
         keys.push(oldest)?;
     }
     play(&mut lists, &mut keys, &[Remove(0), Add(64, 2_000)])?;
-    same(&rt, lists.add_refusal(), Some(Refusal::Limit), "one removed, and one taken");
+    same(
+        &rt,
+        lists.add_refusal(),
+        Some(Refusal::Limit),
+        "one removed, and one taken",
+    );
     holds(
         &rt,
         lists.first_of_ino(Ino(2_000)).is_some(),
