@@ -66,7 +66,7 @@ abbrev pub told_before : Scene → Option EntryRow → Caps
 told_before old None = no_caps
 told_before old (Some row) = told_set old row
 
--- the entry, renumbered where its client is to know at the end of another set than before
+-- the entry, renumbered where its client is to know at the end of another set than right after the event
 abbrev pub number_row : Scene → Scene → Scene → EntryRow → EntryRow
 number_row old first last row =
     record row { entry = renumbered (told_before old (find (is_row_of row.holder) first.table.rows)) (told_set last row) row.entry }

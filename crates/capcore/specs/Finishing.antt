@@ -51,7 +51,8 @@ with_issued caps row = record row { entry = issued caps row.entry }
 abbrev pub due_under : List ℕ → Nodes → SessionTable → Option InodeLocks → EntryRow → Caps
 due_under fs tree sessions locks row = meet (effective_want fs tree sessions row) (allowed_under locks row)
 
--- the entry, once this was issued: it has a new number if its client is to know of another set than before
+-- the entry, once this was issued: it has a new number if its client is to know of another set than right after the
+-- event
 abbrev pub numbered_under : Option InodeLocks → Option InodeLocks → Caps → EntryRow → Entry
 numbered_under before now caps row = renumbered (told_under before row) (told_under now (with_issued caps row)) (issued caps row.entry)
 

@@ -81,7 +81,8 @@ pub record SettlesAt (ino : ℕ) (first settled : Scene) : Type 0 where
   pub rests : first_move settled ≡ Settled
   pub elsewhere : ChangesLocksOf ino first.locks settled.locks
 
--- the entry at the end: it gains what is due, and has a new number if its client is to know of another set than before
+-- the entry at the end: it gains what is due, and has a new number if its client is to know of another set than right
+-- after the event
 abbrev pub finished_entry : Scene → Scene → EntryRow → Entry
 finished_entry old settled row =
     renumbered (told_set old row) (told_set settled (issue_row settled row)) (issue_row settled row).entry

@@ -100,7 +100,7 @@ pub enum Event {
         client: ClientId,
         /// The inode.
         ino: Ino,
-        /// The number of the message.
+        /// The number up to which it was told of changes, at least that of the last that took something.
         seq: u64,
     },
     /// A client gives capabilities back, and wants them no more. With the pin its entry ends.

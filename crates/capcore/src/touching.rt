@@ -11,7 +11,7 @@ ghost use Rattle.capcore.specs.Sound.{IsSound, AreGiven};
 ghost use Rattle.capcore.specs.Touching.{touched_by, Touches};
 
 /// An event that is about one entry, and that nothing stops, changes entries of its inode alone, and leaves of each what every
-/// state keeps, but that what is due is held. The table stays one, no number rises, and at most one entry is made.
+/// state keeps, but that what is due is held. The table stays one, its numbers keep their bounds, and at most one entry is made.
 pub fn events_of_one_entry_touch_its_inode()
     ensures touches { (old : State) (e : Event) (k : Holder) → IsSound old → IsTable old.scene.table → touched_by e ≡ Some k
         → judged old.scene e ≡ None → Touches k.ino.0 old (direct old e).state.scene }

@@ -25,7 +25,8 @@ open_tests table = refused_if (nat_le 65536 (length table.rows)) refusal.Limit �
 abbrev pub entry_test : Table → Holder → Test
 entry_test table k = refused_if (not (is_some (entry_at table k))) refusal.NoEntry
 
--- the client holds something that is being revoked, and names a message that it was told, none before the last revocation
+-- the client holds something that is being revoked, and names a number that is neither above the last of which
+-- it was told nor below that of the last revocation
 abbrev pub ack_tests : Table → Holder → ℕ → Caps → List Test
 ack_tests table k seq against =
     entry_test table k

@@ -14,9 +14,9 @@ pub struct Holder {
     pub ino: Ino,
 }
 
-/// What the server knows of one client's capabilities on one inode. The three numbers count the messages to the client
-/// that tell it what it holds: each message has the number of the latest change, and the client names it when it
-/// acknowledges.
+/// What the server knows of one client's capabilities on one inode. The three numbers count the changes of
+/// what the client is to know that it holds: a message that tells it has the number of the latest change, and the client
+/// names a number when it acknowledges.
 #[derive(Clone, Copy, PartialEq, Eq, Debug)]
 pub struct Entry {
     /// The capabilities that were issued to the client and not told back.
