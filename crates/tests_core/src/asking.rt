@@ -2,6 +2,7 @@
 
 use crate::asserting::same;
 use crate::looking::{Look, seen};
+use crate::steps::{Step, take_steps};
 use crate::telling::answer_text;
 use capbits::{Caller, ClientId, Groups, Ino, Mode, PassId};
 use capcore::{Core, Event};
@@ -136,18 +137,48 @@ fn shows(rt: &impl Abort, alloc: Global, core: &Core, shown: &[(Look, &str)]) ->
     Ok(())
 }
 
-/// Plays the scripts on a fresh core whose history takes so many rows, each by its pass, and compares what is answered
-/// and what is seen in the core after them. No other function of the tests owns a core: each statement of one that does
-/// is dear to prove.
-pub fn works(
+// Takes the steps, a part after the other.
+fn steps_on(
+    rt: &impl Abort,
+    alloc: Global,
+    core: &mut Core,
+    parts: &[&[Step]],
+) -> Result<(), Fail> {
+    for part in parts {
+        take_steps(rt, alloc, core, part)?;
+    }
+    Ok(())
+}
+
+// Plays the scripts on a fresh core whose history takes so many rows, then takes the steps, and looks at it in the end. No
+// other function of the tests owns a core: each statement of one that does is dear to prove.
+fn owner(
     rt: &(impl AllocGlobal + Abort),
     max_rows: u32,
     scripts: &[(u32, &[(Ask, &str)])],
+    steps: &[&[Step]],
     shown: &[(Look, &str)],
 ) -> Result<(), Fail> {
     let mut core = fresh(rt.alloc(), max_rows)?;
     for (pass, script) in scripts {
         plays(rt, rt.alloc(), &mut core, *pass, script)?;
     }
+    steps_on(rt, rt.alloc(), &mut core, steps)?;
     shows(rt, rt.alloc(), &core, shown)
+}
+
+/// Plays the scripts on a fresh core whose history takes so many rows, each by its pass, and compares what is answered
+/// and what is seen in the core after them.
+pub fn works(
+    rt: &(impl AllocGlobal + Abort),
+    max_rows: u32,
+    scripts: &[(u32, &[(Ask, &str)])],
+    shown: &[(Look, &str)],
+) -> Result<(), Fail> {
+    owner(rt, max_rows, scripts, &[], shown)
+}
+
+/// Takes the steps on a fresh core, a part after the other.
+pub fn goes(rt: &(impl AllocGlobal + Abort), steps: &[&[Step]]) -> Result<(), Fail> {
+    owner(rt, 100, &[], steps, &[])
 }

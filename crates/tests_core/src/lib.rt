@@ -9,7 +9,11 @@ mod asking;
 #[cfg(test)]
 mod asserting;
 #[cfg(test)]
+mod entry_refusals;
+#[cfg(test)]
 mod failing_streams;
+#[cfg(test)]
+mod gathers;
 #[cfg(test)]
 mod histories;
 #[cfg(test)]
@@ -20,6 +24,12 @@ mod looking;
 mod replies;
 #[cfg(test)]
 mod runs;
+#[cfg(test)]
+mod sharing;
+#[cfg(test)]
+mod steps;
+#[cfg(test)]
+mod talks;
 #[cfg(test)]
 mod telling;
 #[cfg(test)]

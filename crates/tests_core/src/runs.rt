@@ -7,8 +7,8 @@ use std::io;
 use std::io::Write;
 use std::test::Fail;
 
-// What a run over a script writes, and how it ends, in words behind an equals sign.
-fn transcript(rt: &impl AllocGlobal, script: &[u8]) -> Result<Vec<u8>, Fail> {
+/// What a run over a script writes, and how it ends, in words behind an equals sign.
+pub fn transcript(rt: &impl AllocGlobal, script: &[u8]) -> Result<Vec<u8>, Fail> {
     let alloc = rt.alloc();
     let mut text = Vec::new(alloc);
     let mut reader = Watched::new(script);
@@ -86,6 +86,10 @@ const TRANSCRIPTS: &[(&str, &str)] = &[
     (SNAPSHOTS, SNAPSHOTS_ANSWERED),
     (
         "session 1 10 10 - allow rw\nlookup 1 x f\n",
+        "done\n=line 2: Number",
+    ),
+    (
+        "session 1 10 10 - allow rw\nopen 1 x r\n",
         "done\n=line 2: Number",
     ),
     ("session 1 10 10 - allow", "=line 1: Grants BadFlags at 5"),
