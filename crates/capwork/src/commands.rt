@@ -3,8 +3,8 @@ ghost use Rattle.std.specs.Prelude.{◌≡◌, ◌≤◌};
 ghost use Rattle.capwork.specs.Status.{status_of};
 
 use crate::command_line::{Task, parse};
+use crate::core_work::{CoreWork, on_a_core};
 use crate::fault::Fault;
-use crate::inodes::{create, look_up};
 use crate::judging::{judge, read};
 use crate::work::Work;
 use std::alloc::Global;
@@ -49,8 +49,10 @@ pub fn sum_of(alloc: Global, task: Task) -> Result<u64, Fault> {
     match task.work {
         Work::Verdict(shape) => judge(alloc, shape, task.times),
         Work::Parse(shape) => read(alloc, shape, task.times),
-        Work::Lookup(shape) => look_up(alloc, shape, task.times),
-        Work::Create(shape) => create(alloc, shape, task.times),
+        Work::Lookup(shape) => on_a_core(alloc, CoreWork::Lookup(shape), task.times),
+        Work::Create(shape) => on_a_core(alloc, CoreWork::Create(shape), task.times),
+        Work::Open(size) => on_a_core(alloc, CoreWork::Open(size), task.times),
+        Work::Revoke(size) => on_a_core(alloc, CoreWork::Revoke(size), task.times),
     }
 }
 
@@ -76,6 +78,7 @@ pub fn report(fault: Fault, faults: &mut impl Write) -> u8
     let _ = writeln!(faults, "capbench: {fault}");
     match fault {
         Fault::TooManyCreations => USAGE,
+        Fault::TooManyOpenings => USAGE,
         _ => FAILED,
     }
 }

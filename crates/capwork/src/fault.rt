@@ -11,6 +11,9 @@ pub enum Fault {
     /// So many inodes don't fit into a tree beside those that it begins with.
     #[error("too many creations: a tree has at most 65536 inodes, with its root")]
     TooManyCreations,
+    /// So many files are not made to be opened.
+    #[error("too many openings: 1024 files are made for them")]
+    TooManyOpenings,
     /// The grants can't be read.
     #[error("grants: {0}")]
     Grants(SpecFault),

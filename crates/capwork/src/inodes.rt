@@ -5,19 +5,16 @@ use crate::fault::Fault;
 use crate::work::{Layout, TreeShape};
 use capbits::{Caller, ClientId, Groups, Ino, Mode, PassId};
 use capcore::{Core, Event, Reply};
-use capgrant::Attr;
-use capspec::{FsName, read_grants};
-use inotree::{MAX_INODES, ROOT, Tree};
+use capspec::read_grants;
+use inotree::{MAX_INODES, ROOT};
 use lockmachine::Bytes;
 use std::alloc::Global;
 
-const FS: &[u8] = b"cephfs";
+pub(crate) const CLIENT: ClientId = ClientId(1);
 
-const CLIENT: ClientId = ClientId(1);
+pub(crate) const PASS: PassId = PassId(1);
 
-const PASS: PassId = PassId(1);
-
-const USER: u32 = 1000;
+pub(crate) const USER: u32 = 1000;
 
 const MODE: u16 = 0o755;
 
@@ -29,7 +26,7 @@ const STRIDE: u64 = 7919;
 
 // What is asked of a core, again and again.
 #[derive(Clone, Copy)]
-enum Asking {
+pub(crate) enum Asking {
     // For an inode, by its name.
     Lookup,
     // To make a file.
@@ -37,33 +34,32 @@ enum Asking {
 }
 
 /// Builds a tree, looks up so many of its inodes, and returns the sum of their numbers.
-pub fn look_up(alloc: Global, shape: TreeShape, times: u32) -> Result<u64, Fault> {
-    sum_of_answers(alloc, shape, Asking::Lookup, times)
+pub(crate) fn look_up(
+    alloc: Global,
+    core: &mut Core,
+    shape: TreeShape,
+    times: u32,
+) -> Result<u64, Fault> {
+    build(alloc, core, shape)?;
+    ask(alloc, core, shape, Asking::Lookup, times)
 }
 
 /// Builds a tree, makes so many files in it, and returns the sum of their numbers.
-pub fn create(alloc: Global, shape: TreeShape, times: u32) -> Result<u64, Fault> {
+pub(crate) fn create(
+    alloc: Global,
+    core: &mut Core,
+    shape: TreeShape,
+    times: u32,
+) -> Result<u64, Fault> {
     if !is_room(shape.size.number(), times) {
         return Err(Fault::TooManyCreations);
     }
-    sum_of_answers(alloc, shape, Asking::Create, times)
-}
-
-// Builds a tree, asks so many times, and returns the sum of the numbers in the answers. No other function owns a core: what it
-// keeps is carried through each way out of its owner.
-fn sum_of_answers(
-    alloc: Global,
-    shape: TreeShape,
-    asking: Asking,
-    times: u32,
-) -> Result<u64, Fault> {
-    let mut core = fresh(alloc)?;
-    build(alloc, &mut core, shape)?;
-    ask(alloc, &mut core, shape, asking, times)
+    build(alloc, core, shape)?;
+    ask(alloc, core, shape, Asking::Create, times)
 }
 
 // Asks so many times, and returns the sum of the numbers in the answers.
-fn ask(
+pub(crate) fn ask(
     alloc: Global,
     core: &mut Core,
     shape: TreeShape,
@@ -138,7 +134,7 @@ fn directory_for(shape: TreeShape, turn: u32) -> Ino {
 }
 
 // The number of the inode that was made at this place, the root's being the first number.
-fn inode_at(place: u64) -> Ino
+pub(crate) fn inode_at(place: u64) -> Ino
     requires { place ≤ 60000 }
 {
     Ino(ROOT.0 + 1 + place)
@@ -149,7 +145,7 @@ fn name_of(alloc: Global, place: u64) -> Result<Bytes, Fault> {
     Ok(Bytes::read(alloc, name.as_bytes())?)
 }
 
-fn mode() -> Result<Mode, Fault> {
+pub(crate) fn mode() -> Result<Mode, Fault> {
     Mode::new(MODE).ok_or(Fault::Refused)
 }
 
@@ -161,10 +157,10 @@ fn answer(core: &mut Core, event: Event) -> Result<u64, Fault> {
     }
 }
 
-// Gives the client a session, and the core a tree of this shape.
-fn build(alloc: Global, core: &mut Core, shape: TreeShape) -> Result<(), Fault> {
+// Gives a client a session in which it may do all.
+pub(crate) fn open_session(alloc: Global, core: &mut Core, client: ClientId) -> Result<(), Fault> {
     let session = Event::Session {
-        client: CLIENT,
+        client,
         caller: Caller {
             uid: USER,
             gid: USER,
@@ -173,6 +169,12 @@ fn build(alloc: Global, core: &mut Core, shape: TreeShape) -> Result<(), Fault> 
         grants: read_grants(alloc, b"allow rw")?,
     };
     let _done = core.apply(PASS, session)?;
+    Ok(())
+}
+
+// Gives the client a session, and the core a tree of this shape.
+pub(crate) fn build(alloc: Global, core: &mut Core, shape: TreeShape) -> Result<(), Fault> {
+    open_session(alloc, core, CLIENT)?;
     for place in 0..shape.size.number() {
         let event = birth(alloc, shape.layout, place)?;
         let _made = answer(core, event)?;
@@ -201,18 +203,4 @@ fn birth(alloc: Global, layout: Layout, place: u64) -> Result<Event, Fault>
             mode,
         },
     })
-}
-
-// A core on a tree that has its root alone.
-fn fresh(alloc: Global) -> Result<Core, Fault> {
-    let fs = FsName::read(FS).ok_or(Fault::Refused)?;
-    let attr = Attr {
-        uid: USER,
-        gid: USER,
-        mode: mode()?,
-    };
-    let Ok(tree) = Tree::new(alloc, attr) else {
-        return Err(Fault::NoMemory);
-    };
-    Ok(Core::new(alloc, fs, tree, u32::MAX)?)
 }

@@ -5,6 +5,8 @@
 
 mod command_line;
 mod commands;
+mod core_work;
+mod entries;
 mod fault;
 mod inodes;
 mod judging;

@@ -11,6 +11,10 @@ pub enum Work {
     Lookup(TreeShape),
     /// Have a core make a file in its tree.
     Create(TreeShape),
+    /// Have a core open files, beside so many other inodes that are open.
+    Open(Size),
+    /// Have a core revoke what a client holds on a file, beside so many other inodes that are open.
+    Revoke(Size),
 }
 
 /// What a grant text is like.
@@ -76,6 +80,8 @@ impl Work {
             }
             "lookup" => Some(Work::Lookup(TreeShape::read(shape)?)),
             "create" => Some(Work::Create(TreeShape::read(shape)?)),
+            "open" => Some(Work::Open(Size::read(shape)?)),
+            "revoke" => Some(Work::Revoke(Size::read(shape)?)),
             _ => None,
         }
     }

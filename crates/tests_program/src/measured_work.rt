@@ -19,7 +19,7 @@ fn tree(size: Size, layout: Layout) -> TreeShape {
 }
 
 // Words, and the work that each names.
-fn works() -> [(&'static str, Work); 10] {
+fn works() -> [(&'static str, Work); 12] {
     use Callers::{Any, OneUser};
     use Layout::{Deep, Flat};
     use Size::{Hundred, SixtyThousand, TenThousand, Thousand};
@@ -34,6 +34,8 @@ fn works() -> [(&'static str, Work); 10] {
         ("lookup-60000-deep", Work::Lookup(tree(SixtyThousand, Deep))),
         ("create-1000-flat", Work::Create(tree(Thousand, Flat))),
         ("create-10000-deep", Work::Create(tree(TenThousand, Deep))),
+        ("open-100", Work::Open(Hundred)),
+        ("revoke-60000", Work::Revoke(SixtyThousand)),
     ]
 }
 
@@ -45,7 +47,7 @@ fn each_word_names_its_work(rt: HostRuntime) {
 }
 
 /// Words that name no work.
-const NO_WORK: [&str; 14] = [
+const NO_WORK: [&str; 16] = [
     "",
     "verdict",
     "verdict-1-plain",
@@ -60,6 +62,8 @@ const NO_WORK: [&str; 14] = [
     "lookup-200-flat",
     "create-100-plain",
     "remove-100-flat",
+    "open-200",
+    "revoke-100-flat",
 ];
 
 #[test]
@@ -126,7 +130,7 @@ fn expect(
 }
 
 /// A piece of work, how many times it is done, and what is printed.
-const SUMS: [(&str, &str, &str); 11] = [
+const SUMS: [(&str, &str, &str); 13] = [
     // The last grant is the one that allows.
     ("verdict-1-1-plain", "7", "sum 7\n"),
     ("verdict-4-8-ids", "7", "sum 28\n"),
@@ -142,6 +146,9 @@ const SUMS: [(&str, &str, &str); 11] = [
     ("create-100-flat", "3", "sum 309\n"),
     ("create-100-deep", "3", "sum 309\n"),
     ("create-100-deep", "0", "sum 0\n"),
+    // Each opening is the first change of its entry; the revocations are the changes 2, 4 and 6.
+    ("open-100", "3", "sum 3\n"),
+    ("revoke-100", "3", "sum 12\n"),
 ];
 
 // Runs the program on a piece of work twice.
@@ -169,6 +176,8 @@ const WRONG_LINES: &[&[&str]] = &[
     &["parse-2-plain", "1"],
     // One inode more than the tree has room for.
     &["create-60000-flat", "5536"],
+    // One opening more than there are files for.
+    &["open-100", "1025"],
 ];
 
 #[test]

@@ -1,0 +1,56 @@
+//! The work on a core, and its one owner.
+
+use crate::entries::{open, revoke};
+use crate::fault::Fault;
+use crate::inodes::{USER, create, look_up, mode};
+use crate::work::{Size, TreeShape};
+use capcore::Core;
+use capgrant::Attr;
+use capspec::FsName;
+use inotree::Tree;
+use std::alloc::Global;
+
+const FS: &[u8] = b"cephfs";
+
+// What is done with a core.
+#[derive(Clone, Copy)]
+pub(crate) enum CoreWork {
+    // Inodes are looked up.
+    Lookup(TreeShape),
+    // Files are made.
+    Create(TreeShape),
+    // Files are opened.
+    Open(Size),
+    // Capabilities are revoked.
+    Revoke(Size),
+}
+
+/// Does the work so many times on a core, and returns the sum over its answers. No other function owns a core: what it
+/// keeps is carried through each way out of its owner.
+pub(crate) fn on_a_core(alloc: Global, work: CoreWork, times: u32) -> Result<u64, Fault> {
+    let mut core = fresh(alloc)?;
+    work_on(alloc, &mut core, work, times)
+}
+
+fn work_on(alloc: Global, core: &mut Core, work: CoreWork, times: u32) -> Result<u64, Fault> {
+    match work {
+        CoreWork::Lookup(shape) => look_up(alloc, core, shape, times),
+        CoreWork::Create(shape) => create(alloc, core, shape, times),
+        CoreWork::Open(size) => open(alloc, core, size, times),
+        CoreWork::Revoke(size) => revoke(alloc, core, size, times),
+    }
+}
+
+// A core on a tree that has its root alone.
+fn fresh(alloc: Global) -> Result<Core, Fault> {
+    let fs = FsName::read(FS).ok_or(Fault::Refused)?;
+    let attr = Attr {
+        uid: USER,
+        gid: USER,
+        mode: mode()?,
+    };
+    let Ok(tree) = Tree::new(alloc, attr) else {
+        return Err(Fault::NoMemory);
+    };
+    Ok(Core::new(alloc, fs, tree, u32::MAX)?)
+}

@@ -1,0 +1,171 @@
+//! The work on capabilities: files are opened, or two clients pass what they hold to and fro, beside the entries of a third.
+
+use crate::fault::Fault;
+use crate::inodes::{Asking, CLIENT, PASS, ask, build, inode_at, open_session};
+use crate::work::{Layout, Size, TreeShape};
+use capbits::{Cap, CapSet, ClientId, Ino};
+use capcore::{Core, Event, Message, OpenMode, Reply};
+use inotree::ROOT;
+use std::alloc::Global;
+
+/// How many files there are that can be opened.
+const FILES: u32 = 1024;
+
+/// Who reads what the first client writes.
+const READER: ClientId = ClientId(2);
+
+/// Who has an entry on each inode of the tree.
+const HOLDER: ClientId = ClientId(3);
+
+/// How many messages a client takes at most.
+const MESSAGES: u32 = 9;
+
+/// Opens so many files that nobody has open, and returns the sum of the numbers of the changes that are shown.
+pub(crate) fn open(alloc: Global, core: &mut Core, size: Size, times: u32) -> Result<u64, Fault> {
+    if times > FILES {
+        return Err(Fault::TooManyOpenings);
+    }
+    hold(alloc, core, size)?;
+    make_files(alloc, core, size, FILES)?;
+    open_files(core, size, times)
+}
+
+/// Has what a client holds on one file revoked so many times, and returns the sum of the numbers of these revocations.
+pub(crate) fn revoke(alloc: Global, core: &mut Core, size: Size, times: u32) -> Result<u64, Fault> {
+    hold(alloc, core, size)?;
+    make_files(alloc, core, size, 1)?;
+    share(core, file_at(size, 0))?;
+    revoke_often(core, file_at(size, 0), times)
+}
+
+// The tree that holds so many inodes, all in the root.
+fn tree_of(size: Size) -> TreeShape {
+    TreeShape {
+        size,
+        layout: Layout::Flat,
+    }
+}
+
+// Builds the tree, gives all clients their sessions, and has the third open each inode.
+fn hold(alloc: Global, core: &mut Core, size: Size) -> Result<(), Fault> {
+    build(alloc, core, tree_of(size))?;
+    open_session(alloc, core, READER)?;
+    open_session(alloc, core, HOLDER)?;
+    for place in 0..size.number() {
+        let _seq = shown(core, opening(HOLDER, inode_at(place), OpenMode::Read))?;
+    }
+    Ok(())
+}
+
+// Makes so many files, behind the inodes of the tree.
+fn make_files(alloc: Global, core: &mut Core, size: Size, count: u32) -> Result<(), Fault> {
+    let _sum = ask(alloc, core, tree_of(size), Asking::Create, count)?;
+    Ok(())
+}
+
+// The file that was made at this turn, behind the inodes of the tree.
+fn file_at(size: Size, turn: u32) -> Ino {
+    Ino(ROOT.0 + 1 + size.number() + u64::from(turn))
+}
+
+// Opens so many of the files, and returns the sum of the numbers of the changes that are shown.
+fn open_files(core: &mut Core, size: Size, times: u32) -> Result<u64, Fault> {
+    let mut sum: u64 = 0;
+    for turn in 0..times {
+        let seq = shown(core, opening(CLIENT, file_at(size, turn), OpenMode::Read))?;
+        sum = sum.wrapping_add(seq);
+    }
+    Ok(sum)
+}
+
+// The reader opens the file and keeps the pin alone, and the first client opens it to write.
+fn share(core: &mut Core, file: Ino) -> Result<(), Fault> {
+    let _read = shown(core, opening(READER, file, OpenMode::Read))?;
+    done(
+        core,
+        release(READER, file, CapSet::of(&[Cap::Fs, Cap::Fc, Cap::Fr])),
+    )?;
+    let _written = shown(core, opening(CLIENT, file, OpenMode::Write))?;
+    Ok(())
+}
+
+// So many rounds, and the sum of the numbers of their revocations.
+fn revoke_often(core: &mut Core, file: Ino, times: u32) -> Result<u64, Fault> {
+    let mut sum: u64 = 0;
+    for _ in 0..times {
+        let seq = give_way(core, file)?;
+        take_back(core, file)?;
+        sum = sum.wrapping_add(seq);
+    }
+    Ok(sum)
+}
+
+// The reader wants to read: what the first client may not keep is revoked, and the client is told of it and acknowledges.
+// The number of this revocation.
+fn give_way(core: &mut Core, file: Ino) -> Result<u64, Fault> {
+    let _waiting = shown(core, want(READER, file, CapSet::of(&[Cap::Fr])))?;
+    let seq = change_told(core, CLIENT)?;
+    done(core, acknowledgement(CLIENT, file, seq))?;
+    Ok(seq)
+}
+
+// The reader is told that it may read and gives that back, and the first client wants again what was revoked.
+fn take_back(core: &mut Core, file: Ino) -> Result<(), Fault> {
+    let _given = change_told(core, READER)?;
+    done(core, release(READER, file, CapSet::of(&[Cap::Fr])))?;
+    let writing = CapSet::of(&[Cap::Fx, Cap::Fw, Cap::Fb]);
+    let _again = shown(core, want(CLIENT, file, writing))?;
+    Ok(())
+}
+
+fn opening(client: ClientId, ino: Ino, mode: OpenMode) -> Event {
+    Event::Open { client, ino, mode }
+}
+
+fn want(client: ClientId, ino: Ino, caps: CapSet) -> Event {
+    Event::Want { client, ino, caps }
+}
+
+fn acknowledgement(client: ClientId, ino: Ino, seq: u64) -> Event {
+    Event::Ack { client, ino, seq }
+}
+
+fn release(client: ClientId, ino: Ino, caps: CapSet) -> Event {
+    Event::Release { client, ino, caps }
+}
+
+// The number of the last change of what the core shows.
+fn shown(core: &mut Core, event: Event) -> Result<u64, Fault> {
+    match core.apply(PASS, event)? {
+        Reply::Opened { seq, .. } => Ok(seq),
+        _ => Err(Fault::Refused),
+    }
+}
+
+// Has an event done that is answered by nothing else.
+fn done(core: &mut Core, event: Event) -> Result<(), Fault> {
+    match core.apply(PASS, event)? {
+        Reply::Done => Ok(()),
+        _ => Err(Fault::Refused),
+    }
+}
+
+// The number of the one change that a client is told of.
+fn change_told(core: &mut Core, client: ClientId) -> Result<u64, Fault> {
+    let poll = Event::Poll {
+        client,
+        max: MESSAGES,
+    };
+    match core.apply(PASS, poll)? {
+        Reply::Messages(list) => seq_of(list.as_slice()),
+        _ => Err(Fault::Refused),
+    }
+}
+
+// The number of the change, where it is the only message.
+fn seq_of(messages: &[Message]) -> Result<u64, Fault> {
+    match messages {
+        [Message::Caps { seq, .. }] => Ok(*seq),
+        _ => Err(Fault::Refused),
+    }
+}
