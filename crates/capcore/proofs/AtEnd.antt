@@ -1,5 +1,5 @@
 -- The end of a step at one inode: its entries one by one, and the inode itself.
-use Rattle.std.proofs.Common.{◌≡◌, ℕ, zero, suc, ◌<◌, Bool, true, false, cond, ◌||◌, Option, Some, None, List, [], ◌∷◌, length, filter, map as each, take, get_or, refl, sym, ap, ◌∙◌, arith}
+use Rattle.std.proofs.Common.{◌≡◌, ℕ, zero, suc, ◌<◌, Bool, true, false, cond, ◌||◌, Option, Some, None, List, [], ◌∷◌, length, filter, map as each, take, get_or, refl, sym, ap, ◌∙◌, arith, true≢false}
 use Rattle.std.specs.Prelude.{All, IfSome}
 use Rattle.std.specs.List.{find, list_any, fold, IsDistinct}
 use Rattle.std.specs.FinMap as map
@@ -82,10 +82,7 @@ yet-unchanged g t (k ∷ ks) (suc i) d apart inside =
     let x : Holder = get_or ks i d in
     let differ : same k x ≡ false = apart_from_distinct same (k ∷ ks) 0 (suc i) d apart (omega arith) inside in
     yet-unchanged g (changed_by g t k) ks i d apart.1 (omega arith)
-    ∙ entry_at-changed_other t k x (λ e. g (record { holder = k; entry = e })) (λ is. true_not_false (sym (same_equiv.refl k) ∙ ap (same k) (sym is) ∙ differ))
-  where
-    true_not_false : true ≡ false → ⊥
-    true_not_false e = cc
+    ∙ entry_at-changed_other t k x (λ e. g (record { holder = k; entry = e })) (λ is. true≢false (sym (same_equiv.refl k) ∙ ap (same k) (sym is) ∙ differ))
 
 -- ---- all entries on the inode
 

@@ -33,25 +33,12 @@ use Rattle.lockmachine.specs.Moves.{IsQuiet}
 use Rattle.lockmachine.proofs.PolicyElsewhere.{wants-kept}
 use Rattle.capcore.specs.State.{State}
 use Rattle.capcore.specs.Direct.{with_scene}
-use Rattle.capcore.specs.Finish.{allowed_by, due, finished}
+use Rattle.capcore.specs.Finish.{due, finished}
+use Rattle.capcore.specs.Finishing.{against_under, allowed_under}
 use Rattle.capcore.specs.Headline.{IsInPlace}
 use Rattle.capcore.specs.Sound.{IsSoundEntry, IsSound}
 use Rattle.capcore.specs.Leaving.{with_parts, LeavesEntries}
 use Rattle.capcore.proofs.Finishing.{same-finished}
-
--- ---- what reads the locks of one inode
-
--- of an entry, what is being revoked, and what is allowed, by the locks of its inode
-abbrev pub against_by : EntryRow → Option InodeLocks → Caps
-against_by row o =
-    union (against_lock A row (option_map (lock_in A) o))
-    (union (against_lock L row (option_map (lock_in L) o)) (union (against_lock X row (option_map (lock_in X) o)) (against_lock F row (option_map (lock_in F) o))))
-
-abbrev pub allowed_with : EntryRow → Option InodeLocks → Caps
-allowed_with row o =
-    union (caps_in (P ∷ []))
-    (union (allowed_by A row (option_map (lock_in A) o))
-    (union (allowed_by L row (option_map (lock_in L) o)) (union (allowed_by X row (option_map (lock_in X) o)) (allowed_by F row (option_map (lock_in F) o)))))
 
 -- ---- lists of rows
 
@@ -123,12 +110,12 @@ module _ (s : State) (sound : IsSound s) (tree : Nodes) (sessions : SessionTable
   same_locks row inside = let entry = entry_of s sound row inside in leaves.locks row.holder.ino.0 entry.on_inode
 
   same_against : (row : EntryRow) → Contains s.scene.table.rows row → against new row ≡ against s.scene row
-  same_against row inside = ap (against_by row) (same_locks row inside)
+  same_against row inside = ap (λ o. against_under o row) (same_locks row inside)
 
   same_due : (row : EntryRow) → Contains s.scene.table.rows row → due new row ≡ due s.scene row
   same_due row inside =
       let want = All-contains (λ row. effective_want s.scene.fs tree sessions row ≡ effective_want s.scene.fs s.scene.tree s.scene.sessions row) s.scene.table.rows row leaves.wants inside in
-      λ i. meet (want i) (allowed_with row (same_locks row inside i))
+      λ i. meet (want i) (allowed_under (same_locks row inside i) row)
 
   entry_kept : (row : EntryRow) → Contains s.scene.table.rows row → IsSoundEntry new row
   entry_kept row inside = let was = entry_of s sound row inside in record {

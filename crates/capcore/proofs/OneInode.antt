@@ -5,6 +5,7 @@ use Rattle.std.specs.Option.{option_map, option_map_or}
 use Rattle.std.specs.Cmp.{nat_cmp_total}
 use Rattle.std.specs.Ordering.{nat_cmp}
 use Rattle.std.specs.FinMap as finite
+use Rattle.std.proofs.lemmas.Map.Views.{any-filter_same}
 use Rattle.std.proofs.lemmas.Bool.{or_parts, or_right}
 use Rattle.std.proofs.lemmas.List.Elements.{All-contains, All-contains_itself, All-filter}
 use Rattle.std.proofs.lemmas.List.Folds.{list_any_at}
@@ -37,9 +38,10 @@ use Rattle.capcore.specs.State.{State}
 use Rattle.capcore.specs.Finish.{allowed_by, due, issue_row, issue, is_kept, forget, told_before, number_row, finished}
 use Rattle.capcore.specs.Headline.{holds, IssuesExactly}
 use Rattle.capcore.specs.Sound.{IsSound, IsSoundEntry}
+use Rattle.capcore.specs.Finishing.{against_under, allowed_under}
 use Rattle.capcore.specs.Touching.{Touches, SettlesAt, finished_entry, finished_at}
 use Rattle.capcore.proofs.Finishing.{same-issue_row, same-renumbered, or_inside, kept_by, same_kept}
-use Rattle.capcore.proofs.Leaving.{against_by, allowed_with, found-contains}
+use Rattle.capcore.proofs.Leaving.{found-contains}
 
 -- ---- lists of rows
 
@@ -60,12 +62,9 @@ contains-filter p rows row inside = All-contains (Contains rows) (filter p rows)
 pub any-contains : (p : EntryRow → Bool) (rows : List EntryRow) (row : EntryRow) → Contains rows row → p row ≡ true → list_any p rows ≡ true
 any-contains p rows row (k, room, is) passes = list_any_at p rows k row room (ap p is ∙ passes)
 
+-- what a test finds, it finds among those that pass it
 pub any-filter : (p : EntryRow → Bool) (rows : List EntryRow) → list_any p (filter p rows) ≡ list_any p rows
-any-filter p [] = refl
-any-filter p (x ∷ xs) = elim (p x) as (λ b. p x ≡ b → list_any p (cond b (x ∷ filter p xs) (filter p xs)) ≡ (b || list_any p xs)) [
-  | true ↦ λ e. ap (λ b. b || list_any p (filter p xs)) e
-  | false ↦ λ e. any-filter p xs
-] refl
+any-filter p rows = any-filter_same p p true (λ row passes. passes) rows
 
 pub any-map : (p : EntryRow → Bool) (g : EntryRow → EntryRow) → ((row : EntryRow) → p (g row) ≡ p row) → (rows : List EntryRow) → list_any p (map g rows) ≡ list_any p rows
 any-map p g same [] = refl
@@ -230,7 +229,7 @@ module _ (ino : ℕ) (old : State) (table : Table) (locks : LockMap) (sound : Is
   numbered_row : (row : EntryRow) → Contains table.rows row → number_row old.scene first last (issue_row now row) ≡ remade (finished_entry old.scene now) row
   numbered_row row inside = λ i. record row {
     entry = renumbered (told_before old.scene (row_found table row is_table inside i))
-        (minus (issue_row now row).entry.held (against_by (issue_row now row) (locks_kept row inside i))) (issue_row now row).entry;
+        (minus (issue_row now row).entry.held (against_under (locks_kept row inside i) (issue_row now row))) (issue_row now row).entry;
   }
 
   one_row : (row : EntryRow) → Contains table.rows row → number_row old.scene first last (issue_row now row) ≡ ended row
@@ -273,7 +272,7 @@ module _ (ino : ℕ) (old : State) (table : Table) (locks : LockMap) (sound : Is
               true≢false (sym (any_ended ∙ any-contains (is_of_inode (record { 0 = ino })) table.rows row inside (eq-eqb row.holder.ino.0 ino is)) ∙ parts.1) in
               let want = want-forgotten old.scene.fs old.scene.tree old.scene.sessions tree ino (is_stray _ parts.0) row off in
               let states = remove-other nat_cmp_total finite.nat_cmp-IsAntisymmetric locks.states ino row.holder.ino.0 off in
-              λ i. meet (want i) (allowed_with row (states i)))
+              λ i. meet (want i) (allowed_under (states i) row))
         ] refl
 
     pub rows_last : (finished_at ino old.scene now).table ≡ numbered.table

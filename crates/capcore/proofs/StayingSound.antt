@@ -7,7 +7,6 @@ use Rattle.std.specs.Cmp.{nat_eq_equiv}
 use Rattle.std.specs.FinMap as map
 use Rattle.std.proofs.lemmas.Bool.{eqb-false}
 use Rattle.std.proofs.lemmas.List.Elements.{All-contains, All-contains_itself, All-filter, All-map, All-same, All-weaker}
-use Rattle.std.proofs.lemmas.Map.Views.{any-filter_same}
 use Rattle.capbits.specs.declared.cap.Cap.TheVariants.{P}
 use Rattle.capbits.specs.declared.cap.Part.{Part}
 use Rattle.capbits.specs.declared.cap.Part.TheVariants.{A}
@@ -43,34 +42,11 @@ use Rattle.capcore.specs.Direct.{with_scene}
 use Rattle.capcore.specs.Finish.{due, allowed_to, is_kept}
 use Rattle.capcore.specs.Sound.{IsSoundEntry, IsSound, AreGiven}
 use Rattle.capcore.specs.Touching.{IsTouchedEntry, Touches, SettlesAt, finished_at}
+use Rattle.capcore.proofs.OneInode.{any-filter, any-map, filter-contains, row_elsewhere}
 use Rattle.capcore.proofs.IssuedRows.{ended_row, want-ended, told-ended, revoked-ended, seq-ended, effective-ended, holds-due, holds-pin, in_row-ended}
 use Rattle.capcore.proofs.IssuedRest.{on_it, last_row, issued_at, by_place, of_inode-last, rest-issued}
 use Rattle.capcore.proofs.Placed.{in_row}
 use Rattle.capcore.proofs.Forgotten.{all_rows, same-due, IsSoundBut, sound-forgotten}
-
--- ---- lists of rows
-
-any-each : (q : EntryRow → Bool) (g : EntryRow → EntryRow) → ((row : EntryRow) → q (g row) ≡ q row) → (rows : List EntryRow) → list_any q (each_of g rows) ≡ list_any q rows
-any-each q g same [] = refl
-any-each q g same (row ∷ rows) = λ i. same row i || any-each q g same rows i
-
--- what a test finds, it finds among those that pass it
-any-filter : (p : EntryRow → Bool) (rows : List EntryRow) → list_any p (filter p rows) ≡ list_any p rows
-any-filter p rows = any-filter_same p p true (λ row passes. passes) rows
-
-contains-filter : (p : EntryRow → Bool) (rows : List EntryRow) (row : EntryRow) → Contains rows row → p row ≡ true → Contains (filter p rows) row
-contains-filter p [] row (k, room, is) passes = absurd (omega arith)
-contains-filter p (x ∷ xs) row (zero, room, is) passes =
-    let e : x ≡ row = is in
-    subst (λ b. Contains (cond b (x ∷ filter p xs) (filter p xs)) row) (sym (ap p e ∙ passes)) (0, omega arith, e)
-contains-filter p (x ∷ xs) row (suc k, room, is) passes = later (p x) (contains-filter p xs row (k, omega arith, is) passes)
-  where
-    later : (b : Bool) → Contains (filter p xs) row → Contains (cond b (x ∷ filter p xs) (filter p xs)) row
-    later false inside = inside
-    later true inside = (suc inside.0, omega (arith, inside.1), inside.2)
-
-contains-before : (p : EntryRow → Bool) (rows : List EntryRow) (row : EntryRow) → Contains (filter p rows) row → Contains rows row
-contains-before p rows row inside = All-contains (Contains rows) (filter p rows) row (All-filter p (Contains rows) rows (All-contains_itself rows)) inside
 
 -- ---- moves keep the inodes that have locks
 
@@ -145,9 +121,7 @@ module _ (ino : ℕ) (old : State) (table : Table) (locks : LockMap) where
     differs row off = eqb-false row.holder.ino.0 ino off
 
     old_row : (row : EntryRow) → Contains table.rows row → on row ≡ false → Contains old.scene.table.rows row
-    old_row row inside off =
-        contains-before (is_of_inode row.holder.ino) old.scene.table.rows row
-        (subst (λ rows. Contains rows row) (g.others row.holder.ino (differs row off)) (contains-filter (is_of_inode row.holder.ino) table.rows row inside (nat_eq_equiv.refl row.holder.ino.0)))
+    old_row row inside off = row_elsewhere ino old.scene.table table g.others row inside (differs row off)
 
     of_its_inode : (k : Holder) (row : EntryRow) → is_row_of k row ≡ true → is_of_inode k.ino row ≡ true
     of_its_inode k row is = ap (λ (h : Holder). h.ino.0 == k.ino.0) (sym (same-is k row.holder is)) ∙ nat_eq_equiv.refl k.ino.0
@@ -160,7 +134,7 @@ module _ (ino : ℕ) (old : State) (table : Table) (locks : LockMap) where
         ∙ find-filter_kept (is_row_of k) (is_of_inode k.ino) (of_its_inode k) table.rows ∙ row_found table row g.table inside
 
     touched : (row : EntryRow) → Contains table.rows row → on row ≡ true → IsTouchedEntry first row
-    touched row inside at = All-contains (IsTouchedEntry first) (filter on table.rows) row g.each (contains-filter on table.rows row inside at)
+    touched row inside at = All-contains (IsTouchedEntry first) (filter on table.rows) row g.each (filter-contains on table.rows row inside at)
 
     -- ---- what is held is in its rows
 
@@ -222,7 +196,7 @@ module _ (ino : ℕ) (old : State) (table : Table) (locks : LockMap) where
     strays_last q off gone =
         let sound = g.sound in
         let of_it = is_of_inode (record { 0 = q }) in
-        any-each of_it last_of (of_inode-last old.scene settled ino q) table.rows
+        any-map of_it last_of (of_inode-last old.scene settled ino q) table.rows
         ∙ sym (any-filter of_it table.rows) ∙ ap (list_any of_it) (g.others (record { 0 = q }) off) ∙ any-filter of_it old.scene.table.rows ∙ sound.strays q gone
 
     -- ---- all together

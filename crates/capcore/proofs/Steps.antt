@@ -1,11 +1,12 @@
 -- An event of today by itself is a whole step: it leaves alone all that entries and requests depend on.
 use Rattle.std.proofs.Common.{◌≡◌, ℕ, ◌+◌, false, [], ◌++◌, Option, Some, None, refl, sym, ap, subst, ◌∙◌, append-nil, true≢false}
+use Rattle.std.proofs.lemmas.Option.{none-some}
 use Rattle.capbits.specs.Refusal.{first_failing}
 use Rattle.inotree.specs.Inodes.{with_snapshot, without_snapshot}
 use Rattle.inotree.specs.Tree.{IsTree, child}
 use Rattle.sessiontab.specs.Tests.{new_session_tests}
 use Rattle.captable.specs.declared.entry.Holder.{Holder}
-use Rattle.captable.specs.Table.{IsTable}
+use Rattle.captable.specs.Table.{IsTable, holder}
 use Rattle.capcore.specs.declared.event.Event.{Event}
 use Rattle.capcore.specs.declared.event.Event.TheVariants as event
 use Rattle.capcore.specs.declared.reply.Reply.{Reply}
@@ -31,9 +32,6 @@ use Rattle.capcore.proofs.Untouched.{nothing-leaves, session-leaves, changed-lea
 -- the event is about no entry, and asks for no messages
 abbrev pub IsAlone : Event → Type 0
 IsAlone e = (touched_by e ≡ None) × (is_poll e ≡ false)
-
-some_touched : {k : Holder} → ◌≡◌ {A = Option Holder} (Some k) None → ⊥
-some_touched e = cc
 
 -- ---- the event by itself
 
@@ -70,10 +68,10 @@ none_shown-effect old (event.Create client dir name mode) alone s = refl
 none_shown-effect old (event.Mkdir client dir name mode) alone s = refl
 none_shown-effect old (event.MakeSnapshot client ino name) alone s = refl
 none_shown-effect old (event.RemoveSnapshot client ino name) alone s = refl
-none_shown-effect old (event.Open client ino mode) alone s = absurd (some_touched alone.0)
-none_shown-effect old (event.Want client ino caps) alone s = absurd (some_touched alone.0)
-none_shown-effect old (event.Ack client ino seq) alone s = absurd (some_touched alone.0)
-none_shown-effect old (event.Release client ino caps) alone s = absurd (some_touched alone.0)
+none_shown-effect old (event.Open client ino mode) alone s = absurd (none-some (holder client ino) (sym alone.0))
+none_shown-effect old (event.Want client ino caps) alone s = absurd (none-some (holder client ino) (sym alone.0))
+none_shown-effect old (event.Ack client ino seq) alone s = absurd (none-some (holder client ino) (sym alone.0))
+none_shown-effect old (event.Release client ino caps) alone s = absurd (none-some (holder client ino) (sym alone.0))
 none_shown-effect old (event.Poll client max) alone s = absurd (true≢false alone.1)
 
 none_shown : (old : State) (e : Event) → IsAlone e → (o : Option Stopped) (s : State) → shown (effect_unless old e o).answer s ≡ s
@@ -130,10 +128,10 @@ module _ (old : State) (sound : IsSound old) (tree : IsTree old.scene.tree) wher
   effect-left (event.Mkdir client dir name mode) alone none = record { leaves = birth-leaves old sound Directory dir.0 name _ tree; is = refl }
   effect-left (event.MakeSnapshot client ino name) alone none = record { leaves = changed-leaves old sound (with_snapshot name) ino.0 (λ n. refl) (λ n. refl); is = refl }
   effect-left (event.RemoveSnapshot client ino name) alone none = record { leaves = changed-leaves old sound (without_snapshot name) ino.0 (λ n. refl) (λ n. refl); is = refl }
-  effect-left (event.Open client ino mode) alone none = absurd (some_touched alone.0)
-  effect-left (event.Want client ino caps) alone none = absurd (some_touched alone.0)
-  effect-left (event.Ack client ino seq) alone none = absurd (some_touched alone.0)
-  effect-left (event.Release client ino caps) alone none = absurd (some_touched alone.0)
+  effect-left (event.Open client ino mode) alone none = absurd (none-some (holder client ino) (sym alone.0))
+  effect-left (event.Want client ino caps) alone none = absurd (none-some (holder client ino) (sym alone.0))
+  effect-left (event.Ack client ino seq) alone none = absurd (none-some (holder client ino) (sym alone.0))
+  effect-left (event.Release client ino caps) alone none = absurd (none-some (holder client ino) (sym alone.0))
   effect-left (event.Poll client max) alone none = absurd (true≢false alone.1)
 
   left_unless : (e : Event) → IsAlone e → (o : Option Stopped) → judged old.scene e ≡ o → IsLeft old (effect_unless old e o).state

@@ -1,5 +1,6 @@
 -- An event that is about one entry is a whole step, when the locks of its inode have settled and the step has ended there.
 use Rattle.std.proofs.Common.{◌≡◌, List, [], ◌∷◌, ◌++◌, Option, Some, None, refl, sym, ap, ◌∙◌, append-nil, true≢false}
+use Rattle.std.proofs.lemmas.Option.{none-some}
 use Rattle.captable.specs.declared.entry.Holder.{Holder}
 use Rattle.lockmachine.specs.declared.moves.Move.{Move}
 use Rattle.lockmachine.specs.declared.moves.Move.TheVariants.{Begin, End, Serve, Settled}
@@ -38,35 +39,32 @@ as_made old (Settled ∷ steps) new (first, lock, runs) = absurd (true≢false (
 
 -- ---- what the event by itself leaves out
 
-some_event : {k : Holder} → ◌≡◌ {A = Option Holder} None (Some k) → ⊥
-some_event e = cc
-
 module _ (old : State) (k : Holder) where
   none_dropped : (e : Event) → touched_by e ≡ Some k → (effect old e).dropped ≡ []
-  none_dropped (event.Session client caller grants) is = absurd (some_event is)
-  none_dropped (event.Lookup client dir name) is = absurd (some_event is)
-  none_dropped (event.Create client dir name mode) is = absurd (some_event is)
-  none_dropped (event.Mkdir client dir name mode) is = absurd (some_event is)
-  none_dropped (event.MakeSnapshot client ino name) is = absurd (some_event is)
-  none_dropped (event.RemoveSnapshot client ino name) is = absurd (some_event is)
+  none_dropped (event.Session client caller grants) is = absurd (none-some k is)
+  none_dropped (event.Lookup client dir name) is = absurd (none-some k is)
+  none_dropped (event.Create client dir name mode) is = absurd (none-some k is)
+  none_dropped (event.Mkdir client dir name mode) is = absurd (none-some k is)
+  none_dropped (event.MakeSnapshot client ino name) is = absurd (none-some k is)
+  none_dropped (event.RemoveSnapshot client ino name) is = absurd (none-some k is)
   none_dropped (event.Open client ino mode) is = refl
   none_dropped (event.Want client ino caps) is = refl
   none_dropped (event.Ack client ino seq) is = refl
   none_dropped (event.Release client ino caps) is = refl
-  none_dropped (event.Poll client max) is = absurd (some_event is)
+  none_dropped (event.Poll client max) is = absurd (none-some k is)
 
   same_messages : (e : Event) → touched_by e ≡ Some k → (effect old e).state ≡ with_scene old (effect old e).state.scene
-  same_messages (event.Session client caller grants) is = absurd (some_event is)
-  same_messages (event.Lookup client dir name) is = absurd (some_event is)
-  same_messages (event.Create client dir name mode) is = absurd (some_event is)
-  same_messages (event.Mkdir client dir name mode) is = absurd (some_event is)
-  same_messages (event.MakeSnapshot client ino name) is = absurd (some_event is)
-  same_messages (event.RemoveSnapshot client ino name) is = absurd (some_event is)
+  same_messages (event.Session client caller grants) is = absurd (none-some k is)
+  same_messages (event.Lookup client dir name) is = absurd (none-some k is)
+  same_messages (event.Create client dir name mode) is = absurd (none-some k is)
+  same_messages (event.Mkdir client dir name mode) is = absurd (none-some k is)
+  same_messages (event.MakeSnapshot client ino name) is = absurd (none-some k is)
+  same_messages (event.RemoveSnapshot client ino name) is = absurd (none-some k is)
   same_messages (event.Open client ino mode) is = refl
   same_messages (event.Want client ino caps) is = refl
   same_messages (event.Ack client ino seq) is = refl
   same_messages (event.Release client ino caps) is = refl
-  same_messages (event.Poll client max) is = absurd (some_event is)
+  same_messages (event.Poll client max) is = absurd (none-some k is)
 
 -- ---- the step
 

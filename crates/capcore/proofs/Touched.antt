@@ -5,6 +5,7 @@ use Rattle.std.specs.Prelude.{IsTrue, All}
 use Rattle.std.specs.List.{find}
 use Rattle.std.specs.Option.{option_map, option_map_or}
 use Rattle.std.specs.FinMap as map
+use Rattle.std.proofs.lemmas.Option.{none-some}
 use Rattle.std.proofs.lemmas.List.Elements.{All-cons, All-head, All-tail, All-push, All-contains, All-contains_itself, All-weaker, All-filter, All-same}
 use Rattle.capbits.specs.declared.cap.Cap.TheVariants.{P, Fs, Fx, Fc, Fr, Fw, Fb}
 use Rattle.capbits.specs.declared.cap.Part.{Part}
@@ -103,21 +104,18 @@ touched-state old client ino touch free =
 
 -- ---- what is asked by an event about one entry
 
-none_some : {k : Holder} → ◌≡◌ {A = Option Holder} None (Some k) → ⊥
-none_some e = cc
-
 pub asked_by : (e : Event) (k : Holder) → touched_by e ≡ Some k → (touch : Touch) × (e ≡ touch_event k.client k.ino touch)
-asked_by (event.Session client caller grants) k is = absurd (none_some is)
-asked_by (event.Lookup client dir name) k is = absurd (none_some is)
-asked_by (event.Create client dir name mode) k is = absurd (none_some is)
-asked_by (event.Mkdir client dir name mode) k is = absurd (none_some is)
-asked_by (event.MakeSnapshot client ino name) k is = absurd (none_some is)
-asked_by (event.RemoveSnapshot client ino name) k is = absurd (none_some is)
+asked_by (event.Session client caller grants) k is = absurd (none-some k is)
+asked_by (event.Lookup client dir name) k is = absurd (none-some k is)
+asked_by (event.Create client dir name mode) k is = absurd (none-some k is)
+asked_by (event.Mkdir client dir name mode) k is = absurd (none-some k is)
+asked_by (event.MakeSnapshot client ino name) k is = absurd (none-some k is)
+asked_by (event.RemoveSnapshot client ino name) k is = absurd (none-some k is)
 asked_by (event.Open client ino mode) k is = let same : holder client ino ≡ k = cc in (Open mode, λ i. event.Open (same i).client (same i).ino mode)
 asked_by (event.Want client ino caps) k is = let same : holder client ino ≡ k = cc in (Want caps, λ i. event.Want (same i).client (same i).ino caps)
 asked_by (event.Ack client ino seq) k is = let same : holder client ino ≡ k = cc in (Ack seq, λ i. event.Ack (same i).client (same i).ino seq)
 asked_by (event.Release client ino caps) k is = let same : holder client ino ≡ k = cc in (Release caps, λ i. event.Release (same i).client (same i).ino caps)
-asked_by (event.Poll client max) k is = absurd (none_some is)
+asked_by (event.Poll client max) k is = absurd (none-some k is)
 
 -- ---- rows
 
