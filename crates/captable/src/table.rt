@@ -5,7 +5,7 @@ use crate::entry::{Entry, Holder, Slot};
 use crate::holders::Holders;
 use crate::nodes::{add_node, holder_at, remove_node, set_entry, touch_node};
 use crate::walk::Walk;
-use cap_arena::TripleLists;
+use cap_arena::{MAX_NODES, TripleLists};
 use capbits::{Cap, CapSet, ClientId, Ino, Refusal};
 use std::alloc::{AllocError, Global};
 use std::collections::HashMap;
@@ -13,7 +13,7 @@ use std::marker::{Brand, Model};
 use std::sync::ledger::Blank;
 
 /// How many entries there may be.
-pub const MAX_ENTRIES: usize = 65_536;
+pub const MAX_ENTRIES: usize = MAX_NODES;
 
 /// The entries of all clients on all inodes, at most `MAX_ENTRIES`, one for each client on an inode. They have two
 /// orders: the order of making, which stays, and the order of recall, in which clients are asked to give capabilities
@@ -304,8 +304,8 @@ impl CapTable {
     pub fn drop_client(&mut self, client: ClientId)
         ensures { self.new ≡ without_client self.old client }
     {
-        'entries: while let Some(holder) = self.first_of(client) {
-            self.remove(holder);
+        'entries: while let Some(first) = self.first_of(client) {
+            self.remove(first);
         }
     }
 
