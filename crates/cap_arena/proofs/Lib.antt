@@ -1,4 +1,5 @@
 pub mod Additions
+pub mod Counts
 pub mod HeadMaps
 pub mod Readers
 pub mod Removals

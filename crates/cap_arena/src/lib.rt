@@ -4,11 +4,13 @@
 
 mod chain;
 mod heads;
+mod laws;
 mod link;
 mod lists;
 mod moves;
 mod nodes;
 
+pub use laws::the_order_of_recall_has_each_node;
 pub use link::{Link, LinkWrites};
 pub use lists::{MAX_NODES, TripleLists};
 pub use nodes::Node;

@@ -29,7 +29,7 @@ module _ (g : EntryRow → Entry) where
   made_of : (k : Holder) (row : EntryRow) → k ≡ row.holder → ◌≡◌ {A = EntryRow} (record row { entry = g (record { holder = k; entry = row.entry }) }) (remade g row)
   made_of k row is = λ i. record row { entry = g (record { holder = is i; entry = row.entry }) }
 
-  one_at_once : (k : Holder) (rows : List EntryRow) → IsDistinct same (holders_of_rows rows) → change_by rows k ≡ map (if_passing (is_row_of k)) rows
+  pub one_at_once : (k : Holder) (rows : List EntryRow) → IsDistinct same (holders_of_rows rows) → change_by rows k ≡ map (if_passing (is_row_of k)) rows
   unfolding IsDistinct
   one_at_once k [] apart = refl
   one_at_once k (row ∷ rows) apart =
@@ -40,7 +40,7 @@ module _ (g : EntryRow → Entry) where
         | false ↦ λ e. ap (λ rest. row ∷ rest) (one_at_once k rows apart.1)
       ] refl
 
-  same_holder : (row : EntryRow) (b : Bool) → (cond b (remade g row) row).holder ≡ row.holder
+  pub same_holder : (row : EntryRow) (b : Bool) → (cond b (remade g row) row).holder ≡ row.holder
   same_holder row true = refl
   same_holder row false = refl
 

@@ -83,7 +83,7 @@ pub is_among-push : (hs : List Holder) (k q : Holder) → is_among (hs ++ k ∷ 
 is_among-push hs k q = list_any-append (same q) hs (k ∷ []) ∙ ap (λ b. is_among hs q || b) (or_false (same q k))
 
 -- a holder with no entry has no row
-no_row : (rows : List EntryRow) (k : Holder) → entry_of (find (is_row_of k) rows) ≡ None → is_among (holders_of_rows rows) k ≡ false
+pub no_row : (rows : List EntryRow) (k : Holder) → entry_of (find (is_row_of k) rows) ≡ None → is_among (holders_of_rows rows) k ≡ false
 no_row [] k none = refl
 no_row (r ∷ rows) k none =
     elim (same k r.holder) as (λ b. entry_of (cond b (Some r) (find (is_row_of k) rows)) ≡ None → (b || is_among (holders_of_rows rows) k) ≡ false)

@@ -6,7 +6,7 @@ ghost use Rattle.captable.specs.Calls as words;
 use capbits::{CapSet, ClientId, Ino};
 
 /// A client on an inode, whose entry stands under both.
-#[derive(Clone, Copy, PartialEq, Eq, Debug)]
+#[derive(Clone, Copy, PartialEq, Eq, Hash, Debug)]
 pub struct Holder {
     /// The client.
     pub client: ClientId,
@@ -40,6 +40,15 @@ pub struct EntryRow {
     pub holder: Holder,
     /// The entry.
     pub entry: Entry,
+}
+
+/// What is kept with the node of a holder: its entry, and how many entries were made before it.
+#[derive(Clone, Copy, PartialEq, Eq, Debug)]
+pub struct Slot {
+    /// The entry.
+    pub entry: Entry,
+    /// How many entries were made before it, those that are gone too.
+    pub number: u64,
 }
 
 impl Entry {

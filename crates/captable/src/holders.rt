@@ -1,8 +1,7 @@
 //! A list of holders.
-ghost use Rattle.std.specs.Prelude.{◌≡◌, IfOk, length, take};
+ghost use Rattle.std.specs.Prelude.{◌≡◌, length};
 
 use crate::entry::Holder;
-use std::alloc::AllocError;
 use std::marker::Model;
 
 /// A list of holders.
@@ -48,13 +47,4 @@ impl Holders {
     {
         self.list.len()
     }
-}
-
-// A copy of the first `n` of these.
-pub(crate) fn first_of(holders: &Vec<Holder>, n: u32) -> Result<Holders, AllocError>
-    ensures { IfOk result (λ named. named ≡ take n holders.now.items) }
-{
-    let count = (n as usize).min(holders.len());
-    let list = holders[..count].to_vec(*holders.allocator())?;
-    Ok(Holders { list })
 }

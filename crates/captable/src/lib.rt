@@ -6,11 +6,11 @@
 mod entry;
 mod holders;
 mod laws;
-mod rows;
+mod nodes;
 mod table;
 mod walk;
 
-pub use entry::{Entry, EntryRow, Holder};
+pub use entry::{Entry, EntryRow, Holder, Slot};
 pub use holders::Holders;
 pub use laws::{
     a_change_is_of_one_holder, a_drop_is_of_one_client, a_recall_is_of_the_first,

@@ -1,49 +1,56 @@
 //! The table of entries.
 ghost use Rattle.std.specs.Prelude.{◌≡◌, ◌<◌, ◌^◌, ◌-◌, [], ◌∷◌, IfSome, IfOk, OnOk, OnErr, None, slice_get, take, filter};
 
-use crate::entry::{Entry, EntryRow, Holder};
-use crate::holders::{Holders, first_of};
-use crate::rows::{
-    ask_all, drop_holder, drop_holders_of, drop_row, drop_rows_of, holder_at, holder_place,
-    is_same, move_last, row_place,
-};
-use crate::walk::{Sought, Walk};
+use crate::entry::{Entry, Holder, Slot};
+use crate::holders::Holders;
+use crate::nodes::{add_node, holder_at, remove_node, set_entry, touch_node};
+use crate::walk::Walk;
+use cap_arena::{MAX_NODES, TripleLists};
 use capbits::{Cap, CapSet, ClientId, Ino, Refusal};
 use std::alloc::{AllocError, Global};
-use std::marker::Model;
+use std::collections::HashMap;
+use std::marker::{Brand, Model};
+use std::sync::ledger::Blank;
 
 /// How many entries there may be.
-pub const MAX_ENTRIES: usize = 65_536;
+pub const MAX_ENTRIES: usize = MAX_NODES;
 
 /// The entries of all clients on all inodes, at most `MAX_ENTRIES`, one for each client on an inode. They have two
 /// orders: the order of making, which stays, and the order of recall, in which clients are asked to give capabilities
 /// back: the entry that was left alone longest is the oldest, and comes first.
 #[derive(Debug, Drop)]
 pub struct CapTable {
-    // In the order of making.
-    rows: Vec<EntryRow>,
-    // In the order of recall.
-    recall: Vec<Holder>,
+    alloc: Global,
+    lists: TripleLists<Slot>,
+    // The key of each holder's node.
+    keys: HashMap<Holder, usize>,
     // How many entries were made so far.
     made: u64,
 }
 
 impl Model for CapTable {
-    ghost use Rattle.captable.specs.Table.{Table, IsTable};
+    ghost use Rattle.captable.specs.Table.{Table};
     ghost use Rattle.captable.specs.Codes.{table_code};
+    ghost use Rattle.captable.specs.Nodes.{table_of};
+    ghost use Rattle.captable.specs.Kept.{Kept};
 
     ghost Value = { Table };
 
     ghost coded = { table_code };
 
-    ghost view = { λ t. record { rows = t.rows.items; recall = t.recall.items; made = t.made } };
+    ghost view = { λ t. table_of t.lists t.made };
 
-    ghost invariant = { λ t. IsTable (record { rows = t.rows.items; recall = t.recall.items; made = t.made }) };
+    ghost invariant = { λ t. Kept t.lists t.keys t.made };
 }
 
 impl CapTable {
     ghost use Rattle.captable.specs.Table as words;
+    ghost use Rattle.std.specs.List.{fold};
+    ghost use Rattle.cap_arena.specs.Lists.{IsLists};
     ghost use Rattle.captable.specs.Table.{IsTable, holder, entry_at};
+    ghost use Rattle.captable.specs.Nodes.{AreLists};
+    ghost use Rattle.captable.specs.Walks.{first_holder};
+    ghost use Rattle.captable.specs.Many.{changed_by, asking};
     ghost use Rattle.capbits.specs.Refusal.{first_failing};
     ghost use Rattle.captable.specs.Tests.{open_tests, entry_test, ack_tests, release_tests};
     ghost use Rattle.captable.specs.Calls.{opened, changed, wanting, issued, taken, renumbered, told, with_asked, released, without, without_client, newer_in, touched, recalled, is_of_client, is_of_inode};
@@ -52,9 +59,12 @@ impl CapTable {
     pub fn new(alloc: Global) -> Result<CapTable, AllocError>
         ensures { IfOk result (λ table. table ≡ words.empty) }
     {
+        let lists = TripleLists::new(alloc)?;
+        let keys = HashMap::new(alloc);
         Ok(CapTable {
-            rows: Vec::new(alloc),
-            recall: Vec::new(alloc),
+            alloc,
+            lists,
+            keys,
             made: 0,
         })
     }
@@ -71,12 +81,9 @@ impl CapTable {
         ensures entry { result ≡ entry_at self.now (holder client ino) }
         ensures sound { IsTable self.now }
     {
-        let sought = Holder { client, ino };
-        let found = self.rows.iter().find(|row| is_same(sought, row.holder));
-        match found {
-            Some(row) => Some(row.entry),
-            None => None,
-        }
+        let key = *self.keys.get(&Holder { client, ino })?;
+        let node = self.lists.get(key)?;
+        Some(node.value.entry)
     }
 
     // ---- what would be refused
@@ -85,10 +92,7 @@ impl CapTable {
     pub fn open_refusal(&self) -> Option<Refusal>
         ensures { result ≡ first_failing (open_tests self.now) }
     {
-        if self.rows.len() >= MAX_ENTRIES {
-            return Some(Refusal::Limit);
-        }
-        None
+        self.lists.add_refusal()
     }
 
     /// Why nothing can be asked of the client's entry on the inode: it has none.
@@ -153,11 +157,16 @@ impl CapTable {
         ensures err { OnErr result (self.new ≡ self.old) }
     {
         let holder = Holder { client, ino };
-        // Room in both lists comes first.
-        self.rows.reserve(1)?;
-        self.recall.push(holder)?;
+        // Room for the key comes first, since a node that was added stays.
+        self.keys.reserve(1)?;
         let entry = Entry::new();
-        self.rows.push(EntryRow { holder, entry })?;
+        let number = self.made;
+        let slot = Slot { entry, number };
+        let key = add_node::<Brand>(&mut self.lists, holder, slot, Blank::new(1))?;
+        match self.keys.insert(holder, key) {
+            Ok(_none) => {}
+            Err(_) => unreachable!(),
+        }
         self.made += 1;
         Ok(())
     }
@@ -166,9 +175,8 @@ impl CapTable {
     fn put(&mut self, holder: Holder, entry: Entry)
         ensures { self.new ≡ changed self.old holder (λ _. entry) }
     {
-        if let Some(i) = row_place(&self.rows, holder) {
-            let row = &mut self.rows[i];
-            row.entry = entry;
+        if let Some(key) = self.keys.get(&holder) {
+            set_entry(&mut self.lists, *key, entry);
         }
     }
 
@@ -237,7 +245,8 @@ impl CapTable {
         ensures first { result ≡ slice_get self.now.recall 0 }
         ensures sound { IsTable self.now }
     {
-        self.recall.first().copied()
+        let key = self.lists.oldest()?;
+        holder_at(&self.lists, key)
     }
 
     /// The holder after this one in the order of recall; none if it is the last, or has no entry.
@@ -245,15 +254,18 @@ impl CapTable {
         ensures after { result ≡ newer_in self.now.recall (holder client ino) }
         ensures sound { IsTable self.now }
     {
-        let place = holder_place(&self.recall, Holder { client, ino })?;
-        holder_at(&self.recall, place + 1)
+        let key = *self.keys.get(&Holder { client, ino })?;
+        let next = self.lists.newer(key)?;
+        holder_at(&self.lists, next)
     }
 
     /// The client's entry becomes the last in the order of recall. Where it has no entry, nothing happens.
     pub fn touch(&mut self, client: ClientId, ino: Ino)
         ensures { self.new ≡ touched self.old (holder client ino) }
     {
-        move_last(&mut self.recall, Holder { client, ino });
+        if let Some(key) = self.keys.get(&Holder { client, ino }) {
+            touch_node::<Brand>(&mut self.lists, *key, Blank::new(1));
+        }
     }
 
     /// The client gives back these capabilities: it neither holds nor wants them any more. With the pin among them its
@@ -274,16 +286,27 @@ impl CapTable {
     fn remove(&mut self, holder: Holder)
         ensures { self.new ≡ without self.old holder }
     {
-        drop_row(&mut self.rows, holder);
-        drop_holder(&mut self.recall, holder);
+        if let Some(key) = self.keys.remove(&holder) {
+            remove_node::<Brand>(&mut self.lists, key, Blank::new(1));
+        }
+    }
+
+    // The holder of the client's first entry.
+    fn first_of(&self, client: ClientId) -> Option<Holder>
+        ensures first { result ≡ first_holder (filter (is_of_client client) self.now.rows) }
+        ensures sound { IsTable self.now }
+    {
+        let key = self.lists.first_of_client(client)?;
+        holder_at(&self.lists, key)
     }
 
     /// All entries of the client go, from both orders.
     pub fn drop_client(&mut self, client: ClientId)
         ensures { self.new ≡ without_client self.old client }
     {
-        drop_rows_of(&mut self.rows, client);
-        drop_holders_of(&mut self.recall, client);
+        'entries: while let Some(first) = self.first_of(client) {
+            self.remove(first);
+        }
     }
 
     /// The client's entries, in the order of making.
@@ -291,7 +314,7 @@ impl CapTable {
         ensures rows { result ≡ filter (is_of_client client) self.now.rows }
         ensures sound { IsTable self.now }
     {
-        Walk::new(&self.rows, Sought::Client(client))
+        Walk::of_client(&self.lists, client)
     }
 
     /// The entries on the inode, in the order of making.
@@ -299,7 +322,7 @@ impl CapTable {
         ensures rows { result ≡ filter (is_of_inode ino) self.now.rows }
         ensures sound { IsTable self.now }
     {
-        Walk::new(&self.rows, Sought::Inode(ino))
+        Walk::of_inode(&self.lists, ino)
     }
 
     /// Marks the first `n` entries in the order of recall as asked for capabilities, and answers whose they are, in this
@@ -309,8 +332,44 @@ impl CapTable {
         ensures ok { OnOk result (self.new ≡ recalled self.old n) }
         ensures err { OnErr result (self.new ≡ self.old) }
     {
-        let named = first_of(&self.recall, n)?;
-        ask_all(&mut self.rows, named.as_slice());
+        // All are named before one is marked, since the list of them may want memory.
+        let named = self.first_holders(n)?;
+        self.ask_all(&named);
+        Ok(Holders::from_vec(named))
+    }
+
+    // The first `n` holders in the order of recall.
+    fn first_holders(&self, n: u32) -> Result<Vec<Holder>, AllocError>
+        ensures named { IfOk result (λ named. named.items ≡ take n self.now.recall) }
+        ensures sound { IsTable self.now }
+    {
+        let mut named = Vec::new(self.alloc);
+        let mut next = self.oldest();
+        'named: while let Some(holder) = next {
+            if named.len() == n as usize {
+                break;
+            }
+            named.push(holder)?;
+            next = self.newer(holder.client, holder.ino);
+        }
         Ok(named)
+    }
+
+    // Marks the entries of these holders as asked for capabilities.
+    fn ask_all(&mut self, holders: &[Holder])
+        ensures { self.new ≡ fold (changed_by asking) self.old holders.now }
+    {
+        for holder in holders {
+            self.ask(holder.client, holder.ino, true);
+        }
+    }
+
+    /// The nodes of the entries, in three lists at once: those on each inode and those of each client, both in the order
+    /// of making, and all of them in the order of recall.
+    pub fn lists(&self) -> &TripleLists<Slot>
+        ensures lists { AreLists self.now result.now }
+        ensures sound { IsLists result.now }
+    {
+        &self.lists
     }
 }

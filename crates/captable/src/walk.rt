@@ -1,8 +1,12 @@
 //! Walks over the entries of one client, or of one inode.
-ghost use Rattle.std.specs.Prelude.{◌≡◌, IfSome, IfNone, [], ◌∷◌, filter};
-ghost use Rattle.captable.specs.Walks.{is_sought};
+ghost use Rattle.std.specs.Prelude.{◌≡◌, IfSome, IfNone, [], ◌∷◌, map};
+ghost use Rattle.cap_arena.specs.Lists.{IsLists, OfInode, OfClient};
+ghost use Rattle.captable.specs.Nodes as words;
+ghost use Rattle.captable.specs.Nodes.{nodes_in};
 
-use crate::entry::EntryRow;
+use crate::entry::{EntryRow, Slot};
+use crate::nodes::row_of;
+use cap_arena::TripleLists;
 use capbits::{ClientId, Ino};
 use std::marker::Model;
 
@@ -16,35 +20,41 @@ pub(crate) enum Sought {
 /// The entries that are left of a walk, with their holders, in the order of making.
 #[derive(Debug, Drop)]
 pub struct Walk<'a> {
-    rows: &'a [EntryRow],
+    lists: &'a TripleLists<Slot>,
     sought: Sought,
+    // The key of the next node, where there is one.
+    at: Option<usize>,
 }
 
 impl<'a> Model for Walk<'a> {
-    ghost use Rattle.std.specs.Prelude.{List, filter};
+    ghost use Rattle.std.specs.Prelude.{List};
     ghost use Rattle.captable.specs.declared.entry.EntryRow.{EntryRow};
-    ghost use Rattle.captable.specs.Walks.{is_sought};
+    ghost use Rattle.captable.specs.Walks.{rows_from, name_of, IsPlaceOf};
 
     ghost Value = { List EntryRow };
 
-    ghost view = { λ w. filter (is_sought w.sought) w.rows.now };
-}
+    ghost view = { λ w. rows_from w.lists.now (name_of w.sought) w.at };
 
-// Whether it is an entry that is sought.
-fn is_sought(sought: Sought, row: EntryRow) -> bool
-    ensures { result ≡ is_sought sought row }
-{
-    match sought {
-        Sought::Client(client) => row.holder.client.0 == client.0,
-        Sought::Inode(ino) => row.holder.ino.0 == ino.0,
-    }
+    ghost invariant = { λ w. IsPlaceOf w.lists.now (name_of w.sought) w.at };
 }
 
 impl<'a> Walk<'a> {
-    pub(crate) fn new(rows: &'a [EntryRow], sought: Sought) -> Walk<'a>
-        ensures { result ≡ filter (is_sought sought) rows.now }
+    // The entries of the client.
+    pub(crate) fn of_client(lists: &'a TripleLists<Slot>, client: ClientId) -> Walk<'a>
+        ensures { result ≡ map words.row_of (nodes_in lists.now (OfClient client)) }
     {
-        Walk { rows, sought }
+        let at = lists.first_of_client(client);
+        let sought = Sought::Client(client);
+        Walk { lists, sought, at }
+    }
+
+    // The entries on the inode.
+    pub(crate) fn of_inode(lists: &'a TripleLists<Slot>, ino: Ino) -> Walk<'a>
+        ensures { result ≡ map words.row_of (nodes_in lists.now (OfInode ino)) }
+    {
+        let at = lists.first_of_ino(ino);
+        let sought = Sought::Inode(ino);
+        Walk { lists, sought, at }
     }
 
     /// The next entry, with its holder; none at the end of the walk.
@@ -52,12 +62,12 @@ impl<'a> Walk<'a> {
         ensures some { IfSome result (λ row. self.old ≡ row ∷ self.new) }
         ensures none { IfNone result ((self.old ≡ []) × (self.new ≡ [])) }
     {
-        'rows: while let [first, rest @ ..] = self.rows {
-            self.rows = rest;
-            if is_sought(self.sought, *first) {
-                return Some(*first);
-            }
-        }
-        None
+        let key = self.at?;
+        let node = self.lists.get(key)?;
+        self.at = match self.sought {
+            Sought::Client(_client) => self.lists.next_of_client(key),
+            Sought::Inode(_ino) => self.lists.next_of_ino(key),
+        };
+        Some(row_of(&node))
     }
 }

@@ -17,6 +17,8 @@ mod locks;
 #[cfg(test)]
 mod sessions;
 #[cfg(test)]
+mod table_runs;
+#[cfg(test)]
 mod tree;
 #[cfg(test)]
 mod tree_steps;

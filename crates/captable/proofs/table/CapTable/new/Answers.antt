@@ -1,5 +1,5 @@
-use Rattle.captable.proofs.Tables.{IsTable-empty}
+use Rattle.captable.proofs.Empty.{Kept-empty}
 use Rattle.captable.proofs.table.CapTable.new.Goals as goal
 
 pub invariant_of-result : goal.invariant_of-result
-invariant_of-result c = rw (c.new.ensures.items, c.new-2.ensures.items) IsTable-empty
+invariant_of-result c = Kept-empty c.in_ok-lists.lists c.new-keys.result c.in_ok-lists.ensures c.new-keys.ensures.empty

@@ -1,22 +1,32 @@
-use Rattle.std.proofs.Common.{◌≡◌, ◌+◌, ◌∙◌, sym, ap, Some, None, List}
-use Rattle.std.specs.List.{position, slice_get}
-use Rattle.captable.specs.declared.entry.Holder.{Holder}
-use Rattle.captable.specs.Table.{Table, holder, same}
+use Rattle.std.proofs.Common.{◌∙◌, sym, ap}
+use Rattle.std.specs.Option.{option_map, option_and_then}
+use Rattle.cap_arena.specs.Lists.{node_at}
+use Rattle.captable.specs.Table.{Table, holder}
 use Rattle.captable.specs.Calls.{newer_in}
-use Rattle.captable.proofs.Moves.{newer_at, newer_none}
+use Rattle.captable.specs.Nodes.{holder_of}
+use Rattle.captable.proofs.Reading.{newer-found, newer-none}
 use Rattle.captable.proofs.table.CapTable.newer.Goals as goal
 
-pub returns-in_err-place-clause-after : goal.returns-in_err-place-clause-after
-returns-in_err-place-clause-after c =
-    let k : Holder = holder c.args.client c.args.ino in
-    let hs : List Holder = c.self.inside.recall.items in
-    let none : position (same k) hs ≡ None = cc (c.in_err-place.was, c.holder_place.ensures, c.deref.ensures.value) in
-    c.from_residual.ensures ∙ sym (newer_none hs k none) ∙ ap (λ (t : Table). newer_in t.recall k) c.self.view_is
+pub returns-in_err-key-clause-after : goal.returns-in_err-key-clause-after
+returns-in_err-key-clause-after c =
+    let h = holder c.args.client c.args.ino in
+    c.from_residual.ensures ∙ sym (newer-none c.self.inside.lists c.self.inside.keys c.self.inside.made c.self.invariant h (sym c.in_err-key.ensures.value))
+    ∙ ap (λ (t : Table). newer_in t.recall h) c.self.view_is
+
+pub returns-in_err-next-clause-after : goal.returns-in_err-next-clause-after
+returns-in_err-next-clause-after c =
+    let h = holder c.args.client c.args.ino in
+    let t = c.self.inside.lists in
+    c.from_residual-in_err-next.ensures
+    ∙ ap (λ o. option_and_then (λ k. option_map holder_of (node_at t k)) o) c.in_err-next.ensures.next
+    ∙ sym (newer-found t c.self.inside.keys c.self.inside.made c.self.invariant h c.in_ok-key.field-0.now (sym c.in_ok-key.ensures.value))
+    ∙ ap (λ (t : Table). newer_in t.recall h) c.self.view_is
 
 pub returns-clause-after : goal.returns-clause-after
 returns-clause-after c =
-    let k : Holder = holder c.args.client c.args.ino in
-    let hs : List Holder = c.self.inside.recall.items in
-    let here : position (same k) hs ≡ Some c.in_ok-place.place = cc (c.in_ok-place.was, c.holder_place.ensures, c.deref.ensures.value) in
-    c.holder_at.ensures ∙ ap (λ (hs : List Holder). slice_get hs (c.in_ok-place.place + 1)) c.deref-2.ensures.value
-    ∙ sym (newer_at hs k c.in_ok-place.place here) ∙ ap (λ (t : Table). newer_in t.recall k) c.self.view_is
+    let h = holder c.args.client c.args.ino in
+    let t = c.self.inside.lists in
+    c.holder_at.ensures
+    ∙ ap (λ o. option_and_then (λ k. option_map holder_of (node_at t k)) o) c.in_ok-next.ensures.next
+    ∙ sym (newer-found t c.self.inside.keys c.self.inside.made c.self.invariant h c.in_ok-key.field-0.now (sym c.in_ok-key.ensures.value))
+    ∙ ap (λ (t : Table). newer_in t.recall h) c.self.view_is

@@ -1,18 +1,37 @@
-use Rattle.std.proofs.Common.{◌≡◌, None, [], ◌∷◌, ◌++◌, ap, ◌∙◌}
+use Rattle.std.proofs.Common.{Some, cond, ◌∙◌, sym, ap, subst, refl}
 use Rattle.capbits.specs.Refusal.{first_failing}
+use Rattle.cap_arena.specs.declared.nodes.Node.{Node}
 use Rattle.captable.specs.declared.entry.Holder.{Holder}
-use Rattle.captable.specs.Table.{Table, holder, entry_at}
-use Rattle.captable.specs.Calls.{new_entry}
+use Rattle.captable.specs.declared.entry.Slot.{Slot}
+use Rattle.captable.specs.Table.{holder, same, entry_at}
+use Rattle.captable.specs.Calls.{opened}
 use Rattle.captable.specs.Tests.{open_tests}
-use Rattle.captable.proofs.Tables.{IsTable-opened}
+use Rattle.captable.specs.Kept.{Kept}
+use Rattle.captable.proofs.Reading.{refused-alike, Kept-keys}
+use Rattle.captable.proofs.Opening.{Kept-more, table-more}
 use Rattle.captable.proofs.table.CapTable.open_entry.Goals as goal
+
+pub add_node-requires-clause-passed : goal.add_node-requires-clause-passed
+add_node-requires-clause-passed c =
+    refused-alike c.self.inside.lists c.self.inside.keys c.self.inside.made c.self.invariant ∙ ap (λ t. first_failing (open_tests t)) c.self.view_is ∙ c.requires.passed
+
+pub invariant_of-self-in_err-key : goal.invariant_of-self-in_err-key
+invariant_of-self-in_err-key c =
+    subst (λ t. Kept t c.reserve.new.self c.self.inside.made) (sym c.in_err-key.ensures.err)
+    (Kept-keys c.self.inside.lists c.self.inside.keys c.self.inside.made c.self.invariant c.reserve.new.self c.in_ok-reserve.ensures.entries.2)
 
 pub invariant_of-self-2 : goal.invariant_of-self-2
 invariant_of-self-2 c =
-    let t : Table = record { rows = c.self.inside.rows.items; recall = c.self.inside.recall.items; made = c.self.inside.made } in
-    let k : Holder = holder c.args.client c.args.ino in
-    let none : entry_at t k ≡ None = ap (λ t. entry_at t k) c.self.view_is ∙ c.requires.new in
-    let passed : first_failing (open_tests t) ≡ None = ap (λ t. first_failing (open_tests t)) c.self.view_is ∙ c.requires.passed in
-    let rows : c.push-2.new.self.items ≡ t.rows ++ record { holder = k; entry = new_entry } ∷ [] = cc (c.in_ok-push-2.ensures.items, c.in_ok-reserve.ensures.items, c.new-entry.ensures) in
-    let recall : c.push.new.self.items ≡ t.recall ++ k ∷ [] = cc (c.in_ok-push.ensures.items) in
-    rw (rows, recall) (IsTable-opened t k none passed c.self.invariant)
+    let h = holder c.args.client c.args.ino in
+    let x : Node Slot = record { client = c.args.client; ino = c.args.ino; value = record { entry = c.new-entry.result; number = c.self.inside.made } } in
+    let updates = λ (q : Holder). c.in-Ok.ensures.updates.0 q ∙ ap (λ o. cond (same h q) (Some c.in_ok-key.key) o) (c.in_ok-reserve.ensures.entries.2 q) in
+    Kept-more c.self.inside.lists c.add_node.new.lists c.self.inside.keys c.insert.new.self c.self.inside.made c.in_ok-key.key x c.self.invariant c.in_ok-key.ensures.ok
+    c.new-entry.ensures refl (ap (λ t. entry_at t h) c.self.view_is ∙ c.requires.new) updates c.add_node.ensures.sound
+    (ap (λ t. first_failing (open_tests t)) c.self.view_is ∙ c.requires.passed)
+
+pub returns-clause-ok : goal.returns-clause-ok
+returns-clause-ok c =
+    let h = holder c.args.client c.args.ino in
+    let x : Node Slot = record { client = c.args.client; ino = c.args.ino; value = record { entry = c.new-entry.result; number = c.self.inside.made } } in
+    table-more c.self.inside.lists c.add_node.new.lists c.self.inside.keys c.insert.new.self c.self.inside.made c.in_ok-key.key x c.self.invariant c.in_ok-key.ensures.ok
+    c.new-entry.ensures refl (ap (λ t. entry_at t h) c.self.view_is ∙ c.requires.new) ∙ ap (λ t. opened t h) c.self.view_is

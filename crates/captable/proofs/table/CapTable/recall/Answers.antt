@@ -1,12 +1,9 @@
-use Rattle.std.proofs.Common.{◌≡◌, length}
-use Rattle.captable.specs.Table.{Table}
-use Rattle.captable.proofs.Tables.{IsTable-asked}
-use Rattle.captable.proofs.Lists.{written_over}
+use Rattle.std.proofs.Common.{◌∙◌, ap}
+use Rattle.std.specs.List.{fold}
+use Rattle.captable.specs.Many.{changed_by, asking}
+use Rattle.captable.proofs.Recalling.{fold-asked}
 use Rattle.captable.proofs.table.CapTable.recall.Goals as goal
 
-pub invariant_of-self : goal.invariant_of-self
-invariant_of-self c =
-    let t : Table = record { rows = c.self.inside.rows.items; recall = c.self.inside.recall.items; made = c.self.inside.made } in
-    let as_long : c.self.inside.rows.len ≡ length c.ask_all.new.rows = cc (c.deref_mut.ensures.len, c.ask_all.auto.rows) in
-    rw (written_over c.self.inside.rows.len c.ask_all.new.rows c.self.inside.rows.items as_long, c.ask_all.ensures, c.deref_mut.ensures.value)
-    (IsTable-asked t c.as_slice.result.now c.self.invariant)
+pub returns-clause-ok : goal.returns-clause-ok
+returns-clause-ok c =
+    c.ask_all.ensures ∙ ap (fold (changed_by asking) c.args.self.now) (c.deref.ensures.value ∙ c.in_ok-named.ensures.named) ∙ fold-asked c.args.self.now c.args.n c.first_holders.ensures.sound

@@ -1,12 +1,30 @@
-use Rattle.std.proofs.Common.{◌≡◌, length}
-use Rattle.captable.specs.Table.{Table, holder}
-use Rattle.captable.proofs.Moves.{IsTable-touched}
-use Rattle.captable.proofs.Lists.{written_over}
+use Rattle.std.proofs.Common.{◌≡◌, None, ◌∙◌, sym, ap, subst}
+use Rattle.std.specs.HashMap.{get}
+use Rattle.captable.specs.Table.{IsTable, holder, same, entry_at}
+use Rattle.captable.specs.Calls.{touched}
+use Rattle.captable.proofs.Absent.{touched-none}
+use Rattle.captable.proofs.Reading.{entry-none, node-there}
+use Rattle.captable.proofs.Touching.{Kept-touched, table-moved}
 use Rattle.captable.proofs.table.CapTable.touch.Goals as goal
+
+pub touch_node-requires-clause-there : goal.touch_node-requires-clause-there
+touch_node-requires-clause-there c =
+    node-there c.self.inside.lists c.self.inside.keys c.self.inside.made c.self.invariant (holder c.args.client c.args.ino) c.in-Some.key.now (sym c.in-Some.ensures.value)
 
 pub invariant_of-self : goal.invariant_of-self
 invariant_of-self c =
-    let t : Table = record { rows = c.self.inside.rows.items; recall = c.self.inside.recall.items; made = c.self.inside.made } in
-    let as_long : c.self.inside.recall.len ≡ length c.move_last.new.holders = cc (c.deref_mut.ensures.len, c.move_last.auto.holders) in
-    rw (written_over c.self.inside.recall.len c.move_last.new.holders c.self.inside.recall.items as_long, c.move_last.ensures, c.deref_mut.ensures.value)
-    (IsTable-touched t (holder c.args.client c.args.ino) c.self.invariant)
+    Kept-touched c.self.inside.lists c.touch_node.new.lists c.self.inside.keys c.self.inside.made (holder c.args.client c.args.ino) c.in-Some.key.now c.self.invariant
+    (sym c.in-Some.ensures.value) c.touch_node.ensures.touched c.touch_node.ensures.sound
+
+pub returns-in-Some : goal.returns-in-Some
+returns-in-Some c =
+    let h = holder c.args.client c.args.ino in
+    table-moved c.self.inside.lists c.touch_node.new.lists c.self.inside.keys c.self.inside.made h c.in-Some.key.now c.self.invariant
+    (sym c.in-Some.ensures.value) c.touch_node.ensures.touched ∙ ap (λ t. touched t h) c.self.view_is
+
+pub returns-in_default : goal.returns-in_default
+returns-in_default c =
+    let h = holder c.args.client c.args.ino in
+    let none : get same c.self.inside.keys h ≡ None = sym c.in_default.ensures.value in
+    touched-none c.args.self.now h (subst IsTable c.self.view_is c.self.invariant.table)
+    (ap (λ t. entry_at t h) (sym c.self.view_is) ∙ entry-none c.self.inside.lists c.self.inside.keys c.self.inside.made c.self.invariant h none)

@@ -1,0 +1,49 @@
+-- The parts of a table without entries.
+use Rattle.std.proofs.Common.{◌≡◌, ℕ, Some, None, [], refl, sym, ap, subst, ◌∙◌, arith}
+use Rattle.std.specs.List.{IsDistinct}
+use Rattle.std.specs.Ordering.{nat_cmp}
+use Rattle.std.specs.FinMap as map
+use Rattle.std.specs.HashMap.{HashMap}
+use Rattle.std.specs.Map.{lookup}
+use Rattle.cap_arena.specs.Heads.{ends_or_none}
+use Rattle.cap_arena.specs.declared.nodes.Ends.{Ends}
+use Rattle.cap_arena.specs.Lists.{Lists, ListName, OfInode, OfClient, OfRecall, IsList, IsLists, empty}
+use Rattle.captable.specs.declared.entry.Holder.{Holder}
+use Rattle.captable.specs.declared.entry.Slot.{Slot}
+use Rattle.captable.specs.Table.{same}
+use Rattle.captable.specs.Kept.{Kept}
+use Rattle.captable.proofs.Tables.{IsTable-empty}
+
+no_ends_at : (number : ℕ) → map.get (map.empty {X = Ends} {R = nat_cmp}) number ≡ None
+no_ends_at number = map.get-empty nat_cmp number
+
+no_list : (name : ListName) → IsList {T = Slot} empty name
+unfolding IsDistinct
+no_list (OfInode ino) = record { forth = ap (λ o. (ends_or_none o).first) (no_ends_at ino.0); back = ap (λ o. (ends_or_none o).last) (no_ends_at ino.0); once = tt; nodes = λ k. refl }
+no_list (OfClient client) = record { forth = ap (λ o. (ends_or_none o).first) (no_ends_at client.0); back = ap (λ o. (ends_or_none o).last) (no_ends_at client.0); once = tt; nodes = λ k. refl }
+no_list OfRecall = record { forth = refl; back = refl; once = tt; nodes = λ k. refl }
+
+no_lists : IsLists {T = Slot} empty
+no_lists =
+    record {
+      lists = no_list;
+      inodes = λ number ends e. absurd (let n : None ≡ Some ends = sym (no_ends_at number) ∙ e in cc);
+      clients = λ number ends e. absurd (let n : None ≡ Some ends = sym (no_ends_at number) ∙ e in cc);
+      room = omega arith;
+    }
+
+pub Kept-empty : {S : Type 0} (t : Lists Slot) (hs : HashMap Holder ℕ S) → t ≡ empty → hs.entries ≡ [] → Kept t hs 0
+Kept-empty t hs nodes keys =
+    subst (λ (t : Lists Slot). Kept t hs 0) (sym nodes)
+    record {
+      sound = no_lists;
+      table = IsTable-empty;
+      below = tt;
+      once = λ number. omega arith;
+      inodes = λ ino. refl;
+      clients = λ client. refl;
+      keyed = record {
+        to_node = λ k key e. absurd (let n : None ≡ Some key = sym (ap (lookup (same k)) keys) ∙ e in cc);
+        to_key = λ k key e. absurd (cc);
+      };
+    }

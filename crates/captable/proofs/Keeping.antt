@@ -1,0 +1,154 @@
+-- What is kept of a table's parts, after a change of one node.
+use Rattle.std.proofs.Common.{◌≡◌, ℕ, ◌+◌, ◌≤◌, Bool, true, false, not, cond, Option, Some, None, IsSome, List, [], ◌∷◌, ◌++◌, map, filter, length, refl, sym, ap, ◌∙◌, arith, nat_eq, suc}
+use Rattle.std.specs.Option.{option_map, option_map_or}
+use Rattle.std.specs.HashMap.{HashMap, get}
+use Rattle.std.proofs.lemmas.List.{map-append}
+use Rattle.std.proofs.lemmas.Bool.{eq-eqb, eqb-true}
+use Rattle.cap_arena.specs.declared.nodes.Node.{Node}
+use Rattle.cap_arena.specs.Walks.{is_among}
+use Rattle.cap_arena.specs.Lists.{Lists, ListName, belongs, node_at, keys, IsLists}
+use Rattle.captable.specs.declared.entry.Holder.{Holder}
+use Rattle.captable.specs.declared.entry.Entry.{Entry}
+use Rattle.captable.specs.declared.entry.EntryRow.{EntryRow}
+use Rattle.captable.specs.declared.entry.Slot.{Slot}
+use Rattle.captable.specs.Table.{IsTable, same, is_row_of}
+use Rattle.captable.specs.Calls.{new_entry, opened, changed, change_rows, without, moved_last, touched}
+use Rattle.captable.specs.Nodes.{holder_of, row_of, with_entry, has_number, by_number, table_by}
+use Rattle.captable.specs.Kept.{AreBelow, AreKeys}
+use Rattle.captable.proofs.Tables.{same_equiv, same-is}
+use Rattle.captable.proofs.OneByOne.{one_at_once, if_passing}
+use Rattle.captable.proofs.NodesAt.{is_held_by, IsHeld, IsFree, AllHave, set_in}
+use Rattle.captable.proofs.Numbers.{by_number-next, by_number-filter, by_number-map, by_number-same, number-moved}
+
+-- ---- lists of nodes, as lists of rows
+
+pub filter-mapped : {X Y : Type 0} (p : Y → Bool) (g : X → Y) (xs : List X) → filter p (map g xs) ≡ map g (filter (λ x. p (g x)) xs)
+filter-mapped p g [] = refl
+filter-mapped p g (x ∷ xs) =
+    let rest = filter-mapped p g xs in
+    elim (p (g x)) as (λ b. cond b (g x ∷ filter p (map g xs)) (filter p (map g xs)) ≡ map g (cond b (x ∷ filter (λ x. p (g x)) xs) (filter (λ x. p (g x)) xs)))
+    [ true ↦ ap (λ ys. g x ∷ ys) rest | false ↦ rest ]
+
+pub map-mapped : {X Y Z : Type 0} (g : Y → Z) (f : X → Y) (g' : Z → Z) (f' : X → Z) → ((x : X) → g (f x) ≡ g' (f' x)) → (xs : List X) → map g (map f xs) ≡ map g' (map f' xs)
+map-mapped g f g' f' same [] = refl
+map-mapped g f g' f' same (x ∷ xs) = λ i. same x i ∷ map-mapped g f g' f' same xs i
+
+-- ---- one more node
+
+pub table-added : (ns : List (Node Slot)) (x : Node Slot) (made : ℕ) → x.value.entry ≡ new_entry → x.value.number ≡ made → AreBelow made ns
+    → table_by (ns ++ x ∷ []) (made + 1) ≡ opened (table_by ns made) (holder_of x)
+table-added ns x made entry number below =
+    let next : made + 1 ≡ suc made = omega arith in
+    let rows : map row_of (by_number (made + 1) (ns ++ x ∷ [])) ≡ map row_of (by_number made ns) ++ record { holder = holder_of x; entry = new_entry } ∷ [] =
+    ap (λ m. map row_of (by_number m (ns ++ x ∷ []))) next ∙ ap (map row_of) (by_number-next ns x made number below) ∙ map-append row_of (by_number made ns) (x ∷ [])
+    ∙ ap (λ (e : Entry). map row_of (by_number made ns) ++ record { holder = holder_of x; entry = e } ∷ []) entry in
+    let recall : map holder_of (ns ++ x ∷ []) ≡ map holder_of ns ++ holder_of x ∷ [] = map-append holder_of ns (x ∷ []) in
+    λ i. record { rows = rows i; recall = recall i; made = made + 1 }
+
+-- ---- one node less
+
+pub table-removed : (ns : List (Node Slot)) (h : Holder) (made : ℕ) → table_by (filter (λ m. not (is_held_by h m)) ns) made ≡ without (table_by ns made) h
+table-removed ns h made =
+    let rows : map row_of (by_number made (filter (λ m. not (is_held_by h m)) ns)) ≡ filter (λ row. not (is_row_of h row)) (map row_of (by_number made ns)) =
+    ap (map row_of) (by_number-filter (λ m. not (is_held_by h m)) made ns) ∙ sym (filter-mapped (λ row. not (is_row_of h row)) row_of (by_number made ns)) in
+    let recall : map holder_of (filter (λ m. not (is_held_by h m)) ns) ≡ filter (λ k. not (same h k)) (map holder_of ns) = sym (filter-mapped (λ k. not (same h k)) holder_of ns) in
+    λ i. record { rows = rows i; recall = recall i; made = made }
+
+-- ---- another entry
+
+pub keeps_number : (h : Holder) (x : Entry) (m : Node Slot) → (set_in h x m).value.number ≡ m.value.number
+keeps_number h x m = elim (is_held_by h m) as (λ b. (cond b (with_entry x m) m).value.number ≡ m.value.number) [ true ↦ refl | false ↦ refl ]
+
+keeps_holder : (h : Holder) (x : Entry) (m : Node Slot) → holder_of (set_in h x m) ≡ holder_of m
+keeps_holder h x m = elim (is_held_by h m) as (λ b. holder_of (cond b (with_entry x m) m) ≡ holder_of m) [ true ↦ refl | false ↦ refl ]
+
+-- a row of the holder, with the entry
+abbrev pub row_in : Holder → Entry → EntryRow → EntryRow
+row_in h x row = if_passing (λ _. x) (is_row_of h) row
+
+row-set : (h : Holder) (x : Entry) (m : Node Slot) → row_of (set_in h x m) ≡ row_in h x (row_of m)
+row-set h x m = elim (is_held_by h m) as (λ b. row_of (cond b (with_entry x m) m) ≡ cond b (record (row_of m) { entry = x }) (row_of m)) [ true ↦ refl | false ↦ refl ]
+
+pub rows-set : (h : Holder) (x : Entry) (ns : List (Node Slot)) → map row_of (map (set_in h x) ns) ≡ map (row_in h x) (map row_of ns)
+rows-set h x ns = map-mapped row_of (set_in h x) (row_in h x) row_of (row-set h x) ns
+
+holders-set : (h : Holder) (x : Entry) (ns : List (Node Slot)) → map holder_of (map (set_in h x) ns) ≡ map holder_of ns
+holders-set h x [] = refl
+holders-set h x (m ∷ ns) = λ i. keeps_holder h x m i ∷ holders-set h x ns i
+
+pub rows-changed : (ns : List (Node Slot)) (h : Holder) (x : Entry) (made : ℕ) → map row_of (by_number made (map (set_in h x) ns)) ≡ map (row_in h x) (map row_of (by_number made ns))
+rows-changed ns h x made = ap (map row_of) (by_number-map (set_in h x) (keeps_number h x) made ns) ∙ rows-set h x (by_number made ns)
+
+pub table-set : (ns : List (Node Slot)) (h : Holder) (x : Entry) (made : ℕ) → IsTable (table_by ns made) → table_by (map (set_in h x) ns) made ≡ changed (table_by ns made) h (λ _. x)
+table-set ns h x made is =
+    let rows : map row_of (by_number made (map (set_in h x) ns)) ≡ change_rows (map row_of (by_number made ns)) h (λ _. x) =
+    rows-changed ns h x made ∙ sym (one_at_once (λ _. x) h (map row_of (by_number made ns)) is.one_row) in
+    λ i. record { rows = rows i; recall = holders-set h x ns i; made = made }
+
+-- ---- a node that comes last
+
+pub table-touched : (ns : List (Node Slot)) (h : Holder) (made : ℕ) → ((number : ℕ) → length (filter (has_number number) ns) ≤ 1)
+    → table_by (filter (λ m. not (is_held_by h m)) ns ++ filter (is_held_by h) ns) made ≡ touched (table_by ns made) h
+table-touched ns h made once =
+    let kept = filter (λ m. not (is_held_by h m)) ns in
+    let own = filter (is_held_by h) ns in
+    let rows : map row_of (by_number made (kept ++ own)) ≡ map row_of (by_number made ns) =
+    ap (map row_of) (by_number-same made (kept ++ own) ns (λ number. number-moved (is_held_by h) ns number (once number))) in
+    let recall : map holder_of (kept ++ own) ≡ moved_last (map holder_of ns) h =
+    map-append holder_of kept own ∙ (λ i. sym (filter-mapped (λ k. not (same h k)) holder_of ns) i ++ sym (filter-mapped (same h) holder_of ns) i) in
+    λ i. record { rows = rows i; recall = recall i; made = made }
+
+-- ---- the keys of holders
+
+module _ {S : Type 0} (t : Lists Slot) (hs : HashMap Holder ℕ S) (keyed : AreKeys t hs) where
+  node-of : (k : Holder) (key : ℕ) (o : Option (Node Slot)) → option_map holder_of o ≡ Some k → (n : Node Slot) × (o ≡ Some n) × (holder_of n ≡ k)
+  node-of k key None e = absurd (cc)
+  node-of k key (Some n) e = (n, refl, let is : holder_of n ≡ k = cc in is)
+
+  -- a holder's key has its node, and no other key has
+  pub held : (k : Holder) (key : ℕ) → get same hs k ≡ Some key → (n : Node Slot) × IsHeld (node_at t) k key n × (holder_of n ≡ k)
+  held k key found =
+      let o = node-of k key (node_at t key) (keyed.to_node k key found) in
+      (o.0, record { there = o.1; alone = λ q m e. alone q m e (is_held_by k m) refl (nat_eq key q) refl o.0 o.1 o.2 }, o.2)
+    where
+      alone : (q : ℕ) (m : Node Slot) → node_at t q ≡ Some m → (a : Bool) → is_held_by k m ≡ a → (b : Bool) → nat_eq key q ≡ b → (n : Node Slot) → node_at t key ≡ Some n → holder_of n ≡ k → a ≡ b
+      alone q m e true is true eq n there own = refl
+      alone q m e false is false eq n there own = refl
+      alone q m e true is false eq n there own =
+          let same_holder : k ≡ holder_of m = same-is k (holder_of m) is in
+          let other : get same hs k ≡ Some q = keyed.to_key k q (ap (option_map holder_of) e ∙ ap Some (sym same_holder)) in
+          let same_key : key ≡ q = cc in
+          absurd (let c : nat_eq key q ≡ true = eq-eqb key q same_key in cc)
+      alone q m e false is true eq n there own =
+          let same_key : key ≡ q = eqb-true key q eq in
+          let there_too : node_at t q ≡ Some n = ap (node_at t) (sym same_key) ∙ there in
+          let same_node : m ≡ n = cc in
+          absurd (let c : same k (holder_of m) ≡ true = ap (λ h. same k h) (ap holder_of same_node ∙ own) ∙ same_equiv.refl k in cc)
+
+  -- a holder without a key has no node
+  pub free : (k : Holder) → get same hs k ≡ None → IsFree (node_at t) k
+  free k none q m e = by_test (is_held_by k m) refl
+    where
+      by_test : (b : Bool) → is_held_by k m ≡ b → b ≡ false
+      by_test false is = refl
+      by_test true is =
+          let other : get same hs k ≡ Some q = keyed.to_key k q (ap (option_map holder_of) e ∙ ap Some (sym (same-is k (holder_of m) is))) in
+          absurd (cc)
+
+-- ---- which keys are in a list
+
+belongs-none : (name : ListName) (o : Option (Node Slot)) → o ≡ None → option_map_or (belongs name) o false ≡ false
+belongs-none name o e = ap (λ o. option_map_or (belongs name) o false) e
+
+pub not_in : (t : Lists Slot) → IsLists t → (name : ListName) (key : ℕ) → node_at t key ≡ None → is_among (keys t name) key ≡ false
+not_in t is name key none = (is.lists name).nodes key ∙ belongs-none name (node_at t key) none
+
+pub is_in : (t : Lists Slot) → IsLists t → (name : ListName) (key : ℕ) (n : Node Slot) → node_at t key ≡ Some n → belongs name n ≡ true → is_among (keys t name) key ≡ true
+is_in t is name key n there of = (is.lists name).nodes key ∙ ap (λ o. option_map_or (belongs name) o false) there ∙ of
+
+pub all_have : (t : Lists Slot) → IsLists t → (name : ListName) → AllHave (node_at t) (keys t name)
+all_have t is name key there = by_node (node_at t key) (sym ((is.lists name).nodes key) ∙ there)
+  where
+    by_node : (o : Option (Node Slot)) → option_map_or (belongs name) o false ≡ true → IsSome o
+    by_node None e = absurd (cc)
+    by_node (Some n) e = refl

@@ -1,0 +1,62 @@
+-- A table's parts, where a node became the last one in the order of recall.
+use Rattle.std.proofs.Common.{◌≡◌, ℕ, ◌≤◌, not, Some, List, [], ◌∷◌, ◌++◌, map, filter, length, refl, sym, ap, subst, ◌∙◌}
+use Rattle.std.specs.Option.{option_map}
+use Rattle.std.specs.HashMap.{HashMap, get}
+use Rattle.cap_arena.specs.declared.nodes.Node.{Node}
+use Rattle.cap_arena.specs.Calls.{keys_without, Touches}
+use Rattle.cap_arena.specs.Lists.{Lists, ListName, OfInode, OfClient, OfRecall, node_at, keys, IsLists}
+use Rattle.captable.specs.declared.entry.Holder.{Holder}
+use Rattle.captable.specs.declared.entry.Slot.{Slot}
+use Rattle.captable.specs.Table.{Table, IsTable, same}
+use Rattle.captable.specs.Calls.{touched, is_of_client, is_of_inode}
+use Rattle.captable.specs.Nodes.{holder_of, row_of, has_number, with_first, nodes_at, nodes_in, table_by, table_of}
+use Rattle.captable.specs.Kept.{AreBelow, Kept}
+use Rattle.captable.proofs.Moves.{IsTable-touched}
+use Rattle.captable.proofs.NodesAt.{is_held_by, nodes-append, nodes-same, nodes-removed, nodes-one}
+use Rattle.captable.proofs.Numbers.{number-moved, below-append, below-filter}
+use Rattle.captable.proofs.Keeping.{held, is_in, table-touched}
+
+module _ {S : Type 0} (t t' : Lists Slot) (hs : HashMap Holder ℕ S) (made : ℕ) (h : Holder) (key : ℕ) (is : Kept t hs made) (found : get same hs h ≡ Some key) (touches : Touches t t' key) where
+  -- the nodes in the order of recall, this one last
+  moved : List (Node Slot)
+  moved = filter (λ m. not (is_held_by h m)) (nodes_in t OfRecall) ++ filter (is_held_by h) (nodes_in t OfRecall)
+
+  recall-now : nodes_in t' OfRecall ≡ moved
+  unfolding moved
+  recall-now =
+      let ks = keys t OfRecall in
+      let o = held t hs is.keyed h key found in
+      let last : nodes_at (node_at t) (key ∷ []) ≡ filter (is_held_by h) (nodes_in t OfRecall) =
+      ap (λ q. with_first q []) o.1.there ∙ sym (nodes-one (node_at t) h key o.0 o.1 ks (is.sound.lists OfRecall).once (is_in t is.sound OfRecall key o.0 o.1.there refl)) in
+      let others : nodes_at (node_at t) (keys_without ks key) ≡ filter (λ m. not (is_held_by h m)) (nodes_in t OfRecall) = nodes-removed (node_at t) h key o.0 o.1 (node_at t) (λ k e. refl) ks in
+      ap (nodes_at (node_at t')) touches.recall ∙ nodes-same (node_at t) (node_at t') (keys_without ks key ++ key ∷ []) (λ k there. touches.nodes k)
+      ∙ nodes-append (node_at t) (keys_without ks key) (key ∷ []) ∙ (λ i. others i ++ last i)
+
+  pub table-moved : table_of t' made ≡ touched (table_of t made) h
+  unfolding moved
+  table-moved = ap (λ ns. table_by ns made) recall-now ∙ table-touched (nodes_in t OfRecall) h made is.once
+
+  nodes-stay : (name : ListName) → keys t' name ≡ keys t name → nodes_in t' name ≡ nodes_in t name
+  nodes-stay name same = ap (nodes_at (node_at t')) same ∙ nodes-same (node_at t) (node_at t') (keys t name) (λ k there. touches.nodes k)
+
+  below-now : AreBelow made moved
+  unfolding moved
+  below-now =
+      below-append (filter (λ m. not (is_held_by h m)) (nodes_in t OfRecall)) (filter (is_held_by h) (nodes_in t OfRecall)) made
+      (below-filter (λ m. not (is_held_by h m)) (nodes_in t OfRecall) made is.below) (below-filter (is_held_by h) (nodes_in t OfRecall) made is.below)
+
+  once-now : (number : ℕ) → length (filter (has_number number) moved) ≤ 1
+  unfolding moved
+  once-now number = rw (number-moved (is_held_by h) (nodes_in t OfRecall) number (is.once number)) (is.once number)
+
+  pub Kept-touched : IsLists t' → Kept t' hs made
+  Kept-touched sound =
+      record {
+        sound = sound;
+        table = subst IsTable (sym table-moved) (IsTable-touched (table_of t made) h is.table);
+        below = subst (AreBelow made) (sym recall-now) below-now;
+        once = λ number. subst (λ ns. length (filter (has_number number) ns) ≤ 1) (sym recall-now) (once-now number);
+        inodes = λ ino. ap (map row_of) (nodes-stay (OfInode ino) (touches.inodes ino)) ∙ is.inodes ino ∙ ap (λ (u : Table). filter (is_of_inode ino) u.rows) (sym table-moved);
+        clients = λ client. ap (map row_of) (nodes-stay (OfClient client) (touches.clients client)) ∙ is.clients client ∙ ap (λ (u : Table). filter (is_of_client client) u.rows) (sym table-moved);
+        keyed = record { to_node = λ k q e. ap (option_map holder_of) (touches.nodes q) ∙ is.keyed.to_node k q e; to_key = λ k q e. is.keyed.to_key k q (sym (ap (option_map holder_of) (touches.nodes q)) ∙ e) };
+      }

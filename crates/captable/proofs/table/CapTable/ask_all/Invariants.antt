@@ -1,0 +1,7 @@
+use Rattle.std.proofs.Common.{◌≡◌, take}
+use Rattle.std.specs.List.{fold}
+use Rattle.captable.specs.Many.{changed_by, asking}
+use Rattle.captable.proofs.table.CapTable.ask_all.Given as goal
+
+abbrev pub invariant-loop-holder : goal.invariant-loop-holder
+invariant-loop-holder l = l.self ≡ fold (changed_by asking) l.fn.self (take l.holder-index l.holders)

@@ -1,0 +1,74 @@
+-- The nodes in which the entries are kept, and the table that they stand for.
+use Rattle.std.specs.Prelude.{◌≡◌, ℕ, Bool, Option, Some, None, List, [], ◌∷◌, ◌++◌, map, filter, nat_eq, zero, suc, if◌then◌else◌}
+use Rattle.std.specs.Option.{option_map}
+use Rattle.capbits.specs.declared.ids.ClientId.{ClientId}
+use Rattle.capbits.specs.declared.ids.Ino.{Ino}
+use Rattle.cap_arena.specs.declared.nodes.Node.{Node}
+use Rattle.cap_arena.specs.Lists.{Lists, ListName, OfInode, OfClient, OfRecall, node_at, keys}
+use Rattle.captable.specs.declared.entry.Holder.{Holder}
+use Rattle.captable.specs.declared.entry.Entry.{Entry}
+use Rattle.captable.specs.declared.entry.EntryRow.{EntryRow}
+use Rattle.captable.specs.declared.entry.Slot.{Slot}
+use Rattle.captable.specs.Table.{Table, holder, entry_at}
+use Rattle.captable.specs.Calls.{is_of_client, entries_on}
+
+-- ---- one node
+
+abbrev pub holder_of : Node Slot → Holder
+holder_of node = holder node.client node.ino
+
+abbrev pub row_of : Node Slot → EntryRow
+row_of node = record { holder = holder_of node; entry = node.value.entry }
+
+abbrev pub with_entry : Entry → Node Slot → Node Slot
+with_entry entry node = record node { value = record node.value { entry = entry } }
+
+-- whether so many entries were made before it
+abbrev pub has_number : ℕ → Node Slot → Bool
+has_number number node = nat_eq node.value.number number
+
+-- ---- the nodes of a list
+
+abbrev pub with_first : Option (Node Slot) → List (Node Slot) → List (Node Slot)
+with_first None nodes = nodes
+with_first (Some node) nodes = node ∷ nodes
+
+-- the nodes of some keys, in their order
+abbrev pub nodes_at : (ℕ → Option (Node Slot)) → List ℕ → List (Node Slot)
+nodes_at at [] = []
+nodes_at at (key ∷ keys) = with_first (at key) (nodes_at at keys)
+
+-- the nodes of a list, from its first one on
+abbrev pub nodes_in : Lists Slot → ListName → List (Node Slot)
+nodes_in lists name = nodes_at (node_at lists) (keys lists name)
+
+-- ---- the table that nodes stand for
+
+-- the nodes whose numbers are below `end`, those of each number after those of each lower one
+abbrev pub by_number : ℕ → List (Node Slot) → List (Node Slot)
+by_number zero nodes = []
+by_number (suc number) nodes = by_number number nodes ++ filter (has_number number) nodes
+
+-- the table of nodes in the order of recall
+abbrev pub table_by : List (Node Slot) → ℕ → Table
+table_by nodes made = record { rows = map row_of (by_number made nodes); recall = map holder_of nodes; made = made }
+
+abbrev pub table_of : Lists Slot → ℕ → Table
+table_of lists made = table_by (nodes_in lists OfRecall) made
+
+-- ---- a change of one node
+
+-- the node has this entry, and nothing else changes
+pub record SetsEntry (old new : Lists Slot) (key : ℕ) (entry : Entry) : Type 0 where
+  pub nodes : (k : ℕ) → node_at new k ≡ (if nat_eq k key then option_map (with_entry entry) (node_at old k) else node_at old k)
+  pub lists : (name : ListName) → keys new name ≡ keys old name
+
+-- ---- the lists that a table lends
+
+-- the lists of nodes are those of the table's entries: the order of recall, the entries on each inode and those of each
+-- client, and each node has the entry of its holder
+pub record AreLists (table : Table) (lists : Lists Slot) : Type 0 where
+  pub recall : map holder_of (nodes_in lists OfRecall) ≡ table.recall
+  pub inodes : (ino : Ino) → map row_of (nodes_in lists (OfInode ino)) ≡ entries_on table ino
+  pub clients : (client : ClientId) → map row_of (nodes_in lists (OfClient client)) ≡ filter (is_of_client client) table.rows
+  pub nodes : (key : ℕ) (node : Node Slot) → node_at lists key ≡ Some node → entry_at table (holder_of node) ≡ Some node.value.entry

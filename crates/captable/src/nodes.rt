@@ -1,0 +1,89 @@
+//! The nodes of the table: reads of one node, and changes of one, whose writes of links nobody counts.
+ghost use Rattle.std.specs.Prelude.{◌≡◌, ◌≤◌, None, IsSome, IfOk, OnErr};
+ghost use Rattle.std.specs.Option.{option_map};
+ghost use Rattle.capbits.specs.Refusal.{first_failing};
+ghost use Rattle.cap_arena.specs.Lists.{IsLists, node_at};
+ghost use Rattle.cap_arena.specs.Calls.{node, add_tests, Adds, Removes, Touches};
+ghost use Rattle.captable.specs.Nodes as words;
+ghost use Rattle.captable.specs.Nodes.{holder_of, SetsEntry};
+
+use crate::entry::{Entry, EntryRow, Holder, Slot};
+use cap_arena::{LinkWrites, Node, TripleLists};
+use std::alloc::AllocError;
+use std::sync::ledger::{Blank, Ledger};
+
+// The row that the node stands for.
+pub(crate) fn row_of(node: &Node<Slot>) -> EntryRow
+    ensures { result ≡ words.row_of node.now }
+{
+    let (client, ino) = (node.client, node.ino);
+    EntryRow {
+        holder: Holder { client, ino },
+        entry: node.value.entry,
+    }
+}
+
+// The holder whose node has this key.
+pub(crate) fn holder_at(lists: &TripleLists<Slot>, key: usize) -> Option<Holder>
+    ensures { result ≡ option_map holder_of (node_at lists.now key) }
+{
+    let node = lists.get(key)?;
+    let (client, ino) = (node.client, node.ino);
+    Some(Holder { client, ino })
+}
+
+// Gives the node this entry in place of its own, where the key has one.
+pub(crate) fn set_entry(lists: &mut TripleLists<Slot>, key: usize, entry: Entry)
+    ensures there { IsSome (node_at lists.old key) → SetsEntry lists.old lists.new key entry }
+    ensures sound { IsLists lists.new }
+{
+    if let Some(node) = lists.get(key) {
+        let number = node.value.number;
+        lists.set(key, Slot { entry, number });
+    }
+}
+
+// Adds a node for the holder, and answers its key. For want of memory nothing changes.
+pub(crate) fn add_node<L: Ledger>(
+    lists: &mut TripleLists<Slot>,
+    holder: Holder,
+    slot: Slot,
+    blank: Blank,
+) -> Result<usize, AllocError>
+    requires passed { first_failing (add_tests lists.old) ≡ None }
+    requires name { blank.name ≡ L.name }
+    requires parts { blank.parts ≡ L.parts }
+    requires counts { 1 ≤ L.parts }
+    ensures ok { IfOk result (λ key. Adds lists.old lists.new key (node holder.client holder.ino slot)) }
+    ensures err { OnErr result (lists.new ≡ lists.old) }
+    ensures sound { IsLists lists.new }
+{
+    let mut writes = LinkWrites::<L>::new(blank);
+    lists.add(holder.client, holder.ino, slot, &mut writes)
+}
+
+// The node becomes the last one in the order of recall.
+pub(crate) fn touch_node<L: Ledger>(lists: &mut TripleLists<Slot>, key: usize, blank: Blank)
+    requires there { IsSome (node_at lists.old key) }
+    requires name { blank.name ≡ L.name }
+    requires parts { blank.parts ≡ L.parts }
+    requires counts { 1 ≤ L.parts }
+    ensures touched { Touches lists.old lists.new key }
+    ensures sound { IsLists lists.new }
+{
+    let mut writes = LinkWrites::<L>::new(blank);
+    lists.touch(key, &mut writes);
+}
+
+// Takes the node out of its lists.
+pub(crate) fn remove_node<L: Ledger>(lists: &mut TripleLists<Slot>, key: usize, blank: Blank)
+    requires there { IsSome (node_at lists.old key) }
+    requires name { blank.name ≡ L.name }
+    requires parts { blank.parts ≡ L.parts }
+    requires counts { 1 ≤ L.parts }
+    ensures removed { Removes lists.old lists.new key }
+    ensures sound { IsLists lists.new }
+{
+    let mut writes = LinkWrites::<L>::new(blank);
+    let _node = lists.remove(key, &mut writes);
+}
