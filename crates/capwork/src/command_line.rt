@@ -23,6 +23,7 @@ const WORKS: &str = "WORK is one of
   create-T-deep      the same, in chains of 16 directories
   open-T             open files beside T inodes that are open
   revoke-T           revoke what a client holds on a file, beside T inodes that are open
+  retry              have two clients share a file, and ask again for each event that finds no memory
 with G of 1, 4 or 16, D of 1, 8 or 32, and T of 100, 1000, 10000 or 60000";
 
 const WRONG_WORK: &str = "there is no such WORK: --help lists them";

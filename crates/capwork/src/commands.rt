@@ -6,7 +6,9 @@ use crate::command_line::{Task, parse};
 use crate::core_work::{CoreWork, on_a_core};
 use crate::fault::Fault;
 use crate::judging::{judge, read};
+use crate::tally::Tally;
 use crate::work::Work;
+use clap::error::ErrorKind;
 use std::alloc::Global;
 use std::io::Write;
 
@@ -38,21 +40,26 @@ pub fn dispatch(
     }
 }
 
-// Does the work and writes the sum over its answers, as a line.
+// Does the work and writes the sum over its answers, as a line, and one more where something was asked for again.
 fn run(alloc: Global, task: Task, writer: &mut impl Write) -> Result<(), Fault> {
-    let sum = sum_of(alloc, task)?;
-    writeln!(writer, "sum {sum}").map_err(|_| Fault::WriteFailed)
+    let Tally { sum, stops } = tally_of(alloc, task)?;
+    writeln!(writer, "sum {sum}").map_err(|_| Fault::WriteFailed)?;
+    if stops > 0 {
+        writeln!(writer, "stops {stops}").map_err(|_| Fault::WriteFailed)?;
+    }
+    Ok(())
 }
 
-/// The sum over the answers of a task. It wraps past 64 bits.
-pub fn sum_of(alloc: Global, task: Task) -> Result<u64, Fault> {
+// What a task comes to.
+fn tally_of(alloc: Global, task: Task) -> Result<Tally, Fault> {
     match task.work {
-        Work::Verdict(shape) => judge(alloc, shape, task.times),
-        Work::Parse(shape) => read(alloc, shape, task.times),
+        Work::Verdict(shape) => Ok(Tally::of(judge(alloc, shape, task.times)?)),
+        Work::Parse(shape) => Ok(Tally::of(read(alloc, shape, task.times)?)),
         Work::Lookup(shape) => on_a_core(alloc, CoreWork::Lookup(shape), task.times),
         Work::Create(shape) => on_a_core(alloc, CoreWork::Create(shape), task.times),
         Work::Open(size) => on_a_core(alloc, CoreWork::Open(size), task.times),
         Work::Revoke(size) => on_a_core(alloc, CoreWork::Revoke(size), task.times),
+        Work::Retry => on_a_core(alloc, CoreWork::Retry, task.times),
     }
 }
 
@@ -60,6 +67,9 @@ pub fn sum_of(alloc: Global, task: Task) -> Result<u64, Fault> {
 fn show(error: &clap::Error, writer: &mut impl Write, faults: &mut impl Write) -> u8
     ensures { result ≤ USAGE }
 {
+    if error.kind() == ErrorKind::OutOfMemory {
+        return report(Fault::NoMemory, faults);
+    }
     if error.use_stderr() {
         let _ = write!(faults, "{error}");
         return USAGE;

@@ -3,6 +3,8 @@
 use crate::entries::{open, revoke};
 use crate::fault::Fault;
 use crate::inodes::{USER, create, look_up, mode};
+use crate::retry::retry;
+use crate::tally::Tally;
 use crate::work::{Size, TreeShape};
 use capcore::Core;
 use capgrant::Attr;
@@ -23,22 +25,26 @@ pub(crate) enum CoreWork {
     Open(Size),
     // Capabilities are revoked.
     Revoke(Size),
+    // Files are shared, and events asked for again.
+    Retry,
 }
 
-/// Does the work so many times on a core, and returns the sum over its answers. No other function owns a core: what it
+/// Does the work so many times on a core, and returns what it comes to. No other function owns a core: what it
 /// keeps is carried through each way out of its owner.
-pub(crate) fn on_a_core(alloc: Global, work: CoreWork, times: u32) -> Result<u64, Fault> {
+pub(crate) fn on_a_core(alloc: Global, work: CoreWork, times: u32) -> Result<Tally, Fault> {
     let mut core = fresh(alloc)?;
     work_on(alloc, &mut core, work, times)
 }
 
-fn work_on(alloc: Global, core: &mut Core, work: CoreWork, times: u32) -> Result<u64, Fault> {
-    match work {
-        CoreWork::Lookup(shape) => look_up(alloc, core, shape, times),
-        CoreWork::Create(shape) => create(alloc, core, shape, times),
-        CoreWork::Open(size) => open(alloc, core, size, times),
-        CoreWork::Revoke(size) => revoke(alloc, core, size, times),
-    }
+fn work_on(alloc: Global, core: &mut Core, work: CoreWork, times: u32) -> Result<Tally, Fault> {
+    let sum = match work {
+        CoreWork::Lookup(shape) => look_up(alloc, core, shape, times)?,
+        CoreWork::Create(shape) => create(alloc, core, shape, times)?,
+        CoreWork::Open(size) => open(alloc, core, size, times)?,
+        CoreWork::Revoke(size) => revoke(alloc, core, size, times)?,
+        CoreWork::Retry => return retry(alloc, core, times),
+    };
+    Ok(Tally::of(sum))
 }
 
 // A core on a tree that has its root alone.

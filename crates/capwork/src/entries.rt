@@ -1,4 +1,6 @@
 //! The work on capabilities: files are opened, or two clients pass what they hold to and fro, beside the entries of a third.
+ghost use Rattle.std.specs.Prelude.{◌≡◌, ◌↔◌, ◌<◌, ◌≤◌, Err, IsTrue};
+ghost use Rattle.capwork.specs.declared.fault.Fault.TheVariants as faults;
 
 use crate::fault::Fault;
 use crate::inodes::{Asking, CLIENT, PASS, ask, build, inode_at, open_session};
@@ -21,8 +23,10 @@ const HOLDER: ClientId = ClientId(3);
 const MESSAGES: u32 = 9;
 
 /// Opens so many files that nobody has open, and returns the sum of the numbers of the changes that are shown.
-pub(crate) fn open(alloc: Global, core: &mut Core, size: Size, times: u32) -> Result<u64, Fault> {
-    if times > FILES {
+pub(crate) fn open(alloc: Global, core: &mut Core, size: Size, times: u32) -> Result<u64, Fault>
+    ensures { 1024 < times → result ≡ Err faults.TooManyOpenings }
+{
+    if !are_made(times) {
         return Err(Fault::TooManyOpenings);
     }
     hold(alloc, core, size)?;
@@ -36,6 +40,13 @@ pub(crate) fn revoke(alloc: Global, core: &mut Core, size: Size, times: u32) -> 
     make_files(alloc, core, size, 1)?;
     share(core, file_at(size, 0))?;
     revoke_often(core, file_at(size, 0), times)
+}
+
+// Whether so many files are made to be opened.
+fn are_made(times: u32) -> bool
+    ensures { IsTrue result ↔ (times ≤ 1024) }
+{
+    times <= FILES
 }
 
 // The tree that holds so many inodes, all in the root.

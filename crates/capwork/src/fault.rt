@@ -1,7 +1,7 @@
 //! Why the program gave no sum.
 
 use capcore::Stop;
-use capspec::SpecFault;
+use capspec::{SpecFault, SpecFaultKind};
 use std::alloc::{AllocError, AllocFailed};
 use thiserror::Error;
 
@@ -20,6 +20,9 @@ pub enum Fault {
     /// The core answered with no inode.
     #[error("the core refused")]
     Refused,
+    /// The core is not what it was before it took no event.
+    #[error("the core changed, where it found no memory")]
+    Changed,
     /// The core took no event.
     #[error("{0}")]
     Stopped(Stop),
@@ -43,9 +46,13 @@ impl<T: Drop> From<AllocFailed<T>> for Fault {
     }
 }
 
+// Where only memory was missing, the grants are not to blame.
 impl From<SpecFault> for Fault {
     fn from(fault: SpecFault) -> Self {
-        Fault::Grants(fault)
+        match fault.kind {
+            SpecFaultKind::NoMemory => Fault::NoMemory,
+            _ => Fault::Grants(fault),
+        }
     }
 }
 

@@ -89,10 +89,16 @@ fn lookup(alloc: Global, shape: TreeShape, turn: u32) -> Result<Event, Fault> {
 
 // The event that makes one more file.
 fn creation(alloc: Global, shape: TreeShape, turn: u32) -> Result<Event, Fault> {
+    let place = shape.size.number() + u64::from(turn);
+    creation_of(alloc, directory_for(shape, turn), place)
+}
+
+// The event that makes a file, whose name has this number.
+pub(crate) fn creation_of(alloc: Global, dir: Ino, place: u64) -> Result<Event, Fault> {
     Ok(Event::Create {
         client: CLIENT,
-        dir: directory_for(shape, turn),
-        name: name_of(alloc, shape.size.number() + u64::from(turn))?,
+        dir,
+        name: name_of(alloc, place)?,
         mode: mode()?,
     })
 }
@@ -159,7 +165,13 @@ fn answer(core: &mut Core, event: Event) -> Result<u64, Fault> {
 
 // Gives a client a session in which it may do all.
 pub(crate) fn open_session(alloc: Global, core: &mut Core, client: ClientId) -> Result<(), Fault> {
-    let session = Event::Session {
+    let _done = core.apply(PASS, session_of(alloc, client)?)?;
+    Ok(())
+}
+
+// The event by which a client gets a session in which it may do all.
+pub(crate) fn session_of(alloc: Global, client: ClientId) -> Result<Event, Fault> {
+    Ok(Event::Session {
         client,
         caller: Caller {
             uid: USER,
@@ -167,9 +179,7 @@ pub(crate) fn open_session(alloc: Global, core: &mut Core, client: ClientId) -> 
             groups: Groups::new(),
         },
         grants: read_grants(alloc, b"allow rw")?,
-    };
-    let _done = core.apply(PASS, session)?;
-    Ok(())
+    })
 }
 
 // Gives the client a session, and the core a tree of this shape.

@@ -6,10 +6,13 @@
 mod command_line;
 mod commands;
 mod core_work;
+mod digest;
 mod entries;
 mod fault;
 mod inodes;
 mod judging;
+mod retry;
+mod tally;
 mod work;
 
 pub use commands::{DONE, FAILED, USAGE, dispatch, report};

@@ -15,6 +15,8 @@ pub enum Work {
     Open(Size),
     /// Have a core revoke what a client holds on a file, beside so many other inodes that are open.
     Revoke(Size),
+    /// Have two clients share files, and ask a core again for what it finds no memory for.
+    Retry,
 }
 
 /// What a grant text is like.
@@ -71,6 +73,9 @@ pub enum Layout {
 impl Work {
     /// The piece of work that a word names.
     pub fn read(word: &str) -> Option<Work> {
+        if word == "retry" {
+            return Some(Work::Retry);
+        }
         let (kind, shape) = word.split_once('-')?;
         match kind {
             "verdict" => Some(Work::Verdict(GrantShape::read(shape)?)),

@@ -19,7 +19,7 @@ fn tree(size: Size, layout: Layout) -> TreeShape {
 }
 
 // Words, and the work that each names.
-fn works() -> [(&'static str, Work); 12] {
+fn works() -> [(&'static str, Work); 13] {
     use Callers::{Any, OneUser};
     use Layout::{Deep, Flat};
     use Size::{Hundred, SixtyThousand, TenThousand, Thousand};
@@ -36,6 +36,7 @@ fn works() -> [(&'static str, Work); 12] {
         ("create-10000-deep", Work::Create(tree(TenThousand, Deep))),
         ("open-100", Work::Open(Hundred)),
         ("revoke-60000", Work::Revoke(SixtyThousand)),
+        ("retry", Work::Retry),
     ]
 }
 
@@ -47,7 +48,7 @@ fn each_word_names_its_work(rt: HostRuntime) {
 }
 
 /// Words that name no work.
-const NO_WORK: [&str; 16] = [
+const NO_WORK: [&str; 17] = [
     "",
     "verdict",
     "verdict-1-plain",
@@ -64,6 +65,7 @@ const NO_WORK: [&str; 16] = [
     "remove-100-flat",
     "open-200",
     "revoke-100-flat",
+    "retry-100",
 ];
 
 #[test]
@@ -164,6 +166,19 @@ fn each_work_prints_its_sum_twice(rt: HostRuntime) -> Result<(), Fail> {
     for (work, times, printed) in SUMS {
         expect_twice(&rt, rt.alloc(), &[work, times], printed)?;
     }
+    Ok(())
+}
+
+// Two clients share files, and what is answered is what the script says. The sum is a hash, which says only that all is the
+// same again.
+#[test]
+fn what_two_clients_share_is_the_same_twice(rt: HostRuntime) -> Result<(), Fail> {
+    let line = line_of(rt.alloc(), &["retry", "2"])?;
+    let (status, text, is_quiet) = outcome(rt.alloc(), line.as_slice());
+    let (_, again, _) = outcome(rt.alloc(), line.as_slice());
+    same(&rt, status, 0, "status");
+    same(&rt, is_quiet, true, "no faults");
+    same(&rt, text.as_slice(), again.as_slice(), "text");
     Ok(())
 }
 

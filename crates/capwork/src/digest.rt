@@ -1,0 +1,29 @@
+//! A number for all that a core keeps, made without memory.
+
+use capcore::Core;
+use std::fmt;
+use std::fmt::Write;
+use std::hash::{DefaultHasher, Hasher};
+
+// Takes text, and keeps a hash of it.
+#[derive(Drop)]
+struct Digest {
+    hasher: DefaultHasher,
+}
+
+impl Write for Digest {
+    fn write_str(&mut self, text: &str) -> fmt::Result {
+        self.hasher.write(text.as_bytes());
+        Ok(())
+    }
+}
+
+/// A hash of all that the core keeps, its history included, as its `Debug` tells it. It takes no memory: where an event found
+/// none, the core can still be compared with what it was.
+pub(crate) fn digest_of(core: &Core) -> u64 {
+    let mut digest = Digest {
+        hasher: DefaultHasher::new(),
+    };
+    let _ = write!(digest, "{core:?}");
+    digest.hasher.finish()
+}

@@ -1,0 +1,17 @@
+//! What a piece of work comes to.
+
+/// What a piece of work comes to.
+#[derive(Clone, Copy, Debug, PartialEq, Eq)]
+pub(crate) struct Tally {
+    // The sum over its answers. It wraps past 64 bits.
+    pub(crate) sum: u64,
+    // How many events found no memory and were asked for again.
+    pub(crate) stops: u64,
+}
+
+impl Tally {
+    // The tally of work in which nothing is asked for again.
+    pub(crate) fn of(sum: u64) -> Tally {
+        Tally { sum, stops: 0 }
+    }
+}
