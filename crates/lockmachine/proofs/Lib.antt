@@ -1,3 +1,4 @@
+pub mod Positions
 pub mod Idle
 pub mod Rest
 pub mod Exact

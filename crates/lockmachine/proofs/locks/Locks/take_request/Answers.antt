@@ -1,6 +1,6 @@
 use Rattle.std.proofs.Common.{List, sym, ap, ◌∙◌}
 use Rattle.std.specs.List.{position}
-use Rattle.captable.proofs.Changes.{no_position}
+use Rattle.lockmachine.proofs.Positions.{no_position}
 use Rattle.lockmachine.specs.declared.request.Request.{Request}
 use Rattle.lockmachine.specs.Requests.{is_numbered}
 use Rattle.lockmachine.specs.Locks.{LockMap, request_at, without_request}
