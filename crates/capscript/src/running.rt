@@ -59,9 +59,38 @@ pub fn run<R: Read, W: Write>(
         × Consumes (R.remaining (inner_of reader.old)) (R.remaining (inner_of reader.new)) taken
         × (length taken ≤ longest_script + 1) }
 {
-    let mut core = open_core(alloc)?;
-    let script = read_script(alloc, reader)?;
-    answer_lines(alloc, &mut core, script.as_slice(), writer)
+    let core = open_core(alloc)?;
+    // What is handed on here is dropped there: in this function each part of the core would be a step of the proof.
+    match read_script(alloc, reader) {
+        Ok(script) => answer_script(alloc, core, script, writer),
+        Err(fault) => {
+            drop(core);
+            Err(fault)
+        }
+    }
+}
+
+// Answers the events of a script, which it drops with the core.
+fn answer_script<W: Write>(
+    alloc: Global,
+    mut core: Core,
+    script: Vec<u8>,
+    writer: &mut Watched<W>,
+) -> Result<(), ScriptFault>
+    requires opens { IsOpening fs_name (first_tree root_attr) core.state }
+    requires empty { core.rows ≡ [] }
+    requires room { core.max_rows ≡ u32.MAX }
+    requires short { length script.items ≤ longest_script }
+    requires clear { IsFalse (has_failed writer.old) }
+    ensures ran { (text : List ℕ)
+        × Answered (lines script.items) result text
+        × Appends (W.contents (inner_of writer.old)) (W.contents (inner_of writer.new)) text }
+    ensures read { result ≢ Err stops.ReadFault }
+    ensures written { (result ≡ Err stops.WriteFault) ↔ IsTrue (has_failed writer.new) }
+{
+    let answered = answer_lines(alloc, &mut core, script.as_slice(), writer);
+    drop(core);
+    answered
 }
 
 // The core of a file system that has a root alone.

@@ -10,9 +10,9 @@ use std::test::Fail;
 // How many calls are made, of how many clients and on how many inodes.
 const CALLS: u32 = 100_000;
 
-const CLIENTS: u64 = 5;
+const CLIENTS: u32 = 5;
 
-const INODES: u64 = 7;
+const INODES: u32 = 7;
 // After so many calls both are compared.
 const COMPARED: u32 = 16;
 
@@ -135,7 +135,7 @@ fn want_both(table: &mut CapTable, plain: &mut Plain, client: u32, ino: u64, wan
 fn call(
     table: &mut CapTable,
     plain: &mut Plain,
-    kind: u64,
+    kind: u32,
     client: u32,
     ino: u64,
 ) -> Result<(), AllocError> {
@@ -208,13 +208,14 @@ fn agree(table: &CapTable, plain: &Plain, client: u32, ino: u64) -> bool {
 }
 
 // The next of a row of numbers that look random, below a bound.
-fn number(seed: &mut u64, bound: u64) -> u64 {
+fn number(seed: &mut u64, bound: u32) -> u32 {
     *seed = seed
         .wrapping_mul(6_364_136_223_846_793_005)
         .wrapping_add(1_442_695_040_888_963_407);
+    let bits = (*seed >> 33) as u32;
     match bound {
         0 => 0,
-        _ => (*seed >> 33) % bound,
+        _ => bits % bound,
     }
 }
 
@@ -227,8 +228,8 @@ fn run(alloc: Global, table: &mut CapTable) -> Result<Option<u32>, AllocError> {
     let mut seed = 20_260_801;
     for made in 0..CALLS {
         let kind = number(&mut seed, 45);
-        let client = number(&mut seed, CLIENTS) as u32;
-        let ino = number(&mut seed, INODES);
+        let client = number(&mut seed, CLIENTS);
+        let ino = u64::from(number(&mut seed, INODES));
         call(table, &mut plain, kind, client, ino)?;
         if made % COMPARED == 0 && !agree(table, &plain, client, ino) {
             return Ok(Some(made));
