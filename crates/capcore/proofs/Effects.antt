@@ -22,7 +22,8 @@ use Rattle.capcore.specs.declared.reply.Reply.TheVariants as reply
 use Rattle.capcore.specs.declared.stopped.Stopped.{Stopped}
 use Rattle.capcore.specs.declared.stopped.Stopped.TheVariants.{ByTest}
 use Rattle.capcore.specs.State.{State}
-use Rattle.capcore.specs.Judge.{Need, stop, stop_reply, need, judged, asked_tests}
+use Rattle.capcore.specs.Judge.{stop, stop_reply, judged, asked_tests}
+use Rattle.capcore.specs.Needs.{Need, need}
 use Rattle.capcore.specs.Direct.{Says, IsDirect, with_tree, with_birth, owned_by, made_event}
 use Rattle.capcore.proofs.Judging.{stopped, passed, no_test, direct-stopped, direct-passed}
 

@@ -1,16 +1,16 @@
 -- A state that is sound but for a stray is sound once that stray is forgotten.
 use Rattle.std.proofs.Common.{◌≡◌, ◌≢◌, ℕ, zero, suc, ◌==◌, Bool, true, false, not, cond, ◌||◌, Option, Some, None, is_some, List, [], ◌∷◌, refl, sym, ap, subst, ◌∙◌, Contains, arith, true≢false, inl, inr}
-use Rattle.std.specs.Prelude.{IsTrue, All}
+use Rattle.std.specs.Prelude.{IsTrue, All, filter}
 use Rattle.std.specs.List.{list_any}
 use Rattle.std.specs.Option.{option_map}
 use Rattle.std.specs.Cmp.{nat_cmp_total, nat_eq_equiv}
 use Rattle.std.specs.FinMap as map
-use Rattle.std.proofs.lemmas.List.Elements.{All-contains, All-contains_itself, All-weaker, All-same, All-nil}
+use Rattle.std.proofs.lemmas.List.Elements.{All-contains, All-contains_itself, All-weaker}
 use Rattle.capbits.specs.declared.cap.Cap.TheVariants.{P}
 use Rattle.capbits.specs.declared.cap.Part.{Part}
 use Rattle.capbits.specs.declared.cap.Part.TheVariants.{A, L, X, F}
 use Rattle.capbits.specs.Caps.{Caps}
-use Rattle.capbits.specs.Sets.{caps_in, union, meet, IsSubset}
+use Rattle.capbits.specs.Sets.{caps_in, union, meet, is_empty, IsSubset}
 use Rattle.inotree.specs.declared.node.Place.{Place}
 use Rattle.inotree.specs.declared.node.Place.TheVariants.{NoIno, Gone, Here}
 use Rattle.inotree.specs.Tree.{Nodes, IsTree, place, place_at}
@@ -27,7 +27,7 @@ use Rattle.lockmachine.specs.Inodes.{lock_in}
 use Rattle.lockmachine.specs.Locks.{LockMap, lock_at, without_ino}
 use Rattle.lockmachine.specs.Requests.{first_for}
 use Rattle.lockmachine.specs.Wants.{Want, effective_want, in_all}
-use Rattle.lockmachine.specs.Scene.{Scene, target_by}
+use Rattle.lockmachine.specs.Scene.{Scene, target_by, outside}
 use Rattle.lockmachine.specs.Moves.{IsQuiet, IsAtRest}
 use Rattle.lockmachine.specs.Rows.{IsInRowOf, IsInRow}
 use Rattle.lockmachine.proofs.PolicyElsewhere.{want-forgotten, wants-kept}
@@ -73,10 +73,25 @@ none_passes p (x ∷ xs) row none (suc k, room, is) = none_passes p xs row (late
 pub all_rows : (Q : EntryRow → Type 0) (rows : List EntryRow) → ((row : EntryRow) → Contains rows row → Q row) → All Q rows
 all_rows Q rows each = All-weaker (Contains rows) Q each rows (All-contains_itself rows)
 
--- the state is sound, but that somebody need not have an entry on this inode if it is a stray; and nobody waits
+-- where nobody has an entry, nobody waits: no gather is open, and a lock that is stable and at rest has no queue
+nothing_on : (p : EntryRow → Bool) (rows : List EntryRow) → list_any p rows ≡ false → filter p rows ≡ []
+nothing_on p [] none = refl
+nothing_on p (x ∷ xs) none = elim (p x) as (λ b. (b || list_any p xs) ≡ false → cond b (x ∷ filter p xs) (filter p xs) ≡ []) [
+  | true ↦ λ none. absurd (true≢false none)
+  | false ↦ λ none. nothing_on p xs none
+] none
+
+nobody_waits : (s : Scene) (ino : ℕ) (part : Part) (o : Option LockState) → list_any (is_of_inode (record { 0 = ino })) s.table.rows ≡ false → IsQuiet s ino part o
+    → first_for s.locks.queue ino part ≡ None
+nobody_waits s ino part None nobody quiet = quiet
+nobody_waits s ino part (Some (Stable state)) nobody quiet = quiet.1
+nobody_waits s ino part (Some (Gather from to)) nobody quiet =
+    absurd (true≢false (sym quiet ∙ ap (list_any (λ row. not (is_empty (outside part to row)))) (nothing_on (is_of_inode (record { 0 = ino })) s.table.rows nobody)))
+
+-- the state is sound, but that somebody need not have an entry on this inode if it is a stray
 pub record IsSoundBut (ino : ℕ) (s : State) : Type 0 where
   pub entries : All (IsSoundEntry s.scene) s.scene.table.rows
-  pub nobody : s.scene.locks.queue ≡ []
+  pub waiting : All (λ q. IsTrue (has_session s.scene.sessions q.client.0)) s.scene.locks.queue
   pub messages : All (λ m. IsTrue (has_session s.scene.sessions m.client.0)) s.messages
   pub locked : (q : ℕ) → map.contains_key s.scene.locks.states q ≡ map.contains_key s.scene.tree.nodes q
   pub strays : (q : ℕ) → q ≢ ino → place s.scene.tree.nodes q ≡ Gone → IsTrue (list_any (is_of_inode (record { 0 = q })) s.scene.table.rows)
@@ -88,7 +103,7 @@ module _ (ino : ℕ) (s : State) (sound : IsSoundBut ino s) where
   whole : (place s.scene.tree.nodes ino ≡ Gone → IsTrue (list_any (is_of_inode (record { 0 = ino })) s.scene.table.rows)) → IsSound s
   whole here = record {
     entries = sound.entries;
-    waiting = All-same (λ q. IsTrue (has_session s.scene.sessions q.client.0)) s.scene.locks.queue [] sound.nobody (All-nil (λ q. IsTrue (has_session s.scene.sessions q.client.0)));
+    waiting = sound.waiting;
     messages = sound.messages;
     locked = sound.locked;
     strays = λ q gone. elim (same_or_other nat_cmp_total map.nat_cmp-IsAntisymmetric q ino) as (λ _. list_any (is_of_inode (record { 0 = q })) s.scene.table.rows ≡ true) [
@@ -172,7 +187,9 @@ module _ (ino : ℕ) (s : State) (sound : IsSoundBut ino s) where
     rest_left : IsAtRest left
     rest_left = record {
       each = λ q part. elim (same_or_other nat_cmp_total map.nat_cmp-IsAntisymmetric q ino) as (λ _. IsQuiet left q part (lock_at locks_left q part)) [
-        | inl is ↦ subst (IsQuiet left q part) (sym (no_lock q part is)) (ap (λ queue. first_for queue q part) sound.nobody)
+        | inl is ↦ subst (IsQuiet left q part) (sym (no_lock q part is))
+            (ap (λ i. first_for s.scene.locks.queue i part) is
+            ∙ nobody_waits s.scene ino part (lock_at s.scene.locks ino part) nobody (sound.at_rest.each ino part))
         | inr off ↦ subst (IsQuiet left q part) (sym (same_lock q part off)) (quiet_left q part (lock_at s.scene.locks q part) (sound.at_rest.each q part))
       ];
     }
@@ -180,7 +197,7 @@ module _ (ino : ℕ) (s : State) (sound : IsSoundBut ino s) where
     left_but : IsSoundBut ino (with_scene s left)
     left_but = record {
       entries = all_rows (IsSoundEntry left) s.scene.table.rows entry_left;
-      nobody = sound.nobody;
+      waiting = sound.waiting;
       messages = sound.messages;
       locked = locked_left;
       strays = λ q off is. sound.strays q off (gone_before q off is);

@@ -9,7 +9,8 @@ use Rattle.capcore.specs.declared.stopped.Stopped.{Stopped}
 use Rattle.capcore.specs.declared.stopped.Stopped.TheVariants.{ByTest}
 use Rattle.capcore.specs.State.{State}
 use Rattle.capbits.specs.Refusal.{Test, first_failing}
-use Rattle.capcore.specs.Judge.{Need, stop, stop_by, stop_reply, first_denied, judged}
+use Rattle.capcore.specs.Judge.{stop, stop_by, stop_reply, first_denied, judged}
+use Rattle.capcore.specs.Needs.{Need}
 use Rattle.capcore.specs.Direct.{Says, effect, effect_unless, IsDirect}
 
 stop_by-stopped : (s : Scene) (o : Option Refusal) (d : Option Need) (l : Option Refusal) (r : Stopped) → stop_by s o d None ≡ Some r → stop_by s o d l ≡ Some r

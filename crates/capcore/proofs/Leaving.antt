@@ -6,11 +6,10 @@ use Rattle.std.specs.Option.{option_map}
 use Rattle.std.specs.FinMap as map
 use Rattle.std.proofs.lemmas.Bool.{eqb-true}
 use Rattle.std.proofs.lemmas.List.Elements.{All-contains, All-contains_itself, All-weaker}
-use Rattle.capbits.specs.declared.cap.Cap.TheVariants.{P}
 use Rattle.capbits.specs.declared.cap.Part.{Part}
 use Rattle.capbits.specs.declared.cap.Part.TheVariants.{A, L, X, F}
-use Rattle.capbits.specs.Caps.{Caps, has, caps_where}
-use Rattle.capbits.specs.Sets.{no_caps, caps_in, union, minus, meet, IsSubset}
+use Rattle.capbits.specs.Caps.{has, caps_where}
+use Rattle.capbits.specs.Sets.{no_caps, minus, meet, IsSubset}
 use Rattle.locktable.specs.declared.states.State.TheVariants.{Sync}
 use Rattle.locktable.specs.declared.states.LockState.{LockState}
 use Rattle.locktable.specs.declared.states.LockState.TheVariants.{Stable, Gather}
@@ -23,12 +22,11 @@ use Rattle.sessiontab.specs.Calls.{has_session}
 use Rattle.captable.specs.declared.entry.EntryRow.{EntryRow}
 use Rattle.captable.specs.Table.{IsTable, is_row_of}
 use Rattle.captable.specs.Calls.{is_of_inode}
-use Rattle.lockmachine.specs.declared.states.InodeLocks.{InodeLocks}
 use Rattle.lockmachine.specs.Inodes.{StateMap, lock_in, in_sync}
 use Rattle.lockmachine.specs.Locks.{lock_at}
 use Rattle.lockmachine.specs.Requests.{first_for, head_of}
 use Rattle.lockmachine.specs.Wants.{effective_want, want_of, loner_of, union_of, in_all}
-use Rattle.lockmachine.specs.Scene.{Scene, rows_on, loner, wanted, target_by, against_lock, against}
+use Rattle.lockmachine.specs.Scene.{Scene, rows_on, loner, wanted, target_by, against}
 use Rattle.lockmachine.specs.Moves.{IsQuiet}
 use Rattle.lockmachine.proofs.PolicyElsewhere.{wants-kept}
 use Rattle.capcore.specs.State.{State}
@@ -42,7 +40,7 @@ use Rattle.capcore.proofs.Finishing.{same-finished}
 
 -- ---- lists of rows
 
-pub found-contains : (p : EntryRow → Bool) (rows : List EntryRow) (row : EntryRow) → find p rows ≡ Some row → Contains rows row
+pub found-contains : {T : Type 0} (p : T → Bool) (rows : List T) (row : T) → find p rows ≡ Some row → Contains rows row
 found-contains p [] row found = cc
 found-contains p (x ∷ xs) row found = elim (p x) as (λ b. cond b (Some x) (find p xs) ≡ Some row → Contains (x ∷ xs) row) [
   | true ↦ λ found. let same : x ≡ row = cc in (0, omega arith, same)

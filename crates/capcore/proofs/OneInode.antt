@@ -22,6 +22,7 @@ use Rattle.inotree.specs.Tree.{IsTree, place}
 use Rattle.inotree.specs.Tests.{is_gone}
 use Rattle.inotree.specs.Calls.{forgotten}
 use Rattle.inotree.proofs.Maps.{same_or_other, remove-here, remove-other}
+use Rattle.sessiontab.specs.Table.{SessionTable}
 use Rattle.captable.specs.declared.entry.Entry.{Entry}
 use Rattle.captable.specs.declared.entry.EntryRow.{EntryRow}
 use Rattle.captable.specs.declared.entry.Holder.{Holder}
@@ -30,18 +31,22 @@ use Rattle.captable.specs.Calls.{is_of_inode, entries_on, renumbered}
 use Rattle.captable.specs.Many.{remade}
 use Rattle.captable.proofs.ByHolder.{row_found}
 use Rattle.captable.proofs.Searches.{find-map}
-use Rattle.lockmachine.specs.Locks.{LockMap, lock_at, without_ino}
+use Rattle.lockmachine.specs.Elsewhere.{IsSameBut}
+use Rattle.lockmachine.specs.Locks.{lock_at, without_ino}
 use Rattle.lockmachine.specs.Wants.{effective_want}
 use Rattle.lockmachine.specs.Scene.{Scene, against_lock, told_set}
-use Rattle.lockmachine.proofs.PolicyElsewhere.{want-forgotten}
+use Rattle.lockmachine.proofs.PolicyElsewhere.{want-kept, want-forgotten}
+use Rattle.lockmachine.proofs.SameBut.{same-trans}
 use Rattle.capcore.specs.State.{State}
 use Rattle.capcore.specs.Finish.{allowed_by, due, issue_row, issue, is_kept, forget, told_before, number_row, finished}
 use Rattle.capcore.specs.Headline.{holds, IssuesExactly}
 use Rattle.capcore.specs.Sound.{IsSound, IsSoundEntry}
 use Rattle.capcore.specs.Finishing.{against_under, allowed_under}
+use Rattle.capcore.specs.Settle.{Made}
 use Rattle.capcore.specs.Touching.{Touches, SettlesAt, finished_entry, finished_at}
 use Rattle.capcore.proofs.Finishing.{same-issue_row, same-renumbered, or_inside, kept_by, same_kept}
 use Rattle.capcore.proofs.Leaving.{found-contains}
+use Rattle.capcore.proofs.Moved.{moved-all}
 
 -- ---- lists of rows
 
@@ -144,17 +149,8 @@ due-want s row e want = ap (λ (w : Caps). due s (record row { entry = record ro
 
 -- ---- the end of the step
 
--- of tables and locks that are the old ones off one inode
-module _ (ino : ℕ) (old : State) (table : Table) (locks : LockMap) (sound : IsSound old) (is_table : IsTable table)
-    (others : (other : Ino) → other.0 ≢ ino → entries_on table other ≡ entries_on old.scene.table other)
-    (elsewhere : (other : ℕ) (part : Part) → other ≢ ino → lock_at locks other part ≡ lock_at old.scene.locks other part) where
-  abbrev pub first : Scene
-  first = record old.scene { table = table }
-
-  -- the locks have settled
-  abbrev pub now : Scene
-  now = record old.scene { table = table; locks = locks }
-
+-- of a scene that is the old one off one inode
+module _ (ino : ℕ) (old : State) (now : Scene) (sound : IsSound old) (is_table : IsTable now.table) (same_but : IsSameBut ino old.scene now) where
   abbrev last : Scene
   last = forget (issue now)
 
@@ -163,13 +159,22 @@ module _ (ino : ℕ) (old : State) (table : Table) (locks : LockMap) (sound : Is
   ended row = cond (is_of_inode (record { 0 = ino }) row) (remade (finished_entry old.scene now) row) row
 
   abbrev pub numbered : Scene
-  numbered = record now { table = record table { rows = map ended table.rows } }
+  numbered = record now { table = record now.table { rows = map ended now.table.rows } }
 
   -- ---- elsewhere nothing happens
 
+  elsewhere : (other : ℕ) (part : Part) → other ≢ ino → lock_at now.locks other part ≡ lock_at old.scene.locks other part
+  elsewhere = same_but.locks
+
+  off_want : (row : EntryRow) → row.holder.ino.0 ≢ ino → effective_want now.fs now.tree now.sessions row ≡ effective_want old.scene.fs old.scene.tree old.scene.sessions row
+  off_want row off =
+      ap (λ fs. effective_want fs now.tree now.sessions row) same_but.fs
+      ∙ want-kept old.scene.fs old.scene.tree now.tree old.scene.sessions now.sessions row (same_but.alike row.holder.ino.0 off)
+      (ap (λ (t : SessionTable). finite.get t.sessions row.holder.client.0) same_but.sessions)
+
   pub off_due : (row : EntryRow) → row.holder.ino.0 ≢ ino → due now row ≡ due old.scene row
   off_due row off = λ i.
-      meet (effective_want old.scene.fs old.scene.tree old.scene.sessions row)
+      meet (off_want row off i)
       (union (caps_in (P ∷ []))
       (union (allowed_by A row (elsewhere row.holder.ino.0 A off i))
       (union (allowed_by L row (elsewhere row.holder.ino.0 L off i))
@@ -182,12 +187,12 @@ module _ (ino : ℕ) (old : State) (table : Table) (locks : LockMap) (sound : Is
       (union (against_lock L row (elsewhere row.holder.ino.0 L off i))
       (union (against_lock X row (elsewhere row.holder.ino.0 X off i)) (against_lock F row (elsewhere row.holder.ino.0 F off i)))))
 
-  pub off_held : (row : EntryRow) → Contains table.rows row → row.holder.ino.0 ≢ ino → IsSubset (due now row) row.entry.held
+  pub off_held : (row : EntryRow) → Contains now.table.rows row → row.holder.ino.0 ≢ ino → IsSubset (due now row) row.entry.held
   off_held row inside off =
-      let was = All-contains (IsSoundEntry old.scene) old.scene.table.rows row sound.entries (row_elsewhere ino old.scene.table table others row inside off) in
+      let was = All-contains (IsSoundEntry old.scene) old.scene.table.rows row sound.entries (row_elsewhere ino old.scene.table now.table same_but.entries row inside off) in
       subst (λ caps. IsSubset caps row.entry.held) (sym (off_due row off)) was.has_due
 
-  pub off_same : (row : EntryRow) → Contains table.rows row → row.holder.ino.0 ≢ ino → remade (finished_entry old.scene now) row ≡ row
+  pub off_same : (row : EntryRow) → Contains now.table.rows row → row.holder.ino.0 ≢ ino → remade (finished_entry old.scene now) row ≡ row
   off_same row inside off =
       ap (λ (r : EntryRow). record row { entry = renumbered (told_set old.scene row) (told_set now r) r.entry }) (same-issue_row now row (off_held row inside off))
       ∙ ap (λ (e : Entry). record row { entry = e }) (same-renumbered (told_set old.scene row) (told_set now row) row.entry (sym (off_told row off)))
@@ -195,25 +200,25 @@ module _ (ino : ℕ) (old : State) (table : Table) (locks : LockMap) (sound : Is
   -- ---- which inodes are kept
 
   kept_elsewhere : (q : ℕ) → q ≢ ino → is_kept (issue now) q ≡ true
-  kept_elsewhere q off = kept_by (place old.scene.tree.nodes q) _ (λ gone.
-      any-map (is_of_inode (record { 0 = q })) (issue_row now) (λ row. refl) table.rows
-      ∙ any_elsewhere ino old.scene.table table others q off ∙ sound.strays q gone)
+  kept_elsewhere q off = kept_by (place now.tree.nodes q) _ (λ gone.
+      any-map (is_of_inode (record { 0 = q })) (issue_row now) (λ row. refl) now.table.rows
+      ∙ any_elsewhere ino old.scene.table now.table same_but.entries q off ∙ sound.strays q (sym (same_but.places q off) ∙ gone))
 
-  kept_row : (row : EntryRow) → Contains table.rows row → is_kept (issue now) row.holder.ino.0 ≡ true
-  kept_row row inside = or_right (not (is_gone (place old.scene.tree.nodes row.holder.ino.0))) _
-      (any-map (is_of_inode row.holder.ino) (issue_row now) (λ row. refl) table.rows
-      ∙ any-contains (is_of_inode row.holder.ino) table.rows row inside (eq-eqb row.holder.ino.0 row.holder.ino.0 refl))
+  kept_row : (row : EntryRow) → Contains now.table.rows row → is_kept (issue now) row.holder.ino.0 ≡ true
+  kept_row row inside = or_right (not (is_gone (place now.tree.nodes row.holder.ino.0))) _
+      (any-map (is_of_inode row.holder.ino) (issue_row now) (λ row. refl) now.table.rows
+      ∙ any-contains (is_of_inode row.holder.ino) now.table.rows row inside (eq-eqb row.holder.ino.0 row.holder.ino.0 refl))
 
   pub holder_ended : (row : EntryRow) → (ended row).holder ≡ row.holder
   holder_ended row =
       elim (is_of_inode (record { 0 = ino }) row) as (λ b. (cond b (remade (finished_entry old.scene now) row) row).holder ≡ row.holder) [ true ↦ refl | false ↦ refl ]
 
-  any_ended : list_any (is_of_inode (record { 0 = ino })) (map ended table.rows) ≡ list_any (is_of_inode (record { 0 = ino })) table.rows
-  any_ended = any-map (is_of_inode (record { 0 = ino })) ended (λ row. ap (λ (h : Holder). h.ino.0 == ino) (holder_ended row)) table.rows
+  any_ended : list_any (is_of_inode (record { 0 = ino })) (map ended now.table.rows) ≡ list_any (is_of_inode (record { 0 = ino })) now.table.rows
+  any_ended = any-map (is_of_inode (record { 0 = ino })) ended (λ row. ap (λ (h : Holder). h.ino.0 == ino) (holder_ended row)) now.table.rows
 
   kept_alike : is_kept (issue now) ino ≡ is_kept numbered ino
-  kept_alike = ap (λ b. not (is_gone (place old.scene.tree.nodes ino)) || b)
-      (any-map (is_of_inode (record { 0 = ino })) (issue_row now) (λ row. refl) table.rows ∙ sym any_ended)
+  kept_alike = ap (λ b. not (is_gone (place now.tree.nodes ino)) || b)
+      (any-map (is_of_inode (record { 0 = ino })) (issue_row now) (λ row. refl) now.table.rows ∙ sym any_ended)
 
   kept_map : {V : Type 0} (m : finite.FinMap nat_cmp V) → finite.retain_keys m (is_kept (issue now)) ≡ cond (is_kept numbered ino) m (finite.remove m ino)
   kept_map m = kept_or_removed m (is_kept (issue now)) ino kept_elsewhere ∙ ap (λ b. cond b m (finite.remove m ino)) kept_alike
@@ -221,20 +226,20 @@ module _ (ino : ℕ) (old : State) (table : Table) (locks : LockMap) (sound : Is
   -- ---- the rows
 
   -- an inode that somebody has an entry on keeps its locks
-  locks_kept : (row : EntryRow) → Contains table.rows row → finite.get last.locks.states row.holder.ino.0 ≡ finite.get locks.states row.holder.ino.0
+  locks_kept : (row : EntryRow) → Contains now.table.rows row → finite.get last.locks.states row.holder.ino.0 ≡ finite.get now.locks.states row.holder.ino.0
   locks_kept row inside =
-      finite.get-retain_keys locks.states (is_kept (issue now)) row.holder.ino.0 (λ x e. ap (is_kept (issue now)) (sym (finite.nat_cmp-IsAntisymmetric row.holder.ino.0 x e)))
-      ∙ ap (λ b. cond b (finite.get locks.states row.holder.ino.0) None) (kept_row row inside)
+      finite.get-retain_keys now.locks.states (is_kept (issue now)) row.holder.ino.0 (λ x e. ap (is_kept (issue now)) (sym (finite.nat_cmp-IsAntisymmetric row.holder.ino.0 x e)))
+      ∙ ap (λ b. cond b (finite.get now.locks.states row.holder.ino.0) None) (kept_row row inside)
 
-  numbered_row : (row : EntryRow) → Contains table.rows row → number_row old.scene first last (issue_row now row) ≡ remade (finished_entry old.scene now) row
+  numbered_row : (row : EntryRow) → Contains now.table.rows row → number_row old.scene now last (issue_row now row) ≡ remade (finished_entry old.scene now) row
   numbered_row row inside = λ i. record row {
-    entry = renumbered (told_before old.scene (row_found table row is_table inside i))
+    entry = renumbered (told_before old.scene (row_found now.table row is_table inside i))
         (minus (issue_row now row).entry.held (against_under (locks_kept row inside i) (issue_row now row))) (issue_row now row).entry;
   }
 
-  one_row : (row : EntryRow) → Contains table.rows row → number_row old.scene first last (issue_row now row) ≡ ended row
+  one_row : (row : EntryRow) → Contains now.table.rows row → number_row old.scene now last (issue_row now row) ≡ ended row
   one_row row inside = elim (is_of_inode (record { 0 = ino }) row) as (λ b. is_of_inode (record { 0 = ino }) row ≡ b
-      → number_row old.scene first last (issue_row now row) ≡ cond b (remade (finished_entry old.scene now) row) row) [
+      → number_row old.scene now last (issue_row now row) ≡ cond b (remade (finished_entry old.scene now) row) row) [
         | true ↦ λ e. numbered_row row inside
         | false ↦ λ e. numbered_row row inside ∙ off_same row inside (off_inode row ino e)
       ] refl
@@ -243,44 +248,44 @@ module _ (ino : ℕ) (old : State) (table : Table) (locks : LockMap) (sound : Is
 
   by_kept : (b : Bool) → ◌≡◌ {A = Scene}
       (record numbered {
-        tree = record old.scene.tree { nodes = cond b old.scene.tree.nodes (finite.remove old.scene.tree.nodes ino) };
-        locks = record locks { states = cond b locks.states (finite.remove locks.states ino) };
+        tree = record now.tree { nodes = cond b now.tree.nodes (finite.remove now.tree.nodes ino) };
+        locks = record now.locks { states = cond b now.locks.states (finite.remove now.locks.states ino) };
       })
-      (cond b numbered (record numbered { tree = forgotten old.scene.tree ino; locks = without_ino locks ino }))
+      (cond b numbered (record numbered { tree = forgotten now.tree ino; locks = without_ino now.locks ino }))
   by_kept true = refl
   by_kept false = refl
 
-  pub ends_there : finished old.scene first now ≡ finished_at ino old.scene now
+  pub ends_there : finished old.scene now now ≡ finished_at ino old.scene now
   ends_there =
-      (λ i. record old.scene {
-        tree = record old.scene.tree { nodes = kept_map old.scene.tree.nodes i };
-        table = record table { rows = two_changes (number_row old.scene first last) (issue_row now) ended table.rows one_row i };
-        locks = record locks { states = kept_map locks.states i };
+      (λ i. record now {
+        tree = record now.tree { nodes = kept_map now.tree.nodes i };
+        table = record now.table { rows = two_changes (number_row old.scene now last) (issue_row now) ended now.table.rows one_row i };
+        locks = record now.locks { states = kept_map now.locks.states i };
       })
       ∙ by_kept (is_kept numbered ino)
 
   -- ---- what is newly held
 
-  module _ (tree : IsTree old.scene.tree) where
+  module _ (tree : IsTree now.tree) where
     -- the inode that is forgotten has no entry, and none elsewhere reads it
-    pub due_last : (row : EntryRow) → Contains table.rows row → due (finished_at ino old.scene now) row ≡ due now row
+    pub due_last : (row : EntryRow) → Contains now.table.rows row → due (finished_at ino old.scene now) row ≡ due now row
     due_last row inside = elim (is_kept numbered ino) as (λ b. is_kept numbered ino ≡ b
-        → due (cond b numbered (record numbered { tree = forgotten old.scene.tree ino; locks = without_ino locks ino })) row ≡ due now row) [
+        → due (cond b numbered (record numbered { tree = forgotten now.tree ino; locks = without_ino now.locks ino })) row ≡ due now row) [
           | true ↦ λ e. refl
-          | false ↦ λ e. (let parts = or_parts (not (is_gone (place old.scene.tree.nodes ino))) (list_any (is_of_inode (record { 0 = ino })) (map ended table.rows)) e in
+          | false ↦ λ e. (let parts = or_parts (not (is_gone (place now.tree.nodes ino))) (list_any (is_of_inode (record { 0 = ino })) (map ended now.table.rows)) e in
               let off : row.holder.ino.0 ≢ ino = λ is.
-              true≢false (sym (any_ended ∙ any-contains (is_of_inode (record { 0 = ino })) table.rows row inside (eq-eqb row.holder.ino.0 ino is)) ∙ parts.1) in
-              let want = want-forgotten old.scene.fs old.scene.tree old.scene.sessions tree ino (is_stray _ parts.0) row off in
-              let states = remove-other nat_cmp_total finite.nat_cmp-IsAntisymmetric locks.states ino row.holder.ino.0 off in
+              true≢false (sym (any_ended ∙ any-contains (is_of_inode (record { 0 = ino })) now.table.rows row inside (eq-eqb row.holder.ino.0 ino is)) ∙ parts.1) in
+              let want = want-forgotten now.fs now.tree now.sessions tree ino (is_stray _ parts.0) row off in
+              let states = remove-other nat_cmp_total finite.nat_cmp-IsAntisymmetric now.locks.states ino row.holder.ino.0 off in
               λ i. meet (want i) (allowed_under (states i) row))
         ] refl
 
     pub rows_last : (finished_at ino old.scene now).table ≡ numbered.table
     rows_last =
-        elim (is_kept numbered ino) as (λ b. (cond b numbered (record numbered { tree = forgotten old.scene.tree ino; locks = without_ino locks ino })).table ≡ numbered.table)
+        elim (is_kept numbered ino) as (λ b. (cond b numbered (record numbered { tree = forgotten now.tree ino; locks = without_ino now.locks ino })).table ≡ numbered.table)
         [ true ↦ refl | false ↦ refl ]
 
-    pub held_last : (row : EntryRow) (cap : Cap) → Contains table.rows row → has (ended row).entry.held cap ≡ (has row.entry.held cap || has (due (finished_at ino old.scene now) (ended row)) cap)
+    pub held_last : (row : EntryRow) (cap : Cap) → Contains now.table.rows row → has (ended row).entry.held cap ≡ (has row.entry.held cap || has (due (finished_at ino old.scene now) (ended row)) cap)
     held_last row cap inside = elim (is_of_inode (record { 0 = ino }) row) as (λ b. is_of_inode (record { 0 = ino }) row ≡ b
         → has (cond b (remade (finished_entry old.scene now) row) row).entry.held cap
         ≡ (has row.entry.held cap || has (due (finished_at ino old.scene now) (cond b (remade (finished_entry old.scene now) row) row)) cap)) [
@@ -300,34 +305,37 @@ module _ (ino : ℕ) (old : State) (table : Table) (locks : LockMap) (sound : Is
     abbrev due_of : Cap → Option EntryRow → Bool
     due_of cap o = option_map_or (λ row. has (due (finished_at ino old.scene now) row) cap) o false
 
-    by_row : (cap : Cap) (k : Holder) (o : Option EntryRow) → find (is_row_of k) table.rows ≡ o → held_of cap (option_map ended o) ≡ (held_of cap o || due_of cap (option_map ended o))
+    by_row : (cap : Cap) (k : Holder) (o : Option EntryRow) → find (is_row_of k) now.table.rows ≡ o → held_of cap (option_map ended o) ≡ (held_of cap o || due_of cap (option_map ended o))
     by_row cap k None e = refl
-    by_row cap k (Some row) e = held_last row cap (found-contains (is_row_of k) table.rows row e)
+    by_row cap k (Some row) e = held_last row cap (found-contains (is_row_of k) now.table.rows row e)
 
-    pub found_last : (k : Holder) → find (is_row_of k) (finished_at ino old.scene now).table.rows ≡ option_map ended (find (is_row_of k) table.rows)
-    found_last k = ap (λ (t : Table). find (is_row_of k) t.rows) rows_last ∙ find-map (is_row_of k) ended (λ row. ap (same k) (holder_ended row)) table.rows
+    pub found_last : (k : Holder) → find (is_row_of k) (finished_at ino old.scene now).table.rows ≡ option_map ended (find (is_row_of k) now.table.rows)
+    found_last k = ap (λ (t : Table). find (is_row_of k) t.rows) rows_last ∙ find-map (is_row_of k) ended (λ row. ap (same k) (holder_ended row)) now.table.rows
 
-    pub issues_there : IssuesExactly first (finished_at ino old.scene now)
+    pub issues_there : IssuesExactly now (finished_at ino old.scene now)
     issues_there k cap =
-        ap (held_of cap) (found_last k) ∙ by_row cap k (find (is_row_of k) table.rows) refl
-        ∙ sym (ap (λ o. holds first k cap || due_of cap o) (found_last k))
+        ap (held_of cap) (found_last k) ∙ by_row cap k (find (is_row_of k) now.table.rows) refl
+        ∙ sym (ap (λ o. holds now k cap || due_of cap o) (found_last k))
 
 -- ---- of an event that touched one inode
 
-module _ (ino : ℕ) (old : State) (first settled : Scene) (sound : IsSound old) (table : IsTable first.table) (touches : Touches ino old first) (settles : SettlesAt ino first settled) where
-  settled_is : settled ≡ record old.scene { table = first.table; locks = settled.locks }
-  settled_is = settles.is ∙ (λ i. record (touches.is i) { locks = settled.locks })
+module _ (ino : ℕ) (old : State) (moves : List Made) (first settled : Scene) (sound : IsSound old) (table : IsTable first.table) (touches : Touches ino old first) (settles : SettlesAt ino moves first settled) where
+  -- moves leave the entries
+  same-table : settled.table ≡ first.table
+  same-table = let made = settles.settles in (moved-all first moves settled made.made).table
 
-  elsewhere : (other : ℕ) (part : Part) → other ≢ ino → lock_at settled.locks other part ≡ lock_at old.scene.locks other part
-  elsewhere other part off = settles.elsewhere.others other part off ∙ ap (λ (s : Scene). lock_at s.locks other part) touches.is
+  settled-table : IsTable settled.table
+  settled-table = subst IsTable (sym same-table) table
+
+  off-one : IsSameBut ino old.scene settled
+  off-one = same-trans ino old.scene first settled touches.same settles.same
 
   pub touched-ends : finished old.scene first settled ≡ finished_at ino old.scene settled
   touched-ends =
-      (λ i. finished old.scene (touches.is i) (settled_is i))
-      ∙ ends_there ino old first.table settled.locks sound table touches.others elsewhere ∙ sym (ap (finished_at ino old.scene) settled_is)
+      ap (λ (t : Table). finished old.scene (record settled { table = t }) settled) (sym same-table)
+      ∙ ends_there ino old settled sound settled-table off-one
 
-  pub touched-issues : IsTree old.scene.tree → IssuesExactly first (finished_at ino old.scene settled)
+  pub touched-issues : IsTree settled.tree → IssuesExactly first (finished_at ino old.scene settled)
   touched-issues tree =
-      subst (λ (s : Scene). IssuesExactly s (finished_at ino old.scene settled)) (sym touches.is)
-      (subst (λ (s : Scene). IssuesExactly (record old.scene { table = first.table }) (finished_at ino old.scene s)) (sym settled_is)
-      (issues_there ino old first.table settled.locks sound table touches.others elsewhere tree))
+      subst (λ (t : Table). IssuesExactly (record settled { table = t }) (finished_at ino old.scene settled)) same-table
+      (issues_there ino old settled sound settled-table off-one tree)

@@ -1,8 +1,6 @@
 -- A poll is a whole step: no lock moves, and nothing is left to do but to give the messages.
-use Rattle.std.proofs.Common.{◌≡◌, ℕ, ◌+◌, Bool, Option, Some, None, List, [], filter, not, ◌&&◌, refl, sym, ap, subst, ◌∙◌, append-nil}
-use Rattle.std.specs.List.{list_any}
+use Rattle.std.proofs.Common.{◌≡◌, ℕ, ◌+◌, Option, Some, None, List, [], filter, refl, sym, ap, subst, ◌∙◌, append-nil}
 use Rattle.capbits.specs.declared.ids.ClientId.{ClientId}
-use Rattle.capbits.specs.declared.refusal.Refusal.{Refusal}
 use Rattle.capbits.specs.Refusal.{first_failing}
 use Rattle.sessiontab.specs.Tests.{session_tests}
 use Rattle.captable.specs.Table.{Table, IsTable}
@@ -12,21 +10,22 @@ use Rattle.capcore.specs.declared.event.Event.{Event}
 use Rattle.capcore.specs.declared.event.Event.TheVariants as event
 use Rattle.capcore.specs.declared.outcome.Ended.{Ended}
 use Rattle.capcore.specs.declared.outcome.Message.{Message}
+use Rattle.capcore.specs.declared.reply.Reply.{Reply}
 use Rattle.capcore.specs.declared.reply.Reply.TheVariants as reply
+use Rattle.capcore.specs.declared.reply.Said.{Said}
 use Rattle.capcore.specs.declared.stopped.Stopped.{Stopped}
-use Rattle.capcore.specs.declared.stopped.Stopped.TheVariants.{ByTest}
 use Rattle.capcore.specs.State.{State}
+use Rattle.capcore.specs.Answered.{IsAnswered}
 use Rattle.capcore.specs.Judge.{judged, stop_by, first_denied}
 use Rattle.capcore.specs.Direct.{Direct, Gives, direct, effect_unless, reply_of, shown}
 use Rattle.capcore.specs.Headline.{IssuesExactly}
-use Rattle.capcore.specs.Messages.{first_messages, with_given, after_messages, is_end_of, is_to}
+use Rattle.capcore.specs.Messages.{first_messages, with_given, after_messages, is_left}
 use Rattle.capcore.specs.Settle.{Settles}
 use Rattle.capcore.specs.Sound.{IsSound, AreGiven}
 use Rattle.capcore.specs.Step.{Step, all_ended, state_after}
 use Rattle.capcore.proofs.Finishing.{sound-finished, sound-settles}
 use Rattle.capcore.proofs.Promised.{has-due}
 use Rattle.capcore.proofs.Sounding.{later-given}
-use Rattle.capcore.proofs.Stopping.{stopped-step}
 use Rattle.capcore.proofs.Telling.{shown-sound, shown-given, shown-issued}
 
 module _ (old : State) (sound : IsSound old) (table : IsTable old.scene.table) (client : ClientId) (max : ℕ) where
@@ -38,31 +37,22 @@ module _ (old : State) (sound : IsSound old) (table : IsTable old.scene.table) (
   same_state (Some stopped) = refl
   same_state None = refl
 
-  -- ---- where the client has no open session
-
-  pub refused-step : (refusal : Refusal) → first_failing (session_tests old.scene.sessions client.0) ≡ Some refusal → Step old (event.Poll client max) (reply.Refused refusal) [] old
-  refused-step refusal is = stopped-step old poll (ByTest refusal) sound table (ap (λ o. stop_by old.scene o (first_denied old.scene []) (first_failing [])) is)
-
-  pub refused-issued : IssuesExactly (direct old (event.Poll client max)).state.scene old.scene
-  refused-issued = subst (λ (s : State). IssuesExactly s.scene old.scene) (sym (same_state (judged old.scene poll))) (has-due old sound)
-
-  -- ---- where it has one
+  -- ---- where the client has an open session
 
   -- what is left, once it was given the messages
   abbrev new : State
   new = with_given old client (first_messages old client max)
 
-  pub polled-sound : IsSound (with_given old client (first_messages old client max))
+  polled-sound : IsSound new
   polled-sound = shown-sound old (Gives client max) sound table
 
-  pub polled-given : (count : ℕ) → AreGiven count old → AreGiven (count + 1) (with_given old client (first_messages old client max))
+  polled-given : (count : ℕ) → AreGiven count old → AreGiven (count + 1) new
   polled-given count given = later-given count new (shown-given count old (Gives client max) given)
 
-  pub polled-issued : IssuesExactly (direct old (event.Poll client max)).state.scene (with_given old client (first_messages old client max)).scene
+  polled-issued : IssuesExactly (direct old poll).state.scene new.scene
   polled-issued = subst (λ (s : State). IssuesExactly s.scene new.scene) (sym (same_state (judged old.scene poll))) (shown-issued old.scene old (Gives client max) table (has-due old sound))
 
-  pub polled-step : first_failing (session_tests old.scene.sessions client.0) ≡ None
-      → Step old (event.Poll client max) (reply.Messages (first_messages old client max)) [] (with_given old client (first_messages old client max))
+  polled-step : first_failing (session_tests old.scene.sessions client.0) ≡ None → Step old poll (reply.Messages (first_messages old client max)) [] new
   polled-step is = (
     [],
     record {
@@ -83,16 +73,25 @@ module _ (old : State) (sound : IsSound old) (table : IsTable old.scene.table) (
       nothing_left : state_after old here [] old.scene ≡ old
       nothing_left = λ i. record old { scene = sound-finished old sound table i; messages = append-nil old.messages i }
 
-  -- where no request has ended, only entries change
-  pub polled-new : (given : List Message) (left : Table) → old.messages ≡ [] → given ≡ first_messages old client max → left ≡ changed_where (is_of_client client) (after_messages given) old.scene.table
-      → with_given old client (first_messages old client max) ≡ record old { scene = record old.scene { table = left } }
-  polled-new given left none is changed = λ i. record old { scene = record old.scene { table = tables i }; messages = messages i }
-    where
-      due : Ended → Bool
-      due m = not (is_to client m && list_any (is_end_of m.ticket) (first_messages old client max))
+  pub poll-answered : (said : Said) → first_failing (session_tests old.scene.sessions client.0) ≡ None
+      → said.reply ≡ reply.Messages (first_messages old client max) → said.kept ≡ said.reply → said.ended ≡ []
+      → IsAnswered old (event.Poll client max) said (with_given old client (first_messages old client max))
+  poll-answered said is answers kept none = record {
+    step = subst (λ (ended : List Ended). Step old poll said.reply ended new) (sym none) (subst (λ (r : Reply). Step old poll r [] new) (sym answers) (polled-step is));
+    kept = kept;
+    sound = polled-sound;
+    issued = polled-issued;
+    given = polled-given;
+  }
 
-      messages : filter due old.messages ≡ old.messages
-      messages = ap (filter due) none ∙ sym none
+  -- entries change, and requests of which the client was told are due no more
+  pub polled-new : (given : List Message) (left : Table) (due : List Ended) → given ≡ first_messages old client max → left ≡ changed_where (is_of_client client) (after_messages given) old.scene.table
+      → due ≡ filter (is_left client given) old.messages
+      → with_given old client (first_messages old client max) ≡ record { scene = record old.scene { table = left }; messages = due }
+  polled-new given left due is changed kept = λ i. record { scene = record old.scene { table = tables i }; messages = messages i }
+    where
+      messages : filter (is_left client (first_messages old client max)) old.messages ≡ due
+      messages = ap (λ given. filter (is_left client given) old.messages) (sym is) ∙ sym kept
 
       tables : changed_where (is_of_client client) (after_messages (first_messages old client max)) old.scene.table ≡ left
       tables = ap (λ given. changed_where (is_of_client client) (after_messages given) old.scene.table) (sym is) ∙ sym changed

@@ -3,13 +3,19 @@ use Rattle.std.proofs.Common.{◌≡◌, ℕ, Bool, true, false, ◌||◌, List,
 use Rattle.std.specs.Prelude.{IsTrue}
 use Rattle.std.specs.List.{find}
 use Rattle.std.specs.Option.{option_map_or}
+use Rattle.std.proofs.lemmas.Option.{none-some}
 use Rattle.std.proofs.lemmas.List.Elements.{All-contains}
 use Rattle.capbits.specs.Caps.{has}
 use Rattle.capgrant.specs.declared.access.Access.{Access}
 use Rattle.capgrant.specs.declared.rule.Rule.{Rule}
 use Rattle.captable.specs.declared.entry.EntryRow.{EntryRow}
+use Rattle.captable.specs.declared.entry.Holder.{Holder}
 use Rattle.captable.specs.Table.{IsTable, holder, is_row_of}
 use Rattle.inotree.specs.Tree.{child}
+use Rattle.lockmachine.specs.declared.request.Ask.{Ask}
+use Rattle.lockmachine.specs.declared.request.Ask.TheVariants.{Get, Alter, Unlink, Rmdir}
+use Rattle.lockmachine.specs.Locks.{IsLockMap}
+use Rattle.lockmachine.specs.Scene.{Scene}
 use Rattle.lockmachine.specs.Policy.{failures}
 use Rattle.capcore.specs.declared.event.Event.{Event}
 use Rattle.capcore.specs.declared.event.Event.TheVariants as event
@@ -18,12 +24,16 @@ use Rattle.capcore.specs.declared.reply.Reply.{Reply}
 use Rattle.capcore.specs.declared.reply.Reply.TheVariants as reply
 use Rattle.capcore.specs.State.{State}
 use Rattle.capbits.specs.Refusal.{first_failing}
-use Rattle.capcore.specs.Judge.{Need, before, needs, after, first_denied, stop_by}
+use Rattle.capcore.specs.Judge.{judged, before, needs, after, first_denied, stop_by}
+use Rattle.capcore.specs.Needs.{Need}
 use Rattle.capcore.specs.declared.outcome.Ended.{Ended}
 use Rattle.capcore.specs.declared.stopped.Stopped.{Stopped}
 use Rattle.capcore.specs.declared.stopped.Stopped.TheVariants.{ByPolicy, ByTest}
 use Rattle.capcore.specs.Direct.{Direct, effect, effect_unless, found, direct, opened_as, reply_of, IsDirect}
-use Rattle.capcore.specs.Settle.{ended_in}
+use Rattle.capcore.specs.Settle.{Made, MakesAll, ended_in}
+use Rattle.capcore.specs.Touching.{asks_for}
+use Rattle.capcore.proofs.Asked.{asking, asking-stop, asking-direct, asking-again, order-of_ask}
+use Rattle.capcore.proofs.OwnServed.{own-not_stopped}
 use Rattle.capcore.specs.Step.{Step, state_after}
 use Rattle.capcore.proofs.Stopping.{stopped-only}
 use Rattle.capcore.specs.Finish.{due}
@@ -46,18 +56,34 @@ module _ (old last : State) (ended : List Ended) where
   opened-no_stop None = refl
   opened-no_stop (Some row) = refl
 
-  effect-no_stop : (e : Event) → is_stop (read_off (effect old e)) ≡ false
-  effect-no_stop (event.Session client caller grants) = refl
-  effect-no_stop (event.Lookup client dir name) = lookup-no_stop (child old.scene.tree.nodes dir.0 name)
-  effect-no_stop (event.Create client dir name mode) = refl
-  effect-no_stop (event.Mkdir client dir name mode) = refl
-  effect-no_stop (event.MakeSnapshot client ino name) = refl
-  effect-no_stop (event.RemoveSnapshot client ino name) = refl
-  effect-no_stop (event.Open client ino mode) = opened-no_stop (find (is_row_of (holder client ino)) last.scene.table.rows)
-  effect-no_stop (event.Want client ino caps) = opened-no_stop (find (is_row_of (holder client ino)) last.scene.table.rows)
-  effect-no_stop (event.Ack client ino seq) = refl
-  effect-no_stop (event.Release client ino caps) = refl
-  effect-no_stop (event.Poll client max) = refl
+  -- one that waits for no lock
+  effect-no_stop : (e : Event) → asks_for e ≡ None → is_stop (read_off (effect old e)) ≡ false
+  effect-no_stop (event.Session client caller grants) none = refl
+  effect-no_stop (event.Lookup client dir name) none = lookup-no_stop (child old.scene.tree.nodes dir.0 name)
+  effect-no_stop (event.Create client dir name mode) none = refl
+  effect-no_stop (event.Mkdir client dir name mode) none = refl
+  effect-no_stop (event.MakeSnapshot client ino name) none = refl
+  effect-no_stop (event.RemoveSnapshot client ino name) none = refl
+  effect-no_stop (event.Open client ino mode) none = opened-no_stop (find (is_row_of (holder client ino)) last.scene.table.rows)
+  effect-no_stop (event.Want client ino caps) none = opened-no_stop (find (is_row_of (holder client ino)) last.scene.table.rows)
+  effect-no_stop (event.Ack client ino seq) none = refl
+  effect-no_stop (event.Release client ino caps) none = refl
+  effect-no_stop (event.Get client ino part) none = absurd (none-some (holder client ino, Get part) (sym none))
+  effect-no_stop (event.Alter client ino change) none = absurd (none-some (holder client ino, Alter change) (sym none))
+  effect-no_stop (event.Unlink client ino) none = absurd (none-some (holder client ino, Unlink) (sym none))
+  effect-no_stop (event.Rmdir client ino) none = absurd (none-some (holder client ino, Rmdir) (sym none))
+  effect-no_stop (event.Flush client ino change) none = refl
+  effect-no_stop (event.Poll client max) none = refl
+
+-- one that waits for a lock: if it is served in the step, then on the tree and the sessions on which it came
+asking-no_stop : (old last : State) (e : Event) (k : Holder) (ask : Ask) (moves : List Made) (s : Scene) → IsSound old → IsLockMap old.scene.locks → asks_for e ≡ Some (k, ask) → judged old.scene e ≡ None
+    → MakesAll (direct old e).state.scene moves s → is_stop (reply_of last (ended_in moves) (effect old e).answer) ≡ false
+asking-no_stop old last e k ask moves s sound order is free made =
+    let a = asking e k ask is in
+    let passed = sym (asking-stop e k ask old.scene is) ∙ free in
+    ap (λ (d : Direct). is_stop (reply_of last (ended_in moves) d.answer)) (a.effect_is old)
+    ∙ own-not_stopped old.scene k.client k.ino ask sound.at_rest (order-of_ask old.scene k ask order passed) moves s (asking-again old.scene k ask passed)
+    (subst (λ (d : Direct). MakesAll d.state.scene moves s) (asking-direct old e k ask is free) made)
 
 -- ---- denials
 
@@ -65,18 +91,22 @@ module _ (old last : State) (ended : List Ended) (e : Event) where
   answered_by : Option Refusal → Option Need → Option Refusal → Reply
   answered_by o d l = read_off old last ended (effect_unless old e (stop_by old.scene o d l))
 
+  -- what nothing stops is answered neither with a denial nor with a refusal
+  IsFree : Option Refusal → Option Need → Option Refusal → Type 0
+  IsFree o d l = stop_by old.scene o d l ≡ None → is_stop (read_off old last ended (effect old e)) ≡ false
+
   Cause : Option Refusal → Option Need → Access → List Rule → Type 0
   Cause o d access rules = (n : Need) × (o ≡ None) × (d ≡ Some n) × (access ≡ n.access) × (rules ≡ failures old.scene.fs old.scene.tree old.scene.sessions n.holder n.access)
 
-  cause : (o : Option Refusal) (d : Option Need) (l : Option Refusal) (access : Access) (rules : List Rule) → answered_by o d l ≡ reply.Denied access rules → Cause o d access rules
-  unfolding answered_by Cause
-  cause (Some r) d l access rules is = cc
-  cause None (Some n) l access rules is =
+  cause : (o : Option Refusal) (d : Option Need) (l : Option Refusal) (access : Access) (rules : List Rule) → IsFree o d l → answered_by o d l ≡ reply.Denied access rules → Cause o d access rules
+  unfolding answered_by Cause IsFree
+  cause (Some r) d l access rules free is = cc
+  cause None (Some n) l access rules free is =
       let accesses : n.access ≡ access = cc in
       let rs : failures old.scene.fs old.scene.tree old.scene.sessions n.holder n.access ≡ rules = cc in
       (n, refl, refl, sym accesses, sym rs)
-  cause None None (Some r) access rules is = cc
-  cause None None None access rules is = absurd (true≢false (sym (ap is_stop is) ∙ effect-no_stop old last ended e))
+  cause None None (Some r) access rules free is = cc
+  cause None None None access rules free is = absurd (true≢false (sym (ap is_stop is) ∙ free refl))
 
   effect_of : (o : Option Refusal) (d : Option Need) (l : Option Refusal) (n : Need) → o ≡ None → d ≡ Some n → (access : Access) × (rules : List Rule) × (answered_by o d l ≡ reply.Denied access rules)
   unfolding answered_by
@@ -84,14 +114,14 @@ module _ (old last : State) (ended : List Ended) (e : Event) where
   effect_of None None l n none some = cc
   effect_of None (Some m) l n none some = (m.access, failures old.scene.fs old.scene.tree old.scene.sessions m.holder m.access, refl)
 
-  stops : (o : Option Refusal) (d : Option Need) (l : Option Refusal) → is_stop (answered_by o d l) ≡ true → (stopped : Stopped) × (stop_by old.scene o d l ≡ Some stopped)
-  unfolding answered_by
-  stops (Some r) d l is = (ByTest r, refl)
-  stops None (Some n) l is = (ByPolicy n.access (failures old.scene.fs old.scene.tree old.scene.sessions n.holder n.access), refl)
-  stops None None (Some r) is = (ByTest r, refl)
-  stops None None None is = absurd (true≢false (sym is ∙ effect-no_stop old last ended e))
+  stops : (o : Option Refusal) (d : Option Need) (l : Option Refusal) → IsFree o d l → is_stop (answered_by o d l) ≡ true → (stopped : Stopped) × (stop_by old.scene o d l ≡ Some stopped)
+  unfolding answered_by IsFree
+  stops (Some r) d l free is = (ByTest r, refl)
+  stops None (Some n) l free is = (ByPolicy n.access (failures old.scene.fs old.scene.tree old.scene.sessions n.holder n.access), refl)
+  stops None None (Some r) free is = (ByTest r, refl)
+  stops None None None free is = absurd (true≢false (sym is ∙ free refl))
 
-module _ (old : State) (e : Event) (answer : Reply) (done : List Ended) (new : State) (step : Step old e answer done new) where
+module _ (old : State) (e : Event) (answer : Reply) (done : List Ended) (new : State) (step : Step old e answer done new) (sound : IsSound old) (order : IsLockMap old.scene.locks) where
   o : Option Refusal
   o = first_failing (before old.scene e)
 
@@ -112,21 +142,33 @@ module _ (old : State) (e : Event) (answer : Reply) (done : List Ended) (new : S
   unfolding answered_by o d l last ended
   answered = let by = step.1 in by.answer_is
 
+  no_stop-by : (a : Option (Holder × Ask)) → asks_for e ≡ a → judged old.scene e ≡ None → is_stop (read_off old last ended (effect old e)) ≡ false
+  unfolding ended
+  no_stop-by None is none = effect-no_stop old last ended e is
+  no_stop-by (Some (k, ask)) is none =
+      let by = step.1 in
+      let settles = by.settles in
+      asking-no_stop old last e k ask step.0 by.settled sound order is none settles.made
+
+  free : IsFree old last ended e o d l
+  unfolding IsFree o d l
+  free none = no_stop-by (asks_for e) refl none
+
   pub denied-exactly : DeniedExactly old.scene e answer
   unfolding Cause o d l
   denied-exactly = (
-    (λ h. let c = cause old last ended e o d l h.0 h.1 (sym answered ∙ h.2) in (c.0, (c.1, c.2))),
+    (λ h. let c = cause old last ended e o d l h.0 h.1 free (sym answered ∙ h.2) in (c.0, (c.1, c.2))),
     (λ h. let b = effect_of old last ended e o d l h.0 h.1.0 h.1.1 in (b.0, b.1, answered ∙ b.2)),
   )
 
   pub denies-by_name : DeniesByName old.scene e answer
   unfolding Cause o d l
-  denies-by_name access rules at = let c = cause old last ended e o d l access rules (sym answered ∙ at) in (c.0, (c.1, c.2), c.3, c.4)
+  denies-by_name access rules at = let c = cause old last ended e o d l access rules free (sym answered ∙ at) in (c.0, (c.1, c.2), c.3, c.4)
 
-  pub stopped-unchanged : IsSound old → IsTable old.scene.table → IsTrue (is_stop answer) → new ≡ old
+  pub stopped-unchanged : IsTable old.scene.table → IsTrue (is_stop answer) → new ≡ old
   unfolding o d l
-  stopped-unchanged sound table h =
-      let s = stops old last ended e o d l (ap is_stop (sym answered) ∙ h) in
+  stopped-unchanged table h =
+      let s = stops old last ended e o d l free (ap is_stop (sym answered) ∙ h) in
       let only = stopped-only old new e s.0 answer done sound table s.1 step in
       only.2
 

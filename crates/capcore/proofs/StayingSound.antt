@@ -1,102 +1,86 @@
--- A sound state stays sound after the step of an event that touched the entries of one inode.
-use Rattle.std.proofs.Common.{◌≡◌, ◌≢◌, ◌≤◌, ℕ, zero, suc, ◌+◌, ◌==◌, Bool, true, false, cond, ◌||◌, Option, Some, None, is_some, List, [], ◌∷◌, filter, map as each_of, refl, sym, ap, subst, ◌∙◌, Contains, arith}
-use Rattle.std.specs.Prelude.{IsTrue, All}
+-- A sound state stays sound after the step of an event that touched one inode.
+use Rattle.std.proofs.Common.{◌≡◌, ◌≢◌, ◌≤◌, ℕ, ◌+◌, ◌==◌, Bool, true, false, cond, ◌||◌, Some, None, List, filter, refl, sym, ap, subst, ◌∙◌, ◌&&◌, ◌++◌, inl, inr, Contains, arith}
+use Rattle.std.specs.Prelude.{IsTrue, All, nat_le}
 use Rattle.std.specs.List.{find, list_any}
-use Rattle.std.specs.Option.{option_map}
-use Rattle.std.specs.Cmp.{nat_eq_equiv}
+use Rattle.std.specs.Cmp.{nat_cmp_total, nat_eq_equiv}
 use Rattle.std.specs.FinMap as map
 use Rattle.std.proofs.lemmas.Bool.{eqb-false}
-use Rattle.std.proofs.lemmas.List.Elements.{All-contains, All-contains_itself, All-filter, All-map, All-same, All-weaker}
+use Rattle.std.proofs.lemmas.List.Elements.{All-append, All-contains, All-filter, All-map, All-same, All-weaker}
 use Rattle.capbits.specs.declared.cap.Cap.TheVariants.{P}
 use Rattle.capbits.specs.declared.cap.Part.{Part}
-use Rattle.capbits.specs.declared.cap.Part.TheVariants.{A}
-use Rattle.capbits.specs.declared.ids.Ino.{Ino}
+use Rattle.capbits.specs.declared.ids.ClientId.{ClientId}
 use Rattle.capbits.specs.Caps.{has}
-use Rattle.capbits.specs.Sets.{meet, IsSubset}
+use Rattle.capbits.specs.Sets.{no_caps, meet, has-none, has-meet, IsSubset}
 use Rattle.inotree.specs.declared.node.Place.TheVariants.{Gone}
-use Rattle.inotree.specs.Tree.{IsTree, place}
+use Rattle.inotree.specs.Tree.{Nodes, IsTree, place}
 use Rattle.inotree.specs.Calls.{forgotten}
-use Rattle.locktable.specs.declared.states.LockState.{LockState}
-use Rattle.locktable.specs.declared.states.LockState.TheVariants.{Stable, Gather}
+use Rattle.inotree.proofs.Maps.{same_or_other}
+use Rattle.sessiontab.specs.Table.{SessionTable}
+use Rattle.sessiontab.specs.Calls.{has_session}
 use Rattle.captable.specs.declared.entry.EntryRow.{EntryRow}
 use Rattle.captable.specs.declared.entry.Holder.{Holder}
 use Rattle.captable.specs.Table.{Table, IsTable, is_row_of}
-use Rattle.captable.specs.Calls.{is_of_inode, entries_on}
+use Rattle.captable.specs.Calls.{is_of_inode}
 use Rattle.captable.proofs.ByHolder.{row_found}
 use Rattle.captable.proofs.Searches.{find-filter_kept}
 use Rattle.captable.proofs.Tables.{same-is}
-use Rattle.lockmachine.specs.declared.moves.Move.{Move}
-use Rattle.lockmachine.specs.declared.moves.Move.TheVariants.{Begin, End, Serve, Settled}
-use Rattle.lockmachine.specs.Inodes.{lock_in}
-use Rattle.lockmachine.specs.Locks.{LockMap, lock_at, with_lock, without_ino}
+use Rattle.lockmachine.specs.declared.moves.Move.TheVariants.{Settled}
+use Rattle.lockmachine.specs.Elsewhere.{IsSameBut}
+use Rattle.lockmachine.specs.Locks.{lock_at, without_ino}
+use Rattle.lockmachine.specs.Policy.{subject, permitted, is_open_session}
 use Rattle.lockmachine.specs.Requests.{first_for}
 use Rattle.lockmachine.specs.Scene.{Scene}
-use Rattle.lockmachine.specs.Moves.{LockPlace, present_state, coming_state, first_move, moved, with_moved, IsAtRest}
-use Rattle.lockmachine.specs.Runs.{Runs, MoveLittle, ChangesLocksOf}
-use Rattle.lockmachine.specs.Rows.{IsInRow}
-use Rattle.lockmachine.proofs.InRows.{all_keep}
-use Rattle.lockmachine.proofs.Moving.{with_lock-each}
+use Rattle.lockmachine.specs.Moves.{first_move, IsQuiet, IsAtRest, WaitAtLocks}
+use Rattle.lockmachine.specs.Rows.{IsInRowOf, IsInRow}
+use Rattle.lockmachine.specs.Wants.{effective_want}
 use Rattle.lockmachine.proofs.Rest.{at_rest}
+use Rattle.lockmachine.proofs.SameBut.{same-trans}
+use Rattle.capcore.specs.declared.outcome.Ended.{Ended}
 use Rattle.capcore.specs.State.{State}
-use Rattle.capcore.specs.Direct.{with_scene}
 use Rattle.capcore.specs.Finish.{due, allowed_to, is_kept}
 use Rattle.capcore.specs.Sound.{IsSoundEntry, IsSound, AreGiven}
+use Rattle.capcore.specs.Settle.{Made, ended_in}
+use Rattle.capcore.specs.Step.{earlier, state_at_end}
 use Rattle.capcore.specs.Touching.{IsTouchedEntry, Touches, SettlesAt, finished_at}
-use Rattle.capcore.proofs.OneInode.{any-filter, any-map, filter-contains, row_elsewhere}
+use Rattle.capcore.proofs.OneInode.{any-map, any_elsewhere, filter-contains, row_elsewhere, off_due}
 use Rattle.capcore.proofs.IssuedRows.{ended_row, want-ended, told-ended, revoked-ended, seq-ended, effective-ended, holds-due, holds-pin, in_row-ended}
 use Rattle.capcore.proofs.IssuedRest.{on_it, last_row, issued_at, by_place, of_inode-last, rest-issued}
 use Rattle.capcore.proofs.Placed.{in_row}
-use Rattle.capcore.proofs.Forgotten.{all_rows, same-due, IsSoundBut, sound-forgotten}
+use Rattle.capcore.proofs.Forgotten.{all_rows, IsSoundBut, sound-forgotten}
+use Rattle.capcore.proofs.Moved.{IsMoved, moved-all, no_lock-moved, nobody-moved, all-waiting, Waited, ended-waited}
+use Rattle.capcore.proofs.Touched.{permitted-pin}
 
--- ---- moves keep the inodes that have locks
+-- ---- the pin
 
-some-mapped : {X Y : Type 0} (f : X → Y) (o : Option X) → is_some (option_map f o) ≡ is_some o
-some-mapped f None = refl
-some-mapped f (Some x) = refl
+-- where a session is open, whoever wants the pin effectively wants it, on each tree
+wants_pin : (fs : List ℕ) (tree : Nodes) (sessions : SessionTable) (row : EntryRow)
+    → has (effective_want fs tree sessions row) P ≡ (is_open_session (map.get sessions.sessions row.holder.client.0) && has row.entry.want P)
+wants_pin fs tree sessions row = by_session (is_open_session (map.get sessions.sessions row.holder.client.0))
+  where
+    always : (b : Bool) → (b && true) ≡ b
+    always true = refl
+    always false = refl
 
-abbrev HasLock : LockMap → ℕ → Bool
-HasLock locks q = is_some (lock_at locks q A)
-
-lock-kept : (locks : LockMap) (ino : ℕ) (part : Part) (lock : LockState) (q : ℕ) → HasLock (with_lock locks ino part lock) q ≡ HasLock locks q
-lock-kept locks ino part lock q =
-    with_lock-each locks ino part lock (λ b (at : LockPlace) o. is_some o ≡ is_some (lock_at locks at.0 at.1)) (some-mapped (λ _. lock) (lock_at locks ino part)) (λ at. refl) (q, A)
-
-lock-moved : (locks : LockMap) (step : Move) (q : ℕ) → HasLock (moved locks step) q ≡ HasLock locks q
-lock-moved locks (Begin ino part to) q = lock-kept locks ino.0 part (Gather (present_state (lock_at locks ino.0 part)) to) q
-lock-moved locks (End ino part) q = lock-kept locks ino.0 part (Stable (coming_state (lock_at locks ino.0 part))) q
-lock-moved locks (Serve ticket) q = refl
-lock-moved locks Settled q = refl
-
-lock-run : (s t : Scene) (steps : List Move) → Runs s steps t → (q : ℕ) → HasLock t.locks q ≡ HasLock s.locks q
-lock-run s t [] is q = ap (λ (u : Scene). HasLock u.locks q) is
-lock-run s t (step ∷ steps) (first, of_lock, rest) q = lock-run (with_moved s step) t steps rest q ∙ lock-moved s.locks step q
-
-keys-run : (s t : Scene) → MoveLittle s t → (q : ℕ) → map.contains_key t.locks.states q ≡ map.contains_key s.locks.states q
-keys-run s t moves q =
-    sym (some-mapped (lock_in A) (map.get t.locks.states q)) ∙ lock-run s t moves.0 moves.2 q ∙ some-mapped (lock_in A) (map.get s.locks.states q)
+    by_session : (b : Bool) → has (cond b (meet row.entry.want (permitted fs tree sessions row.holder)) no_caps) P ≡ (b && has row.entry.want P)
+    by_session true =
+        has-meet row.entry.want (permitted fs tree sessions row.holder) P
+        ∙ ap (λ b. has row.entry.want P && b) (permitted-pin fs (subject tree sessions row.holder)) ∙ always (has row.entry.want P)
+    by_session false = has-none P
 
 -- ---- the step
 
 -- all that is known of it
 record IsGiven (ino : ℕ) (old : State) (first settled : Scene) : Type 0 where
   sound : IsSound old
-  tree : IsTree old.scene.tree
-  table : IsTable first.table
-  nobody : old.scene.locks.queue ≡ []
-  others : (other : Ino) → other.0 ≢ ino → entries_on first.table other ≡ entries_on old.scene.table other
-  each : All (IsTouchedEntry first) (entries_on first.table (record { 0 = ino }))
-  moves : MoveLittle first settled
+  tree : IsTree settled.tree
+  table : IsTable settled.table
+  -- the first scene has the same entries
+  moved : IsMoved first settled
+  touches : Touches ino old first
+  same : IsSameBut ino old.scene settled
   rests : first_move settled ≡ Settled
-  elsewhere : ChangesLocksOf ino first.locks settled.locks
 
-module _ (ino : ℕ) (old : State) (table : Table) (locks : LockMap) where
-  -- the scene that the event made, and the one in which the locks have settled
-  abbrev first : Scene
-  first = record old.scene { table = table }
-
-  abbrev settled : Scene
-  settled = record old.scene { table = table; locks = locks }
-
+module _ (ino : ℕ) (old : State) (first settled : Scene) where
   abbrev last : Scene
   last = issued_at old.scene settled ino
 
@@ -106,58 +90,89 @@ module _ (ino : ℕ) (old : State) (table : Table) (locks : LockMap) where
   abbrev last_of : EntryRow → EntryRow
   last_of = last_row old.scene settled ino
 
+  abbrev rows : List EntryRow
+  rows = settled.table.rows
+
   module _ (g : IsGiven ino old first settled) where
     -- ---- rest
 
-    queue_empty : locks.queue ≡ []
-    queue_empty = let kept = g.elsewhere in kept.queue ∙ g.nobody
+    -- who waits, waits for a lock that is there
+    wait_at : WaitAtLocks settled
+    wait_at i part none = let moved = g.moved in elim (same_or_other nat_cmp_total map.nat_cmp-IsAntisymmetric i ino) as (λ _. first_for settled.locks.queue i part ≡ None) [
+      | inl is ↦ (let touches = g.touches in
+          ap (λ i. first_for settled.locks.queue i part) is
+          ∙ nobody-moved first settled moved ino part (touches.at_lock part (no_lock-moved first settled moved ino part (sym (ap (λ i. lock_at settled.locks i part) is) ∙ none))))
+      | inr off ↦ (let same = g.same in
+          let sound = g.sound in
+          same.waiting i part off
+          ∙ subst (IsQuiet old.scene i part) (sym (same.locks i part off) ∙ none) (sound.at_rest.each i part))
+    ]
 
     rest_last : IsAtRest last
-    rest_last = rest-issued old.scene settled ino (at_rest settled (λ i part none. ap (λ queue. first_for queue i part) queue_empty) g.rests)
+    rest_last = rest-issued old.scene settled ino (at_rest settled wait_at g.rests)
 
     -- ---- rows elsewhere are those of the old state
 
     differs : (row : EntryRow) → on row ≡ false → row.holder.ino.0 ≢ ino
     differs row off = eqb-false row.holder.ino.0 ino off
 
-    old_row : (row : EntryRow) → Contains table.rows row → on row ≡ false → Contains old.scene.table.rows row
-    old_row row inside off = row_elsewhere ino old.scene.table table g.others row inside (differs row off)
+    old_row : (row : EntryRow) → Contains rows row → on row ≡ false → Contains old.scene.table.rows row
+    old_row row inside off = let same = g.same in row_elsewhere ino old.scene.table settled.table same.entries row inside (differs row off)
 
     of_its_inode : (k : Holder) (row : EntryRow) → is_row_of k row ≡ true → is_of_inode k.ino row ≡ true
     of_its_inode k row is = ap (λ (h : Holder). h.ino.0 == k.ino.0) (sym (same-is k row.holder is)) ∙ nat_eq_equiv.refl k.ino.0
 
-    old_found : (row : EntryRow) → Contains table.rows row → on row ≡ false → find (is_row_of row.holder) old.scene.table.rows ≡ Some row
+    old_found : (row : EntryRow) → Contains rows row → on row ≡ false → find (is_row_of row.holder) old.scene.table.rows ≡ Some row
     old_found row inside off =
         let k = row.holder in
+        let same = g.same in
         sym (find-filter_kept (is_row_of k) (is_of_inode k.ino) (of_its_inode k) old.scene.table.rows)
-        ∙ ap (find (is_row_of k)) (sym (g.others k.ino (differs row off)))
-        ∙ find-filter_kept (is_row_of k) (is_of_inode k.ino) (of_its_inode k) table.rows ∙ row_found table row g.table inside
+        ∙ ap (find (is_row_of k)) (sym (same.entries k.ino (differs row off)))
+        ∙ find-filter_kept (is_row_of k) (is_of_inode k.ino) (of_its_inode k) rows ∙ row_found settled.table row g.table inside
 
-    touched : (row : EntryRow) → Contains table.rows row → on row ≡ true → IsTouchedEntry first row
-    touched row inside at = All-contains (IsTouchedEntry first) (filter on table.rows) row g.each (filter-contains on table.rows row inside at)
+    first_row : (row : EntryRow) → Contains rows row → Contains first.table.rows row
+    first_row row inside = let moved = g.moved in subst (λ (t : Table). Contains t.rows row) moved.table inside
+
+    touched : (row : EntryRow) → Contains rows row → on row ≡ true → IsTouchedEntry first row
+    touched row inside at =
+        let touches = g.touches in
+        All-contains (IsTouchedEntry first) (filter on first.table.rows) row touches.each (filter-contains on first.table.rows row (first_row row inside) at)
 
     -- ---- what is held is in its rows
 
-    in_row_first : (row : EntryRow) → Contains table.rows row → (part : Part) → IsInRow first row part
-    in_row_first row inside part = elim (on row) as (λ b. on row ≡ b → IsInRow first row part) [
-      | true ↦ λ at. (let entry = touched row inside at in entry.in_row part)
-      | false ↦ λ off. (let sound = g.sound in in_row old.scene row part (lock_at old.scene.locks row.holder.ino.0 part) (sound.in_place row part (old_found row inside off)))
+    in_row_settled : (row : EntryRow) → Contains rows row → (part : Part) → IsInRow settled row part
+    in_row_settled row inside part = elim (on row) as (λ b. on row ≡ b → IsInRow settled row part) [
+      | true ↦ λ at. (let moved = g.moved in let entry = touched row inside at in moved.in_rows row part (first_row row inside) (entry.in_row part))
+      | false ↦ λ off. (let sound = g.sound in
+          let same = g.same in
+          subst (IsInRowOf row part) (sym (same.locks row.holder.ino.0 part (differs row off)))
+          (in_row old.scene row part (lock_at old.scene.locks row.holder.ino.0 part) (sound.in_place row part (old_found row inside off))))
     ] refl
 
-    in_row_settled : (row : EntryRow) → Contains table.rows row → (part : Part) → IsInRow settled row part
-    in_row_settled row inside part = let moves = g.moves in all_keep first settled moves.0 row part moves.2 inside (in_row_first row inside part)
-
-    in_row_last : (row : EntryRow) → Contains table.rows row → (part : Part) → IsInRow settled (last_of row) part
+    in_row_last : (row : EntryRow) → Contains rows row → (part : Part) → IsInRow settled (last_of row) part
     in_row_last row inside part =
         by_place old.scene settled ino (λ r. IsInRow settled r part) row (λ at. in_row-ended old.scene settled row part (in_row_settled row inside part)) (λ off. in_row_settled row inside part)
 
     -- ---- entries
 
+    has_session_still : (client : ℕ) → IsTrue (has_session first.sessions client) → IsTrue (has_session settled.sessions client)
+    has_session_still client is = let moved = g.moved in subst (λ (t : SessionTable). IsTrue (has_session t client)) (sym moved.sessions) is
+
+    -- the pin is held or wanted as it was, as no move reads the tree for it
+    pin_still : (row : EntryRow) → IsTrue (has row.entry.held P || has (effective_want first.fs first.tree first.sessions row) P) → IsTrue (has row.entry.held P || has (effective_want settled.fs settled.tree settled.sessions row) P)
+    pin_still row is =
+        let moved = g.moved in
+        ap (λ b. has row.entry.held P || b)
+        (wants_pin settled.fs settled.tree settled.sessions row
+        ∙ ap (λ (t : SessionTable). is_open_session (map.get t.sessions row.holder.client.0) && has row.entry.want P) moved.sessions
+        ∙ sym (wants_pin first.fs first.tree first.sessions row))
+        ∙ is
+
     entry_here : (row : EntryRow) → IsTouchedEntry first row → IsSoundEntry last (ended_row old.scene settled row)
-    entry_here row entry = record {
-      of_session = entry.of_session;
-      on_inode = entry.on_inode;
-      holds_pin = holds-pin old.scene settled row entry.pin;
+    entry_here row entry = let moved = g.moved in record {
+      of_session = has_session_still row.holder.client.0 entry.of_session;
+      on_inode = moved.nodes row.holder.ino.0 ∙ entry.on_inode;
+      holds_pin = holds-pin old.scene settled row (pin_still row entry.pin);
       wants_pin = ap (λ caps. has caps P) (want-ended old.scene settled row) ∙ entry.wants_pin;
       has_due = λ c is_due. holds-due old.scene settled row c
           (ap (λ caps. has caps c) (sym due_as_before) ∙ is_due);
@@ -166,105 +181,129 @@ module _ (ino : ℕ) (old : State) (table : Table) (locks : LockMap) where
     }
       where
         due_as_before : due last (ended_row old.scene settled row) ≡ due settled row
-        due_as_before = λ i. meet (effective-ended old.scene settled row old.scene.fs old.scene.tree old.scene.sessions i) (allowed_to settled row)
+        due_as_before = λ i. meet (effective-ended old.scene settled row settled.fs settled.tree settled.sessions i) (allowed_to settled row)
 
-    entry_elsewhere : (row : EntryRow) → Contains table.rows row → on row ≡ false → IsSoundEntry last row
+    -- the same inodes are there
+    there_still : (q : ℕ) → map.contains_key settled.tree.nodes q ≡ map.contains_key old.scene.tree.nodes q
+    there_still q = let moved = g.moved in let touches = g.touches in moved.nodes q ∙ touches.known q
+
+    entry_elsewhere : (row : EntryRow) → Contains rows row → on row ≡ false → IsSoundEntry last row
     entry_elsewhere row inside off =
         let sound = g.sound in
-        let kept = g.elsewhere in
+        let same = g.same in
         let was = All-contains (IsSoundEntry old.scene) old.scene.table.rows row sound.entries (old_row row inside off) in
         record {
-          of_session = was.of_session;
-          on_inode = was.on_inode;
+          of_session = subst (λ (t : SessionTable). IsTrue (has_session t row.holder.client.0)) (sym same.sessions) was.of_session;
+          on_inode = there_still row.holder.ino.0 ∙ was.on_inode;
           holds_pin = was.holds_pin;
           wants_pin = was.wants_pin;
-          has_due = subst (λ caps. IsSubset caps row.entry.held) (sym (same-due last old.scene row refl (λ part. kept.others row.holder.ino.0 part (differs row off)))) was.has_due;
+          has_due = subst (λ caps. IsSubset caps row.entry.held) (sym (off_due ino old settled sound g.table same row (differs row off))) was.has_due;
           told = was.told;
           revoked = was.revoked;
         }
 
-    entry_last : (row : EntryRow) → Contains table.rows row → IsSoundEntry last (last_of row)
+    entry_last : (row : EntryRow) → Contains rows row → IsSoundEntry last (last_of row)
     entry_last row inside =
         by_place old.scene settled ino (IsSoundEntry last) row (λ at. entry_here row (touched row inside at)) (λ off. entry_elsewhere row inside off)
 
     -- ---- inodes
 
-    locked_last : (q : ℕ) → map.contains_key locks.states q ≡ map.contains_key old.scene.tree.nodes q
-    locked_last q = let sound = g.sound in keys-run first settled g.moves q ∙ sound.locked q
+    locked_last : (q : ℕ) → map.contains_key settled.locks.states q ≡ map.contains_key settled.tree.nodes q
+    locked_last q = let moved = g.moved in let touches = g.touches in moved.states q ∙ touches.locked q ∙ sym (moved.nodes q)
 
-    strays_last : (q : ℕ) → q ≢ ino → place old.scene.tree.nodes q ≡ Gone → IsTrue (list_any (is_of_inode (record { 0 = q })) last.table.rows)
+    strays_last : (q : ℕ) → q ≢ ino → place settled.tree.nodes q ≡ Gone → IsTrue (list_any (is_of_inode (record { 0 = q })) last.table.rows)
     strays_last q off gone =
         let sound = g.sound in
+        let same = g.same in
         let of_it = is_of_inode (record { 0 = q }) in
-        any-map of_it last_of (of_inode-last old.scene settled ino q) table.rows
-        ∙ sym (any-filter of_it table.rows) ∙ ap (list_any of_it) (g.others (record { 0 = q }) off) ∙ any-filter of_it old.scene.table.rows ∙ sound.strays q gone
+        any-map of_it last_of (of_inode-last old.scene settled ino q) rows
+        ∙ any_elsewhere ino old.scene.table settled.table same.entries q off ∙ sound.strays q (sym (same.places q off) ∙ gone)
 
     -- ---- all together
 
-    but_last : IsSoundBut ino (with_scene old last)
-    but_last = let sound = g.sound in record {
-      entries = All-map (IsSoundEntry last) last_of table.rows (all_rows (λ row. IsSoundEntry last (last_of row)) table.rows entry_last);
-      nobody = queue_empty;
-      messages = sound.messages;
+    -- who waits has a session
+    waiting_last : All (λ q. IsTrue (has_session settled.sessions q.client.0)) settled.locks.queue
+    waiting_last =
+        let touches = g.touches in
+        all-waiting (λ q. IsTrue (has_session settled.sessions q.client.0)) first settled g.moved
+        (All-weaker (λ q. IsTrue (has_session first.sessions q.client.0)) (λ q. IsTrue (has_session settled.sessions q.client.0)) (λ q. has_session_still q.client.0) first.locks.queue touches.waiting)
+
+    but_last : (messages : List Ended) → All (λ m. IsTrue (has_session settled.sessions m.client.0)) messages → IsSoundBut ino (record { scene = last; messages = messages })
+    but_last messages told = record {
+      entries = All-map (IsSoundEntry last) last_of rows (all_rows (λ row. IsSoundEntry last (last_of row)) rows entry_last);
+      waiting = waiting_last;
+      messages = told;
       locked = locked_last;
       strays = strays_last;
-      in_rows = All-map (λ row. (part : Part) → IsInRow last row part) last_of table.rows (all_rows (λ row. (part : Part) → IsInRow last (last_of row) part) table.rows in_row_last);
+      in_rows = All-map (λ row. (part : Part) → IsInRow last row part) last_of rows (all_rows (λ row. (part : Part) → IsInRow last (last_of row) part) rows in_row_last);
       at_rest = rest_last;
     }
 
-    sound_last : IsSound (with_scene old (finished_at ino old.scene settled))
-    sound_last = sound-forgotten ino (with_scene old last) g.tree but_last
+    sound_last : (messages : List Ended) → All (λ m. IsTrue (has_session settled.sessions m.client.0)) messages → IsSound (record { scene = finished_at ino old.scene settled; messages = messages })
+    sound_last messages told = sound-forgotten ino (record { scene = last; messages = messages }) g.tree (but_last messages told)
 
-pub sound-touched : (ino : ℕ) (old : State) (first settled : Scene) → IsSound old → IsTree old.scene.tree → IsTable first.table → old.scene.locks.queue ≡ [] → Touches ino old first → SettlesAt ino first settled
-    → IsSound (with_scene old (finished_at ino old.scene settled))
-sound-touched ino old first settled sound tree table nobody touches settles =
-    let given : IsGiven ino old first settled = record {
-      sound = sound;
-      tree = tree;
-      table = table;
-      nobody = nobody;
-      others = touches.others;
-      each = touches.each;
-      moves = settles.moves;
-      rests = settles.rests;
-      elsewhere = settles.elsewhere;
-    } in
-    let end : settled ≡ record old.scene { table = first.table; locks = settled.locks } = settles.is ∙ ap (λ (s : Scene). record s { locks = settled.locks }) touches.is in
-    subst (λ (t : Scene). IsSound (with_scene old (finished_at ino old.scene t))) (sym end)
-    (sound_last ino old first.table settled.locks (subst (λ (s : Scene). IsGiven ino old s (record old.scene { table = first.table; locks = settled.locks })) touches.is (subst (IsGiven ino old first) end given)))
+module _ (ino : ℕ) (old : State) (moves : List Made) (first settled : Scene) (sound : IsSound old) (tree : IsTree settled.tree) (table : IsTable first.table) (touches : Touches ino old first) (settles : SettlesAt ino moves first settled) where
+  moved-there : IsMoved first settled
+  moved-there = let made = settles.settles in moved-all first moves settled made.made
+
+  given-all : IsGiven ino old first settled
+  given-all = let made = settles.settles in let moved = moved-there in record {
+    sound = sound;
+    tree = tree;
+    table = subst IsTable (sym moved.table) table;
+    moved = moved;
+    touches = touches;
+    same = same-trans ino old.scene first settled touches.same settles.same;
+    rests = made.settled;
+  }
+
+  -- whose requests the moves ended, has a session
+  ended-connected : All (λ m. IsTrue (has_session settled.sessions m.client.0)) (ended_in moves)
+  ended-connected =
+      let made = settles.settles in
+      let moved = moved-there in
+      All-weaker (Waited first.locks.queue) (λ m. IsTrue (has_session settled.sessions m.client.0))
+      (λ m w. subst (λ (c : ClientId). IsTrue (has_session settled.sessions c.0)) (sym w.client)
+      (subst (λ (t : SessionTable). IsTrue (has_session t w.request.client.0)) (sym moved.sessions)
+      (All-contains (λ q. IsTrue (has_session first.sessions q.client.0)) first.locks.queue w.request touches.waiting w.inside)))
+      (ended_in moves) (ended-waited first moves settled made.made)
+
+  messages-connected : All (λ m. IsTrue (has_session settled.sessions m.client.0)) old.messages
+  messages-connected =
+      let same = given-all.same in
+      subst (λ (t : SessionTable). All (λ m. IsTrue (has_session t m.client.0)) old.messages) (sym same.sessions) sound.messages
+
+  pub sound-touched : IsSound (state_at_end old moves (finished_at ino old.scene settled))
+  sound-touched =
+      sound_last ino old first settled given-all (old.messages ++ earlier old.scene.locks.last (ended_in moves))
+      (All-append (λ m. IsTrue (has_session settled.sessions m.client.0)) old.messages (earlier old.scene.locks.last (ended_in moves)) messages-connected
+      (All-filter (λ m. nat_le m.ticket.0 old.scene.locks.last) (λ m. IsTrue (has_session settled.sessions m.client.0)) (ended_in moves) ended-connected))
 
 -- ---- numbers
 
-module _ (ino count : ℕ) (old : State) (first settled : Scene) (settles : SettlesAt ino first settled) (given : AreGiven count old) (touches : Touches ino old first)
-    (numbers : All (λ row. row.entry.seq ≤ count) first.table.rows) (made : first.table.made ≤ count + 1) where
-  same_table : settled.table ≡ first.table
-  same_table = ap (λ (s : Scene). s.table) settles.is
+module _ (ino count : ℕ) (old : State) (moves : List Made) (first settled : Scene) (settles : SettlesAt ino moves first settled)
+    (numbers : All (λ row. row.entry.seq ≤ count) first.table.rows) (made : first.table.made ≤ count + 1) (given : first.locks.last ≤ count + 1) where
+  moved-so : IsMoved first settled
+  moved-so = let all = settles.settles in moved-all first moves settled all.made
 
   numbers_last : All (λ row. row.entry.seq ≤ count + 1) (issued_at old.scene settled ino).table.rows
   numbers_last =
+      let moved = moved-so in
       All-map (λ row. row.entry.seq ≤ count + 1) (last_row old.scene settled ino) settled.table.rows
       (All-weaker (λ row. row.entry.seq ≤ count) (λ row. (last_row old.scene settled ino row).entry.seq ≤ count + 1)
       (λ row was. by_place old.scene settled ino (λ r. r.entry.seq ≤ count + 1) row (λ at. seq-ended old.scene settled row count was) (λ off. omega (arith, was)))
-      settled.table.rows (All-same (λ row. row.entry.seq ≤ count) settled.table.rows first.table.rows (ap (λ (t : Table). t.rows) same_table) numbers))
+      settled.table.rows (All-same (λ row. row.entry.seq ≤ count) settled.table.rows first.table.rows (ap (λ (t : Table). t.rows) moved.table) numbers))
 
   request_last : settled.locks.last ≤ count + 1
-  request_last =
-      let kept = settles.elsewhere in
-      let same : settled.locks.last ≡ old.scene.locks.last = kept.last ∙ ap (λ (s : Scene). s.locks.last) touches.is in
-      let was = given.last in
-      omega (arith, same, was)
+  request_last = let moved = moved-so in let same = moved.last in omega (arith, same, given)
 
   made_last : settled.table.made ≤ count + 1
-  made_last = let same : settled.table.made ≡ first.table.made = ap (λ (t : Table). t.made) same_table in omega (arith, same, made)
+  made_last = let moved = moved-so in let same : settled.table.made ≡ first.table.made = ap (λ (t : Table). t.made) moved.table in omega (arith, same, made)
 
-  given_last : AreGiven (count + 1) (with_scene old (finished_at ino old.scene settled))
-  given_last =
+  pub given-touched : AreGiven (count + 1) (state_at_end old moves (finished_at ino old.scene settled))
+  given-touched =
       let last = issued_at old.scene settled ino in
-      elim (is_kept last ino) as (λ b. AreGiven (count + 1) (with_scene old (cond b last (record last { tree = forgotten last.tree ino; locks = without_ino last.locks ino })))) [
+      elim (is_kept last ino) as (λ b. AreGiven (count + 1) (state_at_end old moves (cond b last (record last { tree = forgotten last.tree ino; locks = without_ino last.locks ino })))) [
         | true ↦ record { entries = numbers_last; last = request_last; made = made_last }
         | false ↦ record { entries = numbers_last; last = request_last; made = made_last }
       ]
-
-pub given-touched : (ino count : ℕ) (old : State) (first settled : Scene) → SettlesAt ino first settled → AreGiven count old → Touches ino old first
-    → All (λ row. row.entry.seq ≤ count) first.table.rows → first.table.made ≤ count + 1 → AreGiven (count + 1) (with_scene old (finished_at ino old.scene settled))
-given-touched ino count old first settled settles given touches numbers made = given_last ino count old first settled settles given touches numbers made

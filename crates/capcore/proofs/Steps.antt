@@ -1,21 +1,22 @@
--- An event of today by itself is a whole step: it leaves alone all that entries and requests depend on.
-use Rattle.std.proofs.Common.{◌≡◌, ℕ, ◌+◌, false, [], ◌++◌, Option, Some, None, refl, sym, ap, subst, ◌∙◌, append-nil, true≢false}
+-- A session, a lookup, a new inode or a snapshot by itself is a whole step: it leaves alone all that entries and requests depend on.
+use Rattle.std.proofs.Common.{◌≡◌, ℕ, ◌+◌, false, List, [], ◌++◌, Option, Some, None, refl, sym, ap, subst, ◌∙◌, append-nil, true≢false}
 use Rattle.std.proofs.lemmas.Option.{none-some}
 use Rattle.capbits.specs.Refusal.{first_failing}
 use Rattle.inotree.specs.Inodes.{with_snapshot, without_snapshot}
 use Rattle.inotree.specs.Tree.{IsTree, child}
 use Rattle.sessiontab.specs.Tests.{new_session_tests}
-use Rattle.captable.specs.declared.entry.Holder.{Holder}
 use Rattle.captable.specs.Table.{IsTable, holder}
 use Rattle.capcore.specs.declared.event.Event.{Event}
 use Rattle.capcore.specs.declared.event.Event.TheVariants as event
+use Rattle.capcore.specs.declared.outcome.Ended.{Ended}
 use Rattle.capcore.specs.declared.reply.Reply.{Reply}
+use Rattle.capcore.specs.declared.reply.Said.{Said}
 use Rattle.capcore.specs.declared.stopped.Stopped.{Stopped}
-use Rattle.capcore.specs.declared.stopped.Stopped.TheVariants.{ByPolicy, ByTest}
 use Rattle.capcore.specs.State.{State}
+use Rattle.capcore.specs.Answered.{IsAnswered}
 use Rattle.inotree.specs.declared.node.Kind.TheVariants.{Directory, File}
 use Rattle.capcore.specs.Judge.{judged}
-use Rattle.capcore.specs.Direct.{Direct, direct, effect, effect_unless, found, reply_of, has_list, shown, with_scene, IsDirect}
+use Rattle.capcore.specs.Direct.{Direct, direct, effect, effect_unless, found, reply_of, shown, with_scene, IsDirect}
 use Rattle.capcore.specs.Settle.{Settles}
 use Rattle.capcore.specs.Finish.{finished}
 use Rattle.capcore.specs.Leaving.{with_parts, LeavesEntries}
@@ -25,11 +26,11 @@ use Rattle.capcore.specs.Touching.{touched_by, is_poll}
 use Rattle.capcore.proofs.Finishing.{sound-settles}
 use Rattle.capcore.proofs.Judging.{no_test}
 use Rattle.capcore.proofs.Leaving.{kept-sound, kept-finished}
-use Rattle.capcore.proofs.Said.{said, said_by}
+use Rattle.capcore.proofs.Promised.{issues-exactly}
 use Rattle.capcore.proofs.Sounding.{later-given}
 use Rattle.capcore.proofs.Untouched.{nothing-leaves, session-leaves, changed-leaves, birth-leaves}
 
--- the event is about no entry, and asks for no messages
+-- the event is about no entry and no request, and asks for no messages
 abbrev pub IsAlone : Event → Type 0
 IsAlone e = (touched_by e ≡ None) × (is_poll e ≡ false)
 
@@ -50,6 +51,11 @@ none_dropped-effect old (event.Open client ino mode) = refl
 none_dropped-effect old (event.Want client ino caps) = refl
 none_dropped-effect old (event.Ack client ino seq) = refl
 none_dropped-effect old (event.Release client ino caps) = refl
+none_dropped-effect old (event.Get client ino part) = refl
+none_dropped-effect old (event.Alter client ino change) = refl
+none_dropped-effect old (event.Unlink client ino) = refl
+none_dropped-effect old (event.Rmdir client ino) = refl
+none_dropped-effect old (event.Flush client ino change) = refl
 none_dropped-effect old (event.Poll client max) = refl
 
 none_dropped : (old : State) (e : Event) (o : Option Stopped) → (effect_unless old e o).dropped ≡ []
@@ -72,37 +78,16 @@ none_shown-effect old (event.Open client ino mode) alone s = absurd (none-some (
 none_shown-effect old (event.Want client ino caps) alone s = absurd (none-some (holder client ino) (sym alone.0))
 none_shown-effect old (event.Ack client ino seq) alone s = absurd (none-some (holder client ino) (sym alone.0))
 none_shown-effect old (event.Release client ino caps) alone s = absurd (none-some (holder client ino) (sym alone.0))
+none_shown-effect old (event.Get client ino part) alone s = absurd (none-some (holder client ino) (sym alone.0))
+none_shown-effect old (event.Alter client ino change) alone s = absurd (none-some (holder client ino) (sym alone.0))
+none_shown-effect old (event.Unlink client ino) alone s = absurd (none-some (holder client ino) (sym alone.0))
+none_shown-effect old (event.Rmdir client ino) alone s = absurd (none-some (holder client ino) (sym alone.0))
+none_shown-effect old (event.Flush client ino change) alone s = absurd (none-some (holder client ino) (sym alone.0))
 none_shown-effect old (event.Poll client max) alone s = absurd (true≢false alone.1)
 
 none_shown : (old : State) (e : Event) → IsAlone e → (o : Option Stopped) (s : State) → shown (effect_unless old e o).answer s ≡ s
 none_shown old e alone (Some r) s = refl
 none_shown old e alone None s = none_shown-effect old e alone s
-
--- and answers with no values
-no_list-found : (old : State) (o : Option ℕ) → has_list (said_by (found old o)) ≡ false
-no_list-found old None = refl
-no_list-found old (Some ino) = refl
-
-no_list-effect : (old : State) (e : Event) → has_list (said_by (effect old e)) ≡ false
-no_list-effect old (event.Session client caller grants) = refl
-no_list-effect old (event.Lookup client dir name) = no_list-found old (child old.scene.tree.nodes dir.0 name)
-no_list-effect old (event.Create client dir name mode) = refl
-no_list-effect old (event.Mkdir client dir name mode) = refl
-no_list-effect old (event.MakeSnapshot client ino name) = refl
-no_list-effect old (event.RemoveSnapshot client ino name) = refl
-no_list-effect old (event.Open client ino mode) = refl
-no_list-effect old (event.Want client ino caps) = refl
-no_list-effect old (event.Ack client ino seq) = refl
-no_list-effect old (event.Release client ino caps) = refl
-no_list-effect old (event.Poll client max) = refl
-
-no_list-unless : (old : State) (e : Event) (o : Option Stopped) → has_list (said_by (effect_unless old e o)) ≡ false
-no_list-unless old e (Some (ByPolicy access rules)) = refl
-no_list-unless old e (Some (ByTest refusal)) = refl
-no_list-unless old e None = no_list-effect old e
-
-pub no_list : (old : State) (e : Event) (answer : Reply) (new : State) → IsDirect old e answer new → has_list answer ≡ false
-no_list old e answer new is = ap (λ a. has_list (said a)) is.answer_is ∙ no_list-unless old e (judged old.scene e)
 
 -- ---- what the event leaves alone
 
@@ -132,6 +117,11 @@ module _ (old : State) (sound : IsSound old) (tree : IsTree old.scene.tree) wher
   effect-left (event.Want client ino caps) alone none = absurd (none-some (holder client ino) (sym alone.0))
   effect-left (event.Ack client ino seq) alone none = absurd (none-some (holder client ino) (sym alone.0))
   effect-left (event.Release client ino caps) alone none = absurd (none-some (holder client ino) (sym alone.0))
+  effect-left (event.Get client ino part) alone none = absurd (none-some (holder client ino) (sym alone.0))
+  effect-left (event.Alter client ino change) alone none = absurd (none-some (holder client ino) (sym alone.0))
+  effect-left (event.Unlink client ino) alone none = absurd (none-some (holder client ino) (sym alone.0))
+  effect-left (event.Rmdir client ino) alone none = absurd (none-some (holder client ino) (sym alone.0))
+  effect-left (event.Flush client ino change) alone none = absurd (none-some (holder client ino) (sym alone.0))
   effect-left (event.Poll client max) alone none = absurd (true≢false alone.1)
 
   left_unless : (e : Event) → IsAlone e → (o : Option Stopped) → judged old.scene e ≡ o → IsLeft old (effect_unless old e o).state
@@ -144,10 +134,10 @@ module _ (old : State) (sound : IsSound old) (tree : IsTree old.scene.tree) wher
     left : IsLeft old new
     left = subst (IsLeft old) (sym is.state_is) (left_unless e alone (judged old.scene e) refl)
 
-    pub direct-given : (count : ℕ) → AreGiven count old → AreGiven (count + 1) new
+    direct-given : (count : ℕ) → AreGiven count old → AreGiven (count + 1) new
     direct-given count given = later-given count new (subst (AreGiven count) (sym left.is) (record { entries = given.entries; last = given.last; made = given.made }))
 
-    pub direct-sound : IsSound new
+    direct-sound : IsSound new
     direct-sound = subst IsSound (sym left.is) (kept-sound old sound new.scene.tree new.scene.sessions new.scene.locks.states left.leaves)
 
     direct-finished : IsTable old.scene.table → finished old.scene new.scene new.scene ≡ new.scene
@@ -155,7 +145,7 @@ module _ (old : State) (sound : IsSound old) (tree : IsTree old.scene.tree) wher
         subst (λ (s : State). finished old.scene s.scene s.scene ≡ s.scene) (sym left.is)
         (kept-finished old sound new.scene.tree new.scene.sessions new.scene.locks.states left.leaves table)
 
-    pub whole_step : IsTable old.scene.table → Step old e answer [] new
+    whole_step : IsTable old.scene.table → Step old e answer [] new
     whole_step table = (
       [],
       record {
@@ -174,3 +164,12 @@ module _ (old : State) (sound : IsSound old) (tree : IsTree old.scene.tree) wher
 
         done : finished old.scene d.state.scene d.state.scene ≡ d.state.scene
         done = subst (λ (s : State). finished old.scene s.scene s.scene ≡ s.scene) is.state_is (direct-finished table)
+
+    pub alone-answered : (says : Said) → IsTable old.scene.table → says.reply ≡ answer → says.kept ≡ answer → says.ended ≡ [] → IsAnswered old e says new
+    alone-answered says table answers kept none = record {
+      step = subst (λ (ended : List Ended). Step old e says.reply ended new) (sym none) (subst (λ (r : Reply). Step old e r [] new) (sym answers) (whole_step table));
+      kept = kept ∙ sym answers;
+      sound = direct-sound;
+      issued = issues-exactly old e answer new is direct-sound;
+      given = direct-given;
+    }

@@ -1,11 +1,10 @@
 -- An event about one entry, by itself: it changes entries of its inode alone, and leaves of each what every state keeps, but that
--- what is due is held.
+-- what is due is held. It drops no request and leaves the messages.
 use Rattle.std.proofs.Common.{◌≡◌, ◌≢◌, ◌≤◌, ℕ, ◌+◌, Bool, true, false, cond, not, ◌&&◌, ◌||◌, Option, Some, None, is_some, List, [], ◌∷◌, ◌++◌, refl, sym, ap, subst, ◌∙◌, Contains, true≢false, arith}
 use Rattle.std.specs.Prelude.{IsTrue, All}
 use Rattle.std.specs.List.{find}
 use Rattle.std.specs.Option.{option_map, option_map_or}
 use Rattle.std.specs.FinMap as map
-use Rattle.std.proofs.lemmas.Option.{none-some}
 use Rattle.std.proofs.lemmas.List.Elements.{All-cons, All-head, All-tail, All-push, All-contains, All-contains_itself, All-weaker, All-filter, All-same}
 use Rattle.capbits.specs.declared.cap.Cap.TheVariants.{P, Fs, Fx, Fc, Fr, Fw, Fb}
 use Rattle.capbits.specs.declared.cap.Part.{Part}
@@ -26,6 +25,7 @@ use Rattle.inotree.specs.Tests.{is_no_ino, inode_tests, file_test}
 use Rattle.sessiontab.specs.declared.session.Session.{Session}
 use Rattle.sessiontab.specs.declared.session.Status.{Status}
 use Rattle.sessiontab.specs.declared.session.Status.TheVariants as status
+use Rattle.sessiontab.specs.Table.{SessionTable}
 use Rattle.sessiontab.specs.Calls.{has_session, status_of}
 use Rattle.sessiontab.specs.Tests.{is_stale, session_tests}
 use Rattle.locktable.specs.declared.states.LockState.{LockState}
@@ -41,24 +41,26 @@ use Rattle.captable.proofs.Tables.{same_equiv, IsTable-changed, IsTable-opened, 
 use Rattle.captable.proofs.Moves.{IsTable-touched}
 use Rattle.captable.proofs.ByHolder.{row_found}
 use Rattle.captable.proofs.ByInode.{entries_on-changed, entries_on-opened, entries_on-released}
+use Rattle.lockmachine.specs.Inodes.{StateMap, lock_in}
 use Rattle.lockmachine.specs.Locks.{lock_at}
 use Rattle.lockmachine.specs.Policy.{Subject, subject, is_open_status, is_open_session, permitted, permitted_to}
 use Rattle.lockmachine.specs.Rows.{IsInRowOf, IsInRow}
 use Rattle.lockmachine.specs.Scene.{Scene, against, against_lock}
-use Rattle.lockmachine.specs.Moves.{present_state}
+use Rattle.lockmachine.specs.Moves.{present_state, IsQuiet}
 use Rattle.lockmachine.specs.Wants.{effective_want}
+use Rattle.lockmachine.proofs.SameBut.{same-entries}
 use Rattle.capcore.specs.declared.event.Event.{Event}
 use Rattle.capcore.specs.declared.event.Event.TheVariants as event
 use Rattle.capcore.specs.declared.event.OpenMode.{OpenMode}
 use Rattle.capcore.specs.declared.event.OpenMode.TheVariants as opening
-use Rattle.capcore.specs.declared.stopped.Stopped.{Stopped}
 use Rattle.capcore.specs.declared.touch.Touch.{Touch}
 use Rattle.capcore.specs.declared.touch.Touch.TheVariants.{Open, Want, Ack, Release}
 use Rattle.capcore.specs.State.{State}
-use Rattle.capcore.specs.Judge.{Need, judged, before, needs, after, stop_by, first_denied, is_writing, revoked_of, connected_tests, asked_tests, room_for}
-use Rattle.capcore.specs.Direct.{direct, effect, effect_unless, opening_wants, with_entry, with_table}
+use Rattle.capcore.specs.Judge.{judged, before, needs, after, stop_by, first_denied, is_writing, revoked_of, connected_tests, asked_tests, room_for}
+use Rattle.capcore.specs.Needs.{Need}
+use Rattle.capcore.specs.Direct.{Direct, direct, effect, effect_unless, opening_wants, with_entry, with_table}
 use Rattle.capcore.specs.Touch.{touch_event, touch_tests, touched_table}
-use Rattle.capcore.specs.Touching.{touched_by, IsTouchedEntry, Touches}
+use Rattle.capcore.specs.Touching.{IsTouchedEntry, Touches}
 use Rattle.capcore.specs.Headline.{IsInPlace}
 use Rattle.capcore.specs.Sound.{IsSound, IsSoundEntry, AreGiven}
 use Rattle.capcore.proofs.Judging.{no_test}
@@ -71,10 +73,10 @@ stop_by-after s None (Some n) l e = cc
 stop_by-after s None None (Some x) e = cc
 stop_by-after s None None None e = refl
 
-before-passed : (s : Scene) (e : Event) → judged s e ≡ None → first_failing (before s e) ≡ None
+pub before-passed : (s : Scene) (e : Event) → judged s e ≡ None → first_failing (before s e) ≡ None
 before-passed s e free = no_test s (before s e) (needs s e) (after s e) free
 
-after-passed : (s : Scene) (e : Event) → judged s e ≡ None → first_failing (after s e) ≡ None
+pub after-passed : (s : Scene) (e : Event) → judged s e ≡ None → first_failing (after s e) ≡ None
 after-passed s e free = stop_by-after s (first_failing (before s e)) (first_denied s (needs s e)) (first_failing (after s e)) free
 
 -- what the table tests was passed
@@ -101,21 +103,6 @@ pub touched-state : (old : State) (client : ClientId) (ino : Ino) (touch : Touch
     → (direct old (touch_event client ino touch)).state ≡ with_table old (touched_table old.scene.table (holder client ino) (revoked_of old.scene (holder client ino)) touch)
 touched-state old client ino touch free =
     ap (λ o. (effect_unless old (touch_event client ino touch) o).state) free ∙ effect-touched old client ino touch
-
--- ---- what is asked by an event about one entry
-
-pub asked_by : (e : Event) (k : Holder) → touched_by e ≡ Some k → (touch : Touch) × (e ≡ touch_event k.client k.ino touch)
-asked_by (event.Session client caller grants) k is = absurd (none-some k is)
-asked_by (event.Lookup client dir name) k is = absurd (none-some k is)
-asked_by (event.Create client dir name mode) k is = absurd (none-some k is)
-asked_by (event.Mkdir client dir name mode) k is = absurd (none-some k is)
-asked_by (event.MakeSnapshot client ino name) k is = absurd (none-some k is)
-asked_by (event.RemoveSnapshot client ino name) k is = absurd (none-some k is)
-asked_by (event.Open client ino mode) k is = let same : holder client ino ≡ k = cc in (Open mode, λ i. event.Open (same i).client (same i).ino mode)
-asked_by (event.Want client ino caps) k is = let same : holder client ino ≡ k = cc in (Want caps, λ i. event.Want (same i).client (same i).ino caps)
-asked_by (event.Ack client ino seq) k is = let same : holder client ino ≡ k = cc in (Ack seq, λ i. event.Ack (same i).client (same i).ino seq)
-asked_by (event.Release client ino caps) k is = let same : holder client ino ≡ k = cc in (Release caps, λ i. event.Release (same i).client (same i).ino caps)
-asked_by (event.Poll client max) k is = absurd (none-some k is)
 
 -- ---- rows
 
@@ -270,7 +257,7 @@ wants-pin opening.Write = has-caps_in (P ∷ Fx ∷ Fw ∷ Fb ∷ []) P
 wants-pin opening.ReadWrite = has-caps_in (P ∷ Fs ∷ Fx ∷ Fc ∷ Fr ∷ Fw ∷ Fb ∷ []) P
 
 -- the pin is always permitted
-permitted-pin : (fs : List ℕ) (o : Option Subject) → has (permitted_to fs o) P ≡ true
+pub permitted-pin : (fs : List ℕ) (o : Option Subject) → has (permitted_to fs o) P ≡ true
 unfolding permitted_of
 permitted-pin fs None = has-caps_in (P ∷ []) P
 permitted-pin fs (Some s) = in-union_left (caps_in for_all) _ (has-caps_in for_all P)
@@ -287,17 +274,21 @@ record IsKeptEntry (s : Scene) (row : EntryRow) : Type 0 where
   told : row.entry.told_seq ≤ row.entry.seq
   revoked : row.entry.revoke_seq ≤ row.entry.seq
 
--- so an event may leave it
-kept-touched : (s : Scene) (t : Table) (row : EntryRow) → IsKeptEntry s row → IsTouchedEntry (record s { table = t }) row
-kept-touched s t row is = record {
-  of_session = is.of_session;
-  on_inode = is.on_inode;
+-- so an event may leave it, where the same sessions, inodes and locks are there
+kept-left : (s new : Scene) (row : EntryRow) → new.sessions ≡ s.sessions → new.locks.states ≡ s.locks.states
+    → ((ino : ℕ) → map.contains_key new.tree.nodes ino ≡ map.contains_key s.tree.nodes ino) → IsKeptEntry s row → IsTouchedEntry new row
+kept-left s new row sessions states known is = record {
+  of_session = ap (λ (t : SessionTable). has_session t row.holder.client.0) sessions ∙ is.of_session;
+  on_inode = known row.holder.ino.0 ∙ is.on_inode;
   wants_pin = is.wants_pin;
-  pin = ap (λ b. b || has (effective_want s.fs s.tree s.sessions row) P) is.holds_pin;
-  in_row = is.in_row;
+  pin = ap (λ b. b || has (effective_want new.fs new.tree new.sessions row) P) is.holds_pin;
+  in_row = λ part. subst (λ (m : StateMap). IsInRowOf row part (option_map (lock_in part) (map.get m row.holder.ino.0))) (sym states) (is.in_row part);
   told = is.told;
   revoked = is.revoked;
 }
+
+kept-touched : (s : Scene) (t : Table) (row : EntryRow) → IsKeptEntry s row → IsTouchedEntry (record s { table = t }) row
+kept-touched s t row is = kept-left s (record s { table = t }) row refl refl (λ ino. refl) is
 
 placed-in_row : (s : Scene) (row : EntryRow) (part : Part) (o : Option LockState) → IsInPlace s row part o → IsInRowOf row part o
 placed-in_row s row part None place = place
@@ -319,6 +310,12 @@ sound-kept old sound table =
       told = was.told;
       revoked = was.revoked;
     }
+
+-- so all are left, where the same sessions, inodes and locks are there
+pub all-left : (old : State) (new : Scene) → IsSound old → IsTable old.scene.table → new.sessions ≡ old.scene.sessions → new.locks.states ≡ old.scene.locks.states
+    → ((ino : ℕ) → map.contains_key new.tree.nodes ino ≡ map.contains_key old.scene.tree.nodes ino) → All (IsTouchedEntry new) old.scene.table.rows
+all-left old new sound table sessions states known =
+    All-weaker (IsKeptEntry old.scene) (IsTouchedEntry new) (λ row. kept-left old.scene new row sessions states known) old.scene.table.rows (sound-kept old sound table)
 
 -- what holds less is where it was
 less-in_row : (row : EntryRow) (e : Entry) (part : Part) (o : Option LockState) → IsSubset e.held row.entry.held → IsInRowOf row part o → IsInRowOf (record row { entry = e }) part o
@@ -385,7 +382,7 @@ module _ (s : Scene) (client : ClientId) (ino : Ino) (asked : first_failing (ask
   both : (first_failing (session_tests s.sessions client.0) ≡ None) × (first_failing (inode_tests s.tree ino.0) ≡ None)
   both = passed-both (session_tests s.sessions client.0) (inode_tests s.tree ino.0) asked
 
-  asked-session : has_session s.sessions client.0 ≡ true
+  pub asked-session : has_session s.sessions client.0 ≡ true
   asked-session = not_false (has_session s.sessions client.0) (passed-if _ refusal.NoSession _ both.0).0
 
   asked-open : is_open_session (map.get s.sessions.sessions client.0) ≡ true
@@ -393,7 +390,7 @@ module _ (s : Scene) (client : ClientId) (ino : Ino) (asked : first_failing (ask
       open_session (map.get s.sessions.sessions client.0) asked-session
       (passed-if (is_stale (status_of s.sessions client.0)) refusal.SessionStale None (passed-if (not (has_session s.sessions client.0)) refusal.NoSession _ both.0).1).0
 
-  asked-there : map.contains_key s.tree.nodes ino.0 ≡ true
+  pub asked-there : map.contains_key s.tree.nodes ino.0 ≡ true
   asked-there = there (map.get s.tree.nodes ino.0) (passed-if (is_no_ino (place s.tree.nodes ino.0)) refusal.NoIno _ both.1).0
 
   none_in_row : (row : EntryRow) (part : Part) (o : Option LockState) → row.entry.held ≡ no_caps → IsInRowOf row part o
@@ -459,37 +456,48 @@ pub touches-touched : (old : State) (k : Holder) (touch : Touch) → IsSound old
     → Touches k.ino.0 old (direct old (touch_event k.client k.ino touch)).state.scene
 touches-touched old k touch sound table free =
     subst (λ (s : State). Touches k.ino.0 old s.scene) (sym (touched-state old k.client k.ino touch free)) (record {
-      is = refl;
-      others = λ other apart. others-touched old.scene.table k other (λ same. apart (ap (λ (i : Ino). i.0) same)) (revoked_of old.scene k) touch;
+      same = same-entries k.ino.0 old.scene (touched_table old.scene.table k (revoked_of old.scene k) touch)
+          (λ other apart. others-touched old.scene.table k other (λ same. apart (ap (λ (i : Ino). i.0) same)) (revoked_of old.scene k) touch);
+      known = λ other. refl;
+      locked = sound.locked;
+      waiting = sound.waiting;
+      at_lock = λ part none. subst (IsQuiet old.scene k.ino.0 part) none (sound.at_rest.each k.ino.0 part);
       each =
           All-filter (is_of_inode (record { 0 = k.ino.0 })) (IsTouchedEntry (record old.scene { table = touched_table old.scene.table k (revoked_of old.scene k) touch }))
           (touched_table old.scene.table k (revoked_of old.scene k) touch).rows
           (left-touched old k.client k.ino sound table touch (touched_table old.scene.table k (revoked_of old.scene k) touch) free);
     })
 
-pub event-touches : (old : State) (e : Event) (k : Holder) → IsSound old → IsTable old.scene.table → touched_by e ≡ Some k → judged old.scene e ≡ None
-    → Touches k.ino.0 old (direct old e).state.scene
-event-touches old e k sound table is =
-    let asked = asked_by e k is in
-    subst (λ (e : Event). judged old.scene e ≡ None → Touches k.ino.0 old (direct old e).state.scene) (sym asked.1) (touches-touched old k asked.0 sound table)
+-- ---- what it leaves of numbers, and what it leaves out
 
-pub event-table : (old : State) (e : Event) (k : Holder) → IsTable old.scene.table → touched_by e ≡ Some k → judged old.scene e ≡ None → IsTable (direct old e).state.scene.table
-event-table old e k table is =
-    let asked = asked_by e k is in
-    subst (λ (e : Event). judged old.scene e ≡ None → IsTable (direct old e).state.scene.table) (sym asked.1)
-    (λ free. subst (λ (s : State). IsTable s.scene.table) (sym (touched-state old k.client k.ino asked.0 free))
-    (table-touched old.scene.table k table (revoked_of old.scene k) asked.0 (touched-tests old.scene k.client k.ino asked.0 free)))
+-- no entry has a higher number, and at most one more entry is made and one more request numbered
+abbrev pub AreBelow : ℕ → State → Type 0
+AreBelow count s = All (λ row. row.entry.seq ≤ count) s.scene.table.rows × (s.scene.table.made ≤ count + 1) × (s.scene.locks.last ≤ count + 1)
 
-abbrev AreBelow : ℕ → State → Type 0
-AreBelow count s = All (λ row. row.entry.seq ≤ count) s.scene.table.rows × (s.scene.table.made ≤ count + 1)
+-- no request is dropped, and the messages stay
+abbrev pub Keeps : State → Direct → Type 0
+Keeps old d = (d.dropped ≡ []) × (d.state.messages ≡ old.messages)
 
-below-unless : (count : ℕ) (old : State) (k : Holder) (touch : Touch) → AreGiven count old → (o : Option Stopped) → AreBelow count (effect_unless old (touch_event k.client k.ino touch) o).state
-below-unless count old k touch given (Some stopped) = let made = given.made in (given.entries, omega (arith, made))
-below-unless count old k touch given None =
+pub table-of_touch : (old : State) (k : Holder) (touch : Touch) → IsTable old.scene.table → judged old.scene (touch_event k.client k.ino touch) ≡ None
+    → IsTable (direct old (touch_event k.client k.ino touch)).state.scene.table
+table-of_touch old k touch table free =
+    subst (λ (s : State). IsTable s.scene.table) (sym (touched-state old k.client k.ino touch free))
+    (table-touched old.scene.table k table (revoked_of old.scene k) touch (touched-tests old.scene k.client k.ino touch free))
+
+pub below-of_touch : (count : ℕ) (old : State) (k : Holder) (touch : Touch) → AreGiven count old → AreBelow count (effect old (touch_event k.client k.ino touch)).state
+below-of_touch count old k touch given =
+    let last = given.last in
     subst (AreBelow count) (sym (effect-touched old k.client k.ino touch))
-    (below-touched count k old.scene.table (revoked_of old.scene k) touch given.entries, made-touched count k old.scene.table (revoked_of old.scene k) touch given.made)
+    (below-touched count k old.scene.table (revoked_of old.scene k) touch given.entries, made-touched count k old.scene.table (revoked_of old.scene k) touch given.made, omega (arith, last))
 
-pub event-below : (count : ℕ) (old : State) (e : Event) (k : Holder) → AreGiven count old → touched_by e ≡ Some k → AreBelow count (direct old e).state
-event-below count old e k given is =
-    let asked = asked_by e k is in
-    subst (λ (e : Event). AreBelow count (direct old e).state) (sym asked.1) (below-unless count old k asked.0 given (judged old.scene (touch_event k.client k.ino asked.0)))
+pub keeps-of_touch : (old : State) (k : Holder) (touch : Touch) → Keeps old (effect old (touch_event k.client k.ino touch))
+keeps-of_touch old k (Open mode) = (refl, refl)
+keeps-of_touch old k (Want caps) = (refl, refl)
+keeps-of_touch old k (Ack seq) = (refl, refl)
+keeps-of_touch old k (Release caps) = (refl, refl)
+
+pub tree-of_touch : (old : State) (k : Holder) (touch : Touch) → (effect old (touch_event k.client k.ino touch)).state.scene.tree ≡ old.scene.tree
+tree-of_touch old k touch = ap (λ (s : State). s.scene.tree) (effect-touched old k.client k.ino touch)
+
+pub locks-of_touch : (old : State) (k : Holder) (touch : Touch) → (effect old (touch_event k.client k.ino touch)).state.scene.locks ≡ old.scene.locks
+locks-of_touch old k touch = ap (λ (s : State). s.scene.locks) (effect-touched old k.client k.ino touch)

@@ -21,7 +21,10 @@ use Rattle.captable.specs.declared.entry.Holder.{Holder}
 use Rattle.captable.specs.declared.entry.EntryRow.{EntryRow}
 use Rattle.captable.specs.Table.{Table, holder, is_row_of, entry_at}
 use Rattle.captable.specs.Calls.{opened, wanting, taken, released, touched, told, changed as changed_entry}
-use Rattle.lockmachine.specs.Locks.{with_ino}
+use Rattle.lockmachine.specs.declared.request.Ask.{Ask}
+use Rattle.lockmachine.specs.declared.request.Ask.TheVariants.{Get, Alter, Unlink, Rmdir}
+use Rattle.lockmachine.specs.declared.request.Change.{Change}
+use Rattle.lockmachine.specs.Locks.{with_ino, with_request}
 use Rattle.lockmachine.specs.Scene.{Scene, told_set}
 use Rattle.capcore.specs.declared.event.Event.{Event}
 use Rattle.capcore.specs.declared.event.Event.TheVariants as event
@@ -34,6 +37,7 @@ use Rattle.capcore.specs.declared.reply.Reply.{Reply}
 use Rattle.capcore.specs.declared.reply.Reply.TheVariants as reply
 use Rattle.capcore.specs.State.{State}
 use Rattle.capcore.specs.declared.stopped.Stopped.{Stopped}
+use Rattle.capcore.specs.Asks.{tree_changed}
 use Rattle.capcore.specs.Judge.{judged, stop_reply, revoked_of}
 use Rattle.capcore.specs.Messages.{first_messages, with_given}
 
@@ -159,6 +163,21 @@ with_table s table = with_scene s (record s.scene { table = table })
 abbrev pub shows : State → Holder → Direct
 shows s k = record { state = s; answer = Shows k; dropped = [] }
 
+-- ---- of what may wait for a lock
+
+-- what the client asks waits for the lock, with the next number; the moves of the step may serve it, and else that number is answered
+abbrev pub asks : State → ClientId → Ino → Ask → Direct
+asks s client ino ask = record {
+  state = with_scene s (record s.scene { locks = with_request s.scene.locks client ino ask });
+  answer = Awaits (record { 0 = s.scene.locks.last + 1 });
+  dropped = [];
+}
+
+-- the holder has made the change by itself, and its entry comes last in the order of recall
+abbrev pub with_flush : State → Holder → Change → State
+with_flush s k change =
+    with_scene s (record s.scene { tree = tree_changed s.scene.tree k.ino.0 change; table = touched s.scene.table k })
+
 -- ---- the effect of an event that nothing stops
 
 abbrev pub effect : State → Event → Direct
@@ -176,6 +195,11 @@ effect s (event.Want client ino caps) =
 effect s (event.Ack client ino seq) =
     says (with_table s (with_taken s.scene.table (holder client ino) (revoked_of s.scene (holder client ino)))) reply.Done
 effect s (event.Release client ino caps) = says (with_table s (released s.scene.table (holder client ino) caps)) reply.Done
+effect s (event.Get client ino part) = asks s client ino (Get part)
+effect s (event.Alter client ino change) = asks s client ino (Alter change)
+effect s (event.Unlink client ino) = asks s client ino Unlink
+effect s (event.Rmdir client ino) = asks s client ino Rmdir
+effect s (event.Flush client ino change) = says (with_flush s (holder client ino) change) reply.Done
 effect s (event.Poll client max) = record { state = s; answer = Gives client max; dropped = [] }
 
 abbrev pub effect_unless : State → Event → Option Stopped → Direct

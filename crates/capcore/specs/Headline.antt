@@ -24,13 +24,14 @@ use Rattle.lockmachine.specs.Scene.{Scene, against}
 use Rattle.lockmachine.specs.Moves.{is_open}
 use Rattle.capcore.specs.declared.outcome.Outcome.{Outcome}
 use Rattle.capcore.specs.declared.outcome.Outcome.TheVariants as outcome
-use Rattle.capcore.specs.Serving.{ask_before, ask_needs}
+use Rattle.capcore.specs.Asks.{ask_before, ask_needs}
 use Rattle.capcore.specs.Settle.{Made, Served, MakesAll}
 use Rattle.capcore.specs.declared.event.Event.{Event}
 use Rattle.capcore.specs.declared.reply.Reply.{Reply}
 use Rattle.capcore.specs.declared.reply.Reply.TheVariants as reply
 use Rattle.capbits.specs.Refusal.{Test, first_failing}
-use Rattle.capcore.specs.Judge.{Need, before, needs, first_denied}
+use Rattle.capcore.specs.Needs.{Need}
+use Rattle.capcore.specs.Judge.{before, needs, first_denied}
 use Rattle.capcore.specs.Finish.{due}
 
 -- ---- denials

@@ -4,16 +4,22 @@ use Rattle.std.specs.List.{find}
 use Rattle.std.specs.Option.{option_map, option_map_or}
 use Rattle.capbits.specs.declared.ids.ClientId.{ClientId}
 use Rattle.capbits.specs.Caps.{Caps}
-use Rattle.capbits.specs.Sets.{no_caps}
+use Rattle.capbits.specs.Sets.{no_caps, caps_in}
 use Rattle.capgrant.specs.declared.access.Access.{Access}
 use Rattle.capgrant.specs.declared.access.Access.TheVariants.{Read, Write, Snapshot}
 use Rattle.capbits.specs.Refusal.{Test, first_failing}
+use Rattle.sessiontab.specs.Table.{SessionTable}
 use Rattle.sessiontab.specs.Tests.{connected_test, session_tests, new_session_tests}
-use Rattle.inotree.specs.Tree.{child}
+use Rattle.inotree.specs.Tree.{Nodes, child}
 use Rattle.inotree.specs.Tests.{known_test, inode_tests, directory_test, file_test, found_test, new_inode_tests, new_snapshot_tests, old_snapshot_tests}
 use Rattle.captable.specs.declared.entry.Holder.{Holder}
 use Rattle.captable.specs.Table.{Table, holder, is_row_of, entry_at}
 use Rattle.captable.specs.Tests.{open_tests, entry_test, ack_tests, release_tests}
+use Rattle.lockmachine.specs.declared.request.Change.{Change}
+use Rattle.lockmachine.specs.declared.request.Ask.{Ask}
+use Rattle.lockmachine.specs.declared.request.Ask.TheVariants.{Get, Alter, Unlink, Rmdir}
+use Rattle.lockmachine.specs.Requests.{part_of_change}
+use Rattle.lockmachine.specs.Locks.{queue_tests}
 use Rattle.lockmachine.specs.Policy.{is_granted, failures}
 use Rattle.lockmachine.specs.Scene.{Scene, against}
 use Rattle.capbits.specs.declared.refusal.Refusal.{Refusal}
@@ -25,19 +31,8 @@ use Rattle.capcore.specs.declared.reply.Reply.{Reply}
 use Rattle.capcore.specs.declared.reply.Reply.TheVariants as reply
 use Rattle.capcore.specs.declared.stopped.Stopped.{Stopped}
 use Rattle.capcore.specs.declared.stopped.Stopped.TheVariants.{ByPolicy, ByTest}
-
--- an access of a client to an inode
-pub record Need : Type 0 where
-  pub holder : Holder
-  pub access : Access
-
-abbrev pub need : ClientId → ℕ → Access → Need
-need client ino access = record { holder = record { client = client; ino = record { 0 = ino } }; access = access }
-
--- the access to an inode that may not be there
-abbrev pub need_if : ClientId → Option ℕ → Access → List Need
-need_if client None access = []
-need_if client (Some ino) access = need client ino access ∷ []
+use Rattle.capcore.specs.Needs.{Need, need, need_if}
+use Rattle.capcore.specs.Asks.{ask_before, ask_needs, ask_after, change_access, change_tests, exclusive}
 
 -- ---- by event
 
@@ -58,6 +53,10 @@ connected_tests s client ino = connected_test s.sessions client.0 ∷ known_test
 abbrev pub asked_tests : Scene → ClientId → ℕ → List Test
 asked_tests s client ino = session_tests s.sessions client.0 ++ inode_tests s.tree ino
 
+-- of what may wait for a lock, the tests that stand before policy
+abbrev pub asking_tests : Scene → ClientId → ℕ → Ask → List Test
+asking_tests s client ino ask = session_tests s.sessions client.0 ++ ask_before s ino ask
+
 -- the tests that stand before policy
 abbrev pub before : Scene → Event → List Test
 before s (event.Session client caller grants) = new_session_tests s.sessions client.0
@@ -71,6 +70,11 @@ before s (event.Want client ino caps) = asked_tests s client ino.0 ++ entry_test
 before s (event.Ack client ino seq) =
     connected_tests s client ino.0 ++ ack_tests s.table (holder client ino) seq (revoked_of s (holder client ino))
 before s (event.Release client ino caps) = connected_tests s client ino.0 ++ release_tests s.table (holder client ino) caps
+before s (event.Get client ino part) = asking_tests s client ino.0 (Get part)
+before s (event.Alter client ino change) = asking_tests s client ino.0 (Alter change)
+before s (event.Unlink client ino) = asking_tests s client ino.0 Unlink
+before s (event.Rmdir client ino) = asking_tests s client ino.0 Rmdir
+before s (event.Flush client ino change) = asked_tests s client ino.0
 before s (event.Poll client max) = session_tests s.sessions client.0
 
 -- the accesses that an opening needs, in order
@@ -91,6 +95,11 @@ needs s (event.Open client ino mode) = opening_needs client ino.0 mode
 needs s (event.Want client ino caps) = []
 needs s (event.Ack client ino seq) = []
 needs s (event.Release client ino caps) = []
+needs s (event.Get client ino part) = ask_needs s client ino.0 (Get part)
+needs s (event.Alter client ino change) = ask_needs s client ino.0 (Alter change)
+needs s (event.Unlink client ino) = ask_needs s client ino.0 Unlink
+needs s (event.Rmdir client ino) = ask_needs s client ino.0 Rmdir
+needs s (event.Flush client ino change) = need client ino.0 (change_access change) ∷ []
 needs s (event.Poll client max) = []
 
 -- there is room for the holder's entry, where it is to be made
@@ -100,6 +109,16 @@ room_for table k = if is_some (entry_at table k) then [] else open_tests table
 -- what is opened to write is no directory
 abbrev pub opening_tests : Scene → Holder → OpenMode → List Test
 opening_tests s k mode = (if is_writing mode then file_test s.tree k.ino.0 ∷ [] else []) ++ room_for s.table k
+
+-- what may wait for a lock has its own tests, and there is room for it in the queue
+abbrev pub waiting_tests : Scene → ℕ → Ask → List Test
+waiting_tests s ino ask = ask_after s ino ask ++ queue_tests s.locks
+
+-- the holder has an entry, and holds the capability with which it changes the part by itself, be it that this is being revoked; and the
+-- change has its own tests
+abbrev pub flush_tests : Scene → Holder → Change → List Test
+flush_tests s k change =
+    release_tests s.table k (caps_in (exclusive (part_of_change change) ∷ [])) ++ change_tests s k.ino.0 change
 
 -- the tests that stand behind policy
 abbrev pub after : Scene → Event → List Test
@@ -113,6 +132,11 @@ after s (event.Open client ino mode) = opening_tests s (holder client ino) mode
 after s (event.Want client ino caps) = []
 after s (event.Ack client ino seq) = []
 after s (event.Release client ino caps) = []
+after s (event.Get client ino part) = waiting_tests s ino.0 (Get part)
+after s (event.Alter client ino change) = waiting_tests s ino.0 (Alter change)
+after s (event.Unlink client ino) = waiting_tests s ino.0 Unlink
+after s (event.Rmdir client ino) = waiting_tests s ino.0 Rmdir
+after s (event.Flush client ino change) = flush_tests s (holder client ino) change
 after s (event.Poll client max) = []
 
 -- ---- the judgement
@@ -124,6 +148,10 @@ is_met s n = is_granted s.fs s.tree s.sessions n.holder n.access
 -- the first access without a grant
 abbrev pub first_denied : Scene → List Need → Option Need
 first_denied s needed = find (λ n. not (is_met s n)) needed
+
+-- the denial of one access without a grant
+abbrev pub denial_of : List ℕ → Nodes → SessionTable → Holder → Access → Option Stopped
+denial_of fs tree sessions k access = if is_granted fs tree sessions k access then None else Some (ByPolicy access (failures fs tree sessions k access))
 
 abbrev pub stop_by : Scene → Option Refusal → Option Need → Option Refusal → Option Stopped
 stop_by s (Some refusal) denied later = Some (ByTest refusal)

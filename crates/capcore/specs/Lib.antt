@@ -1,8 +1,11 @@
 pub mod State
 pub mod Untold
+pub mod Needs
+pub mod Asks
 pub mod Judge
 pub mod Direct
 pub mod Serving
+pub mod Served
 pub mod Settle
 pub mod Finish
 pub mod Messages
@@ -15,3 +18,5 @@ pub mod Codes
 pub mod Headline
 pub mod Sound
 pub mod Leaving
+pub mod Answered
+pub mod Serves

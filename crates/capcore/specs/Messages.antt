@@ -28,11 +28,19 @@ caps_messages s row =
 abbrev pub recall_messages : EntryRow → List Message
 recall_messages row = if row.entry.asked then message.Recall row.holder.ino ∷ [] else []
 
+-- how a request ended
+abbrev pub end_message : Ended → Message
+end_message m = message.Ended m.ticket m.outcome
+
+-- the messages of a client's requests that ended, in the order in which they ended
+abbrev pub end_messages : ClientId → List Ended → List Message
+end_messages client ended = map end_message (filter (is_to client) ended)
+
 -- its requests that ended, in the order in which they ended; and then of each of its entries, in the order of making, the
 -- change that it was not told of, and that it is asked to give back
 abbrev pub messages_to : State → ClientId → List Message
 messages_to s client =
-    map (λ m. message.Ended m.ticket m.outcome) (filter (is_to client) s.messages)
+    end_messages client s.messages
     ++ flat_map (λ row. caps_messages s.scene row ++ recall_messages row) (filter (is_of_client client) s.scene.table.rows)
 
 -- those that a poll for at most so many takes
@@ -71,9 +79,13 @@ abbrev pub after_messages : List Message → EntryRow → Entry
 after_messages given row =
     unasked_if (list_any (is_recall_of row.holder.ino) given) (told_if (list_any (is_caps_of row.holder.ino) given) row.entry)
 
+-- a request that ended is still due to its client, once a client was given these messages
+abbrev pub is_left : ClientId → List Message → Ended → Bool
+is_left client given m = not (is_to client m && list_any (is_end_of m.ticket) given)
+
 -- the state, once a client was given messages: those are due no more, and all others are
 abbrev pub with_given : State → ClientId → List Message → State
 with_given s client given = record s {
   scene = record s.scene { table = changed_where (is_of_client client) (after_messages given) s.scene.table };
-  messages = filter (λ m. not (is_to client m && list_any (is_end_of m.ticket) given)) s.messages;
+  messages = filter (is_left client given) s.messages;
 }

@@ -1,9 +1,8 @@
--- Events that are about the entries of one inode, and how their steps end.
-use Rattle.std.specs.Prelude.{◌≡◌, ◌≢◌, ◌≤◌, ℕ, Bool, true, false, ◌||◌, Option, Some, None, IsTrue, All, if◌then◌else◌}
+-- Events that are about one inode, and how their steps end.
+use Rattle.std.specs.Prelude.{◌≡◌, ◌≤◌, ℕ, Bool, true, false, ◌||◌, List, Option, Some, None, IsTrue, All, if◌then◌else◌}
 use Rattle.std.specs.FinMap as map
 use Rattle.capbits.specs.declared.cap.Cap.TheVariants.{P}
 use Rattle.capbits.specs.declared.cap.Part.{Part}
-use Rattle.capbits.specs.declared.ids.Ino.{Ino}
 use Rattle.capbits.specs.Caps.{has}
 use Rattle.inotree.specs.Calls.{forgotten}
 use Rattle.sessiontab.specs.Calls.{has_session}
@@ -13,19 +12,21 @@ use Rattle.captable.specs.declared.entry.Holder.{Holder}
 use Rattle.captable.specs.Table.{holder}
 use Rattle.captable.specs.Calls.{is_of_inode, entries_on, renumbered}
 use Rattle.captable.specs.Many.{changed_where}
-use Rattle.lockmachine.specs.declared.moves.Move.TheVariants.{Settled}
+use Rattle.lockmachine.specs.declared.request.Ask.{Ask}
+use Rattle.lockmachine.specs.declared.request.Ask.TheVariants.{Get, Alter, Unlink, Rmdir}
+use Rattle.lockmachine.specs.Elsewhere.{IsSameBut}
 use Rattle.lockmachine.specs.Wants.{effective_want}
-use Rattle.lockmachine.specs.Locks.{without_ino}
+use Rattle.lockmachine.specs.Requests.{first_for}
+use Rattle.lockmachine.specs.Locks.{lock_at, without_ino}
 use Rattle.lockmachine.specs.Scene.{Scene, told_set}
-use Rattle.lockmachine.specs.Moves.{first_move}
-use Rattle.lockmachine.specs.Runs.{MoveLittle, ChangesLocksOf}
 use Rattle.lockmachine.specs.Rows.{IsInRow}
 use Rattle.capcore.specs.declared.event.Event.{Event}
 use Rattle.capcore.specs.declared.event.Event.TheVariants as event
 use Rattle.capcore.specs.Finish.{issue_row, is_kept}
+use Rattle.capcore.specs.Settle.{Made, Settles}
 use Rattle.capcore.specs.State.{State}
 
--- whose entry the event is about, where it is about one
+-- who asks, and of which inode, where the event is about one that is there already: about an entry on it, or about what it keeps
 abbrev pub touched_by : Event → Option Holder
 touched_by (event.Session client caller grants) = None
 touched_by (event.Lookup client dir name) = None
@@ -37,7 +38,31 @@ touched_by (event.Open client ino mode) = Some (holder client ino)
 touched_by (event.Want client ino caps) = Some (holder client ino)
 touched_by (event.Ack client ino seq) = Some (holder client ino)
 touched_by (event.Release client ino caps) = Some (holder client ino)
+touched_by (event.Get client ino part) = Some (holder client ino)
+touched_by (event.Alter client ino change) = Some (holder client ino)
+touched_by (event.Unlink client ino) = Some (holder client ino)
+touched_by (event.Rmdir client ino) = Some (holder client ino)
+touched_by (event.Flush client ino change) = Some (holder client ino)
 touched_by (event.Poll client max) = None
+
+-- of an event that waits for a lock, who asks, of which inode, and what
+abbrev pub asks_for : Event → Option (Holder × Ask)
+asks_for (event.Session client caller grants) = None
+asks_for (event.Lookup client dir name) = None
+asks_for (event.Create client dir name mode) = None
+asks_for (event.Mkdir client dir name mode) = None
+asks_for (event.MakeSnapshot client ino name) = None
+asks_for (event.RemoveSnapshot client ino name) = None
+asks_for (event.Open client ino mode) = None
+asks_for (event.Want client ino caps) = None
+asks_for (event.Ack client ino seq) = None
+asks_for (event.Release client ino caps) = None
+asks_for (event.Get client ino part) = Some (holder client ino, Get part)
+asks_for (event.Alter client ino change) = Some (holder client ino, Alter change)
+asks_for (event.Unlink client ino) = Some (holder client ino, Unlink)
+asks_for (event.Rmdir client ino) = Some (holder client ino, Rmdir)
+asks_for (event.Flush client ino change) = None
+asks_for (event.Poll client max) = None
 
 -- the event asks for messages
 abbrev pub is_poll : Event → Bool
@@ -51,6 +76,11 @@ is_poll (event.Open client ino mode) = false
 is_poll (event.Want client ino caps) = false
 is_poll (event.Ack client ino seq) = false
 is_poll (event.Release client ino caps) = false
+is_poll (event.Get client ino part) = false
+is_poll (event.Alter client ino change) = false
+is_poll (event.Unlink client ino) = false
+is_poll (event.Rmdir client ino) = false
+is_poll (event.Flush client ino change) = false
 is_poll (event.Poll client max) = true
 
 -- ---- what they leave
@@ -66,20 +96,23 @@ pub record IsTouchedEntry (s : Scene) (row : EntryRow) : Type 0 where
   pub told : row.entry.told_seq ≤ row.entry.seq
   pub revoked : row.entry.revoke_seq ≤ row.entry.seq
 
--- the scene differs from that of the old state in the entries on this inode alone
+-- the scene differs from that of the old state at this inode alone: in its entries, in who waits for its locks, or in what it is
 pub record Touches (ino : ℕ) (old : State) (first : Scene) : Type 0 where
-  pub is : first ≡ record old.scene { table = first.table }
-  pub others : (other : Ino) → other.0 ≢ ino → entries_on first.table other ≡ entries_on old.scene.table other
+  pub same : IsSameBut ino old.scene first
+  -- the same inodes are there, each with its locks and no others
+  pub known : (other : ℕ) → map.contains_key first.tree.nodes other ≡ map.contains_key old.scene.tree.nodes other
+  pub locked : (other : ℕ) → map.contains_key first.locks.states other ≡ map.contains_key first.tree.nodes other
+  -- who waits has a session, and waits at this inode for a lock that is there
+  pub waiting : All (λ q. IsTrue (has_session first.sessions q.client.0)) first.locks.queue
+  pub at_lock : (part : Part) → lock_at first.locks ino part ≡ None → first_for first.locks.queue ino part ≡ None
   pub each : All (IsTouchedEntry first) (entries_on first.table (record { 0 = ino }))
 
 -- ---- how their steps end
 
--- the locks of this inode have settled
-pub record SettlesAt (ino : ℕ) (first settled : Scene) : Type 0 where
-  pub is : settled ≡ record first { locks = settled.locks }
-  pub moves : MoveLittle first settled
-  pub rests : first_move settled ≡ Settled
-  pub elsewhere : ChangesLocksOf ino first.locks settled.locks
+-- by these moves the locks have settled, and nothing has changed but at this inode
+pub record SettlesAt (ino : ℕ) (moves : List Made) (first settled : Scene) : Type 0 where
+  pub settles : Settles first moves settled
+  pub same : IsSameBut ino first settled
 
 -- the entry at the end: it gains what is due, and has a new number if its client is to know of another set than right
 -- after the event

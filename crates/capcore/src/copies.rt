@@ -1,11 +1,13 @@
-//! Copies that take no memory.
-ghost use Rattle.std.specs.Prelude.{◌≡◌, false};
+//! Copies. What takes memory for one says so.
+ghost use Rattle.std.specs.Prelude.{◌≡◌, false, IfOk};
 ghost use Rattle.capcore.specs.Direct.{has_list};
 
+use crate::outcome::{Outcome, PartValues};
 use crate::reply::Reply;
 use arrayvec::ArrayVec;
 use capbits::{Caller, Groups};
 use capgrant::Rules;
+use std::alloc::{AllocError, Global};
 
 // The same caller once more.
 pub(crate) fn copy_of_caller(caller: &Caller) -> Caller
@@ -22,13 +24,45 @@ pub(crate) fn copy_of_caller(caller: &Caller) -> Caller
 }
 
 // The same rules once more.
-fn copy_of_rules(rules: &Rules) -> Rules
+pub(crate) fn copy_of_rules(rules: &Rules) -> Rules
     ensures { result ≡ rules.now }
 {
     let Ok(rules) = ArrayVec::try_from(rules.as_slice()) else {
         unreachable!()
     };
     Rules::from(rules)
+}
+
+// What an inode keeps of one part once more. A list of attributes alone takes memory.
+fn copy_of_values(alloc: Global, values: &PartValues) -> Result<PartValues, AllocError>
+    ensures { IfOk result (λ copy. copy ≡ values.now) }
+{
+    match values {
+        PartValues::Auth(attr) => Ok(PartValues::Auth(*attr)),
+        PartValues::Link => Ok(PartValues::Link),
+        PartValues::Xattr(attributes) => Ok(PartValues::Xattr(attributes.copy(alloc)?)),
+        PartValues::File { size, time } => {
+            let (size, time) = (*size, *time);
+            Ok(PartValues::File { size, time })
+        }
+    }
+}
+
+// How a request ended once more. A list of attributes alone takes memory.
+pub(crate) fn copy_of_outcome(alloc: Global, outcome: &Outcome) -> Result<Outcome, AllocError>
+    ensures { IfOk result (λ copy. copy ≡ outcome.now) }
+{
+    match outcome {
+        Outcome::Done => Ok(Outcome::Done),
+        Outcome::Values(values) => Ok(Outcome::Values(copy_of_values(alloc, values)?)),
+        Outcome::Denied { access, rules } => {
+            let (access, rules) = (*access, copy_of_rules(rules));
+            Ok(Outcome::Denied { access, rules })
+        }
+        Outcome::Refused(refusal) => Ok(Outcome::Refused(*refusal)),
+        Outcome::OutOfMemory => Ok(Outcome::OutOfMemory),
+        Outcome::Dropped => Ok(Outcome::Dropped),
+    }
 }
 
 // The same reply once more, where it has no values: a list of attributes takes memory.

@@ -1,8 +1,8 @@
 //! What happens.
 
-use capbits::{Caller, CapSet, ClientId, Ino, Mode};
+use capbits::{Caller, CapSet, ClientId, Ino, Mode, Part};
 use capspec::Grants;
-use lockmachine::Bytes;
+use lockmachine::{Bytes, Change};
 
 /// What a client opens an inode for.
 #[derive(Clone, Copy, Debug, PartialEq, Eq)]
@@ -111,6 +111,47 @@ pub enum Event {
         ino: Ino,
         /// The capabilities.
         caps: CapSet,
+    },
+    /// A client asks what an inode keeps of a part. It waits for the lock of the part.
+    Get {
+        /// The client.
+        client: ClientId,
+        /// The inode.
+        ino: Ino,
+        /// The part.
+        part: Part,
+    },
+    /// A client changes what an inode keeps. It waits for the lock of the part that changes.
+    Alter {
+        /// The client.
+        client: ClientId,
+        /// The inode.
+        ino: Ino,
+        /// The change.
+        change: Change,
+    },
+    /// A client unlinks a file. It waits for the lock of the file's link count.
+    Unlink {
+        /// The client.
+        client: ClientId,
+        /// The file.
+        ino: Ino,
+    },
+    /// A client removes an empty directory. It waits for the lock of the directory's link count.
+    Rmdir {
+        /// The client.
+        client: ClientId,
+        /// The directory.
+        ino: Ino,
+    },
+    /// A client that alone may change a part has changed it, and says so. It waits for no lock.
+    Flush {
+        /// The client.
+        client: ClientId,
+        /// The inode.
+        ino: Ino,
+        /// The change.
+        change: Change,
     },
     /// A client asks for its messages.
     Poll {

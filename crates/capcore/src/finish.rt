@@ -39,9 +39,10 @@ pub(crate) fn finish_at(
 )
     requires numbers { All (λ row. row.entry.seq < 2 ^ 64 - 1) table.old.rows }
     requires clients { All (λ row. IsTrue (has_session sessions.now row.holder.client.0)) table.old.rows }
-    ensures { (old : Scene) → map.get old.locks.states ino.0 ≡ before
+    ensures finished { (old : Scene) → map.get old.locks.states ino.0 ≡ before
         → scene fs.now tree.new sessions.now table.new locks.new
         ≡ finished_at ino.0 old (scene fs.now tree.old sessions.now table.old locks.old) }
+    ensures queue { locks.new.queue ≡ locks.old.queue }
 {
     let now = locks.of_ino(ino);
     finish_entries(fs, tree, sessions, table, ino, &before, &now);
@@ -92,8 +93,9 @@ fn clients_on(sessions: &Sessions, table: &CapTable, ino: Ino) -> ArrayVec<u32, 
 
 // Forgets the inode and its locks, if it is a stray that nobody has an entry on.
 fn forget_unheld(tree: &mut Tree, table: &CapTable, locks: &mut Locks, ino: Ino)
-    ensures { (fs : List ℕ) (sessions : SessionTable) → scene fs tree.new sessions table.now locks.new
+    ensures left { (fs : List ℕ) (sessions : SessionTable) → scene fs tree.new sessions table.now locks.new
         ≡ forget_at ino.0 (scene fs tree.old sessions table.now locks.old) }
+    ensures queue { locks.new.queue ≡ locks.old.queue }
 {
     match tree.place(ino) {
         Place::Gone => {

@@ -3,17 +3,25 @@
 //! Public source: "Capabilities in CephFS" in the Ceph documentation.
 #![tactic(auto)]
 
+mod asking;
 mod copies;
+mod ended;
 mod ending;
 mod event;
 mod finish;
+mod flushing;
 mod giving;
 mod history;
+mod judge;
 mod laws;
 mod messages;
 mod outcome;
+mod own_laws;
 mod poll;
 mod reply;
+mod serving;
+mod serving_laws;
+mod settle;
 mod start;
 mod staying;
 mod step;
@@ -36,9 +44,11 @@ pub use laws::{
     what_leaves_entries_alone_leaves_nothing_to_do,
 };
 pub use outcome::{Ended, Message, MessageList, Outcome, PartValues};
+pub use own_laws::what_is_served_at_once_is_not_stopped;
 pub use reply::Reply;
+pub use serving_laws::{a_serving_changes_one_inode, a_serving_keeps_what_is_known};
 pub use staying::what_touches_one_inode_leaves_it_sound;
 pub use step::Core;
 pub use stopped::Stopped;
-pub use touch_laws::an_event_of_one_entry_is_a_step;
-pub use touching::events_of_one_entry_touch_its_inode;
+pub use touch_laws::an_event_of_one_inode_is_a_step;
+pub use touching::events_of_one_inode_touch_it;

@@ -1,7 +1,14 @@
 //! The requests that ended and that no client was told of.
-ghost use Rattle.std.specs.Prelude.{◌≡◌, ◌+◌, ◌≤◌, ◌<◌, ◌++◌, [], ◌∷◌, length, OnOk, OnErr};
+ghost use Rattle.std.specs.Prelude.{◌≡◌, ◌+◌, ◌≤◌, ◌<◌, ◌++◌, [], ◌∷◌, length, filter, IfOk, OnOk, OnErr};
+ghost use Rattle.std.specs.List.{find, list_any, position};
+ghost use Rattle.capcore.specs.Direct.{is_of_ticket};
+ghost use Rattle.capcore.specs.Messages.{is_left, is_end_of};
+ghost use Rattle.capcore.specs.Untold.{HaveOwnNumbers, but_for};
 
-use crate::outcome::Ended;
+use crate::history::EndedList;
+use crate::outcome::{Ended, Message};
+use crate::serving::Served;
+use capbits::{ClientId, Ticket};
 use std::alloc::{AllocError, Global};
 use std::marker::Model;
 
@@ -32,6 +39,15 @@ impl Messages {
         Messages {
             items: Vec::new(alloc),
         }
+    }
+
+    // No request, and room for so many.
+    pub(crate) fn with_room(alloc: Global, room: usize) -> Result<Messages, AllocError>
+        ensures { IfOk result (λ messages. (messages.items ≡ []) × (room ≤ messages.room)) }
+    {
+        let mut items = Vec::new(alloc);
+        items.reserve(room)?;
+        Ok(Messages { items })
     }
 
     // Makes room for so many more.
@@ -66,5 +82,127 @@ impl Messages {
         let Ok(()) = self.items.push(ended) else {
             unreachable!()
         };
+    }
+
+    // All of these ended, for which there is room.
+    pub(crate) fn append(&mut self, more: Messages)
+        requires room { length self.old.items + length more.items ≤ self.old.room }
+        ensures items { self.new.items ≡ self.old.items ++ more.items }
+        ensures room { self.old.room ≤ self.new.room }
+    {
+        let Messages { items } = more;
+        for ended in items {
+            self.push(ended);
+        }
+    }
+
+    // How the request with this number ended, if it is among them; the others are left.
+    pub(crate) fn take(&mut self, ticket: Ticket) -> Option<Ended>
+        requires differ { HaveOwnNumbers self.old.items }
+        ensures taken { result ≡ find (is_of_ticket ticket) self.old.items }
+        ensures left { self.new.items ≡ but_for ticket self.old.items }
+        ensures room { self.new.room ≡ self.old.room }
+    {
+        let place = self.place_of(ticket)?;
+        Some(self.items.remove(place))
+    }
+
+    // Its place among them.
+    fn place_of(&self, ticket: Ticket) -> Option<usize>
+        ensures { result ≡ position (is_of_ticket ticket) self.now.items }
+    {
+        self.items
+            .iter()
+            .position(|ended| ended.ticket.0 == ticket.0)
+    }
+
+    // The requests, as a list for the history.
+    pub(crate) fn into_list(self) -> EndedList
+        ensures { result ≡ self.items }
+    {
+        let Messages { items } = self;
+        EndedList::from(items)
+    }
+
+    // Those that a client was given are due no more.
+    pub(crate) fn remove_given(&mut self, client: ClientId, given: &[Message])
+        ensures items { self.new.items ≡ filter (is_left client given.now) self.old.items }
+        ensures room { self.new.room ≡ self.old.room }
+    {
+        self.items.retain(|ended| is_left(client, given, ended));
+    }
+}
+
+// The requests that a step ends: once to be told to their clients, and once for the history.
+#[derive(Debug, Drop)]
+pub(crate) struct Endings {
+    pub(crate) told: Messages,
+    pub(crate) kept: Messages,
+}
+
+impl Endings {
+    // No request, and room for so many.
+    pub(crate) fn with_room(alloc: Global, room: usize) -> Result<Endings, AllocError>
+        ensures told { IfOk result (λ endings. (endings.told.items ≡ []) × (room ≤ endings.told.room)) }
+        ensures kept { IfOk result (λ endings. (endings.kept.items ≡ []) × (room ≤ endings.kept.room)) }
+    {
+        let told = Messages::with_room(alloc, room)?;
+        match Messages::with_room(alloc, room) {
+            Ok(kept) => Ok(Endings { told, kept }),
+            Err(refused) => {
+                drop(told);
+                Err(refused)
+            }
+        }
+    }
+
+    // The allocator of the lists.
+    pub(crate) fn alloc(&self) -> Global {
+        self.told.alloc()
+    }
+
+    // A client's request with this number ended so.
+    pub(crate) fn push(&mut self, client: ClientId, ticket: Ticket, served: Served)
+        requires told { length self.old.told.items < self.old.told.room }
+        requires kept { length self.old.kept.items < self.old.kept.room }
+        ensures told { self.new.told.items ≡ self.old.told.items ++ record { client = client; ticket = ticket; outcome = served.outcome } ∷ [] }
+        ensures kept { self.new.kept.items ≡ self.old.kept.items ++ record { client = client; ticket = ticket; outcome = served.kept } ∷ [] }
+        ensures room { (self.old.told.room ≤ self.new.told.room) × (self.old.kept.room ≤ self.new.kept.room) }
+    {
+        let Served { outcome, kept } = served;
+        self.told.push(Ended {
+            client,
+            ticket,
+            outcome,
+        });
+        self.kept.push(Ended {
+            client,
+            ticket,
+            outcome: kept,
+        });
+    }
+}
+
+// Whether the message is still due to its client, when a client was given some.
+fn is_left(client: ClientId, given: &[Message], ended: &Ended) -> bool
+    ensures { result ≡ is_left client given.now ended.now }
+{
+    !(ended.client.0 == client.0 && is_told(ended.ticket, given))
+}
+
+// Whether one of the messages tells how the request with this number ended.
+fn is_told(ticket: Ticket, given: &[Message]) -> bool
+    ensures { result ≡ list_any (is_end_of ticket) given.now }
+{
+    given.iter().any(|message| is_end_of(ticket, message))
+}
+
+// Whether the message tells how the request with this number ended.
+fn is_end_of(ticket: Ticket, message: &Message) -> bool
+    ensures { result ≡ is_end_of ticket message.now }
+{
+    match message {
+        Message::Ended { ticket: told, .. } => told.0 == ticket.0,
+        Message::Caps { .. } | Message::Recall { .. } => false,
     }
 }

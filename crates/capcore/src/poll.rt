@@ -3,28 +3,30 @@ ghost use Rattle.std.specs.Prelude.{◌≡◌, ◌≤◌, ◌++◌, [], ◌∷�
 ghost use Rattle.captable.specs.Calls.{is_of_client};
 ghost use Rattle.captable.specs.Many.{changed_where};
 ghost use Rattle.lockmachine.specs.Scene.{Scene};
-ghost use Rattle.capcore.specs.Messages.{after_messages, caps_messages, first_messages, recall_messages};
+ghost use Rattle.capcore.specs.Messages.{after_messages, caps_messages, end_messages, first_messages, recall_messages};
 ghost use Rattle.capcore.specs.State.{State};
 
-use crate::outcome::{Message, MessageList};
+use crate::copies::copy_of_outcome;
+use crate::outcome::{Ended, Message, MessageList};
 use crate::told::told_set_of;
 use capbits::ClientId;
 use captable::{CapTable, EntryRow};
 use lockmachine::Locks;
 use std::alloc::{AllocError, Global};
 
-// The first messages that are due to a client, at most so many, where no request of its own has ended.
+// The first messages that are due to a client, at most so many, where these requests have ended.
 pub(crate) fn due_messages(
     alloc: Global,
+    ended: &[Ended],
     table: &CapTable,
     locks: &Locks,
     client: ClientId,
     max: u32,
 ) -> Result<MessageList, AllocError>
-    ensures { IfOk result (λ due. (s : State) → s.scene.table ≡ table.now → s.scene.locks ≡ locks.now → s.messages ≡ []
+    ensures { IfOk result (λ due. (s : State) → s.scene.table ≡ table.now → s.scene.locks ≡ locks.now → s.messages ≡ ended.now
         → due ≡ first_messages s client max) }
 {
-    let mut due = MessageList::new(alloc);
+    let mut due = ended_messages(alloc, ended, client, max)?;
     let mut walk = table.entries_of(client);
     'rows: while let Some(row) = walk.next() {
         add_due(&mut due, max, locks, &row)?;
@@ -33,6 +35,26 @@ pub(crate) fn due_messages(
         }
     }
     Ok(due)
+}
+
+// The first messages of a client's requests that ended, at most so many.
+fn ended_messages(
+    alloc: Global,
+    ended: &[Ended],
+    client: ClientId,
+    max: u32,
+) -> Result<MessageList, AllocError>
+    ensures { IfOk result (λ list. list ≡ take max (end_messages client ended.now)) }
+{
+    let mut list = MessageList::new(alloc);
+    for one in ended {
+        if one.client == client && list.as_slice().len() < max as usize {
+            let outcome = copy_of_outcome(alloc, &one.outcome)?;
+            let ticket = one.ticket;
+            list.push(Message::Ended { ticket, outcome })?;
+        }
+    }
+    Ok(list)
 }
 
 // Adds those that are due to the client of an entry, so far as no more than the most are listed.

@@ -1,10 +1,13 @@
 //! What is answered.
-ghost use Rattle.std.specs.Prelude.{◌≡◌};
-ghost use Rattle.capcore.specs.declared.reply.Reply.TheVariants as reply;
+ghost use Rattle.std.specs.Prelude.{◌≡◌, false, []};
+ghost use Rattle.capcore.specs.Direct.{has_list};
 
+use crate::copies::copy_of_reply;
+use crate::history::EndedList;
 use crate::outcome::{MessageList, PartValues};
 use capbits::{CapSet, Ino, Refusal, Ticket};
 use capgrant::{Access, Rules};
+use std::alloc::Global;
 
 /// The answer to an event.
 #[derive(Debug, Drop)]
@@ -39,22 +42,24 @@ pub enum Reply {
     OutOfMemory,
 }
 
-// A reply, and the same once more for the history.
+// What a step says: its reply, the same once more for the history, and the requests of earlier steps that it ended.
 #[derive(Debug, Drop)]
 pub(crate) struct Said {
     pub(crate) reply: Reply,
     pub(crate) kept: Reply,
+    pub(crate) ended: EndedList,
 }
 
 impl Said {
-    // A refusal.
-    pub(crate) fn refusal(refusal: Refusal) -> Said
-        ensures reply { result.reply ≡ reply.Refused refusal }
-        ensures kept { result.kept ≡ reply.Refused refusal }
+    // A reply that has no list, of a step that ended no request.
+    pub(crate) fn alone(alloc: Global, reply: Reply) -> Said
+        requires { has_list reply ≡ false }
+        ensures reply { result.reply ≡ reply }
+        ensures kept { result.kept ≡ reply }
+        ensures ended { result.ended ≡ [] }
     {
-        Said {
-            reply: Reply::Refused(refusal),
-            kept: Reply::Refused(refusal),
-        }
+        let kept = copy_of_reply(&reply);
+        let ended = EndedList::new(alloc);
+        Said { reply, kept, ended }
     }
 }

@@ -12,7 +12,7 @@ ghost use Rattle.lockmachine.specs.Moves.{IsAtRest};
 ghost use Rattle.capcore.specs.declared.history.Stop.TheVariants as stop_kind;
 
 use crate::event::Event;
-use crate::history::{EndedList, Row, Stop};
+use crate::history::{Row, Stop};
 use crate::reply::{Reply, Said};
 use crate::world::World;
 use capbits::{ClientId, Ino, Part, PassId};
@@ -30,7 +30,6 @@ pub struct Core {
     world: World,
     rows: Vec<Row>,
     max_rows: u32,
-    alloc: Global,
 }
 
 impl Model for Core {
@@ -58,7 +57,6 @@ impl Core {
             world: World::new(alloc, fs, tree)?,
             rows: Vec::new(alloc),
             max_rows,
-            alloc,
         })
     }
 
@@ -90,13 +88,13 @@ impl Core {
         }
         self.rows.reserve(1)?;
         let nth = next_number(&self.rows, pass);
-        let Said { reply, kept } = self.world.step(&event)?;
+        let Said { reply, kept, ended } = self.world.step(&event)?;
         let row = Row {
             pass,
             nth,
             event,
             reply: kept,
-            ended: EndedList::new(self.alloc),
+            ended,
         };
         self.rows.push(row)?;
         Ok(reply)

@@ -6,42 +6,40 @@ ghost use Rattle.inotree.specs.Tests.{create_tests};
 ghost use Rattle.capcore.specs.Sound.{IsSound, AreGiven, NumbersLeft};
 ghost use Rattle.capcore.specs.Touch.{touch_event};
 ghost use Rattle.capcore.specs.Touching.{touched_by, is_poll};
-ghost use Rattle.capgrant.specs.Verdict.{is_allowed, IfDenied};
 ghost use Rattle.captable.specs.Table.{IsTable, holder, entry_at};
 ghost use Rattle.lockmachine.specs.Locks.{lock_at};
 ghost use Rattle.sessiontab.specs.Calls.{status_of};
-ghost use Rattle.lockmachine.specs.Policy.{failures};
-ghost use Rattle.capcore.specs.Judge.{judged, stop, need, is_met, before, asked_tests, connected_tests, opening_needs, opening_tests, room_for};
-ghost use Rattle.capcore.specs.declared.stopped.Stopped.TheVariants as stopped_kind;
+ghost use Rattle.capcore.specs.Judge.{judged, stop, before, asked_tests, connected_tests, opening_needs, opening_tests, room_for};
+ghost use Rattle.capcore.specs.Needs.{need};
 ghost use Rattle.captable.specs.Tests.{entry_test};
-ghost use Rattle.std.specs.Option.{option_map};
 ghost use Rattle.std.specs.FinMap as map;
-ghost use Rattle.capgrant.specs.declared.answer.Verdict.TheVariants as verdict_kind;
 ghost use Rattle.capcore.specs.Direct.{Says, IsDirect, direct, has_list, made_event, owned_by, with_birth};
 ghost use Rattle.capcore.specs.History.{IsOpening, HasNoStray};
 ghost use Rattle.capcore.specs.Headline.{IssuesExactly};
-ghost use Rattle.capcore.specs.Step.{Step};
+ghost use Rattle.capcore.specs.Answered.{IsAnswered};
+ghost use Rattle.lockmachine.specs.Locks.{IsLockMap};
 ghost use Rattle.capbits.specs.Refusal.{first_failing};
 ghost use Rattle.capcore.specs.declared.event.Event.TheVariants as event;
 
 use crate::copies::{copy_of_caller, copy_of_reply};
+use crate::ended::close;
 use crate::event::{Event, OpenMode};
-use crate::finish::finish_at;
-use crate::history::Stop;
-use crate::messages::Messages;
+use crate::history::{EndedList, Stop};
+use crate::judge::{by_test, denial};
+use crate::messages::{Endings, Messages};
 use crate::poll::{due_messages, give};
 use crate::reply::{Reply, Said};
+use crate::settle::end_at;
 use crate::start::first_locks;
 use crate::stopped::Stopped;
 use crate::told::revoked_of;
 use crate::touch::{Touch, tell, touch_entry};
-use arrayvec::ArrayVec;
 use capbits::{Caller, CapSet, ClientId, Ino, Mode, Part, Refusal};
-use capgrant::{Access, Attr, Rules, Verdict, verdict};
+use capgrant::{Access, Attr};
 use capspec::{FsName, Grants};
 use captable::{CapTable, Entry, Holder};
 use inotree::{Kind, Tree};
-use lockmachine::Locks;
+use lockmachine::{Ask, Locks};
 use locktable::LockState;
 use sessiontab::{Sessions, Status};
 use std::alloc::{AllocError, Global};
@@ -50,18 +48,19 @@ use std::marker::Model;
 // The state that events change: tree, sessions, entries, locks, and what clients are still to be told.
 #[derive(Debug, Drop)]
 pub(crate) struct World {
-    fs: FsName,
-    tree: Tree,
-    sessions: Sessions,
-    table: CapTable,
-    locks: Locks,
+    pub(crate) fs: FsName,
+    pub(crate) tree: Tree,
+    pub(crate) sessions: Sessions,
+    pub(crate) table: CapTable,
+    pub(crate) locks: Locks,
     // The requests that ended and that no client was told of.
-    messages: Messages,
+    pub(crate) messages: Messages,
 }
 
 impl Model for World {
-    ghost use Rattle.std.specs.Prelude.{◌≡◌, []};
+    ghost use Rattle.std.specs.Prelude.{◌≡◌, false, All};
     ghost use Rattle.capcore.specs.State.{State};
+    ghost use Rattle.capcore.specs.Served.{is_rename};
     ghost use Rattle.capcore.specs.Codes.{state_code};
     ghost use Rattle.capcore.specs.Sound.{IsSound, AreGiven, NumbersLeft};
     ghost use Rattle.capcore.specs.Touch.{touch_event};
@@ -77,16 +76,14 @@ impl Model for World {
       messages = w.messages.items;
     } };
 
-    // Sound; there is room for each message that is to come; and as no event of today waits for a lock, nobody waits, and
-    // no request has ended that did.
+    // Sound; there is room for each message that is to come; and as no event of today moves an inode, nobody waits to.
     ghost invariant = { λ w.
         IsSound (record {
           scene = record { fs = w.fs; tree = w.tree; sessions = w.sessions; table = w.table; locks = w.locks };
           messages = w.messages.items;
         })
         × HasRoom w.messages w.locks
-        × (w.locks.queue ≡ [])
-        × (w.messages.items ≡ []) };
+        × All (λ q. is_rename q.ask ≡ false) w.locks.queue };
 }
 
 impl World {
@@ -112,40 +109,15 @@ impl World {
     // Makes one step.
     pub(crate) fn step(&mut self, event: &Event) -> Result<Said, Stop>
         requires numbers { NumbersLeft self.old }
-        ensures step { IfOk result (λ said. Step self.old event.now said.reply [] self.new) }
-        ensures kept { IfOk result (λ said. said.kept ≡ said.reply) }
-        // The entries were a table; the state stays sound, and gives at most one number more.
+        ensures answered { IfOk result (λ said. IsAnswered self.old event.now said self.new) }
+        // The entries were a table, and the locks had their requests in order.
         ensures table { OnOk result (IsTable self.old.scene.table) }
-        ensures sound { OnOk result (IsSound self.new) }
-        ensures issued { OnOk result (IssuesExactly (direct self.old event.now).state.scene self.new.scene) }
-        ensures given { OnOk result ((count : ℕ) → AreGiven count self.old → AreGiven (count + 1) self.new) }
+        ensures locks { OnOk result (IsLockMap self.old.scene.locks) }
         ensures err { OnErr result (self.new ≡ self.old) }
         ensures memory { IfErr result (λ stop. stop ≡ Stop.NoMemory) }
     {
-        // A look at the entries, by which the proof knows what they keep.
-        let _oldest = self.table.oldest();
-        match event {
-            Event::Poll { client, max } => self.poll(*client, *max),
-            _ => {
-                let reply = self.answer(event)?;
-                let kept = copy_of_reply(&reply);
-                Ok(Said { reply, kept })
-            }
-        }
-    }
-
-    // A step that answers no list.
-    fn answer(&mut self, event: &Event) -> Result<Reply, Stop>
-        requires numbers { NumbersLeft self.old }
-        requires polls { is_poll event.now ≡ false }
-        ensures step { IfOk result (λ reply. Step self.old event.now reply [] self.new) }
-        ensures list { IfOk result (λ reply. has_list reply ≡ false) }
-        ensures sound { OnOk result (IsSound self.new) }
-        ensures issued { OnOk result (IssuesExactly (direct self.old event.now).state.scene self.new.scene) }
-        ensures given { OnOk result ((count : ℕ) → AreGiven count self.old → AreGiven (count + 1) self.new) }
-        ensures err { OnErr result (self.new ≡ self.old) }
-        ensures memory { IfErr result (λ stop. stop ≡ Stop.NoMemory) }
-    {
+        // A look at the entries and at the locks, by which the proof knows what they keep.
+        let (_oldest, _lock) = (self.table.oldest(), self.locks.state(Ino(1), Part::A));
         match event {
             Event::Open { client, ino, mode } => self.touch(*client, *ino, Touch::Open(*mode)),
             Event::Want { client, ino, caps } => self.touch(*client, *ino, Touch::Want(*caps)),
@@ -153,7 +125,20 @@ impl World {
             Event::Release { client, ino, caps } => {
                 self.touch(*client, *ino, Touch::Release(*caps))
             }
-            Event::Poll { .. } => unreachable!(),
+            Event::Get { client, ino, part } => self.ask(*client, *ino, Ask::Get(*part)),
+            Event::Alter {
+                client,
+                ino,
+                change,
+            } => self.ask_change(*client, *ino, change),
+            Event::Unlink { client, ino } => self.ask(*client, *ino, Ask::Unlink),
+            Event::Rmdir { client, ino } => self.ask(*client, *ino, Ask::Rmdir),
+            Event::Flush {
+                client,
+                ino,
+                change,
+            } => self.flush(*client, *ino, change),
+            Event::Poll { client, max } => self.poll(*client, *max),
             Event::Session { .. }
             | Event::Lookup { .. }
             | Event::Create { .. }
@@ -164,45 +149,40 @@ impl World {
     }
 
     // A step that leaves alone what entries and requests depend on: no lock moves, and all is done when the event is.
-    fn act_alone(&mut self, event: &Event) -> Result<Reply, Stop>
+    fn act_alone(&mut self, event: &Event) -> Result<Said, Stop>
         requires touches { touched_by event.now ≡ None }
         requires polls { is_poll event.now ≡ false }
-        ensures step { IfOk result (λ reply. Step self.old event.now reply [] self.new) }
-        ensures sound { OnOk result (IsSound self.new) }
-        ensures issued { OnOk result (IssuesExactly (direct self.old event.now).state.scene self.new.scene) }
-        ensures given { OnOk result ((count : ℕ) → AreGiven count self.old → AreGiven (count + 1) self.new) }
-        // No event of these asks what an inode keeps.
-        ensures list { IfOk result (λ reply. has_list reply ≡ false) }
+        ensures answered { IfOk result (λ said. IsAnswered self.old event.now said self.new) }
         ensures err { OnErr result (self.new ≡ self.old) }
         ensures memory { IfErr result (λ stop. stop ≡ Stop.NoMemory) }
     {
         // A look at the tree and at the entries, by which the proof knows what they keep.
         let (_last, _oldest) = (self.tree.last(), self.table.oldest());
-        self.act(event)
+        let reply = self.act(event)?;
+        Ok(Said::alone(self.alloc(), reply))
     }
 
     // A step that is about one entry: what is asked of it is done, the locks of its inode settle, and the step ends there.
-    fn touch(&mut self, client: ClientId, ino: Ino, touch: Touch) -> Result<Reply, Stop>
+    fn touch(&mut self, client: ClientId, ino: Ino, touch: Touch) -> Result<Said, Stop>
         requires numbers { NumbersLeft self.old }
-        ensures step { IfOk result (λ reply. Step self.old (touch_event client ino touch) reply [] self.new) }
-        ensures sound { OnOk result (IsSound self.new) }
-        ensures issued { OnOk result (IssuesExactly (direct self.old (touch_event client ino touch)).state.scene self.new.scene) }
-        ensures given { OnOk result ((count : ℕ) → AreGiven count self.old → AreGiven (count + 1) self.new) }
-        ensures list { IfOk result (λ reply. has_list reply ≡ false) }
+        ensures answered { IfOk result (λ said. IsAnswered self.old (touch_event client ino touch) said self.new) }
         ensures err { OnErr result (self.new ≡ self.old) }
         ensures memory { IfErr result (λ stop. stop ≡ Stop.NoMemory) }
     {
         // A look at the tree and at the entries, by which the proof knows what they keep.
         let (_last, _oldest) = (self.tree.last(), self.table.oldest());
-        if let Some(stopped) = self.touch_stop(Holder { client, ino }, &touch) {
-            return Ok(stopped.into());
+        let holder = Holder { client, ino };
+        if let Some(stopped) = self.touch_stop(holder, &touch) {
+            return Ok(Said::alone(self.alloc(), stopped.into()));
         }
         let before = self.locks.of_ino(ino);
-        let revoked = revoked_of(&self.table, &self.locks, Holder { client, ino });
-        touch_entry(&mut self.table, Holder { client, ino }, revoked, &touch)?;
-        self.locks
-            .settle_at(&self.table, &self.sessions, &self.tree, &self.fs, ino);
-        finish_at(
+        let revoked = revoked_of(&self.table, &self.locks, holder);
+        let mut endings = Endings::with_room(self.alloc(), self.locks.waiting())?;
+        if let Err(refused) = touch_entry(&mut self.table, holder, revoked, &touch) {
+            drop(endings);
+            return Err(refused.into());
+        }
+        end_at(
             &self.fs,
             &mut self.tree,
             &self.sessions,
@@ -210,34 +190,40 @@ impl World {
             &mut self.locks,
             ino,
             before,
+            &mut endings,
         );
-        Ok(tell(&mut self.table, &self.locks, Holder { client, ino }, &touch))
+        let reply = tell(&mut self.table, &self.locks, holder, &touch);
+        Ok(close(&mut self.messages, reply, endings))
     }
 
     // A step that gives a client the first messages that are due to it.
     fn poll(&mut self, client: ClientId, max: u32) -> Result<Said, Stop>
-        ensures step { IfOk result (λ said. Step self.old (event.Poll client max) said.reply [] self.new) }
-        ensures kept { IfOk result (λ said. said.kept ≡ said.reply) }
-        ensures sound { OnOk result (IsSound self.new) }
-        ensures issued { OnOk result (IssuesExactly (direct self.old (event.Poll client max)).state.scene self.new.scene) }
-        ensures given { OnOk result ((count : ℕ) → AreGiven count self.old → AreGiven (count + 1) self.new) }
+        ensures answered { IfOk result (λ said. IsAnswered self.old (event.Poll client max) said self.new) }
         ensures err { OnErr result (self.new ≡ self.old) }
         ensures memory { IfErr result (λ stop. stop ≡ Stop.NoMemory) }
     {
         // A look at the entries, by which the proof knows what they keep.
         let _oldest = self.table.oldest();
         if let Some(refusal) = self.sessions.session_refusal(client) {
-            return Ok(Said::refusal(refusal));
+            return Ok(Said::alone(self.alloc(), Reply::Refused(refusal)));
         }
         // The list once for the reply and once for the history, both before the client was told of anything.
-        let alloc = self.messages.alloc();
-        let given = due_messages(alloc, &self.table, &self.locks, client, max)?;
-        let kept = due_messages(alloc, &self.table, &self.locks, client, max)?;
+        let alloc = self.alloc();
+        let ended = self.messages.as_slice();
+        let given = due_messages(alloc, ended, &self.table, &self.locks, client, max)?;
+        let kept = due_messages(alloc, ended, &self.table, &self.locks, client, max)?;
         give(&mut self.table, client, given.as_slice());
+        self.messages.remove_given(client, given.as_slice());
         Ok(Said {
             reply: Reply::Messages(given),
             kept: Reply::Messages(kept),
+            ended: EndedList::new(alloc),
         })
+    }
+
+    // The allocator of all that the state keeps.
+    pub(crate) fn alloc(&self) -> Global {
+        self.messages.alloc()
     }
 
     // The event by itself.
@@ -279,6 +265,11 @@ impl World {
             | Event::Want { .. }
             | Event::Ack { .. }
             | Event::Release { .. }
+            | Event::Get { .. }
+            | Event::Alter { .. }
+            | Event::Unlink { .. }
+            | Event::Rmdir { .. }
+            | Event::Flush { .. }
             | Event::Poll { .. } => unreachable!(),
         }
     }
@@ -546,7 +537,7 @@ impl World {
     }
 
     // The first test of the client's session and of the inode that fails.
-    fn inode_stop(&self, client: ClientId, ino: Ino) -> Option<Refusal>
+    pub(crate) fn inode_stop(&self, client: ClientId, ino: Ino) -> Option<Refusal>
         ensures { result ≡ first_failing (asked_tests self.now.scene client ino.0) }
     {
         match self.sessions.session_refusal(client) {
@@ -559,32 +550,11 @@ impl World {
     fn denial(&self, client: ClientId, ino: Ino, access: Access) -> Option<Stopped>
         ensures { result ≡ stop self.now.scene [] (need client ino.0 access ∷ []) [] }
     {
-        match self.verdict(client, ino, access) {
-            Verdict::Allowed { .. } => None,
-            Verdict::Denied { rules } => Some(Stopped::ByPolicy { access, rules }),
-        }
-    }
-
-    // What the client's grants say of an access to an inode. Without a session or a path no grant allows it.
-    fn verdict(&self, client: ClientId, ino: Ino, access: Access) -> Verdict
-        ensures allowed { is_allowed result ≡ is_met self.now.scene (need client ino.0 access) }
-        ensures rules { IfDenied result (λ rules. rules
-            ≡ failures self.now.scene.fs self.now.scene.tree self.now.scene.sessions (holder client ino) access) }
-    {
-        let sessions = &self.sessions;
-        let (Some(grants), Some(caller)) = (sessions.grants_of(client), sessions.caller_of(client))
-        else {
-            return no_grant();
-        };
-        let (Some(path), Some(node)) = (self.tree.path_of(ino), self.tree.node(ino)) else {
-            return no_grant();
-        };
-        verdict(
-            grants,
+        denial(
             &self.fs,
-            caller,
-            path.as_slice(),
-            &node.attr,
+            &self.tree,
+            &self.sessions,
+            Holder { client, ino },
             access,
         )
     }
@@ -615,25 +585,6 @@ impl World {
                 mode,
             },
         }
-    }
-}
-
-// What a test stops.
-fn by_test(refusal: Option<Refusal>) -> Option<Stopped>
-    ensures { result ≡ option_map stopped_kind.ByTest refusal }
-{
-    match refusal {
-        Some(refusal) => Some(Stopped::ByTest(refusal)),
-        None => None,
-    }
-}
-
-// The verdict of no grant.
-fn no_grant() -> Verdict
-    ensures { result ≡ verdict_kind.Denied [] }
-{
-    Verdict::Denied {
-        rules: Rules::from(ArrayVec::new()),
     }
 }
 

@@ -1,5 +1,6 @@
 -- Why a line is refused; and that it says one event, or has one fault, or is skipped.
-use Rattle.std.proofs.Common.{◌≡◌, ℕ, arith, true, false, List, [], ◌∷◌, length, map, get_or, refl, sym, ap, subst, ◌∙◌}
+use Rattle.std.proofs.Common.{◌≡◌, ℕ, ◌≤◌, ◌-◌, arith, true, false, List, [], ◌∷◌, length, map, take, drop, get_or, refl, sym, ap, subst, ◌∙◌}
+use Rattle.std.proofs.lemmas.List.{take_all}
 use Rattle.std.proofs.Common.{inl, inr}
 use Rattle.std.specs.Prelude.{◌⊎◌, Result, Ok, Err, MatchResult, IsErrAnd}
 use Rattle.std.specs.Borrow.{Bor}
@@ -68,6 +69,34 @@ nowhere = record { ref_ptr = (0, 0); now = [] }
 
 abbrev pub word_at : List (Bor (List ℕ)) → ℕ → List ℕ
 word_at arguments place = (get_or arguments place nowhere).now
+
+-- one argument by its place
+pub one : (arguments : List (Bor (List ℕ))) → length arguments ≡ 1 → map (λ word. word.now) arguments ≡ word_at arguments 0 ∷ []
+one (a ∷ []) count = refl
+one [] count = absurd (omega arith)
+one (a ∷ b ∷ more) count = absurd (omega arith)
+
+-- two arguments by their places
+pub two : (arguments : List (Bor (List ℕ))) → length arguments ≡ 2 → map (λ word. word.now) arguments ≡ word_at arguments 0 ∷ word_at arguments 1 ∷ []
+two (a ∷ b ∷ []) count = refl
+two [] count = absurd (omega arith)
+two (a ∷ []) count = absurd (omega arith)
+two (a ∷ b ∷ c ∷ more) count = absurd (omega arith)
+
+-- two arguments by their places, with those behind them
+pub first_two : (arguments : List (Bor (List ℕ))) → 2 ≤ length arguments
+    → map (λ word. word.now) arguments ≡ word_at arguments 0 ∷ word_at arguments 1 ∷ map (λ word. word.now) (take (length arguments - 2) (drop 2 arguments))
+first_two (a ∷ b ∷ more) count = ap (λ words. a.now ∷ b.now ∷ map (λ (word : Bor (List ℕ)). word.now) words) (sym (take_all (length (a ∷ b ∷ more) - 2) more (omega arith)))
+first_two [] count = absurd (omega arith)
+first_two (a ∷ []) count = absurd (omega arith)
+
+-- three arguments by their places
+pub three : (arguments : List (Bor (List ℕ))) → length arguments ≡ 3 → map (λ word. word.now) arguments ≡ word_at arguments 0 ∷ word_at arguments 1 ∷ word_at arguments 2 ∷ []
+three (a ∷ b ∷ c ∷ []) count = refl
+three [] count = absurd (omega arith)
+three (a ∷ []) count = absurd (omega arith)
+three (a ∷ b ∷ []) count = absurd (omega arith)
+three (a ∷ b ∷ c ∷ d ∷ more) count = absurd (omega arith)
 
 -- four arguments by their places
 pub four : (arguments : List (Bor (List ℕ))) → length arguments ≡ 4 → map (λ word. word.now) arguments ≡ word_at arguments 0 ∷ word_at arguments 1 ∷ word_at arguments 2 ∷ word_at arguments 3 ∷ []

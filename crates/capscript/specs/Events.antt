@@ -1,19 +1,26 @@
 -- What a line says.
-use Rattle.std.specs.Prelude.{◌≡◌, ℕ, Result, Ok, Err, List, [], ◌∷◌, length, codes, bytes_eq, nat_le, if◌then◌else◌}
+use Rattle.std.specs.Prelude.{◌≡◌, ℕ, ◌^◌, Result, Ok, Err, List, [], ◌∷◌, length, codes, bytes_eq, nat_le, if◌then◌else◌}
+use Rattle.std.specs.Option.{ok_or}
 use Rattle.capbits.specs.declared.caller.Caller.{Caller}
 use Rattle.capbits.specs.declared.ids.ClientId.{ClientId}
 use Rattle.capbits.specs.declared.ids.Ino.{Ino}
 use Rattle.capbits.specs.Caps.{Caps}
 use Rattle.capspec.specs.declared.grant.Grant.{Grant}
 use Rattle.capspec.specs.Grants.{Reads as MeansGrants}
+use Rattle.inotree.specs.declared.node.Setting.TheVariants.{Mode, Uid, Gid, Size, Time}
+use Rattle.lockmachine.specs.declared.request.Change.{Change}
+use Rattle.lockmachine.specs.declared.request.Change.TheVariants.{Set, SetXattr, RemoveXattr}
 use Rattle.capcore.specs.declared.event.Event.{Event}
 use Rattle.capcore.specs.declared.event.Event.TheVariants as events
+use Rattle.capscript.specs.declared.change.ChangeWord.{ChangeWord}
+use Rattle.capscript.specs.declared.change.ChangeWord.TheVariants as words
 use Rattle.capscript.specs.declared.command.Command.{Command}
 use Rattle.capscript.specs.declared.command.Command.TheVariants as commands
 use Rattle.capscript.specs.declared.fault.LineFault.{LineFault}
 use Rattle.capscript.specs.declared.fault.LineFault.TheVariants as faults
+use Rattle.capscript.specs.Changes.{change_kind, is_counted}
 use Rattle.capscript.specs.Lines.{is_skipped, longest_line}
-use Rattle.capscript.specs.Values.{number_in, client_in, ino_in, seq_in, mode_in, open_mode_in, groups_in, Spells}
+use Rattle.capscript.specs.Values.{number_below, number_in, client_in, ino_in, seq_in, mode_in, open_mode_in, part_in, bytes_in, groups_in, Spells}
 use Rattle.capscript.specs.Words.{parts, command_in}
 
 -- the client who asks
@@ -28,6 +35,11 @@ client_of (events.Open client ino mode) = client
 client_of (events.Want client ino caps) = client
 client_of (events.Ack client ino seq) = client
 client_of (events.Release client ino caps) = client
+client_of (events.Get client ino part) = client
+client_of (events.Alter client ino change) = client
+client_of (events.Unlink client ino) = client
+client_of (events.Rmdir client ino) = client
+client_of (events.Flush client ino change) = client
 client_of (events.Poll client max) = client
 
 -- What a line says: nothing, as it is skipped; an event; that a client opens a session with the grants that a text means, whatever these
@@ -102,6 +114,69 @@ ack_by (client_word ∷ ino_word ∷ seq_word ∷ []) = do
   Says (events.Ack client ino seq)
 ack_by arguments = Faulty faults.Count
 
+-- a client, an inode and a part of what it keeps
+abbrev pub get_by : List (List ℕ) → Line
+get_by (client_word ∷ ino_word ∷ part_word ∷ []) = do
+  client ← client_in client_word
+  ino ← ino_in ino_word
+  part ← part_in part_word
+  Says (events.Get client ino part)
+get_by arguments = Faulty faults.Count
+
+-- a client and an inode
+abbrev pub inode_by : (ClientId → Ino → Event) → List (List ℕ) → Line
+inode_by event (client_word ∷ ino_word ∷ []) = do
+  client ← client_in client_word
+  ino ← ino_in ino_word
+  Says (event client ino)
+inode_by event arguments = Faulty faults.Count
+
+-- what is said of the bytes that a word writes
+abbrev pub says_bytes : (List ℕ → Event) → List ℕ → Line
+says_bytes event word = do
+  bytes ← bytes_in word
+  Says (event bytes)
+
+-- what is said of a change of this kind, by the words behind the first
+abbrev pub says_kind : (Change → Event) → ChangeWord → List (List ℕ) → Line
+says_kind event words.Mode (word ∷ []) = do
+  mode ← mode_in word
+  Says (event (Set (Mode mode)))
+says_kind event words.Uid (word ∷ []) = do
+  uid ← number_in word
+  Says (event (Set (Uid uid)))
+says_kind event words.Gid (word ∷ []) = do
+  gid ← number_in word
+  Says (event (Set (Gid gid)))
+says_kind event words.SetXattr (name ∷ word ∷ []) = says_bytes (λ value. event (SetXattr name value)) word
+says_kind event words.RemoveXattr (name ∷ []) = Says (event (RemoveXattr name))
+says_kind event words.Size (word ∷ []) = do
+  size ← number_below (2 ^ 64) word
+  Says (event (Set (Size size)))
+says_kind event words.Time (word ∷ []) = do
+  time ← number_below (2 ^ 64) word
+  Says (event (Set (Time time)))
+says_kind event kind more = Faulty faults.Count
+
+-- what is said of a change
+abbrev pub says_change : (Change → Event) → List (List ℕ) → Line
+says_change event [] = Faulty faults.Count
+says_change event (word ∷ more) = do
+  kind ← ok_or (change_kind word) faults.Change
+  says_kind event kind more
+
+abbrev pub says_inode_change : (ClientId → Ino → Change → Event) → List ℕ → List ℕ → List (List ℕ) → Line
+says_inode_change event client_word ino_word change = do
+  client ← client_in client_word
+  ino ← ino_in ino_word
+  says_change (event client ino) change
+
+-- a client, an inode and a change of it; how many words there are is told before what they are
+abbrev pub change_by : (ClientId → Ino → Change → Event) → List (List ℕ) → Line
+change_by event (client_word ∷ ino_word ∷ change) =
+    if is_counted change then says_inode_change event client_word ino_word change else Faulty faults.Count
+change_by event arguments = Faulty faults.Count
+
 -- a client, and how many messages it takes at most
 abbrev pub poll_by : List (List ℕ) → Line
 poll_by (client_word ∷ max_word ∷ []) = do
@@ -122,6 +197,11 @@ said_with commands.Open arguments = open_by arguments
 said_with commands.Want arguments = caps_by events.Want arguments
 said_with commands.Ack arguments = ack_by arguments
 said_with commands.Release arguments = caps_by events.Release arguments
+said_with commands.Get arguments = get_by arguments
+said_with commands.Alter arguments = change_by events.Alter arguments
+said_with commands.Unlink arguments = inode_by events.Unlink arguments
+said_with commands.Rmdir arguments = inode_by events.Rmdir arguments
+said_with commands.Flush arguments = change_by events.Flush arguments
 said_with commands.Poll arguments = poll_by arguments
 
 -- the parts of a line that has so many bytes; there is always a first

@@ -1,18 +1,22 @@
 -- What single words write, or the fault of one that does not.
-use Rattle.std.specs.Prelude.{◌≡◌, ◌≢◌, ℕ, ◌^◌, ◌&&◌, Bool, Result, Ok, Err, List, [], ◌∷◌, length, find, codes, bytes_eq, nat_lt, nat_le, if◌then◌else◌}
+use Rattle.std.specs.Prelude.{◌≡◌, ◌≢◌, ℕ, ◌+◌, ◌*◌, ◌^◌, ◌%◌, ◌==◌, ◌&&◌, ◌||◌, Bool, Result, Ok, Err, List, [], ◌∷◌, length, find, codes, bytes_eq, nat_lt, nat_le, if◌then◌else◌}
 use Rattle.std.specs.Char.{digit_value}
+use Rattle.std.specs.Int.{is_in_range}
 use Rattle.std.specs.List.{list_all, slice_split}
 use Rattle.std.specs.Option.{ok_or}
 use Rattle.std.specs.Str.Parse.{digits_value}
 use Rattle.capbits.specs.Caps.{Caps}
 use Rattle.capbits.specs.Text.{text_of}
+use Rattle.capbits.specs.declared.cap.Part.{Part}
+use Rattle.capbits.specs.declared.cap.Part.TheVariants.{A, L, X, F}
 use Rattle.capbits.specs.declared.ids.ClientId.{ClientId}
 use Rattle.capbits.specs.declared.ids.Ino.{Ino}
 use Rattle.capspec.specs.Items.{is_comma}
 use Rattle.capcore.specs.declared.event.OpenMode.{OpenMode}
 use Rattle.capcore.specs.declared.event.OpenMode.TheVariants as opens
 use Rattle.capscript.specs.declared.fault.LineFault.{LineFault}
-use Rattle.capscript.specs.declared.fault.LineFault.TheVariants.{Number, Mode}
+use Rattle.capscript.specs.declared.fault.LineFault.TheVariants.{Number, Mode, Hex}
+use Rattle.capscript.specs.declared.fault.LineFault.TheVariants as faults
 
 -- what cannot be read ends the reading
 infixl 10 ◌>>=◌
@@ -75,6 +79,33 @@ open_word opens.ReadWrite = codes "rw"
 -- what an inode is opened for
 abbrev pub open_mode_in : List ℕ → Result OpenMode LineFault
 open_mode_in word = ok_or (find (λ mode. bytes_eq word (open_word mode)) (opens.Read ∷ opens.Write ∷ opens.ReadWrite ∷ [])) Mode
+
+-- the word for a part of what an inode keeps
+abbrev pub part_word : Part → List ℕ
+part_word A = codes "A"
+part_word L = codes "L"
+part_word X = codes "X"
+part_word F = codes "F"
+
+abbrev pub part_in : List ℕ → Result Part LineFault
+part_in word = ok_or (find (λ part. bytes_eq word (part_word part)) (A ∷ L ∷ X ∷ F ∷ [])) faults.Part
+
+-- 0 to 9, and a to f
+abbrev pub is_hex_digit : ℕ → Bool
+is_hex_digit b = is_in_range 48 57 b || is_in_range 97 102 b
+
+-- two digits for each byte, and at least one byte
+abbrev pub is_hex : List ℕ → Bool
+is_hex word = nat_lt 0 (length word) && (length word % 2 == 0) && list_all is_hex_digit word
+
+abbrev pub hex_bytes : List ℕ → List ℕ
+hex_bytes (high ∷ low ∷ digits) = (16 * digit_value high + digit_value low) ∷ hex_bytes digits
+hex_bytes [] = []
+hex_bytes (digit ∷ []) = []
+
+-- `-` for no bytes, or the bytes in hexadecimal digits
+abbrev pub bytes_in : List ℕ → Result (List ℕ) LineFault
+bytes_in word = if bytes_eq word (codes "-") then Ok [] else if is_hex word then Ok (hex_bytes word) else Err Hex
 
 -- the set of capabilities that is so spelled; a set has one spelling
 abbrev pub Spells : List ℕ → Caps → Type 0

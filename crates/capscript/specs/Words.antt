@@ -1,9 +1,9 @@
 -- The words of a line, and what the first of them says.
-use Rattle.std.specs.Prelude.{◌==◌, ℕ, Bool, Result, List, [], ◌∷◌, find, codes, bytes_eq}
-use Rattle.std.specs.List.{slice_split, join_with_byte}
+use Rattle.std.specs.Prelude.{◌==◌, not, ℕ, Bool, Result, List, [], ◌∷◌, find, codes, bytes_eq}
+use Rattle.std.specs.List.{list_all, slice_split, join_with_byte}
 use Rattle.std.specs.Option.{ok_or}
 use Rattle.capscript.specs.declared.command.Command.{Command}
-use Rattle.capscript.specs.declared.command.Command.TheVariants.{Session, Lookup, Create, Mkdir, MakeSnapshot, RemoveSnapshot, Open, Want, Ack, Release, Poll}
+use Rattle.capscript.specs.declared.command.Command.TheVariants.{Session, Lookup, Create, Mkdir, MakeSnapshot, RemoveSnapshot, Open, Want, Ack, Release, Get, Alter, Unlink, Rmdir, Flush, Poll}
 use Rattle.capscript.specs.declared.fault.LineFault.{LineFault}
 use Rattle.capscript.specs.declared.fault.LineFault.TheVariants as faults
 
@@ -28,6 +28,10 @@ six_parts few = few
 abbrev pub parts : List ℕ → List (List ℕ)
 parts text = six_parts (words text)
 
+-- The part is one word. The last part of a line with more words than parts has a space.
+abbrev pub is_one_word : List ℕ → Bool
+is_one_word part = list_all (λ b. not (is_space b)) part
+
 -- the first word of a line with the command
 abbrev pub command_word : Command → List ℕ
 command_word Session = codes "session"
@@ -40,10 +44,17 @@ command_word Open = codes "open"
 command_word Want = codes "want"
 command_word Ack = codes "ack"
 command_word Release = codes "release"
+command_word Get = codes "get"
+command_word Alter = codes "alter"
+command_word Unlink = codes "unlink"
+command_word Rmdir = codes "rmdir"
+command_word Flush = codes "flush"
 command_word Poll = codes "poll"
 
 abbrev pub commands : List Command
-commands = Session ∷ Lookup ∷ Create ∷ Mkdir ∷ MakeSnapshot ∷ RemoveSnapshot ∷ Open ∷ Want ∷ Ack ∷ Release ∷ Poll ∷ []
+commands =
+    Session ∷ Lookup ∷ Create ∷ Mkdir ∷ MakeSnapshot ∷ RemoveSnapshot ∷ Open ∷ Want ∷ Ack ∷ Release
+    ∷ Get ∷ Alter ∷ Unlink ∷ Rmdir ∷ Flush ∷ Poll ∷ []
 
 -- the command that a word is
 abbrev pub command_in : List ℕ → Result Command LineFault

@@ -25,6 +25,16 @@ pub(crate) enum Command {
     Ack,
     /// A client gives capabilities back.
     Release,
+    /// A client asks what an inode keeps.
+    Get,
+    /// A client changes what an inode keeps.
+    Alter,
+    /// A client unlinks a file.
+    Unlink,
+    /// A client removes a directory.
+    Rmdir,
+    /// A client says what it has changed by itself.
+    Flush,
     /// A client asks for its messages.
     Poll,
 }
@@ -48,6 +58,11 @@ impl Command {
             b"want" => Ok(Command::Want),
             b"ack" => Ok(Command::Ack),
             b"release" => Ok(Command::Release),
+            b"get" => Ok(Command::Get),
+            b"alter" => Ok(Command::Alter),
+            b"unlink" => Ok(Command::Unlink),
+            b"rmdir" => Ok(Command::Rmdir),
+            b"flush" => Ok(Command::Flush),
             b"poll" => Ok(Command::Poll),
             _ => Err(LineFault::Command),
         }

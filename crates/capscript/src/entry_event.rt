@@ -22,6 +22,7 @@ struct EntryCaps {
 }
 
 // A client, an inode and what it is opened for.
+#[tactic(auto, using(crate::proofs::SaidLines::three))]
 pub(crate) fn read_open(arguments: &[&[u8]]) -> Result<Event, Refused>
     ensures { let said = open_by (map (λ word. word.now) arguments.now) in
         MatchResult result (Tells said) (IsRefused said) }
@@ -45,6 +46,7 @@ pub(crate) fn read_want(arguments: &[&[u8]]) -> Result<Event, Refused>
 }
 
 // A client, an inode and the number of a change.
+#[tactic(auto, using(crate::proofs::SaidLines::three))]
 pub(crate) fn read_ack(arguments: &[&[u8]]) -> Result<Event, Refused>
     ensures { let said = ack_by (map (λ word. word.now) arguments.now) in
         MatchResult result (Tells said) (IsRefused said) }
@@ -81,6 +83,7 @@ pub(crate) fn read_poll(arguments: &[&[u8]]) -> Result<Event, Refused>
 }
 
 // A client, an inode and a set of capabilities, whichever event they are said for.
+#[tactic(auto, using(crate::proofs::SaidLines::three))]
 fn read_entry_caps(arguments: &[&[u8]]) -> Result<EntryCaps, Refused>
     ensures { (event : AClient → AnIno → Caps → AnEvent)
         → let said = caps_by event (map (λ word. word.now) arguments.now) in

@@ -11,6 +11,7 @@ ghost use Rattle.capscript.specs.Faults.{IsRefused};
 use crate::command::Command;
 use crate::entry_event::{read_ack, read_open, read_poll, read_release, read_want};
 use crate::fault::{LineFault, Refused};
+use crate::inode_event::{read_alter, read_flush, read_get, read_rmdir, read_unlink};
 use crate::line::MAX_LINE;
 use crate::values::{read_client, read_groups, read_ino, read_number, read_permissions};
 use crate::words::split_words;
@@ -107,6 +108,11 @@ fn read_arguments(alloc: Global, command: Command, arguments: &[&[u8]]) -> Resul
         Command::Want => read_want(arguments),
         Command::Ack => read_ack(arguments),
         Command::Release => read_release(arguments),
+        Command::Get => read_get(arguments),
+        Command::Alter => read_alter(alloc, arguments),
+        Command::Unlink => read_unlink(arguments),
+        Command::Rmdir => read_rmdir(arguments),
+        Command::Flush => read_flush(alloc, arguments),
         Command::Poll => read_poll(arguments),
     }
 }
@@ -134,6 +140,7 @@ fn read_session(alloc: Global, arguments: &[&[u8]]) -> Result<Event, Refused>
 }
 
 // A client, an inode and a name, whichever event they are said for.
+#[tactic(auto, using(crate::proofs::SaidLines::three))]
 fn read_named(alloc: Global, arguments: &[&[u8]]) -> Result<Named, Refused>
     ensures { (event : AClient → AnIno → List ℕ → AnEvent)
         → let said = named_by event (map (λ word. word.now) arguments.now) in

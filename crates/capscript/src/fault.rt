@@ -22,6 +22,15 @@ pub enum LineFault {
     /// A word is no mode of a file, or nothing that an inode is opened for.
     #[error("Mode")]
     Mode,
+    /// A word is no part of what an inode keeps.
+    #[error("Part")]
+    Part,
+    /// A word begins no change.
+    #[error("Change")]
+    Change,
+    /// A word writes no bytes.
+    #[error("Hex")]
+    Hex,
     /// The rest of the line is no grant text.
     #[error("Grants {0}")]
     Grants(SpecFault),

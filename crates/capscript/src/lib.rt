@@ -1,10 +1,13 @@
 //! Scripts: lines of text that say what happens to a server, and the transcript of what it answers.
 #![tactic(auto)]
 
+mod change;
 mod command;
 mod entry_event;
 mod event;
 mod fault;
+mod hex;
+mod inode_event;
 mod input;
 mod line;
 mod message_text;

@@ -70,6 +70,11 @@ fn client_of(event: &Event) -> ClientId
         | Event::Want { client, .. }
         | Event::Ack { client, .. }
         | Event::Release { client, .. }
+        | Event::Get { client, .. }
+        | Event::Alter { client, .. }
+        | Event::Unlink { client, .. }
+        | Event::Rmdir { client, .. }
+        | Event::Flush { client, .. }
         | Event::Poll { client, .. } => *client,
     }
 }

@@ -1,10 +1,12 @@
 //! The values that single words write.
 ghost use Rattle.std.specs.Prelude.{◌≡◌, ◌^◌, IfOk, IfErr};
 ghost use Rattle.capscript.specs.declared.fault.LineFault.TheVariants as faults;
-ghost use Rattle.capscript.specs.Values.{number_below, number_in, client_in, ino_in, seq_in, mode_in, open_mode_in, groups_in, Spells, SpellsNone};
+ghost use Rattle.capscript.specs.Values.{number_below, number_in, client_in, ino_in, seq_in, mode_in, open_mode_in, part_in, groups_in, Spells, SpellsNone};
 
 use crate::fault::LineFault;
-use capbits::{CapSet, ClientId, Groups, Ino, Mode, read_caps, read_mode, read_u32, read_u64};
+use capbits::{
+    CapSet, ClientId, Groups, Ino, Mode, Part, read_caps, read_mode, read_u32, read_u64,
+};
 use capcore::OpenMode;
 
 // The decimal number of 32 bits.
@@ -35,7 +37,8 @@ pub(crate) fn read_seq(word: &[u8]) -> Result<u64, LineFault>
     read_long_number(word)
 }
 
-fn read_long_number(word: &[u8]) -> Result<u64, LineFault>
+// The decimal number of 64 bits.
+pub(crate) fn read_long_number(word: &[u8]) -> Result<u64, LineFault>
     ensures { result ≡ number_below (2 ^ 64) word.now }
 {
     read_u64(word).ok_or(LineFault::Number)
@@ -57,6 +60,19 @@ pub(crate) fn read_open_mode(word: &[u8]) -> Result<OpenMode, LineFault>
         b"w" => Ok(OpenMode::Write),
         b"rw" => Ok(OpenMode::ReadWrite),
         _ => Err(LineFault::Mode),
+    }
+}
+
+// A part of what an inode keeps.
+pub(crate) fn read_part(word: &[u8]) -> Result<Part, LineFault>
+    ensures { result ≡ part_in word.now }
+{
+    match word {
+        b"A" => Ok(Part::A),
+        b"L" => Ok(Part::L),
+        b"X" => Ok(Part::X),
+        b"F" => Ok(Part::F),
+        _ => Err(LineFault::Part),
     }
 }
 

@@ -23,6 +23,10 @@ const WORKS: &str = "WORK is one of
   create-T-deep      the same, in chains of 16 directories
   open-T             open files beside T inodes that are open
   revoke-T           revoke what a client holds on a file, beside T inodes that are open
+  want-T             want to write one of T inodes that are open, and give that back
+  release-T          give back one of T inodes that are open, and open it again
+  share-T            open all of T inodes that are open, for one client more
+  poll-T             ask for messages, of which there is none, for a client that has T inodes open
   retry              have two clients share a file, and ask again for each event that finds no memory
 with G of 1, 4 or 16, D of 1, 8 or 32, and T of 100, 1000, 10000 or 60000";
 

@@ -59,6 +59,10 @@ fn tally_of(alloc: Global, task: Task) -> Result<Tally, Fault> {
         Work::Create(shape) => on_a_core(alloc, CoreWork::Create(shape), task.times),
         Work::Open(size) => on_a_core(alloc, CoreWork::Open(size), task.times),
         Work::Revoke(size) => on_a_core(alloc, CoreWork::Revoke(size), task.times),
+        Work::Want(size) => on_a_core(alloc, CoreWork::Want(size), task.times),
+        Work::Release(size) => on_a_core(alloc, CoreWork::Release(size), task.times),
+        Work::Share(size) => on_a_core(alloc, CoreWork::Share(size), task.times),
+        Work::Poll(size) => on_a_core(alloc, CoreWork::Poll(size), task.times),
         Work::Retry => on_a_core(alloc, CoreWork::Retry, task.times),
     }
 }

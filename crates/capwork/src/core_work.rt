@@ -1,6 +1,6 @@
 //! The work on a core, and its one owner.
 
-use crate::entries::{open, revoke};
+use crate::entries::{open, poll, reopen, revoke, share_inodes, want_to_write};
 use crate::fault::Fault;
 use crate::inodes::{USER, create, look_up, mode};
 use crate::retry::retry;
@@ -25,6 +25,14 @@ pub(crate) enum CoreWork {
     Open(Size),
     // Capabilities are revoked.
     Revoke(Size),
+    // More is wanted and given back.
+    Want(Size),
+    // Entries are given back whole.
+    Release(Size),
+    // All inodes are opened by clients more.
+    Share(Size),
+    // A client asks for its messages.
+    Poll(Size),
     // Files are shared, and events asked for again.
     Retry,
 }
@@ -42,6 +50,10 @@ fn work_on(alloc: Global, core: &mut Core, work: CoreWork, times: u32) -> Result
         CoreWork::Create(shape) => create(alloc, core, shape, times)?,
         CoreWork::Open(size) => open(alloc, core, size, times)?,
         CoreWork::Revoke(size) => revoke(alloc, core, size, times)?,
+        CoreWork::Want(size) => want_to_write(alloc, core, size, times)?,
+        CoreWork::Release(size) => reopen(alloc, core, size, times)?,
+        CoreWork::Share(size) => share_inodes(alloc, core, size, times)?,
+        CoreWork::Poll(size) => poll(alloc, core, size, times)?,
         CoreWork::Retry => return retry(alloc, core, times),
     };
     Ok(Tally::of(sum))

@@ -18,12 +18,12 @@ impl Write for Digest {
     }
 }
 
-/// A hash of all that the core keeps, its history included, as its `Debug` tells it. It takes no memory: where an event found
-/// none, the core can still be compared with what it was.
+/// A hash of all that the core keeps, its history included, as its `Debug` tells it in lines: in one line a slab tells its
+/// room, and not what it keeps. It takes no memory: where an event found none, the core can still be compared with what it was.
 pub(crate) fn digest_of(core: &Core) -> u64 {
     let mut digest = Digest {
         hasher: DefaultHasher::new(),
     };
-    let _ = write!(digest, "{core:?}");
+    let _ = write!(digest, "{core:#?}");
     digest.hasher.finish()
 }

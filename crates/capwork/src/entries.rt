@@ -3,7 +3,7 @@ ghost use Rattle.std.specs.Prelude.{◌≡◌, ◌↔◌, ◌<◌, ◌≤◌, Er
 ghost use Rattle.capwork.specs.declared.fault.Fault.TheVariants as faults;
 
 use crate::fault::Fault;
-use crate::inodes::{Asking, CLIENT, PASS, ask, build, inode_at, open_session};
+use crate::inodes::{Asking, CLIENT, PASS, ask, build, inode_at, open_session, spread};
 use crate::work::{Layout, Size, TreeShape};
 use capbits::{Cap, CapSet, ClientId, Ino};
 use capcore::{Core, Event, Message, OpenMode, Reply};
@@ -42,6 +42,63 @@ pub(crate) fn revoke(alloc: Global, core: &mut Core, size: Size, times: u32) -> 
     revoke_often(core, file_at(size, 0), times)
 }
 
+/// Has the client with all entries want to write one inode after another and give that back, so many times, and returns the
+/// sum of the numbers of the changes that are shown.
+pub(crate) fn want_to_write(
+    alloc: Global,
+    core: &mut Core,
+    size: Size,
+    times: u32,
+) -> Result<u64, Fault> {
+    hold(alloc, core, size)?;
+    let mut sum: u64 = 0;
+    for turn in 0..times {
+        let seq = write_once(core, inode_at(spread(turn, size.number())))?;
+        sum = sum.wrapping_add(seq);
+    }
+    Ok(sum)
+}
+
+/// Has the client with all entries give one after another back and open the inode again, so many times, and returns the sum
+/// of the numbers of the changes that are shown.
+pub(crate) fn reopen(alloc: Global, core: &mut Core, size: Size, times: u32) -> Result<u64, Fault> {
+    hold(alloc, core, size)?;
+    let mut sum: u64 = 0;
+    for turn in 0..times {
+        let seq = open_again(core, inode_at(spread(turn, size.number())))?;
+        sum = sum.wrapping_add(seq);
+    }
+    Ok(sum)
+}
+
+/// Has so many further clients, one after another, open all inodes of the tree, and returns the sum of the numbers of the
+/// changes that are shown.
+pub(crate) fn share_inodes(
+    alloc: Global,
+    core: &mut Core,
+    size: Size,
+    times: u32,
+) -> Result<u64, Fault> {
+    hold(alloc, core, size)?;
+    let mut sum: u64 = 0;
+    for turn in 0..times {
+        let client = ClientId(HOLDER.0.wrapping_add(1).wrapping_add(turn));
+        open_session(alloc, core, client)?;
+        sum = sum.wrapping_add(open_all(core, size, client)?);
+    }
+    Ok(sum)
+}
+
+/// Has the client with all entries ask for its messages so many times, and returns how many it is given.
+pub(crate) fn poll(alloc: Global, core: &mut Core, size: Size, times: u32) -> Result<u64, Fault> {
+    hold(alloc, core, size)?;
+    let mut sum: u64 = 0;
+    for _ in 0..times {
+        sum = sum.wrapping_add(messages_given(core, HOLDER)?);
+    }
+    Ok(sum)
+}
+
 // Whether so many files are made to be opened.
 fn are_made(times: u32) -> bool
     ensures { IsTrue result ↔ (times ≤ 1024) }
@@ -62,10 +119,18 @@ fn hold(alloc: Global, core: &mut Core, size: Size) -> Result<(), Fault> {
     build(alloc, core, tree_of(size))?;
     open_session(alloc, core, READER)?;
     open_session(alloc, core, HOLDER)?;
-    for place in 0..size.number() {
-        let _seq = shown(core, opening(HOLDER, inode_at(place), OpenMode::Read))?;
-    }
+    let _sum = open_all(core, size, HOLDER)?;
     Ok(())
+}
+
+// Has a client open each inode of the tree, and returns the sum of the numbers of the changes that are shown.
+fn open_all(core: &mut Core, size: Size, client: ClientId) -> Result<u64, Fault> {
+    let mut sum: u64 = 0;
+    for place in 0..size.number() {
+        let seq = shown(core, opening(client, inode_at(place), OpenMode::Read))?;
+        sum = sum.wrapping_add(seq);
+    }
+    Ok(sum)
 }
 
 // Makes so many files, behind the inodes of the tree.
@@ -129,6 +194,19 @@ fn take_back(core: &mut Core, file: Ino) -> Result<(), Fault> {
     Ok(())
 }
 
+// The client with all entries wants to write an inode, which nobody else has open, and gives that back.
+fn write_once(core: &mut Core, ino: Ino) -> Result<u64, Fault> {
+    let seq = shown(core, want(HOLDER, ino, CapSet::of(&[Cap::Fr, Cap::Fw])))?;
+    done(core, release(HOLDER, ino, CapSet::of(&[Cap::Fw])))?;
+    Ok(seq)
+}
+
+// The client with all entries gives one back, and makes it again.
+fn open_again(core: &mut Core, ino: Ino) -> Result<u64, Fault> {
+    done(core, release(HOLDER, ino, CapSet::of(&[Cap::P])))?;
+    shown(core, opening(HOLDER, ino, OpenMode::Read))
+}
+
 fn opening(client: ClientId, ino: Ino, mode: OpenMode) -> Event {
     Event::Open { client, ino, mode }
 }
@@ -161,13 +239,24 @@ fn done(core: &mut Core, event: Event) -> Result<(), Fault> {
     }
 }
 
-// The number of the one change that a client is told of.
-fn change_told(core: &mut Core, client: ClientId) -> Result<u64, Fault> {
-    let poll = Event::Poll {
+fn polling(client: ClientId) -> Event {
+    Event::Poll {
         client,
         max: MESSAGES,
-    };
-    match core.apply(PASS, poll)? {
+    }
+}
+
+// How many messages a client is given.
+fn messages_given(core: &mut Core, client: ClientId) -> Result<u64, Fault> {
+    match core.apply(PASS, polling(client))? {
+        Reply::Messages(list) => Ok(list.as_slice().len() as u64),
+        _ => Err(Fault::Refused),
+    }
+}
+
+// The number of the one change that a client is told of.
+fn change_told(core: &mut Core, client: ClientId) -> Result<u64, Fault> {
+    match core.apply(PASS, polling(client))? {
         Reply::Messages(list) => seq_of(list.as_slice()),
         _ => Err(Fault::Refused),
     }

@@ -112,7 +112,7 @@ fn is_room(size: u64, times: u32) -> bool
 }
 
 // A place of the tree for an operation: those of the operations lie spread over it.
-fn spread(turn: u32, places: u64) -> u64
+pub(crate) fn spread(turn: u32, places: u64) -> u64
     requires { 0 < places }
     ensures { result < places }
 {

@@ -15,6 +15,14 @@ pub enum Work {
     Open(Size),
     /// Have a core revoke what a client holds on a file, beside so many other inodes that are open.
     Revoke(Size),
+    /// Have a client that has so many inodes open want to write one of them, and give that back.
+    Want(Size),
+    /// Have a client that has so many inodes open give one of them back whole, and open it again.
+    Release(Size),
+    /// Have a client more open all of so many inodes that are open.
+    Share(Size),
+    /// Have a client that has so many inodes open ask for its messages, of which there is none.
+    Poll(Size),
     /// Have two clients share files, and ask a core again for what it finds no memory for.
     Retry,
 }
@@ -87,6 +95,10 @@ impl Work {
             "create" => Some(Work::Create(TreeShape::read(shape)?)),
             "open" => Some(Work::Open(Size::read(shape)?)),
             "revoke" => Some(Work::Revoke(Size::read(shape)?)),
+            "want" => Some(Work::Want(Size::read(shape)?)),
+            "release" => Some(Work::Release(Size::read(shape)?)),
+            "share" => Some(Work::Share(Size::read(shape)?)),
+            "poll" => Some(Work::Poll(Size::read(shape)?)),
             _ => None,
         }
     }

@@ -4,7 +4,7 @@ use Rattle.std.specs.Cmp.{nat_cmp_total}
 use Rattle.std.proofs.lemmas.Bool.{cases_lt}
 use Rattle.std.specs.FinMap as map
 use Rattle.std.specs.FinSet as set
-use Rattle.std.specs.Option.{option_map, option_map_or}
+use Rattle.std.specs.Option.{option_map}
 use Rattle.std.specs.Ordering.{nat_cmp}
 use Rattle.capgrant.specs.declared.access.Attr.{Attr}
 use Rattle.inotree.specs.declared.node.Kind.{Kind}
@@ -19,9 +19,9 @@ use Rattle.inotree.specs.declared.node.Setting.{Setting}
 use Rattle.inotree.specs.declared.node.Setting.TheVariants.{Mode, Uid, Gid, Size, Time}
 use Rattle.inotree.specs.Inodes.{InodeMap, with_site, with_setting}
 use Rattle.inotree.specs.Index.{NameIndex, slot_cmp}
-use Rattle.inotree.specs.Tree.{IsTree, IsIndexed, IsUnder, Climbs, HasGoodNames, AllHaveGoodNames, site_of, kind_of, place, place_at, is_directory, is_directory_kind, depth, reaches, is_within, lies_below}
+use Rattle.inotree.specs.Tree.{IsTree, IsIndexed, IsUnder, IsChildless, Climbs, HasGoodNames, AllHaveGoodNames, site_of, kind_of, place, place_at, is_directory, is_directory_kind, depth, reaches, is_within, lies_below}
 use Rattle.inotree.specs.Calls.{first_tree, new_node}
-use Rattle.inotree.proofs.Maps.{insert-here, insert-other, remove-here, remove-other, change-is}
+use Rattle.inotree.proofs.Maps.{insert-here, insert-other, remove-here, remove-other, change-is, change-none}
 use Rattle.inotree.proofs.Inner.{some_same, good_none, moved_good, put_inner}
 use Rattle.inotree.proofs.Named.{node_of}
 use Rattle.inotree.proofs.Shape.{same_ino, slot, tree-buried, index-forgotten, index-unlinked, climb_keep, climb_split, climb_on}
@@ -54,34 +54,58 @@ module _ (m : InodeMap) (last k : ℕ) (x : Node) (f : Node → Node) (here : ma
     | inr off ↦ inner i y (sym (changed_off i off) ∙ got)
   ]
 
-  -- a field that is no site and no kind
-  pub kept-changed : (index : NameIndex) → IsTree (record { nodes = m; last = last }) → IsIndexed m index → (f x).kind ≡ x.kind → (f x).site ≡ x.site → (HasGoodNames x → HasGoodNames (f x))
-      → IsTree (record { nodes = change_at f m k; last = last }) × IsIndexed (change_at f m k) index
-  kept-changed index t ix kind site good =
-      let sites : (i : ℕ) → site_of (change_at f m k) i ≡ site_of m i = λ i. elim (same_ino i k) [
-        | inl is ↦ subst (λ y. site_of (change_at f m k) y ≡ site_of m y) (sym is) (ap (option_map (λ (n : Node). n.site)) changed_at ∙ ap Some site ∙ ap (option_map (λ (n : Node). n.site)) (sym here))
-        | inr off ↦ ap (option_map (λ (n : Node). n.site)) (changed_off i off)
-      ] in
-      (tree-same m (change_at f m k) last index t ix sites (changed_kinds kind) (changed_fresh t.given) (changed_inner t.inner_names good), index-same m (change_at f m k) last index t ix sites (changed_kinds kind) (changed_fresh t.given))
+  module _ (t : IsTree (record { nodes = m; last = last })) (kind : (f x).kind ≡ x.kind) (site : (f x).site ≡ x.site) where
+    changed_sites : (i : ℕ) → site_of (change_at f m k) i ≡ site_of m i
+    changed_sites i = elim (same_ino i k) [
+      | inl is ↦ subst (λ y. site_of (change_at f m k) y ≡ site_of m y) (sym is) (ap (option_map (λ (n : Node). n.site)) changed_at ∙ ap Some site ∙ ap (option_map (λ (n : Node). n.site)) (sym here))
+      | inr off ↦ ap (option_map (λ (n : Node). n.site)) (changed_off i off)
+    ]
 
--- an inode under a name, with nothing below it, becomes a stray
-pub kept-unlinked : (m : InodeMap) (last k d : ℕ) (a : List ℕ) (index : NameIndex) → IsTree (record { nodes = m; last = last }) → IsIndexed m index → IsUnder m k d a → ((i : ℕ) (b : List ℕ) → IsUnder m i k b → ⊥)
+    -- a field that is no site and no kind
+    pub tree-changed : (HasGoodNames x → HasGoodNames (f x)) → IsTree (record { nodes = change_at f m k; last = last })
+    tree-changed good = tree-same m (change_at f m k) last t changed_sites (changed_kinds kind) (changed_fresh t.given) (changed_inner t.inner_names good)
+
+    pub index-changed : (index : NameIndex) → IsIndexed m index → IsIndexed (change_at f m k) index
+    index-changed = index-same m (change_at f m k) last t changed_sites (changed_kinds kind) (changed_fresh t.given)
+
+-- An inode that is not the root, with nothing below it, becomes a stray.
+module _ (m : InodeMap) (last k : ℕ) (x : Node) (here : map.get m k ≡ Some x) (t : IsTree (record { nodes = m; last = last })) (was_no_root : site_of m k ≡ Some Root → ⊥) (childless : IsChildless m k) where
+  stray_off : (i : ℕ) → (i ≡ k → ⊥) → site_of (change_at (with_site Stray) m k) i ≡ site_of m i
+  stray_off i off = ap (option_map (λ (n : Node). n.site)) (changed_off m last k x (with_site Stray) here i off)
+
+  stray_now : site_of (change_at (with_site Stray) m k) k ≡ Some Stray
+  stray_now = ap (option_map (λ (n : Node). n.site)) (changed_at m last k x (with_site Stray) here)
+
+  stray_kinds : (i : ℕ) → (i ≡ k → ⊥) → kind_of (change_at (with_site Stray) m k) i ≡ kind_of m i
+  stray_kinds i off = changed_kinds m last k x (with_site Stray) here refl i
+
+  stray_fresh : (i : ℕ) → last < i → map.get (change_at (with_site Stray) m k) i ≡ None
+  stray_fresh = changed_fresh m last k x (with_site Stray) here t.given
+
+  stray_no_site : (e : ℕ) (b : List ℕ) → IsUnder (change_at (with_site Stray) m k) k e b → ⊥
+  stray_no_site e b v = let now = stray_now in cc
+
+  stray_no_root : site_of (change_at (with_site Stray) m k) k ≡ Some Root → ⊥
+  stray_no_root v = let now = stray_now in cc
+
+  stray_not_here : place (change_at (with_site Stray) m k) k ≡ Here → ⊥
+  stray_not_here v = let gone : place (change_at (with_site Stray) m k) k ≡ Gone = ap place_at stray_now in cc
+
+  pub tree-unlinked : IsTree (record { nodes = change_at (with_site Stray) m k; last = last })
+  tree-unlinked =
+      tree-buried m (change_at (with_site Stray) m k) last k t stray_off stray_kinds stray_fresh stray_no_site stray_no_root stray_not_here was_no_root childless
+      (changed_inner m last k x (with_site Stray) here t.inner_names (moved_good Stray x))
+
+  -- its name leaves the index
+  pub index-stray : (index : NameIndex) → IsIndexed m index → (d : ℕ) (a : List ℕ) → IsUnder m k d a → IsIndexed (change_at (with_site Stray) m k) (map.remove index (slot d a))
+  index-stray = index-unlinked m (change_at (with_site Stray) m k) last k t stray_off stray_kinds stray_fresh stray_no_site stray_no_root stray_not_here was_no_root childless
+
+pub kept-unlinked : (m : InodeMap) (last k d : ℕ) (a : List ℕ) (index : NameIndex) → IsTree (record { nodes = m; last = last }) → IsIndexed m index → IsUnder m k d a → IsChildless m k
     → IsTree (record { nodes = change_at (with_site Stray) m k; last = last }) × IsIndexed (change_at (with_site Stray) m k) (map.remove index (slot d a))
 kept-unlinked m last k d a index t ix u childless =
     let node = node_of m k _ u in
-    let n : InodeMap = change_at (with_site Stray) m k in
-    let other : (i : ℕ) → (i ≡ k → ⊥) → site_of n i ≡ site_of m i = λ i off. ap (option_map (λ (n : Node). n.site)) (changed_off m last k node.0 (with_site Stray) node.1 i off) in
-    let now : site_of n k ≡ Some Stray = ap (option_map (λ (n : Node). n.site)) (changed_at m last k node.0 (with_site Stray) node.1) in
-    let kinds : (i : ℕ) → (i ≡ k → ⊥) → kind_of n i ≡ kind_of m i = λ i off. changed_kinds m last k node.0 (with_site Stray) node.1 refl i in
-    let fresh = changed_fresh m last k node.0 (with_site Stray) node.1 t.given in
-    let no_site : (e : ℕ) (b : List ℕ) → IsUnder n k e b → ⊥ = λ e b v. cc in
-    let no_root : site_of n k ≡ Some Root → ⊥ = λ v. cc in
-    let gone : place n k ≡ Gone = ap place_at now in
-    let not_here : place n k ≡ Here → ⊥ = λ v. cc in
-    let was_no_root : site_of m k ≡ Some Root → ⊥ = λ v. cc in (
-      tree-buried m n last k index t ix other kinds fresh no_site no_root not_here was_no_root childless (changed_inner m last k node.0 (with_site Stray) node.1 t.inner_names (moved_good Stray node.0)),
-      index-unlinked m n last k index t ix other kinds fresh no_site no_root not_here was_no_root childless d a u,
-    )
+    let was_no_root : site_of m k ≡ Some Root → ⊥ = λ v. cc in
+    (tree-unlinked m last k node.0 node.1 t was_no_root childless, index-stray m last k node.0 node.1 t was_no_root childless index ix d a u)
 
 -- a stray is forgotten
 pub kept-forgotten : (m : InodeMap) (last k : ℕ) (index : NameIndex) → IsTree (record { nodes = m; last = last }) → IsIndexed m index → site_of m k ≡ Some Stray
@@ -109,8 +133,8 @@ kept-forgotten m last k index t ix was =
       | inl is ↦ let absent : map.get n i ≡ None = ap (map.get n) is ∙ none in cc
       | inr off ↦ t.inner_names i y (sym (off_get i off) ∙ got)
     ] in (
-      tree-buried m n last k index t ix other kinds fresh no_site no_root not_here was_no_root childless inner,
-      index-forgotten m n last k index t ix other kinds fresh no_site no_root not_here was_no_root childless nowhere,
+      tree-buried m n last k t other kinds fresh no_site no_root not_here was_no_root childless inner,
+      index-forgotten m n last k t other kinds fresh no_site no_root not_here was_no_root childless index ix nowhere,
     )
 
 -- a new inode
@@ -214,8 +238,8 @@ pub kept-any : (m : InodeMap) (last k : ℕ) (f : Node → Node) (index : NameIn
     → IsTree (record { nodes = change_at f m k; last = last }) × IsIndexed (change_at f m k) index
 kept-any m last k f index t ix kind site good = go (map.get m k) refl where
   go : (o : Option Node) → map.get m k ≡ o → IsTree (record { nodes = change_at f m k; last = last }) × IsIndexed (change_at f m k) index
-  go None none = kept_at m (change_at f m k) last index index (ap (λ o. option_map_or (λ (y : Node). map.insert m k (f y)) o m) none) refl (t, ix)
-  go (Some x) here = kept-changed m last k x f here index t ix (kind x) (site x) (good x)
+  go None none = kept_at m (change_at f m k) last index index (change-none nat_cmp_total map.nat_cmp-IsAntisymmetric m k f none) refl (t, ix)
+  go (Some x) here = (tree-changed m last k x f here t (kind x) (site x) (good x), index-changed m last k x f here t (kind x) (site x) index ix)
 
 pub setting_kind : (s : Setting) (y : Node) → (with_setting s y).kind ≡ y.kind
 setting_kind (Mode mode) y = refl

@@ -58,7 +58,7 @@ alike-changed tree f k site attr ino = record {
 
 -- ---- one inode comes or goes, in which none stands
 
-alike-other : (old new : Nodes) (k : ℕ) → ((i : ℕ) → (i ≡ k → ⊥) → map.get new.nodes i ≡ map.get old.nodes i) → ((i : ℕ) (a : List ℕ) → IsUnder old.nodes i k a → ⊥)
+pub alike-other : (old new : Nodes) (k : ℕ) → ((i : ℕ) → (i ≡ k → ⊥) → map.get new.nodes i ≡ map.get old.nodes i) → ((i : ℕ) (a : List ℕ) → IsUnder old.nodes i k a → ⊥)
     → (ino : ℕ) → (ino ≡ k → ⊥) → IsAlike old new ino
 alike-other old new k other empty ino off = record {
   path = path_of-kept old.nodes new.nodes (λ i. i ≡ k → ⊥) (λ i off. ap (option_map (λ (n : Node). n.site)) (other i off))

@@ -202,7 +202,7 @@ module _ (m n : InodeMap) (last next k d : ℕ) (a : List ℕ) (index : NameInde
       }
 
 -- No site and no kind changes.
-module _ (m n : InodeMap) (last : ℕ) (index : NameIndex) (t : IsTree (record { nodes = m; last = last })) (x : IsIndexed m index)
+module _ (m n : InodeMap) (last : ℕ) (t : IsTree (record { nodes = m; last = last }))
     (sites : (i : ℕ) → site_of n i ≡ site_of m i)
     (kinds : (i : ℕ) → kind_of n i ≡ kind_of m i)
     (fresh : (i : ℕ) → last < i → map.get n i ≡ None) where
@@ -225,8 +225,8 @@ module _ (m n : InodeMap) (last : ℕ) (index : NameIndex) (t : IsTree (record {
     given = fresh;
   }
 
-  pub index-same : IsIndexed n index
-  index-same = record {
+  pub index-same : (index : NameIndex) → IsIndexed m index → IsIndexed n index
+  index-same index x = record {
     taken = λ i d a u. x.taken i d a (sym (sites i) ∙ u);
     real = λ i d a g. sites i ∙ x.real i d a g;
   }

@@ -10,6 +10,7 @@ pub mod Leading
 pub mod Maps
 pub mod Named
 pub mod Naming
+pub mod OneInode
 pub mod Order
 pub mod Passing
 pub mod Reaching

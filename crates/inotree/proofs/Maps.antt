@@ -43,6 +43,9 @@ module _ {K : Type 0} {R : K → K → Ordering} (o : IsTotalOrder R) (same : ma
     pub change-is : (f : X → X) (x : X) → map.get m k ≡ Some x → change_at f m k ≡ map.insert m k (f x)
     change-is f x e = ap (λ o. option_map_or (λ x. map.insert m k (f x)) o m) e
 
+    pub change-none : (f : X → X) → map.get m k ≡ None → change_at f m k ≡ m
+    change-none f e = ap (λ o. option_map_or (λ x. map.insert m k (f x)) o m) e
+
     -- a key that was not there is put in and taken out
     pub put_back : (v : X) → map.get m k ≡ None → map.remove (map.insert m k v) k ≡ m
     put_back v none = map.same_map o same _ _ (λ q. elim (same_or_other q k) as (λ _. map.get (map.remove (map.insert m k v) k) q ≡ map.get m q) [

@@ -19,7 +19,7 @@ use Rattle.inotree.specs.declared.node.Place.TheVariants.{NoIno, Gone, Here}
 use Rattle.inotree.specs.Names.{is_bad_name, is_bad_attribute}
 use Rattle.inotree.specs.Inodes.{InodeMap}
 use Rattle.inotree.specs.Index.{NameIndex}
-use Rattle.inotree.specs.Tree.{Nodes, IsTree, IsIndexed, IsUnder, site_of, place, place_at, path_at, slot_at, is_directory, child, depth, reaches, is_within}
+use Rattle.inotree.specs.Tree.{Nodes, IsTree, IsIndexed, IsChildless, site_of, place, place_at, path_at, slot_at, is_directory, child, depth, reaches, is_within}
 use Rattle.inotree.specs.Tests.{is_no_ino, is_gone, is_root_site, test_at, create_tests, unlink_tests, rmdir_tests, rename_tests, set_xattr_tests, remove_xattr_tests, snap_add_tests, snap_remove_tests}
 use Rattle.inotree.proofs.Growing.{reach_up}
 use Rattle.inotree.proofs.Inner.{long_name, no_long_attribute, no_long_snapshot}
@@ -61,7 +61,7 @@ none_of : {A : Type 0} (o : Option A) → is_some o ≡ false → o ≡ None
 none_of None e = refl
 none_of (Some x) e = cc
 
-or_both : (a b : Bool) → (a || b) ≡ false → (a ≡ false) × (b ≡ false)
+pub or_both : (a b : Bool) → (a || b) ≡ false → (a ≡ false) × (b ≡ false)
 or_both true b e = cc
 or_both false b e = (refl, e)
 
@@ -177,10 +177,10 @@ short_snapshot t tree i a passed =
     let found = (passed-if (test_at (λ n. not (set.contains n.snapshots a)) t i) refusal.NoEnt _ dir.1).0 in
     short a (λ long. let absent = no_long_snapshot t tree i inode.0 a inode.1 long in cc)
 
-pub childless_file : (m : InodeMap) (last k : ℕ) → IsTree (record { nodes = m; last = last }) → is_directory m k ≡ false → (i : ℕ) (b : List ℕ) → IsUnder m i k b → ⊥
+pub childless_file : (m : InodeMap) (last k : ℕ) → IsTree (record { nodes = m; last = last }) → is_directory m k ≡ false → IsChildless m k
 childless_file m last k t file i b u = let dir = (t.parents i k b u).0 in cc
 
-pub childless_empty : (m : InodeMap) (k : ℕ) → reaches 1 m k ≡ false → (i : ℕ) (b : List ℕ) → IsUnder m i k b → ⊥
+pub childless_empty : (m : InodeMap) (k : ℕ) → reaches 1 m k ≡ false → IsChildless m k
 childless_empty m k none i b u = let some : reaches 1 m k ≡ true = reach_up 1 m i (b ∷ []) k (omega arith) (k, u, refl) in cc
 
 -- a name that is too long is no child's

@@ -52,7 +52,7 @@ climb_on m i [] k more top a b = subst (λ x. Climbs m x more top) (sym a) b
 climb_on m i (x ∷ up) k more top a b = (a.0, a.1, climb_on m a.0 up k more top a.2 b)
 
 -- An inode that stood somewhere, with nothing below it, stands nowhere: as a stray, or not at all.
-module _ (m n : InodeMap) (last k : ℕ) (index : NameIndex) (t : IsTree (record { nodes = m; last = last })) (x : IsIndexed m index)
+module _ (m n : InodeMap) (last k : ℕ) (t : IsTree (record { nodes = m; last = last }))
     (other : (i : ℕ) → (i ≡ k → ⊥) → site_of n i ≡ site_of m i)
     (kinds : (i : ℕ) → (i ≡ k → ⊥) → kind_of n i ≡ kind_of m i)
     (fresh : (i : ℕ) → last < i → map.get n i ≡ None)
@@ -92,31 +92,32 @@ module _ (m n : InodeMap) (last k : ℕ) (index : NameIndex) (t : IsTree (record
     given = fresh;
   }
 
-  -- the inode stood nowhere before: the names stay
-  pub index-forgotten : ((d : ℕ) (a : List ℕ) → IsUnder m k d a → ⊥) → IsIndexed n index
-  index-forgotten nowhere = record {
-    taken = λ i d a u. x.taken i d a (stays i d a u).1;
-    real = λ i d a g. let u = x.real i d a g in other i (λ same. nowhere d a (subst (λ y. IsUnder m y d a) same u)) ∙ u;
-  }
+  module _ (index : NameIndex) (x : IsIndexed m index) where
+    -- the inode stood nowhere before: the names stay
+    pub index-forgotten : ((d : ℕ) (a : List ℕ) → IsUnder m k d a → ⊥) → IsIndexed n index
+    index-forgotten nowhere = record {
+      taken = λ i d a u. x.taken i d a (stays i d a u).1;
+      real = λ i d a g. let u = x.real i d a g in other i (λ same. nowhere d a (subst (λ y. IsUnder m y d a) same u)) ∙ u;
+    }
 
-  -- the inode's name is taken out
-  pub index-unlinked : (d : ℕ) (a : List ℕ) → IsUnder m k d a → IsIndexed n (map.remove index (slot d a))
-  index-unlinked d a was = record {
-    taken = λ i e b u.
-        let off = (stays i e b u).0 in
-        let before = (stays i e b u).1 in
-        remove-other slot_total slot_same index (slot d a) (slot e b) (λ same.
-        let mine = x.taken k d a was in
-        let his : map.get index (slot d a) ≡ Some i = subst (λ s. map.get index s ≡ Some i) same (x.taken i e b before) in
-        let both : i ≡ k = cc in off both) ∙ x.taken i e b before;
-    real = λ i e b g. elim (same_or_other slot_total slot_same (slot e b) (slot d a)) [
-      | inl same ↦ let gone = remove-here slot_total slot_same index (slot d a) in
-          let got : map.get (map.remove index (slot d a)) (slot d a) ≡ Some i = subst (λ s. map.get (map.remove index (slot d a)) s ≡ Some i) same g in cc
-      | inr off ↦
-          let u = x.real i e b (sym (remove-other slot_total slot_same index (slot d a) (slot e b) off) ∙ g) in
-          other i (λ same. let mine : IsUnder m k e b = subst (λ y. IsUnder m y e b) same u in
-          let dirs : e ≡ d = one_dir m k e d b a mine was in
-          let names : b ≡ a = one_name m k e d b a mine was in
-          off (λ i. record { dir = dirs i; name = names i })) ∙ u
-    ];
-  }
+    -- the inode's name is taken out
+    pub index-unlinked : (d : ℕ) (a : List ℕ) → IsUnder m k d a → IsIndexed n (map.remove index (slot d a))
+    index-unlinked d a was = record {
+      taken = λ i e b u.
+          let off = (stays i e b u).0 in
+          let before = (stays i e b u).1 in
+          remove-other slot_total slot_same index (slot d a) (slot e b) (λ same.
+          let mine = x.taken k d a was in
+          let his : map.get index (slot d a) ≡ Some i = subst (λ s. map.get index s ≡ Some i) same (x.taken i e b before) in
+          let both : i ≡ k = cc in off both) ∙ x.taken i e b before;
+      real = λ i e b g. elim (same_or_other slot_total slot_same (slot e b) (slot d a)) [
+        | inl same ↦ let gone = remove-here slot_total slot_same index (slot d a) in
+            let got : map.get (map.remove index (slot d a)) (slot d a) ≡ Some i = subst (λ s. map.get (map.remove index (slot d a)) s ≡ Some i) same g in cc
+        | inr off ↦
+            let u = x.real i e b (sym (remove-other slot_total slot_same index (slot d a) (slot e b) off) ∙ g) in
+            other i (λ same. let mine : IsUnder m k e b = subst (λ y. IsUnder m y e b) same u in
+            let dirs : e ≡ d = one_dir m k e d b a mine was in
+            let names : b ≡ a = one_name m k e d b a mine was in
+            off (λ i. record { dir = dirs i; name = names i })) ∙ u
+      ];
+    }

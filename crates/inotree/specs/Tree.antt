@@ -58,6 +58,10 @@ is_directory nodes ino = is_directory_kind (kind_of nodes ino)
 abbrev pub IsUnder : InodeMap → ℕ → ℕ → List ℕ → Type 0
 IsUnder nodes ino dir name = site_of nodes ino ≡ Some (Under (record { 0 = dir }) name)
 
+-- no inode stands in the inode
+abbrev pub IsChildless : InodeMap → ℕ → Type 0
+IsChildless nodes dir = (ino : ℕ) (name : List ℕ) → IsUnder nodes ino dir name → ⊥
+
 -- the directory that an inode stands in
 abbrev pub dir_at : Option Site → Option ℕ
 dir_at None = None

@@ -95,8 +95,8 @@ impl Attributes {
         self.values.iter()
     }
 
-    // The same attributes once more.
-    pub(crate) fn copy(&self, alloc: Global) -> Result<Attributes, AllocError>
+    /// The same attributes once more.
+    pub fn copy(&self, alloc: Global) -> Result<Attributes, AllocError>
         ensures { IfOk result (λ copy. copy ≡ self.now) }
     {
         let mut made = Attributes::new(alloc);

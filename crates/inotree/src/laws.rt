@@ -1,14 +1,18 @@
 //! Laws of the tree. No program needs to call them.
 
-ghost use Rattle.std.specs.Prelude.{◌≡◌, ◌≢◌, ◌↔◌, ◌+◌, ◌-◌, ◌<◌, true, ℕ, List, length, Some};
+ghost use Rattle.std.specs.Prelude.{◌≡◌, ◌≢◌, ◌↔◌, ◌+◌, ◌-◌, ◌<◌, true, ℕ, List, [], ◌∷◌, ◌++◌, length, None, Some};
+ghost use Rattle.std.specs.FinMap as map;
+ghost use Rattle.capbits.specs.Refusal.{first_failing};
 ghost use Rattle.capgrant.specs.declared.access.Attr.{Attr};
 ghost use Rattle.inotree.specs.declared.node.Kind.{Kind};
 ghost use Rattle.inotree.specs.declared.node.Node.{Node};
 ghost use Rattle.inotree.specs.declared.node.Place.TheVariants.{Gone};
-ghost use Rattle.inotree.specs.Inodes.{InodeMap, with_snapshot, without_snapshot};
-ghost use Rattle.inotree.specs.Tree.{Nodes, IsTree, IsUnder, Climbs, place, child, is_within, depth, reaches, path_of};
-ghost use Rattle.inotree.specs.Calls.{with_new, changed, forgotten};
+ghost use Rattle.inotree.specs.declared.node.Setting.{Setting};
+ghost use Rattle.inotree.specs.Inodes.{InodeMap, with_setting, with_attribute, without_attribute, with_snapshot, without_snapshot};
+ghost use Rattle.inotree.specs.Tree.{Nodes, IsTree, IsUnder, IsChildless, Climbs, place, child, is_within, depth, reaches, path_of};
+ghost use Rattle.inotree.specs.Calls.{with_new, changed, unlinked, forgotten};
 ghost use Rattle.inotree.specs.Alike.{IsAlike};
+ghost use Rattle.inotree.specs.Tests.{inode_tests, root_test, file_test, directory_test, empty_test, new_attribute_tests};
 
 /// An inode lies within another exactly where some names lead from it up to the other.
 pub fn within_is_below()
@@ -51,4 +55,48 @@ pub fn a_snapshot_leaves_all_alike()
         → IsAlike tree (changed f tree at) ino }
     ensures comes { (tree : Nodes) (name : List ℕ) (at ino : ℕ) → IsAlike tree (changed (with_snapshot name) tree at) ino }
     ensures goes { (tree : Nodes) (name : List ℕ) (at ino : ℕ) → IsAlike tree (changed (without_snapshot name) tree at) ino }
+{}
+
+/// A change of one inode makes none and takes none. Where the inode stays where it stands, so do the path and the place of
+/// every inode, and each other keeps its owner, its group and its mode. A field that is set is such a change; an attribute
+/// that comes or goes leaves the owner, the group and the mode of its own inode too.
+pub fn a_change_of_one_inode_leaves_the_others()
+    ensures known { (tree : Nodes) (f : Node → Node) (ino other : ℕ) → map.contains_key (changed f tree ino).nodes other ≡ map.contains_key tree.nodes other }
+    ensures last { (tree : Nodes) (f : Node → Node) (ino : ℕ) → (changed f tree ino).last ≡ tree.last }
+    ensures alike { (tree : Nodes) (f : Node → Node) (ino other : ℕ) → ((n : Node) → (f n).site ≡ n.site) → other ≢ ino
+        → IsAlike tree (changed f tree ino) other }
+    ensures paths { (tree : Nodes) (f : Node → Node) (ino other : ℕ) → ((n : Node) → (f n).site ≡ n.site)
+        → path_of (changed f tree ino).nodes other ≡ path_of tree.nodes other }
+    ensures places { (tree : Nodes) (f : Node → Node) (ino other : ℕ) → ((n : Node) → (f n).site ≡ n.site)
+        → place (changed f tree ino).nodes other ≡ place tree.nodes other }
+    ensures set { (tree : Nodes) (setting : Setting) (ino other : ℕ) → other ≢ ino → IsAlike tree (changed (with_setting setting) tree ino) other }
+    ensures set_places { (tree : Nodes) (setting : Setting) (ino other : ℕ) → place (changed (with_setting setting) tree ino).nodes other ≡ place tree.nodes other }
+    ensures comes { (tree : Nodes) (name value : List ℕ) (ino other : ℕ) → IsAlike tree (changed (with_attribute name value) tree ino) other }
+    ensures comes_places { (tree : Nodes) (name value : List ℕ) (ino other : ℕ) → place (changed (with_attribute name value) tree ino).nodes other ≡ place tree.nodes other }
+    ensures goes { (tree : Nodes) (name : List ℕ) (ino other : ℕ) → IsAlike tree (changed (without_attribute name) tree ino) other }
+    ensures goes_places { (tree : Nodes) (name : List ℕ) (ino other : ℕ) → place (changed (without_attribute name) tree ino).nodes other ≡ place tree.nodes other }
+{}
+
+/// An inode in which none stands, and that becomes a stray, leaves the path, the place, the owner, the group and the mode
+/// of every other. None stands in a file, nor in a directory that is empty.
+pub fn an_inode_without_children_leaves_the_others()
+    ensures alike { (tree : Nodes) (ino other : ℕ) → IsChildless tree.nodes ino → other ≢ ino → IsAlike tree (unlinked tree ino) other }
+    ensures places { (tree : Nodes) (ino other : ℕ) → other ≢ ino → place (unlinked tree ino).nodes other ≡ place tree.nodes other }
+    ensures file { (tree : Nodes) (ino : ℕ) → IsTree tree → first_failing (file_test tree ino ∷ []) ≡ None → IsChildless tree.nodes ino }
+    ensures empty { (tree : Nodes) (ino : ℕ) → first_failing (directory_test tree ino ∷ empty_test tree ino ∷ []) ≡ None → IsChildless tree.nodes ino }
+{}
+
+/// A change of one inode whose tests were passed leaves a tree a tree. A field that is set, and an attribute that goes, need
+/// no test for it.
+pub fn a_change_that_may_be_made_keeps_the_tree()
+    ensures set { (tree : Nodes) (setting : Setting) (ino : ℕ) → IsTree tree → IsTree (changed (with_setting setting) tree ino) }
+    ensures comes { (tree : Nodes) (name value : List ℕ) (ino : ℕ) → IsTree tree → first_failing (new_attribute_tests tree ino name value) ≡ None
+        → IsTree (changed (with_attribute name value) tree ino) }
+    ensures goes { (tree : Nodes) (name : List ℕ) (ino : ℕ) → IsTree tree → IsTree (changed (without_attribute name) tree ino) }
+    ensures childless { (tree : Nodes) (ino : ℕ) → IsTree tree → first_failing (root_test tree ino ∷ []) ≡ None → IsChildless tree.nodes ino
+        → IsTree (unlinked tree ino) }
+    ensures file { (tree : Nodes) (ino : ℕ) → IsTree tree → first_failing (inode_tests tree ino ++ root_test tree ino ∷ []) ≡ None
+        → first_failing (file_test tree ino ∷ []) ≡ None → IsTree (unlinked tree ino) }
+    ensures empty { (tree : Nodes) (ino : ℕ) → IsTree tree → first_failing (inode_tests tree ino ++ root_test tree ino ∷ []) ≡ None
+        → first_failing (directory_test tree ino ∷ empty_test tree ino ∷ []) ≡ None → IsTree (unlinked tree ino) }
 {}

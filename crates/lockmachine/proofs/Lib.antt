@@ -9,5 +9,5 @@ pub mod Moving
 pub mod Ending
 pub mod Settling
 pub mod InRows
-pub mod Elsewhere
 pub mod PolicyElsewhere
+pub mod SameBut

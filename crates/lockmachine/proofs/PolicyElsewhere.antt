@@ -100,7 +100,7 @@ module _ (fs : List ℕ) (tree : Nodes) (sessions : SessionTable) (f : Node → 
 
 -- ---- a new session, where the holder's client has one
 
-alike-itself : (tree : Nodes) (ino : ℕ) → IsAlike tree tree ino
+pub alike-itself : (tree : Nodes) (ino : ℕ) → IsAlike tree tree ino
 alike-itself tree ino = record { path = refl; attr = refl }
 
 module _ (fs : List ℕ) (tree : Nodes) (sessions : SessionTable) (client : ℕ) (caller : Caller) (grants : List Grant) where

@@ -8,3 +8,4 @@ pub mod Scene
 pub mod Moves
 pub mod Runs
 pub mod Rows
+pub mod Elsewhere

@@ -1,11 +1,13 @@
 -- The locks as a value: the four locks of each inode, the queue, and the last number that a request was given.
-use Rattle.std.specs.Prelude.{◌≡◌, ℕ, ◌+◌, ◌≤◌, Option, List, [], ◌∷◌, ◌++◌, length, filter, not, All}
+use Rattle.std.specs.Prelude.{◌≡◌, ℕ, ◌+◌, ◌≤◌, nat_le, Option, List, [], ◌∷◌, ◌++◌, length, filter, not, All}
 use Rattle.std.specs.List.{find}
 use Rattle.std.specs.Option.{option_map}
 use Rattle.std.specs.FinMap as map
 use Rattle.capbits.specs.declared.cap.Part.{Part}
 use Rattle.capbits.specs.declared.ids.ClientId.{ClientId}
 use Rattle.capbits.specs.declared.ids.Ino.{Ino}
+use Rattle.capbits.specs.declared.refusal.Refusal.TheVariants as refusal
+use Rattle.capbits.specs.Refusal.{Test, refused_if}
 use Rattle.inotree.specs.Maps.{change_at}
 use Rattle.locktable.specs.declared.states.LockState.{LockState}
 use Rattle.lockmachine.specs.declared.request.Ask.{Ask}
@@ -48,6 +50,10 @@ abbrev pub without_ino : LockMap → ℕ → LockMap
 without_ino locks ino = record locks { states = map.remove locks.states ino }
 
 -- ---- requests
+
+-- there may wait one more
+abbrev pub queue_tests : LockMap → List Test
+queue_tests locks = refused_if (nat_le 1024 (length locks.queue)) refusal.Limit ∷ []
 
 -- the request with this number, where it waits
 abbrev pub request_at : LockMap → ℕ → Option Request

@@ -1,6 +1,6 @@
 //! Laws of the locks. No program needs to call them.
 
-ghost use Rattle.std.specs.Prelude.{◌≡◌, ◌≢◌, ◌<◌, ℕ, List, [], Some, Contains, length};
+ghost use Rattle.std.specs.Prelude.{◌≡◌, ◌<◌, ℕ, List, [], Some, Contains, length};
 ghost use Rattle.std.specs.FinMap as map;
 ghost use Rattle.lockmachine.specs.declared.states.InodeLocks.{InodeLocks};
 ghost use Rattle.capbits.specs.declared.ids.ClientId.{ClientId};
@@ -8,8 +8,6 @@ ghost use Rattle.capbits.specs.declared.ids.Ino.{Ino};
 ghost use Rattle.capbits.specs.declared.ids.Ticket.{Ticket};
 ghost use Rattle.capbits.specs.declared.cap.Part.{Part};
 ghost use Rattle.captable.specs.declared.entry.EntryRow.{EntryRow};
-ghost use Rattle.captable.specs.Table.{Table};
-ghost use Rattle.captable.specs.Calls.{entries_on};
 ghost use Rattle.lockmachine.specs.declared.request.Ask.{Ask};
 ghost use Rattle.lockmachine.specs.declared.request.Request.{Request};
 ghost use Rattle.lockmachine.specs.declared.moves.Move.{Move};
@@ -17,7 +15,7 @@ ghost use Rattle.lockmachine.specs.declared.moves.Move.TheVariants.{Serve, Settl
 ghost use Rattle.lockmachine.specs.Inodes.{in_sync};
 ghost use Rattle.lockmachine.specs.Scene.{Scene};
 ghost use Rattle.lockmachine.specs.Locks.{LockMap, IsLockMap, TakesOnly, request_at, with_request, without_request};
-ghost use Rattle.lockmachine.specs.Moves.{first_move, moved, with_moved, IsFirstServed, IsAtRest, IsQuietBut, WaitAtLocks};
+ghost use Rattle.lockmachine.specs.Moves.{first_move, moved, with_moved, IsFirstServed, IsAtRest, WaitAtLocks};
 ghost use Rattle.lockmachine.specs.Runs.{Runs, AreFew};
 ghost use Rattle.lockmachine.specs.Rows.{IsInRow};
 
@@ -30,13 +28,6 @@ pub fn settled_is_at_rest()
 /// Where the locks are at rest, no move applies.
 pub fn at_rest_is_settled()
     ensures { (s : Scene) → IsAtRest s → first_move s ≡ Settled }
-{}
-
-/// Where the locks are at rest, a change of the entries of one inode leaves those of all others quiet.
-pub fn other_inodes_stay_quiet()
-    ensures { (s : Scene) (table : Table) (ino : ℕ) → IsAtRest s
-        → ((other : Ino) → other.0 ≢ ino → entries_on table other ≡ entries_on s.table other)
-        → IsQuietBut (record s { table = table }) ino }
 {}
 
 /// Between two servings each lock begins at most one gather and ends at most two.

@@ -4,6 +4,7 @@
 #![tactic(auto)]
 
 mod bytes;
+mod elsewhere_laws;
 mod laws;
 mod locks;
 mod moves;
@@ -14,13 +15,16 @@ mod states;
 mod wants;
 
 pub use bytes::Bytes;
+pub use elsewhere_laws::{
+    a_serving_is_at_the_inode_that_moves, changes_at_one_inode_add_up, other_inodes_stay_quiet,
+    what_is_the_same_but_at_one_inode,
+};
 pub use laws::{
     a_new_request_keeps_the_order, a_number_finds_its_request, a_number_takes_its_request,
     at_rest_is_settled, between_servings_locks_move_little, moves_keep_rows, moves_keep_the_order,
-    nothing_wanted_is_settled, other_inodes_stay_quiet, settled_is_at_rest,
-    the_least_number_is_served,
+    nothing_wanted_is_settled, settled_is_at_rest, the_least_number_is_served,
 };
-pub use locks::Locks;
+pub use locks::{Locks, MAX_WAITING};
 pub use moves::Move;
 pub use policy_laws::{
     a_forgotten_stray_leaves_what_is_permitted, a_new_inode_leaves_what_is_permitted,

@@ -1,8 +1,9 @@
 //! The locks by inode, the queue, and the moves of both.
-ghost use Rattle.std.specs.Prelude.{◌≡◌, position, IfOk, OnOk, OnErr};
+ghost use Rattle.std.specs.Prelude.{◌≡◌, ◌+◌, ◌-◌, ◌<◌, ◌^◌, None, length, position, IfOk, OnOk, OnErr};
 ghost use Rattle.std.specs.List.{find};
 ghost use Rattle.std.specs.Option.{option_map, option_copied};
 ghost use Rattle.std.specs.FinMap as map;
+ghost use Rattle.capbits.specs.Refusal.{first_failing};
 ghost use Rattle.lockmachine.specs.declared.moves.Move.TheVariants.{Settled};
 ghost use Rattle.lockmachine.specs.Locks as words;
 ghost use Rattle.lockmachine.specs.Requests as requests;
@@ -12,11 +13,11 @@ ghost use Rattle.lockmachine.specs.Moves.{first_move, moved, handed, serve_or_re
 ghost use Rattle.lockmachine.specs.Runs.{MoveLittle, ChangesLocksOf};
 
 use crate::moves::Move;
-use crate::request::Request;
+use crate::request::{Ask, Request};
 use crate::revoked::is_held_outside;
 use crate::states::{InodeLocks, States};
 use crate::wants::{Wants, wants_on};
-use capbits::{Ino, Part, Ticket};
+use capbits::{ClientId, Ino, Part, Refusal, Ticket};
 use capspec::FsName;
 use captable::CapTable;
 use inotree::Tree;
@@ -25,6 +26,9 @@ use sessiontab::Sessions;
 use std::alloc::{AllocError, Global};
 use std::marker::Model;
 
+/// The most requests that may wait.
+pub const MAX_WAITING: usize = 1024;
+
 // The parts, in their order.
 const PARTS: [Part; 4] = [Part::A, Part::L, Part::X, Part::F];
 
@@ -32,13 +36,14 @@ const PARTS: [Part; 4] = [Part::A, Part::L, Part::X, Part::F];
 #[derive(Debug, Drop)]
 pub struct Locks {
     states: States,
-    // The oldest first.
+    // The oldest first. It has room for as many as may wait, so that who is to wait needs no memory.
     queue: Vec<Request>,
     // The last number that a request was given.
     last: u64,
 }
 
 impl Model for Locks {
+    ghost use Rattle.std.specs.Prelude.{◌≤◌, vec_capacity};
     ghost use Rattle.lockmachine.specs.Locks.{LockMap, IsLockMap};
     ghost use Rattle.lockmachine.specs.Codes.{lock_map_code};
 
@@ -48,17 +53,19 @@ impl Model for Locks {
 
     ghost view = { λ l. record { states = l.states; queue = l.queue.items; last = l.last } };
 
-    ghost invariant = { λ l. IsLockMap (record { states = l.states; queue = l.queue.items; last = l.last }) };
+    ghost invariant = { λ l. IsLockMap (record { states = l.states; queue = l.queue.items; last = l.last })
+        × (1024 ≤ vec_capacity l.queue) };
 }
 
 impl Locks {
-    /// No locks, and nobody waits.
+    /// No locks, and nobody waits. It makes room for all requests that may wait.
     pub fn new(alloc: Global) -> Result<Locks, AllocError>
         ensures { IfOk result (λ locks. locks ≡ words.no_locks) }
     {
+        let queue = Vec::with_capacity(alloc, MAX_WAITING)?;
         Ok(Locks {
             states: States::new(alloc),
-            queue: Vec::new(alloc),
+            queue,
             last: 0,
         })
     }
@@ -85,6 +92,55 @@ impl Locks {
     {
         let locks = self.states.get(ino)?;
         Some(locks.of_part(part))
+    }
+
+    // ---- who waits
+
+    /// The last number that a request was given.
+    pub fn last(&self) -> u64
+        ensures last { result ≡ self.now.last }
+        ensures sound { words.IsLockMap self.now }
+    {
+        self.last
+    }
+
+    /// How many requests wait.
+    pub fn waiting(&self) -> usize
+        ensures waiting { result ≡ length self.now.queue }
+        ensures sound { words.IsLockMap self.now }
+    {
+        self.queue.len()
+    }
+
+    /// Why no request can wait: as many wait as may.
+    pub fn enqueue_refusal(&self) -> Option<Refusal>
+        ensures { result ≡ first_failing (words.queue_tests self.now) }
+    {
+        if self.queue.len() >= MAX_WAITING {
+            return Some(Refusal::Limit);
+        }
+        None
+    }
+
+    /// Lets what a client asks for wait behind all others, under the next number, which it answers. It takes no memory.
+    pub fn enqueue(&mut self, client: ClientId, ino: Ino, ask: Ask) -> Ticket
+        requires room { first_failing (words.queue_tests self.old) ≡ None }
+        requires numbers { self.old.last < 2 ^ 64 - 1 }
+        ensures queued { self.new ≡ words.with_request self.old client ino ask }
+        ensures ticket { result.0 ≡ self.old.last + 1 }
+    {
+        let ticket = Ticket(self.last + 1);
+        self.last = ticket.0;
+        let request = Request {
+            ticket,
+            client,
+            ino,
+            ask,
+        };
+        let Ok(()) = self.queue.push(request) else {
+            unreachable!()
+        };
+        ticket
     }
 
     // ---- which move comes next

@@ -1,11 +1,12 @@
 //! The requests that wait for a lock.
-ghost use Rattle.std.specs.Prelude.{◌≡◌};
+ghost use Rattle.std.specs.Prelude.{◌≡◌, IfOk};
 ghost use Rattle.lockmachine.specs.Requests as words;
 
 use crate::bytes::Bytes;
 use capbits::{ClientId, Ino, Part, Ticket};
 use inotree::Setting;
 use locktable::Head;
+use std::alloc::{AllocError, Global};
 
 /// A change of what an inode keeps.
 #[derive(Debug, Drop)]
@@ -60,8 +61,31 @@ pub struct Request {
 }
 
 impl Change {
-    // The part that changes.
-    fn part(&self) -> Part
+    /// The same change once more.
+    pub fn copy(&self, alloc: Global) -> Result<Change, AllocError>
+        ensures { IfOk result (λ copy. copy ≡ self.now) }
+    {
+        match self {
+            Change::Set(setting) => Ok(Change::Set(*setting)),
+            Change::SetXattr { name, value } => {
+                let name = Bytes::read(alloc, name.as_slice())?;
+                match Bytes::read(alloc, value.as_slice()) {
+                    Ok(value) => Ok(Change::SetXattr { name, value }),
+                    Err(refused) => {
+                        drop(name);
+                        Err(refused)
+                    }
+                }
+            }
+            Change::RemoveXattr { name } => {
+                let name = Bytes::read(alloc, name.as_slice())?;
+                Ok(Change::RemoveXattr { name })
+            }
+        }
+    }
+
+    /// The part that changes.
+    pub fn part(&self) -> Part
         ensures { result ≡ words.part_of_change self.now }
     {
         match self {

@@ -150,8 +150,23 @@ fn steps_on(
     Ok(())
 }
 
-// Plays the scripts on a fresh core whose history takes so many rows, then takes the steps, and looks at it in the end. No
-// other function of the tests owns a core: each statement of one that does is dear to prove.
+// Plays the scripts, each by its pass, then takes the steps, and looks at the core in the end.
+fn uses(
+    rt: &(impl AllocGlobal + Abort),
+    core: &mut Core,
+    scripts: &[(u32, &[(Ask, &str)])],
+    steps: &[&[Step]],
+    shown: &[(Look, &str)],
+) -> Result<(), Fail> {
+    for (pass, script) in scripts {
+        plays(rt, rt.alloc(), core, *pass, script)?;
+    }
+    steps_on(rt, rt.alloc(), core, steps)?;
+    shows(rt, rt.alloc(), core, shown)
+}
+
+// Does all this with a fresh core whose history takes so many rows. No other function of the tests owns a core: each
+// statement of one that does is dear to prove.
 fn owner(
     rt: &(impl AllocGlobal + Abort),
     max_rows: u32,
@@ -160,11 +175,9 @@ fn owner(
     shown: &[(Look, &str)],
 ) -> Result<(), Fail> {
     let mut core = fresh(rt.alloc(), max_rows)?;
-    for (pass, script) in scripts {
-        plays(rt, rt.alloc(), &mut core, *pass, script)?;
-    }
-    steps_on(rt, rt.alloc(), &mut core, steps)?;
-    shows(rt, rt.alloc(), &core, shown)
+    let used = uses(rt, &mut core, scripts, steps, shown);
+    drop(core);
+    used
 }
 
 /// Plays the scripts on a fresh core whose history takes so many rows, each by its pass, and compares what is answered
@@ -181,4 +194,13 @@ pub fn works(
 /// Takes the steps on a fresh core, a part after the other.
 pub fn goes(rt: &(impl AllocGlobal + Abort), steps: &[&[Step]]) -> Result<(), Fail> {
     owner(rt, 100, &[], steps, &[])
+}
+
+/// Takes the steps on a fresh core, and compares what is seen in it after them.
+pub fn leaves(
+    rt: &(impl AllocGlobal + Abort),
+    steps: &[&[Step]],
+    shown: &[(Look, &str)],
+) -> Result<(), Fail> {
+    owner(rt, 100, &[], steps, shown)
 }

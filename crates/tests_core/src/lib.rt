@@ -9,19 +9,29 @@ mod asking;
 #[cfg(test)]
 mod asserting;
 #[cfg(test)]
+mod attributes;
+#[cfg(test)]
 mod entry_refusals;
 #[cfg(test)]
 mod failing_streams;
+#[cfg(test)]
+mod flushes;
 #[cfg(test)]
 mod gathers;
 #[cfg(test)]
 mod histories;
 #[cfg(test)]
+mod judged_again;
+#[cfg(test)]
 mod lines;
 #[cfg(test)]
 mod looking;
 #[cfg(test)]
+mod removals;
+#[cfg(test)]
 mod replies;
+#[cfg(test)]
+mod request_refusals;
 #[cfg(test)]
 mod runs;
 #[cfg(test)]
@@ -32,5 +42,9 @@ mod steps;
 mod talks;
 #[cfg(test)]
 mod telling;
+#[cfg(test)]
+mod waiting;
+#[cfg(test)]
+mod waits;
 #[cfg(test)]
 mod worked_scripts;

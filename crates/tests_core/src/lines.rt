@@ -79,6 +79,43 @@ const EVENTS_OF_ENTRIES: &[(&str, &str)] = &[
     ("poll 1 00004294967295", "poll 1 4294967295"),
 ];
 
+// What a change sets is told in decimal, a name and a value as the list of their bytes.
+const EVENTS_OF_REQUESTS: &[(&str, &str)] = &[
+    ("get 1 2 A", "get 1 2 A"),
+    ("get 1 2 L", "get 1 2 L"),
+    ("get 1 2 X", "get 1 2 X"),
+    (
+        "get 4294967295 18446744073709551615 F",
+        "get 4294967295 18446744073709551615 F",
+    ),
+    ("alter 1 2 chmod 0600", "alter 1 2 mode 384"),
+    ("alter 1 2 chmod 7", "alter 1 2 mode 7"),
+    ("alter 1 2 chown 4294967295", "alter 1 2 owner 4294967295"),
+    ("alter 1 2 chgrp 007", "alter 1 2 group 7"),
+    (
+        "alter 1 2 size 18446744073709551615",
+        "alter 1 2 size 18446744073709551615",
+    ),
+    ("alter 1 2 times 0", "alter 1 2 time 0"),
+    (
+        "alter 1 2 setx user.a 0fa0",
+        "alter 1 2 [117, 115, 101, 114, 46, 97] to [15, 160]",
+    ),
+    ("alter 1 2 setx a -", "alter 1 2 [97] to []"),
+    ("alter 1 2 setx  ff", "alter 1 2 [] to [255]"),
+    ("alter 1 2 rmx a", "alter 1 2 without [97]"),
+    ("alter 1 2 rmx ", "alter 1 2 without []"),
+    ("flush 1 2 chmod 0600", "flush 1 2 mode 384"),
+    ("flush 1 2 setx a 00", "flush 1 2 [97] to [0]"),
+    ("unlink 1 2", "unlink 1 2"),
+    ("rmdir 1 2", "rmdir 1 2"),
+];
+
+#[test]
+fn lines_say_requests(rt: HostRuntime) -> Result<(), Fail> {
+    say(&rt, EVENTS_OF_REQUESTS)
+}
+
 #[test]
 fn lines_say_events_of_entries(rt: HostRuntime) -> Result<(), Fail> {
     say(&rt, EVENTS_OF_ENTRIES)
@@ -151,6 +188,57 @@ const FAULTS_OF_ENTRIES: &[(&str, &str)] = &[
     ("release 1 2 F", "line 7: Caps"),
     ("release 1 2 pp", "line 7: Caps"),
 ];
+
+const FAULTS_OF_REQUESTS: &[(&str, &str)] = &[
+    ("get 1 2", "line 7: Count"),
+    ("get 1 2 A A", "line 7: Count"),
+    ("get x 2 Z", "line 7: Number"),
+    ("get 1 2 Z", "line 7: Part"),
+    ("get 1 2 a", "line 7: Part"),
+    ("get 1 2 AL", "line 7: Part"),
+    ("get 1 2 ", "line 7: Part"),
+    ("unlink 1", "line 7: Count"),
+    ("unlink 1 2 3", "line 7: Count"),
+    ("unlink 1 x", "line 7: Number"),
+    ("rmdir x y z", "line 7: Count"),
+    ("rmdir 1 18446744073709551616", "line 7: Number"),
+];
+
+// Words are counted where the change is a known one, or missing. So a number before it is told after them, and before a
+// change that is not known.
+const FAULTS_OF_CHANGES: &[(&str, &str)] = &[
+    ("alter 1", "line 7: Count"),
+    ("alter 1 2", "line 7: Count"),
+    ("flush x 2", "line 7: Count"),
+    ("alter 1 2 ", "line 7: Change"),
+    ("alter 1 2 fly", "line 7: Change"),
+    ("alter 1 2 fly a b c d", "line 7: Change"),
+    ("alter 1 x fly a b c d", "line 7: Number"),
+    ("flush 1 2 Chmod 0600", "line 7: Change"),
+    ("alter 1 2 chmod", "line 7: Count"),
+    ("alter 1 x chmod 0600 1", "line 7: Count"),
+    ("alter 1 2 setx a", "line 7: Count"),
+    ("alter 1 2 setx a 00 00", "line 7: Count"),
+    ("alter 1 2 rmx a b", "line 7: Count"),
+    ("alter 1 2 chmod 8", "line 7: Mode"),
+    ("flush 1 2 chmod 00644", "line 7: Mode"),
+    ("alter 1 2 chown x", "line 7: Number"),
+    ("alter 1 2 chown 4294967296", "line 7: Number"),
+    ("alter 1 2 chgrp -", "line 7: Number"),
+    ("alter 1 2 size 18446744073709551616", "line 7: Number"),
+    ("flush 1 2 times ", "line 7: Number"),
+    ("alter 1 2 setx a ", "line 7: Hex"),
+    ("alter 1 2 setx a 0", "line 7: Hex"),
+    ("alter 1 2 setx a 0A", "line 7: Hex"),
+    ("alter 1 2 setx a -0", "line 7: Hex"),
+    ("flush 1 2 setx a 0g", "line 7: Hex"),
+];
+
+#[test]
+fn lines_of_requests_have_faults(rt: HostRuntime) -> Result<(), Fail> {
+    say(&rt, FAULTS_OF_REQUESTS)?;
+    say(&rt, FAULTS_OF_CHANGES)
+}
 
 #[test]
 fn lines_of_entries_have_faults(rt: HostRuntime) -> Result<(), Fail> {

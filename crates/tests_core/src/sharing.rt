@@ -3,8 +3,8 @@
 use crate::talks::{Said, talks};
 use std::test::Fail;
 
-// One client has a file for itself, and another is there.
-const ONE_HAS_A_FILE: &[Said] = &[
+/// One client has a file for itself, and another is there.
+pub const ONE_HAS_A_FILE: &[Said] = &[
     ("session 1 10 10 - allow rw", "done"),
     ("session 2 20 20 - allow rw", "done"),
     ("create 1 1 f 0644", "ino 2"),
@@ -16,8 +16,8 @@ fn one_client_has_a_file_for_itself(rt: HostRuntime) -> Result<(), Fail> {
     talks(&rt, &[ONE_HAS_A_FILE])
 }
 
-// The other opens it too, and the first gives way.
-const ANOTHER_READS_IT: &[Said] = &[
+/// The other opens it too, and the first gives way.
+pub const ANOTHER_READS_IT: &[Said] = &[
     ("open 2 2 r", "caps 1 p"),
     ("poll 1 9", "messages 1\n  caps 2 2 pFrw"),
     ("ack 1 2 2", "done"),

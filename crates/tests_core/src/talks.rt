@@ -9,45 +9,62 @@ use std::test::Fail;
 /// A line of a script, and all that is answered to it.
 pub type Said = (&'static str, &'static str);
 
+/// A script, and the transcript that it is to have.
+#[derive(Drop)]
+pub struct Talk {
+    script: Vec<u8>,
+    answers: Vec<u8>,
+}
+
+impl Talk {
+    /// Nothing is said yet.
+    pub fn new(alloc: Global) -> Talk {
+        Talk {
+            script: Vec::new(alloc),
+            answers: Vec::new(alloc),
+        }
+    }
+
+    /// One line more, and its answer.
+    pub fn says(&mut self, line: &str, answer: &str) -> Result<(), AllocError> {
+        push_line(&mut self.script, line)?;
+        push_line(&mut self.answers, answer)
+    }
+
+    /// A further line of the last answer.
+    pub fn hears(&mut self, line: &str) -> Result<(), AllocError> {
+        push_line(&mut self.answers, line)
+    }
+
+    /// All lines of a part, one after the other.
+    pub fn follows(&mut self, part: &[Said]) -> Result<(), AllocError> {
+        for (line, answer) in part {
+            self.says(line, answer)?;
+        }
+        Ok(())
+    }
+
+    /// Plays the script to a fresh server, and compares what it writes.
+    pub fn compare(&self, rt: &(impl AllocGlobal + Abort)) -> Result<(), Fail> {
+        let written = transcript(rt, self.script.as_slice())?;
+        let written = String::from_utf8_lossy(rt.alloc(), written.as_slice())?;
+        let wanted = String::from_utf8_lossy(rt.alloc(), self.answers.as_slice())?;
+        same(rt, written.as_str(), wanted.as_str(), "the talk");
+        Ok(())
+    }
+}
+
 fn push_line(text: &mut Vec<u8>, line: &str) -> Result<(), AllocError> {
     text.extend_from_slice(line.as_bytes())?;
     text.push(b'\n')?;
     Ok(())
 }
 
-// The lines alone.
-fn push_lines(text: &mut Vec<u8>, said: &[Said]) -> Result<(), AllocError> {
-    for (line, _) in said {
-        push_line(text, line)?;
-    }
-    Ok(())
-}
-
-// The answers alone.
-fn push_answers(text: &mut Vec<u8>, said: &[Said]) -> Result<(), AllocError> {
-    for (_, answer) in said {
-        push_line(text, answer)?;
-    }
-    Ok(())
-}
-
-// The script and the transcript of a talk.
-fn texts(alloc: Global, parts: &[&[Said]]) -> Result<(Vec<u8>, Vec<u8>), AllocError> {
-    let mut script = Vec::new(alloc);
-    let mut answers = Vec::new(alloc);
-    for part in parts {
-        push_lines(&mut script, part)?;
-        push_answers(&mut answers, part)?;
-    }
-    Ok((script, answers))
-}
-
 /// Plays the parts of a talk, one after the other, as one script to a fresh server, and compares what it writes.
 pub fn talks(rt: &(impl AllocGlobal + Abort), parts: &[&[Said]]) -> Result<(), Fail> {
-    let (script, answers) = texts(rt.alloc(), parts)?;
-    let written = transcript(rt, script.as_slice())?;
-    let written = String::from_utf8_lossy(rt.alloc(), written.as_slice())?;
-    let wanted = String::from_utf8_lossy(rt.alloc(), answers.as_slice())?;
-    same(rt, written.as_str(), wanted.as_str(), "the talk");
-    Ok(())
+    let mut talk = Talk::new(rt.alloc());
+    for part in parts {
+        talk.follows(part)?;
+    }
+    talk.compare(rt)
 }

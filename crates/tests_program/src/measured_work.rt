@@ -19,7 +19,7 @@ fn tree(size: Size, layout: Layout) -> TreeShape {
 }
 
 // Words, and the work that each names.
-fn works() -> [(&'static str, Work); 13] {
+fn works() -> [(&'static str, Work); 17] {
     use Callers::{Any, OneUser};
     use Layout::{Deep, Flat};
     use Size::{Hundred, SixtyThousand, TenThousand, Thousand};
@@ -36,6 +36,10 @@ fn works() -> [(&'static str, Work); 13] {
         ("create-10000-deep", Work::Create(tree(TenThousand, Deep))),
         ("open-100", Work::Open(Hundred)),
         ("revoke-60000", Work::Revoke(SixtyThousand)),
+        ("want-1000", Work::Want(Thousand)),
+        ("release-10000", Work::Release(TenThousand)),
+        ("share-100", Work::Share(Hundred)),
+        ("poll-1000", Work::Poll(Thousand)),
         ("retry", Work::Retry),
     ]
 }
@@ -48,7 +52,7 @@ fn each_word_names_its_work(rt: HostRuntime) {
 }
 
 /// Words that name no work.
-const NO_WORK: [&str; 17] = [
+const NO_WORK: [&str; 20] = [
     "",
     "verdict",
     "verdict-1-plain",
@@ -65,6 +69,9 @@ const NO_WORK: [&str; 17] = [
     "remove-100-flat",
     "open-200",
     "revoke-100-flat",
+    "want-200",
+    "release",
+    "share-100-flat",
     "retry-100",
 ];
 
@@ -132,7 +139,7 @@ fn expect(
 }
 
 /// A piece of work, how many times it is done, and what is printed.
-const SUMS: [(&str, &str, &str); 13] = [
+const SUMS: [(&str, &str, &str); 17] = [
     // The last grant is the one that allows.
     ("verdict-1-1-plain", "7", "sum 7\n"),
     ("verdict-4-8-ids", "7", "sum 28\n"),
@@ -151,6 +158,12 @@ const SUMS: [(&str, &str, &str); 13] = [
     // Each opening is the first change of its entry; the revocations are the changes 2, 4 and 6.
     ("open-100", "3", "sum 3\n"),
     ("revoke-100", "3", "sum 12\n"),
+    // Each want is the second change of its entry; each entry that is made again begins anew, and so does one of a client more.
+    ("want-100", "3", "sum 6\n"),
+    ("release-100", "3", "sum 3\n"),
+    ("share-100", "2", "sum 200\n"),
+    // No message is due to the one client with entries.
+    ("poll-100", "3", "sum 0\n"),
 ];
 
 // Runs the program on a piece of work twice.

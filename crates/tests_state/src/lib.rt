@@ -15,6 +15,8 @@ mod lock_moves;
 #[cfg(test)]
 mod locks;
 #[cfg(test)]
+mod queue;
+#[cfg(test)]
 mod sessions;
 #[cfg(test)]
 mod table_runs;

@@ -1,5 +1,6 @@
 use Rattle.std.proofs.Common.{◌≡◌, ◌≤◌, length}
 use Rattle.lockmachine.specs.Scene.{Scene}
+use Rattle.capcore.specs.Messages.{end_messages}
 use Rattle.capcore.proofs.Polling.{IsListed}
 use Rattle.capcore.proofs.poll.due_messages.Given as goal
 
@@ -9,5 +10,5 @@ decreases-rows l = length l.walk
 abbrev pub invariant-rows : goal.invariant-rows
 invariant-rows l = record {
   few : length l.due ≤ l.max;
-  listed : (s : Scene) → s.locks ≡ l.locks → IsListed l.max s l.initial.walk l.due l.walk;
+  listed : (s : Scene) → s.locks ≡ l.locks → IsListed l.max s (end_messages l.fn.client l.ended) l.initial.walk l.due l.walk;
 }

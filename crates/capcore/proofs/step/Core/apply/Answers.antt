@@ -1,7 +1,9 @@
-use Rattle.std.proofs.Common.{◌≡◌, ◌<◌, ◌+◌, [], length, ap, subst, ◌∙◌, arith}
+use Rattle.std.proofs.Common.{◌≡◌, ◌<◌, ◌+◌, length, ap, sym, subst, ◌∙◌, arith}
 use Rattle.std.specs.Prelude.{IsTrue}
 use Rattle.capcore.specs.State.{State}
 use Rattle.capcore.specs.declared.history.Row.{Row}
+use Rattle.capcore.specs.declared.reply.Reply.{Reply}
+use Rattle.capcore.specs.Answered.{IsAnswered}
 use Rattle.capcore.specs.Direct.{direct}
 use Rattle.capcore.specs.Headline.{DeniedExactly, DeniesByName, IssuesExactly, is_stop}
 use Rattle.capcore.specs.History.{Told, told, Replays, rows_of}
@@ -13,40 +15,48 @@ use Rattle.capcore.proofs.Growing.{more-told, replays-more}
 use Rattle.capcore.proofs.step.Core.apply.Goals as goal
 use Rattle.capcore.proofs.step.Core.apply.Goals.{In_ok-push}
 
--- the step, with what is answered and with what the row keeps of it
-step_of : (c : In_ok-push) → Step c.self.inside.world c.args.event c.in_ok-reply.field-0.reply [] c.step.new.self
-step_of c = c.in_ok-reply.ensures.step
+-- what the step says and leaves
+answered_of : (c : In_ok-push) → IsAnswered c.self.inside.world c.args.event c.in_ok-reply.field-0 c.step.new.self
+answered_of c = c.in_ok-reply.ensures.answered
 
-kept_step : (c : In_ok-push) → Step c.self.inside.world c.args.event c.in_ok-reply.field-0.kept c.new.result c.step.new.self
-kept_step c = rw (c.in_ok-reply.ensures.kept, c.new.ensures) c.in_ok-reply.ensures.step
+-- the step, with what is answered and with what the row keeps of it
+step_of : (c : In_ok-push) → Step c.self.inside.world c.args.event c.in_ok-reply.field-0.reply c.in_ok-reply.field-0.ended c.step.new.self
+step_of c = let all = answered_of c in all.step
+
+kept_step : (c : In_ok-push) → Step c.self.inside.world c.args.event c.in_ok-reply.field-0.kept c.in_ok-reply.field-0.ended c.step.new.self
+kept_step c =
+    let all = answered_of c in
+    subst (λ (answer : Reply). Step c.self.inside.world c.args.event answer c.in_ok-reply.field-0.ended c.step.new.self) (sym all.kept) all.step
+
+-- the world is sound after the step
+next : (c : In_ok-push) → IsSound c.step.new.self
+next c = let all = answered_of c in all.sound
 
 pub invariant_of-self-2 : goal.invariant_of-self-2
 invariant_of-self-2 c =
-    let row : Row = record { pass = c.args.pass; nth = c.next_number-nth.result; event = c.args.event; reply = c.in_ok-reply.field-0.kept; ended = c.new.result } in
+    let row : Row = record { pass = c.args.pass; nth = c.next_number-nth.result; event = c.args.event; reply = c.in_ok-reply.field-0.kept; ended = c.in_ok-reply.field-0.ended } in
     let step : Step c.self.inside.world row.event row.reply row.ended c.step.new.self = kept_step c in
     let nth : row.nth ≡ rows_of row.pass c.self.inside.rows.items + 1 = c.next_number-nth.ensures ∙ ap (λ rows. rows_of c.args.pass rows + 1) (c.deref.ensures.value ∙ c.reserve.ensures.items) in
     let less : length c.self.inside.rows.items < c.self.inside.max_rows = omega (arith, c.len.ensures, c.if-len-self.false) in
+    let all = answered_of c in
     rw (c.in_ok-push.ensures.items, c.reserve.ensures.items)
     (more-told (told c.self.inside.world c.self.inside.rows.items c.self.inside.max_rows) row c.step.new.self c.self.invariant step nth less
-    c.in_ok-reply.ensures.sound (c.in_ok-reply.ensures.given (length c.self.inside.rows.items) c.self.invariant.given))
+    all.sound (all.given (length c.self.inside.rows.items) c.self.invariant.given))
 
 pub returns-clause-denied : goal.returns-clause-denied
 returns-clause-denied c =
     subst (λ (t : Told). DeniedExactly t.state.scene c.args.event c.in_ok-reply.field-0.reply) c.self.view_is
-    (denied-exactly c.self.inside.world c.args.event c.in_ok-reply.field-0.reply [] c.step.new.self (step_of c))
+    (denied-exactly c.self.inside.world c.args.event c.in_ok-reply.field-0.reply c.in_ok-reply.field-0.ended c.step.new.self (step_of c) c.self.invariant.sound c.in_ok-reply.ensures.locks)
 
 pub returns-clause-named : goal.returns-clause-named
 returns-clause-named c =
     subst (λ (t : Told). DeniesByName t.state.scene c.args.event c.in_ok-reply.field-0.reply) c.self.view_is
-    (denies-by_name c.self.inside.world c.args.event c.in_ok-reply.field-0.reply [] c.step.new.self (step_of c))
+    (denies-by_name c.self.inside.world c.args.event c.in_ok-reply.field-0.reply c.in_ok-reply.field-0.ended c.step.new.self (step_of c) c.self.invariant.sound c.in_ok-reply.ensures.locks)
 
 pub returns-clause-issued : goal.returns-clause-issued
 returns-clause-issued c =
-    subst (λ (t : Told). IssuesExactly (direct t.state c.args.event).state.scene c.step.new.self.scene) c.self.view_is c.in_ok-reply.ensures.issued
-
--- the world is sound after the step
-next : (c : In_ok-push) → IsSound c.step.new.self
-next c = c.in_ok-reply.ensures.sound
+    let all = answered_of c in
+    subst (λ (t : Told). IssuesExactly (direct t.state c.args.event).state.scene c.step.new.self.scene) c.self.view_is all.issued
 
 pub returns-clause-in_place : goal.returns-clause-in_place
 returns-clause-in_place c = let sound = next c in sound.in_place
@@ -62,7 +72,7 @@ returns-clause-at_rest c = let sound = next c in sound.at_rest
 
 pub returns-clause-legal : goal.returns-clause-legal
 returns-clause-legal c =
-    let row : Row = record { pass = c.args.pass; nth = c.next_number-nth.result; event = c.args.event; reply = c.in_ok-reply.field-0.kept; ended = c.new.result } in
+    let row : Row = record { pass = c.args.pass; nth = c.next_number-nth.result; event = c.args.event; reply = c.in_ok-reply.field-0.kept; ended = c.in_ok-reply.field-0.ended } in
     let step : Step c.self.inside.world row.event row.reply row.ended c.step.new.self = kept_step c in
     subst (λ (t : Told). (first : State) → Replays first t.rows t.state → Replays first c.push.new.self.items c.step.new.self) c.self.view_is
     (λ first past. rw (c.in_ok-push.ensures.items, c.reserve.ensures.items) (replays-more first c.self.inside.rows.items c.self.inside.world row c.step.new.self past step))
@@ -70,4 +80,4 @@ returns-clause-legal c =
 pub returns-clause-unchanged : goal.returns-clause-unchanged
 returns-clause-unchanged c =
     subst (λ (t : Told). IsTrue (is_stop c.in_ok-reply.field-0.reply) → c.step.new.self ≡ t.state) c.self.view_is
-    (stopped-unchanged c.self.inside.world c.args.event c.in_ok-reply.field-0.reply [] c.step.new.self (step_of c) c.self.invariant.sound c.in_ok-reply.ensures.table)
+    (stopped-unchanged c.self.inside.world c.args.event c.in_ok-reply.field-0.reply c.in_ok-reply.field-0.ended c.step.new.self (step_of c) c.self.invariant.sound c.in_ok-reply.ensures.locks c.in_ok-reply.ensures.table)

@@ -1,106 +1,82 @@
-use Rattle.std.proofs.Common.{◌≡◌, ℕ, ◌+◌, List, [], refl, ap, subst, sym, ◌∙◌}
+use Rattle.std.proofs.Common.{◌≡◌, ◌≤◌, [], List, length, filter, Some, refl, sym, ap, subst, ◌∙◌, arith}
+use Rattle.std.proofs.lemmas.List.Sums.{length-filter, count_by-le-length}
+use Rattle.capbits.specs.Refusal.{first_failing}
+use Rattle.sessiontab.specs.Tests.{session_tests}
+use Rattle.captable.specs.Table.{IsTable}
+use Rattle.captable.specs.Calls.{is_of_client}
+use Rattle.captable.specs.Many.{changed_where}
 use Rattle.capcore.specs.declared.event.Event.TheVariants as event
+use Rattle.capcore.specs.declared.outcome.Ended.{Ended}
 use Rattle.capcore.specs.declared.outcome.Message.{Message}
-use Rattle.capcore.specs.declared.reply.Reply.{Reply}
 use Rattle.capcore.specs.declared.reply.Reply.TheVariants as reply
+use Rattle.capcore.specs.declared.reply.Said.{Said}
+use Rattle.capcore.specs.declared.stopped.Stopped.TheVariants.{ByTest}
 use Rattle.capcore.specs.State.{State}
-use Rattle.capcore.specs.Direct.{direct}
-use Rattle.capcore.specs.Headline.{IssuesExactly}
-use Rattle.capcore.specs.Messages.{first_messages, with_given}
-use Rattle.capcore.specs.Sound.{IsSound, AreGiven}
-use Rattle.capcore.specs.Step.{Step}
-use Rattle.capcore.proofs.Polled.{refused-step, refused-issued, polled-sound, polled-given, polled-issued, polled-step, polled-new}
+use Rattle.capcore.specs.Answered.{IsAnswered}
+use Rattle.capcore.specs.Messages.{first_messages, with_given, after_messages, is_left}
+use Rattle.capcore.specs.Sound.{IsSound}
+use Rattle.capcore.proofs.Again.{stopped-before}
+use Rattle.capcore.proofs.Polled.{poll-answered, polled-new}
+use Rattle.capcore.proofs.Stops.{stopped-answered}
 use Rattle.capcore.proofs.world.World.poll.Goals as goal
-use Rattle.capcore.proofs.world.World.poll.Goals.{After-refusal, After-give}
+use Rattle.capcore.proofs.world.World.poll.Goals.{After-new}
 
 -- ---- no open session
 
-pub returns-in-Some-clause-step : goal.returns-in-Some-clause-step
-returns-in-Some-clause-step c =
-    let old : State = record {
-      scene = record { fs = c.self.inside.fs; tree = c.self.inside.tree; sessions = c.self.inside.sessions; table = c.self.inside.table; locks = c.self.inside.locks };
-      messages = c.self.inside.messages.items;
-    } in
-    let e = event.Poll c.args.client c.args.max in
-    subst (λ (s : State). Step s e c.refusal.result.reply [] s) c.self.view_is
-    (subst (λ (r : Reply). Step old e r [] old) (sym c.refusal.ensures.reply)
-    (refused-step old c.self.invariant.0 c.oldest-oldest.ensures.sound c.args.client c.args.max c.in-Some.refusal (sym c.session_refusal.ensures ∙ c.in-Some.is)))
-
-pub returns-in-Some-clause-issued : goal.returns-in-Some-clause-issued
-returns-in-Some-clause-issued c =
-    let old : State = record {
-      scene = record { fs = c.self.inside.fs; tree = c.self.inside.tree; sessions = c.self.inside.sessions; table = c.self.inside.table; locks = c.self.inside.locks };
-      messages = c.self.inside.messages.items;
-    } in
-    subst (λ (s : State). IssuesExactly (direct s (event.Poll c.args.client c.args.max)).state.scene s.scene) c.self.view_is
-    (refused-issued old c.self.invariant.0 c.oldest-oldest.ensures.sound c.args.client c.args.max)
-
-pub returns-in-Some-clause-sound : goal.returns-in-Some-clause-sound
-returns-in-Some-clause-sound c = subst IsSound c.self.view_is c.self.invariant.0
+pub returns-in-Some-clause-answered : goal.returns-in-Some-clause-answered
+returns-in-Some-clause-answered c =
+    let s = c.args.self.now in
+    let known : IsSound s × IsTable s.scene.table = subst (λ (w : State). IsSound w × IsTable w.scene.table) c.self.view_is (c.self.invariant.0, c.oldest-oldest.ensures.sound) in
+    let failed : first_failing (session_tests s.scene.sessions c.args.client.0) ≡ Some c.in-Some.refusal =
+    ap (λ (w : State). first_failing (session_tests w.scene.sessions c.args.client.0)) (sym c.self.view_is) ∙ sym c.session_refusal.ensures ∙ c.in-Some.is in
+    stopped-answered s (event.Poll c.args.client c.args.max) (ByTest c.in-Some.refusal) c.alone.result known.0 known.1
+    (stopped-before s.scene (session_tests s.scene.sessions c.args.client.0) [] [] c.in-Some.refusal failed)
+    c.alone.ensures.reply (c.alone.ensures.kept ∙ sym c.alone.ensures.reply) c.alone.ensures.ended
 
 -- ---- an open session
 
--- the state before the event
-before : After-give → State
-before c = record {
-  scene = record { fs = c.self.inside.fs; tree = c.self.inside.tree; sessions = c.self.inside.sessions; table = c.self.inside.table; locks = c.self.inside.locks };
-  messages = c.self.inside.messages.items;
-}
+module _ (c : After-new) where
+  -- the state before the event
+  abbrev old : State
+  old = record { scene = record { fs = c.self.inside.fs; tree = c.self.inside.tree; sessions = c.self.inside.sessions; table = c.self.inside.table; locks = c.self.inside.locks }; messages = c.self.inside.messages.items }
 
--- and behind it
-behind : After-give → State
-behind c = record {
-  scene = record { fs = c.self.inside.fs; tree = c.self.inside.tree; sessions = c.self.inside.sessions; table = c.give.new.table; locks = c.self.inside.locks };
-  messages = c.self.inside.messages.items;
-}
+  -- and behind it
+  abbrev new : State
+  new = record { scene = record old.scene { table = c.give.new.table }; messages = c.remove_given.new.self.items }
 
-first : (c : After-give) → c.in_ok-given.given ≡ first_messages (before c) c.args.client c.args.max
-unfolding before
-first c = c.in_ok-given.ensures (before c) refl refl c.self.invariant.3
+  abbrev said : Said
+  said = record { reply = reply.Messages c.in_ok-given.given; kept = reply.Messages c.in_ok-kept.kept; ended = c.new.result }
 
-left : (c : After-give) → with_given (before c) c.args.client (first_messages (before c) c.args.client c.args.max) ≡ behind c
-unfolding before behind first
-left c =
-    polled-new (before c) c.self.invariant.0 c.oldest-oldest.ensures.sound c.args.client c.args.max c.as_slice.result.now c.give.new.table c.self.invariant.3
-    (c.as_slice.ensures ∙ first c) c.give.ensures
+  first : c.in_ok-given.given ≡ first_messages old c.args.client c.args.max
+  first = c.in_ok-given.ensures old refl refl (sym c.as_slice-ended.ensures)
 
-sound : (c : After-give) → IsSound (behind c)
-unfolding before
-sound c = subst IsSound (left c) (polled-sound (before c) c.self.invariant.0 c.oldest-oldest.ensures.sound c.args.client c.args.max)
+  same : c.in_ok-kept.kept ≡ c.in_ok-given.given
+  same = c.in_ok-kept.ensures old refl refl (sym c.as_slice-ended.ensures) ∙ sym first
+
+  kept_items : c.remove_given.new.self.items ≡ filter (is_left c.args.client c.in_ok-given.given) old.messages
+  kept_items = c.remove_given.ensures.items ∙ ap (λ (given : List Message). filter (is_left c.args.client given) old.messages) c.as_slice-2.ensures
+
+  told : c.give.new.table ≡ changed_where (is_of_client c.args.client) (after_messages c.in_ok-given.given) old.scene.table
+  told = c.give.ensures ∙ ap (λ (given : List Message). changed_where (is_of_client c.args.client) (after_messages given) old.scene.table) c.as_slice.ensures
+
+  left : with_given old c.args.client (first_messages old c.args.client c.args.max) ≡ new
+  left = polled-new old c.self.invariant.0 c.oldest-oldest.ensures.sound c.args.client c.args.max c.in_ok-given.given c.give.new.table c.remove_given.new.self.items first told kept_items
+
+  whole : IsAnswered old (event.Poll c.args.client c.args.max) said new
+  whole =
+      subst (IsAnswered old (event.Poll c.args.client c.args.max) said) left
+      (poll-answered old c.self.invariant.0 c.oldest-oldest.ensures.sound c.args.client c.args.max said (sym c.session_refusal.ensures ∙ c.in_default.is)
+      (ap reply.Messages first) (ap reply.Messages same) c.new.ensures)
 
 pub invariant_of-self : goal.invariant_of-self
-unfolding behind
-invariant_of-self c = (sound c, c.self.invariant.1, c.self.invariant.2, c.self.invariant.3)
+invariant_of-self c =
+    let w = whole c in
+    let items = c.self.inside.messages.items in
+    let few : length c.remove_given.new.self.items ≤ length items =
+    subst (λ (n : List Ended). length n ≤ length items) (sym (kept_items c))
+    (omega (arith, length-filter (is_left c.args.client c.in_ok-given.given) items, count_by-le-length (is_left c.args.client c.in_ok-given.given) items)) in
+    (w.sound, omega (arith, few, c.remove_given.ensures.room, c.self.invariant.1), c.self.invariant.2)
 
-pub returns-clause-sound : goal.returns-clause-sound
-unfolding behind
-returns-clause-sound c = sound c
-
-pub returns-clause-step : goal.returns-clause-step
-unfolding before behind
-returns-clause-step c =
-    let e = event.Poll c.args.client c.args.max in
-    subst (λ (s : State). Step s e (reply.Messages c.in_ok-given.given) [] (behind c)) c.self.view_is
-    (subst (λ (s : State). Step (before c) e (reply.Messages c.in_ok-given.given) [] s) (left c)
-    (subst (λ (given : List Message). Step (before c) e (reply.Messages given) [] (with_given (before c) c.args.client (first_messages (before c) c.args.client c.args.max))) (sym (first c))
-    (polled-step (before c) c.self.invariant.0 c.oldest-oldest.ensures.sound c.args.client c.args.max (sym c.session_refusal.ensures ∙ c.in_default.is))))
-
-pub returns-clause-kept : goal.returns-clause-kept
-unfolding before
-returns-clause-kept c =
-    let kept : c.in_ok-kept.kept ≡ first_messages (before c) c.args.client c.args.max = c.in_ok-kept.ensures (before c) refl refl c.self.invariant.3 in
-    ap (λ (given : List Message). reply.Messages given) (kept ∙ sym (first c))
-
-pub returns-clause-issued : goal.returns-clause-issued
-unfolding before behind
-returns-clause-issued c =
-    subst (λ (s : State). IssuesExactly (direct s (event.Poll c.args.client c.args.max)).state.scene (behind c).scene) c.self.view_is
-    (subst (λ (s : State). IssuesExactly (direct (before c) (event.Poll c.args.client c.args.max)).state.scene s.scene) (left c)
-    (polled-issued (before c) c.self.invariant.0 c.oldest-oldest.ensures.sound c.args.client c.args.max))
-
-pub returns-clause-given : goal.returns-clause-given
-unfolding before behind
-returns-clause-given c =
-    subst (λ (s : State). (count : ℕ) → AreGiven count s → AreGiven (count + 1) (behind c)) c.self.view_is
-    (subst (λ (s : State). (count : ℕ) → AreGiven count (before c) → AreGiven (count + 1) s) (left c)
-    (polled-given (before c) c.self.invariant.0 c.oldest-oldest.ensures.sound c.args.client c.args.max))
+pub returns-clause-answered : goal.returns-clause-answered
+returns-clause-answered c =
+    subst (λ (s : State). IsAnswered s (event.Poll c.args.client c.args.max) (said c) (new c)) c.self.view_is (whole c)

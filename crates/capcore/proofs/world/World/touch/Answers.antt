@@ -1,127 +1,142 @@
-use Rattle.std.proofs.Common.{◌≡◌, ℕ, ◌+◌, [], length, None, Some, refl, sym, ap, subst, ◌∙◌, arith}
+use Rattle.std.proofs.Common.{◌≡◌, ◌+◌, ◌++◌, List, length, [], None, refl, sym, ap, subst, ◌∙◌, arith}
+use Rattle.std.specs.FinMap as map
+use Rattle.std.proofs.lemmas.List.{length-append}
+use Rattle.capbits.specs.Refusal.{first_failing}
+use Rattle.captable.specs.declared.entry.Holder.{Holder}
 use Rattle.captable.specs.Table.{IsTable, holder}
 use Rattle.lockmachine.specs.Scene.{Scene}
+use Rattle.capcore.specs.declared.event.Event.{Event}
+use Rattle.capcore.specs.declared.outcome.Ended.{Ended}
 use Rattle.capcore.specs.State.{State}
-use Rattle.capcore.specs.Direct.{direct, with_scene, with_table, has_list}
-use Rattle.capcore.specs.Headline.{IssuesExactly}
-use Rattle.capcore.specs.Judge.{judged, revoked_of, stop_reply}
-use Rattle.capcore.specs.Sound.{IsSound, AreGiven, NumbersLeft}
-use Rattle.capcore.specs.Step.{Step}
-use Rattle.capcore.specs.Touch.{touch_event, touched_table}
-use Rattle.capcore.specs.Touching.{finished_at}
-use Rattle.capcore.proofs.Judging.{direct-stopped}
-use Rattle.capcore.proofs.Promised.{issues-exactly}
-use Rattle.capcore.proofs.Stopping.{stopped-step}
-use Rattle.capcore.proofs.TouchWhole.{passed-of, table-of, no_list-touch, touched-quiet, touched-numbers, touched-clients, whole-queue, whole-sound, whole-given, whole-issued, whole-step}
+use Rattle.capcore.specs.Answered.{IsAnswered}
+use Rattle.capcore.specs.Direct.{Answer, direct, reply_of, shown, has_list}
+use Rattle.capcore.specs.Judge.{judged}
+use Rattle.capcore.specs.Serves.{EndsWith}
+use Rattle.capcore.specs.Sound.{IsSound, NumbersLeft}
+use Rattle.capcore.specs.Step.{earlier}
+use Rattle.capcore.specs.Touch.{touch_event, touch_tests, touch_answer}
+use Rattle.capcore.proofs.Closing.{first-quiet, first-numbers, first-clients, told-all, closed}
+use Rattle.capcore.proofs.Stops.{stopped-answered}
+use Rattle.capcore.proofs.TouchWhole.{passed-of, table-of, first-is, touch-answered, touched-by, touch-reply, no_list-touch}
+use Rattle.capcore.proofs.Touched.{touched-tests}
 use Rattle.capcore.proofs.world.World.touch.Goals as goal
+use Rattle.capcore.proofs.world.World.touch.Goals.{In_default-touch_entry, After-close}
 
 -- ---- an event that is stopped
 
-stopped : (c : goal.After-into) → judged c.args.self.now.scene (touch_event c.args.client c.args.ino c.args.touch) ≡ Some c.in-Some.stopped
-stopped c = sym c.touch_stop.ensures ∙ c.in-Some.is
+pub returns-in-Some-clause-answered : goal.returns-in-Some-clause-answered
+returns-in-Some-clause-answered c =
+    let s = c.args.self.now in
+    let known : IsSound s × IsTable s.scene.table = subst (λ (w : State). IsSound w × IsTable w.scene.table) c.self.view_is (c.self.invariant.0, c.oldest-oldest.ensures.sound) in
+    stopped-answered s (touch_event c.args.client c.args.ino c.args.touch) c.in-Some.stopped c.alone.result known.0 known.1
+    (sym c.touch_stop.ensures ∙ c.in-Some.is)
+    (c.alone.ensures.reply ∙ c.into.ensures) (c.alone.ensures.kept ∙ sym c.alone.ensures.reply) c.alone.ensures.ended
 
-pub returns-in-Some-clause-step : goal.returns-in-Some-clause-step
-returns-in-Some-clause-step c =
-    rw c.into.ensures
-    (stopped-step c.args.self.now (touch_event c.args.client c.args.ino c.args.touch) c.in-Some.stopped (subst IsSound c.self.view_is c.self.invariant.0)
-    (subst (λ (s : State). IsTable s.scene.table) c.self.view_is c.oldest-oldest.ensures.sound) (stopped c))
+pub touch_entry-requires-clause-passed : goal.touch_entry-requires-clause-passed
+touch_entry-requires-clause-passed c =
+    let old : State = record { scene = record { fs = c.self.inside.fs; tree = c.self.inside.tree; sessions = c.self.inside.sessions; table = c.self.inside.table; locks = c.self.inside.locks }; messages = c.self.inside.messages.items } in
+    let k : Holder = holder c.args.client c.args.ino in
+    subst (λ revoked. first_failing (touch_tests c.self.inside.table k revoked c.args.touch) ≡ None) (sym (c.revoked_of-revoked.ensures old.scene refl refl))
+    (touched-tests old.scene c.args.client c.args.ino c.args.touch (passed-of old c.args.self.now c.args.client c.args.ino c.args.touch c.touch_stop.result c.self.view_is c.touch_stop.ensures c.in_default.is))
 
-pub returns-in-Some-clause-issued : goal.returns-in-Some-clause-issued
-returns-in-Some-clause-issued c =
-    issues-exactly c.args.self.now (touch_event c.args.client c.args.ino c.args.touch) (stop_reply c.in-Some.stopped) c.args.self.now
-    (direct-stopped c.args.self.now (touch_event c.args.client c.args.ino c.args.touch) c.in-Some.stopped (stopped c)) (subst IsSound c.self.view_is c.self.invariant.0)
+-- ---- the event by itself
 
--- ---- what the next calls ask
+module _ (c : In_default-touch_entry) where
+  abbrev old : State
+  old = record { scene = record { fs = c.self.inside.fs; tree = c.self.inside.tree; sessions = c.self.inside.sessions; table = c.self.inside.table; locks = c.self.inside.locks }; messages = c.self.inside.messages.items }
 
-pub settle_at-requires-clause-quiet : goal.settle_at-requires-clause-quiet
-settle_at-requires-clause-quiet c =
-    let s : State = record { scene = record { fs = c.self.inside.fs; tree = c.self.inside.tree; sessions = c.self.inside.sessions; table = c.self.inside.table; locks = c.self.inside.locks }; messages = c.self.inside.messages.items } in
-    touched-quiet s c.args.client c.args.ino c.args.touch (passed-of s c.args.self.now c.args.client c.args.ino c.args.touch c.touch_stop.result c.self.view_is c.touch_stop.ensures c.in_default.is)
-    c.self.invariant.0 c.oldest-oldest.ensures.sound c.touch_entry.new.table
-    (table-of s.scene (holder c.args.client c.args.ino) c.args.touch c.touch_entry.new.table c.revoked_of-revoked.result c.in_ok-touch_entry.ensures.ok (c.revoked_of-revoked.ensures s.scene refl refl))
+  abbrev e : Event
+  e = touch_event c.args.client c.args.ino c.args.touch
 
-pub finish_at-requires-clause-numbers : goal.finish_at-requires-clause-numbers
-finish_at-requires-clause-numbers c =
-    let s : State = record { scene = record { fs = c.self.inside.fs; tree = c.self.inside.tree; sessions = c.self.inside.sessions; table = c.self.inside.table; locks = c.self.inside.locks }; messages = c.self.inside.messages.items } in
-    touched-numbers s c.args.client c.args.ino c.args.touch (passed-of s c.args.self.now c.args.client c.args.ino c.args.touch c.touch_stop.result c.self.view_is c.touch_stop.ensures c.in_default.is)
-    c.self.invariant.0 c.oldest-oldest.ensures.sound c.touch_entry.new.table
-    (table-of s.scene (holder c.args.client c.args.ino) c.args.touch c.touch_entry.new.table c.revoked_of-revoked.result c.in_ok-touch_entry.ensures.ok (c.revoked_of-revoked.ensures s.scene refl refl))
+  abbrev k : Holder
+  k = holder c.args.client c.args.ino
+
+  abbrev first : Scene
+  first = record old.scene { table = c.touch_entry.new.table }
+
+  passed : judged old.scene e ≡ None
+  passed = passed-of old c.args.self.now c.args.client c.args.ino c.args.touch c.touch_stop.result c.self.view_is c.touch_stop.ensures c.in_default.is
+
+  is : first ≡ (direct old e).state.scene
+  is =
+      first-is old c.args.client c.args.ino c.args.touch passed c.self.invariant.0 c.oldest-oldest.ensures.sound c.touch_entry.new.table
+      (table-of old.scene k c.args.touch c.touch_entry.new.table c.revoked_of-revoked.result c.in_default-touch_entry.ensures.ok (c.revoked_of-revoked.ensures old.scene refl refl))
+
+pub end_at-requires-clause-quiet : goal.end_at-requires-clause-quiet
+end_at-requires-clause-quiet g =
+    let c = (goal.at.end_at-requires-clause-quiet g).In_default-touch_entry in
+    first-quiet (old c) (e c) (k c) (touched-by c.args.client c.args.ino c.args.touch) (passed c) c.self.invariant.0 c.oldest-oldest.ensures.sound (first c) (is c)
+
+pub end_at-requires-clause-numbers : goal.end_at-requires-clause-numbers
+end_at-requires-clause-numbers g =
+    let c = (goal.at.end_at-requires-clause-numbers g).In_default-touch_entry in
+    first-numbers (old c) (e c) (k c) (touched-by c.args.client c.args.ino c.args.touch) (passed c) c.self.invariant.0 c.oldest-oldest.ensures.sound (first c) (is c)
     (subst NumbersLeft (sym c.self.view_is) c.requires.numbers)
 
-pub finish_at-requires-clause-clients : goal.finish_at-requires-clause-clients
-finish_at-requires-clause-clients c =
-    let s : State = record { scene = record { fs = c.self.inside.fs; tree = c.self.inside.tree; sessions = c.self.inside.sessions; table = c.self.inside.table; locks = c.self.inside.locks }; messages = c.self.inside.messages.items } in
-    touched-clients s c.args.client c.args.ino c.args.touch (passed-of s c.args.self.now c.args.client c.args.ino c.args.touch c.touch_stop.result c.self.view_is c.touch_stop.ensures c.in_default.is)
-    c.self.invariant.0 c.oldest-oldest.ensures.sound c.touch_entry.new.table
-    (table-of s.scene (holder c.args.client c.args.ino) c.args.touch c.touch_entry.new.table c.revoked_of-revoked.result c.in_ok-touch_entry.ensures.ok (c.revoked_of-revoked.ensures s.scene refl refl))
+pub end_at-requires-clause-clients : goal.end_at-requires-clause-clients
+end_at-requires-clause-clients g =
+    let c = (goal.at.end_at-requires-clause-clients g).In_default-touch_entry in
+    first-clients (old c) (e c) (k c) (touched-by c.args.client c.args.ino c.args.touch) (passed c) c.self.invariant.0 c.oldest-oldest.ensures.sound (first c) (is c)
 
 -- ---- the end of the step
 
-module _ (c : goal.After-tell) where
-  abbrev s : State
-  s = record { scene = record { fs = c.self.inside.fs; tree = c.self.inside.tree; sessions = c.self.inside.sessions; table = c.self.inside.table; locks = c.self.inside.locks }; messages = c.self.inside.messages.items }
+pub close-requires-clause-list : goal.close-requires-clause-list
+close-requires-clause-list c =
+    let st : State = record {
+      scene = record { fs = c.self.inside.fs; tree = c.end_at.new.tree; sessions = c.self.inside.sessions; table = c.end_at.new.table; locks = c.end_at.new.locks };
+      messages = [];
+    } in
+    ap has_list (c.tell-reply.ensures.reply st refl refl) ∙ no_list-touch st (holder c.args.client c.args.ino) c.args.touch
 
-  -- what was left when the step had ended at the inode
-  abbrev ended : State
-  ended = record {
-    scene = record { fs = c.self.inside.fs; tree = c.finish_at.new.tree; sessions = c.self.inside.sessions; table = c.finish_at.new.table; locks = c.finish_at.new.locks };
-    messages = c.self.inside.messages.items;
-  }
+module _ (c : After-close) where
+  abbrev before : In_default-touch_entry
+  before = (goal.at.invariant_of-self-2 c).In_default-touch_entry
 
-  passed : judged s.scene (touch_event c.args.client c.args.ino c.args.touch) ≡ None
-  passed = passed-of s c.args.self.now c.args.client c.args.ino c.args.touch c.touch_stop.result c.self.view_is c.touch_stop.ensures c.in_default.is
+  abbrev last : Scene
+  last = record { fs = c.self.inside.fs; tree = c.end_at.new.tree; sessions = c.self.inside.sessions; table = c.end_at.new.table; locks = c.end_at.new.locks }
 
-  new_is : c.touch_entry.new.table ≡ touched_table s.scene.table (holder c.args.client c.args.ino) (revoked_of s.scene (holder c.args.client c.args.ino)) c.args.touch
-  new_is = table-of s.scene (holder c.args.client c.args.ino) c.args.touch c.touch_entry.new.table c.revoked_of-revoked.result c.in_ok-touch_entry.ensures.ok (c.revoked_of-revoked.ensures s.scene refl refl)
+  abbrev told : List Ended
+  told = c.end_at.new.endings.told.items
 
-  abbrev settled : Scene
-  settled = record s.scene { table = c.touch_entry.new.table; locks = c.settle_at.new.self }
+  abbrev new : State
+  new = record { scene = record last { table = c.tell-reply.new.table }; messages = c.close.new.messages.items }
 
-  ended_is : ended ≡ with_scene s (finished_at c.args.ino.0 s.scene settled)
-  ended_is = ap (with_scene s) (c.finish_at.ensures s.scene (sym c.of_ino-before.ensures))
+  ends : EndsWith c.args.ino.0 (map.get c.self.inside.locks.states c.args.ino.0) (first before) last told
+  ends = subst (λ b. EndsWith c.args.ino.0 b (first before) last told) c.of_ino-before.ensures c.end_at.ensures.ends
 
--- what the client was told leaves the state sound, and nobody waits
-told-sound : (c : goal.After-tell) → IsSound (with_table (ended c) c.tell.new.table)
-told-sound c =
-    whole-sound (s c) c.args.client c.args.ino c.args.touch (passed c) c.self.invariant.0 c.oldest-oldest.ensures.sound c.touch_entry.new.table (new_is c) c.last-last.ensures.sound c.self.invariant.2 c.settle_at.new.self
-    c.settle_at.ensures.moves c.settle_at.ensures.settled c.settle_at.ensures.elsewhere
-    (ended c) (ended_is c) c.tell.ensures.table (with_table (ended c) c.tell.new.table) (c.tell.ensures.told (ended c) refl)
+  all : earlier c.self.inside.locks.last told ≡ told
+  all = let w = ends in told-all c.args.ino.0 (first before) w.settled told w.settles c.waiting.ensures.sound
+
+  -- the state when the step had ended at the inode
+  abbrev closed_as : State
+  closed_as = record { scene = last; messages = c.self.inside.messages.items ++ earlier c.self.inside.locks.last told }
+
+  answer : touch_answer (holder c.args.client c.args.ino) c.args.touch ≡ (direct (old before) (e before)).answer
+  answer =
+      sym
+      (touch-answered (old before) c.args.client c.args.ino c.args.touch (passed before) c.self.invariant.0 c.oldest-oldest.ensures.sound c.touch_entry.new.table
+      (table-of (old before).scene (k before) c.args.touch c.touch_entry.new.table c.revoked_of-revoked.result c.in_default-touch_entry.ensures.ok (c.revoked_of-revoked.ensures (old before).scene refl refl)))
+
+  new_is : new ≡ shown (direct (old before) (e before)).answer closed_as
+  new_is =
+      (λ i. record { scene = record last { table = c.tell-reply.new.table }; messages = (c.close.ensures.items ∙ ap (λ ms. c.self.inside.messages.items ++ ms) (sym all)) i })
+      ∙ c.tell-reply.ensures.told closed_as refl
+      ∙ ap (λ (a : Answer). shown a closed_as) answer
+
+  whole : IsAnswered (old before) (e before) c.close.result new
+  whole =
+      closed (old before) (e before) (k before) (touched-by c.args.client c.args.ino c.args.touch) (passed before) c.self.invariant.0 c.oldest-oldest.ensures.sound (first before) (is before)
+      last told ends c.end_at.ensures.table c.close.result new
+      (c.close.ensures.reply ∙ c.tell-reply.ensures.reply closed_as refl refl ∙ touch-reply closed_as told (k before) c.args.touch ∙ ap (reply_of closed_as told) answer)
+      (c.close.ensures.kept ∙ sym c.close.ensures.reply) (c.close.ensures.ended ∙ c.end_at.ensures.kept ∙ sym all) new_is
 
 pub invariant_of-self-2 : goal.invariant_of-self-2
 invariant_of-self-2 c =
-    let queue : c.finish_at.new.locks.queue ≡ [] =
-    ap (λ (s : State). s.scene.locks.queue) (ended_is c)
-    ∙ whole-queue (s c) c.args.client c.args.ino c.args.touch (passed c) c.self.invariant.0 c.oldest-oldest.ensures.sound c.touch_entry.new.table (new_is c) c.last-last.ensures.sound c.self.invariant.2 c.settle_at.new.self
-    c.settle_at.ensures.moves c.settle_at.ensures.settled c.settle_at.ensures.elsewhere in
-    let items = c.self.invariant.3 in
-    let none_waits : length c.finish_at.new.locks.queue ≡ 0 = ap length queue in
-    let none_ended : length c.self.inside.messages.items ≡ 0 = ap length items in
-    (told-sound c, omega (arith, none_waits, none_ended), queue, items)
+    let w = whole c in
+    let items : length c.close.new.messages.items ≡ length c.self.inside.messages.items + length c.end_at.new.endings.told.items =
+    ap length c.close.ensures.items ∙ length-append c.self.inside.messages.items c.end_at.new.endings.told.items in
+    (w.sound, omega (arith, items, c.close.ensures.room, c.end_at.ensures.count, c.self.invariant.1), c.end_at.ensures.stay)
 
-pub returns-clause-step : goal.returns-clause-step
-returns-clause-step c =
-    subst (λ (old : State). Step old (touch_event c.args.client c.args.ino c.args.touch) c.tell.result [] (with_table (ended c) c.tell.new.table)) c.self.view_is
-    (whole-step (s c) c.args.client c.args.ino c.args.touch (passed c) c.self.invariant.0 c.oldest-oldest.ensures.sound c.touch_entry.new.table (new_is c) c.last-last.ensures.sound c.self.invariant.2 c.settle_at.new.self
-    c.settle_at.ensures.moves c.settle_at.ensures.settled c.settle_at.ensures.elsewhere
-    (ended c) (ended_is c) c.tell.ensures.table (with_table (ended c) c.tell.new.table) (c.tell.ensures.told (ended c) refl) c.tell.result
-    (c.tell.ensures.reply (ended c) refl refl))
-
-pub returns-clause-sound : goal.returns-clause-sound
-returns-clause-sound c = told-sound c
-
-pub returns-clause-issued : goal.returns-clause-issued
-returns-clause-issued c =
-    subst (λ (old : State). IssuesExactly (direct old (touch_event c.args.client c.args.ino c.args.touch)).state.scene (with_table (ended c) c.tell.new.table).scene) c.self.view_is
-    (whole-issued (s c) c.args.client c.args.ino c.args.touch (passed c) c.self.invariant.0 c.oldest-oldest.ensures.sound c.touch_entry.new.table (new_is c) c.last-last.ensures.sound c.self.invariant.2 c.settle_at.new.self
-    c.settle_at.ensures.moves c.settle_at.ensures.settled c.settle_at.ensures.elsewhere
-    (ended c) (ended_is c) c.tell.ensures.table (with_table (ended c) c.tell.new.table) (c.tell.ensures.told (ended c) refl))
-
-pub returns-clause-given : goal.returns-clause-given
-returns-clause-given c =
-    subst (λ (old : State). (count : ℕ) → AreGiven count old → AreGiven (count + 1) (with_table (ended c) c.tell.new.table)) c.self.view_is
-    (whole-given (s c) c.args.client c.args.ino c.args.touch (passed c) c.self.invariant.0 c.oldest-oldest.ensures.sound c.touch_entry.new.table (new_is c) c.last-last.ensures.sound c.self.invariant.2 c.settle_at.new.self
-    c.settle_at.ensures.moves c.settle_at.ensures.settled c.settle_at.ensures.elsewhere
-    (ended c) (ended_is c) c.tell.ensures.table (with_table (ended c) c.tell.new.table) (c.tell.ensures.told (ended c) refl))
-
-pub returns-clause-list : goal.returns-clause-list
-returns-clause-list c = ap has_list (c.tell.ensures.reply (ended c) refl refl) ∙ no_list-touch (ended c) (holder c.args.client c.args.ino) c.args.touch
+pub returns-clause-answered : goal.returns-clause-answered
+returns-clause-answered c =
+    subst (λ (s : State). IsAnswered s (touch_event c.args.client c.args.ino c.args.touch) c.close.result (new c)) c.self.view_is (whole c)

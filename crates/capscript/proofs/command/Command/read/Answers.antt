@@ -19,3 +19,15 @@ returns-in-rmsnap c = rw (text_from_reads c.args.word.now (codes "rmsnap") (omeg
 
 pub returns-in-release : goal.returns-in-release
 returns-in-release c = rw (text_from_reads c.args.word.now (codes "release") (omega arith) (search rules)) refl
+
+pub returns-in-alter : goal.returns-in-alter
+returns-in-alter c = rw (text_from_reads c.args.word.now (codes "alter") (omega arith) (search rules)) refl
+
+pub returns-in-unlink : goal.returns-in-unlink
+returns-in-unlink c = rw (text_from_reads c.args.word.now (codes "unlink") (omega arith) (search rules)) refl
+
+pub returns-in-rmdir : goal.returns-in-rmdir
+returns-in-rmdir c = rw (text_from_reads c.args.word.now (codes "rmdir") (omega arith) (search rules)) refl
+
+pub returns-in-flush : goal.returns-in-flush
+returns-in-flush c = rw (text_from_reads c.args.word.now (codes "flush") (omega arith) (search rules)) refl

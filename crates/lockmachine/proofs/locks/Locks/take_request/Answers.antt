@@ -19,12 +19,12 @@ returns-in_err-place-clause-taken c =
 pub returns-clause-left : goal.returns-clause-left
 returns-clause-left c =
     let at = ap (λ (l : LockMap). position (is_numbered c.args.ticket.0) l.queue) c.self.view_is ∙ sym c.place_of.ensures ∙ c.in_ok-place.was in
-    let both = taken c.self.inside.queue.items c.args.ticket.0 c.in_ok-place.place c.remove.result c.self.invariant.rising at c.remove.ensures.value in
+    let both = taken c.self.inside.queue.items c.args.ticket.0 c.in_ok-place.place c.remove.result c.self.invariant.0.rising at c.remove.ensures.value in
     ap (λ (qs : List Request). record { states = c.self.inside.states; queue = qs; last = c.self.inside.last }) (c.remove.ensures.items ∙ both.1)
     ∙ ap (λ (l : LockMap). without_request l c.args.ticket.0) c.self.view_is
 
 pub returns-clause-taken : goal.returns-clause-taken
 returns-clause-taken c =
     let at = ap (λ (l : LockMap). position (is_numbered c.args.ticket.0) l.queue) c.self.view_is ∙ sym c.place_of.ensures ∙ c.in_ok-place.was in
-    let both = taken c.self.inside.queue.items c.args.ticket.0 c.in_ok-place.place c.remove.result c.self.invariant.rising at c.remove.ensures.value in
+    let both = taken c.self.inside.queue.items c.args.ticket.0 c.in_ok-place.place c.remove.result c.self.invariant.0.rising at c.remove.ensures.value in
     sym both.0 ∙ ap (λ (l : LockMap). request_at l c.args.ticket.0) c.self.view_is

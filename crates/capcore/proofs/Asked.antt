@@ -1,0 +1,164 @@
+-- An event that asks for something, by itself: its request comes to wait behind the others, and nothing else changes.
+use Rattle.std.proofs.Common.{◌≡◌, ℕ, ◌<◌, true, false, Option, Some, None, is_some, [], ◌∷◌, length, refl, sym, ap, subst, ◌∙◌, true≢false, arith}
+use Rattle.std.specs.Prelude.{IsTrue, All, nat_le}
+use Rattle.std.specs.Option.{option_map}
+use Rattle.std.specs.FinMap as map
+use Rattle.std.proofs.lemmas.Bool.{leb-false}
+use Rattle.std.proofs.lemmas.Option.{none-some}
+use Rattle.std.proofs.lemmas.List.Elements.{All-push, All-filter}
+use Rattle.capbits.specs.declared.cap.Part.{Part}
+use Rattle.capbits.specs.declared.refusal.Refusal.{Refusal}
+use Rattle.capbits.specs.declared.refusal.Refusal.TheVariants as refusal
+use Rattle.capbits.specs.Refusal.{first_failing}
+use Rattle.capbits.proofs.Tests.{passed-if, passed-both, pass-both}
+use Rattle.inotree.specs.Tests.{inode_tests, root_test}
+use Rattle.sessiontab.specs.Calls.{has_session}
+use Rattle.sessiontab.specs.Tests.{session_tests}
+use Rattle.captable.specs.declared.entry.Holder.{Holder}
+use Rattle.captable.specs.Table.{IsTable, holder}
+use Rattle.captable.specs.Calls.{is_of_inode}
+use Rattle.lockmachine.specs.declared.request.Ask.{Ask}
+use Rattle.lockmachine.specs.declared.request.Ask.TheVariants.{Get, Alter, Unlink, Rmdir, Rename}
+use Rattle.lockmachine.specs.declared.request.Request.{Request}
+use Rattle.lockmachine.specs.declared.states.InodeLocks.{InodeLocks}
+use Rattle.lockmachine.specs.Inodes.{lock_in}
+use Rattle.lockmachine.specs.Locks.{IsLockMap, queue_tests, next_request, with_request}
+use Rattle.lockmachine.specs.Scene.{Scene}
+use Rattle.lockmachine.proofs.Queue.{with_request-kept}
+use Rattle.lockmachine.proofs.SameBut.{same-request}
+use Rattle.capcore.specs.declared.event.Event.{Event}
+use Rattle.capcore.specs.declared.event.Event.TheVariants as event
+use Rattle.capcore.specs.State.{State}
+use Rattle.capcore.specs.Asks.{ask_before, ask_needs, ask_after}
+use Rattle.capcore.specs.Judge.{judged, asked_tests, asking_tests, waiting_tests, stop, stop_by, first_denied}
+use Rattle.capcore.specs.Needs.{Need}
+use Rattle.capcore.specs.Direct.{direct, effect, effect_unless, asks}
+use Rattle.capcore.specs.Served.{is_rename}
+use Rattle.capcore.specs.Serving.{judged_again}
+use Rattle.capcore.specs.Sound.{IsSound, AreGiven}
+use Rattle.capcore.specs.Touching.{asks_for, IsTouchedEntry, Touches}
+use Rattle.capcore.proofs.Touched.{all-left, asked-session, asked-there, AreBelow}
+
+-- ---- which events ask, and what
+
+-- the event asks for this, and for nothing that moves an inode
+pub record IsAsking (k : Holder) (ask : Ask) (e : Event) : Type 0 where
+  pub effect_is : (s : State) → effect s e ≡ asks s k.client k.ino ask
+  pub judged_is : (s : Scene) → judged s e ≡ stop s (asking_tests s k.client k.ino.0 ask) (ask_needs s k.client k.ino.0 ask) (waiting_tests s k.ino.0 ask)
+  pub stays : is_rename ask ≡ false
+
+same_asking : (k other : Holder) (ask more : Ask) (e : Event) → ◌≡◌ {A = Option (Holder × Ask)} (Some (k, ask)) (Some (other, more)) → IsAsking k ask e → IsAsking other more e
+same_asking k other ask more e is asking =
+    let same : ◌≡◌ {A = Holder × Ask} (k, ask) (other, more) = cc in
+    subst (λ (p : Holder × Ask). IsAsking p.0 p.1 e) same asking
+
+pub asking : (e : Event) (k : Holder) (ask : Ask) → asks_for e ≡ Some (k, ask) → IsAsking k ask e
+asking (event.Session client caller grants) k ask is = absurd (none-some (k, ask) is)
+asking (event.Lookup client dir name) k ask is = absurd (none-some (k, ask) is)
+asking (event.Create client dir name mode) k ask is = absurd (none-some (k, ask) is)
+asking (event.Mkdir client dir name mode) k ask is = absurd (none-some (k, ask) is)
+asking (event.MakeSnapshot client ino name) k ask is = absurd (none-some (k, ask) is)
+asking (event.RemoveSnapshot client ino name) k ask is = absurd (none-some (k, ask) is)
+asking (event.Open client ino mode) k ask is = absurd (none-some (k, ask) is)
+asking (event.Want client ino caps) k ask is = absurd (none-some (k, ask) is)
+asking (event.Ack client ino seq) k ask is = absurd (none-some (k, ask) is)
+asking (event.Release client ino caps) k ask is = absurd (none-some (k, ask) is)
+asking (event.Get client ino part) k ask is =
+    same_asking (holder client ino) k (Get part) ask (event.Get client ino part) is (record { effect_is = λ s. refl; judged_is = λ s. refl; stays = refl })
+asking (event.Alter client ino change) k ask is =
+    same_asking (holder client ino) k (Alter change) ask (event.Alter client ino change) is (record { effect_is = λ s. refl; judged_is = λ s. refl; stays = refl })
+asking (event.Unlink client ino) k ask is =
+    same_asking (holder client ino) k Unlink ask (event.Unlink client ino) is (record { effect_is = λ s. refl; judged_is = λ s. refl; stays = refl })
+asking (event.Rmdir client ino) k ask is =
+    same_asking (holder client ino) k Rmdir ask (event.Rmdir client ino) is (record { effect_is = λ s. refl; judged_is = λ s. refl; stays = refl })
+asking (event.Flush client ino change) k ask is = absurd (none-some (k, ask) is)
+asking (event.Poll client max) k ask is = absurd (none-some (k, ask) is)
+
+-- what stops the event is what stops the request
+pub asking-stop : (e : Event) (k : Holder) (ask : Ask) (s : Scene) → asks_for e ≡ Some (k, ask)
+    → judged s e ≡ stop s (asking_tests s k.client k.ino.0 ask) (ask_needs s k.client k.ino.0 ask) (waiting_tests s k.ino.0 ask)
+asking-stop e k ask s is = let a = asking e k ask is in a.judged_is s
+
+-- and where nothing does, it comes to wait
+pub asking-direct : (old : State) (e : Event) (k : Holder) (ask : Ask) → asks_for e ≡ Some (k, ask) → judged old.scene e ≡ None → direct old e ≡ asks old k.client k.ino ask
+asking-direct old e k ask is free = let a = asking e k ask is in ap (effect_unless old e) free ∙ a.effect_is old
+
+-- ---- what a request that nothing stops has passed
+
+inode_passed : (s : Scene) (ino : ℕ) (ask : Ask) → first_failing (ask_before s ino ask) ≡ None → first_failing (inode_tests s.tree ino) ≡ None
+inode_passed s ino (Get part) passed = passed
+inode_passed s ino (Alter change) passed = passed
+inode_passed s ino Unlink passed = (passed-both (inode_tests s.tree ino) (root_test s.tree ino ∷ []) passed).0
+inode_passed s ino Rmdir passed = (passed-both (inode_tests s.tree ino) (root_test s.tree ino ∷ []) passed).0
+inode_passed s ino (Rename dir name) passed = (passed-both (inode_tests s.tree ino) (root_test s.tree ino ∷ inode_tests s.tree dir.0) passed).0
+
+-- where nothing stops a request, no test fails and nothing is denied
+all_passed : (s : Scene) (o : Option Refusal) (d : Option Need) (l : Option Refusal) → stop_by s o d l ≡ None → (o ≡ None) × (d ≡ None) × (l ≡ None)
+all_passed s (Some r) d l free = absurd (cc)
+all_passed s None (Some n) l free = absurd (cc)
+all_passed s None None (Some r) free = absurd (cc)
+all_passed s None None None free = (refl, refl, refl)
+
+module _ (s : Scene) (k : Holder) (ask : Ask) (free : stop s (asking_tests s k.client k.ino.0 ask) (ask_needs s k.client k.ino.0 ask) (waiting_tests s k.ino.0 ask) ≡ None) where
+  all_three : (first_failing (asking_tests s k.client k.ino.0 ask) ≡ None) × (first_denied s (ask_needs s k.client k.ino.0 ask) ≡ None) × (first_failing (waiting_tests s k.ino.0 ask) ≡ None)
+  all_three = all_passed s (first_failing (asking_tests s k.client k.ino.0 ask)) (first_denied s (ask_needs s k.client k.ino.0 ask)) (first_failing (waiting_tests s k.ino.0 ask)) free
+
+  before_passed : (first_failing (session_tests s.sessions k.client.0) ≡ None) × (first_failing (ask_before s k.ino.0 ask) ≡ None)
+  before_passed = passed-both (session_tests s.sessions k.client.0) (ask_before s k.ino.0 ask) all_three.0
+
+  after_passed : (first_failing (ask_after s k.ino.0 ask) ≡ None) × (first_failing (queue_tests s.locks) ≡ None)
+  after_passed = passed-both (ask_after s k.ino.0 ask) (queue_tests s.locks) all_three.2
+
+  both_passed : first_failing (asked_tests s k.client k.ino.0) ≡ None
+  both_passed = pass-both (session_tests s.sessions k.client.0) (inode_tests s.tree k.ino.0) before_passed.0 (inode_passed s k.ino.0 ask before_passed.1)
+
+  -- its client has a session, and the inode is there
+  pub asking-session : has_session s.sessions k.client.0 ≡ true
+  asking-session = asked-session s k.client k.ino both_passed
+
+  pub asking-there : map.contains_key s.tree.nodes k.ino.0 ≡ true
+  asking-there = asked-there s k.client k.ino both_passed
+
+  -- there is room for it
+  pub asking-room : length s.locks.queue < 1024
+  asking-room = let fits = (passed-if (nat_le 1024 (length s.locks.queue)) refusal.Limit None after_passed.1).0 in omega (arith, leb-false 1024 (length s.locks.queue) fits)
+
+  -- and nothing would stop it, were it served now
+  pub asking-again : judged_again s (next_request s.locks k.client k.ino ask) ≡ None
+  asking-again =
+      ap (λ o. stop_by s o (first_denied s (ask_needs s k.client k.ino.0 ask)) (first_failing (ask_after s k.ino.0 ask))) before_passed.1
+      ∙ (λ i. stop_by s None (all_three.1 i) (after_passed.0 i))
+
+-- ---- the event
+
+no_lock : (part : Part) (o : Option InodeLocks) → is_some o ≡ true → option_map (lock_in part) o ≡ None → ⊥
+no_lock part None there none = true≢false (sym there)
+no_lock part (Some locks) there none = none-some (lock_in part locks) (sym none)
+
+module _ (old : State) (k : Holder) (ask : Ask) (sound : IsSound old) (table : IsTable old.scene.table)
+    (free : stop old.scene (asking_tests old.scene k.client k.ino.0 ask) (ask_needs old.scene k.client k.ino.0 ask) (waiting_tests old.scene k.ino.0 ask) ≡ None) where
+  abbrev first : Scene
+  first = record old.scene { locks = with_request old.scene.locks k.client k.ino ask }
+
+  pub asking-touches : Touches k.ino.0 old first
+  asking-touches = record {
+    same = same-request old.scene k.client k.ino ask;
+    known = λ other. refl;
+    locked = sound.locked;
+    waiting =
+        All-push (λ (q : Request). IsTrue (has_session old.scene.sessions q.client.0)) old.scene.locks.queue (next_request old.scene.locks k.client k.ino ask) sound.waiting
+        (asking-session old.scene k ask free);
+    at_lock = λ part none. absurd (no_lock part (map.get old.scene.locks.states k.ino.0) (sound.locked k.ino.0 ∙ asking-there old.scene k ask free) none);
+    each = All-filter (is_of_inode (record { 0 = k.ino.0 })) (IsTouchedEntry first) old.scene.table.rows (all-left old first sound table refl refl (λ ino. refl));
+  }
+
+pub below-of_ask : (count : ℕ) (old : State) (k : Holder) (ask : Ask) → AreGiven count old → AreBelow count (asks old k.client k.ino ask).state
+below-of_ask count old k ask given = let made = given.made in let last = given.last in (given.entries, omega (arith, made), omega (arith, last))
+
+pub order-of_ask : (s : Scene) (k : Holder) (ask : Ask) → IsLockMap s.locks
+    → stop s (asking_tests s k.client k.ino.0 ask) (ask_needs s k.client k.ino.0 ask) (waiting_tests s k.ino.0 ask) ≡ None → IsLockMap (with_request s.locks k.client k.ino ask)
+order-of_ask s k ask order free = with_request-kept s.locks k.client k.ino ask order (asking-room s k ask free)
+
+pub stay-of_ask : (s : Scene) (k : Holder) (ask : Ask) → is_rename ask ≡ false → All (λ q. is_rename q.ask ≡ false) s.locks.queue
+    → All (λ q. is_rename q.ask ≡ false) (with_request s.locks k.client k.ino ask).queue
+stay-of_ask s k ask stays all = All-push (λ (q : Request). is_rename q.ask ≡ false) s.locks.queue (next_request s.locks k.client k.ino ask) all stays

@@ -1,0 +1,93 @@
+-- A flush that nothing stops, by itself: it changes its inode alone, and of the entries only the order of recall.
+use Rattle.std.proofs.Common.{◌≡◌, ◌≢◌, ℕ, [], ◌∷◌, None, refl, sym, ap, subst, ◌∙◌, arith}
+use Rattle.std.specs.FinMap as map
+use Rattle.std.proofs.lemmas.List.Elements.{All-filter}
+use Rattle.capbits.specs.Refusal.{first_failing}
+use Rattle.capbits.specs.Sets.{caps_in}
+use Rattle.capbits.proofs.Tests.{passed-both}
+use Rattle.inotree.specs.Tests.{inode_tests}
+use Rattle.inotree.specs.Tree.{Nodes, IsTree, place}
+use Rattle.inotree.proofs.OneInode.{known-changed, place-other}
+use Rattle.sessiontab.specs.Tests.{session_tests}
+use Rattle.captable.specs.declared.entry.Holder.{Holder}
+use Rattle.captable.specs.Table.{IsTable}
+use Rattle.captable.specs.Calls.{is_of_inode, touched}
+use Rattle.captable.specs.Tests.{release_tests}
+use Rattle.captable.proofs.Moves.{IsTable-touched}
+use Rattle.lockmachine.specs.declared.request.Change.{Change}
+use Rattle.lockmachine.specs.Elsewhere.{IsSameBut}
+use Rattle.lockmachine.specs.Moves.{IsQuiet}
+use Rattle.lockmachine.specs.Requests.{part_of_change}
+use Rattle.lockmachine.specs.Scene.{Scene}
+use Rattle.lockmachine.proofs.SameBut.{same-trans, same-tree, same-entries}
+use Rattle.capcore.specs.declared.event.Event.TheVariants as event
+use Rattle.capcore.specs.declared.reply.Reply.TheVariants as reply
+use Rattle.capcore.specs.State.{State}
+use Rattle.capcore.specs.Asks.{change_tests, exclusive, tree_changed}
+use Rattle.capcore.specs.Judge.{judged}
+use Rattle.capcore.specs.Direct.{direct, effect_unless, says, with_flush}
+use Rattle.capcore.specs.Served.{change_call_tests}
+use Rattle.capcore.specs.Sound.{IsSound, AreGiven}
+use Rattle.capcore.specs.Touching.{IsTouchedEntry, Touches}
+use Rattle.capcore.proofs.Again.{change-passed}
+use Rattle.capcore.proofs.OneChange.{by_change, alike_change, sound_change}
+use Rattle.capcore.proofs.Touched.{all-left, before-passed, after-passed, AreBelow}
+
+known_change : (tree : Nodes) (ino : ℕ) (change : Change) (other : ℕ) → map.contains_key (tree_changed tree ino change).nodes other ≡ map.contains_key tree.nodes other
+known_change tree ino change other =
+    by_change tree ino (λ t. map.contains_key t.nodes other ≡ map.contains_key tree.nodes other) refl (λ f. known-changed tree f ino other) change
+
+place_change : (tree : Nodes) (ino : ℕ) (change : Change) (other : ℕ) → other ≢ ino → place (tree_changed tree ino change).nodes other ≡ place tree.nodes other
+place_change tree ino change other off =
+    by_change tree ino (λ t. place t.nodes other ≡ place tree.nodes other) refl (λ f. place-other tree f ino other off) change
+
+-- a change of an inode, with the entries as they were
+same-flush : (s : Scene) (k : Holder) (change : Change) → IsSameBut k.ino.0 s (record s { tree = tree_changed s.tree k.ino.0 change; table = touched s.table k })
+same-flush s k change =
+    let changed : Scene = record s { tree = tree_changed s.tree k.ino.0 change } in
+    same-trans k.ino.0 s changed (record changed { table = touched s.table k })
+    (same-tree k.ino.0 s (tree_changed s.tree k.ino.0 change) (λ other off. place_change s.tree k.ino.0 change other off) (λ other off. alike_change s.tree k.ino.0 other change off))
+    (same-entries k.ino.0 changed (touched s.table k) (λ other off. refl))
+
+pub flush-touches : (old : State) (k : Holder) (change : Change) → IsSound old → IsTable old.scene.table → Touches k.ino.0 old (with_flush old k change).scene
+flush-touches old k change sound table = record {
+  same = same-flush old.scene k change;
+  known = λ other. known_change old.scene.tree k.ino.0 change other;
+  locked = λ other. sound.locked other ∙ sym (known_change old.scene.tree k.ino.0 change other);
+  waiting = sound.waiting;
+  at_lock = λ part none. subst (IsQuiet old.scene k.ino.0 part) none (sound.at_rest.each k.ino.0 part);
+  each =
+      All-filter (is_of_inode (record { 0 = k.ino.0 })) (IsTouchedEntry (with_flush old k change).scene) old.scene.table.rows
+      (all-left old (with_flush old k change).scene sound table refl refl (λ ino. known_change old.scene.tree k.ino.0 change ino));
+}
+
+pub flush-table : (old : State) (k : Holder) (change : Change) → IsTable old.scene.table → IsTable (with_flush old k change).scene.table
+flush-table old k change table = IsTable-touched old.scene.table k table
+
+pub below-of_flush : (count : ℕ) (old : State) (k : Holder) (change : Change) → AreGiven count old → AreBelow count (with_flush old k change)
+below-of_flush count old k change given = let made = given.made in let last = given.last in (given.entries, omega (arith, made), omega (arith, last))
+
+-- ---- what nothing stops
+
+-- the change has passed its tests
+flush_passed : (s : Scene) (k : Holder) (change : Change) → judged s (event.Flush k.client k.ino change) ≡ None → first_failing (change_tests s k.ino.0 change) ≡ None
+flush_passed s k change free =
+    (passed-both (release_tests s.table k (caps_in (exclusive (part_of_change change) ∷ []))) (change_tests s k.ino.0 change)
+    (after-passed s (event.Flush k.client k.ino change) free)).1
+
+-- and so has the call that makes it
+pub flush-calls : (s : Scene) (k : Holder) (change : Change) → judged s (event.Flush k.client k.ino change) ≡ None → first_failing (change_call_tests s.tree k.ino.0 change) ≡ None
+flush-calls s k change free =
+    change-passed s k.ino.0 change
+    (passed-both (session_tests s.sessions k.client.0) (inode_tests s.tree k.ino.0) (before-passed s (event.Flush k.client k.ino change) free)).1
+    (flush_passed s k change free)
+
+-- the tree stays one
+pub flush-tree : (old : State) (k : Holder) (change : Change) → IsTree old.scene.tree → judged old.scene (event.Flush k.client k.ino change) ≡ None
+    → IsTree (with_flush old k change).scene.tree
+flush-tree old k change tree free = sound_change old.scene k.ino.0 change tree (flush_passed old.scene k change free)
+
+-- the change is all that it comes to by itself
+pub flush-direct : (old : State) (k : Holder) (change : Change) → judged old.scene (event.Flush k.client k.ino change) ≡ None
+    → direct old (event.Flush k.client k.ino change) ≡ says (with_flush old k change) reply.Done
+flush-direct old k change free = ap (effect_unless old (event.Flush k.client k.ino change)) free

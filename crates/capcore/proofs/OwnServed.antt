@@ -1,0 +1,266 @@
+-- A request that is served in the step that brought it is never denied or refused: it was let wait, and nothing is served before
+-- it, so that the tree is as it was.
+use Rattle.std.proofs.Common.{◌≡◌, ℕ, Bool, true, false, ◌&&◌, ◌==◌, cond, Option, Some, None, List, [], ◌∷◌, ◌++◌, refl, sym, ap, subst, ◌∙◌, Contains, true≢false}
+use Rattle.std.specs.Prelude.{unwrap_or}
+use Rattle.std.specs.List.{find}
+use Rattle.std.specs.Option.{option_map_or, option_or}
+use Rattle.std.specs.FinMap as map
+use Rattle.std.specs.Cmp.{nat_eq_equiv}
+use Rattle.std.proofs.lemmas.Bool.{eqb-true}
+use Rattle.std.proofs.lemmas.List.Elements.{Contains-push}
+use Rattle.std.proofs.lemmas.List.Folds.{find-append}
+use Rattle.capbits.specs.declared.cap.Part.{Part}
+use Rattle.capbits.specs.declared.ids.ClientId.{ClientId}
+use Rattle.capbits.specs.declared.ids.Ino.{Ino}
+use Rattle.capbits.specs.declared.ids.Ticket.{Ticket}
+use Rattle.capbits.specs.Sets.{and_parts}
+use Rattle.inotree.specs.declared.node.Node.{Node}
+use Rattle.locktable.specs.declared.states.LockState.{LockState}
+use Rattle.locktable.specs.declared.states.LockState.TheVariants.{Stable, Gather}
+use Rattle.lockmachine.specs.declared.moves.Move.TheVariants.{Begin, End, Serve, Settled}
+use Rattle.lockmachine.specs.declared.request.Ask.{Ask}
+use Rattle.lockmachine.specs.declared.request.Ask.TheVariants.{Get, Alter, Unlink, Rmdir, Rename}
+use Rattle.lockmachine.specs.declared.request.Request.{Request}
+use Rattle.lockmachine.specs.Requests.{part_place, same_part, part_of_ask, head_of, is_for, first_for, is_numbered}
+use Rattle.lockmachine.specs.Locks.{LockMap, IsLockMap, lock_at, with_lock, next_request, with_request}
+use Rattle.lockmachine.specs.Scene.{Scene, wanted_in_all}
+use Rattle.locktable.specs.Targets as table_of_targets
+use Rattle.lockmachine.specs.Moves.{LockPlace, may_end, may_begin, may_serve, is_first, is_servable, present_state, coming_state, first_move, begun_locks, gathered_locks, IsQuiet, IsAtRest}
+use Rattle.lockmachine.proofs.Exact.{ends_not, begins_not, serves_not, settled}
+use Rattle.lockmachine.proofs.Moving.{IsMove, first_is, is_at, with_lock-each}
+use Rattle.lockmachine.proofs.Queue.{least_served, found_by_number, moved-kept}
+use Rattle.lockmachine.proofs.Rest.{same_part_is}
+use Rattle.capcore.specs.declared.outcome.Outcome.{Outcome}
+use Rattle.capcore.specs.declared.reply.Reply.{Reply}
+use Rattle.capcore.specs.declared.reply.Reply.TheVariants as reply
+use Rattle.capcore.specs.declared.stopped.Stopped.{Stopped}
+use Rattle.capcore.specs.Direct.{awaited_as, outcome_reply, is_of_ticket}
+use Rattle.capcore.specs.Headline.{is_stop}
+use Rattle.capcore.specs.Serving.{judged_again, told_of, passed_as, outcome_unless, MayEndAs, As_judged, Without_memory}
+use Rattle.capcore.specs.Settle.{Made, Began, Gathered, Served, MakesAll, ended_in}
+
+-- ---- how a request ends that nothing stops
+
+module _ (ticket : Ticket) where
+  abbrev answered : Outcome → Reply
+  answered o = unwrap_or (outcome_reply o) (reply.Waiting ticket)
+
+  told-unstopped : (part : Part) (o : Option Node) → is_stop (answered (told_of part o)) ≡ false
+  told-unstopped part None = refl
+  told-unstopped part (Some node) = refl
+
+  passed-unstopped : (s : Scene) (ino : ℕ) (ask : Ask) → is_stop (answered (passed_as s ino ask)) ≡ false
+  passed-unstopped s ino (Get part) = told-unstopped part (map.get s.tree.nodes ino)
+  passed-unstopped s ino (Alter change) = refl
+  passed-unstopped s ino Unlink = refl
+  passed-unstopped s ino Rmdir = refl
+  passed-unstopped s ino (Rename dir name) = refl
+
+  -- it is neither denied nor refused
+  unstopped : (s : Scene) (q : Request) (o : Outcome) → judged_again s q ≡ None → MayEndAs s q o → is_stop (answered o) ≡ false
+  unstopped s q o free (As_judged) = ap (λ (j : Option Stopped). is_stop (answered (outcome_unless s q j))) free ∙ passed-unstopped s q.ino.0 q.ask
+  unstopped s q o free (Without_memory nothing takes) = refl
+
+-- ---- a request that has just come to wait
+
+-- the queue is still this, and no lock has moved but this one
+record IsMovedAlone (old : Scene) (queue : List Request) (ino : ℕ) (part : Part) (locks : LockMap) : Type 0 where
+  same_queue : locks.queue ≡ queue
+  others : (place : LockPlace) → is_at ino part place ≡ false → lock_at locks place.0 place.1 ≡ lock_at old.locks place.0 place.1
+  order : IsLockMap locks
+
+module _ (old : Scene) (client : ClientId) (inode : Ino) (ask : Ask) (rest : IsAtRest old) where
+  abbrev q : Request
+  q = next_request old.locks client inode ask
+
+  abbrev ino : ℕ
+  ino = inode.0
+
+  abbrev part : Part
+  part = part_of_ask ask
+
+  abbrev queue : List Request
+  queue = old.locks.queue ++ q ∷ []
+
+  -- the scene with these locks
+  abbrev now : LockMap → Scene
+  now locks = record old { locks = locks }
+
+  -- nothing is served yet, and no lock has moved but the one that it waits for
+  abbrev IsAlone : LockMap → Type 0
+  IsAlone locks = IsMovedAlone old queue ino part locks
+
+  -- ---- who is first for a lock
+
+  -- it waits for its own lock
+  for_its_own : is_for ino part q ≡ true
+  for_its_own = ap (λ b. b && same_part part part) (nat_eq_equiv.refl ino) ∙ nat_eq_equiv.refl (part_place part)
+
+  -- and for no other
+  for_no_other : (place : LockPlace) → is_at ino part place ≡ false → is_for place.0 place.1 q ≡ false
+  for_no_other place off = elim (is_for place.0 place.1 q) as (λ b. is_for place.0 place.1 q ≡ b → b ≡ false) [
+    | true ↦ λ e. (let both = and_parts (ino == place.0) (same_part part place.1) e in
+        let inos : ino ≡ place.0 = eqb-true ino place.0 both.0 in
+        let parts : part ≡ place.1 = same_part_is part place.1 both.1 in
+        absurd (true≢false (sym (here place inos parts) ∙ off)))
+    | false ↦ λ e. refl
+  ] refl
+    where
+      here : (place : LockPlace) → ino ≡ place.0 → part ≡ place.1 → is_at ino part place ≡ true
+      here place inos parts = (λ i. (sym inos i == ino) && same_part (sym parts i) part) ∙ ap (λ b. b && same_part part part) (nat_eq_equiv.refl ino) ∙ nat_eq_equiv.refl (part_place part)
+
+  no_more : (o : Option Request) → option_or o None ≡ o
+  no_more None = refl
+  no_more (Some r) = refl
+
+  first_elsewhere : (place : LockPlace) → is_at ino part place ≡ false → first_for queue place.0 place.1 ≡ first_for old.locks.queue place.0 place.1
+  first_elsewhere place off =
+      find-append (is_for place.0 place.1) old.locks.queue (q ∷ [])
+      ∙ ap (λ b. option_or (first_for old.locks.queue place.0 place.1) (cond b (Some q) None)) (for_no_other place off)
+      ∙ no_more (first_for old.locks.queue place.0 place.1)
+
+  first_here : first_for old.locks.queue ino part ≡ None → first_for queue ino part ≡ Some q
+  first_here nobody =
+      find-append (is_for ino part) old.locks.queue (q ∷ [])
+      ∙ (λ i. option_or (nobody i) (cond (for_its_own i) (Some q) None))
+
+  -- ---- every other lock is quiet
+
+  quiet-by : (place : LockPlace) (locks : LockMap) → first_for locks.queue place.0 place.1 ≡ first_for old.locks.queue place.0 place.1
+      → (o : Option LockState) → IsQuiet old place.0 place.1 o → IsQuiet (now locks) place.0 place.1 o
+  quiet-by place locks same None quiet = same ∙ quiet
+  quiet-by place locks same (Some (Stable state)) quiet = (
+    ap (λ (o : Option Request). table_of_targets.target_of place.1 state (head_of o) (wanted_in_all old place.0).loner (wanted_in_all old place.0).wanted) same ∙ quiet.0,
+    same ∙ quiet.1,
+  )
+  quiet-by place locks same (Some (Gather from to)) quiet = quiet
+
+  module _ (locks : LockMap) (alone : IsAlone locks) where
+    quiet-other : (place : LockPlace) → is_at ino part place ≡ false → IsQuiet (now locks) place.0 place.1 (lock_at locks place.0 place.1)
+    quiet-other place off =
+        subst (IsQuiet (now locks) place.0 place.1) (sym (alone.others place off))
+        (quiet-by place locks (ap (λ rs. first_for rs place.0 place.1) alone.same_queue ∙ first_elsewhere place off) (lock_at old.locks place.0 place.1) (rest.each place.0 place.1))
+
+    -- so what moves is its own
+    only_here : (p : LockPlace → Bool) → ((place : LockPlace) → is_at ino part place ≡ false → p place ≡ false) → (place : LockPlace) → p place ≡ true → is_at ino part place ≡ true
+    only_here p elsewhere place passes = elim (is_at ino part place) as (λ b. is_at ino part place ≡ b → b ≡ true) [
+      | true ↦ λ e. refl
+      | false ↦ λ e. absurd (true≢false (sym passes ∙ elsewhere place e))
+    ] refl
+
+    begins_here : (place : LockPlace) → may_begin (now locks) place ≡ true → is_at ino part place ≡ true
+    begins_here = only_here (may_begin (now locks)) (λ place off. begins_not (now locks) place (lock_at locks place.0 place.1) (quiet-other place off))
+
+    ends_here : (place : LockPlace) → may_end (now locks) place ≡ true → is_at ino part place ≡ true
+    ends_here = only_here (may_end (now locks)) (λ place off. ends_not (now locks) place (lock_at locks place.0 place.1) (quiet-other place off))
+
+    -- and a move of it leaves it alone
+    still_alone : (i : ℕ) (p : Part) (lock : LockState) → is_at ino part (i, p) ≡ true → IsLockMap (with_lock locks i p lock) → IsAlone (with_lock locks i p lock)
+    still_alone i p lock here order = record {
+      same_queue = alone.same_queue;
+      others = λ place off. kept place off ∙ alone.others place off;
+      order = order;
+    }
+      where
+        same_place : (place : LockPlace) → is_at i p place ≡ is_at ino part place
+        same_place place =
+            let both = and_parts (i == ino) (same_part p part) here in
+            let inos : i ≡ ino = eqb-true i ino both.0 in
+            let parts : p ≡ part = same_part_is p part both.1 in
+            λ k. is_at (inos k) (parts k) place
+
+        kept : (place : LockPlace) → is_at ino part place ≡ false → lock_at (with_lock locks i p lock) place.0 place.1 ≡ lock_at locks place.0 place.1
+        kept place off =
+            with_lock-each locks i p lock (λ b (place : LockPlace) o. b ≡ false → o ≡ lock_at locks place.0 place.1) (λ e. absurd (true≢false e)) (λ place e. refl) place
+            (same_place place ∙ off)
+
+    -- ---- what is served first
+
+    module _ (nobody : first_for old.locks.queue ino part ≡ None) where
+      of_it : (r : Request) → may_serve locks r ≡ true → is_at ino part (r.ino.0, part_of_ask r.ask) ≡ true
+      of_it r may = elim (is_at ino part (r.ino.0, part_of_ask r.ask)) as (λ b. is_at ino part (r.ino.0, part_of_ask r.ask) ≡ b → b ≡ true) [
+        | true ↦ λ e. refl
+        | false ↦ λ e. absurd (true≢false (sym may ∙ serves_not (now locks) r (lock_at locks r.ino.0 (part_of_ask r.ask)) (quiet-other (r.ino.0, part_of_ask r.ask) e)))
+      ] refl
+
+      its_number : (r : Request) → may_serve locks r ≡ true → q.ticket.0 ≡ r.ticket.0
+      its_number r may =
+          let here = and_parts (r.ino.0 == ino) (same_part (part_of_ask r.ask) part) (of_it r may) in
+          let inos : r.ino.0 ≡ ino = eqb-true r.ino.0 ino here.0 in
+          let parts : part_of_ask r.ask ≡ part = same_part_is (part_of_ask r.ask) part here.1 in
+          let first = (and_parts (is_first locks.queue r) (is_servable locks r) may).0 in
+          eqb-true q.ticket.0 r.ticket.0
+          (sym
+          (ap (λ rs. option_map_or (is_numbered r.ticket.0) (first_for rs r.ino.0 (part_of_ask r.ask)) false) alone.same_queue
+          ∙ (λ k. option_map_or (is_numbered r.ticket.0) (first_for queue (inos k) (parts k)) false)
+          ∙ ap (λ o. option_map_or (is_numbered r.ticket.0) o false) (first_here nobody))
+          ∙ first)
+
+      -- it is the request itself
+      served-itself : (r : Request) → first_move (now locks) ≡ Serve r.ticket → find (is_numbered r.ticket.0) locks.queue ≡ Some r → Contains locks.queue q → r ≡ q
+      served-itself r first found inside =
+          let least = least_served (now locks) r.ticket alone.order first in
+          let may = least.2.may in
+          let number : q.ticket.0 ≡ r.ticket.0 = its_number least.0 may ∙ ap (λ (t : Ticket). t.0) least.1 in
+          let both : ◌≡◌ {A = Option Request} (Some r) (Some q) = sym found ∙ ap (λ n. find (is_numbered n) locks.queue) (sym number) ∙ found_by_number locks q alone.order inside in
+          cc
+
+  -- ---- the step
+
+  abbrev NotStopped : List Made → Type 0
+  NotStopped moves = is_stop (awaited_as q.ticket (find (is_of_ticket q.ticket) (ended_in moves))) ≡ false
+
+  module _ (free : judged_again old q ≡ None) (nobody : first_for old.locks.queue ino part ≡ None) where
+    not-stopped : (locks : LockMap) (moves : List Made) (last : Scene) → IsAlone locks → MakesAll (now locks) moves last → NotStopped moves
+    not-stopped locks [] last alone made = refl
+    not-stopped locks (Began i p to ∷ moves) last alone (mid, (first, is), made) =
+        let may = subst (IsMove (now locks)) first (first_is (now locks)) in
+        not-stopped (begun_locks locks i.0 p to) moves last
+        (still_alone locks alone i.0 p (Gather (present_state (lock_at locks i.0 p)) to) (begins_here locks alone (i.0, p) may.0) (moved-kept locks (Begin i p to) alone.order))
+        (subst (λ (s : Scene). MakesAll s moves last) is made)
+    not-stopped locks (Gathered i p ∷ moves) last alone (mid, (first, is), made) =
+        let may = subst (IsMove (now locks)) first (first_is (now locks)) in
+        not-stopped (gathered_locks locks i.0 p) moves last
+        (still_alone locks alone i.0 p (Stable (coming_state (lock_at locks i.0 p))) (ends_here locks alone (i.0, p) may) (moved-kept locks (End i p) alone.order))
+        (subst (λ (s : Scene). MakesAll s moves last) is made)
+    not-stopped locks (Served r o ∷ moves) last alone (mid, (first, found, may, is), made) =
+        let inside : Contains locks.queue q = subst (λ rs. Contains rs q) (sym alone.same_queue) (Contains-push old.locks.queue q) in
+        let itself : r ≡ q = served-itself locks alone nobody r first found inside in
+        let number : (r.ticket.0 == q.ticket.0) ≡ true = ap (λ (x : Request). x.ticket.0 == q.ticket.0) itself ∙ nat_eq_equiv.refl q.ticket.0 in
+        ap (λ b. is_stop (awaited_as q.ticket (cond b (Some (record { client = r.client; ticket = r.ticket; outcome = o })) (find (is_of_ticket q.ticket) (ended_in moves))))) number
+        ∙ unstopped q.ticket (now locks) q o free (subst (λ (x : Request). MayEndAs (now locks) x o) itself may)
+
+  -- where no move applies, none is made
+  none-made : (s last : Scene) (moves : List Made) → first_move s ≡ Settled → MakesAll s moves last → NotStopped moves
+  none-made s last [] none made = refl
+  none-made s last (Began i p to ∷ moves) none (mid, (first, is), made) = let both : Begin i p to ≡ Settled = sym first ∙ none in absurd (cc)
+  none-made s last (Gathered i p ∷ moves) none (mid, (first, is), made) = let both : End i p ≡ Settled = sym first ∙ none in absurd (cc)
+  none-made s last (Served r o ∷ moves) none (mid, (first, found, may, is), made) = let both : Serve r.ticket ≡ Settled = sym first ∙ none in absurd (cc)
+
+  module _ (order : IsLockMap (with_request old.locks client inode ask)) where
+    abbrev waiting : LockMap
+    waiting = with_request old.locks client inode ask
+
+    alone-first : IsAlone waiting
+    alone-first = record { same_queue = refl; others = λ place off. refl; order = order }
+
+    -- behind an open gather it waits on, and nothing moves
+    rests-on : IsQuiet (now waiting) ino part (lock_at waiting ino part) → IsAtRest (now waiting)
+    rests-on here = record {
+      each = λ i p. elim (is_at ino part (i, p)) as (λ b. is_at ino part (i, p) ≡ b → IsQuiet (now waiting) i p (lock_at waiting i p)) [
+        | true ↦ λ e. (let both = and_parts (i == ino) (same_part p part) e in
+            let inos : ino ≡ i = sym (eqb-true i ino both.0) in
+            let parts : part ≡ p = sym (same_part_is p part both.1) in
+            subst (λ (place : LockPlace). IsQuiet (now waiting) place.0 place.1 (lock_at waiting place.0 place.1)) (λ k. (inos k, parts k)) here)
+        | false ↦ λ off. quiet-other waiting alone-first (i, p) off
+      ] refl;
+    }
+
+    pub own-not_stopped : (moves : List Made) (last : Scene) → judged_again old q ≡ None → MakesAll (now waiting) moves last → NotStopped moves
+    own-not_stopped moves last free made = by_lock (lock_at old.locks ino part) refl (rest.each ino part)
+      where
+        by_lock : (o : Option LockState) → lock_at old.locks ino part ≡ o → IsQuiet old ino part o → NotStopped moves
+        by_lock None is quiet = not-stopped free quiet waiting moves last alone-first made
+        by_lock (Some (Stable state)) is quiet = not-stopped free quiet.1 waiting moves last alone-first made
+        by_lock (Some (Gather from to)) is quiet =
+            none-made (now waiting) last moves (settled (now waiting) (rests-on (subst (IsQuiet (now waiting) ino part) (sym is) quiet))) made

@@ -1,0 +1,65 @@
+-- An event that is stopped is answered so; and which inode an event touches that waits for a lock.
+use Rattle.std.proofs.Common.{◌≡◌, List, Some, [], sym, ap, subst}
+use Rattle.captable.specs.declared.entry.Holder.{Holder}
+use Rattle.captable.specs.Table.{IsTable}
+use Rattle.lockmachine.specs.declared.request.Ask.{Ask}
+use Rattle.capcore.specs.declared.event.Event.{Event}
+use Rattle.capcore.specs.declared.event.Event.TheVariants as event
+use Rattle.capcore.specs.declared.outcome.Ended.{Ended}
+use Rattle.capcore.specs.declared.reply.Reply.{Reply}
+use Rattle.capcore.specs.declared.reply.Said.{Said}
+use Rattle.capcore.specs.declared.stopped.Stopped.{Stopped}
+use Rattle.capcore.specs.State.{State}
+use Rattle.capcore.specs.Answered.{IsAnswered}
+use Rattle.capcore.specs.Direct.{Direct, direct, effect_unless, says}
+use Rattle.capcore.specs.Headline.{IssuesExactly}
+use Rattle.capcore.specs.Judge.{judged, stop_reply}
+use Rattle.capcore.specs.Sound.{IsSound}
+use Rattle.capcore.specs.Step.{Step}
+use Rattle.capcore.specs.Touching.{asks_for, touched_by}
+use Rattle.capcore.proofs.Promised.{has-due}
+use Rattle.capcore.proofs.Sounding.{later-given}
+use Rattle.capcore.proofs.Stopping.{stopped-step}
+
+-- ---- what is stopped
+
+-- it is a step that changes nothing
+pub stopped-answered : (old : State) (e : Event) (stopped : Stopped) (said : Said) → IsSound old → IsTable old.scene.table → judged old.scene e ≡ Some stopped
+    → said.reply ≡ stop_reply stopped → said.kept ≡ said.reply → said.ended ≡ [] → IsAnswered old e said old
+stopped-answered old e stopped said sound table is answers kept none = record {
+  step = subst (λ (ended : List Ended). Step old e said.reply ended old) (sym none) (subst (λ (r : Reply). Step old e r [] old) (sym answers) (stopped-step old e stopped sound table is));
+  kept = kept;
+  sound = sound;
+  issued = subst (λ (d : Direct). IssuesExactly d.state.scene old.scene) (sym by_itself) (has-due old sound);
+  given = λ count given. later-given count old given;
+}
+  where
+    by_itself : direct old e ≡ says old (stop_reply stopped)
+    by_itself = ap (effect_unless old e) is
+
+-- ---- what waits for a lock
+
+holder_is : (a b : Holder × Ask) → Some a ≡ Some b → a ≡ b
+holder_is a b is = cc
+
+-- which inode it touches
+touched_as : (e : Event) (p : Holder × Ask) → asks_for e ≡ Some p → touched_by e ≡ Some p.0
+touched_as (event.Session client caller grants) p is = absurd (cc)
+touched_as (event.Lookup client dir name) p is = absurd (cc)
+touched_as (event.Create client dir name mode) p is = absurd (cc)
+touched_as (event.Mkdir client dir name mode) p is = absurd (cc)
+touched_as (event.MakeSnapshot client ino name) p is = absurd (cc)
+touched_as (event.RemoveSnapshot client ino name) p is = absurd (cc)
+touched_as (event.Open client ino mode) p is = absurd (cc)
+touched_as (event.Want client ino caps) p is = absurd (cc)
+touched_as (event.Ack client ino seq) p is = absurd (cc)
+touched_as (event.Release client ino caps) p is = absurd (cc)
+touched_as (event.Get client ino part) p is = ap (λ (q : Holder × Ask). Some q.0) (holder_is _ p is)
+touched_as (event.Alter client ino change) p is = ap (λ (q : Holder × Ask). Some q.0) (holder_is _ p is)
+touched_as (event.Unlink client ino) p is = ap (λ (q : Holder × Ask). Some q.0) (holder_is _ p is)
+touched_as (event.Rmdir client ino) p is = ap (λ (q : Holder × Ask). Some q.0) (holder_is _ p is)
+touched_as (event.Flush client ino change) p is = absurd (cc)
+touched_as (event.Poll client max) p is = absurd (cc)
+
+pub touched-asks : (e : Event) (k : Holder) (ask : Ask) → asks_for e ≡ Some (k, ask) → touched_by e ≡ Some k
+touched-asks e k ask is = touched_as e (k, ask) is

@@ -1,0 +1,97 @@
+-- The step of a request that waits, as its calls go.
+use Rattle.std.proofs.Common.{◌≡◌, ◌<◌, ◌≤◌, ◌+◌, ◌==◌, false, not, cond, Some, None, List, ◌++◌, length, refl, sym, ap, subst, ◌∙◌, arith}
+use Rattle.std.specs.List.{count_by, find}
+use Rattle.std.specs.FinMap as map
+use Rattle.std.proofs.lemmas.Bool.{lt-leb}
+use Rattle.std.proofs.lemmas.List.Sums.{length-filter, count_by-le-length}
+use Rattle.capbits.specs.declared.ids.Ticket.{Ticket}
+use Rattle.capbits.specs.declared.refusal.Refusal.TheVariants as refusal
+use Rattle.capbits.specs.Refusal.{first_failing}
+use Rattle.captable.specs.declared.entry.Holder.{Holder}
+use Rattle.lockmachine.specs.declared.request.Ask.{Ask}
+use Rattle.lockmachine.specs.declared.request.Ask.TheVariants.{Get, Alter, Unlink, Rmdir, Rename}
+use Rattle.lockmachine.specs.Locks.{LockMap, IsLockMap, queue_tests, with_request}
+use Rattle.lockmachine.specs.Scene.{Scene}
+use Rattle.lockmachine.specs.Moves.{IsQuietBut}
+use Rattle.lockmachine.proofs.SameBut.{quiet-rest}
+use Rattle.captable.specs.Table.{IsTable}
+use Rattle.capcore.specs.State.{State}
+use Rattle.capcore.specs.Answered.{IsAnswered}
+use Rattle.capcore.specs.Asks.{ask_needs}
+use Rattle.capcore.specs.declared.reply.Said.{Said}
+use Rattle.capcore.specs.Direct.{Answer, Awaits, Direct, direct, reply_of, shown, awaited_as, is_of_ticket}
+use Rattle.capcore.specs.Judge.{judged, stop, asking_tests, waiting_tests}
+use Rattle.capcore.specs.Serves.{EndsWith}
+use Rattle.capcore.specs.Sound.{IsSound}
+use Rattle.capcore.specs.Step.{earlier}
+use Rattle.capcore.proofs.Asked.{asking-touches, asking-direct, asking-stop, order-of_ask}
+use Rattle.capcore.proofs.Closing.{told-own_numbers, told-but_own, closed}
+use Rattle.capcore.proofs.Stops.{touched-asks}
+use Rattle.capcore.specs.declared.event.Event.{Event}
+use Rattle.capcore.specs.declared.event.Event.TheVariants as event
+use Rattle.capcore.specs.declared.outcome.Ended.{Ended}
+use Rattle.capcore.specs.Served.{is_rename}
+use Rattle.capcore.specs.Touching.{asks_for, Touches}
+use Rattle.capcore.specs.Untold.{HaveOwnNumbers, but_for}
+
+-- an event asks for it, if it moves no inode
+pub some-asking : (k : Holder) (ask : Ask) → is_rename ask ≡ false → (e : Event) × (asks_for e ≡ Some (k, ask))
+some-asking k (Get part) stays = (event.Get k.client k.ino part, refl)
+some-asking k (Alter change) stays = (event.Alter k.client k.ino change, refl)
+some-asking k Unlink stays = (event.Unlink k.client k.ino, refl)
+some-asking k Rmdir stays = (event.Rmdir k.client k.ino, refl)
+some-asking k (Rename dir name) stays = absurd (cc)
+
+-- one more may wait
+pub room-left : (locks : LockMap) → length locks.queue < 1024 → first_failing (queue_tests locks) ≡ None
+room-left locks less = ap (λ b. cond b (Some refusal.Limit) None) (lt-leb 1024 (length locks.queue) less)
+
+-- the others are no more than all
+pub few-others : (ticket : Ticket) (ms : List Ended) → length (but_for ticket ms) ≤ length ms
+few-others ticket ms =
+    let few : length (but_for ticket ms) ≡ count_by (λ (m : Ended). not (m.ticket.0 == ticket.0)) ms = length-filter (λ (m : Ended). not (m.ticket.0 == ticket.0)) ms in
+    let most = count_by-le-length (λ (m : Ended). not (m.ticket.0 == ticket.0)) ms in
+    omega (arith, few, most)
+
+-- ---- the step
+
+module _ (old : State) (k : Holder) (ask : Ask) (sound : IsSound old) (table : IsTable old.scene.table) (order : IsLockMap old.scene.locks)
+    (free : stop old.scene (asking_tests old.scene k.client k.ino.0 ask) (ask_needs old.scene k.client k.ino.0 ask) (waiting_tests old.scene k.ino.0 ask) ≡ None)
+    (locks : LockMap) (queued : locks ≡ with_request old.scene.locks k.client k.ino ask) where
+  -- the request waits
+  abbrev first : Scene
+  first = record old.scene { locks = locks }
+
+  touches : Touches k.ino.0 old first
+  touches = subst (λ (l : LockMap). Touches k.ino.0 old (record old.scene { locks = l })) (sym queued) (asking-touches old k ask sound table free)
+
+  pub wait-quiet : IsQuietBut first k.ino.0
+  wait-quiet = let t = touches in quiet-rest k.ino.0 old.scene first sound.at_rest t.same
+
+  module _ (last : Scene) (told : List Ended) (ends : EndsWith k.ino.0 (map.get old.scene.locks.states k.ino.0) first last told) where
+    pub wait-differ : HaveOwnNumbers told
+    wait-differ = told-own_numbers k.ino.0 first ends.settled told ends.settles
+
+    module _ (last_table : IsTable last.table) (ticket : Ticket) (next : ticket.0 ≡ old.scene.locks.last + 1) (said : Said) (messages : List Ended)
+        (replies : said.reply ≡ awaited_as ticket (find (is_of_ticket ticket) told)) (kept : said.kept ≡ said.reply) (ended : said.ended ≡ but_for ticket told)
+        (left : messages ≡ old.messages ++ but_for ticket told) where
+      others : earlier old.scene.locks.last told ≡ but_for ticket told
+      others =
+          told-but_own k.ino.0 first ends.settled told ends.settles (subst IsLockMap (sym queued) (order-of_ask old.scene k ask order free)) old.scene.locks.last ticket next
+          (ap (λ (l : LockMap). l.last) queued)
+
+      abbrev new : State
+      new = record { scene = last; messages = messages }
+
+      abbrev closed_as : State
+      closed_as = record { scene = last; messages = old.messages ++ earlier old.scene.locks.last told }
+
+      pub wait-answered : (e : Event) → asks_for e ≡ Some (k, ask) → IsAnswered old e said new
+      wait-answered e asked =
+          let passed : judged old.scene e ≡ None = asking-stop e k ask old.scene asked ∙ free in
+          let by_itself = asking-direct old e k ask asked passed in
+          let is : first ≡ (direct old e).state.scene = (λ i. record old.scene { locks = queued i }) ∙ sym (ap (λ (d : Direct). d.state.scene) by_itself) in
+          let awaits : Awaits ticket ≡ (direct old e).answer = ap (λ n. Awaits (record { 0 = n })) next ∙ sym (ap (λ (d : Direct). d.answer) by_itself) in
+          closed old e k (touched-asks e k ask asked) passed sound table first is last told ends last_table said new
+          (replies ∙ ap (reply_of closed_as told) awaits) kept (ended ∙ sym others)
+          ((λ i. record { scene = last; messages = (left ∙ ap (λ ms. old.messages ++ ms) (sym others)) i }) ∙ ap (λ (a : Answer). shown a closed_as) awaits)

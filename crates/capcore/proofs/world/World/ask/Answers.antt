@@ -1,0 +1,15 @@
+use Rattle.std.proofs.Common.{sym, subst, ◌∙◌}
+use Rattle.captable.specs.Table.{IsTable, holder}
+use Rattle.capcore.specs.State.{State}
+use Rattle.capcore.specs.Sound.{IsSound}
+use Rattle.capcore.proofs.Asked.{asking-stop}
+use Rattle.capcore.proofs.Stops.{stopped-answered}
+use Rattle.capcore.proofs.world.World.ask.Goals as goal
+
+pub returns-in-Some-clause-answered : goal.returns-in-Some-clause-answered
+returns-in-Some-clause-answered c = λ e asked.
+    let s = c.args.self.now in
+    let known : IsSound s × IsTable s.scene.table = subst (λ (w : State). IsSound w × IsTable w.scene.table) c.self.view_is (c.self.invariant.0, c.oldest-oldest.ensures.sound) in
+    stopped-answered s e c.in-Some.stopped c.alone.result known.0 known.1
+    (asking-stop e (holder c.args.client c.args.ino) c.args.ask s.scene asked ∙ sym c.ask_stop.ensures ∙ c.in-Some.is)
+    (c.alone.ensures.reply ∙ c.into.ensures) (c.alone.ensures.kept ∙ sym c.alone.ensures.reply) c.alone.ensures.ended

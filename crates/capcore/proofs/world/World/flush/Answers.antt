@@ -1,0 +1,121 @@
+use Rattle.std.proofs.Common.{◌≡◌, ◌+◌, ◌++◌, List, length, None, refl, sym, ap, subst, ◌∙◌, arith}
+use Rattle.std.specs.FinMap as map
+use Rattle.std.proofs.lemmas.List.{length-append}
+use Rattle.captable.specs.declared.entry.Holder.{Holder}
+use Rattle.captable.specs.Table.{IsTable, holder}
+use Rattle.lockmachine.specs.Scene.{Scene}
+use Rattle.capcore.specs.declared.event.Event.{Event}
+use Rattle.capcore.specs.declared.event.Event.TheVariants as event
+use Rattle.capcore.specs.declared.outcome.Ended.{Ended}
+use Rattle.capcore.specs.declared.reply.Reply.TheVariants as reply
+use Rattle.capcore.specs.State.{State}
+use Rattle.capcore.specs.Answered.{IsAnswered}
+use Rattle.capcore.specs.Direct.{Answer, Says, Direct, direct, reply_of, shown, says, with_flush}
+use Rattle.capcore.specs.Judge.{judged}
+use Rattle.capcore.specs.Serves.{EndsWith}
+use Rattle.capcore.specs.Sound.{IsSound}
+use Rattle.capcore.specs.Step.{earlier}
+use Rattle.capcore.proofs.Closing.{first-quiet, told-all, closed}
+use Rattle.capcore.proofs.Flushed.{flush-calls, flush-direct}
+use Rattle.capcore.proofs.Stops.{stopped-answered}
+use Rattle.capcore.proofs.world.World.flush.Goals as goal
+use Rattle.capcore.proofs.world.World.flush.Goals.{After-touch, After-close}
+
+-- ---- a flush that is stopped
+
+pub returns-in-Some-clause-answered : goal.returns-in-Some-clause-answered
+returns-in-Some-clause-answered c =
+    let s = c.args.self.now in
+    let known : IsSound s × IsTable s.scene.table = subst (λ (w : State). IsSound w × IsTable w.scene.table) c.self.view_is (c.self.invariant.0, c.oldest-oldest.ensures.sound) in
+    stopped-answered s (event.Flush c.args.client c.args.ino c.args.change.now) c.in-Some.stopped c.alone.result known.0 known.1
+    (sym c.flush_stop.ensures ∙ c.in-Some.is)
+    (c.alone.ensures.reply ∙ c.into.ensures) (c.alone.ensures.kept ∙ sym c.alone.ensures.reply) c.alone.ensures.ended
+
+pub alter-requires : goal.alter-requires
+alter-requires c =
+    let old : State = record { scene = record { fs = c.self.inside.fs; tree = c.self.inside.tree; sessions = c.self.inside.sessions; table = c.self.inside.table; locks = c.self.inside.locks }; messages = c.self.inside.messages.items } in
+    let e : Event = event.Flush c.args.client c.args.ino c.args.change.now in
+    let passed : judged old.scene e ≡ None = ap (λ (w : State). judged w.scene e) c.self.view_is ∙ sym c.flush_stop.ensures ∙ c.in_default.is in
+    record { passed = flush-calls old.scene (holder c.args.client c.args.ino) c.args.change.now passed }
+
+-- ---- one that nothing stops, by itself
+
+module _ (c : After-touch) where
+  abbrev old : State
+  old = record { scene = record { fs = c.self.inside.fs; tree = c.self.inside.tree; sessions = c.self.inside.sessions; table = c.self.inside.table; locks = c.self.inside.locks }; messages = c.self.inside.messages.items }
+
+  abbrev e : Event
+  e = event.Flush c.args.client c.args.ino c.args.change.now
+
+  abbrev k : Holder
+  k = holder c.args.client c.args.ino
+
+  abbrev first : Scene
+  first = record old.scene { tree = c.alter.new.tree; table = c.touch.new.self }
+
+  passed : judged old.scene e ≡ None
+  passed = ap (λ (w : State). judged w.scene e) c.self.view_is ∙ sym c.flush_stop.ensures ∙ c.in_default.is
+
+  by_itself : direct old e ≡ says (with_flush old k c.args.change.now) reply.Done
+  by_itself = flush-direct old k c.args.change.now passed
+
+  is : first ≡ (direct old e).state.scene
+  is =
+      (λ i. record old.scene { tree = c.in_default-alter.ensures.ok i; table = c.touch.ensures i })
+      ∙ sym (ap (λ (d : Direct). d.state.scene) by_itself)
+
+pub end_at-requires-clause-quiet : goal.end_at-requires-clause-quiet
+end_at-requires-clause-quiet g =
+    let c = (goal.at.end_at-requires-clause-quiet g).After-touch in
+    first-quiet (old c) (e c) (k c) refl (passed c) c.self.invariant.0 c.oldest-oldest.ensures.sound (first c) (is c)
+
+-- ---- the end of the step
+
+module _ (c : After-close) where
+  abbrev before : After-touch
+  before = (goal.at.invariant_of-self-2 c).After-touch
+
+  abbrev last : Scene
+  last = record { fs = c.self.inside.fs; tree = c.end_at.new.tree; sessions = c.self.inside.sessions; table = c.end_at.new.table; locks = c.end_at.new.locks }
+
+  abbrev told : List Ended
+  told = c.end_at.new.endings.told.items
+
+  abbrev new : State
+  new = record { scene = last; messages = c.close.new.messages.items }
+
+  ends : EndsWith c.args.ino.0 (map.get c.self.inside.locks.states c.args.ino.0) (first before) last told
+  ends = subst (λ b. EndsWith c.args.ino.0 b (first before) last told) c.of_ino-before.ensures c.end_at.ensures.ends
+
+  all : earlier c.self.inside.locks.last told ≡ told
+  all = let w = ends in told-all c.args.ino.0 (first before) w.settled told w.settles c.waiting.ensures.sound
+
+  -- the state when the step had ended at the inode
+  abbrev closed_as : State
+  closed_as = record { scene = last; messages = c.self.inside.messages.items ++ earlier c.self.inside.locks.last told }
+
+  answer : Says reply.Done ≡ (direct (old before) (e before)).answer
+  answer = sym (ap (λ (d : Direct). d.answer) (by_itself before))
+
+  new_is : new ≡ shown (direct (old before) (e before)).answer closed_as
+  new_is =
+      (λ i. record { scene = last; messages = (c.close.ensures.items ∙ ap (λ ms. c.self.inside.messages.items ++ ms) (sym all)) i })
+      ∙ ap (λ (a : Answer). shown a closed_as) answer
+
+  whole : IsAnswered (old before) (e before) c.close.result new
+  whole =
+      closed (old before) (e before) (k before) refl (passed before) c.self.invariant.0 c.oldest-oldest.ensures.sound (first before) (is before)
+      last told ends c.end_at.ensures.table c.close.result new
+      (c.close.ensures.reply ∙ ap (reply_of closed_as told) answer)
+      (c.close.ensures.kept ∙ sym c.close.ensures.reply) (c.close.ensures.ended ∙ c.end_at.ensures.kept ∙ sym all) new_is
+
+pub invariant_of-self-2 : goal.invariant_of-self-2
+invariant_of-self-2 c =
+    let w = whole c in
+    let items : length c.close.new.messages.items ≡ length c.self.inside.messages.items + length c.end_at.new.endings.told.items =
+    ap length c.close.ensures.items ∙ length-append c.self.inside.messages.items c.end_at.new.endings.told.items in
+    (w.sound, omega (arith, items, c.close.ensures.room, c.end_at.ensures.count, c.self.invariant.1), c.end_at.ensures.stay)
+
+pub returns-clause-answered : goal.returns-clause-answered
+returns-clause-answered c =
+    subst (λ (s : State). IsAnswered s (event.Flush c.args.client c.args.ino c.args.change.now) c.close.result (new c)) c.self.view_is (whole c)

@@ -1,0 +1,31 @@
+-- What the tests of a request ask of the tree before it does what it asks for.
+use Rattle.std.specs.Prelude.{ℕ, Bool, true, false, List}
+use Rattle.capbits.specs.Refusal.{Test}
+use Rattle.inotree.specs.Tree.{Nodes}
+use Rattle.inotree.specs.Tests.{inode_tests, unlink_tests, rmdir_tests, rename_tests, set_tests, set_xattr_tests, remove_xattr_tests}
+use Rattle.lockmachine.specs.declared.request.Change.{Change}
+use Rattle.lockmachine.specs.declared.request.Change.TheVariants.{Set, SetXattr, RemoveXattr}
+use Rattle.lockmachine.specs.declared.request.Ask.{Ask}
+use Rattle.lockmachine.specs.declared.request.Ask.TheVariants.{Get, Alter, Unlink, Rmdir, Rename}
+
+-- the tests of the call that makes a change
+abbrev pub change_call_tests : Nodes → ℕ → Change → List Test
+change_call_tests tree ino (Set setting) = set_tests tree ino setting
+change_call_tests tree ino (SetXattr name value) = set_xattr_tests tree ino name value
+change_call_tests tree ino (RemoveXattr name) = remove_xattr_tests tree ino name
+
+-- the tests of the call that does what is asked for
+abbrev pub call_tests : Nodes → ℕ → Ask → List Test
+call_tests tree ino (Get part) = inode_tests tree ino
+call_tests tree ino (Alter change) = change_call_tests tree ino change
+call_tests tree ino Unlink = unlink_tests tree ino
+call_tests tree ino Rmdir = rmdir_tests tree ino
+call_tests tree ino (Rename dir name) = rename_tests tree ino dir.0 name
+
+-- the inode is to move
+abbrev pub is_rename : Ask → Bool
+is_rename (Get part) = false
+is_rename (Alter change) = false
+is_rename Unlink = false
+is_rename Rmdir = false
+is_rename (Rename dir name) = true

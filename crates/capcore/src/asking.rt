@@ -1,0 +1,165 @@
+//! Steps of requests that wait for a lock of their inode.
+ghost use Rattle.std.specs.Prelude.{◌≡◌, ◌++◌, false, None, Some, IfOk, IfErr, OnErr};
+ghost use Rattle.capbits.specs.Refusal.{first_failing};
+ghost use Rattle.captable.specs.Table.{holder};
+ghost use Rattle.lockmachine.specs.declared.request.Ask.TheVariants as ask_kind;
+ghost use Rattle.capcore.specs.declared.event.Event.{Event};
+ghost use Rattle.capcore.specs.Answered.{IsAnswered};
+ghost use Rattle.capcore.specs.Asks.{ask_needs};
+ghost use Rattle.capcore.specs.Judge.{asking_tests, waiting_tests, stop};
+ghost use Rattle.capcore.specs.Served.{is_rename};
+ghost use Rattle.capcore.specs.Sound.{NumbersLeft};
+ghost use Rattle.capcore.specs.Touching.{asks_for};
+
+use crate::ended::close_with;
+use crate::history::Stop;
+use crate::judge::{by_test, denial};
+use crate::messages::Endings;
+use crate::reply::Said;
+use crate::serving::{after_refusal, ask_denial, before_refusal, change_access, change_refusal};
+use crate::settle::end_at;
+use crate::stopped::Stopped;
+use crate::world::World;
+use capbits::{ClientId, Ino, Refusal};
+use captable::Holder;
+use lockmachine::{Ask, Change};
+
+impl World {
+    // A step of a request: what stops it is answered, and else it waits for the lock, which may serve it at once.
+    pub(crate) fn ask(&mut self, client: ClientId, ino: Ino, ask: Ask) -> Result<Said, Stop>
+        requires numbers { NumbersLeft self.old }
+        requires stays { is_rename ask ≡ false }
+        ensures answered { IfOk result (λ said. (e : Event) → asks_for e ≡ Some (holder client ino, ask) → IsAnswered self.old e said self.new) }
+        ensures err { OnErr result (self.new ≡ self.old) }
+        ensures memory { IfErr result (λ stop. stop ≡ Stop.NoMemory) }
+    {
+        // A look at the entries, by which the proof knows what they keep.
+        let _oldest = self.table.oldest();
+        if let Some(stopped) = self.ask_stop(client, ino, &ask) {
+            drop(ask);
+            return Ok(Said::alone(self.alloc(), stopped.into()));
+        }
+        self.wait(client, ino, ask)
+    }
+
+    // The same of a change, which is copied once nothing stops it.
+    pub(crate) fn ask_change(
+        &mut self,
+        client: ClientId,
+        ino: Ino,
+        change: &Change,
+    ) -> Result<Said, Stop>
+        requires numbers { NumbersLeft self.old }
+        ensures answered { IfOk result (λ said. (e : Event) → asks_for e ≡ Some (holder client ino, ask_kind.Alter change.now)
+            → IsAnswered self.old e said self.new) }
+        ensures err { OnErr result (self.new ≡ self.old) }
+        ensures memory { IfErr result (λ stop. stop ≡ Stop.NoMemory) }
+    {
+        // A look at the entries, by which the proof knows what they keep.
+        let _oldest = self.table.oldest();
+        if let Some(stopped) = self.change_stop(client, ino, change) {
+            return Ok(Said::alone(self.alloc(), stopped.into()));
+        }
+        let change = change.copy(self.alloc())?;
+        self.wait(client, ino, Ask::Alter(change))
+    }
+
+    // A step of a request that nothing stops: it waits, the locks of its inode settle, and the step ends there. The room for how
+    // it ends is made first, and can't be lost.
+    fn wait(&mut self, client: ClientId, ino: Ino, ask: Ask) -> Result<Said, Stop>
+        requires numbers { NumbersLeft self.old }
+        requires stays { is_rename ask ≡ false }
+        requires passed { stop self.old.scene (asking_tests self.old.scene client ino.0 ask) (ask_needs self.old.scene client ino.0 ask)
+            (waiting_tests self.old.scene ino.0 ask) ≡ None }
+        ensures answered { IfOk result (λ said. (e : Event) → asks_for e ≡ Some (holder client ino, ask) → IsAnswered self.old e said self.new) }
+        ensures err { OnErr result (self.new ≡ self.old) }
+        ensures memory { IfErr result (λ stop. stop ≡ Stop.NoMemory) }
+    {
+        // A look at the tree and at the entries, by which the proof knows what they keep.
+        let (_last, _oldest) = (self.tree.last(), self.table.oldest());
+        let before = self.locks.of_ino(ino);
+        let waiting = self.locks.waiting() + 1;
+        let Ok(mut endings) = Endings::with_room(self.alloc(), waiting) else {
+            drop(ask);
+            return Err(Stop::NoMemory);
+        };
+        if let Err(refused) = self.messages.reserve(waiting) {
+            drop(ask);
+            drop(endings);
+            return Err(refused.into());
+        }
+        let ticket = self.locks.enqueue(client, ino, ask);
+        end_at(
+            &self.fs,
+            &mut self.tree,
+            &self.sessions,
+            &mut self.table,
+            &mut self.locks,
+            ino,
+            before,
+            &mut endings,
+        );
+        Ok(close_with(&mut self.messages, ticket, endings))
+    }
+
+    // ---- what stops them
+
+    // What stops a request.
+    fn ask_stop(&self, client: ClientId, ino: Ino, ask: &Ask) -> Option<Stopped>
+        ensures { result ≡ stop self.now.scene (asking_tests self.now.scene client ino.0 ask.now) (ask_needs self.now.scene client ino.0 ask.now)
+            (waiting_tests self.now.scene ino.0 ask.now) }
+    {
+        if let Some(refusal) = self.asking_refusal(client, ino, ask) {
+            return Some(Stopped::ByTest(refusal));
+        }
+        if let Some(denied) = ask_denial(
+            &self.fs,
+            &self.tree,
+            &self.sessions,
+            Holder { client, ino },
+            ask,
+        ) {
+            return Some(denied);
+        }
+        by_test(self.waiting_refusal(ino, ask))
+    }
+
+    // The first test before policy that fails.
+    fn asking_refusal(&self, client: ClientId, ino: Ino, ask: &Ask) -> Option<Refusal>
+        ensures { result ≡ first_failing (asking_tests self.now.scene client ino.0 ask.now) }
+    {
+        match self.sessions.session_refusal(client) {
+            Some(refusal) => Some(refusal),
+            None => before_refusal(&self.tree, ino, ask),
+        }
+    }
+
+    // The first test behind policy that fails: its own, and then that there is room for it in the queue.
+    fn waiting_refusal(&self, ino: Ino, ask: &Ask) -> Option<Refusal>
+        ensures { result ≡ first_failing (waiting_tests self.now.scene ino.0 ask.now) }
+    {
+        match after_refusal(&self.tree, ino, ask) {
+            Some(refusal) => Some(refusal),
+            None => self.locks.enqueue_refusal(),
+        }
+    }
+
+    // What stops a change.
+    fn change_stop(&self, client: ClientId, ino: Ino, change: &Change) -> Option<Stopped>
+        ensures { result ≡ stop self.now.scene (asking_tests self.now.scene client ino.0 (ask_kind.Alter change.now))
+            (ask_needs self.now.scene client ino.0 (ask_kind.Alter change.now)) (waiting_tests self.now.scene ino.0 (ask_kind.Alter change.now)) }
+    {
+        if let Some(refusal) = self.inode_stop(client, ino) {
+            return Some(Stopped::ByTest(refusal));
+        }
+        let (holder, access) = (Holder { client, ino }, change_access(change));
+        if let Some(denied) = denial(&self.fs, &self.tree, &self.sessions, holder, access) {
+            return Some(denied);
+        }
+        let refusal = match change_refusal(&self.tree, ino, change) {
+            Some(refusal) => Some(refusal),
+            None => self.locks.enqueue_refusal(),
+        };
+        by_test(refusal)
+    }
+}

@@ -1,0 +1,77 @@
+//! What a step says of the requests that it ended.
+ghost use Rattle.std.specs.Prelude.{◌≡◌, ◌+◌, ◌≤◌, ◌++◌, false, length, unwrap_or};
+ghost use Rattle.std.specs.List.{find};
+ghost use Rattle.capcore.specs.Direct.{has_list, is_of_ticket, awaited_as, outcome_reply};
+ghost use Rattle.capcore.specs.Untold.{HaveOwnNumbers, but_for};
+ghost use Rattle.capcore.specs.declared.reply.Reply.TheVariants as reply;
+
+use crate::copies::copy_of_reply;
+use crate::messages::{Endings, Messages};
+use crate::outcome::{Ended, Outcome};
+use crate::reply::{Reply, Said};
+use capbits::Ticket;
+
+// A reply, which has no list, and the requests that the step ended: their clients are to be told of them, and the history keeps
+// them.
+pub(crate) fn close(messages: &mut Messages, reply: Reply, endings: Endings) -> Said
+    requires list { has_list reply ≡ false }
+    requires room { length messages.old.items + length endings.told.items ≤ messages.old.room }
+    ensures items { messages.new.items ≡ messages.old.items ++ endings.told.items }
+    ensures room { messages.old.room ≤ messages.new.room }
+    ensures reply { result.reply ≡ reply }
+    ensures kept { result.kept ≡ reply }
+    ensures ended { result.ended ≡ endings.kept.items }
+{
+    let Endings { told, kept } = endings;
+    messages.append(told);
+    let ended = kept.into_list();
+    let kept = copy_of_reply(&reply);
+    Said { reply, kept, ended }
+}
+
+// How the request with this number ended in the step, if it did; else that it waits; and the other requests that the step ended.
+pub(crate) fn close_with(messages: &mut Messages, ticket: Ticket, endings: Endings) -> Said
+    requires differ { HaveOwnNumbers endings.told.items }
+    requires same { endings.kept.items ≡ endings.told.items }
+    requires room { length messages.old.items + length endings.told.items ≤ messages.old.room }
+    ensures items { messages.new.items ≡ messages.old.items ++ but_for ticket endings.told.items }
+    ensures room { messages.old.room ≤ messages.new.room }
+    ensures reply { result.reply ≡ awaited_as ticket (find (is_of_ticket ticket) endings.told.items) }
+    ensures kept { result.kept ≡ result.reply }
+    ensures ended { result.ended ≡ but_for ticket endings.told.items }
+{
+    let Endings { mut told, mut kept } = endings;
+    let reply = awaited(ticket, told.take(ticket));
+    messages.append(told);
+    let kept_reply = awaited(ticket, kept.take(ticket));
+    let ended = kept.into_list();
+    Said {
+        reply,
+        kept: kept_reply,
+        ended,
+    }
+}
+
+// What is answered to a request: how it ended, or that it waits.
+fn awaited(ticket: Ticket, ended: Option<Ended>) -> Reply
+    ensures { result ≡ awaited_as ticket ended }
+{
+    match ended {
+        Some(Ended { outcome, .. }) => of_outcome(ticket, outcome),
+        None => Reply::Waiting(ticket),
+    }
+}
+
+// How a request ended, as a reply. Of one that was dropped there is none.
+fn of_outcome(ticket: Ticket, outcome: Outcome) -> Reply
+    ensures { result ≡ unwrap_or (outcome_reply outcome) (reply.Waiting ticket) }
+{
+    match outcome {
+        Outcome::Done => Reply::Done,
+        Outcome::Values(values) => Reply::Values(values),
+        Outcome::Denied { access, rules } => Reply::Denied { access, rules },
+        Outcome::Refused(refusal) => Reply::Refused(refusal),
+        Outcome::OutOfMemory => Reply::OutOfMemory,
+        Outcome::Dropped => Reply::Waiting(ticket),
+    }
+}

@@ -1,0 +1,98 @@
+//! The step of a flush: a client that alone may change a part has changed it.
+ghost use Rattle.std.specs.Prelude.{◌≡◌, IfOk, IfErr, OnErr};
+ghost use Rattle.capbits.specs.Refusal.{first_failing};
+ghost use Rattle.captable.specs.Table.{holder};
+ghost use Rattle.capcore.specs.declared.event.Event.TheVariants as event;
+ghost use Rattle.capcore.specs.Answered.{IsAnswered};
+ghost use Rattle.capcore.specs.Asks as words;
+ghost use Rattle.capcore.specs.Judge.{judged, flush_tests};
+ghost use Rattle.capcore.specs.Sound.{NumbersLeft};
+
+use crate::ended::close;
+use crate::history::Stop;
+use crate::judge::{by_test, denial};
+use crate::messages::Endings;
+use crate::reply::{Reply, Said};
+use crate::serving::{alter, change_access, change_refusal};
+use crate::settle::end_at;
+use crate::stopped::Stopped;
+use crate::world::World;
+use capbits::{Cap, CapSet, ClientId, Ino, Part, Refusal};
+use captable::Holder;
+use lockmachine::Change;
+
+impl World {
+    // A step of a flush. It waits for no lock.
+    pub(crate) fn flush(
+        &mut self,
+        client: ClientId,
+        ino: Ino,
+        change: &Change,
+    ) -> Result<Said, Stop>
+        requires numbers { NumbersLeft self.old }
+        ensures answered { IfOk result (λ said. IsAnswered self.old (event.Flush client ino change.now) said self.new) }
+        ensures err { OnErr result (self.new ≡ self.old) }
+        ensures memory { IfErr result (λ stop. stop ≡ Stop.NoMemory) }
+    {
+        // A look at the entries, by which the proof knows what they keep.
+        let _oldest = self.table.oldest();
+        if let Some(stopped) = self.flush_stop(client, ino, change) {
+            return Ok(Said::alone(self.alloc(), stopped.into()));
+        }
+        let before = self.locks.of_ino(ino);
+        let mut endings = Endings::with_room(self.alloc(), self.locks.waiting())?;
+        if let Err(refused) = alter(&mut self.tree, ino, change) {
+            drop(endings);
+            return Err(refused.into());
+        }
+        self.table.touch(client, ino);
+        end_at(
+            &self.fs,
+            &mut self.tree,
+            &self.sessions,
+            &mut self.table,
+            &mut self.locks,
+            ino,
+            before,
+            &mut endings,
+        );
+        Ok(close(&mut self.messages, Reply::Done, endings))
+    }
+
+    // What stops a flush.
+    fn flush_stop(&self, client: ClientId, ino: Ino, change: &Change) -> Option<Stopped>
+        ensures { result ≡ judged self.now.scene (event.Flush client ino change.now) }
+    {
+        if let Some(refusal) = self.inode_stop(client, ino) {
+            return Some(Stopped::ByTest(refusal));
+        }
+        let (holder, access) = (Holder { client, ino }, change_access(change));
+        if let Some(denied) = denial(&self.fs, &self.tree, &self.sessions, holder, access) {
+            return Some(denied);
+        }
+        by_test(self.flush_refusal(client, ino, change))
+    }
+
+    // The first test of a flush behind policy that fails.
+    fn flush_refusal(&self, client: ClientId, ino: Ino, change: &Change) -> Option<Refusal>
+        ensures { result ≡ first_failing (flush_tests self.now.scene (holder client ino) change.now) }
+    {
+        let held = CapSet::of(&[exclusive(change.part())]);
+        match self.table.release_refusal(client, ino, held) {
+            Some(refusal) => Some(refusal),
+            None => change_refusal(&self.tree, ino, change),
+        }
+    }
+}
+
+// The capability with which a client changes a part by itself.
+fn exclusive(part: Part) -> Cap
+    ensures { result ≡ words.exclusive part }
+{
+    match part {
+        Part::A => Cap::Ax,
+        Part::L => Cap::Lx,
+        Part::X => Cap::Xx,
+        Part::F => Cap::Fx,
+    }
+}

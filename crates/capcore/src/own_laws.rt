@@ -1,0 +1,24 @@
+//! What is served in the step that brought it. No program needs to call this law.
+
+ghost use Rattle.std.specs.Prelude.{◌≡◌, ◌+◌, false, List, None};
+ghost use Rattle.capbits.specs.declared.ids.ClientId.{ClientId};
+ghost use Rattle.capbits.specs.declared.ids.Ino.{Ino};
+ghost use Rattle.lockmachine.specs.declared.request.Ask.{Ask};
+ghost use Rattle.lockmachine.specs.Locks.{IsLockMap, next_request, with_request};
+ghost use Rattle.lockmachine.specs.Scene.{Scene};
+ghost use Rattle.capcore.specs.State.{State};
+ghost use Rattle.capcore.specs.Direct.{Awaits, reply_of};
+ghost use Rattle.capcore.specs.Headline.{is_stop};
+ghost use Rattle.capcore.specs.Serving.{judged_again};
+ghost use Rattle.capcore.specs.Settle.{Made, MakesAll, ended_in};
+ghost use Rattle.capcore.specs.Sound.{IsSound};
+
+/// A request that nothing stops when it comes, and that is served in the same step, is neither denied nor refused: no
+/// request of an earlier step is served before it, so it is judged on the tree and the sessions on which it came.
+pub fn what_is_served_at_once_is_not_stopped()
+    ensures { (old last : State) (client : ClientId) (ino : Ino) (ask : Ask) (moves : List Made) (settled : Scene)
+        → IsSound old → IsLockMap (with_request old.scene.locks client ino ask)
+        → judged_again old.scene (next_request old.scene.locks client ino ask) ≡ None
+        → MakesAll (record old.scene { locks = with_request old.scene.locks client ino ask }) moves settled
+        → is_stop (reply_of last (ended_in moves) (Awaits (record { 0 = old.scene.locks.last + 1 }))) ≡ false }
+{}

@@ -1,0 +1,31 @@
+//! Laws of requests that are served. No program needs to call them.
+
+ghost use Rattle.std.specs.Prelude.{◌≡◌, ◌≢◌, ℕ, false};
+ghost use Rattle.std.specs.FinMap as map;
+ghost use Rattle.inotree.specs.Tree.{IsTree, place};
+ghost use Rattle.inotree.specs.Alike.{IsAlike};
+ghost use Rattle.lockmachine.specs.declared.request.Request.{Request};
+ghost use Rattle.lockmachine.specs.Scene.{Scene};
+ghost use Rattle.capcore.specs.declared.outcome.Outcome.{Outcome};
+ghost use Rattle.capcore.specs.Serving.{MayEndAs, tree_after};
+ghost use Rattle.capcore.specs.Served.{is_rename};
+
+/// However a request ends that is served, but a rename, every other inode than its own has the same path, owner, group and
+/// mode; and the tree stays a tree.
+pub fn a_serving_changes_one_inode()
+    ensures others { (s : Scene) (q : Request) (o : Outcome) (ino : ℕ) → IsTree s.tree → is_rename q.ask ≡ false
+        → MayEndAs s q o → ino ≢ q.ino.0 → IsAlike s.tree (tree_after s.tree q o) ino }
+    ensures tree { (s : Scene) (q : Request) (o : Outcome) → IsTree s.tree → is_rename q.ask ≡ false
+        → MayEndAs s q o → IsTree (tree_after s.tree q o) }
+{}
+
+/// A request that is served, a rename too, makes no inode and forgets none; every other inode than its own stays in the tree,
+/// or a stray; and no number is given.
+pub fn a_serving_keeps_what_is_known()
+    ensures known { (s : Scene) (q : Request) (o : Outcome) (ino : ℕ) → MayEndAs s q o
+        → map.contains_key (tree_after s.tree q o).nodes ino ≡ map.contains_key s.tree.nodes ino }
+    ensures others { (s : Scene) (q : Request) (o : Outcome) (ino : ℕ) → MayEndAs s q o → ino ≢ q.ino.0
+        → place (tree_after s.tree q o).nodes ino ≡ place s.tree.nodes ino }
+    ensures last { (s : Scene) (q : Request) (o : Outcome) → MayEndAs s q o
+        → (tree_after s.tree q o).last ≡ s.tree.last }
+{}

@@ -1,0 +1,21 @@
+-- When two scenes are the same but at one inode.
+use Rattle.std.specs.Prelude.{◌≡◌, ◌≢◌, ℕ}
+use Rattle.capbits.specs.declared.cap.Part.{Part}
+use Rattle.capbits.specs.declared.ids.Ino.{Ino}
+use Rattle.inotree.specs.Tree.{place}
+use Rattle.inotree.specs.Alike.{IsAlike}
+use Rattle.captable.specs.Calls.{entries_on}
+use Rattle.lockmachine.specs.Requests.{first_for}
+use Rattle.lockmachine.specs.Locks.{lock_at}
+use Rattle.lockmachine.specs.Scene.{Scene}
+
+-- of every other inode the entries, the locks and who waits first for each are as they were, and so are its place, its path, its
+-- owner, its group and its mode; sessions are as they were
+pub record IsSameBut (ino : ℕ) (old new : Scene) : Type 0 where
+  pub fs : new.fs ≡ old.fs
+  pub sessions : new.sessions ≡ old.sessions
+  pub entries : (other : Ino) → other.0 ≢ ino → entries_on new.table other ≡ entries_on old.table other
+  pub locks : (other : ℕ) (part : Part) → other ≢ ino → lock_at new.locks other part ≡ lock_at old.locks other part
+  pub waiting : (other : ℕ) (part : Part) → other ≢ ino → first_for new.locks.queue other part ≡ first_for old.locks.queue other part
+  pub places : (other : ℕ) → other ≢ ino → place new.tree.nodes other ≡ place old.tree.nodes other
+  pub alike : (other : ℕ) → other ≢ ino → IsAlike old.tree new.tree other

@@ -1,0 +1,207 @@
+//! Who waits for a file, step by step, and what is kept of it.
+
+use crate::asking::{goes, leaves};
+use crate::looking::Look;
+use crate::looking::Look::{Child, Inode, Row, Rows};
+use crate::steps::Step;
+use std::test::Fail;
+
+const ONE_HAS_A_FILE: &[Step] = &[
+    ("session 1 10 10 - allow rw", "done", "-; -; -"),
+    ("session 2 20 20 - allow rw", "done", "-; -; -"),
+    ("create 1 1 f 0644", "ino 2", "SYNC; -; -"),
+    ("open 1 2 rw", "caps 1 pFsxcrwb", "EXCL(1); pFsxcrwb 1; -"),
+];
+
+// A change and a request for what it makes wait for the first client, and the second opens the file meanwhile.
+const TWO_REQUESTS: &[Step] = &[
+    (
+        "alter 2 2 size 5",
+        "waiting 1",
+        "EXCL(1) to LOCK; pFsxcrwb 2 due; -",
+    ),
+    (
+        "get 2 2 F",
+        "waiting 2",
+        "EXCL(1) to LOCK; pFsxcrwb 2 due; -",
+    ),
+    (
+        "open 2 2 r",
+        "caps 1 p",
+        "EXCL(1) to LOCK; pFsxcrwb 2 due; p 1",
+    ),
+    (
+        "poll 1 9",
+        "messages 1\n  caps 2 2 p",
+        "EXCL(1) to LOCK; pFsxcrwb 2; p 1",
+    ),
+    ("ack 1 2 2", "done", "MIX; pFrw 3 due; pFr 2 due"),
+    (
+        "poll 2 1",
+        "messages 1\n  ended 1 done",
+        "MIX; pFrw 3 due; pFr 2 due",
+    ),
+    (
+        "poll 2 9",
+        "messages 2\n  ended 2 attr F 5 0\n  caps 2 2 pFr",
+        "MIX; pFrw 3 due; pFr 2",
+    ),
+    (
+        "poll 1 9",
+        "messages 1\n  caps 2 3 pFrw",
+        "MIX; pFrw 3; pFr 2",
+    ),
+];
+
+// While both have it open, the second asks for its size.
+const A_REQUEST_FOR_VALUES: &[Step] = &[
+    ("get 2 2 F", "waiting 3", "MIX to SYNC; pFrw 4 due; pFr 2"),
+    (
+        "poll 1 9",
+        "messages 1\n  caps 2 4 pFr",
+        "MIX to SYNC; pFrw 4; pFr 2",
+    ),
+    ("ack 1 2 4", "done", "MIX; pFrw 5 due; pFr 2"),
+    (
+        "poll 2 9",
+        "messages 1\n  ended 3 attr F 5 0",
+        "MIX; pFrw 5 due; pFr 2",
+    ),
+];
+
+#[test]
+fn requests_wait_until_the_lock_serves_them(rt: HostRuntime) -> Result<(), Fail> {
+    goes(&rt, &[ONE_HAS_A_FILE, TWO_REQUESTS, A_REQUEST_FOR_VALUES])
+}
+
+// What the history has of them, from its fifth row on: none of the rows but the one that served them ended any.
+const TWO_REQUESTS_KEPT: &[(Look, &str)] = &[
+    (Rows, "12"),
+    (Row(4), "1.5: alter 2 2 size 5: waiting Ticket(1); ended 0"),
+    (Row(5), "1.6: get 2 2 F: waiting Ticket(2); ended 0"),
+    (
+        Row(8),
+        "1.9: ack 1 2 2: done; ended 2, 1 of 2 done, 2 of 2 values File { size: 5, time: 0 }",
+    ),
+    (Row(9), "1.10: poll 2 1: messages 1; ended 0"),
+    (Inode(2), "File 10:10 644, size 5, time 0"),
+];
+
+#[test]
+fn the_row_that_serves_a_request_keeps_its_end(rt: HostRuntime) -> Result<(), Fail> {
+    leaves(&rt, &[ONE_HAS_A_FILE, TWO_REQUESTS], TWO_REQUESTS_KEPT)
+}
+
+// A request that is served at once has its end in its reply alone.
+const SERVED_AT_ONCE: &[Step] = &[
+    ("session 1 10 10 - allow rw", "done", "-; -; -"),
+    ("create 1 1 f 0644", "ino 2", "SYNC; -; -"),
+    // Nobody wants the file, so its lock stays.
+    ("alter 1 2 size 5", "done", "LOCK; -; -"),
+    ("get 1 2 F", "attr F 5 0", "LOCK; -; -"),
+    ("open 1 2 r", "caps 1 pFscr", "SYNC; pFscr 1; -"),
+    ("get 1 2 F", "attr F 5 0", "SYNC; pFscr 1; -"),
+];
+
+const SERVED_AT_ONCE_KEPT: &[(Look, &str)] = &[
+    (Row(2), "1.3: alter 1 2 size 5: done; ended 0"),
+    (
+        Row(3),
+        "1.4: get 1 2 F: values File { size: 5, time: 0 }; ended 0",
+    ),
+];
+
+#[test]
+fn what_is_served_at_once_has_no_other_end(rt: HostRuntime) -> Result<(), Fail> {
+    leaves(&rt, &[SERVED_AT_ONCE], SERVED_AT_ONCE_KEPT)
+}
+
+// A flush of the data moves no lock, and neither does a holder that asks for what it holds for itself.
+const A_FLUSH: &[Step] = &[
+    ("flush 1 2 size 5", "done", "EXCL(1); pFsxcrwb 1; -"),
+    ("get 1 2 F", "attr F 5 0", "EXCL(1); pFsxcrwb 1; -"),
+    (
+        "open 2 2 r",
+        "caps 1 p",
+        "EXCL(1) to MIX; pFsxcrwb 2 due; p 1",
+    ),
+    (
+        "flush 1 2 times 9",
+        "done",
+        "EXCL(1) to MIX; pFsxcrwb 2 due; p 1",
+    ),
+];
+
+#[test]
+fn a_flush_waits_for_no_lock(rt: HostRuntime) -> Result<(), Fail> {
+    goes(&rt, &[ONE_HAS_A_FILE, A_FLUSH])
+}
+
+// An unlinked file keeps its locks until it is forgotten. Nobody is permitted to hold more of it, so a gather ends in a
+// state that nobody fills.
+const AN_UNLINKED_FILE: &[Step] = &[
+    (
+        "open 2 2 r",
+        "caps 1 p",
+        "EXCL(1) to MIX; pFsxcrwb 2 due; p 1",
+    ),
+    ("unlink 2 2", "done", "EXCL(1) to MIX; pFsxcrwb 2 due; p 1"),
+    (
+        "poll 1 9",
+        "messages 1\n  caps 2 2 pFrw",
+        "EXCL(1) to MIX; pFsxcrwb 2; p 1",
+    ),
+    ("ack 1 2 2", "done", "MIX; pFrw 2; p 1"),
+    ("release 1 2 p", "done", "MIX; -; p 1"),
+    ("get 2 2 F", "refused Gone", "MIX; -; p 1"),
+    ("release 2 2 p", "done", "-; -; -"),
+    ("get 2 2 F", "refused NoIno", "-; -; -"),
+];
+
+const AN_UNLINKED_FILE_GONE: &[(Look, &str)] = &[(Inode(2), "no inode"), (Child(1, b"f"), "None")];
+
+#[test]
+fn an_unlinked_file_keeps_its_locks_until_it_is_forgotten(rt: HostRuntime) -> Result<(), Fail> {
+    leaves(
+        &rt,
+        &[ONE_HAS_A_FILE, AN_UNLINKED_FILE],
+        AN_UNLINKED_FILE_GONE,
+    )
+}
+
+// What is denied when it is served has moved the lock all the same, and the next request finds it where it is to be.
+const DENIED_WHEN_SERVED: &[Step] = &[
+    ("session 1 10 10 - allow rw", "done", "-; -; -"),
+    ("session 2 20 20 - allow rw uid=20", "done", "-; -; -"),
+    ("create 1 1 f 0646", "ino 2", "SYNC; -; -"),
+    ("open 1 2 rw", "caps 1 pFsxcrwb", "EXCL(1); pFsxcrwb 1; -"),
+    (
+        "alter 2 2 size 5",
+        "waiting 1",
+        "EXCL(1) to LOCK; pFsxcrwb 2 due; -",
+    ),
+    (
+        "alter 1 2 chmod 0600",
+        "done",
+        "EXCL(1) to LOCK; pFsxcrwb 2 due; -",
+    ),
+    (
+        "poll 1 9",
+        "messages 1\n  caps 2 2 p",
+        "EXCL(1) to LOCK; pFsxcrwb 2; -",
+    ),
+    ("ack 1 2 2", "done", "EXCL(1); pFsxcrwb 3 due; -"),
+];
+
+const DENIED_WHEN_SERVED_KEPT: &[(Look, &str)] = &[
+    (
+        Row(7),
+        "1.8: ack 1 2 2: done; ended 1, 1 of 2 denied Write, rule 11 mode-bits",
+    ),
+    (Inode(2), "File 10:10 600, size 0, time 0"),
+];
+
+#[test]
+fn a_denial_when_served_is_in_the_row_that_serves(rt: HostRuntime) -> Result<(), Fail> {
+    leaves(&rt, &[DENIED_WHEN_SERVED], DENIED_WHEN_SERVED_KEPT)
+}
