@@ -64,13 +64,15 @@ asking (event.Want client ino caps) k ask is = absurd (none-some (k, ask) is)
 asking (event.Ack client ino seq) k ask is = absurd (none-some (k, ask) is)
 asking (event.Release client ino caps) k ask is = absurd (none-some (k, ask) is)
 asking (event.Get client ino part) k ask is =
-    same_asking (holder client ino) k (Get part) ask (event.Get client ino part) is (record { effect_is = λ s. refl; judged_is = λ s. refl; stays = refl })
+    same_asking (holder client ino) k (Get part) ask (event.Get client ino part) is (record { effect_is = λ s. refl; judged_is = λ s. refl })
 asking (event.Alter client ino change) k ask is =
-    same_asking (holder client ino) k (Alter change) ask (event.Alter client ino change) is (record { effect_is = λ s. refl; judged_is = λ s. refl; stays = refl })
+    same_asking (holder client ino) k (Alter change) ask (event.Alter client ino change) is (record { effect_is = λ s. refl; judged_is = λ s. refl })
 asking (event.Unlink client ino) k ask is =
-    same_asking (holder client ino) k Unlink ask (event.Unlink client ino) is (record { effect_is = λ s. refl; judged_is = λ s. refl; stays = refl })
+    same_asking (holder client ino) k Unlink ask (event.Unlink client ino) is (record { effect_is = λ s. refl; judged_is = λ s. refl })
 asking (event.Rmdir client ino) k ask is =
-    same_asking (holder client ino) k Rmdir ask (event.Rmdir client ino) is (record { effect_is = λ s. refl; judged_is = λ s. refl; stays = refl })
+    same_asking (holder client ino) k Rmdir ask (event.Rmdir client ino) is (record { effect_is = λ s. refl; judged_is = λ s. refl })
+asking (event.Rename client ino dir name) k ask is =
+    same_asking (holder client ino) k (Rename dir name) ask (event.Rename client ino dir name) is (record { effect_is = λ s. refl; judged_is = λ s. refl })
 asking (event.Flush client ino change) k ask is = absurd (none-some (k, ask) is)
 asking (event.Poll client max) k ask is = absurd (none-some (k, ask) is)
 

@@ -6,7 +6,7 @@ use Rattle.inotree.specs.Tree.{IsTree}
 use Rattle.captable.specs.declared.entry.Holder.{Holder}
 use Rattle.captable.specs.Table.{IsTable, holder}
 use Rattle.lockmachine.specs.declared.request.Ask.{Ask}
-use Rattle.lockmachine.specs.declared.request.Ask.TheVariants.{Get, Alter, Unlink, Rmdir}
+use Rattle.lockmachine.specs.declared.request.Ask.TheVariants.{Get, Alter, Unlink, Rmdir, Rename}
 use Rattle.lockmachine.specs.declared.request.Change.{Change}
 use Rattle.lockmachine.specs.Locks.{LockMap, IsLockMap}
 use Rattle.capcore.specs.declared.event.Event.{Event}
@@ -48,6 +48,7 @@ asked_by (event.Get client ino part) k is = let same : holder client ino ≡ k =
 asked_by (event.Alter client ino change) k is = let same : holder client ino ≡ k = cc in Waits_for (Alter change) (λ i. Some (same i, Alter change))
 asked_by (event.Unlink client ino) k is = let same : holder client ino ≡ k = cc in Waits_for Unlink (λ i. Some (same i, Unlink))
 asked_by (event.Rmdir client ino) k is = let same : holder client ino ≡ k = cc in Waits_for Rmdir (λ i. Some (same i, Rmdir))
+asked_by (event.Rename client ino dir name) k is = let same : holder client ino ≡ k = cc in Waits_for (Rename dir name) (λ i. Some (same i, Rename dir name))
 asked_by (event.Flush client ino change) k is = let same : holder client ino ≡ k = cc in Flushes change (λ i. event.Flush (same i).client (same i).ino change)
 asked_by (event.Poll client max) k is = absurd (none-some k is)
 

@@ -13,7 +13,7 @@ use Rattle.captable.specs.declared.entry.Holder.{Holder}
 use Rattle.captable.specs.Table.{IsTable, holder, is_row_of}
 use Rattle.inotree.specs.Tree.{child}
 use Rattle.lockmachine.specs.declared.request.Ask.{Ask}
-use Rattle.lockmachine.specs.declared.request.Ask.TheVariants.{Get, Alter, Unlink, Rmdir}
+use Rattle.lockmachine.specs.declared.request.Ask.TheVariants.{Get, Alter, Unlink, Rmdir, Rename}
 use Rattle.lockmachine.specs.Locks.{IsLockMap}
 use Rattle.lockmachine.specs.Scene.{Scene}
 use Rattle.lockmachine.specs.Policy.{failures}
@@ -72,6 +72,7 @@ module _ (old last : State) (ended : List Ended) where
   effect-no_stop (event.Alter client ino change) none = absurd (none-some (holder client ino, Alter change) (sym none))
   effect-no_stop (event.Unlink client ino) none = absurd (none-some (holder client ino, Unlink) (sym none))
   effect-no_stop (event.Rmdir client ino) none = absurd (none-some (holder client ino, Rmdir) (sym none))
+  effect-no_stop (event.Rename client ino dir name) none = absurd (none-some (holder client ino, Rename dir name) (sym none))
   effect-no_stop (event.Flush client ino change) none = refl
   effect-no_stop (event.Poll client max) none = refl
 

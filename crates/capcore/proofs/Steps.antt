@@ -55,6 +55,7 @@ none_dropped-effect old (event.Get client ino part) = refl
 none_dropped-effect old (event.Alter client ino change) = refl
 none_dropped-effect old (event.Unlink client ino) = refl
 none_dropped-effect old (event.Rmdir client ino) = refl
+none_dropped-effect old (event.Rename client ino dir name) = refl
 none_dropped-effect old (event.Flush client ino change) = refl
 none_dropped-effect old (event.Poll client max) = refl
 
@@ -82,6 +83,7 @@ none_shown-effect old (event.Get client ino part) alone s = absurd (none-some (h
 none_shown-effect old (event.Alter client ino change) alone s = absurd (none-some (holder client ino) (sym alone.0))
 none_shown-effect old (event.Unlink client ino) alone s = absurd (none-some (holder client ino) (sym alone.0))
 none_shown-effect old (event.Rmdir client ino) alone s = absurd (none-some (holder client ino) (sym alone.0))
+none_shown-effect old (event.Rename client ino dir name) alone s = absurd (none-some (holder client ino) (sym alone.0))
 none_shown-effect old (event.Flush client ino change) alone s = absurd (none-some (holder client ino) (sym alone.0))
 none_shown-effect old (event.Poll client max) alone s = absurd (true≢false alone.1)
 
@@ -121,6 +123,7 @@ module _ (old : State) (sound : IsSound old) (tree : IsTree old.scene.tree) wher
   effect-left (event.Alter client ino change) alone none = absurd (none-some (holder client ino) (sym alone.0))
   effect-left (event.Unlink client ino) alone none = absurd (none-some (holder client ino) (sym alone.0))
   effect-left (event.Rmdir client ino) alone none = absurd (none-some (holder client ino) (sym alone.0))
+  effect-left (event.Rename client ino dir name) alone none = absurd (none-some (holder client ino) (sym alone.0))
   effect-left (event.Flush client ino change) alone none = absurd (none-some (holder client ino) (sym alone.0))
   effect-left (event.Poll client max) alone none = absurd (true≢false alone.1)
 

@@ -58,6 +58,7 @@ touched_as (event.Get client ino part) p is = ap (λ (q : Holder × Ask). Some q
 touched_as (event.Alter client ino change) p is = ap (λ (q : Holder × Ask). Some q.0) (holder_is _ p is)
 touched_as (event.Unlink client ino) p is = ap (λ (q : Holder × Ask). Some q.0) (holder_is _ p is)
 touched_as (event.Rmdir client ino) p is = ap (λ (q : Holder × Ask). Some q.0) (holder_is _ p is)
+touched_as (event.Rename client ino dir name) p is = ap (λ (q : Holder × Ask). Some q.0) (holder_is _ p is)
 touched_as (event.Flush client ino change) p is = absurd (cc)
 touched_as (event.Poll client max) p is = absurd (cc)
 

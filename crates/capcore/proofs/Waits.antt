@@ -34,13 +34,13 @@ use Rattle.capcore.specs.Served.{is_rename}
 use Rattle.capcore.specs.Touching.{asks_for, Touches}
 use Rattle.capcore.specs.Untold.{HaveOwnNumbers, but_for}
 
--- an event asks for it, if it moves no inode
-pub some-asking : (k : Holder) (ask : Ask) → is_rename ask ≡ false → (e : Event) × (asks_for e ≡ Some (k, ask))
-some-asking k (Get part) stays = (event.Get k.client k.ino part, refl)
-some-asking k (Alter change) stays = (event.Alter k.client k.ino change, refl)
-some-asking k Unlink stays = (event.Unlink k.client k.ino, refl)
-some-asking k Rmdir stays = (event.Rmdir k.client k.ino, refl)
-some-asking k (Rename dir name) stays = absurd (cc)
+-- an event asks for it
+pub some-asking : (k : Holder) (ask : Ask) → (e : Event) × (asks_for e ≡ Some (k, ask))
+some-asking k (Get part) = (event.Get k.client k.ino part, refl)
+some-asking k (Alter change) = (event.Alter k.client k.ino change, refl)
+some-asking k Unlink = (event.Unlink k.client k.ino, refl)
+some-asking k Rmdir = (event.Rmdir k.client k.ino, refl)
+some-asking k (Rename dir name) = (event.Rename k.client k.ino dir name, refl)
 
 -- one more may wait
 pub room-left : (locks : LockMap) → length locks.queue < 1024 → first_failing (queue_tests locks) ≡ None

@@ -22,7 +22,7 @@ use Rattle.captable.specs.declared.entry.EntryRow.{EntryRow}
 use Rattle.captable.specs.Table.{Table, holder, is_row_of, entry_at}
 use Rattle.captable.specs.Calls.{opened, wanting, taken, released, touched, told, changed as changed_entry}
 use Rattle.lockmachine.specs.declared.request.Ask.{Ask}
-use Rattle.lockmachine.specs.declared.request.Ask.TheVariants.{Get, Alter, Unlink, Rmdir}
+use Rattle.lockmachine.specs.declared.request.Ask.TheVariants.{Get, Alter, Unlink, Rmdir, Rename}
 use Rattle.lockmachine.specs.declared.request.Change.{Change}
 use Rattle.lockmachine.specs.Locks.{with_ino, with_request}
 use Rattle.lockmachine.specs.Scene.{Scene, told_set}
@@ -199,6 +199,7 @@ effect s (event.Get client ino part) = asks s client ino (Get part)
 effect s (event.Alter client ino change) = asks s client ino (Alter change)
 effect s (event.Unlink client ino) = asks s client ino Unlink
 effect s (event.Rmdir client ino) = asks s client ino Rmdir
+effect s (event.Rename client ino dir name) = asks s client ino (Rename dir name)
 effect s (event.Flush client ino change) = says (with_flush s (holder client ino) change) reply.Done
 effect s (event.Poll client max) = record { state = s; answer = Gives client max; dropped = [] }
 

@@ -17,7 +17,7 @@ use Rattle.captable.specs.Table.{Table, holder, is_row_of, entry_at}
 use Rattle.captable.specs.Tests.{open_tests, entry_test, ack_tests, release_tests}
 use Rattle.lockmachine.specs.declared.request.Change.{Change}
 use Rattle.lockmachine.specs.declared.request.Ask.{Ask}
-use Rattle.lockmachine.specs.declared.request.Ask.TheVariants.{Get, Alter, Unlink, Rmdir}
+use Rattle.lockmachine.specs.declared.request.Ask.TheVariants.{Get, Alter, Unlink, Rmdir, Rename}
 use Rattle.lockmachine.specs.Requests.{part_of_change}
 use Rattle.lockmachine.specs.Locks.{queue_tests}
 use Rattle.lockmachine.specs.Policy.{is_granted, failures}
@@ -74,6 +74,7 @@ before s (event.Get client ino part) = asking_tests s client ino.0 (Get part)
 before s (event.Alter client ino change) = asking_tests s client ino.0 (Alter change)
 before s (event.Unlink client ino) = asking_tests s client ino.0 Unlink
 before s (event.Rmdir client ino) = asking_tests s client ino.0 Rmdir
+before s (event.Rename client ino dir name) = asking_tests s client ino.0 (Rename dir name)
 before s (event.Flush client ino change) = asked_tests s client ino.0
 before s (event.Poll client max) = session_tests s.sessions client.0
 
@@ -99,6 +100,7 @@ needs s (event.Get client ino part) = ask_needs s client ino.0 (Get part)
 needs s (event.Alter client ino change) = ask_needs s client ino.0 (Alter change)
 needs s (event.Unlink client ino) = ask_needs s client ino.0 Unlink
 needs s (event.Rmdir client ino) = ask_needs s client ino.0 Rmdir
+needs s (event.Rename client ino dir name) = ask_needs s client ino.0 (Rename dir name)
 needs s (event.Flush client ino change) = need client ino.0 (change_access change) ∷ []
 needs s (event.Poll client max) = []
 
@@ -136,6 +138,7 @@ after s (event.Get client ino part) = waiting_tests s ino.0 (Get part)
 after s (event.Alter client ino change) = waiting_tests s ino.0 (Alter change)
 after s (event.Unlink client ino) = waiting_tests s ino.0 Unlink
 after s (event.Rmdir client ino) = waiting_tests s ino.0 Rmdir
+after s (event.Rename client ino dir name) = waiting_tests s ino.0 (Rename dir name)
 after s (event.Flush client ino change) = flush_tests s (holder client ino) change
 after s (event.Poll client max) = []
 

@@ -1,10 +1,12 @@
 -- Events that are about one inode, and how their steps end.
-use Rattle.std.specs.Prelude.{◌≡◌, ◌≤◌, ℕ, Bool, true, false, ◌||◌, List, Option, Some, None, IsTrue, All, if◌then◌else◌}
+use Rattle.std.specs.Prelude.{◌≡◌, ◌≢◌, ◌≤◌, ℕ, Bool, true, false, ◌||◌, List, Option, Some, None, IsTrue, All, if◌then◌else◌}
 use Rattle.std.specs.FinMap as map
 use Rattle.capbits.specs.declared.cap.Cap.TheVariants.{P}
 use Rattle.capbits.specs.declared.cap.Part.{Part}
 use Rattle.capbits.specs.Caps.{has}
 use Rattle.inotree.specs.Calls.{forgotten}
+use Rattle.inotree.specs.Tree.{place}
+use Rattle.inotree.specs.Alike.{IsAlike}
 use Rattle.sessiontab.specs.Calls.{has_session}
 use Rattle.captable.specs.declared.entry.Entry.{Entry}
 use Rattle.captable.specs.declared.entry.EntryRow.{EntryRow}
@@ -13,7 +15,7 @@ use Rattle.captable.specs.Table.{holder}
 use Rattle.captable.specs.Calls.{is_of_inode, entries_on, renumbered}
 use Rattle.captable.specs.Many.{changed_where}
 use Rattle.lockmachine.specs.declared.request.Ask.{Ask}
-use Rattle.lockmachine.specs.declared.request.Ask.TheVariants.{Get, Alter, Unlink, Rmdir}
+use Rattle.lockmachine.specs.declared.request.Ask.TheVariants.{Get, Alter, Unlink, Rmdir, Rename}
 use Rattle.lockmachine.specs.Elsewhere.{IsSameBut}
 use Rattle.lockmachine.specs.Wants.{effective_want}
 use Rattle.lockmachine.specs.Requests.{first_for}
@@ -42,6 +44,7 @@ touched_by (event.Get client ino part) = Some (holder client ino)
 touched_by (event.Alter client ino change) = Some (holder client ino)
 touched_by (event.Unlink client ino) = Some (holder client ino)
 touched_by (event.Rmdir client ino) = Some (holder client ino)
+touched_by (event.Rename client ino dir name) = Some (holder client ino)
 touched_by (event.Flush client ino change) = Some (holder client ino)
 touched_by (event.Poll client max) = None
 
@@ -61,6 +64,7 @@ asks_for (event.Get client ino part) = Some (holder client ino, Get part)
 asks_for (event.Alter client ino change) = Some (holder client ino, Alter change)
 asks_for (event.Unlink client ino) = Some (holder client ino, Unlink)
 asks_for (event.Rmdir client ino) = Some (holder client ino, Rmdir)
+asks_for (event.Rename client ino dir name) = Some (holder client ino, Rename dir name)
 asks_for (event.Flush client ino change) = None
 asks_for (event.Poll client max) = None
 
@@ -80,6 +84,7 @@ is_poll (event.Get client ino part) = false
 is_poll (event.Alter client ino change) = false
 is_poll (event.Unlink client ino) = false
 is_poll (event.Rmdir client ino) = false
+is_poll (event.Rename client ino dir name) = false
 is_poll (event.Flush client ino change) = false
 is_poll (event.Poll client max) = true
 
@@ -99,6 +104,8 @@ pub record IsTouchedEntry (s : Scene) (row : EntryRow) : Type 0 where
 -- the scene differs from that of the old state at this inode alone: in its entries, in who waits for its locks, or in what it is
 pub record Touches (ino : ℕ) (old : State) (first : Scene) : Type 0 where
   pub same : IsSameBut ino old.scene first
+  -- no lock has moved yet
+  pub states : first.locks.states ≡ old.scene.locks.states
   -- the same inodes are there, each with its locks and no others
   pub known : (other : ℕ) → map.contains_key first.tree.nodes other ≡ map.contains_key old.scene.tree.nodes other
   pub locked : (other : ℕ) → map.contains_key first.locks.states other ≡ map.contains_key first.tree.nodes other
@@ -109,22 +116,37 @@ pub record Touches (ino : ℕ) (old : State) (first : Scene) : Type 0 where
 
 -- ---- how their steps end
 
--- by these moves the locks have settled, and nothing has changed but at this inode
-pub record SettlesAt (ino : ℕ) (moves : List Made) (first settled : Scene) : Type 0 where
+-- The inodes that a step touches are that of its event and, where it was moved, those at or below it that somebody has an
+-- entry on.
+
+-- but at those inodes the two scenes are the same; and but at that of the event, who waits first and which inodes stand in the
+-- tree are too
+pub record IsSameOff (at : ℕ → Bool) (ino : ℕ) (old new : Scene) : Type 0 where
+  pub fs : new.fs ≡ old.fs
+  pub sessions : new.sessions ≡ old.sessions
+  pub table : new.table ≡ old.table
+  pub locks : (other : ℕ) (part : Part) → at other ≡ false → lock_at new.locks other part ≡ lock_at old.locks other part
+  pub alike : (other : ℕ) → at other ≡ false → IsAlike old.tree new.tree other
+  pub waiting : (other : ℕ) (part : Part) → other ≢ ino → first_for new.locks.queue other part ≡ first_for old.locks.queue other part
+  pub places : (other : ℕ) → other ≢ ino → place new.tree.nodes other ≡ place old.tree.nodes other
+
+-- by these moves the locks have settled, and nothing has changed but at these inodes, of which that of the event is one
+pub record SettlesAt (at : ℕ → Bool) (ino : ℕ) (moves : List Made) (first settled : Scene) : Type 0 where
   pub settles : Settles first moves settled
-  pub same : IsSameBut ino first settled
+  pub here : at ino ≡ true
+  pub same : IsSameOff at ino first settled
 
 -- the entry at the end: it gains what is due, and has a new number if its client is to know of another set than right
 -- after the event
 abbrev pub finished_entry : Scene → Scene → EntryRow → Entry
-finished_entry old settled row =
-    renumbered (told_set old row) (told_set settled (issue_row settled row)) (issue_row settled row).entry
+finished_entry first settled row =
+    renumbered (told_set first row) (told_set settled (issue_row settled row)) (issue_row settled row).entry
 
 -- the inode goes with its locks, if it is a stray that nobody has an entry on
 abbrev pub forget_at : ℕ → Scene → Scene
 forget_at ino s = if is_kept s ino then s else record s { tree = forgotten s.tree ino; locks = without_ino s.locks ino }
 
--- the end of the step, at this inode alone
-abbrev pub finished_at : ℕ → Scene → Scene → Scene
-finished_at ino old settled =
-    forget_at ino (record settled { table = changed_where (is_of_inode (record { 0 = ino })) (finished_entry old settled) settled.table })
+-- the end of the step, at these inodes alone, of which only that of the event may have become a stray
+abbrev pub finished_at : (ℕ → Bool) → ℕ → Scene → Scene → Scene
+finished_at at ino first settled =
+    forget_at ino (record settled { table = changed_where (λ row. at row.holder.ino.0) (finished_entry first settled) settled.table })

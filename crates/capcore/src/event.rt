@@ -144,6 +144,18 @@ pub enum Event {
         /// The directory.
         ino: Ino,
     },
+    /// A client moves an inode, and all below it, into a directory, under a name. It waits for the lock of the inode's link
+    /// count.
+    Rename {
+        /// The client.
+        client: ClientId,
+        /// The inode.
+        ino: Ino,
+        /// The directory that it is to stand in.
+        dir: Ino,
+        /// Its name there.
+        name: Bytes,
+    },
     /// A client that alone may change a part has changed it, and says so. It waits for no lock.
     Flush {
         /// The client.
