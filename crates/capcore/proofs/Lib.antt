@@ -40,7 +40,6 @@ pub mod Untouched
 pub mod Verdicts
 pub mod TouchStep
 pub mod TouchWhole
-pub mod SoFar
 pub mod Taking
 pub mod EndedIn
 pub mod Closing

@@ -1,5 +1,5 @@
 -- Events that are about one inode, and how their steps end.
-use Rattle.std.specs.Prelude.{◌≡◌, ◌≢◌, ◌≤◌, ℕ, Bool, true, false, ◌||◌, List, Option, Some, None, IsTrue, All, if◌then◌else◌}
+use Rattle.std.specs.Prelude.{◌≡◌, ◌≢◌, ◌≤◌, ℕ, Bool, true, false, ◌||◌, List, Option, Some, None, Contains, IsTrue, All, if◌then◌else◌}
 use Rattle.std.specs.FinMap as map
 use Rattle.capbits.specs.declared.cap.Cap.TheVariants.{P}
 use Rattle.capbits.specs.declared.cap.Part.{Part}
@@ -119,14 +119,14 @@ pub record Touches (ino : ℕ) (old : State) (first : Scene) : Type 0 where
 -- The inodes that a step touches are that of its event and, where it was moved, those at or below it that somebody has an
 -- entry on.
 
--- but at those inodes the two scenes are the same; and but at that of the event, who waits first and which inodes stand in the
--- tree are too
+-- off these inodes the locks are the same in both scenes, and so is of each that somebody has an entry on its path, its owner,
+-- its group and its mode; and off that of the event, who waits first and where inodes stand. Entries and sessions are as they were
 pub record IsSameOff (at : ℕ → Bool) (ino : ℕ) (old new : Scene) : Type 0 where
   pub fs : new.fs ≡ old.fs
   pub sessions : new.sessions ≡ old.sessions
   pub table : new.table ≡ old.table
   pub locks : (other : ℕ) (part : Part) → at other ≡ false → lock_at new.locks other part ≡ lock_at old.locks other part
-  pub alike : (other : ℕ) → at other ≡ false → IsAlike old.tree new.tree other
+  pub alike : (row : EntryRow) → Contains old.table.rows row → at row.holder.ino.0 ≡ false → IsAlike old.tree new.tree row.holder.ino.0
   pub waiting : (other : ℕ) (part : Part) → other ≢ ino → first_for new.locks.queue other part ≡ first_for old.locks.queue other part
   pub places : (other : ℕ) → other ≢ ino → place new.tree.nodes other ≡ place old.tree.nodes other
 

@@ -7,7 +7,6 @@ ghost use Rattle.capcore.specs.declared.event.Event.{Event};
 ghost use Rattle.capcore.specs.Answered.{IsAnswered};
 ghost use Rattle.capcore.specs.Asks.{ask_needs};
 ghost use Rattle.capcore.specs.Judge.{asking_tests, waiting_tests, stop};
-ghost use Rattle.capcore.specs.Served.{is_rename};
 ghost use Rattle.capcore.specs.Sound.{NumbersLeft};
 ghost use Rattle.capcore.specs.Touching.{asks_for};
 
@@ -28,7 +27,6 @@ impl World {
     // A step of a request: what stops it is answered, and else it waits for the lock, which may serve it at once.
     pub(crate) fn ask(&mut self, client: ClientId, ino: Ino, ask: Ask) -> Result<Said, Stop>
         requires numbers { NumbersLeft self.old }
-        requires stays { is_rename ask ≡ false }
         ensures answered { IfOk result (λ said. (e : Event) → asks_for e ≡ Some (holder client ino, ask) → IsAnswered self.old e said self.new) }
         ensures err { OnErr result (self.new ≡ self.old) }
         ensures memory { IfErr result (λ stop. stop ≡ Stop.NoMemory) }
@@ -68,7 +66,6 @@ impl World {
     // it ends is made first, and can't be lost.
     fn wait(&mut self, client: ClientId, ino: Ino, ask: Ask) -> Result<Said, Stop>
         requires numbers { NumbersLeft self.old }
-        requires stays { is_rename ask ≡ false }
         requires passed { stop self.old.scene (asking_tests self.old.scene client ino.0 ask) (ask_needs self.old.scene client ino.0 ask)
             (waiting_tests self.old.scene ino.0 ask) ≡ None }
         ensures answered { IfOk result (λ said. (e : Event) → asks_for e ≡ Some (holder client ino, ask) → IsAnswered self.old e said self.new) }
@@ -77,7 +74,6 @@ impl World {
     {
         // A look at the tree and at the entries, by which the proof knows what they keep.
         let (_last, _oldest) = (self.tree.last(), self.table.oldest());
-        let before = self.locks.of_ino(ino);
         let waiting = self.locks.waiting() + 1;
         let Ok(mut endings) = Endings::with_room(self.alloc(), waiting) else {
             drop(ask);
@@ -96,7 +92,6 @@ impl World {
             &mut self.table,
             &mut self.locks,
             ino,
-            before,
             &mut endings,
         );
         Ok(close_with(&mut self.messages, ticket, endings))

@@ -39,7 +39,6 @@ impl World {
         if let Some(stopped) = self.flush_stop(client, ino, change) {
             return Ok(Said::alone(self.alloc(), stopped.into()));
         }
-        let before = self.locks.of_ino(ino);
         let mut endings = Endings::with_room(self.alloc(), self.locks.waiting())?;
         if let Err(refused) = alter(&mut self.tree, ino, change) {
             drop(endings);
@@ -53,7 +52,6 @@ impl World {
             &mut self.table,
             &mut self.locks,
             ino,
-            before,
             &mut endings,
         );
         Ok(close(&mut self.messages, Reply::Done, endings))

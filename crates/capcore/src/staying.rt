@@ -1,6 +1,6 @@
 //! Laws of steps that touch one inode. No program needs to call them.
 
-ghost use Rattle.std.specs.Prelude.{◌≤◌, ℕ, ◌+◌, List, All};
+ghost use Rattle.std.specs.Prelude.{◌≤◌, ℕ, ◌+◌, Bool, List, All};
 ghost use Rattle.inotree.specs.Tree.{IsTree};
 ghost use Rattle.captable.specs.Table.{IsTable};
 ghost use Rattle.lockmachine.specs.Scene.{Scene};
@@ -13,11 +13,11 @@ ghost use Rattle.capcore.specs.Sound.{IsSound, AreGiven};
 /// A sound state is sound after the step of an event that touched one inode, whatever was served there; and the step gives
 /// each entry at most one number.
 pub fn what_touches_one_inode_leaves_it_sound()
-    ensures sound { (ino : ℕ) (old : State) (moves : List Made) (first settled : Scene) → IsSound old
-        → IsTree settled.tree → IsTable first.table → Touches ino old first → SettlesAt ino moves first settled
-        → IsSound (state_at_end old moves (finished_at ino old.scene settled)) }
-    ensures given { (ino : ℕ) (count : ℕ) (old : State) (moves : List Made) (first settled : Scene)
-        → SettlesAt ino moves first settled → All (λ row. row.entry.seq ≤ count) first.table.rows
+    ensures sound { (at : ℕ → Bool) (ino : ℕ) (old : State) (moves : List Made) (first settled : Scene) → IsSound old
+        → IsTree settled.tree → IsTable first.table → Touches ino old first → SettlesAt at ino moves first settled
+        → IsSound (state_at_end old moves (finished_at at ino first settled)) }
+    ensures given { (at : ℕ → Bool) (ino : ℕ) (count : ℕ) (old : State) (moves : List Made) (first settled : Scene)
+        → SettlesAt at ino moves first settled → All (λ row. row.entry.seq ≤ count) first.table.rows
         → first.table.made ≤ count + 1 → first.locks.last ≤ count + 1
-        → AreGiven (count + 1) (state_at_end old moves (finished_at ino old.scene settled)) }
+        → AreGiven (count + 1) (state_at_end old moves (finished_at at ino first settled)) }
 {}

@@ -1,6 +1,6 @@
 //! Laws of the steps of events that are about one inode. No program needs to call them.
 
-ghost use Rattle.std.specs.Prelude.{◌≡◌, ℕ, List, []};
+ghost use Rattle.std.specs.Prelude.{◌≡◌, ℕ, Bool, List, []};
 ghost use Rattle.lockmachine.specs.Scene.{Scene};
 ghost use Rattle.capcore.specs.declared.event.Event.{Event};
 ghost use Rattle.capcore.specs.declared.reply.Reply.{Reply};
@@ -15,9 +15,9 @@ ghost use Rattle.capcore.specs.Touching.{SettlesAt};
 /// has ended and its client was told what is answered. The requests of earlier steps that were served are what the step
 /// ended.
 pub fn an_event_of_one_inode_is_a_step()
-    ensures { (ino : ℕ) (old new : State) (e : Event) (moves : List Made) (settled last : Scene) (answer : Reply)
+    ensures { (at : ℕ → Bool) (ino : ℕ) (old new : State) (e : Event) (moves : List Made) (settled last : Scene) (answer : Reply)
         → (direct old e).dropped ≡ [] → (direct old e).state.messages ≡ old.messages
-        → SettlesAt ino moves (direct old e).state.scene settled
+        → SettlesAt at ino moves (direct old e).state.scene settled
         → finished old.scene (direct old e).state.scene settled ≡ last
         → answer ≡ reply_of (state_at_end old moves last) (ended_in moves) (direct old e).answer
         → new ≡ shown (direct old e).answer (state_at_end old moves last)

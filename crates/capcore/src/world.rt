@@ -58,9 +58,7 @@ pub(crate) struct World {
 }
 
 impl Model for World {
-    ghost use Rattle.std.specs.Prelude.{◌≡◌, false, All};
     ghost use Rattle.capcore.specs.State.{State};
-    ghost use Rattle.capcore.specs.Served.{is_rename};
     ghost use Rattle.capcore.specs.Codes.{state_code};
     ghost use Rattle.capcore.specs.Sound.{IsSound, AreGiven, NumbersLeft};
     ghost use Rattle.capcore.specs.Touch.{touch_event};
@@ -76,14 +74,13 @@ impl Model for World {
       messages = w.messages.items;
     } };
 
-    // Sound; there is room for each message that is to come; and as no event of today moves an inode, nobody waits to.
+    // Sound; and there is room for each message that is to come.
     ghost invariant = { λ w.
         IsSound (record {
           scene = record { fs = w.fs; tree = w.tree; sessions = w.sessions; table = w.table; locks = w.locks };
           messages = w.messages.items;
         })
-        × HasRoom w.messages w.locks
-        × All (λ q. is_rename q.ask ≡ false) w.locks.queue };
+        × HasRoom w.messages w.locks };
 }
 
 impl World {
@@ -133,6 +130,12 @@ impl World {
             } => self.ask_change(*client, *ino, change),
             Event::Unlink { client, ino } => self.ask(*client, *ino, Ask::Unlink),
             Event::Rmdir { client, ino } => self.ask(*client, *ino, Ask::Rmdir),
+            Event::Rename {
+                client,
+                ino,
+                dir,
+                name,
+            } => self.ask_rename(*client, *ino, *dir, name),
             Event::Flush {
                 client,
                 ino,
@@ -175,7 +178,6 @@ impl World {
         if let Some(stopped) = self.touch_stop(holder, &touch) {
             return Ok(Said::alone(self.alloc(), stopped.into()));
         }
-        let before = self.locks.of_ino(ino);
         let revoked = revoked_of(&self.table, &self.locks, holder);
         let mut endings = Endings::with_room(self.alloc(), self.locks.waiting())?;
         if let Err(refused) = touch_entry(&mut self.table, holder, revoked, &touch) {
@@ -189,7 +191,6 @@ impl World {
             &mut self.table,
             &mut self.locks,
             ino,
-            before,
             &mut endings,
         );
         let reply = tell(&mut self.table, &self.locks, holder, &touch);
@@ -269,6 +270,7 @@ impl World {
             | Event::Alter { .. }
             | Event::Unlink { .. }
             | Event::Rmdir { .. }
+            | Event::Rename { .. }
             | Event::Flush { .. }
             | Event::Poll { .. } => unreachable!(),
         }
