@@ -44,3 +44,6 @@ pub mod Taking
 pub mod EndedIn
 pub mod Closing
 pub mod Waits
+pub mod SameOff
+pub mod Sweeping
+pub mod SoFar

@@ -1,19 +1,27 @@
 //! The locks settle at the inodes that a step touches, and who waits for them is served.
-ghost use Rattle.std.specs.Prelude.{◌≡◌, ◌<◌, ◌^◌, ◌-◌, ◌+◌, [], length, All, IsTrue};
+ghost use Rattle.std.specs.Prelude.{◌≡◌, ◌≤◌, ◌<◌, ◌^◌, ◌-◌, ◌+◌, ◌++◌, ◌∷◌, [], true, false, length, ℕ, Some, All, IsTrue};
 ghost use Rattle.std.specs.FinMap as map;
 ghost use Rattle.sessiontab.specs.Calls.{has_session};
-ghost use Rattle.captable.specs.Table.{IsTable};
+ghost use Rattle.captable.specs.Table.{Table, IsTable};
+ghost use Rattle.lockmachine.specs.declared.request.Request.{Request};
+ghost use Rattle.lockmachine.specs.Locks.{request_at};
 ghost use Rattle.lockmachine.specs.Scene.{scene};
 ghost use Rattle.lockmachine.specs.Moves.{IsQuietBut};
-ghost use Rattle.capcore.specs.Serves.{EndsWith};
+ghost use Rattle.lockmachine.specs.Turns.{WaitHere};
+ghost use Rattle.capcore.specs.declared.outcome.Ended.{Ended};
+ghost use Rattle.capcore.specs.Serves.{Serves, SettlesWith, EndsWith, is_touched};
+ghost use Rattle.capcore.specs.Sweep.{AreStill, GoesOn, IsTurnOfLeast, IsLeastOf, IsNextOf, IsSwept, Reaches};
 ghost use Rattle.capcore.specs.Untold.{HasRoom};
 
+use crate::finish::finish;
 use crate::messages::Endings;
-use capbits::Ino;
+use crate::reach::reach;
+use crate::serving::serve;
+use capbits::{Ino, Part, Ticket};
 use capspec::FsName;
 use captable::CapTable;
 use inotree::Tree;
-use lockmachine::Locks;
+use lockmachine::{Locks, Move, States};
 use sessiontab::Sessions;
 
 // Lets the locks settle after an event at one inode, and ends the step. The locks of every other inode are quiet.
@@ -41,5 +49,152 @@ pub(crate) fn end_at(
     ensures count { length endings.new.told.items + length locks.new.queue ≡ length locks.old.queue }
     ensures table { IsTable table.new }
 {
-    unreachable!()
+    let before = locks.of_ino(ino);
+    let touched = settle(fs, tree, sessions, table, locks, ino, endings);
+    // A look at the tree, by which the proof knows what it keeps.
+    let _last = tree.last();
+    finish(fs, tree, sessions, table, locks, ino, before, &touched);
+    // And one at the entries.
+    let _oldest = table.oldest();
+}
+
+// Makes the moves, always the first that applies, until none does. Each request that is served ends, once for its client and
+// once for the history. It answers the locks that other inodes had which were moved with this one.
+fn settle(
+    fs: &FsName,
+    tree: &mut Tree,
+    sessions: &Sessions,
+    table: &CapTable,
+    locks: &mut Locks,
+    ino: Ino,
+    endings: &mut Endings,
+) -> States
+    requires quiet { IsQuietBut (scene fs.now tree.old sessions.now table.now locks.old) ino.0 }
+    requires none { endings.old.told.items ≡ [] }
+    requires told { HasRoom endings.old.told locks.old }
+    requires kept { HasRoom endings.old.kept locks.old }
+    requires same { endings.old.kept.items ≡ endings.old.told.items }
+    requires locked { All (λ row. IsTrue (map.contains_key locks.old.states row.holder.ino.0)) table.now.rows }
+    ensures settles { SettlesWith (is_touched ino.0 result) ino.0 (scene fs.now tree.old sessions.now table.now locks.old)
+        (scene fs.now tree.new sessions.now table.now locks.new) endings.new.told.items }
+    ensures kept { endings.new.kept.items ≡ endings.new.told.items }
+    ensures count { length endings.new.told.items + length locks.new.queue ≡ length locks.old.queue }
+    ensures apart { map.contains_key result ino.0 ≡ false }
+    ensures before { (other : ℕ) → map.contains_key result other ≡ true
+        → map.get result other ≡ map.get locks.old.states other }
+{
+    let mut touched = States::new(endings.alloc());
+    'servings: while let Some(ticket) = sweep(fs, tree, sessions, table, locks, ino, &touched) {
+        // A look at the locks and at the tree, by which the proof knows what they keep.
+        let (_lock, _last) = (locks.state(ino, Part::A), tree.last());
+        serve_next(fs, tree, sessions, table, locks, ticket, &mut touched, endings);
+    }
+    touched
+}
+
+// ---- moves of locks
+
+// Lets the locks of the touched inodes move, one inode after the other, until a request is to be served, whose number it
+// answers, or no move applies.
+fn sweep(
+    fs: &FsName,
+    tree: &Tree,
+    sessions: &Sessions,
+    table: &CapTable,
+    locks: &mut Locks,
+    ino: Ino,
+    touched: &States,
+) -> Option<Ticket>
+    requires turn { IsTurnOfLeast (is_touched ino.0 touched.now) (scene fs.now tree.now sessions.now table.now locks.old) }
+    requires still { AreStill (is_touched ino.0 touched.now) (scene fs.now tree.now sessions.now table.now locks.old) }
+    requires waits { WaitHere (scene fs.now tree.now sessions.now table.now locks.old) ino.0 }
+    ensures swept { IsSwept (is_touched ino.0 touched.now) ino.0 (scene fs.now tree.now sessions.now table.now locks.old)
+        (scene fs.now tree.now sessions.now table.now locks.new) }
+    ensures next { GoesOn (scene fs.now tree.now sessions.now table.now locks.new) result }
+{
+    let mut at = lowest(touched, ino);
+    'inodes: loop {
+        if let Some(ticket) = locks.advance_at(table, sessions, tree, fs, at) {
+            return Some(ticket);
+        }
+        match next_touched(touched, ino, at) {
+            Some(next) => at = next,
+            None => return None,
+        }
+    }
+}
+
+// The least of the touched inodes.
+fn lowest(touched: &States, ino: Ino) -> Ino
+    ensures { IsLeastOf (is_touched ino.0 touched.now) result.0 }
+{
+    match touched.first() {
+        Some(first) => {
+            if first.0 < ino.0 {
+                first
+            } else {
+                ino
+            }
+        }
+        None => ino,
+    }
+}
+
+// The next of them behind this one.
+fn next_touched(touched: &States, ino: Ino, at: Ino) -> Option<Ino>
+    ensures { IsNextOf (is_touched ino.0 touched.now) at.0 result }
+{
+    match touched.after(at) {
+        Some(next) => {
+            if at.0 < ino.0 && ino.0 < next.0 {
+                Some(ino)
+            } else {
+                Some(next)
+            }
+        }
+        None => {
+            if at.0 < ino.0 {
+                Some(ino)
+            } else {
+                None
+            }
+        }
+    }
+}
+
+// ---- servings
+
+// Serves the request with this number. If it moves its inode, the locks that each other inode has are kept which is at or below
+// it and has entries; for want of memory for that it ends so.
+fn serve_next(
+    fs: &FsName,
+    tree: &mut Tree,
+    sessions: &Sessions,
+    table: &CapTable,
+    locks: &mut Locks,
+    ticket: Ticket,
+    touched: &mut States,
+    endings: &mut Endings,
+)
+    requires waits { (q : Request) × (request_at locks.old ticket.0 ≡ Some q) }
+    requires locked { All (λ row. IsTrue (map.contains_key locks.old.states row.holder.ino.0)) table.now.rows }
+    requires told { length endings.old.told.items < endings.old.told.room }
+    requires kept { length endings.old.kept.items < endings.old.kept.room }
+    ensures served { (ended : Ended) × ((some : Table) → Serves (scene fs.now tree.old sessions.now some locks.old) ticket ended
+        (scene fs.now tree.new sessions.now some locks.new))
+        × (endings.new.told.items ≡ endings.old.told.items ++ ended ∷ [])
+        × (endings.new.kept.items ≡ endings.old.kept.items ++ ended ∷ []) }
+    ensures reached { (q : Request) → request_at locks.old ticket.0 ≡ Some q
+        → Reaches q tree.old tree.new table.now locks.old.states touched.old touched.new }
+    ensures room { (endings.old.told.room ≤ endings.new.told.room) × (endings.old.kept.room ≤ endings.new.kept.room) }
+{
+    let Some(request) = locks.apply_move(Move::Serve(ticket)) else {
+        unreachable!()
+    };
+    let reached = reach(endings.alloc(), tree, table, locks, &request, touched);
+    let served = serve(endings.alloc(), fs, tree, sessions, &request, reached.is_ok());
+    let (client, ticket) = (request.client, request.ticket);
+    // The request goes before its end is told, so that the proof has to follow it but once.
+    drop(request);
+    endings.push(client, ticket, served);
 }

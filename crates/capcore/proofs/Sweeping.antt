@@ -1,0 +1,92 @@
+-- How the locks of several inodes settle between two servings.
+use Rattle.std.proofs.Common.{◌≡◌, ◌≢◌, ◌<◌, ℕ, Bool, true, false, ◌⊎◌, inl, inr, Option, Some, None, List, [], ◌∷◌, ◌++◌, refl, sym, ap, subst, ◌∙◌, Contains, true≢false}
+use Rattle.std.specs.Option.{option_map}
+use Rattle.std.specs.FinMap as map
+use Rattle.std.proofs.lemmas.List.{append-nil}
+use Rattle.capbits.specs.declared.cap.Part.{Part}
+use Rattle.capbits.specs.declared.cap.Part.TheVariants.{A, L, X, F}
+use Rattle.capbits.specs.declared.ids.Ino.{Ino}
+use Rattle.locktable.specs.declared.states.LockState.{LockState}
+use Rattle.lockmachine.specs.declared.request.Request.{Request}
+use Rattle.lockmachine.specs.declared.states.InodeLocks.{InodeLocks}
+use Rattle.lockmachine.specs.Inodes.{lock_in}
+use Rattle.lockmachine.specs.Locks.{LockMap, lock_at}
+use Rattle.lockmachine.specs.Scene.{Scene, wanted_in_all}
+use Rattle.lockmachine.specs.Moves.{may_end, may_begin, may_end_in, may_begin_in, first_move}
+use Rattle.lockmachine.specs.declared.moves.Move.TheVariants.{Settled}
+use Rattle.lockmachine.specs.Runs.{MoveLittle, ChangesLocksOf}
+use Rattle.lockmachine.specs.Turns.{IsTurnOf, IsDoneAt, WaitHere}
+use Rattle.lockmachine.proofs.Turns.{turn-passes, turn-rests, waits-kept}
+use Rattle.capcore.specs.Settle.{MakesAll, ended_in}
+use Rattle.capcore.specs.Sweep.{AreStill, IsSwept, IsNextOf}
+use Rattle.capcore.proofs.Moved.{as_made, makes-append, ended-append}
+
+-- ---- the locks of an inode
+
+all_parts : (one two : InodeLocks) → ((part : Part) → lock_in part one ≡ lock_in part two) → one ≡ two
+all_parts one two same i = record { auth = same A i; link = same L i; xattr = same X i; file = same F i }
+
+some_same : {T : Type 0} (x y : T) → ◌≡◌ {A = Option T} (Some x) (Some y) → x ≡ y
+some_same x y is = cc
+
+by_parts : (one two : Option InodeLocks) → ((part : Part) → option_map (lock_in part) one ≡ option_map (lock_in part) two) → one ≡ two
+by_parts None None same = refl
+by_parts None (Some two) same = (let no = same A in absurd (cc))
+by_parts (Some one) None same = (let no = same A in absurd (cc))
+by_parts (Some one) (Some two) same = ap Some (all_parts one two (λ part. some_same (lock_in part one) (lock_in part two) (same part)))
+
+-- where each lock of an inode is as it was, so are they together
+pub locks_by_parts : (old new : LockMap) (ino : ℕ) → ((part : Part) → lock_at new ino part ≡ lock_at old ino part) → map.get new.states ino ≡ map.get old.states ino
+locks_by_parts old new ino same = by_parts (map.get new.states ino) (map.get old.states ino) same
+
+-- ---- where nothing moves
+
+-- inodes whose locks are as they were are still, as long as the queue is the same
+pub still-kept : (at : ℕ → Bool) (s : Scene) (locks : LockMap) → AreStill at s → locks.queue ≡ s.locks.queue
+    → ((other : ℕ) → at other ≡ false → map.get locks.states other ≡ map.get s.locks.states other) → AreStill at (record s { locks = locks })
+still-kept at s locks still queue same = record {
+  ends = λ other part off. ap (may_end_in s.table (other, part)) (ap (option_map (lock_in part)) (same other off)) ∙ still.ends other part off;
+  begins = λ other part off.
+      ap (λ (o : Option LockState). may_begin_in locks.queue (wanted_in_all (record s { locks = locks }) other) (other, part) o) (ap (option_map (lock_in part)) (same other off))
+      ∙ ap (λ (q : List Request). may_begin_in q (wanted_in_all s other) (other, part) (lock_at s.locks other part)) queue
+      ∙ still.begins other part off;
+}
+
+-- ---- from inode to inode
+
+off_one : (at : ℕ → Bool) (one other : ℕ) → at one ≡ true → at other ≡ false → other ≢ one
+off_one at one other is off same = true≢false (sym is ∙ ap at (sym same) ∙ off)
+
+pub swept-begins : (at : ℕ → Bool) (ino : ℕ) (s : Scene) → WaitHere s ino → IsSwept at ino s s
+swept-begins at ino s waits = record {
+  moves = [];
+  made = refl;
+  none = refl;
+  is = refl;
+  states = λ other off. refl;
+  queue = refl;
+  waits = waits;
+}
+
+-- gathers began and ended at one more of the inodes
+pub swept-on : (at : ℕ → Bool) (ino : ℕ) (first now : Scene) → IsSwept at ino first now → (here : ℕ) → at here ≡ true → (locks : LockMap)
+    → MoveLittle now (record now { locks = locks }) → ChangesLocksOf here now.locks locks → IsSwept at ino first (record now { locks = locks })
+swept-on at ino first now is here touched locks (steps, few, runs) changes =
+    let more = as_made now steps (record now { locks = locks }) runs in
+    record {
+      moves = is.moves ++ more.moves;
+      made = makes-append first is.moves now more.moves (record now { locks = locks }) is.made more.made;
+      none = ended-append is.moves more.moves ∙ ap (λ ms. ms ++ ended_in more.moves) is.none ∙ more.none;
+      is = ap (λ (s : Scene). record s { locks = locks }) is.is;
+      states = λ other off. locks_by_parts now.locks locks other (λ part. changes.others other part (off_one at here other touched off)) ∙ is.states other off;
+      queue = changes.queue ∙ is.queue;
+      waits = waits-kept now steps (record now { locks = locks }) ino runs is.waits;
+    }
+
+-- an inode is done, and it is the next one's turn
+pub next-turn : (at : ℕ → Bool) (s : Scene) (here : ℕ) (next : Ino) → AreStill at s → IsTurnOf s here → IsDoneAt s here → IsNextOf at here (Some next) → IsTurnOf s next.0
+next-turn at s here next still turn done (less, is, between) = turn-passes s here next.0 turn done less (λ other part above below. still.begins other part (between other above below))
+
+-- the last is done, and no move applies
+pub last-turn : (at : ℕ → Bool) (s : Scene) (here : ℕ) → AreStill at s → IsTurnOf s here → IsDoneAt s here → IsNextOf at here None → first_move s ≡ Settled
+last-turn at s here still turn done beyond = turn-rests s here turn done (λ other part above. still.begins other part (beyond other above))
