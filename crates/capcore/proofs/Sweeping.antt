@@ -1,8 +1,14 @@
 -- How the locks of several inodes settle between two servings.
-use Rattle.std.proofs.Common.{◌≡◌, ◌≢◌, ◌<◌, ℕ, Bool, true, false, ◌⊎◌, inl, inr, Option, Some, None, List, [], ◌∷◌, ◌++◌, refl, sym, ap, subst, ◌∙◌, Contains, true≢false}
+use Rattle.std.proofs.Common.{◌≡◌, ◌≢◌, ◌<◌, ◌≤◌, ◌+◌, ℕ, Bool, true, false, cond, ◌||◌, ◌==◌, nat_lt, count_by, Option, Some, None, List, [], ◌∷◌, ◌++◌, refl, sym, ap, subst, ◌∙◌, Contains, true≢false, arith}
+use Rattle.std.specs.List.{list_any}
+use Rattle.std.specs.Ordering.{nat_cmp, eq_by_cmp}
+use Rattle.std.specs.Cmp.{unsigned_tied}
 use Rattle.std.specs.Option.{option_map}
 use Rattle.std.specs.FinMap as map
-use Rattle.std.proofs.lemmas.List.{append-nil}
+use Rattle.std.proofs.lemmas.Bool.{ltb-true, lt-ltb, le-ltb}
+use Rattle.lockmachine.proofs.Rest.{same_key}
+use Rattle.lockmachine.specs.Inodes.{StateMap}
+use Rattle.capcore.specs.Serves.{is_touched}
 use Rattle.capbits.specs.declared.cap.Part.{Part}
 use Rattle.capbits.specs.declared.cap.Part.TheVariants.{A, L, X, F}
 use Rattle.capbits.specs.declared.ids.Ino.{Ino}
@@ -90,3 +96,38 @@ next-turn at s here next still turn done (less, is, between) = turn-passes s her
 -- the last is done, and no move applies
 pub last-turn : (at : ℕ → Bool) (s : Scene) (here : ℕ) → AreStill at s → IsTurnOf s here → IsDoneAt s here → IsNextOf at here None → first_move s ≡ Settled
 last-turn at s here still turn done beyond = turn-rests s here turn done (λ other part above. still.begins other part (beyond other above))
+
+-- ---- how many inodes are left
+
+-- how many of the touched inodes are behind this one
+abbrev pub behind : ℕ → StateMap → ℕ → ℕ
+behind ino touched here = count_by (nat_lt here) (ino ∷ map.keys touched)
+
+one_no_more : (a b x : ℕ) → a < b → cond (nat_lt b x) 1 0 ≤ cond (nat_lt a x) 1 0
+one_no_more a b x less = elim (nat_lt b x) as (λ p. nat_lt b x ≡ p → cond p 1 0 ≤ cond (nat_lt a x) 1 0) [
+  | true ↦ λ above. subst (λ p. 1 ≤ cond p 1 0) (sym (lt-ltb a x (omega (arith, less, ltb-true b x above)))) (omega arith)
+  | false ↦ λ above. omega arith
+] refl
+
+no_more : (a b : ℕ) → a < b → (xs : List ℕ) → count_by (nat_lt b) xs ≤ count_by (nat_lt a) xs
+no_more a b less [] = omega arith
+no_more a b less (x ∷ xs) = omega (arith, one_no_more a b x less, no_more a b less xs)
+
+fewer : (a b : ℕ) → a < b → (xs : List ℕ) → list_any (eq_by_cmp nat_cmp b) xs ≡ true → count_by (nat_lt b) xs < count_by (nat_lt a) xs
+fewer a b less [] among = absurd (cc)
+fewer a b less (x ∷ xs) among = elim (eq_by_cmp nat_cmp b x) as (λ e. eq_by_cmp nat_cmp b x ≡ e → e || list_any (eq_by_cmp nat_cmp b) xs ≡ true → count_by (nat_lt b) (x ∷ xs) < count_by (nat_lt a) (x ∷ xs)) [
+  | true ↦ λ is _.
+      let same : x ≡ b = same_key b x is in
+      let none : cond (nat_lt b x) 1 0 ≡ 0 = ap (λ p. cond p 1 0) (le-ltb b x (omega (arith, same))) in
+      let one : cond (nat_lt a x) 1 0 ≡ 1 = ap (λ p. cond p 1 0) (lt-ltb a x (omega (arith, same, less))) in
+      omega (arith, none, one, no_more a b less xs)
+  | false ↦ λ is rest. omega (arith, one_no_more a b x less, fewer a b less xs rest)
+] refl among
+
+-- with each that is done, there are fewer
+pub fewer_behind : (ino : ℕ) (touched : StateMap) (here : ℕ) (next : Ino) → IsNextOf (is_touched ino touched) here (Some next) → behind ino touched next.0 < behind ino touched here
+fewer_behind ino touched here next (less, is, between) = fewer here next.0 less (ino ∷ map.keys touched) (
+    ap (λ b. b || list_any (eq_by_cmp nat_cmp next.0) (map.keys touched)) (sym (unsigned_tied next.0 ino))
+    ∙ ap (λ b. (next.0 == ino) || b) (sym (map.contains_key-keys touched next.0))
+    ∙ is
+    )
