@@ -182,10 +182,10 @@ abbrev IsOpenGather : Scene → LockPlace → State → State → Option LockSta
 IsOpenGather s at from to o = (is_open s at.0 at.1 to ≡ true) × (o ≡ Some (Gather from to))
 
 begun_not : (s : Scene) (at : LockPlace) (from to : State) (o : Option LockState) → IsOpenGather s at from to o → may_begin_in s.locks.queue (wanted_in_all s at.0) at o ≢ true
-begun_not s at from to o open may = true≢false (sym may ∙ ap (may_begin_in s.locks.queue (wanted_in_all s at.0) at) open.1)
+begun_not s at from to o held may = true≢false (sym may ∙ ap (may_begin_in s.locks.queue (wanted_in_all s at.0) at) held.1)
 
 ended_not : (s : Scene) (at : LockPlace) (from to : State) (o : Option LockState) → IsOpenGather s at from to o → may_end_in s.table at o ≢ true
-ended_not s at from to o open may = true≢false (sym may ∙ ap (may_end_in s.table at) open.1 ∙ ap not open.0)
+ended_not s at from to o held may = true≢false (sym may ∙ ap (may_end_in s.table at) held.1 ∙ ap not held.0)
 
 -- a move leaves it so
 open-moved : (s : Scene) (step : Move) → IsMove s step → IsTrue (is_of_lock step) → (at : LockPlace) (from to : State)
@@ -193,11 +193,11 @@ open-moved : (s : Scene) (step : Move) → IsMove s step → IsTrue (is_of_lock 
 open-moved s (Begin ino part goes) is of_lock at from to =
     with_lock-each s.locks ino.0 part (Gather (present_state (lock_at s.locks ino.0 part)) goes)
     (λ b (p : LockPlace) o. IsOpenGather s p from to (lock_at s.locks p.0 p.1) → o ≡ Some (Gather from to))
-    (λ open. absurd (begun_not s (ino.0, part) from to (lock_at s.locks ino.0 part) open is.0)) (λ p open. open.1) at
+    (λ held. absurd (begun_not s (ino.0, part) from to (lock_at s.locks ino.0 part) held is.0)) (λ p held. held.1) at
 open-moved s (End ino part) is of_lock at from to =
     with_lock-each s.locks ino.0 part (Stable (coming_state (lock_at s.locks ino.0 part)))
     (λ b (p : LockPlace) o. IsOpenGather s p from to (lock_at s.locks p.0 p.1) → o ≡ Some (Gather from to))
-    (λ open. absurd (ended_not s (ino.0, part) from to (lock_at s.locks ino.0 part) open is)) (λ p open. open.1) at
+    (λ held. absurd (ended_not s (ino.0, part) from to (lock_at s.locks ino.0 part) held is)) (λ p held. held.1) at
 open-moved s (Serve ticket) is of_lock at from to = absurd (true≢false (sym of_lock))
 open-moved s Settled is of_lock at from to = absurd (true≢false (sym of_lock))
 

@@ -11,12 +11,12 @@ use Rattle.lockmachine.proofs.locks.Locks.next_move_at.Goals as goal
 pub returns-in-Some : goal.returns-in-Some
 returns-in-Some c =
     let s : Scene = scene c.args.fs.now c.args.tree.now c.args.sessions.now c.args.table.now c.args.self.now in
-    (end_first s c.args.ino.0 c.in-Some.part (ends_at s c.args.ino.0 c.requires ∙ ap (option_map (λ part. (c.args.ino.0, part))) (sym c.first_end.ensures ∙ c.in-Some.is)), refl)
+    (end_first s c.args.ino.0 c.in-Some.part (ends_at s c.args.ino.0 c.requires.turn ∙ ap (option_map (λ part. (c.args.ino.0, part))) (sym c.first_end.ensures ∙ c.in-Some.is)), refl)
 
 pub returns-in-Some-first_served : goal.returns-in-Some-first_served
 returns-in-Some-first_served c =
     let s : Scene = scene c.args.fs.now c.args.tree.now c.args.sessions.now c.args.table.now c.args.self.now in
-    serve_first s c.in-Some-first_served.ticket (ends_at s c.args.ino.0 c.requires ∙ ap (option_map (λ part. (c.args.ino.0, part))) (sym c.first_end.ensures ∙ c.in_default.is))
+    serve_first s c.in-Some-first_served.ticket (ends_at s c.args.ino.0 c.requires.turn ∙ ap (option_map (λ part. (c.args.ino.0, part))) (sym c.first_end.ensures ∙ c.in_default.is))
     (sym c.in-Some-first_served.is ∙ c.first_served.ensures)
 
 pub returns : goal.returns
@@ -25,5 +25,5 @@ returns c =
     subst (IsNextAt s c.args.ino.0)
     (sym (c.unwrap_or.ensures ∙ ap (λ o. unwrap_or o Settled) c.first_begin.ensures
     ∙ ap (λ wants. unwrap_or (option_map (λ part. beginning s.locks wants (c.args.ino.0, part)) (find (λ part. may_begin_by s.locks wants (c.args.ino.0, part)) parts)) Settled) c.wants_on-wants.ensures))
-    (next_begin s c.args.ino.0 c.requires (sym c.first_end.ensures ∙ c.in_default.is) (sym c.in_default-first_served.is ∙ c.first_served.ensures)
+    (next_begin s c.args.ino.0 c.requires.turn (sym c.first_end.ensures ∙ c.in_default.is) (sym c.in_default-first_served.is ∙ c.first_served.ensures)
     (find (λ part. may_begin s (c.args.ino.0, part)) parts) refl)
