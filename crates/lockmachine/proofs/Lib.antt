@@ -4,6 +4,8 @@ pub mod Rest
 pub mod Exact
 pub mod Queue
 pub mod Permitting
+pub mod Finding
+pub mod Least
 pub mod Places
 pub mod Moving
 pub mod Ending
@@ -11,3 +13,4 @@ pub mod Settling
 pub mod InRows
 pub mod PolicyElsewhere
 pub mod SameBut
+pub mod Turns

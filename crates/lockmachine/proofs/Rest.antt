@@ -81,7 +81,7 @@ pub same_key : (ino x : ℕ) → eq_by_cmp nat_cmp ino x ≡ true → x ≡ ino
 same_key ino x e = sym (eqb-true ino x (sym (unsigned_tied ino x) ∙ e))
 
 -- a test that finds none of the locks fails at each
-none_at : (p : LockPlace → Bool) (inos : List ℕ) → find p (flat_map places_of inos) ≡ None → (ino : ℕ) → list_any (eq_by_cmp nat_cmp ino) inos ≡ true → (part : Part) → p (ino, part) ≡ false
+pub none_at : (p : LockPlace → Bool) (inos : List ℕ) → find p (flat_map places_of inos) ≡ None → (ino : ℕ) → list_any (eq_by_cmp nat_cmp ino) inos ≡ true → (part : Part) → p (ino, part) ≡ false
 none_at p [] none ino among part = absurd (cc)
 none_at p (y ∷ ys) none ino among part =
     let later = flat_map places_of ys in

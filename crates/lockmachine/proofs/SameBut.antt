@@ -1,4 +1,4 @@
--- Scenes that are the same but at one inode: what leaves them so, and what follows of their locks.
+-- Scenes that are the same but at one inode, or the same at one: what leaves them so, and what follows of their locks.
 use Rattle.std.proofs.Common.{◌≡◌, ◌≢◌, ℕ, Bool, true, false, cond, not, ◌&&◌, ◌==◌, Option, Some, None, List, [], ◌∷◌, ◌++◌, filter, map as each, refl, sym, ap, subst, ◌∙◌, Contains, true≢false}
 use Rattle.std.specs.List.{find, list_any}
 use Rattle.std.specs.FinMap as map
@@ -25,10 +25,10 @@ use Rattle.lockmachine.specs.declared.moves.Move.TheVariants.{Serve}
 use Rattle.lockmachine.specs.Requests.{same_part, part_of_ask, is_for, first_for, head_of}
 use Rattle.lockmachine.specs.Locks.{LockMap, IsLockMap, lock_at, request_at, next_request, with_request, without_request}
 use Rattle.lockmachine.specs.Wants.{Want, want_of, in_all}
-use Rattle.lockmachine.specs.Scene.{Scene, wants, wanted, loner, target, target_by, outside}
-use Rattle.lockmachine.specs.Moves.{may_serve, first_move, IsQuiet, IsAtRest, IsQuietBut}
+use Rattle.lockmachine.specs.Scene.{Scene, wants, wanted, loner, wanted_in_all, target, target_by, outside}
+use Rattle.lockmachine.specs.Moves.{same_state, may_end, may_end_in, may_begin, may_begin_in, may_serve, first_move, IsQuiet, IsAtRest, IsQuietBut}
 use Rattle.lockmachine.specs.Runs.{ChangesLocksOf}
-use Rattle.lockmachine.specs.Elsewhere.{IsSameBut}
+use Rattle.lockmachine.specs.Elsewhere.{IsSameBut, IsSameAt}
 use Rattle.lockmachine.proofs.Exact.{serves_not}
 use Rattle.lockmachine.proofs.PolicyElsewhere.{alike-itself, want-kept}
 use Rattle.lockmachine.proofs.Queue.{found_by_number, taken_alone, least_served}
@@ -152,7 +152,7 @@ same-served s q tree is inside places alike = record {
   alike = alike;
 }
 
--- ---- what is wanted elsewhere
+-- ---- what is wanted of an inode, and which moves apply there
 
 -- two functions that agree on what passes a test
 each_passing : {A B : Type 0} (f g : A → B) (p : A → Bool) (xs : List A) → ((x : A) → p x ≡ true → g x ≡ f x) → each g (filter p xs) ≡ each f (filter p xs)
@@ -163,31 +163,60 @@ each_passing f g p (x ∷ xs) agree =
       | false ↦ λ fails. each_passing f g p xs agree
     ] refl
 
-module _ (ino : ℕ) (old new : Scene) (same : IsSameBut ino old new) (other : ℕ) (off : other ≢ ino) where
-  want_same : (row : EntryRow) → row.holder.ino.0 ≡ other → want_of old.fs new.tree new.sessions row ≡ want_of old.fs old.tree old.sessions row
+-- what is the same but at one inode, is the same at each other
+pub same-at : (ino : ℕ) (old new : Scene) → IsSameBut ino old new → (other : ℕ) → other ≢ ino → IsSameAt other old new
+same-at ino old new same other off = record {
+  fs = same.fs;
+  sessions = same.sessions;
+  entries = same.entries (record { 0 = other }) off;
+  locks = λ part. same.locks other part off;
+  waiting = λ part. same.waiting other part off;
+  alike = same.alike other off;
+}
+
+module _ (ino : ℕ) (old new : Scene) (same : IsSameAt ino old new) where
+  want_same : (row : EntryRow) → row.holder.ino.0 ≡ ino → want_of old.fs new.tree new.sessions row ≡ want_of old.fs old.tree old.sessions row
   want_same row here =
-      let alike = subst (IsAlike old.tree new.tree) (sym here) (same.alike other off) in
+      let alike = subst (IsAlike old.tree new.tree) (sym here) same.alike in
       let counts = want-kept old.fs old.tree new.tree old.sessions new.sessions row alike (ap (λ (t : SessionTable). map.get t.sessions row.holder.client.0) same.sessions) in
       λ k. (row.holder.client, counts k)
 
-  wants_same : wants new other ≡ wants old other
+  wants_same : wants new ino ≡ wants old ino
   wants_same =
-      ap (each (want_of new.fs new.tree new.sessions)) (same.entries (record { 0 = other }) off)
-      ∙ ap (λ fs. each (want_of fs new.tree new.sessions) (entries_on old.table (record { 0 = other }))) same.fs
-      ∙ each_passing (want_of old.fs old.tree old.sessions) (want_of old.fs new.tree new.sessions) (is_of_inode (record { 0 = other })) old.table.rows
-      (λ row passes. want_same row (eqb-true row.holder.ino.0 other passes))
+      ap (each (want_of new.fs new.tree new.sessions)) same.entries
+      ∙ ap (λ fs. each (want_of fs new.tree new.sessions) (entries_on old.table (record { 0 = ino }))) same.fs
+      ∙ each_passing (want_of old.fs old.tree old.sessions) (want_of old.fs new.tree new.sessions) (is_of_inode (record { 0 = ino })) old.table.rows
+      (λ row passes. want_same row (eqb-true row.holder.ino.0 ino passes))
 
-  target_same : (part : Part) (state : State) → target new other part state ≡ target old other part state
+  target_same : (part : Part) (state : State) → target new ino part state ≡ target old ino part state
   target_same part state =
-      ap (λ (all : List Want). target_by new.locks.queue (in_all all) other part state) wants_same
-      ∙ ap (λ first. target_of part state (head_of first) (loner old other) (wanted old other)) (same.waiting other part off)
+      ap (λ (all : List Want). target_by new.locks.queue (in_all all) ino part state) wants_same
+      ∙ ap (λ first. target_of part state (head_of first) (loner old ino) (wanted old ino)) (same.waiting part)
 
-  quiet_same : (part : Part) (o : Option LockState) → IsQuiet old other part o → IsQuiet new other part o
-  quiet_same part None quiet = same.waiting other part off ∙ quiet
-  quiet_same part (Some (Stable state)) quiet = (target_same part state ∙ quiet.0, same.waiting other part off ∙ quiet.1)
+  quiet_same : (part : Part) (o : Option LockState) → IsQuiet old ino part o → IsQuiet new ino part o
+  quiet_same part None quiet = same.waiting part ∙ quiet
+  quiet_same part (Some (Stable state)) quiet = (target_same part state ∙ quiet.0, same.waiting part ∙ quiet.1)
   quiet_same part (Some (Gather from to)) quiet =
       let Open : List EntryRow → Type 0 = λ rows. list_any (λ row. not (is_empty (outside part to row))) rows ≡ true in
-      subst Open (sym (same.entries (record { 0 = other }) off)) quiet
+      subst Open (sym same.entries) quiet
+
+  begin_in : (part : Part) (o : Option LockState)
+      → may_begin_in new.locks.queue (wanted_in_all new ino) (ino, part) o ≡ may_begin_in old.locks.queue (wanted_in_all old ino) (ino, part) o
+  begin_in part None = refl
+  begin_in part (Some (Gather from to)) = refl
+  begin_in part (Some (Stable state)) = ap (λ t. not (same_state t state)) (target_same part state)
+
+  end_in : (part : Part) (o : Option LockState) → may_end_in new.table (ino, part) o ≡ may_end_in old.table (ino, part) o
+  end_in part None = refl
+  end_in part (Some (Stable state)) = refl
+  end_in part (Some (Gather from to)) = ap (λ (rows : List EntryRow). not (list_any (λ row. not (is_empty (outside part to row))) rows)) same.entries
+
+  -- the same moves apply there
+  pub begin-alike : (part : Part) → may_begin new (ino, part) ≡ may_begin old (ino, part)
+  begin-alike part = ap (may_begin_in new.locks.queue (wanted_in_all new ino) (ino, part)) (same.locks part) ∙ begin_in part (lock_at old.locks ino part)
+
+  pub end-alike : (part : Part) → may_end new (ino, part) ≡ may_end old (ino, part)
+  end-alike part = ap (may_end_in new.table (ino, part)) (same.locks part) ∙ end_in part (lock_at old.locks ino part)
 
 -- ---- what is quiet stays quiet elsewhere
 
@@ -195,7 +224,7 @@ pub quiet-kept : (ino : ℕ) (old new : Scene) → IsQuietBut old ino → IsSame
 quiet-kept ino old new quiet same = record {
   each_other = λ other part off.
       subst (IsQuiet new other part) (sym (same.locks other part off))
-      (quiet_same ino old new same other off part (lock_at old.locks other part) (quiet.each_other other part off));
+      (quiet_same other old new (same-at ino old new same other off) part (lock_at old.locks other part) (quiet.each_other other part off));
 }
 
 pub quiet-rest : (ino : ℕ) (old new : Scene) → IsAtRest old → IsSameBut ino old new → IsQuietBut new ino

@@ -1,4 +1,4 @@
--- When two scenes are the same but at one inode.
+-- When two scenes are the same but at one inode, and when they are the same at one.
 use Rattle.std.specs.Prelude.{◌≡◌, ◌≢◌, ℕ}
 use Rattle.capbits.specs.declared.cap.Part.{Part}
 use Rattle.capbits.specs.declared.ids.Ino.{Ino}
@@ -19,3 +19,13 @@ pub record IsSameBut (ino : ℕ) (old new : Scene) : Type 0 where
   pub waiting : (other : ℕ) (part : Part) → other ≢ ino → first_for new.locks.queue other part ≡ first_for old.locks.queue other part
   pub places : (other : ℕ) → other ≢ ino → place new.tree.nodes other ≡ place old.tree.nodes other
   pub alike : (other : ℕ) → other ≢ ino → IsAlike old.tree new.tree other
+
+-- of one inode the entries, the locks and who waits first for each are as they were, and so are its path, its owner, its group
+-- and its mode; sessions are as they were
+pub record IsSameAt (ino : ℕ) (old new : Scene) : Type 0 where
+  pub fs : new.fs ≡ old.fs
+  pub sessions : new.sessions ≡ old.sessions
+  pub entries : entries_on new.table (record { 0 = ino }) ≡ entries_on old.table (record { 0 = ino })
+  pub locks : (part : Part) → lock_at new.locks ino part ≡ lock_at old.locks ino part
+  pub waiting : (part : Part) → first_for new.locks.queue ino part ≡ first_for old.locks.queue ino part
+  pub alike : IsAlike old.tree new.tree ino

@@ -9,3 +9,4 @@ pub mod Moves
 pub mod Runs
 pub mod Rows
 pub mod Elsewhere
+pub mod Turns

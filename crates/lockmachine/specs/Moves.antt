@@ -7,7 +7,6 @@ use Rattle.std.specs.FinMap as map
 use Rattle.capbits.specs.declared.cap.Part.{Part}
 use Rattle.capbits.specs.declared.cap.Part.TheVariants.{A, L, X, F}
 use Rattle.capbits.specs.declared.ids.Ino.{Ino}
-use Rattle.capbits.specs.declared.ids.Ticket.{Ticket}
 use Rattle.capbits.specs.Sets.{is_empty}
 use Rattle.locktable.specs.declared.states.State.{State}
 use Rattle.locktable.specs.declared.states.State.TheVariants.{Sync, Lock, Mix, Excl}
@@ -141,11 +140,6 @@ end_or_serve s (Some at) = End (record { 0 = at.0 }) at.1
 unfoldable pub first_move : Scene → Move
 first_move s = end_or_serve s (find (may_end s) (places s.locks))
 
--- a request is to be served, or no move applies
-abbrev pub serve_or_rest : Option Ticket → Move
-serve_or_rest None = Settled
-serve_or_rest (Some ticket) = Serve ticket
-
 -- ---- what they do
 
 -- the lock gathers
@@ -194,7 +188,3 @@ WaitAtLocks s = (ino : ℕ) (part : Part) → lock_at s.locks ino part ≡ None 
 -- each lock of another inode is quiet
 pub record IsQuietBut (s : Scene) (ino : ℕ) : Type 0 where
   pub each_other : (other : ℕ) (part : Part) → other ≢ ino → IsQuiet s other part (lock_at s.locks other part)
-
--- nobody waits for a lock of the inode
-abbrev pub NobodyWaits : List Request → ℕ → Type 0
-NobodyWaits queue ino = (part : Part) → first_for queue ino part ≡ None

@@ -12,6 +12,7 @@ mod policy_laws;
 mod request;
 mod revoked;
 mod states;
+mod turn_laws;
 mod wants;
 
 pub use bytes::Bytes;
@@ -32,5 +33,18 @@ pub use policy_laws::{
     a_snapshot_leaves_what_is_permitted, policy_reads_one_session_and_one_inode,
 };
 pub use request::{Ask, Change, Request};
-pub use states::InodeLocks;
+pub use states::{InodeLocks, States};
+pub use turn_laws::{
+    done_and_nothing_above_is_settled,
+    done_passes_the_turn,
+    moves_at_an_inode_leave_others,
+    moves_leave_the_queue,
+    nothing_ends_and_one_may_be_served,
+    nothing_ends_is_a_turn,
+    quiet_elsewhere_is_its_turn,
+    what_is_served_leaves_no_end,
+    where_others_are_held_up_one_is_served_here,
+    who_is_held_up_stays_so,
+    who_waits_at_a_quiet_lock_is_held_up,
+};
 pub use wants::{Wants, effective_want, permitted, wants_on};

@@ -9,8 +9,9 @@ ghost use Rattle.lockmachine.specs.Locks as words;
 ghost use Rattle.lockmachine.specs.Requests as requests;
 ghost use Rattle.lockmachine.specs.Scene.{scene, head_in, target_by};
 ghost use Rattle.lockmachine.specs.Moves as moves;
-ghost use Rattle.lockmachine.specs.Moves.{first_move, moved, handed, serve_or_rest, IsQuietBut, NobodyWaits};
+ghost use Rattle.lockmachine.specs.Moves.{first_move, moved, handed};
 ghost use Rattle.lockmachine.specs.Runs.{MoveLittle, ChangesLocksOf};
+ghost use Rattle.lockmachine.specs.Turns.{IsTurnOf, IsNextAt, IsDue};
 
 use crate::moves::Move;
 use crate::request::{Ask, Request};
@@ -153,13 +154,14 @@ impl Locks {
         if let Some((ino, part)) = self.first_end_of_all(table) {
             return Move::End { ino, part };
         }
-        if let Some(ticket) = self.first_serve() {
+        if let Some(ticket) = self.first_served() {
             return Move::Serve(ticket);
         }
         self.first_begin_of_all(fs, tree, sessions, table)
     }
 
-    /// The same move, where the locks of every other inode are quiet. It looks at the entries of this inode alone.
+    /// What is next where it is an inode's turn: a move at this inode, or a request that is served, by the first move that
+    /// applies to all; or else nothing, at this inode. It looks at the entries of this inode alone.
     pub fn next_move_at(
         &self,
         table: &CapTable,
@@ -168,17 +170,29 @@ impl Locks {
         fs: &FsName,
         ino: Ino,
     ) -> Move
-        requires quiet { IsQuietBut (scene fs.now tree.now sessions.now table.now self.now) ino.0 }
-        ensures { result ≡ first_move (scene fs.now tree.now sessions.now table.now self.now) }
+        requires turn { IsTurnOf (scene fs.now tree.now sessions.now table.now self.now) ino.0 }
+        ensures { IsNextAt (scene fs.now tree.now sessions.now table.now self.now) ino.0 result }
     {
         if let Some(part) = self.first_end(table, ino) {
             return Move::End { ino, part };
         }
-        if let Some(ticket) = self.first_serve() {
+        if let Some(ticket) = self.first_served() {
             return Move::Serve(ticket);
         }
         let wants = wants_on(fs, tree, sessions, table, ino);
         self.first_begin(ino, &wants).unwrap_or(Move::Settled)
+    }
+
+    /// The oldest request that may be served. It looks at the locks and the queue alone.
+    pub fn first_served(&self) -> Option<Ticket>
+        ensures { result ≡ option_map (λ q. q.ticket) (find (moves.may_serve self.now) self.now.queue) }
+    {
+        for request in &self.queue {
+            if self.may_serve(request) {
+                return Some(request.ticket);
+            }
+        }
+        None
     }
 
     // ---- among all
@@ -192,18 +206,6 @@ impl Locks {
             let ino = Ino(*number);
             if let Some(part) = self.first_end(table, ino) {
                 return Some((ino, part));
-            }
-        }
-        None
-    }
-
-    // The oldest request that may be served.
-    fn first_serve(&self) -> Option<Ticket>
-        ensures { result ≡ option_map (λ q. q.ticket) (find (moves.may_serve self.now) self.now.queue) }
-    {
-        for request in &self.queue {
-            if self.may_serve(request) {
-                return Some(request.ticket);
             }
         }
         None
@@ -415,8 +417,8 @@ impl Locks {
         self.states.get(ino).copied()
     }
 
-    /// Begins and ends gathers at one inode, always by the first move that applies, until a request is to be served, whose
-    /// number it answers, or no move applies. The locks of every other inode are quiet.
+    /// Where it is an inode's turn, begins and ends gathers there, always by the first move that applies to all, until a
+    /// request is to be served, whose number it answers, or the inode is done. It is still its turn then.
     pub fn advance_at(
         &mut self,
         table: &CapTable,
@@ -425,13 +427,13 @@ impl Locks {
         fs: &FsName,
         ino: Ino,
     ) -> Option<Ticket>
-        requires quiet { IsQuietBut (scene fs.now tree.now sessions.now table.now self.old) ino.0 }
+        requires turn { IsTurnOf (scene fs.now tree.now sessions.now table.now self.old) ino.0 }
 
         // Each lock begins at most one gather and ends at most two.
         ensures moves { MoveLittle (scene fs.now tree.now sessions.now table.now self.old)
             (scene fs.now tree.now sessions.now table.now self.new) }
-        ensures next { first_move (scene fs.now tree.now sessions.now table.now self.new) ≡ serve_or_rest result }
-        ensures quiet { IsQuietBut (scene fs.now tree.now sessions.now table.now self.new) ino.0 }
+        ensures due { IsDue (scene fs.now tree.now sessions.now table.now self.new) ino.0 result }
+        ensures turn { IsTurnOf (scene fs.now tree.now sessions.now table.now self.new) ino.0 }
         ensures elsewhere { ChangesLocksOf ino.0 self.old self.new }
     {
         'moves: loop {
@@ -441,28 +443,6 @@ impl Locks {
                 step => self.make(step),
             }
         }
-    }
-
-    /// Makes the moves at one inode, always the first that applies, until none does. Nobody waits at this inode, and the
-    /// locks of every other are quiet.
-    pub fn settle_at(
-        &mut self,
-        table: &CapTable,
-        sessions: &Sessions,
-        tree: &Tree,
-        fs: &FsName,
-        ino: Ino,
-    )
-        requires nobody_waits { NobodyWaits self.old.queue ino.0 }
-        requires quiet { IsQuietBut (scene fs.now tree.now sessions.now table.now self.old) ino.0 }
-
-        // Each lock begins at most one gather and ends at most two.
-        ensures moves { MoveLittle (scene fs.now tree.now sessions.now table.now self.old)
-            (scene fs.now tree.now sessions.now table.now self.new) }
-        ensures settled { first_move (scene fs.now tree.now sessions.now table.now self.new) ≡ Settled }
-        ensures elsewhere { ChangesLocksOf ino.0 self.old self.new }
-    {
-        let _nobody = self.advance_at(table, sessions, tree, fs, ino);
     }
 
     // Makes a move that serves nobody.

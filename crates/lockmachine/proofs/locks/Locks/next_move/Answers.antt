@@ -9,15 +9,15 @@ returns-in-Some c =
     let s : Scene = scene c.args.fs.now c.args.tree.now c.args.sessions.now c.args.table.now c.args.self.now in
     sym (end_first s c.in-Some.ino.0 c.in-Some.part (sym c.first_end_of_all.ensures ∙ ap (option_map (λ at. (at.0.0, at.1))) c.in-Some.is))
 
-pub returns-in-Some-first_serve : goal.returns-in-Some-first_serve
-returns-in-Some-first_serve c =
+pub returns-in-Some-first_served : goal.returns-in-Some-first_served
+returns-in-Some-first_served c =
     let s : Scene = scene c.args.fs.now c.args.tree.now c.args.sessions.now c.args.table.now c.args.self.now in
-    sym (serve_first s c.in-Some-first_serve.ticket (sym c.first_end_of_all.ensures ∙ ap (option_map (λ at. (at.0.0, at.1))) c.in_default.is)
-    (sym c.in-Some-first_serve.is ∙ c.first_serve.ensures))
+    sym (serve_first s c.in-Some-first_served.ticket (sym c.first_end_of_all.ensures ∙ ap (option_map (λ at. (at.0.0, at.1))) c.in_default.is)
+    (sym c.in-Some-first_served.is ∙ c.first_served.ensures))
 
 pub returns : goal.returns
 returns c =
     let s : Scene = scene c.args.fs.now c.args.tree.now c.args.sessions.now c.args.table.now c.args.self.now in
     c.first_begin_of_all.ensures
     ∙ sym (begin_first s (sym c.first_end_of_all.ensures ∙ ap (option_map (λ at. (at.0.0, at.1))) c.in_default.is)
-    (sym c.in_default-first_serve.is ∙ c.first_serve.ensures))
+    (sym c.in_default-first_served.is ∙ c.first_served.ensures))

@@ -1,0 +1,55 @@
+-- Whose turn it is, where a step touches many inodes: a caller goes over them in the order of their numbers.
+use Rattle.std.specs.Prelude.{◌≡◌, ◌≢◌, ◌<◌, ℕ, true, false, Option, Some, None, Contains}
+use Rattle.capbits.specs.declared.cap.Part.{Part}
+use Rattle.capbits.specs.declared.ids.Ticket.{Ticket}
+use Rattle.locktable.specs.declared.states.State.{State}
+use Rattle.locktable.specs.declared.states.LockState.TheVariants.{Gather}
+use Rattle.lockmachine.specs.declared.request.Request.{Request}
+use Rattle.lockmachine.specs.declared.moves.Move.{Move}
+use Rattle.lockmachine.specs.declared.moves.Move.TheVariants.{Begin, End, Serve, Settled}
+use Rattle.lockmachine.specs.Requests.{part_of_ask}
+use Rattle.lockmachine.specs.Locks.{lock_at}
+use Rattle.lockmachine.specs.Scene.{Scene}
+use Rattle.lockmachine.specs.Moves.{is_open, may_end, may_begin, may_serve, first_move}
+
+-- ---- whose turn it is
+
+-- it is an inode's turn: no gather of another inode may end, and no lock of a lower inode may begin one
+pub record IsTurnOf (s : Scene) (ino : ℕ) : Type 0 where
+  pub ends : (other : ℕ) (part : Part) → other ≢ ino → may_end s (other, part) ≡ false
+  pub begins : (other : ℕ) (part : Part) → other < ino → may_begin s (other, part) ≡ false
+
+-- no move applies at the inode, and no request may be served
+pub record IsDoneAt (s : Scene) (ino : ℕ) : Type 0 where
+  pub ends : (part : Part) → may_end s (ino, part) ≡ false
+  pub begins : (part : Part) → may_begin s (ino, part) ≡ false
+  pub serves : (q : Request) → Contains s.locks.queue q → may_serve s.locks q ≡ false
+
+-- no gather may end
+abbrev pub NothingEnds : Scene → Type 0
+NothingEnds s = (ino : ℕ) (part : Part) → may_end s (ino, part) ≡ false
+
+-- what is next where it is an inode's turn: a move there, or a request that is served; or else nothing, there
+abbrev pub IsNextAt : Scene → ℕ → Move → Type 0
+IsNextAt s ino (Begin i part to) = (first_move s ≡ Begin i part to) × (i.0 ≡ ino)
+IsNextAt s ino (End i part) = (first_move s ≡ End i part) × (i.0 ≡ ino)
+IsNextAt s ino (Serve ticket) = first_move s ≡ Serve ticket
+IsNextAt s ino Settled = IsDoneAt s ino
+
+-- and once its locks are done: the request that is to be served, or none
+abbrev pub IsDue : Scene → ℕ → Option Ticket → Type 0
+IsDue s ino None = IsDoneAt s ino
+IsDue s ino (Some ticket) = first_move s ≡ Serve ticket
+
+-- ---- who waits elsewhere
+
+-- the request waits for a lock in a gather that is open
+pub record IsHeldUp (s : Scene) (q : Request) : Type 0 where
+  pub from : State
+  pub to : State
+  pub gathers : lock_at s.locks q.ino.0 (part_of_ask q.ask) ≡ Some (Gather from to)
+  pub is_held : is_open s q.ino.0 (part_of_ask q.ask) to ≡ true
+
+-- who waits at another inode, is held up
+abbrev pub WaitHere : Scene → ℕ → Type 0
+WaitHere s ino = (q : Request) → Contains s.locks.queue q → q.ino.0 ≢ ino → IsHeldUp s q
