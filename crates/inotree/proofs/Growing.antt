@@ -49,7 +49,7 @@ off_next n m i k d a some out u =
       or_false false b e = e
 
 -- the last step of a climb
-last_step : (m : InodeMap) (j : ℕ) (a : List ℕ) (up : List (List ℕ)) (k : ℕ) → Climbs m j (a ∷ up) k → (x : ℕ) × (b : List ℕ) × (front : List (List ℕ)) × IsUnder m x k b × Climbs m j front x × (length front ≡ length up)
+pub last_step : (m : InodeMap) (j : ℕ) (a : List ℕ) (up : List (List ℕ)) (k : ℕ) → Climbs m j (a ∷ up) k → (x : ℕ) × (b : List ℕ) × (front : List (List ℕ)) × IsUnder m x k b × Climbs m j front x × (length front ≡ length up)
 last_step m j a [] k c = (j, a, [], subst (λ d. IsUnder m j d a) c.2 c.1, refl, refl)
 last_step m j a (b ∷ up) k c =
     let r = last_step m c.0 b up k c.2 in

@@ -4,6 +4,7 @@ pub mod Copies
 pub mod Elsewhere
 pub mod Entries
 pub mod Found
+pub mod Gathering
 pub mod Growing
 pub mod Inner
 pub mod Leading
