@@ -1,6 +1,5 @@
 -- What a walk down the index gathers is what lies within the inode at which it begins.
 use Rattle.std.proofs.Common.{◌≡◌, ℕ, ◌-◌, ◌≤◌, ◌&&◌, ◌||◌, ◌==◌, suc, zero, Bool, true, false, List, [], ◌∷◌, ◌++◌, length, get_or, All, Contains, refl, sym, ap, subst, ◌∙◌, arith}
-use Rattle.std.specs.Cmp.{nat_cmp_total}
 use Rattle.std.specs.FinMap as map
 use Rattle.std.specs.List.{list_any, flat_map}
 use Rattle.std.proofs.lemmas.List.Elements.{All-contains_itself, recursion_from_All}
@@ -66,7 +65,7 @@ module _ (m : InodeMap) (index : NameIndex) (x : IsIndexed m index) where
       let deeper : has k (gathered n index r.0) ≡ true = gathers n r.2 k r.0 (omega (arith, r.5)) r.4 in
       has-step n index k i
       ∙ or_second (i == k) _ (any_found slot_total slot_same (λ (e : Slot × ℕ). (e.0.dir == i) && has k (gathered n index e.1)) index (record { dir = i; name = r.1 }) r.0 (x.taken r.0 i r.1 r.3)
-        (and_true _ _ (same_test i i refl) deeper))
+      (and_true _ _ (same_test i i refl) deeper))
 
   single : (b : Bool) → (b || false) ≡ true → b ≡ true
   single true e = refl

@@ -9,6 +9,7 @@ pub mod Growing
 pub mod Inner
 pub mod Leading
 pub mod Maps
+pub mod Moving
 pub mod Named
 pub mod Naming
 pub mod OneInode
