@@ -133,8 +133,8 @@ impl Index {
         false
     }
 
-    // Adds an inode, and all that lies at most so many steps below it. What is not below it is not read, so that the
-    // cost does not grow with the tree.
+    // Adds an inode, and all that lies at most so many steps below it. Of the rest of the tree it reads no more than a
+    // search for each of them does.
     pub(crate) fn gather(
         &self,
         ino: u64,

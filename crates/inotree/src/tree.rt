@@ -163,8 +163,8 @@ impl Tree {
     }
 
     /// The inode and all that lie below it, in no order that is promised; the inode itself also where the tree does not
-    /// have it. The cost grows with what is answered, and only by a search's steps with the rest of the tree. The error
-    /// is want of memory.
+    /// have it. The cost is a search for each of them, and does not grow otherwise with the rest of the tree. An error
+    /// means that memory ran out.
     pub fn within(&self, alloc: Global, ino: Ino) -> Result<Vec<Ino>, AllocError>
         ensures all { IfOk result (λ inos. (other : ℕ) → is_within self.now.nodes other ino.0 ≡ true → Contains inos.items (record { 0 = other })) }
         ensures only { IfOk result (λ inos. All (λ other. is_within self.now.nodes other.0 ino.0 ≡ true) inos.items) }
