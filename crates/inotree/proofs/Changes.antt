@@ -167,9 +167,10 @@ kept-added m last d a kind attr index t ix dir_kind dir_here good free low =
       | inr off ↦ let r = t.reached i (sym (ap place_at (other i off)) ∙ h) in (r.0, r.1, climb_keep m n k other avoid i r.0 1 off r.2)
     ] in
     let nowhere : (e : ℕ) (b : List ℕ) → IsUnder m k e b → ⊥ = λ e b v. cc in
+    let free_under : (j : ℕ) → IsUnder m j d a → ⊥ = λ j u. let got = ix.taken j d a u in cc in
     let inner : AllHaveGoodNames n = put_inner m k (new_node kind d a attr) t.inner_names (good_none _ refl refl) in (
-      tree-placed m n last k k d a index t ix other kinds fresh now was_no_root dir_kind dir_here dir_off good free dir_still reached inner,
-      index-added m n last k k d a index t ix other kinds fresh now was_no_root dir_kind dir_here dir_off good free nowhere,
+      tree-placed m n last k k d a t other kinds fresh now was_no_root dir_kind dir_here dir_off good free_under dir_still reached inner,
+      index-added m n last k k d a t other kinds fresh now was_no_root dir_kind dir_here dir_off good free_under index ix free nowhere,
     )
 
 -- a climb that meets no inode that moves
@@ -178,12 +179,12 @@ climb_off m n k other [] i c top fits out climb = climb
 climb_off m n k other (a ∷ up) i c top fits out climb =
     (climb.0, other i (off_here c m i k out) ∙ climb.1, climb_off m n k other up climb.0 (c - 1) top (omega arith) (off_next c m i k climb.0 a (omega arith) out climb.1) climb.2)
 
--- an inode moves
-pub kept-moved : (m : InodeMap) (last k d e : ℕ) (a b : List ℕ) (index : NameIndex) → IsTree (record { nodes = m; last = last }) → IsIndexed m index
-    → IsUnder m k e b → is_directory m d ≡ true → place m d ≡ Here → is_bad_name a ≡ false → map.get index (slot d a) ≡ None → is_within m d k ≡ false → reaches (32 - depth m d) m k ≡ false
+-- an inode moves, with whatever index there is
+pub moves : (m : InodeMap) (last k d e : ℕ) (a b : List ℕ) → IsTree (record { nodes = m; last = last })
+    → IsUnder m k e b → is_directory m d ≡ true → place m d ≡ Here → is_bad_name a ≡ false → ((j : ℕ) → IsUnder m j d a → ⊥) → is_within m d k ≡ false → reaches (32 - depth m d) m k ≡ false
     → IsTree (record { nodes = change_at (with_site (Under (record { 0 = d }) a)) m k; last = last })
-    × IsIndexed (change_at (with_site (Under (record { 0 = d }) a)) m k) (map.remove (map.insert index (slot d a) k) (slot e b))
-kept-moved m last k d e a b index t ix was dir_kind dir_here good free apart shallow =
+    × ((index : NameIndex) → IsIndexed m index → map.get index (slot d a) ≡ None → IsIndexed (change_at (with_site (Under (record { 0 = d }) a)) m k) (map.remove (map.insert index (slot d a) k) (slot e b)))
+moves m last k d e a b t was dir_kind dir_here good free apart shallow =
     let site : Site = Under (record { 0 = d }) a in
     let node = node_of m k _ was in
     let n : InodeMap = change_at (with_site site) m k in
@@ -219,14 +220,24 @@ kept-moved m last k d e a b index t ix was dir_kind dir_here good free apart sha
           let short : length found.0 < 32 - depth m d = short_of m i found.0 k (32 - depth m d) shallow found.1 in
           (found.0 ++ a ∷ top.0, omega (arith, length-append found.0 (a ∷ top.0)), climb_on n i found.0 k (a ∷ top.0) 1 found.2 (d, now, above))
     ] in (
-      tree-placed m n last last k d a index t ix other kinds fresh now was_no_root dir_kind dir_here dir_off good free dir_still reached (changed_inner m last k node.0 (with_site site) node.1 t.inner_names (moved_good site node.0)),
-      index-moved m n last last k d a index t ix other kinds fresh now was_no_root dir_kind dir_here dir_off good free e b was,
+      tree-placed m n last last k d a t other kinds fresh now was_no_root dir_kind dir_here dir_off good free dir_still reached (changed_inner m last k node.0 (with_site site) node.1 t.inner_names (moved_good site node.0)),
+      λ index ix no_name. index-moved m n last last k d a t other kinds fresh now was_no_root dir_kind dir_here dir_off good free index ix no_name e b was,
     ) where
       short_of : (m : InodeMap) (i : ℕ) (below : List (List ℕ)) (k c : ℕ) → reaches c m k ≡ false → Climbs m i below k → length below < c
       short_of m i below k c shallow climb = elim (cases_lt (length below) c) [
         | inl less ↦ less
         | inr le ↦ let deep : reaches c m k ≡ true = reach_up c m i below k le climb in cc
       ]
+
+-- an inode moves
+pub kept-moved : (m : InodeMap) (last k d e : ℕ) (a b : List ℕ) (index : NameIndex) → IsTree (record { nodes = m; last = last }) → IsIndexed m index
+    → IsUnder m k e b → is_directory m d ≡ true → place m d ≡ Here → is_bad_name a ≡ false → map.get index (slot d a) ≡ None → is_within m d k ≡ false → reaches (32 - depth m d) m k ≡ false
+    → IsTree (record { nodes = change_at (with_site (Under (record { 0 = d }) a)) m k; last = last })
+    × IsIndexed (change_at (with_site (Under (record { 0 = d }) a)) m k) (map.remove (map.insert index (slot d a) k) (slot e b))
+kept-moved m last k d e a b index t ix was dir_kind dir_here good free apart shallow =
+    let free_under : (j : ℕ) → IsUnder m j d a → ⊥ = λ j u. let got = ix.taken j d a u in cc in
+    let kept = moves m last k d e a b t was dir_kind dir_here good free_under apart shallow in
+    (kept.0, kept.1 index ix free)
 
 -- the same, for equal maps
 pub kept_at : (m n : InodeMap) (last : ℕ) (x y : NameIndex) → n ≡ m → y ≡ x → IsTree (record { nodes = m; last = last }) × IsIndexed m x → IsTree (record { nodes = n; last = last }) × IsIndexed n y

@@ -49,7 +49,7 @@ off_next n m i k d a some out u =
       or_false false b e = e
 
 -- the last step of a climb
-last_step : (m : InodeMap) (j : ℕ) (a : List ℕ) (up : List (List ℕ)) (k : ℕ) → Climbs m j (a ∷ up) k → (x : ℕ) × (b : List ℕ) × (front : List (List ℕ)) × IsUnder m x k b × Climbs m j front x × (length front ≡ length up)
+pub last_step : (m : InodeMap) (j : ℕ) (a : List ℕ) (up : List (List ℕ)) (k : ℕ) → Climbs m j (a ∷ up) k → (x : ℕ) × (b : List ℕ) × (front : List (List ℕ)) × IsUnder m x k b × Climbs m j front x × (length front ≡ length up)
 last_step m j a [] k c = (j, a, [], subst (λ d. IsUnder m j d a) c.2 c.1, refl, refl)
 last_step m j a (b ∷ up) k c =
     let r = last_step m c.0 b up k c.2 in
@@ -68,19 +68,16 @@ reach_up (suc c) m j (a ∷ below) k le climb =
     (and_true _ _ (ap (is_in k) node.2 ∙ same_test k k refl) deeper)
 
 -- An inode gets this name in this directory, where the name is free.
-module _ (m n : InodeMap) (last next k d : ℕ) (a : List ℕ) (index : NameIndex) (t : IsTree (record { nodes = m; last = last })) (x : IsIndexed m index)
+module _ (m n : InodeMap) (last next k d : ℕ) (a : List ℕ) (t : IsTree (record { nodes = m; last = last }))
     (other : (i : ℕ) → (i ≡ k → ⊥) → site_of n i ≡ site_of m i)
     (kinds : (i : ℕ) → (i ≡ k → ⊥) → kind_of n i ≡ kind_of m i)
     (fresh : (i : ℕ) → next < i → map.get n i ≡ None)
     (now : IsUnder n k d a)
     (was_no_root : site_of m k ≡ Some Root → ⊥)
     (dir_kind : is_directory m d ≡ true) (dir_here : place m d ≡ Here) (dir_off : d ≡ k → ⊥)
-    (good : is_bad_name a ≡ false) (free : map.get index (slot d a) ≡ None) where
+    (good : is_bad_name a ≡ false) (free : (j : ℕ) → IsUnder m j d a → ⊥) where
   one_off : (1 ≡ k) → ⊥
   one_off e = was_no_root (subst (λ y. site_of m y ≡ Some Root) e t.root)
-
-  free_under : (j : ℕ) → IsUnder m j d a → ⊥
-  free_under j u = let got = x.taken j d a u in cc
 
   stays : (i e : ℕ) (b : List ℕ) → IsUnder n i e b → (i ≡ k → ⊥) → IsUnder m i e b
   stays i e b u off = sym (other i off) ∙ u
@@ -100,7 +97,7 @@ module _ (m n : InodeMap) (last next k d : ℕ) (a : List ℕ) (index : NameInde
     taken j e b mine his =
         let dirs : e ≡ d = one_dir n k e d b a mine now in
         let names : b ≡ a = one_name n k e d b a mine now in
-        free_under j (subst (λ y. IsUnder m j y a) dirs (subst (λ y. IsUnder m j e y) names his))
+        free j (subst (λ y. IsUnder m j y a) dirs (subst (λ y. IsUnder m j e y) names his))
 
   module _ (dir_still : (i e : ℕ) (b : List ℕ) → IsUnder m i e b → (is_directory n e ≡ true) × (place n e ≡ Here))
       (reached : (i : ℕ) → place n i ≡ Here → (up : List (List ℕ)) × (length up ≤ 32) × Climbs n i up 1)
@@ -131,75 +128,76 @@ module _ (m n : InodeMap) (last next k d : ℕ) (a : List ℕ) (index : NameInde
       given = fresh;
     }
 
-  slots_same : (e f : ℕ) (b c : List ℕ) → e ≡ f → b ≡ c → slot e b ≡ slot f c
-  slots_same e f b c p q = λ i. record { dir = p i; name = q i }
+  module _ (index : NameIndex) (x : IsIndexed m index) (no_name : map.get index (slot d a) ≡ None) where
+    slots_same : (e f : ℕ) (b c : List ℕ) → e ≡ f → b ≡ c → slot e b ≡ slot f c
+    slots_same e f b c p q = λ i. record { dir = p i; name = q i }
 
-  mine : (i e : ℕ) (b : List ℕ) → IsUnder n i e b → i ≡ k → slot e b ≡ slot d a
-  mine i e b u same =
-      let v = subst (λ y. IsUnder n y e b) same u in
-      slots_same e d b a (one_dir n k e d b a v now) (one_name n k e d b a v now)
+    mine : (i e : ℕ) (b : List ℕ) → IsUnder n i e b → i ≡ k → slot e b ≡ slot d a
+    mine i e b u same =
+        let v = subst (λ y. IsUnder n y e b) same u in
+        slots_same e d b a (one_dir n k e d b a v now) (one_name n k e d b a v now)
 
-  not_free : (i e : ℕ) (b : List ℕ) → IsUnder m i e b → slot e b ≡ slot d a → ⊥
-  not_free i e b u same =
-      let got : map.get index (slot d a) ≡ Some i = ap (map.get index) (sym same) ∙ x.taken i e b u in cc
+    not_free : (i e : ℕ) (b : List ℕ) → IsUnder m i e b → slot e b ≡ slot d a → ⊥
+    not_free i e b u same =
+        let got : map.get index (slot d a) ≡ Some i = ap (map.get index) (sym same) ∙ x.taken i e b u in cc
 
-  new_real : (i e : ℕ) (b : List ℕ) → slot e b ≡ slot d a → map.get (map.insert index (slot d a) k) (slot e b) ≡ Some i → IsUnder n i e b
-  new_real i e b same g =
-      let here = insert-here slot_total slot_same index (slot d a) k in
-      let got : map.get (map.insert index (slot d a) k) (slot d a) ≡ Some i = ap (map.get (map.insert index (slot d a) k)) (sym same) ∙ g in
-      let is : k ≡ i = cc in
-      let dirs : d ≡ e = ap (λ (s : Slot). s.dir) (sym same) in
-      let names : a ≡ b = ap (λ (s : Slot). s.name) (sym same) in
-      subst (λ y. IsUnder n y e b) is (now ∙ (λ j. Some (Under (record { 0 = dirs j }) (names j))))
+    new_real : (i e : ℕ) (b : List ℕ) → slot e b ≡ slot d a → map.get (map.insert index (slot d a) k) (slot e b) ≡ Some i → IsUnder n i e b
+    new_real i e b same g =
+        let here = insert-here slot_total slot_same index (slot d a) k in
+        let got : map.get (map.insert index (slot d a) k) (slot d a) ≡ Some i = ap (map.get (map.insert index (slot d a) k)) (sym same) ∙ g in
+        let is : k ≡ i = cc in
+        let dirs : d ≡ e = ap (λ (s : Slot). s.dir) (sym same) in
+        let names : a ≡ b = ap (λ (s : Slot). s.name) (sym same) in
+        subst (λ y. IsUnder n y e b) is (now ∙ (λ j. Some (Under (record { 0 = dirs j }) (names j))))
 
-  -- the inode had no name before
-  pub index-added : ((e : ℕ) (b : List ℕ) → IsUnder m k e b → ⊥) → IsIndexed n (map.insert index (slot d a) k)
-  index-added nowhere = record {
-    taken = λ i e b u. elim (same_ino i k) [
-      | inl same ↦ ap (map.get (map.insert index (slot d a) k)) (mine i e b u same) ∙ insert-here slot_total slot_same index (slot d a) k ∙ ap Some (sym same)
-      | inr off ↦ insert-other slot_total slot_same index (slot d a) k (slot e b) (not_free i e b (stays i e b u off)) ∙ x.taken i e b (stays i e b u off)
-    ];
-    real = λ i e b g. elim (same_or_other slot_total slot_same (slot e b) (slot d a)) [
-      | inl same ↦ new_real i e b same g
-      | inr off ↦
-          let u = x.real i e b (sym (insert-other slot_total slot_same index (slot d a) k (slot e b) off) ∙ g) in
-          other i (λ same. nowhere e b (subst (λ y. IsUnder m y e b) same u)) ∙ u
-    ];
-  }
+    -- the inode had no name before
+    pub index-added : ((e : ℕ) (b : List ℕ) → IsUnder m k e b → ⊥) → IsIndexed n (map.insert index (slot d a) k)
+    index-added nowhere = record {
+      taken = λ i e b u. elim (same_ino i k) [
+        | inl same ↦ ap (map.get (map.insert index (slot d a) k)) (mine i e b u same) ∙ insert-here slot_total slot_same index (slot d a) k ∙ ap Some (sym same)
+        | inr off ↦ insert-other slot_total slot_same index (slot d a) k (slot e b) (not_free i e b (stays i e b u off)) ∙ x.taken i e b (stays i e b u off)
+      ];
+      real = λ i e b g. elim (same_or_other slot_total slot_same (slot e b) (slot d a)) [
+        | inl same ↦ new_real i e b same g
+        | inr off ↦
+            let u = x.real i e b (sym (insert-other slot_total slot_same index (slot d a) k (slot e b) off) ∙ g) in
+            other i (λ same. nowhere e b (subst (λ y. IsUnder m y e b) same u)) ∙ u
+      ];
+    }
 
-  -- the inode had another name before, which is taken out
-  pub index-moved : (e : ℕ) (b : List ℕ) → IsUnder m k e b → IsIndexed n (map.remove (map.insert index (slot d a) k) (slot e b))
-  index-moved d0 a0 old =
-      let more = map.insert index (slot d a) k in
-      record {
-        taken = λ i e b u. elim (same_ino i k) [
-          | inl same ↦
-              remove-other slot_total slot_same more (slot d0 a0) (slot e b) (λ is. not_free k d0 a0 old (sym is ∙ mine i e b u same))
-              ∙ ap (map.get more) (mine i e b u same) ∙ insert-here slot_total slot_same index (slot d a) k ∙ ap Some (sym same)
-          | inr off ↦
-              let was = stays i e b u off in
-              remove-other slot_total slot_same more (slot d0 a0) (slot e b) (λ is.
-              let mine : map.get index (slot d0 a0) ≡ Some k = x.taken k d0 a0 old in
-              let his : map.get index (slot d0 a0) ≡ Some i = ap (map.get index) (sym is) ∙ x.taken i e b was in
-              let both : i ≡ k = cc in off both)
-              ∙ insert-other slot_total slot_same index (slot d a) k (slot e b) (not_free i e b was) ∙ x.taken i e b was
-        ];
-        real = λ i e b g. elim (same_or_other slot_total slot_same (slot e b) (slot d0 a0)) [
-          | inl same ↦
-              let gone = remove-here slot_total slot_same more (slot d0 a0) in
-              let got : map.get (map.remove more (slot d0 a0)) (slot d0 a0) ≡ Some i = ap (map.get (map.remove more (slot d0 a0))) (sym same) ∙ g in cc
-          | inr off ↦
-              let g2 : map.get more (slot e b) ≡ Some i = sym (remove-other slot_total slot_same more (slot d0 a0) (slot e b) off) ∙ g in
-              elim (same_or_other slot_total slot_same (slot e b) (slot d a)) [
-                | inl same ↦ new_real i e b same g2
-                | inr still ↦
-                    let u = x.real i e b (sym (insert-other slot_total slot_same index (slot d a) k (slot e b) still) ∙ g2) in
-                    other i (λ same.
-                    let v : IsUnder m k e b = subst (λ y. IsUnder m y e b) same u in
-                    off (slots_same e d0 b a0 (one_dir m k e d0 b a0 v old) (one_name m k e d0 b a0 v old))) ∙ u
-              ]
-        ];
-      }
+    -- the inode had another name before, which is taken out
+    pub index-moved : (e : ℕ) (b : List ℕ) → IsUnder m k e b → IsIndexed n (map.remove (map.insert index (slot d a) k) (slot e b))
+    index-moved d0 a0 old =
+        let more = map.insert index (slot d a) k in
+        record {
+          taken = λ i e b u. elim (same_ino i k) [
+            | inl same ↦
+                remove-other slot_total slot_same more (slot d0 a0) (slot e b) (λ is. not_free k d0 a0 old (sym is ∙ mine i e b u same))
+                ∙ ap (map.get more) (mine i e b u same) ∙ insert-here slot_total slot_same index (slot d a) k ∙ ap Some (sym same)
+            | inr off ↦
+                let was = stays i e b u off in
+                remove-other slot_total slot_same more (slot d0 a0) (slot e b) (λ is.
+                let mine : map.get index (slot d0 a0) ≡ Some k = x.taken k d0 a0 old in
+                let his : map.get index (slot d0 a0) ≡ Some i = ap (map.get index) (sym is) ∙ x.taken i e b was in
+                let both : i ≡ k = cc in off both)
+                ∙ insert-other slot_total slot_same index (slot d a) k (slot e b) (not_free i e b was) ∙ x.taken i e b was
+          ];
+          real = λ i e b g. elim (same_or_other slot_total slot_same (slot e b) (slot d0 a0)) [
+            | inl same ↦
+                let gone = remove-here slot_total slot_same more (slot d0 a0) in
+                let got : map.get (map.remove more (slot d0 a0)) (slot d0 a0) ≡ Some i = ap (map.get (map.remove more (slot d0 a0))) (sym same) ∙ g in cc
+            | inr off ↦
+                let g2 : map.get more (slot e b) ≡ Some i = sym (remove-other slot_total slot_same more (slot d0 a0) (slot e b) off) ∙ g in
+                elim (same_or_other slot_total slot_same (slot e b) (slot d a)) [
+                  | inl same ↦ new_real i e b same g2
+                  | inr still ↦
+                      let u = x.real i e b (sym (insert-other slot_total slot_same index (slot d a) k (slot e b) still) ∙ g2) in
+                      other i (λ same.
+                      let v : IsUnder m k e b = subst (λ y. IsUnder m y e b) same u in
+                      off (slots_same e d0 b a0 (one_dir m k e d0 b a0 v old) (one_name m k e d0 b a0 v old))) ∙ u
+                ]
+          ];
+        }
 
 -- No site and no kind changes.
 module _ (m n : InodeMap) (last : ℕ) (t : IsTree (record { nodes = m; last = last }))

@@ -4,10 +4,12 @@ pub mod Copies
 pub mod Elsewhere
 pub mod Entries
 pub mod Found
+pub mod Gathering
 pub mod Growing
 pub mod Inner
 pub mod Leading
 pub mod Maps
+pub mod Moving
 pub mod Named
 pub mod Naming
 pub mod OneInode

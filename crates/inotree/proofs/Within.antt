@@ -51,7 +51,8 @@ no_longer m (a ∷ up) (b ∷ full) i above root c t =
     let rest : length up ≤ length full = no_longer m up full c.0 above root c.2 (subst (λ d. Climbs m d full 1) (sym same) t.2) in
     omega (arith, rest)
 
-climb_fits : (t : Nodes) → IsTree t → (up : List (List ℕ)) (i above : ℕ) → Climbs t.nodes i up above → length up ≤ 32
+-- nor is any longer than a path may be
+pub climb_fits : (t : Nodes) → IsTree t → (up : List (List ℕ)) (i above : ℕ) → Climbs t.nodes i up above → length up ≤ 32
 climb_fits t tree [] i above c = omega arith
 climb_fits t tree (a ∷ up) i above c =
     let full = tree.reached i (under_here t.nodes i c.0 a c.1) in

@@ -1,11 +1,12 @@
 -- The names of the tree: which inode each directory has under each name.
-use Rattle.std.specs.Prelude.{ℕ, zero, suc, ◌==◌, ◌<◌, ◌^◌, Bool, true, List, filter}
+use Rattle.std.specs.Prelude.{ℕ, zero, suc, ◌==◌, ◌<◌, ◌^◌, Bool, true, List, [], ◌∷◌, filter}
 use Rattle.std.specs.Coded.{Coded, coded_ℕ}
 use Rattle.std.specs.declared.cmp.Ordering.{Ordering}
 use Rattle.std.specs.Ordering.{nat_cmp, ordering_then}
-use Rattle.std.specs.List.{list_any, AllByRecursion}
+use Rattle.std.specs.List.{list_any, flat_map, AllByRecursion}
 use Rattle.std.specs.FinMap as map
 use Rattle.std.specs.FinMap.{FinMap}
+use Rattle.capbits.specs.declared.ids.Ino.{Ino}
 use Rattle.inotree.specs.declared.index.Slot.{Slot}
 use Rattle.inotree.specs.contracts.index.Slot as slot
 use Rattle.inotree.specs.Names.{name_cmp}
@@ -34,3 +35,8 @@ AreInodes index = AllByRecursion (λ e. e.0.dir < 2 ^ 64) (map.entries index)
 unfoldable pub index_reaches : ℕ → NameIndex → ℕ → Bool
 index_reaches zero index dir = true
 index_reaches (suc n) index dir = list_any (λ e. index_reaches n index e.1) (names_in dir index)
+
+-- the inode, and what lies at most so many steps below it
+unfoldable pub gathered : ℕ → NameIndex → ℕ → List Ino
+gathered zero index ino = record { 0 = ino } ∷ []
+gathered (suc n) index ino = record { 0 = ino } ∷ flat_map (λ e. gathered n index e.1) (names_in ino index)

@@ -1,9 +1,10 @@
 //! The names of the tree: which inode each directory has under each name.
-ghost use Rattle.std.specs.Prelude.{◌≡◌, IfOk, OnOk, OnErr};
+ghost use Rattle.std.specs.Prelude.{◌≡◌, ◌++◌, IfOk, OnOk, OnErr};
 ghost use Rattle.std.specs.FinMap as map;
-ghost use Rattle.inotree.specs.Index.{names_in, AreInodes, index_reaches};
+ghost use Rattle.inotree.specs.Index.{names_in, AreInodes, index_reaches, gathered};
 
 use crate::name::Name;
+use capbits::Ino;
 use std::alloc::{AllocError, Global};
 use std::collections::{BTreeMap, btree_map};
 use std::marker::Model;
@@ -130,5 +131,26 @@ impl Index {
             }
         }
         false
+    }
+
+    // Adds an inode, and all that lies at most so many steps below it. Of the rest of the tree it reads no more than a
+    // search for each of them does.
+    pub(crate) fn gather(
+        &self,
+        ino: u64,
+        steps: usize,
+        found: &mut Vec<Ino>,
+    ) -> Result<(), AllocError>
+        requires { AreInodes self.now }
+        ensures { OnOk result (found.new.items ≡ found.old.items ++ gathered steps self.now ino) }
+    {
+        found.push(Ino(ino))?;
+        if steps == 0 {
+            return Ok(());
+        }
+        for (_, child) in self.names_in(ino) {
+            self.gather(*child, steps - 1, found)?;
+        }
+        Ok(())
     }
 }

@@ -1,6 +1,6 @@
 //! Laws of the tree. No program needs to call them.
 
-ghost use Rattle.std.specs.Prelude.{◌≡◌, ◌≢◌, ◌↔◌, ◌+◌, ◌-◌, ◌<◌, true, ℕ, List, [], ◌∷◌, ◌++◌, length, None, Some};
+ghost use Rattle.std.specs.Prelude.{◌≡◌, ◌≢◌, ◌↔◌, ◌+◌, ◌-◌, ◌<◌, true, false, ℕ, List, [], ◌∷◌, ◌++◌, length, None, Some};
 ghost use Rattle.std.specs.FinMap as map;
 ghost use Rattle.capbits.specs.Refusal.{first_failing};
 ghost use Rattle.capgrant.specs.declared.access.Attr.{Attr};
@@ -10,9 +10,9 @@ ghost use Rattle.inotree.specs.declared.node.Place.TheVariants.{Gone};
 ghost use Rattle.inotree.specs.declared.node.Setting.{Setting};
 ghost use Rattle.inotree.specs.Inodes.{InodeMap, with_setting, with_attribute, without_attribute, with_snapshot, without_snapshot};
 ghost use Rattle.inotree.specs.Tree.{Nodes, IsTree, IsUnder, IsChildless, Climbs, place, child, is_within, depth, reaches, path_of};
-ghost use Rattle.inotree.specs.Calls.{with_new, changed, unlinked, forgotten};
+ghost use Rattle.inotree.specs.Calls.{with_new, changed, unlinked, moved, forgotten};
 ghost use Rattle.inotree.specs.Alike.{IsAlike};
-ghost use Rattle.inotree.specs.Tests.{inode_tests, root_test, file_test, directory_test, empty_test, new_attribute_tests};
+ghost use Rattle.inotree.specs.Tests.{inode_tests, root_test, file_test, directory_test, empty_test, new_attribute_tests, rename_tests};
 
 /// An inode lies within another exactly where some names lead from it up to the other.
 pub fn within_is_below()
@@ -84,6 +84,17 @@ pub fn an_inode_without_children_leaves_the_others()
     ensures places { (tree : Nodes) (ino other : ℕ) → other ≢ ino → place (unlinked tree ino).nodes other ≡ place tree.nodes other }
     ensures file { (tree : Nodes) (ino : ℕ) → IsTree tree → first_failing (file_test tree ino ∷ []) ≡ None → IsChildless tree.nodes ino }
     ensures empty { (tree : Nodes) (ino : ℕ) → first_failing (directory_test tree ino ∷ empty_test tree ino ∷ []) ≡ None → IsChildless tree.nodes ino }
+{}
+
+/// A move leaves the path, the owner, the group and the mode of every inode that is not within the one that moves, and the
+/// place of every other. Where its tests were passed, it leaves a tree a tree.
+pub fn a_move_leaves_what_is_not_below()
+    ensures alike { (tree : Nodes) (ino dir : ℕ) (name : List ℕ) (other : ℕ) → is_within tree.nodes other ino ≡ false
+        → IsAlike tree (moved tree ino dir name) other }
+    ensures places { (tree : Nodes) (ino dir : ℕ) (name : List ℕ) (other : ℕ) → other ≢ ino
+        → place (moved tree ino dir name).nodes other ≡ place tree.nodes other }
+    ensures tree { (tree : Nodes) (ino dir : ℕ) (name : List ℕ) → IsTree tree → first_failing (rename_tests tree ino dir name) ≡ None
+        → IsTree (moved tree ino dir name) }
 {}
 
 /// A change of one inode whose tests were passed leaves a tree a tree. A field that is set, and an attribute that goes, need

@@ -1,11 +1,11 @@
 //! The tree of inodes.
-ghost use Rattle.std.specs.Prelude.{◌≡◌, ◌+◌, ◌≤◌, ◌&&◌, not, nat_le, [], ◌∷◌, is_some, IfOk, IfSome, OnOk, OnErr, All, IsTrue, map as each};
+ghost use Rattle.std.specs.Prelude.{◌≡◌, ℕ, ◌+◌, ◌≤◌, ◌&&◌, true, not, nat_le, [], ◌∷◌, is_some, IfOk, IfSome, OnOk, OnErr, All, Contains, IsTrue, map as each};
 ghost use Rattle.std.specs.Option.{option_copied, option_map};
 ghost use Rattle.std.specs.FinMap as map;
 ghost use Rattle.capspec.specs.Names.{is_name};
 ghost use Rattle.inotree.specs.Inodes.{with_setting, with_attribute, without_attribute, with_snapshot, without_snapshot};
 ghost use Rattle.capbits.specs.Refusal.{first_failing};
-ghost use Rattle.inotree.specs.Tree.{IsTree, place, parent, child, follow, path_of, is_directory, depth, reaches};
+ghost use Rattle.inotree.specs.Tree.{IsTree, place, parent, child, follow, path_of, is_directory, is_within, depth, reaches};
 ghost use Rattle.inotree.specs.Tests.{known_test, inode_tests, root_test, file_test, directory_test, empty_test, name_tests, new_inode_tests, new_place_tests, setting_tests, test_at, new_attribute_tests, old_attribute_tests, new_snapshot_tests, old_snapshot_tests};
 ghost use Rattle.inotree.specs.Tests.{create_tests, unlink_tests, rmdir_tests, rename_tests, set_tests, set_xattr_tests, remove_xattr_tests, snap_add_tests, snap_remove_tests};
 ghost use Rattle.inotree.specs.Calls.{first_tree, with_new, changed, unlinked, moved, forgotten};
@@ -160,6 +160,19 @@ impl Tree {
                 Some(names)
             }
         }
+    }
+
+    /// The inode and all that lie below it, in no order that is promised; the inode itself also where the tree does not
+    /// have it. The cost is a search for each of them, and does not grow otherwise with the rest of the tree. An error
+    /// means that memory ran out.
+    pub fn within(&self, alloc: Global, ino: Ino) -> Result<Vec<Ino>, AllocError>
+        ensures all { IfOk result (λ inos. (other : ℕ) → is_within self.now.nodes other ino.0 ≡ true → Contains inos.items (record { 0 = other })) }
+        ensures only { IfOk result (λ inos. All (λ other. is_within self.now.nodes other.0 ino.0 ≡ true) inos.items) }
+    {
+        let _last = self.last;
+        let mut inos = Vec::new(alloc);
+        self.names.gather(ino.0, MAX_NAMES, &mut inos)?;
+        Ok(inos)
     }
 
     // The inode, if it is there and a directory.
