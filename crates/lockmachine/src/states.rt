@@ -1,5 +1,5 @@
 //! The locks of each inode.
-ghost use Rattle.std.specs.Prelude.{◌≡◌, OnOk, OnErr};
+ghost use Rattle.std.specs.Prelude.{◌≡◌, ◌+◌, OnOk, OnErr};
 ghost use Rattle.std.specs.Option.{option_copied};
 ghost use Rattle.std.specs.FinMap as map;
 ghost use Rattle.inotree.specs.Maps.{change_at};
@@ -12,6 +12,7 @@ use std::alloc::{AllocError, Global};
 use std::collections::BTreeMap;
 use std::collections::btree_map::Keys;
 use std::marker::Model;
+use std::ops::Bound;
 
 /// The four locks of an inode, one for each part.
 #[derive(Clone, Copy, Debug, PartialEq, Eq)]
@@ -113,6 +114,14 @@ impl States {
         ensures { IsNext self.now from.0 result }
     {
         let (number, _) = self.locks.range(from.0..).next()?;
+        Some(Ino(*number))
+    }
+
+    /// The least inode behind this one that has locks.
+    pub fn after(&self, ino: Ino) -> Option<Ino>
+        ensures { IsNext self.now (ino.0 + 1) result }
+    {
+        let (number, _) = self.locks.range((Bound::Excluded(ino.0), Bound::Unbounded)).next()?;
         Some(Ino(*number))
     }
 
