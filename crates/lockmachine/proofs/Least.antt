@@ -1,10 +1,10 @@
 -- The least inode that has locks from a number on, or behind it.
-use Rattle.std.proofs.Common.{◌≡◌, ℕ, ◌<◌, ◌≤◌, ◌+◌, true, false, true≢false, Option, Some, None, List, [], ◌∷◌, is_some, refl, sym, ap, subst, ◌∙◌, arith}
+use Rattle.std.proofs.Common.{◌≡◌, ℕ, ◌<◌, ◌≤◌, ◌+◌, false, Option, Some, None, List, [], ◌∷◌, is_some, refl, sym, ap, subst, ◌∙◌, arith}
 use Rattle.std.specs.Option.{IsSome}
 use Rattle.std.specs.declared.cmp.Ordering.TheVariants.{Less, Equal, Greater}
 use Rattle.std.specs.declared.ops.Bound.{Bound}
 use Rattle.std.specs.declared.ops.Bound.TheVariants.{Included, Excluded, Unbounded}
-use Rattle.std.specs.Ordering.{nat_cmp, is_gt, is_lt}
+use Rattle.std.specs.Ordering.{nat_cmp, is_gt}
 use Rattle.std.specs.Cmp.{ranked}
 use Rattle.std.specs.FinMap as map
 use Rattle.std.specs.BTreeMap.{BTreeMap, get}
@@ -21,19 +21,15 @@ not_gt a b h = elim (nat_cmp a b) as (λ r. r ≡ nat_cmp a b → is_gt r ≡ fa
   | Greater ↦ λ is. (let above : b < a = ranked a b Greater is in absurd (omega arith))
 ] refl
 
-lt : (a b : ℕ) → a < b → is_lt (nat_cmp a b) ≡ true
-lt a b h = elim (nat_cmp a b) as (λ r. r ≡ nat_cmp a b → is_lt r ≡ true) [
+lt : (a b : ℕ) → a < b → nat_cmp a b ≡ Less
+lt a b h = elim (nat_cmp a b) as (λ r. r ≡ nat_cmp a b → r ≡ Less) [
   | Less ↦ λ is. refl
   | Equal ↦ λ is. (let same : a ≡ b = ranked a b Equal is in absurd (omega (arith, h, same)))
   | Greater ↦ λ is. (let above : b < a = ranked a b Greater is in absurd (omega (arith, h, above)))
 ] refl
 
-from_lt : (a b : ℕ) → is_lt (nat_cmp a b) ≡ true → a < b
-from_lt a b h = elim (nat_cmp a b) as (λ r. r ≡ nat_cmp a b → is_lt r ≡ true → a < b) [
-  | Less ↦ λ is _. (let below : a < b = ranked a b Less is in below)
-  | Equal ↦ λ is no. absurd (true≢false (sym no))
-  | Greater ↦ λ is no. absurd (true≢false (sym no))
-] refl h
+from_lt : (a b : ℕ) → nat_cmp a b ≡ Less → a < b
+from_lt a b is = ranked a b Less (sym is)
 
 -- a number lies within the bound exactly if it is at least another
 pub record Begins (low : Bound ℕ) (from : ℕ) : Type 0 where
