@@ -1,12 +1,11 @@
 -- Whose turn it is: how it passes from one inode to the next, and what moves leave of it. Who waits elsewhere is held up.
-use Rattle.std.proofs.Common.{◌≡◌, ◌≢◌, ℕ, ◌<◌, Bool, true, false, not, ◌&&◌, ◌==◌, Option, Some, None, List, [], ◌∷◌, refl, sym, ap, subst, ◌∙◌, Contains, arith, true≢false, eq-eqb}
+use Rattle.std.proofs.Common.{◌≡◌, ◌≢◌, ℕ, ◌<◌, Bool, true, false, not, ◌&&◌, ◌==◌, Option, Some, None, List, [], ◌∷◌, refl, sym, ap, subst, ◌∙◌, Contains, arith, true≢false}
 use Rattle.std.specs.Prelude.{IsTrue}
 use Rattle.std.specs.Cmp.{nat_eq_equiv}
 use Rattle.std.specs.List.{find}
 use Rattle.std.specs.Option.{is_some, option_map, option_map_or}
 use Rattle.std.specs.FinMap as map
 use Rattle.std.proofs.lemmas.Bool.{eqb-true, eqb-false}
-use Rattle.std.proofs.lemmas.Option.{none-some}
 use Rattle.capbits.specs.declared.cap.Part.{Part}
 use Rattle.capbits.specs.declared.ids.Ticket.{Ticket}
 use Rattle.inotree.specs.Tree.{Nodes}
@@ -20,7 +19,7 @@ use Rattle.lockmachine.specs.declared.moves.Move.TheVariants.{Begin, End, Serve,
 use Rattle.lockmachine.specs.Inodes.{lock_in}
 use Rattle.lockmachine.specs.Requests.{same_part, part_of_ask, head_of_ask, is_for, first_for, is_numbered}
 use Rattle.lockmachine.specs.Locks.{LockMap, IsLockMap, lock_at, request_at, without_request}
-use Rattle.lockmachine.specs.Scene.{Scene, wanted_in_all, target}
+use Rattle.lockmachine.specs.Scene.{Scene, wanted_in_all}
 use Rattle.lockmachine.specs.Moves.{LockPlace, is_open, places, may_end, may_end_in, may_begin, may_begin_in, may_serve, is_served_in, present_state, coming_state, begin_or_rest, serve_or_begin, end_or_serve, first_move, moved, with_moved, IsQuiet, IsQuietBut}
 use Rattle.lockmachine.specs.Runs.{is_of_lock, Runs, MoveLittle, ChangesLocksOf}
 use Rattle.lockmachine.specs.Elsewhere.{IsSameBut}
