@@ -15,7 +15,7 @@ use Rattle.lockmachine.specs.declared.request.Request.{Request}
 use Rattle.lockmachine.specs.declared.states.InodeLocks.{InodeLocks}
 use Rattle.lockmachine.specs.declared.moves.Move.TheVariants.{End, Serve, Settled}
 use Rattle.lockmachine.specs.Inodes.{lock_in}
-use Rattle.lockmachine.specs.Locks.{LockMap, lock_at}
+use Rattle.lockmachine.specs.Locks.{LockMap}
 use Rattle.lockmachine.specs.Scene.{Scene, wanted_in_all}
 use Rattle.lockmachine.specs.Moves.{LockPlace, parts, places_of, places, may_end, may_end_in, may_serve, may_begin, may_begin_in, beginning, begin_or_rest, serve_or_begin, end_or_serve, first_move}
 use Rattle.lockmachine.specs.Turns.{IsTurnOf, IsNextAt}

@@ -1,14 +1,14 @@
 -- Whose turn it is: how it passes from one inode to the next, and what moves leave of it. Who waits elsewhere is held up.
-use Rattle.std.proofs.Common.{◌≡◌, ◌≢◌, ℕ, ◌<◌, Bool, true, false, not, ◌&&◌, ◌==◌, Option, Some, None, List, [], ◌∷◌, refl, sym, ap, subst, ◌∙◌, Contains, arith, true≢false, eq-eqb}
+use Rattle.std.proofs.Common.{◌≡◌, ◌≢◌, ℕ, ◌<◌, Bool, true, false, not, ◌&&◌, ◌==◌, Option, Some, None, List, [], ◌∷◌, refl, sym, ap, subst, ◌∙◌, Contains, arith, true≢false}
 use Rattle.std.specs.Prelude.{IsTrue}
 use Rattle.std.specs.Cmp.{nat_eq_equiv}
-use Rattle.std.specs.List.{find}
+use Rattle.std.specs.List.{find, list_any}
 use Rattle.std.specs.Option.{is_some, option_map, option_map_or}
 use Rattle.std.specs.FinMap as map
 use Rattle.std.proofs.lemmas.Bool.{eqb-true, eqb-false}
-use Rattle.std.proofs.lemmas.Option.{none-some}
 use Rattle.capbits.specs.declared.cap.Part.{Part}
 use Rattle.capbits.specs.declared.ids.Ticket.{Ticket}
+use Rattle.capbits.specs.Sets.{is_empty}
 use Rattle.inotree.specs.Tree.{Nodes}
 use Rattle.locktable.specs.declared.states.State.{State}
 use Rattle.locktable.specs.declared.states.LockState.{LockState}
@@ -20,10 +20,10 @@ use Rattle.lockmachine.specs.declared.moves.Move.TheVariants.{Begin, End, Serve,
 use Rattle.lockmachine.specs.Inodes.{lock_in}
 use Rattle.lockmachine.specs.Requests.{same_part, part_of_ask, head_of_ask, is_for, first_for, is_numbered}
 use Rattle.lockmachine.specs.Locks.{LockMap, IsLockMap, lock_at, request_at, without_request}
-use Rattle.lockmachine.specs.Scene.{Scene, wanted_in_all, target}
+use Rattle.lockmachine.specs.Scene.{Scene, wanted_in_all, outside}
 use Rattle.lockmachine.specs.Moves.{LockPlace, is_open, places, may_end, may_end_in, may_begin, may_begin_in, may_serve, is_served_in, present_state, coming_state, begin_or_rest, serve_or_begin, end_or_serve, first_move, moved, with_moved, IsQuiet, IsQuietBut}
 use Rattle.lockmachine.specs.Runs.{is_of_lock, Runs, MoveLittle, ChangesLocksOf}
-use Rattle.lockmachine.specs.Elsewhere.{IsSameBut}
+use Rattle.lockmachine.specs.Elsewhere.{IsSameBut, IsSameAt}
 use Rattle.lockmachine.specs.Turns.{IsTurnOf, IsDoneAt, NothingEnds, IsHeldUp, WaitHere}
 use Rattle.lockmachine.proofs.Exact.{ends_not, begins_not}
 use Rattle.lockmachine.proofs.Idle.{find_nothing}
@@ -92,6 +92,20 @@ served-ends s ticket is ino part = by_locks (map.get s.locks.states ino) refl
 pub ends-serves : (s : Scene) (q : Request) → NothingEnds s → find (may_serve s.locks) s.locks.queue ≡ Some q → first_move s ≡ Serve q.ticket
 ends-serves s q ends found =
     serve_first s q.ticket (find_nothing (may_end s) (λ at. ends at.0 at.1) (places s.locks)) (sym (ap (option_map (λ (r : Request). r.ticket)) found))
+
+-- the same by the number that a call answers
+pub ends-serves-ticket : (s : Scene) (ticket : Ticket) → NothingEnds s → option_map (λ (q : Request). q.ticket) (find (may_serve s.locks) s.locks.queue) ≡ Some ticket
+    → first_move s ≡ Serve ticket
+ends-serves-ticket s ticket ends found = serve_first s ticket (find_nothing (may_end s) (λ at. ends at.0 at.1) (places s.locks)) (sym found)
+
+-- where none is answered, nobody may be served
+pub none-served : (locks : LockMap) → option_map (λ (q : Request). q.ticket) (find (may_serve locks) locks.queue) ≡ None
+    → (q : Request) → Contains locks.queue q → may_serve locks q ≡ false
+none-served locks none = fails_at (may_serve locks) locks.queue (nobody (find (may_serve locks) locks.queue) none)
+  where
+    nobody : (o : Option Request) → option_map (λ (q : Request). q.ticket) o ≡ None → o ≡ None
+    nobody None is = refl
+    nobody (Some q) is = absurd (cc)
 
 -- ---- what is kept elsewhere
 
@@ -176,6 +190,15 @@ pub held-up-unserved : (s : Scene) (q : Request) → IsHeldUp s q → may_serve 
 held-up-unserved s q held =
     let first = option_map_or (is_numbered q.ticket.0) (first_for s.locks.queue q.ino.0 (part_of_ask q.ask)) false in
     ap (λ o. first && is_served_in o (head_of_ask q.client q.ask)) held.gathers ∙ and_false first
+
+-- where its inode is the same, it is held up still
+pub held-alike : (old new : Scene) (q : Request) → IsSameAt q.ino.0 old new → IsHeldUp old q → IsHeldUp new q
+held-alike old new q same held = record {
+  from = held.from;
+  to = held.to;
+  gathers = same.locks (part_of_ask q.ask) ∙ held.gathers;
+  is_held = ap (list_any (λ row. not (is_empty (outside (part_of_ask q.ask) held.to row)))) same.entries ∙ held.is_held;
+}
 
 -- the lock is in a gather that is open
 abbrev IsOpenGather : Scene → LockPlace → State → State → Option LockState → Type 0

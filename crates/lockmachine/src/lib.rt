@@ -35,16 +35,10 @@ pub use policy_laws::{
 pub use request::{Ask, Change, Request};
 pub use states::{InodeLocks, States};
 pub use turn_laws::{
-    done_and_nothing_above_is_settled,
-    done_passes_the_turn,
-    moves_at_an_inode_leave_others,
-    moves_leave_the_queue,
-    nothing_ends_and_one_may_be_served,
-    nothing_ends_is_a_turn,
-    quiet_elsewhere_is_its_turn,
-    what_is_served_leaves_no_end,
-    where_others_are_held_up_one_is_served_here,
-    who_is_held_up_stays_so,
-    who_waits_at_a_quiet_lock_is_held_up,
+    done_and_nothing_above_is_settled, done_passes_the_turn, moves_at_an_inode_leave_others,
+    moves_leave_the_queue, nothing_ends_and_one_may_be_served, nothing_ends_is_a_turn,
+    quiet_elsewhere_is_its_turn, what_is_served_leaves_no_end,
+    where_none_is_found_nobody_may_be_served, where_others_are_held_up_one_is_served_here,
+    who_is_held_up_stays_so, who_waits_at_a_quiet_lock_is_held_up,
 };
 pub use wants::{Wants, effective_want, permitted, wants_on};

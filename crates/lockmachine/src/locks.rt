@@ -176,8 +176,8 @@ impl Locks {
         if let Some(part) = self.first_end(table, ino) {
             return Move::End { ino, part };
         }
-        if let Some(ticket) = self.first_served() {
-            return Move::Serve(ticket);
+        if let Some(served) = self.first_served() {
+            return Move::Serve(served);
         }
         let wants = wants_on(fs, tree, sessions, table, ino);
         self.first_begin(ino, &wants).unwrap_or(Move::Settled)

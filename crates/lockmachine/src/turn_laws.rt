@@ -1,7 +1,8 @@
 //! Laws of whose turn it is, where a step touches many inodes. No program needs to call them.
 
-ghost use Rattle.std.specs.Prelude.{◌≡◌, ◌≢◌, ◌<◌, ℕ, List, Some, Contains, false};
+ghost use Rattle.std.specs.Prelude.{◌≡◌, ◌≢◌, ◌<◌, ℕ, List, None, Some, Contains, false};
 ghost use Rattle.std.specs.List.{find};
+ghost use Rattle.std.specs.Option.{option_map};
 ghost use Rattle.capbits.specs.declared.cap.Part.{Part};
 ghost use Rattle.capbits.specs.declared.ids.Ticket.{Ticket};
 ghost use Rattle.inotree.specs.Tree.{Nodes};
@@ -45,6 +46,12 @@ pub fn nothing_ends_and_one_may_be_served()
         → first_move s ≡ Serve q.ticket }
 {}
 
+/// Where a search for the oldest request that may be served finds none, nobody may be served.
+pub fn where_none_is_found_nobody_may_be_served()
+    ensures { (locks : LockMap) → option_map (λ (q : Request). q.ticket) (find (may_serve locks) locks.queue) ≡ None
+        → (q : Request) → Contains locks.queue q → may_serve locks q ≡ false }
+{}
+
 /// Where no gather may end, it is the turn of an inode below which nothing may begin.
 pub fn nothing_ends_is_a_turn()
     ensures { (s : Scene) (a : ℕ) → NothingEnds s
@@ -85,11 +92,12 @@ pub fn who_waits_at_a_quiet_lock_is_held_up()
 {}
 
 /// Who waits elsewhere stays held up: moves between two servings leave it so, at whatever inode they are, and so does a
-/// request that is taken out, with whatever change of the tree.
+/// request that is taken out, with whatever change of the tree. Who is held up stays so where his inode is the same.
 pub fn who_is_held_up_stays_so()
     ensures moves { (ino : ℕ) (old new : Scene) → MoveLittle old new → WaitHere old ino → WaitHere new ino }
     ensures less { (s : Scene) (ino : ℕ) (tree : Nodes) (ticket : ℕ) → WaitHere s ino
         → WaitHere (record s { tree = tree; locks = without_request s.locks ticket }) ino }
+    ensures alike { (old new : Scene) (q : Request) → IsSameAt q.ino.0 old new → IsHeldUp old q → IsHeldUp new q }
 {}
 
 /// Where who waits elsewhere is held up, a request that is served waits at this inode.

@@ -16,7 +16,7 @@ returns-in-Some c =
 pub returns-in-Some-first_served : goal.returns-in-Some-first_served
 returns-in-Some-first_served c =
     let s : Scene = scene c.args.fs.now c.args.tree.now c.args.sessions.now c.args.table.now c.args.self.now in
-    serve_first s c.in-Some-first_served.ticket (ends_at s c.args.ino.0 c.requires.turn ∙ ap (option_map (λ part. (c.args.ino.0, part))) (sym c.first_end.ensures ∙ c.in_default.is))
+    serve_first s c.in-Some-first_served.served (ends_at s c.args.ino.0 c.requires.turn ∙ ap (option_map (λ part. (c.args.ino.0, part))) (sym c.first_end.ensures ∙ c.in_default.is))
     (sym c.in-Some-first_served.is ∙ c.first_served.ensures)
 
 pub returns : goal.returns

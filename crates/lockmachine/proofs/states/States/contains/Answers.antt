@@ -1,0 +1,9 @@
+use Rattle.std.proofs.Common.{is_some, sym, ap, ◌∙◌}
+use Rattle.std.specs.FinMap as map
+use Rattle.sessiontab.proofs.Entries.{get-entries}
+use Rattle.lockmachine.proofs.states.States.contains.Goals as goal
+
+pub returns : goal.returns
+returns c =
+    c.contains_key.ensures
+    ∙ ap is_some (sym (get-entries c.self.inside.locks.entries c.args.ino.0) ∙ ap (λ m. map.get m c.args.ino.0) c.self.view_is)
