@@ -458,6 +458,7 @@ touches-touched old k touch sound table free =
     subst (λ (s : State). Touches k.ino.0 old s.scene) (sym (touched-state old k.client k.ino touch free)) (record {
       same = same-entries k.ino.0 old.scene (touched_table old.scene.table k (revoked_of old.scene k) touch)
           (λ other apart. others-touched old.scene.table k other (λ same. apart (ap (λ (i : Ino). i.0) same)) (revoked_of old.scene k) touch);
+      states = refl;
       known = λ other. refl;
       locked = sound.locked;
       waiting = sound.waiting;
