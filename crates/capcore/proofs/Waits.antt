@@ -30,7 +30,6 @@ use Rattle.capcore.proofs.Stops.{touched-asks}
 use Rattle.capcore.specs.declared.event.Event.{Event}
 use Rattle.capcore.specs.declared.event.Event.TheVariants as event
 use Rattle.capcore.specs.declared.outcome.Ended.{Ended}
-use Rattle.capcore.specs.Served.{is_rename}
 use Rattle.capcore.specs.Touching.{asks_for, Touches}
 use Rattle.capcore.specs.Untold.{HaveOwnNumbers, but_for}
 
