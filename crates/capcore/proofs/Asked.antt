@@ -33,7 +33,6 @@ use Rattle.capcore.specs.Asks.{ask_before, ask_needs, ask_after}
 use Rattle.capcore.specs.Judge.{judged, asked_tests, asking_tests, waiting_tests, stop, stop_by, first_denied}
 use Rattle.capcore.specs.Needs.{Need}
 use Rattle.capcore.specs.Direct.{direct, effect, effect_unless, asks}
-use Rattle.capcore.specs.Served.{is_rename}
 use Rattle.capcore.specs.Serving.{judged_again}
 use Rattle.capcore.specs.Sound.{IsSound, AreGiven}
 use Rattle.capcore.specs.Touching.{asks_for, IsTouchedEntry, Touches}
@@ -41,11 +40,10 @@ use Rattle.capcore.proofs.Touched.{all-left, asked-session, asked-there, AreBelo
 
 -- ---- which events ask, and what
 
--- the event asks for this, and for nothing that moves an inode
+-- the event asks for this
 pub record IsAsking (k : Holder) (ask : Ask) (e : Event) : Type 0 where
   pub effect_is : (s : State) → effect s e ≡ asks s k.client k.ino ask
   pub judged_is : (s : Scene) → judged s e ≡ stop s (asking_tests s k.client k.ino.0 ask) (ask_needs s k.client k.ino.0 ask) (waiting_tests s k.ino.0 ask)
-  pub stays : is_rename ask ≡ false
 
 same_asking : (k other : Holder) (ask more : Ask) (e : Event) → ◌≡◌ {A = Option (Holder × Ask)} (Some (k, ask)) (Some (other, more)) → IsAsking k ask e → IsAsking other more e
 same_asking k other ask more e is asking =
@@ -145,6 +143,7 @@ module _ (old : State) (k : Holder) (ask : Ask) (sound : IsSound old) (table : I
   pub asking-touches : Touches k.ino.0 old first
   asking-touches = record {
     same = same-request old.scene k.client k.ino ask;
+    states = refl;
     known = λ other. refl;
     locked = sound.locked;
     waiting =
@@ -160,7 +159,3 @@ below-of_ask count old k ask given = let made = given.made in let last = given.l
 pub order-of_ask : (s : Scene) (k : Holder) (ask : Ask) → IsLockMap s.locks
     → stop s (asking_tests s k.client k.ino.0 ask) (ask_needs s k.client k.ino.0 ask) (waiting_tests s k.ino.0 ask) ≡ None → IsLockMap (with_request s.locks k.client k.ino ask)
 order-of_ask s k ask order free = with_request-kept s.locks k.client k.ino ask order (asking-room s k ask free)
-
-pub stay-of_ask : (s : Scene) (k : Holder) (ask : Ask) → is_rename ask ≡ false → All (λ q. is_rename q.ask ≡ false) s.locks.queue
-    → All (λ q. is_rename q.ask ≡ false) (with_request s.locks k.client k.ino ask).queue
-stay-of_ask s k ask stays all = All-push (λ (q : Request). is_rename q.ask ≡ false) s.locks.queue (next_request s.locks k.client k.ino ask) all stays

@@ -1,6 +1,6 @@
 -- The step of an event that touched one inode, all together: it is a step of the rules, leaves the state sound, issues what is due
 -- and gives at most one number.
-use Rattle.std.proofs.Common.{◌≡◌, ◌≤◌, ℕ, ◌+◌, List, [], sym, subst}
+use Rattle.std.proofs.Common.{◌≡◌, ◌≤◌, ℕ, ◌+◌, Bool, List, [], sym, subst}
 use Rattle.std.specs.Prelude.{All}
 use Rattle.inotree.specs.Tree.{IsTree}
 use Rattle.captable.specs.Table.{IsTable}
@@ -34,27 +34,27 @@ GivesOne old e =
     All (λ row. row.entry.seq ≤ count) (direct old e).state.scene.table.rows
     × ((direct old e).state.scene.table.made ≤ count + 1) × ((direct old e).state.scene.locks.last ≤ count + 1)
 
-module _ (ino : ℕ) (old : State) (e : Event) (moves : List Made) (settled : Scene) (sound : IsSound old) (none : (direct old e).dropped ≡ []) (left : (direct old e).state.messages ≡ old.messages)
+module _ (at : ℕ → Bool) (ino : ℕ) (old : State) (e : Event) (moves : List Made) (settled : Scene) (sound : IsSound old) (none : (direct old e).dropped ≡ []) (left : (direct old e).state.messages ≡ old.messages)
     (touches : Touches ino old (direct old e).state.scene) (table : IsTable (direct old e).state.scene.table) (gives : GivesOne old e)
-    (at : SettlesAt ino moves (direct old e).state.scene settled) (tree : IsTree settled.tree) where
+    (settles : SettlesAt at ino moves (direct old e).state.scene settled) (tree : IsTree settled.tree) where
   abbrev pub last : State
-  last = state_at_end old moves (finished_at ino old.scene settled)
+  last = state_at_end old moves (finished_at at ino (direct old e).state.scene settled)
 
   pub concluded : IsTable last.scene.table → (answer : Reply) (new : State) → answer ≡ reply_of last (ended_in moves) (direct old e).answer
       → new ≡ shown (direct old e).answer last → IsConcluded old e answer (earlier old.scene.locks.last (ended_in moves)) new
   concluded last-table answer new answers is = record {
     step =
-        one-step ino old e moves settled (finished_at ino old.scene settled) none left at
-        (touched-ends ino old moves (direct old e).state.scene settled sound table touches at) answer new answers is;
+        one-step at ino old e moves settled (finished_at at ino (direct old e).state.scene settled) none left settles
+        (touched-ends at ino old moves (direct old e).state.scene settled sound table touches settles) answer new answers is;
     sound =
         subst IsSound (sym is)
-        (shown-sound last (direct old e).answer (sound-touched ino old moves (direct old e).state.scene settled sound tree table touches at) last-table);
+        (shown-sound last (direct old e).answer (sound-touched at ino old moves (direct old e).state.scene settled sound tree table touches settles) last-table);
     issued =
         subst (λ (s : State). IssuesExactly (direct old e).state.scene s.scene) (sym is)
         (shown-issued (direct old e).state.scene last (direct old e).answer last-table
-        (touched-issues ino old moves (direct old e).state.scene settled sound table touches at tree));
+        (touched-issues at ino old moves (direct old e).state.scene settled sound table touches settles tree));
     given = λ count given. (let b = gives count given in
         subst (AreGiven (count + 1)) (sym is)
         (shown-given (count + 1) last (direct old e).answer
-        (given-touched ino count old moves (direct old e).state.scene settled at b.0 b.1 b.2)));
+        (given-touched at ino count old moves (direct old e).state.scene settled settles b.0 b.1 b.2)));
   }

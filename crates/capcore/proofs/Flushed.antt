@@ -52,6 +52,7 @@ same-flush s k change =
 pub flush-touches : (old : State) (k : Holder) (change : Change) → IsSound old → IsTable old.scene.table → Touches k.ino.0 old (with_flush old k change).scene
 flush-touches old k change sound table = record {
   same = same-flush old.scene k change;
+  states = refl;
   known = λ other. known_change old.scene.tree k.ino.0 change other;
   locked = λ other. sound.locked other ∙ sym (known_change old.scene.tree k.ino.0 change other);
   waiting = sound.waiting;

@@ -24,11 +24,12 @@ each_twice : {X Y : Type 0} (f : X → Y) (g : X → X) → ((x : X) → f (g x)
 each_twice f g same [] = refl
 each_twice f g same (x ∷ xs) = λ i. same x i ∷ each_twice f g same xs i
 
-module _ (old s : Scene) (ino : ℕ) where
+-- at these inodes
+module _ (old s : Scene) (at : ℕ → Bool) where
   abbrev pub on_it : EntryRow → Bool
-  on_it = is_of_inode (record { 0 = ino })
+  on_it row = at row.holder.ino.0
 
-  -- a row at the end: those on the inode change
+  -- a row at the end: those on these inodes change
   abbrev pub last_row : EntryRow → EntryRow
   last_row row = cond (on_it row) (ended_row old s row) row
 
@@ -36,7 +37,7 @@ module _ (old s : Scene) (ino : ℕ) where
   abbrev pub issued_at : Scene
   issued_at = record s { table = changed_where on_it (finished_entry old s) s.table }
 
-  -- what holds of a row on the inode at the end, and of each other as it is, holds of each at the end
+  -- what holds of a row on one of them at the end, and of each other as it is, holds of each at the end
   pub by_place : (P : EntryRow → Type 0) (row : EntryRow) → (on_it row ≡ true → P (ended_row old s row)) → (on_it row ≡ false → P row) → P (last_row row)
   by_place P row here elsewhere = elim (on_it row) as (λ b. on_it row ≡ b → P (cond b (ended_row old s row) row)) [ true ↦ here | false ↦ elsewhere ] refl
 
@@ -64,8 +65,8 @@ module _ (old s : Scene) (ino : ℕ) where
     is_left row = not (is_empty (outside part to row))
 
     left-last : (row : EntryRow) → row.holder.ino.0 ≡ i → is_left (last_row row) ≡ is_left row
-    left-last row at =
-        by_place (λ r. is_left r ≡ is_left row) row (λ e. ap (λ caps. not (is_empty caps)) (outside-ended old s row part from to (ap (λ n. lock_at s.locks n part) at ∙ lock))) (λ e. refl)
+    left-last row here =
+        by_place (λ r. is_left r ≡ is_left row) row (λ e. ap (λ caps. not (is_empty caps)) (outside-ended old s row part from to (ap (λ n. lock_at s.locks n part) here ∙ lock))) (λ e. refl)
 
     left : (rows : List EntryRow) → list_any is_left (filter on (each last_row rows)) ≡ list_any is_left (filter on rows)
     left [] = refl

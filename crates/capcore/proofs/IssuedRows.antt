@@ -1,4 +1,4 @@
--- What the end of a step makes of an entry on the inode: it gains what is due, which its locks allow, and its number may rise.
+-- What the end of a step makes of an entry on an inode that it touched: it gains what is due, which its locks allow, and its number may rise.
 use Rattle.std.proofs.Common.{◌≡◌, ◌≤◌, ℕ, ◌+◌, Bool, true, false, not, cond, ◌&&◌, ◌||◌, Option, Some, None, List, [], ◌∷◌, refl, sym, ap, subst, ◌∙◌, true≢false, ◌⊎◌, inl, inr, arith}
 use Rattle.std.specs.Prelude.{if◌then◌else◌}
 use Rattle.std.specs.FinMap as map

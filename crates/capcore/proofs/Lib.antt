@@ -24,6 +24,7 @@ pub mod Polled
 pub mod Polling
 pub mod Promised
 pub mod Revoking
+pub mod SameOff
 pub mod Servings
 pub mod Sounding
 pub mod StayingSound

@@ -1,6 +1,5 @@
 -- An event about one inode that is there, by itself: what is asked of an entry, what waits for a lock, or a flush.
-use Rattle.std.proofs.Common.{◌≡◌, ℕ, false, Option, Some, None, refl, sym, ap, subst, ◌∙◌, arith}
-use Rattle.std.specs.Prelude.{All}
+use Rattle.std.proofs.Common.{◌≡◌, ℕ, Option, Some, None, refl, sym, ap, subst, ◌∙◌, arith}
 use Rattle.std.proofs.lemmas.Option.{none-some}
 use Rattle.inotree.specs.Tree.{IsTree}
 use Rattle.captable.specs.declared.entry.Holder.{Holder}
@@ -8,7 +7,7 @@ use Rattle.captable.specs.Table.{IsTable, holder}
 use Rattle.lockmachine.specs.declared.request.Ask.{Ask}
 use Rattle.lockmachine.specs.declared.request.Ask.TheVariants.{Get, Alter, Unlink, Rmdir, Rename}
 use Rattle.lockmachine.specs.declared.request.Change.{Change}
-use Rattle.lockmachine.specs.Locks.{LockMap, IsLockMap}
+use Rattle.lockmachine.specs.Locks.{IsLockMap}
 use Rattle.capcore.specs.declared.event.Event.{Event}
 use Rattle.capcore.specs.declared.event.Event.TheVariants as event
 use Rattle.capcore.specs.declared.stopped.Stopped.{Stopped}
@@ -17,11 +16,10 @@ use Rattle.capcore.specs.declared.touch.Touch.TheVariants.{Open, Want, Ack, Rele
 use Rattle.capcore.specs.State.{State}
 use Rattle.capcore.specs.Judge.{judged}
 use Rattle.capcore.specs.Direct.{Direct, direct, effect, effect_unless}
-use Rattle.capcore.specs.Served.{is_rename}
 use Rattle.capcore.specs.Touch.{touch_event}
 use Rattle.capcore.specs.Touching.{touched_by, asks_for, Touches}
 use Rattle.capcore.specs.Sound.{IsSound, AreGiven}
-use Rattle.capcore.proofs.Asked.{asking, asking-stop, asking-direct, asking-touches, below-of_ask, order-of_ask, stay-of_ask}
+use Rattle.capcore.proofs.Asked.{asking, asking-stop, asking-direct, asking-touches, below-of_ask, order-of_ask}
 use Rattle.capcore.proofs.Flushed.{flush-touches, flush-table, flush-tree, below-of_flush}
 use Rattle.capcore.proofs.Touched.{touches-touched, table-of_touch, below-of_touch, keeps-of_touch, tree-of_touch, locks-of_touch, AreBelow, Keeps}
 
@@ -51,10 +49,6 @@ asked_by (event.Rmdir client ino) k is = let same : holder client ino ≡ k = cc
 asked_by (event.Rename client ino dir name) k is = let same : holder client ino ≡ k = cc in Waits_for (Rename dir name) (λ i. Some (same i, Rename dir name))
 asked_by (event.Flush client ino change) k is = let same : holder client ino ≡ k = cc in Flushes change (λ i. event.Flush (same i).client (same i).ino change)
 asked_by (event.Poll client max) k is = absurd (none-some k is)
-
--- nobody waits to move an inode
-abbrev AllStay : LockMap → Type 0
-AllStay locks = All (λ q. is_rename q.ask ≡ false) locks.queue
 
 -- ---- an event that nothing stops
 
@@ -100,16 +94,6 @@ module _ (old : State) (e : Event) (k : Holder) where
       (subst (λ (e : Event). IsTree (effect old e).state.scene.tree) (sym is)
       (flush-tree old k change tree (subst (λ (e : Event). judged old.scene e ≡ None) is free)))
 
-  stay-by : IsOfInode k e → AllStay old.scene.locks → judged old.scene e ≡ None → AllStay (direct old e).state.scene.locks
-  stay-by (Touches_entry touch is) all free =
-      by_effect (λ d. AllStay d.state.scene.locks) free
-      (subst (λ (e : Event). AllStay (effect old e).state.scene.locks) (sym is) (subst AllStay (sym (locks-of_touch old k touch)) all))
-  stay-by (Waits_for ask is) all free =
-      let a = asking e k ask is in
-      subst (λ (d : Direct). AllStay d.state.scene.locks) (sym (asking-direct old e k ask is free)) (stay-of_ask old.scene k ask a.stays all)
-  stay-by (Flushes change is) all free =
-      by_effect (λ d. AllStay d.state.scene.locks) free (subst (λ (e : Event). AllStay (effect old e).state.scene.locks) (sym is) all)
-
   -- ---- whatever stops it
 
   below-by : (count : ℕ) → AreGiven count old → IsOfInode k e → AreBelow count (effect old e).state
@@ -144,9 +128,6 @@ event-order old e k order is = order-by old e k (asked_by e k is) order
 
 pub event-tree : (old : State) (e : Event) (k : Holder) → IsTree old.scene.tree → touched_by e ≡ Some k → judged old.scene e ≡ None → IsTree (direct old e).state.scene.tree
 event-tree old e k tree is = tree-by old e k (asked_by e k is) tree
-
-pub event-stay : (old : State) (e : Event) (k : Holder) → AllStay old.scene.locks → touched_by e ≡ Some k → judged old.scene e ≡ None → AllStay (direct old e).state.scene.locks
-event-stay old e k all is = stay-by old e k (asked_by e k is) all
 
 pub event-below : (count : ℕ) (old : State) (e : Event) (k : Holder) → AreGiven count old → touched_by e ≡ Some k → AreBelow count (direct old e).state
 event-below count old e k given is = below_unless old e k count given (asked_by e k is) (judged old.scene e)

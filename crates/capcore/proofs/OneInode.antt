@@ -1,4 +1,4 @@
--- The step of an event that touched one inode ends at that inode.
+-- The step of an event that touched one inode ends at the inodes that it touched.
 use Rattle.std.proofs.Common.{◌≡◌, ◌≢◌, ℕ, zero, suc, ◌+◌, ◌==◌, Bool, true, false, cond, not, ◌||◌, Option, Some, None, List, [], ◌∷◌, map, filter, refl, sym, ap, subst, ◌∙◌, Contains, arith, inl, inr, true≢false, eq-eqb}
 use Rattle.std.specs.List.{find, list_any}
 use Rattle.std.specs.Option.{option_map, option_map_or}
@@ -31,12 +31,10 @@ use Rattle.captable.specs.Calls.{is_of_inode, entries_on, renumbered}
 use Rattle.captable.specs.Many.{remade}
 use Rattle.captable.proofs.ByHolder.{row_found}
 use Rattle.captable.proofs.Searches.{find-map}
-use Rattle.lockmachine.specs.Elsewhere.{IsSameBut}
 use Rattle.lockmachine.specs.Locks.{lock_at, without_ino}
 use Rattle.lockmachine.specs.Wants.{effective_want}
 use Rattle.lockmachine.specs.Scene.{Scene, against_lock, told_set}
 use Rattle.lockmachine.proofs.PolicyElsewhere.{want-kept, want-forgotten}
-use Rattle.lockmachine.proofs.SameBut.{same-trans}
 use Rattle.capcore.specs.State.{State}
 use Rattle.capcore.specs.Finish.{allowed_by, due, issue_row, issue, is_kept, forget, told_before, number_row, finished}
 use Rattle.capcore.specs.Headline.{holds, IssuesExactly}
@@ -47,6 +45,7 @@ use Rattle.capcore.specs.Touching.{Touches, SettlesAt, finished_entry, finished_
 use Rattle.capcore.proofs.Finishing.{same-issue_row, same-renumbered, or_inside, kept_by, same_kept}
 use Rattle.capcore.proofs.Leaving.{found-contains}
 use Rattle.capcore.proofs.Moved.{moved-all}
+use Rattle.capcore.proofs.SameOff.{other_than, IsSameFrom, from-first}
 
 -- ---- lists of rows
 
@@ -149,50 +148,50 @@ due-want s row e want = ap (λ (w : Caps). due s (record row { entry = record ro
 
 -- ---- the end of the step
 
--- of a scene that is the old one off one inode
-module _ (ino : ℕ) (old : State) (now : Scene) (sound : IsSound old) (is_table : IsTable now.table) (same_but : IsSameBut ino old.scene now) where
+-- of a scene that is the old one off the inodes that the step touched
+module _ (at : ℕ → Bool) (ino : ℕ) (old : State) (now : Scene) (here : at ino ≡ true) (sound : IsSound old) (is_table : IsTable now.table) (same_from : IsSameFrom at ino old.scene now) where
   abbrev last : Scene
   last = forget (issue now)
 
   -- a row as it is at the end, and all of them
   abbrev pub ended : EntryRow → EntryRow
-  ended row = cond (is_of_inode (record { 0 = ino }) row) (remade (finished_entry old.scene now) row) row
+  ended row = cond (at row.holder.ino.0) (remade (finished_entry old.scene now) row) row
 
   abbrev pub numbered : Scene
   numbered = record now { table = record now.table { rows = map ended now.table.rows } }
 
   -- ---- elsewhere nothing happens
 
-  elsewhere : (other : ℕ) (part : Part) → other ≢ ino → lock_at now.locks other part ≡ lock_at old.scene.locks other part
-  elsewhere = same_but.locks
+  elsewhere : (other : ℕ) (part : Part) → at other ≡ false → lock_at now.locks other part ≡ lock_at old.scene.locks other part
+  elsewhere = same_from.locks
 
-  off_want : (row : EntryRow) → row.holder.ino.0 ≢ ino → effective_want now.fs now.tree now.sessions row ≡ effective_want old.scene.fs old.scene.tree old.scene.sessions row
-  off_want row off =
-      ap (λ fs. effective_want fs now.tree now.sessions row) same_but.fs
-      ∙ want-kept old.scene.fs old.scene.tree now.tree old.scene.sessions now.sessions row (same_but.alike row.holder.ino.0 off)
-      (ap (λ (t : SessionTable). finite.get t.sessions row.holder.client.0) same_but.sessions)
+  off_want : (row : EntryRow) → Contains now.table.rows row → at row.holder.ino.0 ≡ false → effective_want now.fs now.tree now.sessions row ≡ effective_want old.scene.fs old.scene.tree old.scene.sessions row
+  off_want row inside off =
+      ap (λ fs. effective_want fs now.tree now.sessions row) same_from.fs
+      ∙ want-kept old.scene.fs old.scene.tree now.tree old.scene.sessions now.sessions row (same_from.alike row inside off)
+      (ap (λ (t : SessionTable). finite.get t.sessions row.holder.client.0) same_from.sessions)
 
-  pub off_due : (row : EntryRow) → row.holder.ino.0 ≢ ino → due now row ≡ due old.scene row
-  off_due row off = λ i.
-      meet (off_want row off i)
+  pub off_due : (row : EntryRow) → Contains now.table.rows row → at row.holder.ino.0 ≡ false → due now row ≡ due old.scene row
+  off_due row inside off = λ i.
+      meet (off_want row inside off i)
       (union (caps_in (P ∷ []))
       (union (allowed_by A row (elsewhere row.holder.ino.0 A off i))
       (union (allowed_by L row (elsewhere row.holder.ino.0 L off i))
       (union (allowed_by X row (elsewhere row.holder.ino.0 X off i)) (allowed_by F row (elsewhere row.holder.ino.0 F off i))))))
 
-  pub off_told : (row : EntryRow) → row.holder.ino.0 ≢ ino → told_set now row ≡ told_set old.scene row
+  pub off_told : (row : EntryRow) → at row.holder.ino.0 ≡ false → told_set now row ≡ told_set old.scene row
   off_told row off = λ i.
       minus row.entry.held
       (union (against_lock A row (elsewhere row.holder.ino.0 A off i))
       (union (against_lock L row (elsewhere row.holder.ino.0 L off i))
       (union (against_lock X row (elsewhere row.holder.ino.0 X off i)) (against_lock F row (elsewhere row.holder.ino.0 F off i)))))
 
-  pub off_held : (row : EntryRow) → Contains now.table.rows row → row.holder.ino.0 ≢ ino → IsSubset (due now row) row.entry.held
+  pub off_held : (row : EntryRow) → Contains now.table.rows row → at row.holder.ino.0 ≡ false → IsSubset (due now row) row.entry.held
   off_held row inside off =
-      let was = All-contains (IsSoundEntry old.scene) old.scene.table.rows row sound.entries (row_elsewhere ino old.scene.table now.table same_but.entries row inside off) in
-      subst (λ caps. IsSubset caps row.entry.held) (sym (off_due row off)) was.has_due
+      let was = All-contains (IsSoundEntry old.scene) old.scene.table.rows row sound.entries (row_elsewhere ino old.scene.table now.table same_from.entries row inside (other_than at ino row.holder.ino.0 here off)) in
+      subst (λ caps. IsSubset caps row.entry.held) (sym (off_due row inside off)) was.has_due
 
-  pub off_same : (row : EntryRow) → Contains now.table.rows row → row.holder.ino.0 ≢ ino → remade (finished_entry old.scene now) row ≡ row
+  pub off_same : (row : EntryRow) → Contains now.table.rows row → at row.holder.ino.0 ≡ false → remade (finished_entry old.scene now) row ≡ row
   off_same row inside off =
       ap (λ (r : EntryRow). record row { entry = renumbered (told_set old.scene row) (told_set now r) r.entry }) (same-issue_row now row (off_held row inside off))
       ∙ ap (λ (e : Entry). record row { entry = e }) (same-renumbered (told_set old.scene row) (told_set now row) row.entry (sym (off_told row off)))
@@ -202,7 +201,7 @@ module _ (ino : ℕ) (old : State) (now : Scene) (sound : IsSound old) (is_table
   kept_elsewhere : (q : ℕ) → q ≢ ino → is_kept (issue now) q ≡ true
   kept_elsewhere q off = kept_by (place now.tree.nodes q) _ (λ gone.
       any-map (is_of_inode (record { 0 = q })) (issue_row now) (λ row. refl) now.table.rows
-      ∙ any_elsewhere ino old.scene.table now.table same_but.entries q off ∙ sound.strays q (sym (same_but.places q off) ∙ gone))
+      ∙ any_elsewhere ino old.scene.table now.table same_from.entries q off ∙ sound.strays q (sym (same_from.places q off) ∙ gone))
 
   kept_row : (row : EntryRow) → Contains now.table.rows row → is_kept (issue now) row.holder.ino.0 ≡ true
   kept_row row inside = or_right (not (is_gone (place now.tree.nodes row.holder.ino.0))) _
@@ -211,7 +210,7 @@ module _ (ino : ℕ) (old : State) (now : Scene) (sound : IsSound old) (is_table
 
   pub holder_ended : (row : EntryRow) → (ended row).holder ≡ row.holder
   holder_ended row =
-      elim (is_of_inode (record { 0 = ino }) row) as (λ b. (cond b (remade (finished_entry old.scene now) row) row).holder ≡ row.holder) [ true ↦ refl | false ↦ refl ]
+      elim (at row.holder.ino.0) as (λ b. (cond b (remade (finished_entry old.scene now) row) row).holder ≡ row.holder) [ true ↦ refl | false ↦ refl ]
 
   any_ended : list_any (is_of_inode (record { 0 = ino })) (map ended now.table.rows) ≡ list_any (is_of_inode (record { 0 = ino })) now.table.rows
   any_ended = any-map (is_of_inode (record { 0 = ino })) ended (λ row. ap (λ (h : Holder). h.ino.0 == ino) (holder_ended row)) now.table.rows
@@ -238,10 +237,10 @@ module _ (ino : ℕ) (old : State) (now : Scene) (sound : IsSound old) (is_table
   }
 
   one_row : (row : EntryRow) → Contains now.table.rows row → number_row old.scene now last (issue_row now row) ≡ ended row
-  one_row row inside = elim (is_of_inode (record { 0 = ino }) row) as (λ b. is_of_inode (record { 0 = ino }) row ≡ b
+  one_row row inside = elim (at row.holder.ino.0) as (λ b. at row.holder.ino.0 ≡ b
       → number_row old.scene now last (issue_row now row) ≡ cond b (remade (finished_entry old.scene now) row) row) [
         | true ↦ λ e. numbered_row row inside
-        | false ↦ λ e. numbered_row row inside ∙ off_same row inside (off_inode row ino e)
+        | false ↦ λ e. numbered_row row inside ∙ off_same row inside e
       ] refl
 
   -- ---- all together
@@ -255,7 +254,7 @@ module _ (ino : ℕ) (old : State) (now : Scene) (sound : IsSound old) (is_table
   by_kept true = refl
   by_kept false = refl
 
-  pub ends_there : finished old.scene now now ≡ finished_at ino old.scene now
+  pub ends_there : finished old.scene now now ≡ finished_at at ino old.scene now
   ends_there =
       (λ i. record now {
         tree = record now.tree { nodes = kept_map now.tree.nodes i };
@@ -268,7 +267,7 @@ module _ (ino : ℕ) (old : State) (now : Scene) (sound : IsSound old) (is_table
 
   module _ (tree : IsTree now.tree) where
     -- the inode that is forgotten has no entry, and none elsewhere reads it
-    pub due_last : (row : EntryRow) → Contains now.table.rows row → due (finished_at ino old.scene now) row ≡ due now row
+    pub due_last : (row : EntryRow) → Contains now.table.rows row → due (finished_at at ino old.scene now) row ≡ due now row
     due_last row inside = elim (is_kept numbered ino) as (λ b. is_kept numbered ino ≡ b
         → due (cond b numbered (record numbered { tree = forgotten now.tree ino; locks = without_ino now.locks ino })) row ≡ due now row) [
           | true ↦ λ e. refl
@@ -280,22 +279,22 @@ module _ (ino : ℕ) (old : State) (now : Scene) (sound : IsSound old) (is_table
               λ i. meet (want i) (allowed_under (states i) row))
         ] refl
 
-    pub rows_last : (finished_at ino old.scene now).table ≡ numbered.table
+    pub rows_last : (finished_at at ino old.scene now).table ≡ numbered.table
     rows_last =
         elim (is_kept numbered ino) as (λ b. (cond b numbered (record numbered { tree = forgotten now.tree ino; locks = without_ino now.locks ino })).table ≡ numbered.table)
         [ true ↦ refl | false ↦ refl ]
 
-    pub held_last : (row : EntryRow) (cap : Cap) → Contains now.table.rows row → has (ended row).entry.held cap ≡ (has row.entry.held cap || has (due (finished_at ino old.scene now) (ended row)) cap)
-    held_last row cap inside = elim (is_of_inode (record { 0 = ino }) row) as (λ b. is_of_inode (record { 0 = ino }) row ≡ b
+    pub held_last : (row : EntryRow) (cap : Cap) → Contains now.table.rows row → has (ended row).entry.held cap ≡ (has row.entry.held cap || has (due (finished_at at ino old.scene now) (ended row)) cap)
+    held_last row cap inside = elim (at row.holder.ino.0) as (λ b. at row.holder.ino.0 ≡ b
         → has (cond b (remade (finished_entry old.scene now) row) row).entry.held cap
-        ≡ (has row.entry.held cap || has (due (finished_at ino old.scene now) (cond b (remade (finished_entry old.scene now) row) row)) cap)) [
+        ≡ (has row.entry.held cap || has (due (finished_at at ino old.scene now) (cond b (remade (finished_entry old.scene now) row) row)) cap)) [
           | true ↦ λ e. (let before = told_set old.scene row in
               let after = told_set now (issue_row now row) in
-              let same_due = due-want (finished_at ino old.scene now) row (finished_entry old.scene now row) (want-renumbered before after (issue_row now row).entry) ∙ due_last row inside in
+              let same_due = due-want (finished_at at ino old.scene now) row (finished_entry old.scene now row) (want-renumbered before after (issue_row now row).entry) ∙ due_last row inside in
               ap (λ caps. has caps cap) (held-renumbered before after (issue_row now row).entry) ∙ has-union row.entry.held (due now row) cap
               ∙ sym (ap (λ caps. has row.entry.held cap || has caps cap) same_due))
-          | false ↦ λ e. sym (or_inside (has row.entry.held cap) (has (due (finished_at ino old.scene now) row) cap)
-              (λ d. off_held row inside (off_inode row ino e) cap (ap (λ caps. has caps cap) (sym (due_last row inside)) ∙ d)))
+          | false ↦ λ e. sym (or_inside (has row.entry.held cap) (has (due (finished_at at ino old.scene now) row) cap)
+              (λ d. off_held row inside e cap (ap (λ caps. has caps cap) (sym (due_last row inside)) ∙ d)))
         ] refl
 
     -- what is held, and what is due, by the row that was found
@@ -303,23 +302,28 @@ module _ (ino : ℕ) (old : State) (now : Scene) (sound : IsSound old) (is_table
     held_of cap o = option_map_or (λ row. has row.entry.held cap) o false
 
     abbrev due_of : Cap → Option EntryRow → Bool
-    due_of cap o = option_map_or (λ row. has (due (finished_at ino old.scene now) row) cap) o false
+    due_of cap o = option_map_or (λ row. has (due (finished_at at ino old.scene now) row) cap) o false
 
     by_row : (cap : Cap) (k : Holder) (o : Option EntryRow) → find (is_row_of k) now.table.rows ≡ o → held_of cap (option_map ended o) ≡ (held_of cap o || due_of cap (option_map ended o))
     by_row cap k None e = refl
     by_row cap k (Some row) e = held_last row cap (found-contains (is_row_of k) now.table.rows row e)
 
-    pub found_last : (k : Holder) → find (is_row_of k) (finished_at ino old.scene now).table.rows ≡ option_map ended (find (is_row_of k) now.table.rows)
+    pub found_last : (k : Holder) → find (is_row_of k) (finished_at at ino old.scene now).table.rows ≡ option_map ended (find (is_row_of k) now.table.rows)
     found_last k = ap (λ (t : Table). find (is_row_of k) t.rows) rows_last ∙ find-map (is_row_of k) ended (λ row. ap (same k) (holder_ended row)) now.table.rows
 
-    pub issues_there : IssuesExactly now (finished_at ino old.scene now)
+    pub issues_there : IssuesExactly now (finished_at at ino old.scene now)
     issues_there k cap =
         ap (held_of cap) (found_last k) ∙ by_row cap k (find (is_row_of k) now.table.rows) refl
         ∙ sym (ap (λ o. holds now k cap || due_of cap o) (found_last k))
 
 -- ---- of an event that touched one inode
 
-module _ (ino : ℕ) (old : State) (moves : List Made) (first settled : Scene) (sound : IsSound old) (table : IsTable first.table) (touches : Touches ino old first) (settles : SettlesAt ino moves first settled) where
+-- the end, by what the clients were to know before the event or right after it, as no lock had moved then
+pub same-end : (at : ℕ → Bool) (ino : ℕ) (old : State) (first settled : Scene) → Touches ino old first → finished_at at ino first settled ≡ finished_at at ino old.scene settled
+same-end at ino old first settled touches =
+    λ i. finished_at at ino (record first { locks = record first.locks { states = touches.states i } }) settled
+
+module _ (at : ℕ → Bool) (ino : ℕ) (old : State) (moves : List Made) (first settled : Scene) (sound : IsSound old) (table : IsTable first.table) (touches : Touches ino old first) (settles : SettlesAt at ino moves first settled) where
   -- moves leave the entries
   same-table : settled.table ≡ first.table
   same-table = let made = settles.settles in (moved-all first moves settled made.made).table
@@ -327,15 +331,16 @@ module _ (ino : ℕ) (old : State) (moves : List Made) (first settled : Scene) (
   settled-table : IsTable settled.table
   settled-table = subst IsTable (sym same-table) table
 
-  off-one : IsSameBut ino old.scene settled
-  off-one = same-trans ino old.scene first settled touches.same settles.same
+  off-these : IsSameFrom at ino old.scene settled
+  off-these = from-first at ino old.scene first settled settles.here touches.same settles.same
 
-  pub touched-ends : finished old.scene first settled ≡ finished_at ino old.scene settled
+  pub touched-ends : finished old.scene first settled ≡ finished_at at ino first settled
   touched-ends =
       ap (λ (t : Table). finished old.scene (record settled { table = t }) settled) (sym same-table)
-      ∙ ends_there ino old settled sound settled-table off-one
+      ∙ ends_there at ino old settled settles.here sound settled-table off-these ∙ sym (same-end at ino old first settled touches)
 
-  pub touched-issues : IsTree settled.tree → IssuesExactly first (finished_at ino old.scene settled)
+  pub touched-issues : IsTree settled.tree → IssuesExactly first (finished_at at ino first settled)
   touched-issues tree =
-      subst (λ (t : Table). IssuesExactly (record settled { table = t }) (finished_at ino old.scene settled)) same-table
-      (issues_there ino old settled sound settled-table off-one tree)
+      subst (IssuesExactly first) (sym (same-end at ino old first settled touches))
+      (subst (λ (t : Table). IssuesExactly (record settled { table = t }) (finished_at at ino old.scene settled)) same-table
+      (issues_there at ino old settled settles.here sound settled-table off-these tree))

@@ -1,10 +1,10 @@
 -- A sound state stays sound after the step of an event that touched one inode.
-use Rattle.std.proofs.Common.{◌≡◌, ◌≢◌, ◌≤◌, ℕ, ◌+◌, ◌==◌, Bool, true, false, cond, ◌||◌, Some, None, List, filter, refl, sym, ap, subst, ◌∙◌, ◌&&◌, ◌++◌, inl, inr, Contains, arith}
+use Rattle.std.proofs.Common.{◌≡◌, ◌≢◌, ◌≤◌, ℕ, ◌+◌, ◌==◌, Bool, true, false, cond, ◌||◌, Some, None, List, filter, refl, sym, ap, subst, ◌∙◌, ◌&&◌, ◌++◌, inl, inr, Contains, eq-eqb, arith}
 use Rattle.std.specs.Prelude.{IsTrue, All, nat_le}
 use Rattle.std.specs.List.{find, list_any}
+use Rattle.std.specs.Option.{option_map}
 use Rattle.std.specs.Cmp.{nat_cmp_total, nat_eq_equiv}
 use Rattle.std.specs.FinMap as map
-use Rattle.std.proofs.lemmas.Bool.{eqb-false}
 use Rattle.std.proofs.lemmas.List.Elements.{All-append, All-contains, All-filter, All-map, All-same, All-weaker}
 use Rattle.capbits.specs.declared.cap.Cap.TheVariants.{P}
 use Rattle.capbits.specs.declared.cap.Part.{Part}
@@ -25,7 +25,7 @@ use Rattle.captable.proofs.ByHolder.{row_found}
 use Rattle.captable.proofs.Searches.{find-filter_kept}
 use Rattle.captable.proofs.Tables.{same-is}
 use Rattle.lockmachine.specs.declared.moves.Move.TheVariants.{Settled}
-use Rattle.lockmachine.specs.Elsewhere.{IsSameBut}
+use Rattle.lockmachine.specs.Inodes.{StateMap, lock_in}
 use Rattle.lockmachine.specs.Locks.{lock_at, without_ino}
 use Rattle.lockmachine.specs.Policy.{subject, permitted, is_open_session}
 use Rattle.lockmachine.specs.Requests.{first_for}
@@ -34,7 +34,6 @@ use Rattle.lockmachine.specs.Moves.{first_move, IsQuiet, IsAtRest, WaitAtLocks}
 use Rattle.lockmachine.specs.Rows.{IsInRowOf, IsInRow}
 use Rattle.lockmachine.specs.Wants.{effective_want}
 use Rattle.lockmachine.proofs.Rest.{at_rest}
-use Rattle.lockmachine.proofs.SameBut.{same-trans}
 use Rattle.capcore.specs.declared.outcome.Ended.{Ended}
 use Rattle.capcore.specs.State.{State}
 use Rattle.capcore.specs.Finish.{due, allowed_to, is_kept}
@@ -42,13 +41,14 @@ use Rattle.capcore.specs.Sound.{IsSoundEntry, IsSound, AreGiven}
 use Rattle.capcore.specs.Settle.{Made, ended_in}
 use Rattle.capcore.specs.Step.{earlier, state_at_end}
 use Rattle.capcore.specs.Touching.{IsTouchedEntry, Touches, SettlesAt, finished_at}
-use Rattle.capcore.proofs.OneInode.{any-map, any_elsewhere, filter-contains, row_elsewhere, off_due}
+use Rattle.capcore.proofs.OneInode.{any-map, any_elsewhere, filter-contains, row_elsewhere, off_due, same-end}
 use Rattle.capcore.proofs.IssuedRows.{ended_row, want-ended, told-ended, revoked-ended, seq-ended, effective-ended, holds-due, holds-pin, in_row-ended}
 use Rattle.capcore.proofs.IssuedRest.{on_it, last_row, issued_at, by_place, of_inode-last, rest-issued}
 use Rattle.capcore.proofs.Placed.{in_row}
 use Rattle.capcore.proofs.Forgotten.{all_rows, IsSoundBut, sound-forgotten}
 use Rattle.capcore.proofs.Moved.{IsMoved, moved-all, no_lock-moved, nobody-moved, all-waiting, Waited, ended-waited}
-use Rattle.capcore.proofs.Touched.{permitted-pin}
+use Rattle.capcore.proofs.SameOff.{other_than, IsSameFrom, from-first}
+use Rattle.capcore.proofs.Touched.{permitted-pin, IsKeptEntry, kept-left}
 
 -- ---- the pin
 
@@ -70,88 +70,107 @@ wants_pin fs tree sessions row = by_session (is_open_session (map.get sessions.s
 -- ---- the step
 
 -- all that is known of it
-record IsGiven (ino : ℕ) (old : State) (first settled : Scene) : Type 0 where
+record IsGiven (at : ℕ → Bool) (ino : ℕ) (old : State) (first settled : Scene) : Type 0 where
+  here : at ino ≡ true
   sound : IsSound old
   tree : IsTree settled.tree
   table : IsTable settled.table
   -- the first scene has the same entries
   moved : IsMoved first settled
   touches : Touches ino old first
-  same : IsSameBut ino old.scene settled
+  same : IsSameFrom at ino old.scene settled
   rests : first_move settled ≡ Settled
 
-module _ (ino : ℕ) (old : State) (first settled : Scene) where
+module _ (at : ℕ → Bool) (ino : ℕ) (old : State) (first settled : Scene) where
   abbrev last : Scene
-  last = issued_at old.scene settled ino
+  last = issued_at old.scene settled at
 
   abbrev on : EntryRow → Bool
-  on = on_it old.scene settled ino
+  on = on_it old.scene settled at
 
   abbrev last_of : EntryRow → EntryRow
-  last_of = last_row old.scene settled ino
+  last_of = last_row old.scene settled at
 
   abbrev rows : List EntryRow
   rows = settled.table.rows
 
-  module _ (g : IsGiven ino old first settled) where
+  module _ (g : IsGiven at ino old first settled) where
     -- ---- rest
 
     -- who waits, waits for a lock that is there
     wait_at : WaitAtLocks settled
-    wait_at i part none = let moved = g.moved in elim (same_or_other nat_cmp_total map.nat_cmp-IsAntisymmetric i ino) as (λ _. first_for settled.locks.queue i part ≡ None) [
-      | inl is ↦ (let touches = g.touches in
-          ap (λ i. first_for settled.locks.queue i part) is
-          ∙ nobody-moved first settled moved ino part (touches.at_lock part (no_lock-moved first settled moved ino part (sym (ap (λ i. lock_at settled.locks i part) is) ∙ none))))
-      | inr off ↦ (let same = g.same in
-          let sound = g.sound in
-          same.waiting i part off
-          ∙ subst (IsQuiet old.scene i part) (sym (same.locks i part off) ∙ none) (sound.at_rest.each i part))
-    ]
+    wait_at i part none =
+        let moved = g.moved in
+        let touches = g.touches in
+        let was = no_lock-moved first settled moved i part none in
+        elim (same_or_other nat_cmp_total map.nat_cmp-IsAntisymmetric i ino) as (λ _. first_for settled.locks.queue i part ≡ None) [
+          | inl is ↦
+              ap (λ i. first_for settled.locks.queue i part) is
+              ∙ nobody-moved first settled moved ino part (touches.at_lock part (sym (ap (λ i. lock_at first.locks i part) is) ∙ was))
+          | inr off ↦ (let same = g.same in
+              let sound = g.sound in
+              let before : lock_at old.scene.locks i part ≡ None = sym (ap (λ (states : StateMap). option_map (lock_in part) (map.get states i)) touches.states) ∙ was in
+              same.waiting i part off ∙ subst (IsQuiet old.scene i part) before (sound.at_rest.each i part))
+        ]
 
     rest_last : IsAtRest last
-    rest_last = rest-issued old.scene settled ino (at_rest settled wait_at g.rests)
+    rest_last = rest-issued old.scene settled at (at_rest settled wait_at g.rests)
 
-    -- ---- rows elsewhere are those of the old state
+    -- ---- rows of other inodes are those of the old state
 
     differs : (row : EntryRow) → on row ≡ false → row.holder.ino.0 ≢ ino
-    differs row off = eqb-false row.holder.ino.0 ino off
+    differs row off = other_than at ino row.holder.ino.0 g.here off
 
-    old_row : (row : EntryRow) → Contains rows row → on row ≡ false → Contains old.scene.table.rows row
-    old_row row inside off = let same = g.same in row_elsewhere ino old.scene.table settled.table same.entries row inside (differs row off)
+    old_row : (row : EntryRow) → Contains rows row → row.holder.ino.0 ≢ ino → Contains old.scene.table.rows row
+    old_row row inside off = let same = g.same in row_elsewhere ino old.scene.table settled.table same.entries row inside off
 
     of_its_inode : (k : Holder) (row : EntryRow) → is_row_of k row ≡ true → is_of_inode k.ino row ≡ true
     of_its_inode k row is = ap (λ (h : Holder). h.ino.0 == k.ino.0) (sym (same-is k row.holder is)) ∙ nat_eq_equiv.refl k.ino.0
 
-    old_found : (row : EntryRow) → Contains rows row → on row ≡ false → find (is_row_of row.holder) old.scene.table.rows ≡ Some row
+    old_found : (row : EntryRow) → Contains rows row → row.holder.ino.0 ≢ ino → find (is_row_of row.holder) old.scene.table.rows ≡ Some row
     old_found row inside off =
         let k = row.holder in
         let same = g.same in
         sym (find-filter_kept (is_row_of k) (is_of_inode k.ino) (of_its_inode k) old.scene.table.rows)
-        ∙ ap (find (is_row_of k)) (sym (same.entries k.ino (differs row off)))
+        ∙ ap (find (is_row_of k)) (sym (same.entries k.ino off))
         ∙ find-filter_kept (is_row_of k) (is_of_inode k.ino) (of_its_inode k) rows ∙ row_found settled.table row g.table inside
 
     first_row : (row : EntryRow) → Contains rows row → Contains first.table.rows row
     first_row row inside = let moved = g.moved in subst (λ (t : Table). Contains t.rows row) moved.table inside
 
-    touched : (row : EntryRow) → Contains rows row → on row ≡ true → IsTouchedEntry first row
-    touched row inside at =
+    -- what every state keeps of such a row, it keeps; so by itself the event leaves each row as one of its inode
+    kept_row : (row : EntryRow) → Contains rows row → row.holder.ino.0 ≢ ino → IsKeptEntry old.scene row
+    kept_row row inside off =
+        let sound = g.sound in
+        let was = All-contains (IsSoundEntry old.scene) old.scene.table.rows row sound.entries (old_row row inside off) in
+        record {
+          of_session = was.of_session;
+          on_inode = was.on_inode;
+          wants_pin = was.wants_pin;
+          holds_pin = was.holds_pin;
+          in_row = λ part. in_row old.scene row part (lock_at old.scene.locks row.holder.ino.0 part) (sound.in_place row part (old_found row inside off));
+          told = was.told;
+          revoked = was.revoked;
+        }
+
+    touched : (row : EntryRow) → Contains rows row → IsTouchedEntry first row
+    touched row inside =
         let touches = g.touches in
-        All-contains (IsTouchedEntry first) (filter on first.table.rows) row touches.each (filter-contains on first.table.rows row (first_row row inside) at)
+        elim (same_or_other nat_cmp_total map.nat_cmp-IsAntisymmetric row.holder.ino.0 ino) as (λ _. IsTouchedEntry first row) [
+          | inl is ↦
+              All-contains (IsTouchedEntry first) (filter (is_of_inode (record { 0 = ino })) first.table.rows) row touches.each
+              (filter-contains (is_of_inode (record { 0 = ino })) first.table.rows row (first_row row inside) (eq-eqb row.holder.ino.0 ino is))
+          | inr off ↦ (let same = touches.same in kept-left old.scene first row same.sessions touches.states touches.known (kept_row row inside off))
+        ]
 
     -- ---- what is held is in its rows
 
     in_row_settled : (row : EntryRow) → Contains rows row → (part : Part) → IsInRow settled row part
-    in_row_settled row inside part = elim (on row) as (λ b. on row ≡ b → IsInRow settled row part) [
-      | true ↦ λ at. (let moved = g.moved in let entry = touched row inside at in moved.in_rows row part (first_row row inside) (entry.in_row part))
-      | false ↦ λ off. (let sound = g.sound in
-          let same = g.same in
-          subst (IsInRowOf row part) (sym (same.locks row.holder.ino.0 part (differs row off)))
-          (in_row old.scene row part (lock_at old.scene.locks row.holder.ino.0 part) (sound.in_place row part (old_found row inside off))))
-    ] refl
+    in_row_settled row inside part = let moved = g.moved in let entry = touched row inside in moved.in_rows row part (first_row row inside) (entry.in_row part)
 
     in_row_last : (row : EntryRow) → Contains rows row → (part : Part) → IsInRow settled (last_of row) part
     in_row_last row inside part =
-        by_place old.scene settled ino (λ r. IsInRow settled r part) row (λ at. in_row-ended old.scene settled row part (in_row_settled row inside part)) (λ off. in_row_settled row inside part)
+        by_place old.scene settled at (λ r. IsInRow settled r part) row (λ here. in_row-ended old.scene settled row part (in_row_settled row inside part)) (λ off. in_row_settled row inside part)
 
     -- ---- entries
 
@@ -191,20 +210,20 @@ module _ (ino : ℕ) (old : State) (first settled : Scene) where
     entry_elsewhere row inside off =
         let sound = g.sound in
         let same = g.same in
-        let was = All-contains (IsSoundEntry old.scene) old.scene.table.rows row sound.entries (old_row row inside off) in
+        let was = All-contains (IsSoundEntry old.scene) old.scene.table.rows row sound.entries (old_row row inside (differs row off)) in
         record {
           of_session = subst (λ (t : SessionTable). IsTrue (has_session t row.holder.client.0)) (sym same.sessions) was.of_session;
           on_inode = there_still row.holder.ino.0 ∙ was.on_inode;
           holds_pin = was.holds_pin;
           wants_pin = was.wants_pin;
-          has_due = subst (λ caps. IsSubset caps row.entry.held) (sym (off_due ino old settled sound g.table same row (differs row off))) was.has_due;
+          has_due = subst (λ caps. IsSubset caps row.entry.held) (sym (off_due at ino old settled g.here sound g.table same row inside off)) was.has_due;
           told = was.told;
           revoked = was.revoked;
         }
 
     entry_last : (row : EntryRow) → Contains rows row → IsSoundEntry last (last_of row)
     entry_last row inside =
-        by_place old.scene settled ino (IsSoundEntry last) row (λ at. entry_here row (touched row inside at)) (λ off. entry_elsewhere row inside off)
+        by_place old.scene settled at (IsSoundEntry last) row (λ here. entry_here row (touched row inside)) (λ off. entry_elsewhere row inside off)
 
     -- ---- inodes
 
@@ -216,7 +235,7 @@ module _ (ino : ℕ) (old : State) (first settled : Scene) where
         let sound = g.sound in
         let same = g.same in
         let of_it = is_of_inode (record { 0 = q }) in
-        any-map of_it last_of (of_inode-last old.scene settled ino q) rows
+        any-map of_it last_of (of_inode-last old.scene settled at q) rows
         ∙ any_elsewhere ino old.scene.table settled.table same.entries q off ∙ sound.strays q (sym (same.places q off) ∙ gone)
 
     -- ---- all together
@@ -239,21 +258,23 @@ module _ (ino : ℕ) (old : State) (first settled : Scene) where
       at_rest = rest_last;
     }
 
-    sound_last : (messages : List Ended) → All (λ m. IsTrue (has_session settled.sessions m.client.0)) messages → IsSound (record { scene = finished_at ino old.scene settled; messages = messages })
+    sound_last : (messages : List Ended) → All (λ m. IsTrue (has_session settled.sessions m.client.0)) messages → IsSound (record { scene = finished_at at ino old.scene settled; messages = messages })
     sound_last messages told = sound-forgotten ino (record { scene = last; messages = messages }) g.tree (but_last messages told)
 
-module _ (ino : ℕ) (old : State) (moves : List Made) (first settled : Scene) (sound : IsSound old) (tree : IsTree settled.tree) (table : IsTable first.table) (touches : Touches ino old first) (settles : SettlesAt ino moves first settled) where
+module _ (at : ℕ → Bool) (ino : ℕ) (old : State) (moves : List Made) (first settled : Scene) (sound : IsSound old) (tree : IsTree settled.tree) (table : IsTable first.table) (touches : Touches ino old first)
+    (settles : SettlesAt at ino moves first settled) where
   moved-there : IsMoved first settled
   moved-there = let made = settles.settles in moved-all first moves settled made.made
 
-  given-all : IsGiven ino old first settled
+  given-all : IsGiven at ino old first settled
   given-all = let made = settles.settles in let moved = moved-there in record {
+    here = settles.here;
     sound = sound;
     tree = tree;
     table = subst IsTable (sym moved.table) table;
     moved = moved;
     touches = touches;
-    same = same-trans ino old.scene first settled touches.same settles.same;
+    same = from-first at ino old.scene first settled settles.here touches.same settles.same;
     rests = made.settled;
   }
 
@@ -273,25 +294,26 @@ module _ (ino : ℕ) (old : State) (moves : List Made) (first settled : Scene) (
       let same = given-all.same in
       subst (λ (t : SessionTable). All (λ m. IsTrue (has_session t m.client.0)) old.messages) (sym same.sessions) sound.messages
 
-  pub sound-touched : IsSound (state_at_end old moves (finished_at ino old.scene settled))
+  pub sound-touched : IsSound (state_at_end old moves (finished_at at ino first settled))
   sound-touched =
-      sound_last ino old first settled given-all (old.messages ++ earlier old.scene.locks.last (ended_in moves))
+      subst (λ (s : Scene). IsSound (state_at_end old moves s)) (sym (same-end at ino old first settled touches))
+      (sound_last at ino old first settled given-all (old.messages ++ earlier old.scene.locks.last (ended_in moves))
       (All-append (λ m. IsTrue (has_session settled.sessions m.client.0)) old.messages (earlier old.scene.locks.last (ended_in moves)) messages-connected
-      (All-filter (λ m. nat_le m.ticket.0 old.scene.locks.last) (λ m. IsTrue (has_session settled.sessions m.client.0)) (ended_in moves) ended-connected))
+      (All-filter (λ m. nat_le m.ticket.0 old.scene.locks.last) (λ m. IsTrue (has_session settled.sessions m.client.0)) (ended_in moves) ended-connected)))
 
 -- ---- numbers
 
-module _ (ino count : ℕ) (old : State) (moves : List Made) (first settled : Scene) (settles : SettlesAt ino moves first settled)
+module _ (at : ℕ → Bool) (ino count : ℕ) (old : State) (moves : List Made) (first settled : Scene) (settles : SettlesAt at ino moves first settled)
     (numbers : All (λ row. row.entry.seq ≤ count) first.table.rows) (made : first.table.made ≤ count + 1) (given : first.locks.last ≤ count + 1) where
   moved-so : IsMoved first settled
   moved-so = let all = settles.settles in moved-all first moves settled all.made
 
-  numbers_last : All (λ row. row.entry.seq ≤ count + 1) (issued_at old.scene settled ino).table.rows
+  numbers_last : All (λ row. row.entry.seq ≤ count + 1) (issued_at first settled at).table.rows
   numbers_last =
       let moved = moved-so in
-      All-map (λ row. row.entry.seq ≤ count + 1) (last_row old.scene settled ino) settled.table.rows
-      (All-weaker (λ row. row.entry.seq ≤ count) (λ row. (last_row old.scene settled ino row).entry.seq ≤ count + 1)
-      (λ row was. by_place old.scene settled ino (λ r. r.entry.seq ≤ count + 1) row (λ at. seq-ended old.scene settled row count was) (λ off. omega (arith, was)))
+      All-map (λ row. row.entry.seq ≤ count + 1) (last_row first settled at) settled.table.rows
+      (All-weaker (λ row. row.entry.seq ≤ count) (λ row. (last_row first settled at row).entry.seq ≤ count + 1)
+      (λ row was. by_place first settled at (λ r. r.entry.seq ≤ count + 1) row (λ here. seq-ended first settled row count was) (λ off. omega (arith, was)))
       settled.table.rows (All-same (λ row. row.entry.seq ≤ count) settled.table.rows first.table.rows (ap (λ (t : Table). t.rows) moved.table) numbers))
 
   request_last : settled.locks.last ≤ count + 1
@@ -300,9 +322,9 @@ module _ (ino count : ℕ) (old : State) (moves : List Made) (first settled : Sc
   made_last : settled.table.made ≤ count + 1
   made_last = let moved = moved-so in let same : settled.table.made ≡ first.table.made = ap (λ (t : Table). t.made) moved.table in omega (arith, same, made)
 
-  pub given-touched : AreGiven (count + 1) (state_at_end old moves (finished_at ino old.scene settled))
+  pub given-touched : AreGiven (count + 1) (state_at_end old moves (finished_at at ino first settled))
   given-touched =
-      let last = issued_at old.scene settled ino in
+      let last = issued_at first settled at in
       elim (is_kept last ino) as (λ b. AreGiven (count + 1) (state_at_end old moves (cond b last (record last { tree = forgotten last.tree ino; locks = without_ino last.locks ino })))) [
         | true ↦ record { entries = numbers_last; last = request_last; made = made_last }
         | false ↦ record { entries = numbers_last; last = request_last; made = made_last }

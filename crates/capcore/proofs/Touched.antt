@@ -265,17 +265,17 @@ permitted-pin fs (Some s) = in-union_left (caps_in for_all) _ (has-caps_in for_a
 -- ---- an entry whose pin is held
 
 -- what every state keeps of an entry, but that what is due is held
-record IsKeptEntry (s : Scene) (row : EntryRow) : Type 0 where
-  of_session : IsTrue (has_session s.sessions row.holder.client.0)
-  on_inode : IsTrue (map.contains_key s.tree.nodes row.holder.ino.0)
-  wants_pin : IsTrue (has row.entry.want P)
-  holds_pin : IsTrue (has row.entry.held P)
-  in_row : (part : Part) → IsInRow s row part
-  told : row.entry.told_seq ≤ row.entry.seq
-  revoked : row.entry.revoke_seq ≤ row.entry.seq
+pub record IsKeptEntry (s : Scene) (row : EntryRow) : Type 0 where
+  pub of_session : IsTrue (has_session s.sessions row.holder.client.0)
+  pub on_inode : IsTrue (map.contains_key s.tree.nodes row.holder.ino.0)
+  pub wants_pin : IsTrue (has row.entry.want P)
+  pub holds_pin : IsTrue (has row.entry.held P)
+  pub in_row : (part : Part) → IsInRow s row part
+  pub told : row.entry.told_seq ≤ row.entry.seq
+  pub revoked : row.entry.revoke_seq ≤ row.entry.seq
 
 -- so an event may leave it, where the same sessions, inodes and locks are there
-kept-left : (s new : Scene) (row : EntryRow) → new.sessions ≡ s.sessions → new.locks.states ≡ s.locks.states
+pub kept-left : (s new : Scene) (row : EntryRow) → new.sessions ≡ s.sessions → new.locks.states ≡ s.locks.states
     → ((ino : ℕ) → map.contains_key new.tree.nodes ino ≡ map.contains_key s.tree.nodes ino) → IsKeptEntry s row → IsTouchedEntry new row
 kept-left s new row sessions states known is = record {
   of_session = ap (λ (t : SessionTable). has_session t row.holder.client.0) sessions ∙ is.of_session;
@@ -458,6 +458,7 @@ touches-touched old k touch sound table free =
     subst (λ (s : State). Touches k.ino.0 old s.scene) (sym (touched-state old k.client k.ino touch free)) (record {
       same = same-entries k.ino.0 old.scene (touched_table old.scene.table k (revoked_of old.scene k) touch)
           (λ other apart. others-touched old.scene.table k other (λ same. apart (ap (λ (i : Ino). i.0) same)) (revoked_of old.scene k) touch);
+      states = refl;
       known = λ other. refl;
       locked = sound.locked;
       waiting = sound.waiting;

@@ -1,5 +1,6 @@
 -- The step of a request that waits, as its calls go.
 use Rattle.std.proofs.Common.{◌≡◌, ◌<◌, ◌≤◌, ◌+◌, ◌==◌, false, not, cond, Some, None, List, ◌++◌, length, refl, sym, ap, subst, ◌∙◌, arith}
+use Rattle.std.specs.Prelude.{IsTrue, All}
 use Rattle.std.specs.List.{count_by, find}
 use Rattle.std.specs.FinMap as map
 use Rattle.std.proofs.lemmas.Bool.{lt-leb}
@@ -25,12 +26,11 @@ use Rattle.capcore.specs.Serves.{EndsWith}
 use Rattle.capcore.specs.Sound.{IsSound}
 use Rattle.capcore.specs.Step.{earlier}
 use Rattle.capcore.proofs.Asked.{asking-touches, asking-direct, asking-stop, order-of_ask}
-use Rattle.capcore.proofs.Closing.{told-own_numbers, told-but_own, closed}
+use Rattle.capcore.proofs.Closing.{told-own_numbers, told-but_own, touches-locked, closed}
 use Rattle.capcore.proofs.Stops.{touched-asks}
 use Rattle.capcore.specs.declared.event.Event.{Event}
 use Rattle.capcore.specs.declared.event.Event.TheVariants as event
 use Rattle.capcore.specs.declared.outcome.Ended.{Ended}
-use Rattle.capcore.specs.Served.{is_rename}
 use Rattle.capcore.specs.Touching.{asks_for, Touches}
 use Rattle.capcore.specs.Untold.{HaveOwnNumbers, but_for}
 
@@ -68,16 +68,19 @@ module _ (old : State) (k : Holder) (ask : Ask) (sound : IsSound old) (table : I
   pub wait-quiet : IsQuietBut first k.ino.0
   wait-quiet = let t = touches in quiet-rest k.ino.0 old.scene first sound.at_rest t.same
 
-  module _ (last : Scene) (told : List Ended) (ends : EndsWith k.ino.0 (map.get old.scene.locks.states k.ino.0) first last told) where
+  pub wait-locked : All (λ row. IsTrue (map.contains_key first.locks.states row.holder.ino.0)) first.table.rows
+  wait-locked = touches-locked k.ino.0 old first sound touches
+
+  module _ (last : Scene) (told : List Ended) (ends : EndsWith k.ino.0 first last told) where
     pub wait-differ : HaveOwnNumbers told
-    wait-differ = told-own_numbers k.ino.0 first ends.settled told ends.settles
+    wait-differ = told-own_numbers ends.at k.ino.0 first ends.settled told ends.settles
 
     module _ (last_table : IsTable last.table) (ticket : Ticket) (next : ticket.0 ≡ old.scene.locks.last + 1) (said : Said) (messages : List Ended)
         (replies : said.reply ≡ awaited_as ticket (find (is_of_ticket ticket) told)) (kept : said.kept ≡ said.reply) (ended : said.ended ≡ but_for ticket told)
         (left : messages ≡ old.messages ++ but_for ticket told) where
       others : earlier old.scene.locks.last told ≡ but_for ticket told
       others =
-          told-but_own k.ino.0 first ends.settled told ends.settles (subst IsLockMap (sym queued) (order-of_ask old.scene k ask order free)) old.scene.locks.last ticket next
+          told-but_own ends.at k.ino.0 first ends.settled told ends.settles (subst IsLockMap (sym queued) (order-of_ask old.scene k ask order free)) old.scene.locks.last ticket next
           (ap (λ (l : LockMap). l.last) queued)
 
       abbrev new : State

@@ -5,4 +5,4 @@ pub returns-clause-finished : goal.returns-clause-finished
 returns-clause-finished c = touched-ends
 
 pub returns-clause-issued : goal.returns-clause-issued
-returns-clause-issued c = λ ino old moves first settled sound tree table touches settles. touched-issues ino old moves first settled sound table touches settles tree
+returns-clause-issued c = λ at ino old moves first settled sound tree table touches settles. touched-issues at ino old moves first settled sound table touches settles tree

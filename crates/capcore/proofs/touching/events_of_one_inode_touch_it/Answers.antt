@@ -1,4 +1,4 @@
-use Rattle.capcore.proofs.OfInode.{event-touches, event-table, event-order, event-tree, event-stay, event-below, event-keeps}
+use Rattle.capcore.proofs.OfInode.{event-touches, event-table, event-order, event-tree, event-below, event-keeps}
 use Rattle.capcore.proofs.touching.events_of_one_inode_touch_it.Goals as goal
 
 pub returns-clause-touches : goal.returns-clause-touches
@@ -12,9 +12,6 @@ returns-clause-order c = event-order
 
 pub returns-clause-tree : goal.returns-clause-tree
 returns-clause-tree c = event-tree
-
-pub returns-clause-stay : goal.returns-clause-stay
-returns-clause-stay c = event-stay
 
 pub returns-clause-given : goal.returns-clause-given
 returns-clause-given c = event-below

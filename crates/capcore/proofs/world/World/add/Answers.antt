@@ -19,7 +19,7 @@ pub invariant_of-self-in-Ok : goal.invariant_of-self-in-Ok
 invariant_of-self-in-Ok c =
     let sound = c.self.invariant.0 in
     rw (c.in-Ok.ensures.ok, c.in_ok-add_ino.ensures.ok, c.last.ensures.last)
-    (birth-sound sound c.args.kind c.args.dir.0 c.args.name.now c.args.attr c.last.ensures.sound, c.self.invariant.1, c.self.invariant.2)
+    (birth-sound sound c.args.kind c.args.dir.0 c.args.name.now c.args.attr c.last.ensures.sound, c.self.invariant.1)
 
 pub invariant_of-self-in-Err : goal.invariant_of-self-in-Err
 invariant_of-self-in-Err c =

@@ -1,5 +1,4 @@
 use Rattle.std.proofs.Common.{◌≡◌, ◌+◌, ◌++◌, List, length, None, refl, sym, ap, subst, ◌∙◌, arith}
-use Rattle.std.specs.FinMap as map
 use Rattle.std.proofs.lemmas.List.{length-append}
 use Rattle.captable.specs.declared.entry.Holder.{Holder}
 use Rattle.captable.specs.Table.{IsTable, holder}
@@ -15,7 +14,7 @@ use Rattle.capcore.specs.Judge.{judged}
 use Rattle.capcore.specs.Serves.{EndsWith}
 use Rattle.capcore.specs.Sound.{IsSound}
 use Rattle.capcore.specs.Step.{earlier}
-use Rattle.capcore.proofs.Closing.{first-quiet, told-all, closed}
+use Rattle.capcore.proofs.Closing.{first-quiet, first-locked, told-all, closed}
 use Rattle.capcore.proofs.Flushed.{flush-calls, flush-direct}
 use Rattle.capcore.proofs.Stops.{stopped-answered}
 use Rattle.capcore.proofs.world.World.flush.Goals as goal
@@ -69,6 +68,11 @@ end_at-requires-clause-quiet g =
     let c = (goal.at.end_at-requires-clause-quiet g).After-touch in
     first-quiet (old c) (e c) (k c) refl (passed c) c.self.invariant.0 c.oldest-oldest.ensures.sound (first c) (is c)
 
+pub end_at-requires-clause-locked : goal.end_at-requires-clause-locked
+end_at-requires-clause-locked g =
+    let c = (goal.at.end_at-requires-clause-locked g).After-touch in
+    first-locked (old c) (e c) (k c) refl (passed c) c.self.invariant.0 c.oldest-oldest.ensures.sound (first c) (is c)
+
 -- ---- the end of the step
 
 module _ (c : After-close) where
@@ -84,11 +88,11 @@ module _ (c : After-close) where
   abbrev new : State
   new = record { scene = last; messages = c.close.new.messages.items }
 
-  ends : EndsWith c.args.ino.0 (map.get c.self.inside.locks.states c.args.ino.0) (first before) last told
-  ends = subst (λ b. EndsWith c.args.ino.0 b (first before) last told) c.of_ino-before.ensures c.end_at.ensures.ends
+  ends : EndsWith c.args.ino.0 (first before) last told
+  ends = c.end_at.ensures.ends
 
   all : earlier c.self.inside.locks.last told ≡ told
-  all = let w = ends in told-all c.args.ino.0 (first before) w.settled told w.settles c.waiting.ensures.sound
+  all = let w = ends in told-all w.at c.args.ino.0 (first before) w.settled told w.settles c.waiting.ensures.sound
 
   -- the state when the step had ended at the inode
   abbrev closed_as : State
@@ -114,7 +118,7 @@ invariant_of-self-2 c =
     let w = whole c in
     let items : length c.close.new.messages.items ≡ length c.self.inside.messages.items + length c.end_at.new.endings.told.items =
     ap length c.close.ensures.items ∙ length-append c.self.inside.messages.items c.end_at.new.endings.told.items in
-    (w.sound, omega (arith, items, c.close.ensures.room, c.end_at.ensures.count, c.self.invariant.1), c.end_at.ensures.stay)
+    (w.sound, omega (arith, items, c.close.ensures.room, c.end_at.ensures.count, c.self.invariant.1))
 
 pub returns-clause-answered : goal.returns-clause-answered
 returns-clause-answered c =

@@ -17,4 +17,4 @@ returns-in-Some-new_snapshot_refusal-clause-direct c =
 pub invariant_of-self-2 : goal.invariant_of-self-2
 invariant_of-self-2 c =
     let sound = c.self.invariant.0 in
-    rw c.in_ok-snap_add.ensures.ok (changed-sound sound (with_snapshot c.args.name.now) c.args.ino.0 (λ n. refl) (λ n. refl), c.self.invariant.1, c.self.invariant.2)
+    rw c.in_ok-snap_add.ensures.ok (changed-sound sound (with_snapshot c.args.name.now) c.args.ino.0 (λ n. refl) (λ n. refl), c.self.invariant.1)

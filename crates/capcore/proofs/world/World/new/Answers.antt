@@ -1,10 +1,6 @@
-use Rattle.std.proofs.Common.{◌≡◌, false, sym, subst, rules}
-use Rattle.std.specs.Prelude.{All}
-use Rattle.std.proofs.lemmas.List.Elements.{All-nil}
-use Rattle.lockmachine.specs.declared.request.Request.{Request}
+use Rattle.std.proofs.Common.{rules}
 use Rattle.capcore.specs.State.{State}
 use Rattle.capcore.specs.History.{IsOpening}
-use Rattle.capcore.specs.Served.{is_rename}
 use Rattle.capcore.specs.Untold.{HasRoom}
 use Rattle.capcore.proofs.Sounding.{opening-sound}
 use Rattle.capcore.proofs.world.World.new.Goals as goal
@@ -17,5 +13,4 @@ invariant_of-result c =
     } in
     let opening : IsOpening c.args.fs c.args.tree s = search rules in
     let room : HasRoom c.new-3.result c.in_ok-locks.locks = search rules in
-    let stay : All (λ (q : Request). is_rename q.ask ≡ false) c.in_ok-locks.locks.queue = subst (All (λ (q : Request). is_rename q.ask ≡ false)) (sym opening.queue_is) (All-nil (λ (q : Request). is_rename q.ask ≡ false)) in
-    (opening-sound c.args.fs c.args.tree s c.requires.strays opening, room, stay)
+    (opening-sound c.args.fs c.args.tree s c.requires.strays opening, room)

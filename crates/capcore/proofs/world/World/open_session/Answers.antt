@@ -9,4 +9,4 @@ invariant_of-self-2 c =
     let passed : first_failing (new_session_tests c.self.inside.sessions c.args.client.0) ≡ None = sym c.open_refusal.ensures ∙ c.in_default.is in
     let sound = c.self.invariant.0 in
     rw c.in_ok-open_session.ensures.ok
-    (session-sound sound c.args.client.0 c.copy_of_caller-caller.result c.in-Ok.grants passed, c.self.invariant.1, c.self.invariant.2)
+    (session-sound sound c.args.client.0 c.copy_of_caller-caller.result c.in-Ok.grants passed, c.self.invariant.1)

@@ -75,7 +75,7 @@ invariant_of-self c =
     let few : length c.remove_given.new.self.items ≤ length items =
     subst (λ (n : List Ended). length n ≤ length items) (sym (kept_items c))
     (omega (arith, length-filter (is_left c.args.client c.in_ok-given.given) items, count_by-le-length (is_left c.args.client c.in_ok-given.given) items)) in
-    (w.sound, omega (arith, few, c.remove_given.ensures.room, c.self.invariant.1), c.self.invariant.2)
+    (w.sound, omega (arith, few, c.remove_given.ensures.room, c.self.invariant.1))
 
 pub returns-clause-answered : goal.returns-clause-answered
 returns-clause-answered c =

@@ -17,4 +17,4 @@ returns-in-Some-old_snapshot_refusal-clause-direct c =
 pub invariant_of-self : goal.invariant_of-self
 invariant_of-self c =
     let sound = c.self.invariant.0 in
-    rw c.snap_remove.ensures (changed-sound sound (without_snapshot c.args.name.now) c.args.ino.0 (λ n. refl) (λ n. refl), c.self.invariant.1, c.self.invariant.2)
+    rw c.snap_remove.ensures (changed-sound sound (without_snapshot c.args.name.now) c.args.ino.0 (λ n. refl) (λ n. refl), c.self.invariant.1)

@@ -10,11 +10,10 @@ use Rattle.capcore.specs.State.{State}
 use Rattle.capcore.specs.Answered.{IsAnswered}
 use Rattle.capcore.specs.Asks.{ask_needs}
 use Rattle.capcore.specs.Judge.{stop, asking_tests, waiting_tests}
-use Rattle.capcore.specs.Serves.{EndsWith}
 use Rattle.capcore.specs.Touching.{asks_for}
 use Rattle.capcore.specs.Untold.{but_for}
 use Rattle.capcore.proofs.Asked.{asking-room}
-use Rattle.capcore.proofs.Waits.{some-asking, room-left, few-others, wait-quiet, wait-differ, wait-answered}
+use Rattle.capcore.proofs.Waits.{some-asking, room-left, few-others, wait-quiet, wait-locked, wait-differ, wait-answered}
 use Rattle.capcore.proofs.world.World.wait.Goals as goal
 use Rattle.capcore.proofs.world.World.wait.Goals.{After-oldest-oldest, After-close_with}
 
@@ -44,14 +43,18 @@ end_at-requires-clause-quiet g =
     let c = (goal.at.end_at-requires-clause-quiet g).After-oldest-oldest in
     wait-quiet (old c) (k c) g.args.ask g.self.invariant.0 g.oldest-oldest.ensures.sound g.waiting-waiting.ensures.sound (free c) g.enqueue-ticket.new.self g.enqueue-ticket.ensures.queued
 
+pub end_at-requires-clause-locked : goal.end_at-requires-clause-locked
+end_at-requires-clause-locked g =
+    let c = (goal.at.end_at-requires-clause-locked g).After-oldest-oldest in
+    wait-locked (old c) (k c) g.args.ask g.self.invariant.0 g.oldest-oldest.ensures.sound g.waiting-waiting.ensures.sound (free c) g.enqueue-ticket.new.self g.enqueue-ticket.ensures.queued
+
 pub close_with-requires-clause-differ : goal.close_with-requires-clause-differ
 close_with-requires-clause-differ g =
     let c = (goal.at.close_with-requires-clause-differ g).After-oldest-oldest in
-    let first : Scene = record (old c).scene { locks = g.enqueue-ticket.new.self } in
     let last : Scene = record { fs = g.self.inside.fs; tree = g.end_at.new.tree; sessions = g.self.inside.sessions; table = g.end_at.new.table; locks = g.end_at.new.locks } in
     wait-differ (old c) (k c) g.args.ask g.self.invariant.0 g.oldest-oldest.ensures.sound g.waiting-waiting.ensures.sound (free c) g.enqueue-ticket.new.self g.enqueue-ticket.ensures.queued
     last g.end_at.new.endings.told.items
-    (subst (λ b. EndsWith g.args.ino.0 b first last g.end_at.new.endings.told.items) g.of_ino-before.ensures g.end_at.ensures.ends)
+    g.end_at.ensures.ends
 
 -- ---- the end of the step
 
@@ -67,17 +70,16 @@ module _ (g : After-close_with) where
 
   whole : (e : Event) → asks_for e ≡ Some (k c, g.args.ask) → IsAnswered (old c) e g.close_with.result new
   whole =
-      let first : Scene = record (old c).scene { locks = g.enqueue-ticket.new.self } in
       wait-answered (old c) (k c) g.args.ask g.self.invariant.0 g.oldest-oldest.ensures.sound g.waiting-waiting.ensures.sound (free c) g.enqueue-ticket.new.self g.enqueue-ticket.ensures.queued
       last g.end_at.new.endings.told.items
-      (subst (λ b. EndsWith g.args.ino.0 b first last g.end_at.new.endings.told.items) g.of_ino-before.ensures g.end_at.ensures.ends)
+      g.end_at.ensures.ends
       g.end_at.ensures.table g.enqueue-ticket.result g.enqueue-ticket.ensures.ticket g.close_with.result g.close_with.new.messages.items
       g.close_with.ensures.reply g.close_with.ensures.kept g.close_with.ensures.ended
       (g.close_with.ensures.items ∙ ap (λ (ms : List Ended). ms ++ but_for g.enqueue-ticket.result g.end_at.new.endings.told.items) g.reserve.ensures.items)
 
 pub invariant_of-self-2 : goal.invariant_of-self-2
 invariant_of-self-2 g =
-    let asked = some-asking (k (c g)) g.args.ask g.requires.stays in
+    let asked = some-asking (k (c g)) g.args.ask in
     let w = whole g asked.0 asked.1 in
     let ticket = g.enqueue-ticket.result in
     let told = g.end_at.new.endings.told.items in
@@ -86,7 +88,7 @@ invariant_of-self-2 g =
     let few = few-others ticket told in
     let queue : length g.enqueue-ticket.new.self.queue ≡ length g.self.inside.locks.queue + 1 =
     ap (λ (l : LockMap). length l.queue) g.enqueue-ticket.ensures.queued ∙ length-append g.self.inside.locks.queue (next_request g.self.inside.locks g.args.client g.args.ino g.args.ask ∷ []) in
-    (w.sound, omega (arith, items, few, queue, g.in_default-reserve.ensures.ok, g.close_with.ensures.room, g.end_at.ensures.count, g.waiting-waiting.ensures.waiting), g.end_at.ensures.stay)
+    (w.sound, omega (arith, items, few, queue, g.in_default-reserve.ensures.ok, g.close_with.ensures.room, g.end_at.ensures.count, g.waiting-waiting.ensures.waiting))
 
 pub returns-clause-answered : goal.returns-clause-answered
 returns-clause-answered g = λ e asked. subst (λ (s : State). IsAnswered s e g.close_with.result (new g)) g.self.view_is (whole g e asked)
