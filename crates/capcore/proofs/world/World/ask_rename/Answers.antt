@@ -1,4 +1,4 @@
-use Rattle.std.proofs.Common.{Option, sym, subst, ◌∙◌}
+use Rattle.std.proofs.Common.{ℕ, List, Option, sym, ap, subst, ◌∙◌}
 use Rattle.captable.specs.Table.{IsTable, holder}
 use Rattle.lockmachine.specs.declared.request.Ask.TheVariants.{Rename}
 use Rattle.capcore.specs.declared.stopped.Stopped.{Stopped}
@@ -15,8 +15,8 @@ returns-in-Some-clause-answered c = λ e asked.
     let s = c.args.self.now in
     let known : IsSound s × IsTable s.scene.table = subst (λ (w : State). IsSound w × IsTable w.scene.table) c.self.view_is (c.self.invariant.0, c.oldest-oldest.ensures.sound) in
     let k = holder c.args.client c.args.ino in
-    let ask = Rename c.args.dir c.args.name.now in
-    let stops : Option Stopped = stop s.scene (asking_tests s.scene k.client k.ino.0 ask) (ask_needs s.scene k.client k.ino.0 ask) (waiting_tests s.scene k.ino.0 ask) in
+    let stops : List ℕ → Option Stopped = λ name.
+        stop s.scene (asking_tests s.scene k.client k.ino.0 (Rename c.args.dir name)) (ask_needs s.scene k.client k.ino.0 (Rename c.args.dir name)) (waiting_tests s.scene k.ino.0 (Rename c.args.dir name)) in
     stopped-answered s e c.in-Some.stopped c.alone.result known.0 known.1
-    (asking-stop e k ask s.scene asked ∙ sym {b = stops} c.rename_stop.ensures ∙ c.in-Some.is)
+    (asking-stop e k (Rename c.args.dir c.args.name.now) s.scene asked ∙ ap stops (sym c.as_slice.ensures) ∙ sym {b = stops c.as_slice.result.now} c.rename_stop.ensures ∙ c.in-Some.is)
     (c.alone.ensures.reply ∙ c.into.ensures) (c.alone.ensures.kept ∙ sym c.alone.ensures.reply) c.alone.ensures.ended
