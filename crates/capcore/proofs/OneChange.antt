@@ -1,15 +1,17 @@
 -- What a request that is served leaves of the tree.
-use Rattle.std.proofs.Common.{◌≡◌, ℕ, false, None, inl, inr, refl, subst}
+use Rattle.std.proofs.Common.{◌≡◌, ◌≢◌, ℕ, true, false, None, inl, inr, refl, subst}
 use Rattle.std.specs.FinMap as map
 use Rattle.capbits.specs.Refusal.{first_failing}
+use Rattle.capbits.proofs.Tests.{pass-both}
 use Rattle.inotree.specs.declared.node.Node.{Node}
 use Rattle.inotree.specs.declared.node.Site.TheVariants.{Under, Stray}
 use Rattle.inotree.specs.Inodes.{with_setting, with_attribute, without_attribute, with_site}
-use Rattle.inotree.specs.Tree.{Nodes, IsTree, place}
+use Rattle.inotree.specs.Tree.{Nodes, IsTree, is_within, place}
 use Rattle.inotree.specs.Calls.{changed}
 use Rattle.inotree.specs.Alike.{IsAlike}
 use Rattle.inotree.proofs.Changes.{setting_site}
 use Rattle.inotree.proofs.Elsewhere.{alike-changed}
+use Rattle.inotree.proofs.Moving.{moved-alike, moved-tree}
 use Rattle.inotree.proofs.OneInode.{known-changed, place-other, alike-but, alike-unlinked, childless-file, childless-empty, sound-setting, sound-attribute, sound-no-attribute, sound-unlink, sound-rmdir}
 use Rattle.lockmachine.specs.declared.request.Change.{Change}
 use Rattle.lockmachine.specs.declared.request.Change.TheVariants.{Set, SetXattr, RemoveXattr}
@@ -55,7 +57,7 @@ module _ (s : Scene) (q : Request) (o : Outcome) (ends : MayEndAs s q o) where
   pub last-after : (tree_after s.tree q o).last ≡ s.tree.last
   last-after = after_any (λ t. t.last ≡ s.tree.last) refl (λ f. refl)
 
--- ---- all but a rename
+-- ---- by what is asked for
 
 same_alike : (tree : Nodes) (ino : ℕ) → IsAlike tree tree ino
 same_alike tree ino = record { path = refl; attr = refl }
@@ -65,38 +67,43 @@ alike_change tree ino other (Set setting) off = alike-but (with_setting setting)
 alike_change tree ino other (SetXattr name value) off = alike-changed tree (with_attribute name value) ino (λ n. refl) (λ n. refl) other
 alike_change tree ino other (RemoveXattr name) off = alike-changed tree (without_attribute name) ino (λ n. refl) (λ n. refl) other
 
-alike_ask : (s : Scene) (ino other : ℕ) (ask : Ask) → IsTree s.tree → is_rename ask ≡ false → first_failing (ask_after s ino ask) ≡ None → (other ≡ ino → ⊥) → IsAlike s.tree (tree_with s.tree ino ask) other
-alike_ask s ino other (Get part) sound stays passed off = same_alike s.tree other
-alike_ask s ino other (Alter change) sound stays passed off = alike_change s.tree ino other change off
-alike_ask s ino other Unlink sound stays passed off = alike-unlinked s.tree ino other (childless-file s.tree ino sound passed) off
-alike_ask s ino other Rmdir sound stays passed off = alike-unlinked s.tree ino other (childless-empty s.tree ino passed) off
-alike_ask s ino other (Rename dir name) sound stays passed off = absurd (cc)
+-- what is not below the inode, where that moves
+alike_ask : (s : Scene) (ino other : ℕ) (ask : Ask) → IsTree s.tree → first_failing (ask_after s ino ask) ≡ None → (other ≡ ino → ⊥)
+    → (is_rename ask ≡ true → is_within s.tree.nodes other ino ≡ false) → IsAlike s.tree (tree_with s.tree ino ask) other
+alike_ask s ino other (Get part) sound passed off below = same_alike s.tree other
+alike_ask s ino other (Alter change) sound passed off below = alike_change s.tree ino other change off
+alike_ask s ino other Unlink sound passed off below = alike-unlinked s.tree ino other (childless-file s.tree ino sound passed) off
+alike_ask s ino other Rmdir sound passed off below = alike-unlinked s.tree ino other (childless-empty s.tree ino passed) off
+alike_ask s ino other (Rename dir name) sound passed off below = moved-alike s.tree ino dir.0 name other (below refl)
 
 pub sound_change : (s : Scene) (ino : ℕ) (change : Change) → IsTree s.tree → first_failing (change_tests s ino change) ≡ None → IsTree (tree_changed s.tree ino change)
 sound_change s ino (Set setting) sound passed = sound-setting s.tree setting ino sound
 sound_change s ino (SetXattr name value) sound passed = sound-attribute s.tree name value ino sound passed
 sound_change s ino (RemoveXattr name) sound passed = sound-no-attribute s.tree name ino sound
 
-sound_ask : (s : Scene) (ino : ℕ) (ask : Ask) → IsTree s.tree → is_rename ask ≡ false → first_failing (ask_before s ino ask) ≡ None → first_failing (ask_after s ino ask) ≡ None → IsTree (tree_with s.tree ino ask)
-sound_ask s ino (Get part) sound stays one more = sound
-sound_ask s ino (Alter change) sound stays one more = sound_change s ino change sound more
-sound_ask s ino Unlink sound stays one more = sound-unlink s.tree ino sound one more
-sound_ask s ino Rmdir sound stays one more = sound-rmdir s.tree ino sound one more
-sound_ask s ino (Rename dir name) sound stays one more = absurd (cc)
+sound_ask : (s : Scene) (ino : ℕ) (ask : Ask) → IsTree s.tree → first_failing (ask_before s ino ask) ≡ None → first_failing (ask_after s ino ask) ≡ None → IsTree (tree_with s.tree ino ask)
+sound_ask s ino (Get part) sound one more = sound
+sound_ask s ino (Alter change) sound one more = sound_change s ino change sound more
+sound_ask s ino Unlink sound one more = sound-unlink s.tree ino sound one more
+sound_ask s ino Rmdir sound one more = sound-rmdir s.tree ino sound one more
+sound_ask s ino (Rename dir name) sound one more =
+    moved-tree s.tree ino dir.0 name sound (pass-both (ask_before s ino (Rename dir name)) (ask_after s ino (Rename dir name)) one more)
 
-module _ (s : Scene) (q : Request) (o : Outcome) (sound : IsTree s.tree) (stays : is_rename q.ask ≡ false) (ends : MayEndAs s q o) where
-  pub alike-after : (ino : ℕ) → (ino ≡ q.ino.0 → ⊥) → IsAlike s.tree (tree_after s.tree q o) ino
-  alike-after ino off = elim (leaves-or-makes s q o ends) [
-    | inl left ↦ subst (λ (t : Nodes). IsAlike s.tree t ino) left (same_alike s.tree ino)
-    | inr made ↦
-        let passed = passed-all s (ask_before s q.ino.0 q.ask) (ask_needs s q.client q.ino.0 q.ask) (ask_after s q.ino.0 q.ask) made.0 in
-        subst (λ (t : Nodes). IsAlike s.tree t ino) made.1 (alike_ask s q.ino.0 ino q.ask sound stays passed.1 off)
-  ]
+-- ---- however it ends
 
-  pub sound-after : IsTree (tree_after s.tree q o)
-  sound-after = elim (leaves-or-makes s q o ends) [
-    | inl left ↦ subst IsTree left sound
-    | inr made ↦
-        let passed = passed-all s (ask_before s q.ino.0 q.ask) (ask_needs s q.client q.ino.0 q.ask) (ask_after s q.ino.0 q.ask) made.0 in
-        subst IsTree made.1 (sound_ask s q.ino.0 q.ask sound stays passed.0 passed.1)
-  ]
+pub alike-apart : (s : Scene) (q : Request) (o : Outcome) (ino : ℕ) → IsTree s.tree → MayEndAs s q o → ino ≢ q.ino.0
+    → (is_rename q.ask ≡ true → is_within s.tree.nodes ino q.ino.0 ≡ false) → IsAlike s.tree (tree_after s.tree q o) ino
+alike-apart s q o ino sound ends off below = elim (leaves-or-makes s q o ends) [
+  | inl left ↦ subst (λ (t : Nodes). IsAlike s.tree t ino) left (same_alike s.tree ino)
+  | inr made ↦
+      let passed = passed-all s (ask_before s q.ino.0 q.ask) (ask_needs s q.client q.ino.0 q.ask) (ask_after s q.ino.0 q.ask) made.0 in
+      subst (λ (t : Nodes). IsAlike s.tree t ino) made.1 (alike_ask s q.ino.0 ino q.ask sound passed.1 off below)
+]
+
+pub sound-after : (s : Scene) (q : Request) (o : Outcome) → IsTree s.tree → MayEndAs s q o → IsTree (tree_after s.tree q o)
+sound-after s q o sound ends = elim (leaves-or-makes s q o ends) [
+  | inl left ↦ subst IsTree left sound
+  | inr made ↦
+      let passed = passed-all s (ask_before s q.ino.0 q.ask) (ask_needs s q.client q.ino.0 q.ask) (ask_after s q.ino.0 q.ask) made.0 in
+      subst IsTree made.1 (sound_ask s q.ino.0 q.ask sound passed.0 passed.1)
+]

@@ -1,5 +1,5 @@
 //! Steps of requests that wait for a lock of their inode.
-ghost use Rattle.std.specs.Prelude.{◌≡◌, ◌++◌, false, None, Some, IfOk, IfErr, OnErr};
+ghost use Rattle.std.specs.Prelude.{◌≡◌, ◌++◌, ℕ, List, None, Some, IfOk, IfErr, OnErr};
 ghost use Rattle.capbits.specs.Refusal.{first_failing};
 ghost use Rattle.captable.specs.Table.{holder};
 ghost use Rattle.lockmachine.specs.declared.request.Ask.TheVariants as ask_kind;
@@ -15,13 +15,16 @@ use crate::history::Stop;
 use crate::judge::{by_test, denial};
 use crate::messages::Endings;
 use crate::reply::Said;
-use crate::serving::{after_refusal, ask_denial, before_refusal, change_access, change_refusal};
+use crate::serving::{
+    after_refusal, ask_denial, before_refusal, change_access, change_refusal, places_refusal,
+    rename_denial,
+};
 use crate::settle::end_at;
 use crate::stopped::Stopped;
 use crate::world::World;
 use capbits::{ClientId, Ino, Refusal};
 use captable::Holder;
-use lockmachine::{Ask, Change};
+use lockmachine::{Ask, Bytes, Change};
 
 impl World {
     // A step of a request: what stops it is answered, and else it waits for the lock, which may serve it at once.
@@ -60,6 +63,29 @@ impl World {
         }
         let change = change.copy(self.alloc())?;
         self.wait(client, ino, Ask::Alter(change))
+    }
+
+    // The same of a rename, whose name is copied once nothing stops it.
+    pub(crate) fn ask_rename(
+        &mut self,
+        client: ClientId,
+        ino: Ino,
+        dir: Ino,
+        name: &Bytes,
+    ) -> Result<Said, Stop>
+        requires numbers { NumbersLeft self.old }
+        ensures answered { IfOk result (λ said. (e : Event) → asks_for e ≡ Some (holder client ino, ask_kind.Rename dir name.now)
+            → IsAnswered self.old e said self.new) }
+        ensures err { OnErr result (self.new ≡ self.old) }
+        ensures memory { IfErr result (λ stop. stop ≡ Stop.NoMemory) }
+    {
+        // A look at the entries, by which the proof knows what they keep.
+        let _oldest = self.table.oldest();
+        if let Some(stopped) = self.rename_stop(client, ino, dir, name.as_slice()) {
+            return Ok(Said::alone(self.alloc(), stopped.into()));
+        }
+        let name = Bytes::read(self.alloc(), name.as_slice())?;
+        self.wait(client, ino, Ask::Rename { dir, name })
     }
 
     // A step of a request that nothing stops: it waits, the locks of its inode settle, and the step ends there. The room for how
@@ -156,5 +182,40 @@ impl World {
             None => self.locks.enqueue_refusal(),
         };
         by_test(refusal)
+    }
+
+    // What stops a rename.
+    fn rename_stop(&self, client: ClientId, ino: Ino, dir: Ino, name: &[u8]) -> Option<Stopped>
+        ensures { result ≡ stop self.now.scene (asking_tests self.now.scene client ino.0 (ask_kind.Rename dir name.now))
+            (ask_needs self.now.scene client ino.0 (ask_kind.Rename dir name.now)) (waiting_tests self.now.scene ino.0 (ask_kind.Rename dir name.now)) }
+    {
+        if let Some(refusal) = self.renaming_refusal(client, ino, dir) {
+            return Some(Stopped::ByTest(refusal));
+        }
+        let (holder, tree) = (Holder { client, ino }, &self.tree);
+        if let Some(denied) = rename_denial(&self.fs, tree, &self.sessions, holder, dir) {
+            return Some(denied);
+        }
+        by_test(self.renamed_refusal(ino, dir, name))
+    }
+
+    // The first test before policy of a rename that fails, whatever the name.
+    fn renaming_refusal(&self, client: ClientId, ino: Ino, dir: Ino) -> Option<Refusal>
+        ensures { (name : List ℕ) → result ≡ first_failing (asking_tests self.now.scene client ino.0 (ask_kind.Rename dir name)) }
+    {
+        match self.sessions.session_refusal(client) {
+            Some(refusal) => Some(refusal),
+            None => places_refusal(&self.tree, ino, dir),
+        }
+    }
+
+    // The first test behind policy of a rename that fails.
+    fn renamed_refusal(&self, ino: Ino, dir: Ino, name: &[u8]) -> Option<Refusal>
+        ensures { result ≡ first_failing (waiting_tests self.now.scene ino.0 (ask_kind.Rename dir name.now)) }
+    {
+        match self.tree.new_place_refusal(ino, dir, name) {
+            Some(refusal) => Some(refusal),
+            None => self.locks.enqueue_refusal(),
+        }
     }
 }

@@ -46,7 +46,7 @@ pub use laws::{
 pub use outcome::{Ended, Message, MessageList, Outcome, PartValues};
 pub use own_laws::what_is_served_at_once_is_not_stopped;
 pub use reply::Reply;
-pub use serving_laws::{a_serving_changes_one_inode, a_serving_keeps_what_is_known};
+pub use serving_laws::{a_serving_changes_what_it_moves, a_serving_keeps_what_is_known};
 pub use staying::what_touches_one_inode_leaves_it_sound;
 pub use step::Core;
 pub use stopped::Stopped;

@@ -1,21 +1,22 @@
 //! How a request that waited for a lock is served: it is judged again, and then does what it asks for.
-ghost use Rattle.std.specs.Prelude.{◌≡◌, ◌∷◌, [], None, true, IfOk, OnOk, OnErr};
+ghost use Rattle.std.specs.Prelude.{◌≡◌, ◌∷◌, ◌++◌, [], None, true, false, IfOk, OnOk, OnErr};
 ghost use Rattle.std.specs.FinMap as map;
 ghost use Rattle.capbits.specs.Refusal.{first_failing};
 ghost use Rattle.capgrant.specs.declared.access.Access.TheVariants as access_kind;
 ghost use Rattle.inotree.specs.Tree.{parent};
+ghost use Rattle.inotree.specs.Tests.{inode_tests, root_test};
 ghost use Rattle.lockmachine.specs.declared.request.Ask.TheVariants as ask_kind;
 ghost use Rattle.lockmachine.specs.Locks.{LockMap};
 ghost use Rattle.lockmachine.specs.Scene.{Scene, scene};
 ghost use Rattle.captable.specs.Table.{Table};
 ghost use Rattle.capcore.specs.declared.outcome.Outcome.TheVariants as outcome;
 ghost use Rattle.capcore.specs.Judge.{stop};
-ghost use Rattle.capcore.specs.Needs.{need_if};
+ghost use Rattle.capcore.specs.Needs.{need, need_if};
 ghost use Rattle.capcore.specs.Serving.{MayEndAs, judged_again, stop_outcome, takes_memory, tree_after, tree_with, told_of};
 ghost use Rattle.capcore.specs.Asks.{ask_before, ask_needs, ask_after, tree_changed};
 ghost use Rattle.capcore.specs.Serving as words;
 ghost use Rattle.capcore.specs.Asks as asks;
-ghost use Rattle.capcore.specs.Served.{call_tests, change_call_tests};
+ghost use Rattle.capcore.specs.Served.{call_tests, change_call_tests, is_rename};
 
 use crate::copies::copy_of_rules;
 use crate::judge::{by_test, denial};
@@ -37,21 +38,28 @@ pub(crate) struct Served {
     pub(crate) kept: Outcome,
 }
 
-// Serves a request: what stops it now, or what it asks for.
+// Serves a request: what stops it now, or what it asks for. A request that moves its inode and found no room for what it
+// reaches ends as out of memory, unless something stops it.
 pub(crate) fn serve(
     alloc: Global,
     fs: &FsName,
     tree: &mut Tree,
     sessions: &Sessions,
     request: &Request,
+    room: bool,
 ) -> Served
+    requires room { room ≡ false → is_rename request.now.ask ≡ true }
     ensures ends { (table : Table) (locks : LockMap)
         → MayEndAs (scene fs.now tree.old sessions.now table locks) request.now result.outcome }
     ensures kept { result.kept ≡ result.outcome }
     ensures tree { tree.new ≡ tree_after tree.old request.now result.outcome }
+    ensures stays { room ≡ false → tree.new ≡ tree.old }
 {
     if let Some(stopped) = stop_again(fs, tree, sessions, request) {
         return stopped_by(stopped);
+    }
+    if !room {
+        return out_of_memory();
     }
     match carry_out(alloc, tree, request.ino, &request.ask) {
         Ok(served) => served,
@@ -80,16 +88,30 @@ fn stop_again(fs: &FsName, tree: &Tree, sessions: &Sessions, request: &Request) 
 pub(crate) fn before_refusal(tree: &Tree, ino: Ino, ask: &Ask) -> Option<Refusal>
     ensures { (s : Scene) → s.tree ≡ tree.now → result ≡ first_failing (ask_before s ino.0 ask.now) }
 {
-    if let Some(refusal) = tree.inode_refusal(ino) {
-        return Some(refusal);
-    }
     match ask {
-        Ask::Get(_) | Ask::Alter(_) => None,
-        Ask::Unlink | Ask::Rmdir => tree.root_refusal(ino),
-        Ask::Rename { dir, .. } => match tree.root_refusal(ino) {
-            Some(refusal) => Some(refusal),
-            None => tree.inode_refusal(*dir),
-        },
+        Ask::Get(_) | Ask::Alter(_) => tree.inode_refusal(ino),
+        Ask::Unlink | Ask::Rmdir => place_refusal(tree, ino),
+        Ask::Rename { dir, .. } => places_refusal(tree, ino, *dir),
+    }
+}
+
+// Why an inode can't leave its place: it has no path, or is the root.
+fn place_refusal(tree: &Tree, ino: Ino) -> Option<Refusal>
+    ensures { result ≡ first_failing (inode_tests tree.now ino.0 ++ root_test tree.now ino.0 ∷ []) }
+{
+    match tree.inode_refusal(ino) {
+        Some(refusal) => Some(refusal),
+        None => tree.root_refusal(ino),
+    }
+}
+
+// The first test before policy of a rename that fails: the inode can leave its place, and the directory has a path.
+pub(crate) fn places_refusal(tree: &Tree, ino: Ino, dir: Ino) -> Option<Refusal>
+    ensures { result ≡ first_failing (inode_tests tree.now ino.0 ++ root_test tree.now ino.0 ∷ inode_tests tree.now dir.0) }
+{
+    match place_refusal(tree, ino) {
+        Some(refusal) => Some(refusal),
+        None => tree.inode_refusal(dir),
     }
 }
 
@@ -109,13 +131,28 @@ pub(crate) fn ask_denial(
         Ask::Get(_) => denial(fs, tree, sessions, holder, Access::Read),
         Ask::Alter(change) => denial(fs, tree, sessions, holder, change_access(change)),
         Ask::Unlink | Ask::Rmdir => parent_denial(fs, tree, sessions, holder),
-        Ask::Rename { dir, .. } => match parent_denial(fs, tree, sessions, holder) {
-            Some(denied) => Some(denied),
-            None => {
-                let (client, ino) = (holder.client, *dir);
-                denial(fs, tree, sessions, Holder { client, ino }, Access::Write)
-            }
-        },
+        Ask::Rename { dir, .. } => rename_denial(fs, tree, sessions, holder, *dir),
+    }
+}
+
+// The denial of a rename: of a change of the directory that the inode stands in, or of the one that it is to stand in.
+pub(crate) fn rename_denial(
+    fs: &FsName,
+    tree: &Tree,
+    sessions: &Sessions,
+    holder: Holder,
+    dir: Ino,
+) -> Option<Stopped>
+    ensures { (table : Table) (locks : LockMap)
+        → result ≡ stop (scene fs.now tree.now sessions.now table locks) []
+        (need_if holder.client (parent tree.now.nodes holder.ino.0) access_kind.Write ++ need holder.client dir.0 access_kind.Write ∷ []) [] }
+{
+    match parent_denial(fs, tree, sessions, holder) {
+        Some(denied) => Some(denied),
+        None => {
+            let (client, ino) = (holder.client, dir);
+            denial(fs, tree, sessions, Holder { client, ino }, Access::Write)
+        }
     }
 }
 

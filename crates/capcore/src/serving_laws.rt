@@ -1,8 +1,8 @@
 //! Laws of requests that are served. No program needs to call them.
 
-ghost use Rattle.std.specs.Prelude.{◌≡◌, ◌≢◌, ℕ, false};
+ghost use Rattle.std.specs.Prelude.{◌≡◌, ◌≢◌, ℕ, true, false};
 ghost use Rattle.std.specs.FinMap as map;
-ghost use Rattle.inotree.specs.Tree.{IsTree, place};
+ghost use Rattle.inotree.specs.Tree.{IsTree, is_within, place};
 ghost use Rattle.inotree.specs.Alike.{IsAlike};
 ghost use Rattle.lockmachine.specs.declared.request.Request.{Request};
 ghost use Rattle.lockmachine.specs.Scene.{Scene};
@@ -10,13 +10,12 @@ ghost use Rattle.capcore.specs.declared.outcome.Outcome.{Outcome};
 ghost use Rattle.capcore.specs.Serving.{MayEndAs, tree_after};
 ghost use Rattle.capcore.specs.Served.{is_rename};
 
-/// However a request ends that is served, but a rename, every other inode than its own has the same path, owner, group and
-/// mode; and the tree stays a tree.
-pub fn a_serving_changes_one_inode()
-    ensures others { (s : Scene) (q : Request) (o : Outcome) (ino : ℕ) → IsTree s.tree → is_rename q.ask ≡ false
-        → MayEndAs s q o → ino ≢ q.ino.0 → IsAlike s.tree (tree_after s.tree q o) ino }
-    ensures tree { (s : Scene) (q : Request) (o : Outcome) → IsTree s.tree → is_rename q.ask ≡ false
-        → MayEndAs s q o → IsTree (tree_after s.tree q o) }
+/// However a request ends that is served, every other inode than its own has the same path, owner, group and mode, unless the
+/// request is to move its inode and the other lies below it; and the tree stays a tree.
+pub fn a_serving_changes_what_it_moves()
+    ensures others { (s : Scene) (q : Request) (o : Outcome) (ino : ℕ) → IsTree s.tree → MayEndAs s q o → ino ≢ q.ino.0
+        → (is_rename q.ask ≡ true → is_within s.tree.nodes ino q.ino.0 ≡ false) → IsAlike s.tree (tree_after s.tree q o) ino }
+    ensures tree { (s : Scene) (q : Request) (o : Outcome) → IsTree s.tree → MayEndAs s q o → IsTree (tree_after s.tree q o) }
 {}
 
 /// A request that is served, a rename too, makes no inode and forgets none; every other inode than its own stays in the tree,

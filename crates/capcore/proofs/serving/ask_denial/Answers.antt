@@ -1,13 +1,10 @@
-use Rattle.std.proofs.Common.{◌∷◌, [], ap, sym, ◌∙◌}
+use Rattle.std.proofs.Common.{[], ap, sym, ◌∙◌}
 use Rattle.capgrant.specs.declared.access.Access.{Access}
-use Rattle.capgrant.specs.declared.access.Access.TheVariants.{Write}
-use Rattle.inotree.specs.Tree.{parent}
 use Rattle.lockmachine.specs.declared.request.Ask.{Ask}
 use Rattle.lockmachine.specs.Scene.{Scene, scene}
 use Rattle.capcore.specs.Judge.{stop, denial_of}
-use Rattle.capcore.specs.Needs.{need, need_if}
 use Rattle.capcore.specs.Asks.{ask_needs, change_access}
-use Rattle.capcore.proofs.Again.{denial-stop, denied-front, granted-front}
+use Rattle.capcore.proofs.Again.{denial-stop}
 use Rattle.capcore.proofs.serving.ask_denial.Goals as goal
 
 pub returns-in-Alter : goal.returns-in-Alter
@@ -19,22 +16,3 @@ returns-in-Alter c = λ table locks.
     ∙ ap (λ (access : Access). denial_of s.fs s.tree s.sessions c.args.holder access) c.change_access.ensures
     ∙ denial-stop s client ino (change_access c.in-Alter.change)
     ∙ ap (λ (ask : Ask). stop s [] (ask_needs s client ino ask) []) (sym c.in-Alter.is)
-
-pub returns-in-Some : goal.returns-in-Some
-returns-in-Some c = λ table locks.
-    let s : Scene = scene c.args.fs.now c.args.tree.now c.args.sessions.now table locks in
-    let client = c.args.holder.client in
-    let ino = c.args.holder.ino.0 in
-    sym (denied-front s (need_if client (parent s.tree.nodes ino) Write) (need client c.in-Rename.dir.0 Write ∷ []) c.in-Some.denied
-    (sym (c.parent_denial.ensures table locks) ∙ c.in-Some.is))
-    ∙ ap (λ (ask : Ask). stop s [] (ask_needs s client ino ask) []) (sym c.in-Rename.is)
-
-pub returns-in-None : goal.returns-in-None
-returns-in-None c = λ table locks.
-    let s : Scene = scene c.args.fs.now c.args.tree.now c.args.sessions.now table locks in
-    let client = c.args.holder.client in
-    let ino = c.args.holder.ino.0 in
-    c.denial-in-None.ensures
-    ∙ denial-stop s client c.in-Rename.dir.0 Write
-    ∙ sym (granted-front s (need_if client (parent s.tree.nodes ino) Write) (need client c.in-Rename.dir.0 Write ∷ []) (sym (c.parent_denial.ensures table locks) ∙ c.in-None.is))
-    ∙ ap (λ (ask : Ask). stop s [] (ask_needs s client ino ask) []) (sym c.in-Rename.is)

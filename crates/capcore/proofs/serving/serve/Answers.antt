@@ -3,6 +3,7 @@ use Rattle.lockmachine.specs.Locks.{no_locks}
 use Rattle.lockmachine.specs.Scene.{Scene, scene}
 use Rattle.capcore.specs.Serving.{tree_after}
 use Rattle.capcore.proofs.Again.{calls-passed, ends-stopped, ends-passed, ends-without_memory, tree-stopped, tree-passed}
+use Rattle.capcore.proofs.Memory.{rename-takes}
 use Rattle.capcore.proofs.serving.serve.Goals as goal
 
 pub returns-in-Some-clause-ends : goal.returns-in-Some-clause-ends
@@ -29,7 +30,12 @@ returns-in-Ok-clause-tree c =
     let s : Scene = scene c.args.fs.now c.args.tree.now c.args.sessions.now (record { rows = []; recall = []; made = 0 }) no_locks in
     c.in-Ok.ensures.tree ∙ tree-passed s c.args.request.now ∙ ap (tree_after s.tree c.args.request.now) (sym (c.in-Ok.ensures.outcome s refl))
 
+pub returns-then-not-room-clause-ends : goal.returns-then-not-room-clause-ends
+returns-then-not-room-clause-ends c = λ table locks.
+    ends-without_memory (scene c.args.fs.now c.args.tree.now c.args.sessions.now table locks) c.args.request.now c.out_of_memory.result.outcome
+    (sym (c.stop_again.ensures table locks) ∙ c.in_default.is) (rename-takes c.args.request.now.ask (c.requires.room search)) c.out_of_memory.ensures.outcome
+
 pub returns-in-Err-clause-ends : goal.returns-in-Err-clause-ends
 returns-in-Err-clause-ends c = λ table locks.
-    ends-without_memory (scene c.args.fs.now c.args.tree.now c.args.sessions.now table locks) c.args.request.now c.out_of_memory.result.outcome
-    (sym (c.stop_again.ensures table locks) ∙ c.in_default.is) c.in-Err.ensures.memory c.out_of_memory.ensures.outcome
+    ends-without_memory (scene c.args.fs.now c.args.tree.now c.args.sessions.now table locks) c.args.request.now c.out_of_memory-in-Err.result.outcome
+    (sym (c.stop_again.ensures table locks) ∙ c.in_default.is) c.in-Err.ensures.memory c.out_of_memory-in-Err.ensures.outcome

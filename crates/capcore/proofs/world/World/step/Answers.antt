@@ -38,3 +38,9 @@ returns-in-Rmdir-clause-answered c =
     let k : Holder = holder c.in-Rmdir.client c.in-Rmdir.ino in
     IfOk-weaker c.ask-in-Rmdir.result (Each c.args.self.now k ask_kind.Rmdir c.ask-in-Rmdir.new.self) (λ said. IsAnswered c.args.self.now c.args.event.now said c.ask-in-Rmdir.new.self)
     (λ said each. each c.args.event.now (ap asks_for c.in-Rmdir.is)) c.ask-in-Rmdir.ensures.answered
+
+pub returns-in-Rename-clause-answered : goal.returns-in-Rename-clause-answered
+returns-in-Rename-clause-answered c =
+    let k : Holder = holder c.in-Rename.client c.in-Rename.ino in
+    IfOk-weaker c.ask_rename.result (Each c.args.self.now k (ask_kind.Rename c.in-Rename.dir c.in-Rename.name) c.ask_rename.new.self) (λ said. IsAnswered c.args.self.now c.args.event.now said c.ask_rename.new.self)
+    (λ said each. each c.args.event.now (ap asks_for c.in-Rename.is)) c.ask_rename.ensures.answered
