@@ -13,6 +13,7 @@ pub mod IssuedRest
 pub mod IssuedRows
 pub mod Judging
 pub mod Leaving
+pub mod ManyInodes
 pub mod Moved
 pub mod Numbered
 pub mod OneInode
