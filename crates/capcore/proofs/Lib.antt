@@ -14,6 +14,7 @@ pub mod IssuedRows
 pub mod Judging
 pub mod Leaving
 pub mod Memory
+pub mod ManyInodes
 pub mod Moved
 pub mod Numbered
 pub mod OneInode
@@ -46,6 +47,5 @@ pub mod Taking
 pub mod EndedIn
 pub mod Closing
 pub mod Waits
-pub mod SameOff
 pub mod Sweeping
 pub mod SoFar

@@ -1,6 +1,7 @@
 -- What an entry becomes at the end of a step, by the locks of its inode alone.
-use Rattle.std.specs.Prelude.{ℕ, List, [], ◌∷◌, Option, map}
+use Rattle.std.specs.Prelude.{ℕ, Bool, List, [], ◌∷◌, Option, map as each}
 use Rattle.std.specs.Option.{option_map}
+use Rattle.std.specs.FinMap as map
 use Rattle.capbits.specs.declared.cap.Cap.TheVariants.{P}
 use Rattle.capbits.specs.declared.cap.Part.{Part}
 use Rattle.capbits.specs.declared.cap.Part.TheVariants.{A, L, X, F}
@@ -13,14 +14,14 @@ use Rattle.captable.specs.declared.entry.Entry.{Entry}
 use Rattle.captable.specs.declared.entry.EntryRow.{EntryRow}
 use Rattle.captable.specs.Calls.{issued, renumbered}
 use Rattle.lockmachine.specs.declared.states.InodeLocks.{InodeLocks}
-use Rattle.lockmachine.specs.Inodes.{lock_in}
+use Rattle.lockmachine.specs.Inodes.{StateMap, lock_in}
 use Rattle.lockmachine.specs.Scene.{against_lock}
 use Rattle.lockmachine.specs.Wants.{effective_want}
 use Rattle.capcore.specs.Finish.{allowed_by}
 
 -- the clients of these entries
 abbrev pub clients_of : List EntryRow → List ℕ
-clients_of rows = map (λ row. row.holder.client.0) rows
+clients_of rows = each (λ row. row.holder.client.0) rows
 
 -- the lock of a part, where the inode has locks
 abbrev pub lock_under : Option InodeLocks → Part → Option LockState
@@ -59,3 +60,11 @@ numbered_under before now caps row = renumbered (told_under before row) (told_un
 -- the entry at the end, where its inode had these locks when the event came and has those now
 abbrev pub entry_under : List ℕ → Nodes → SessionTable → Option InodeLocks → Option InodeLocks → EntryRow → Entry
 entry_under fs tree sessions before now row = numbered_under before now (due_under fs tree sessions now row) row
+
+-- the same, where these were the locks of all inodes when the event came, and those are
+abbrev pub entry_from : List ℕ → Nodes → SessionTable → StateMap → StateMap → EntryRow → Entry
+entry_from fs tree sessions before now row = entry_under fs tree sessions (map.get before row.holder.ino.0) (map.get now row.holder.ino.0) row
+
+-- whether the row is an entry on one of these inodes
+abbrev pub is_on : StateMap → EntryRow → Bool
+is_on states row = map.contains_key states row.holder.ino.0

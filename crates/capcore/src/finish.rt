@@ -1,5 +1,5 @@
-//! The end of a step at the one inode that it touched.
-ghost use Rattle.std.specs.Prelude.{◌≡◌, ◌<◌, ◌^◌, ◌-◌, ℕ, List, Some, IsTrue, All, IfSome};
+//! The end of a step at the inodes that it touched.
+ghost use Rattle.std.specs.Prelude.{◌≡◌, ◌<◌, ◌^◌, ◌-◌, ℕ, List, true, false, Some, IsTrue, All, IfSome};
 ghost use Rattle.std.specs.List.{find, list_any};
 ghost use Rattle.std.specs.FinMap as map;
 ghost use Rattle.sessiontab.specs.Table.{SessionTable};
@@ -12,6 +12,7 @@ ghost use Rattle.capcore.specs.Finish.{allowed_by};
 ghost use Rattle.capcore.specs.Finishing as words;
 ghost use Rattle.capcore.specs.Direct.{opened_as};
 ghost use Rattle.capcore.specs.Touching.{forget_at, finished_at};
+ghost use Rattle.capcore.specs.Serves.{is_touched};
 
 use crate::reply::Reply;
 use crate::told::{lock_under, told_set_of, told_under};
@@ -20,15 +21,16 @@ use capbits::{Cap, CapSet, ClientId, Ino, Part};
 use capspec::FsName;
 use captable::{CapTable, Entry, EntryRow, Holder};
 use inotree::{Place, Tree};
-use lockmachine::{InodeLocks, Locks, effective_want};
+use lockmachine::{InodeLocks, Locks, States, effective_want};
 use locktable::allowed;
 use sessiontab::{MAX_SESSIONS, Sessions};
 
-// ---- at one inode
+// ---- at the touched inodes
 
-// Issues what is due on the inode, numbers what its clients are to know of, and forgets it if it is a stray that nobody has
-// an entry on. Its locks have settled, and were these when the event came.
-pub(crate) fn finish_at(
+// Issues what is due on the touched inodes, numbers what clients are to know of, and forgets that of the event if it is a stray
+// that nobody has an entry on. The locks have settled. That of the event had the locks `before` when it came, and those that
+// were moved with it the ones that are kept of them.
+pub(crate) fn finish(
     fs: &FsName,
     tree: &mut Tree,
     sessions: &Sessions,
@@ -36,18 +38,48 @@ pub(crate) fn finish_at(
     locks: &mut Locks,
     ino: Ino,
     before: Option<InodeLocks>,
+    touched: &States,
 )
+    requires apart { map.contains_key touched.now ino.0 ≡ false }
     requires numbers { All (λ row. row.entry.seq < 2 ^ 64 - 1) table.old.rows }
     requires clients { All (λ row. IsTrue (has_session sessions.now row.holder.client.0)) table.old.rows }
-    ensures finished { (old : Scene) → map.get old.locks.states ino.0 ≡ before
+    ensures finished { (first : Scene) → map.get first.locks.states ino.0 ≡ before
+        → ((other : ℕ) → map.contains_key touched.now other ≡ true
+            → map.get touched.now other ≡ map.get first.locks.states other)
         → scene fs.now tree.new sessions.now table.new locks.new
-        ≡ finished_at ino.0 old (scene fs.now tree.old sessions.now table.old locks.old) }
+        ≡ finished_at (is_touched ino.0 touched.now) ino.0 first (scene fs.now tree.old sessions.now table.old locks.old) }
     ensures queue { locks.new.queue ≡ locks.old.queue }
 {
+    finish_touched(fs, tree, sessions, table, locks, touched);
     let now = locks.of_ino(ino);
     finish_entries(fs, tree, sessions, table, ino, &before, &now);
     forget_unheld(tree, table, locks, ino);
 }
+
+// Issues what is due on each inode whose locks were kept, and numbers what its clients are to know of. Each is gone through
+// once, since an entry that was renumbered may have used up its number.
+fn finish_touched(
+    fs: &FsName,
+    tree: &Tree,
+    sessions: &Sessions,
+    table: &mut CapTable,
+    locks: &Locks,
+    touched: &States,
+)
+    requires numbers { All (λ row. row.entry.seq < 2 ^ 64 - 1) table.old.rows }
+    requires clients { All (λ row. IsTrue (has_session sessions.now row.holder.client.0)) table.old.rows }
+    ensures { table.new
+        ≡ changed_where (words.is_on touched.now) (words.entry_from fs.now tree.now sessions.now touched.now locks.now.states) table.old }
+{
+    for number in touched.inos() {
+        let ino = Ino(*number);
+        let kept = touched.get(ino).copied();
+        let now = locks.of_ino(ino);
+        finish_entries(fs, tree, sessions, table, ino, &kept, &now);
+    }
+}
+
+// ---- at one inode
 
 // Issues what is due on the inode, and numbers what its clients are to know of, where it had these locks when the event came,
 // and has those now.
@@ -60,7 +92,7 @@ fn finish_entries(
     before: &Option<InodeLocks>,
     now: &Option<InodeLocks>,
 )
-    requires numbers { All (λ row. row.entry.seq < 2 ^ 64 - 1) table.old.rows }
+    requires numbers { All (λ row. row.entry.seq < 2 ^ 64 - 1) (entries_on table.old ino) }
     requires clients { All (λ row. IsTrue (has_session sessions.now row.holder.client.0)) table.old.rows }
     ensures { table.new
         ≡ changed_where (is_of_inode ino) (words.entry_under fs.now tree.now sessions.now before.now now.now) table.old }
@@ -109,7 +141,7 @@ fn forget_unheld(tree: &mut Tree, table: &CapTable, locks: &mut Locks, ino: Ino)
 }
 
 // Whether somebody has an entry on the inode.
-fn is_held(table: &CapTable, ino: Ino) -> bool
+pub(crate) fn is_held(table: &CapTable, ino: Ino) -> bool
     ensures { result ≡ list_any (is_of_inode ino) table.now.rows }
 {
     let mut walk = table.holders_of(ino);

@@ -11,7 +11,7 @@ use Rattle.captable.specs.Calls.{entries_on}
 use Rattle.captable.specs.Many.{changed_by}
 use Rattle.captable.proofs.OneByOne.{fold-on_inode}
 use Rattle.capcore.specs.Finishing.{entry_under}
-use Rattle.capcore.proofs.AtEnd.{entry-all, yet-unchanged}
+use Rattle.capcore.proofs.AtEnd.{entry-on, yet-unchanged}
 use Rattle.capcore.proofs.Counting.{named, named-clients, distinct-on}
 use Rattle.capcore.proofs.finish.finish_entries.Goals as goal
 
@@ -33,7 +33,7 @@ finish_entry-requires c =
     ∙ ap (entry_at (fold (changed_by g) t (take i ks))) (sym here)
     ∙ yet-unchanged g t ks i k apart inside
     ∙ ap (entry_at t) here in
-    subst (λ (o : Option Entry). IfSome o (λ e. e.seq < 18446744073709551615)) (sym was) (entry-all (λ e. e.seq < 18446744073709551615) t k c.requires.numbers)
+    subst (λ (o : Option Entry). IfSome o (λ e. e.seq < 18446744073709551615)) (sym was) (entry-on (λ e. e.seq < 18446744073709551615) t k.client c.args.ino c.requires.numbers)
 
 pub loop-number-preserved : goal.loop-number-preserved
 loop-number-preserved c =
