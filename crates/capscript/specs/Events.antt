@@ -39,6 +39,7 @@ client_of (events.Get client ino part) = client
 client_of (events.Alter client ino change) = client
 client_of (events.Unlink client ino) = client
 client_of (events.Rmdir client ino) = client
+client_of (events.Rename client ino dir name) = client
 client_of (events.Flush client ino change) = client
 client_of (events.Poll client max) = client
 
@@ -131,6 +132,15 @@ inode_by event (client_word ∷ ino_word ∷ []) = do
   Says (event client ino)
 inode_by event arguments = Faulty faults.Count
 
+-- a client, an inode, the directory that it is to stand in, and its name there; any word is a name, good or bad
+abbrev pub rename_by : List (List ℕ) → Line
+rename_by (client_word ∷ ino_word ∷ dir_word ∷ name ∷ []) = do
+  client ← client_in client_word
+  ino ← ino_in ino_word
+  dir ← ino_in dir_word
+  Says (events.Rename client ino dir name)
+rename_by arguments = Faulty faults.Count
+
 -- what is said of the bytes that a word writes
 abbrev pub says_bytes : (List ℕ → Event) → List ℕ → Line
 says_bytes event word = do
@@ -201,6 +211,7 @@ said_with commands.Get arguments = get_by arguments
 said_with commands.Alter arguments = change_by events.Alter arguments
 said_with commands.Unlink arguments = inode_by events.Unlink arguments
 said_with commands.Rmdir arguments = inode_by events.Rmdir arguments
+said_with commands.Rename arguments = rename_by arguments
 said_with commands.Flush arguments = change_by events.Flush arguments
 said_with commands.Poll arguments = poll_by arguments
 

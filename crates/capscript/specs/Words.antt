@@ -3,7 +3,7 @@ use Rattle.std.specs.Prelude.{◌==◌, not, ℕ, Bool, Result, List, [], ◌∷
 use Rattle.std.specs.List.{list_all, slice_split, join_with_byte}
 use Rattle.std.specs.Option.{ok_or}
 use Rattle.capscript.specs.declared.command.Command.{Command}
-use Rattle.capscript.specs.declared.command.Command.TheVariants.{Session, Lookup, Create, Mkdir, MakeSnapshot, RemoveSnapshot, Open, Want, Ack, Release, Get, Alter, Unlink, Rmdir, Flush, Poll}
+use Rattle.capscript.specs.declared.command.Command.TheVariants.{Session, Lookup, Create, Mkdir, MakeSnapshot, RemoveSnapshot, Open, Want, Ack, Release, Get, Alter, Unlink, Rmdir, Rename, Flush, Poll}
 use Rattle.capscript.specs.declared.fault.LineFault.{LineFault}
 use Rattle.capscript.specs.declared.fault.LineFault.TheVariants as faults
 
@@ -48,13 +48,14 @@ command_word Get = codes "get"
 command_word Alter = codes "alter"
 command_word Unlink = codes "unlink"
 command_word Rmdir = codes "rmdir"
+command_word Rename = codes "rename"
 command_word Flush = codes "flush"
 command_word Poll = codes "poll"
 
 abbrev pub commands : List Command
 commands =
     Session ∷ Lookup ∷ Create ∷ Mkdir ∷ MakeSnapshot ∷ RemoveSnapshot ∷ Open ∷ Want ∷ Ack ∷ Release
-    ∷ Get ∷ Alter ∷ Unlink ∷ Rmdir ∷ Flush ∷ Poll ∷ []
+    ∷ Get ∷ Alter ∷ Unlink ∷ Rmdir ∷ Rename ∷ Flush ∷ Poll ∷ []
 
 -- the command that a word is
 abbrev pub command_in : List ℕ → Result Command LineFault

@@ -33,6 +33,8 @@ pub(crate) enum Command {
     Unlink,
     /// A client removes a directory.
     Rmdir,
+    /// A client moves an inode.
+    Rename,
     /// A client says what it has changed by itself.
     Flush,
     /// A client asks for its messages.
@@ -62,6 +64,7 @@ impl Command {
             b"alter" => Ok(Command::Alter),
             b"unlink" => Ok(Command::Unlink),
             b"rmdir" => Ok(Command::Rmdir),
+            b"rename" => Ok(Command::Rename),
             b"flush" => Ok(Command::Flush),
             b"poll" => Ok(Command::Poll),
             _ => Err(LineFault::Command),

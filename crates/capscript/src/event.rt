@@ -11,7 +11,7 @@ ghost use Rattle.capscript.specs.Faults.{IsRefused};
 use crate::command::Command;
 use crate::entry_event::{read_ack, read_open, read_poll, read_release, read_want};
 use crate::fault::{LineFault, Refused};
-use crate::inode_event::{read_alter, read_flush, read_get, read_rmdir, read_unlink};
+use crate::inode_event::{read_alter, read_flush, read_get, read_rename, read_rmdir, read_unlink};
 use crate::line::MAX_LINE;
 use crate::values::{read_client, read_groups, read_ino, read_number, read_permissions};
 use crate::words::split_words;
@@ -112,6 +112,7 @@ fn read_arguments(alloc: Global, command: Command, arguments: &[&[u8]]) -> Resul
         Command::Alter => read_alter(alloc, arguments),
         Command::Unlink => read_unlink(arguments),
         Command::Rmdir => read_rmdir(arguments),
+        Command::Rename => read_rename(alloc, arguments),
         Command::Flush => read_flush(alloc, arguments),
         Command::Poll => read_poll(arguments),
     }

@@ -1,11 +1,11 @@
-//! The events that ask what an inode keeps, or change it.
+//! The events that ask what an inode keeps, change it, or take it to another place.
 ghost use Rattle.std.specs.Prelude.{map, MatchResult};
 ghost use Rattle.capbits.specs.declared.ids.ClientId.{ClientId as AClient};
 ghost use Rattle.capbits.specs.declared.ids.Ino.{Ino as AnIno};
 ghost use Rattle.lockmachine.specs.declared.request.Change.{Change as AChange};
 ghost use Rattle.capcore.specs.declared.event.Event.{Event as AnEvent};
 ghost use Rattle.capcore.specs.declared.event.Event.TheVariants as events;
-ghost use Rattle.capscript.specs.Events.{Tells, change_by, get_by, inode_by};
+ghost use Rattle.capscript.specs.Events.{Tells, change_by, get_by, inode_by, rename_by};
 ghost use Rattle.capscript.specs.Faults.{IsRefused};
 
 use crate::change::{is_counted, read_change};
@@ -13,7 +13,7 @@ use crate::fault::{LineFault, Refused};
 use crate::values::{read_client, read_ino, read_part};
 use capbits::{ClientId, Ino};
 use capcore::Event;
-use lockmachine::Change;
+use lockmachine::{Bytes, Change};
 use std::alloc::Global;
 
 // An inode, and who asks.
@@ -79,6 +79,27 @@ pub(crate) fn read_rmdir(arguments: &[&[u8]]) -> Result<Event, Refused>
 {
     let InodeOf { client, ino } = read_inode(arguments)?;
     Ok(Event::Rmdir { client, ino })
+}
+
+// A client, an inode, the directory that it is to stand in, and its name there.
+#[tactic(auto, using(crate::proofs::SaidLines::four))]
+pub(crate) fn read_rename(alloc: Global, arguments: &[&[u8]]) -> Result<Event, Refused>
+    ensures { let said = rename_by (map (λ word. word.now) arguments.now) in
+        MatchResult result (Tells said) (IsRefused said) }
+{
+    let [client, ino, dir, name] = arguments else {
+        return Err(Refused::Wrong(LineFault::Count));
+    };
+    let client = read_client(client)?;
+    let ino = read_ino(ino)?;
+    let dir = read_ino(dir)?;
+    let name = Bytes::read(alloc, name)?;
+    Ok(Event::Rename {
+        client,
+        ino,
+        dir,
+        name,
+    })
 }
 
 // A client, an inode and how it has changed it.

@@ -74,6 +74,7 @@ fn client_of(event: &Event) -> ClientId
         | Event::Alter { client, .. }
         | Event::Unlink { client, .. }
         | Event::Rmdir { client, .. }
+        | Event::Rename { client, .. }
         | Event::Flush { client, .. }
         | Event::Poll { client, .. } => *client,
     }

@@ -2,6 +2,7 @@
 
 use crate::sharing::ONE_HAS_A_FILE;
 use crate::talks::{Said, Talk, talks};
+use crate::waiting::TWO_HOLD_THE_OWNER;
 use std::alloc::{AllocError, Global};
 use std::test::Fail;
 
@@ -146,6 +147,35 @@ const THE_FILE_IS_FORGOTTEN: &[Said] = &[
 fn a_change_outlives_its_file(rt: HostRuntime) -> Result<(), Fail> {
     talks(&rt, &[ONE_HAS_A_FILE, THE_FILE_GOES])?;
     talks(&rt, &[ONE_HAS_A_FILE, THE_FILE_IS_FORGOTTEN])
+}
+
+// The file is moved to where the client may do nothing, while its change waits for two others.
+const THE_FILE_IS_MOVED: &[Said] = &[
+    ("rename 1 4 3 x", "done"),
+    ("ack 1 4 3", "done"),
+    ("ack 2 4 3", "done"),
+    ("poll 3 9", "messages 1\n  ended 1 denied chmod 1:4"),
+    // What they gave back comes back in the step of the second.
+    ("poll 1 9", "messages 1\n  caps 4 4 pAsFscr"),
+    ("poll 2 9", "messages 1\n  caps 4 4 pAsFscr"),
+    ("get 1 4 A", "attr A 10 10 0644"),
+    ("lookup 1 3 x", "ino 4"),
+];
+
+// And it is moved back before the second has given it back.
+const THE_FILE_IS_MOVED_BACK: &[Said] = &[
+    ("rename 1 4 3 x", "done"),
+    ("ack 1 4 3", "done"),
+    ("rename 1 4 2 y", "done"),
+    ("ack 2 4 3", "done"),
+    ("poll 3 9", "messages 1\n  ended 1 done"),
+    ("get 3 4 A", "attr A 10 10 0600"),
+];
+
+#[test]
+fn a_change_is_judged_where_its_file_stands(rt: HostRuntime) -> Result<(), Fail> {
+    talks(&rt, &[TWO_HOLD_THE_OWNER, THE_FILE_IS_MOVED])?;
+    talks(&rt, &[TWO_HOLD_THE_OWNER, THE_FILE_IS_MOVED_BACK])
 }
 
 // ---- room that is gone

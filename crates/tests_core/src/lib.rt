@@ -27,7 +27,13 @@ mod lines;
 #[cfg(test)]
 mod looking;
 #[cfg(test)]
+mod moved_entries;
+#[cfg(test)]
 mod removals;
+#[cfg(test)]
+mod renames;
+#[cfg(test)]
+mod renames_served;
 #[cfg(test)]
 mod replies;
 #[cfg(test)]

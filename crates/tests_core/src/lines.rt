@@ -109,6 +109,13 @@ const EVENTS_OF_REQUESTS: &[(&str, &str)] = &[
     ("flush 1 2 setx a 00", "flush 1 2 [97] to [0]"),
     ("unlink 1 2", "unlink 1 2"),
     ("rmdir 1 2", "rmdir 1 2"),
+    ("rename 1 2 3 f", "rename 1 2 3 [102]"),
+    (
+        "rename 4294967295 18446744073709551615 00018446744073709551614 #",
+        "rename 4294967295 18446744073709551615 18446744073709551614 [35]",
+    ),
+    ("rename 1 2 3 ", "rename 1 2 3 []"),
+    ("rename 1 2 3 4", "rename 1 2 3 [52]"),
 ];
 
 #[test]
@@ -202,6 +209,17 @@ const FAULTS_OF_REQUESTS: &[(&str, &str)] = &[
     ("unlink 1 x", "line 7: Number"),
     ("rmdir x y z", "line 7: Count"),
     ("rmdir 1 18446744073709551616", "line 7: Number"),
+    ("Rename 1 2 3 f", "line 7: Command"),
+    ("rename", "line 7: Count"),
+    ("rename 1 2 3", "line 7: Count"),
+    ("rename x y z", "line 7: Count"),
+    ("rename 1 2 3 f ", "line 7: Count"),
+    ("rename 1 2 3 f g h", "line 7: Count"),
+    ("rename 4294967296 2 3 f", "line 7: Number"),
+    ("rename 1 18446744073709551616 3 f", "line 7: Number"),
+    ("rename 1 2 18446744073709551616 f", "line 7: Number"),
+    ("rename 1 2 f 3", "line 7: Number"),
+    ("rename 1 2  f", "line 7: Number"),
 ];
 
 // Words are counted where the change is a known one, or missing. So a number before it is told after them, and before a

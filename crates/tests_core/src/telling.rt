@@ -135,6 +135,18 @@ fn changed_text(
     format!(in alloc; "{word} {client} {ino} {change}")
 }
 
+// A client, the inode that it moves, a directory and the bytes of a name in it.
+fn moved_text(
+    alloc: Global,
+    client: ClientId,
+    ino: Ino,
+    dir: Ino,
+    name: &Bytes,
+) -> Result<String, AllocError> {
+    let name = name.as_slice();
+    format!(in alloc; "rename {client} {ino} {dir} {name:?}")
+}
+
 // What an opening of a session says.
 fn session_text(
     alloc: Global,
@@ -187,6 +199,12 @@ pub fn event_text(alloc: Global, event: &Event) -> Result<String, AllocError> {
         } => changed_text(alloc, "alter", *client, *ino, change),
         Event::Unlink { client, ino } => format!(in alloc; "unlink {client} {ino}"),
         Event::Rmdir { client, ino } => format!(in alloc; "rmdir {client} {ino}"),
+        Event::Rename {
+            client,
+            ino,
+            dir,
+            name,
+        } => moved_text(alloc, *client, *ino, *dir, name),
         Event::Flush {
             client,
             ino,

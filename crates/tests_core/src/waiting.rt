@@ -142,8 +142,8 @@ fn what_is_given_back_unasked_serves_it_too(rt: HostRuntime) -> Result<(), Fail>
     talks(&rt, &[ONE_HAS_A_FILE, THE_PIN_GIVEN_BACK])
 }
 
-// Two hold what a third is to change. The third is told when the last of them has given it back.
-const TWO_HOLD_THE_OWNER: &[Said] = &[
+/// Two hold what a third is to change. The third is told when the last of them has given it back.
+pub const TWO_HOLD_THE_OWNER: &[Said] = &[
     ("session 1 10 10 - allow rw", "done"),
     ("session 2 20 20 - allow rw", "done"),
     ("session 3 30 30 - allow rw path=/a", "done"),
@@ -300,9 +300,11 @@ const ONE_MORE: &[Said] = &[
     ("alter 2 2 size 5", "refused Limit"),
     ("get 2 2 A", "refused Limit"),
     ("unlink 2 2", "refused Limit"),
+    ("rename 2 2 1 g", "refused Limit"),
     // What is wrong with a request by itself is told before.
     ("alter 2 1 size 5", "refused IsDir"),
     ("rmdir 2 2", "refused NotDir"),
+    ("rename 2 2 1 f", "refused Exists"),
     ("get 2 9 A", "refused NoIno"),
     ("poll 2 9", "messages 0"),
     ("poll 1 9", "messages 1\n  caps 2 2 p"),

@@ -29,5 +29,8 @@ returns-in-unlink c = rw (text_from_reads c.args.word.now (codes "unlink") (omeg
 pub returns-in-rmdir : goal.returns-in-rmdir
 returns-in-rmdir c = rw (text_from_reads c.args.word.now (codes "rmdir") (omega arith) (search rules)) refl
 
+pub returns-in-rename : goal.returns-in-rename
+returns-in-rename c = rw (text_from_reads c.args.word.now (codes "rename") (omega arith) (search rules)) refl
+
 pub returns-in-flush : goal.returns-in-flush
 returns-in-flush c = rw (text_from_reads c.args.word.now (codes "flush") (omega arith) (search rules)) refl
