@@ -16,7 +16,7 @@ use Rattle.captable.specs.Calls.{is_of_inode, entries_on}
 use Rattle.lockmachine.specs.declared.request.Request.{Request}
 use Rattle.lockmachine.specs.declared.states.InodeLocks.{InodeLocks}
 use Rattle.lockmachine.specs.declared.moves.Move.TheVariants.{Serve, Settled}
-use Rattle.lockmachine.specs.Inodes.{StateMap}
+use Rattle.lockmachine.specs.Inodes.{StateMap, lock_in}
 use Rattle.lockmachine.specs.Requests.{first_for}
 use Rattle.lockmachine.specs.Elsewhere.{IsSameAt}
 use Rattle.lockmachine.specs.Locks.{LockMap, IsLockMap, lock_at, request_at, without_request}
@@ -168,7 +168,7 @@ module _ (ino : ℕ) (touched : StateMap) (first now : Scene) (told : List Ended
     q = serves.request
 
     here : (r : Request) × (request_at now.locks ticket.0 ≡ Some r) × Contains now.locks.queue r × (r.ino.0 ≡ ino) × (r.ticket ≡ ticket)
-    here = served-here now ino ticket so.waits order move
+    here = served-here now ino ticket order so.waits move
 
     same_request : here.0 ≡ q
     same_request = (let both : Some here.0 ≡ Some serves.request = sym here.1 ∙ serves.waits in cc)
@@ -328,7 +328,7 @@ module _ (ino : ℕ) (touched : StateMap) (first now : Scene) (told : List Ended
       apart = apart_now;
       before = before_now;
       still = by_after (AreStill (is_touched ino kept)) still_after;
-      waits = by_after (λ s. WaitHere s ino) (waits-less now ino so.waits (tree_after now.tree q ended.outcome) q.ticket.0);
+      waits = by_after (λ s. WaitHere s ino) (waits-less now ino (tree_after now.tree q ended.outcome) q.ticket.0 so.waits);
       count = (
           let queue : length new.locks.queue ≡ length (without_request now.locks q.ticket.0).queue = ap (λ (s : Scene). length s.locks.queue) is_after in
           let more : length (told ++ ended ∷ []) ≡ length told + 1 = length-append told (ended ∷ []) in

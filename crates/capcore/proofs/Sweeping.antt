@@ -86,7 +86,7 @@ swept-on at ino first now is here touched locks (steps, few, runs) changes =
       is = ap (λ (s : Scene). record s { locks = locks }) is.is;
       states = λ other off. locks_by_parts now.locks locks other (λ part. changes.others other part (off_one at here other touched off)) ∙ is.states other off;
       queue = changes.queue ∙ is.queue;
-      waits = waits-kept now steps (record now { locks = locks }) ino runs is.waits;
+      waits = waits-kept ino now steps (record now { locks = locks }) runs is.waits;
     }
 
 -- an inode is done, and it is the next one's turn
@@ -109,9 +109,12 @@ one_no_more a b x less = elim (nat_lt b x) as (λ p. nat_lt b x ≡ p → cond p
   | false ↦ λ above. omega arith
 ] refl
 
+counted : (a x : ℕ) (xs : List ℕ) → count_by (nat_lt a) (x ∷ xs) ≡ cond (nat_lt a x) 1 0 + count_by (nat_lt a) xs
+counted a x xs = refl
+
 no_more : (a b : ℕ) → a < b → (xs : List ℕ) → count_by (nat_lt b) xs ≤ count_by (nat_lt a) xs
 no_more a b less [] = omega arith
-no_more a b less (x ∷ xs) = omega (arith, one_no_more a b x less, no_more a b less xs)
+no_more a b less (x ∷ xs) = omega (arith, one_no_more a b x less, no_more a b less xs, counted b x xs, counted a x xs)
 
 fewer : (a b : ℕ) → a < b → (xs : List ℕ) → list_any (eq_by_cmp nat_cmp b) xs ≡ true → count_by (nat_lt b) xs < count_by (nat_lt a) xs
 fewer a b less [] among = absurd (cc)
@@ -120,8 +123,8 @@ fewer a b less (x ∷ xs) among = elim (eq_by_cmp nat_cmp b x) as (λ e. eq_by_c
       let same : x ≡ b = same_key b x is in
       let none : cond (nat_lt b x) 1 0 ≡ 0 = ap (λ p. cond p 1 0) (le-ltb b x (omega (arith, same))) in
       let one : cond (nat_lt a x) 1 0 ≡ 1 = ap (λ p. cond p 1 0) (lt-ltb a x (omega (arith, same, less))) in
-      omega (arith, none, one, no_more a b less xs)
-  | false ↦ λ is rest. omega (arith, one_no_more a b x less, fewer a b less xs rest)
+      omega (arith, none, one, no_more a b less xs, counted b x xs, counted a x xs)
+  | false ↦ λ is rest. omega (arith, one_no_more a b x less, fewer a b less xs rest, counted b x xs, counted a x xs)
 ] refl among
 
 -- with each that is done, there are fewer

@@ -120,7 +120,7 @@ same-request s client ino ask = record {
 }
 
 -- a request that is taken out stood first for no other inode
-first-moved : (locks : LockMap) (q : Request) → IsLockMap locks → Contains locks.queue q → (other : ℕ) (part : Part) → other ≢ q.ino.0
+pub first-moved : (locks : LockMap) (q : Request) → IsLockMap locks → Contains locks.queue q → (other : ℕ) (part : Part) → other ≢ q.ino.0
     → first_for (without_request locks q.ticket.0).queue other part ≡ first_for locks.queue other part
 first-moved locks q is inside other part off =
     let alone = taken_alone locks q is inside in
