@@ -14,6 +14,7 @@ pub mod IssuedRows
 pub mod Judging
 pub mod Leaving
 pub mod ManyInodes
+pub mod Kept
 pub mod Moved
 pub mod Numbered
 pub mod OneInode

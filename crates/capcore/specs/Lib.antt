@@ -20,3 +20,4 @@ pub mod Sound
 pub mod Leaving
 pub mod Answered
 pub mod Serves
+pub mod Sweep
