@@ -15,6 +15,7 @@ pub mod Judging
 pub mod Leaving
 pub mod Memory
 pub mod ManyInodes
+pub mod Kept
 pub mod Moved
 pub mod Numbered
 pub mod OneInode

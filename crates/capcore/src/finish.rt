@@ -45,7 +45,7 @@ pub(crate) fn finish(
     requires clients { All (λ row. IsTrue (has_session sessions.now row.holder.client.0)) table.old.rows }
     ensures finished { (first : Scene) → map.get first.locks.states ino.0 ≡ before
         → ((other : ℕ) → map.contains_key touched.now other ≡ true
-            → map.get touched.now other ≡ map.get first.locks.states other)
+        → map.get touched.now other ≡ map.get first.locks.states other)
         → scene fs.now tree.new sessions.now table.new locks.new
         ≡ finished_at (is_touched ino.0 touched.now) ino.0 first (scene fs.now tree.old sessions.now table.old locks.old) }
     ensures queue { locks.new.queue ≡ locks.old.queue }

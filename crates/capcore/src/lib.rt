@@ -18,6 +18,7 @@ mod messages;
 mod outcome;
 mod own_laws;
 mod poll;
+mod reach;
 mod reply;
 mod serving;
 mod serving_laws;

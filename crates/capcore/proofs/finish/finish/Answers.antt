@@ -21,10 +21,10 @@ finish_entries-requires c =
     let g : EntryRow → Entry = entry_from c.args.fs.now c.args.tree.now c.args.sessions.now c.args.touched.now c.args.locks.now.states in
     record {
       numbers = subst (All (λ (row : EntryRow). row.entry.seq < 18446744073709551615))
-        (sym (ap (λ (t : Table). entries_on t c.args.ino) c.finish_touched.ensures ∙ entries_on-stay (map.contains_key c.args.touched.now) g c.args.ino c.requires.apart t))
-        (All-filter (is_of_inode c.args.ino) (λ row. row.entry.seq < 18446744073709551615) t.rows c.requires.numbers);
+          (sym (ap (λ (t : Table). entries_on t c.args.ino) c.finish_touched.ensures ∙ entries_on-stay (map.contains_key c.args.touched.now) g c.args.ino c.requires.apart t))
+          (All-filter (is_of_inode c.args.ino) (λ row. row.entry.seq < 18446744073709551615) t.rows c.requires.numbers);
       clients = subst (λ (t : Table). All (λ row. IsTrue (has_session c.args.sessions.now row.holder.client.0)) t.rows) (sym c.finish_touched.ensures)
-        (holders-stay (is_on c.args.touched.now) g (λ h. IsTrue (has_session c.args.sessions.now h.client.0)) t c.requires.clients);
+          (holders-stay (is_on c.args.touched.now) g (λ h. IsTrue (has_session c.args.sessions.now h.client.0)) t c.requires.clients);
     }
 
 pub returns-clause-finished : goal.returns-clause-finished

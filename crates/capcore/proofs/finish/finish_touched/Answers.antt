@@ -59,9 +59,9 @@ loop-number-preserved c =
       left = ap (λ (t : Table). fold (finished_on g) t ks) step ∙ ap (fold (finished_on g) t) (sym rest) ∙ c.loop-number.invariant.left;
       once = IsDistinct-tail same_number k ks once;
       numbers = subst (λ (t : Table). HaveNumbers t ks) (sym step)
-        (yet-to-come has_number g t k ks (IsDistinct-head same_number k ks once) (subst (HaveNumbers t) rest c.loop-number.invariant.numbers).1);
+          (yet-to-come has_number g t k ks (IsDistinct-head same_number k ks once) (subst (HaveNumbers t) rest c.loop-number.invariant.numbers).1);
       clients = subst (λ (t : Table). All (λ row. IsTrue (has_session c.args.sessions.now row.holder.client.0)) t.rows) (sym step)
-        (holders-stay (is_of_inode (record { 0 = k })) g (λ h. IsTrue (has_session c.args.sessions.now h.client.0)) t c.loop-number.invariant.clients);
+          (holders-stay (is_of_inode (record { 0 = k })) g (λ h. IsTrue (has_session c.args.sessions.now h.client.0)) t c.loop-number.invariant.clients);
     }
 
 pub returns : goal.returns
