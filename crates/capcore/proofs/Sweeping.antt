@@ -6,6 +6,7 @@ use Rattle.std.specs.Cmp.{unsigned_tied}
 use Rattle.std.specs.Option.{option_map}
 use Rattle.std.specs.FinMap as map
 use Rattle.std.proofs.lemmas.Bool.{ltb-true, lt-ltb, le-ltb}
+use Rattle.std.proofs.lemmas.List.Sums.{sum_by-cons}
 use Rattle.lockmachine.proofs.Rest.{same_key}
 use Rattle.lockmachine.specs.Inodes.{StateMap}
 use Rattle.capcore.specs.Serves.{is_touched}
@@ -110,7 +111,7 @@ one_no_more a b x less = elim (nat_lt b x) as (λ p. nat_lt b x ≡ p → cond p
 ] refl
 
 counted : (a x : ℕ) (xs : List ℕ) → count_by (nat_lt a) (x ∷ xs) ≡ cond (nat_lt a x) 1 0 + count_by (nat_lt a) xs
-counted a x xs = refl
+counted a x xs = sum_by-cons (λ k. cond (nat_lt a k) 1 0) x xs
 
 no_more : (a b : ℕ) → a < b → (xs : List ℕ) → count_by (nat_lt b) xs ≤ count_by (nat_lt a) xs
 no_more a b less [] = omega arith
@@ -121,8 +122,8 @@ fewer a b less [] among = absurd (cc)
 fewer a b less (x ∷ xs) among = elim (eq_by_cmp nat_cmp b x) as (λ e. eq_by_cmp nat_cmp b x ≡ e → e || list_any (eq_by_cmp nat_cmp b) xs ≡ true → count_by (nat_lt b) (x ∷ xs) < count_by (nat_lt a) (x ∷ xs)) [
   | true ↦ λ is _.
       let same : x ≡ b = same_key b x is in
-      let none : cond (nat_lt b x) 1 0 ≡ 0 = ap (λ p. cond p 1 0) (le-ltb b x (omega (arith, same))) in
-      let one : cond (nat_lt a x) 1 0 ≡ 1 = ap (λ p. cond p 1 0) (lt-ltb a x (omega (arith, same, less))) in
+      let none : ◌≡◌ {A = ℕ} (cond (nat_lt b x) 1 0) 0 = ap (λ p. cond p 1 0) (le-ltb b x (omega (arith, same))) in
+      let one : ◌≡◌ {A = ℕ} (cond (nat_lt a x) 1 0) 1 = ap (λ p. cond p 1 0) (lt-ltb a x (omega (arith, same, less))) in
       omega (arith, none, one, no_more a b less xs, counted b x xs, counted a x xs)
   | false ↦ λ is rest. omega (arith, one_no_more a b x less, fewer a b less xs rest, counted b x xs, counted a x xs)
 ] refl among
@@ -130,7 +131,7 @@ fewer a b less (x ∷ xs) among = elim (eq_by_cmp nat_cmp b x) as (λ e. eq_by_c
 -- with each that is done, there are fewer
 pub fewer_behind : (ino : ℕ) (touched : StateMap) (here : ℕ) (next : Ino) → IsNextOf (is_touched ino touched) here (Some next) → behind ino touched next.0 < behind ino touched here
 fewer_behind ino touched here next (less, is, between) = fewer here next.0 less (ino ∷ map.keys touched) (
-    ap (λ b. b || list_any (eq_by_cmp nat_cmp next.0) (map.keys touched)) (sym (unsigned_tied next.0 ino))
+    ap (λ b. b || list_any (eq_by_cmp nat_cmp next.0) (map.keys touched)) (unsigned_tied next.0 ino)
     ∙ ap (λ b. (next.0 == ino) || b) (sym (map.contains_key-keys touched next.0))
     ∙ is
     )

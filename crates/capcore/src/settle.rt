@@ -128,15 +128,9 @@ fn sweep(
 fn lowest(touched: &States, ino: Ino) -> Ino
     ensures { IsLeastOf (is_touched ino.0 touched.now) result.0 }
 {
-    match touched.first() {
-        Some(first) => {
-            if first.0 < ino.0 {
-                first
-            } else {
-                ino
-            }
-        }
-        None => ino,
+    match touched.next(Ino(0)) {
+        Some(first) if first.0 < ino.0 => first,
+        Some(_) | None => ino,
     }
 }
 
@@ -145,20 +139,9 @@ fn next_touched(touched: &States, ino: Ino, at: Ino) -> Option<Ino>
     ensures { IsNextOf (is_touched ino.0 touched.now) at.0 result }
 {
     match touched.after(at) {
-        Some(next) => {
-            if at.0 < ino.0 && ino.0 < next.0 {
-                Some(ino)
-            } else {
-                Some(next)
-            }
-        }
-        None => {
-            if at.0 < ino.0 {
-                Some(ino)
-            } else {
-                None
-            }
-        }
+        Some(next) if ino.0 <= at.0 || next.0 < ino.0 => Some(next),
+        Some(_) | None if at.0 < ino.0 => Some(ino),
+        Some(_) | None => None,
     }
 }
 

@@ -1,0 +1,149 @@
+use Rattle.std.proofs.Common.{◌≡◌, ◌<◌, ◌+◌, ◌++◌, ◌∷◌, [], length, List, Some, Contains, sym, ap, subst, ◌∙◌, arith}
+use Rattle.std.specs.Prelude.{All, IsTrue}
+use Rattle.std.specs.FinMap as map
+use Rattle.std.proofs.lemmas.List.{length-append}
+use Rattle.std.proofs.lemmas.List.Elements.{All-weaker}
+use Rattle.captable.specs.declared.entry.EntryRow.{EntryRow}
+use Rattle.lockmachine.specs.declared.request.Request.{Request}
+use Rattle.lockmachine.specs.declared.moves.Move.TheVariants.{Serve}
+use Rattle.lockmachine.specs.Locks.{request_at}
+use Rattle.lockmachine.specs.Moves.{first_move}
+use Rattle.lockmachine.specs.Scene.{Scene, scene}
+use Rattle.lockmachine.specs.Inodes.{StateMap}
+use Rattle.lockmachine.specs.Turns.{IsTurnOf}
+use Rattle.lockmachine.proofs.Turns.{served-here}
+use Rattle.capcore.specs.declared.outcome.Ended.{Ended}
+use Rattle.capcore.specs.Serves.{Serves, is_touched}
+use Rattle.capcore.specs.Sweep.{GoesOn, IsTurnOfLeast, Reaches}
+use Rattle.capcore.proofs.Moved.{IsMoved, moved-all}
+use Rattle.capcore.proofs.SoFar.{IsSoFar, so-far-begins, so-far-served, so-far-settled, so-far-swept, turn-begins, turn-served}
+use Rattle.capcore.proofs.settle.settle.Goals as goal
+use Rattle.capcore.proofs.settle.settle.Goals.{After-last-last, After-serve_next}
+
+pub servings-init : goal.servings-init
+servings-init c =
+    let first : Scene = scene c.args.fs.now c.args.tree.now c.args.sessions.now c.args.table.now c.args.locks.now in
+    record {
+      so_far =
+          subst (λ told. IsSoFar c.args.ino.0 c.new-touched.result first first told) (sym c.requires.none)
+          (subst (λ (touched : StateMap). IsSoFar c.args.ino.0 touched first first []) (sym c.new-touched.ensures) (so-far-begins c.args.ino.0 first c.requires.quiet));
+      turn =
+          subst (λ (touched : StateMap). IsTurnOfLeast (is_touched c.args.ino.0 touched) first) (sym c.new-touched.ensures)
+          (turn-begins c.args.ino.0 first c.requires.quiet);
+      same = c.requires.same;
+      told = c.requires.told;
+      kept = c.requires.kept;
+    }
+
+module _ (c : After-last-last) where
+  abbrev first : Scene
+  first = scene c.args.fs.now c.args.tree.now c.args.sessions.now c.args.table.now c.args.locks.now
+
+  abbrev now : Scene
+  now = scene c.args.fs.now c.servings.tree c.args.sessions.now c.args.table.now c.servings.locks
+
+  abbrev mid : Scene
+  mid = scene c.args.fs.now c.servings.tree c.args.sessions.now c.args.table.now c.sweep.new.locks
+
+  -- gathers began and ended
+  swept : IsSoFar c.args.ino.0 c.servings.touched first mid c.servings.endings.told.items
+  swept = so-far-swept c.args.ino.0 c.servings.touched first now c.servings.endings.told.items c.servings.invariant.so_far mid c.sweep.ensures.swept
+
+  -- where each entry's inode had locks, it has some
+  locked : All (λ (row : EntryRow). IsTrue (map.contains_key c.args.locks.now.states row.holder.ino.0)) c.args.table.now.rows
+      → All (λ (row : EntryRow). IsTrue (map.contains_key c.sweep.new.locks.states row.holder.ino.0)) c.args.table.now.rows
+  locked all =
+      let so = swept in
+      let moved = moved-all first so.moves mid so.made in
+      All-weaker (λ (row : EntryRow). IsTrue (map.contains_key c.args.locks.now.states row.holder.ino.0)) (λ (row : EntryRow). IsTrue (map.contains_key c.sweep.new.locks.states row.holder.ino.0))
+      (λ row has. moved.states row.holder.ino.0 ∙ has) c.args.table.now.rows all
+
+  move : first_move mid ≡ Serve c.in-Some.ticket
+  move = subst (GoesOn mid) c.in-Some.is c.sweep.ensures.next
+
+  here : (r : Request) × (request_at c.sweep.new.locks c.in-Some.ticket.0 ≡ Some r) × Contains c.sweep.new.locks.queue r × (r.ino.0 ≡ c.args.ino.0) × (r.ticket ≡ c.in-Some.ticket)
+  here = (let so = swept in served-here mid c.args.ino.0 c.in-Some.ticket c.state-lock.ensures.sound so.waits move)
+
+  -- somebody waits
+  some_wait : 0 < length c.servings.locks.queue
+  some_wait =
+      let found = here in
+      let inside = found.2 in
+      let is = c.sweep.ensures.swept in
+      let same : length c.sweep.new.locks.queue ≡ length c.servings.locks.queue = ap length is.queue in
+      omega (arith, same, inside.1)
+
+pub serve_next-requires-clause-waits : goal.serve_next-requires-clause-waits
+serve_next-requires-clause-waits c = (let found = here (goal.at.serve_next-requires-clause-waits c).After-last-last in (found.0, found.1))
+
+pub serve_next-requires-clause-locked : goal.serve_next-requires-clause-locked
+serve_next-requires-clause-locked c = locked (goal.at.serve_next-requires-clause-locked c).After-last-last c.requires.locked
+
+pub serve_next-requires-clause-told : goal.serve_next-requires-clause-told
+serve_next-requires-clause-told c = let some = some_wait (goal.at.serve_next-requires-clause-told c).After-last-last in omega (arith, some, c.servings.invariant.told)
+
+pub serve_next-requires-clause-kept : goal.serve_next-requires-clause-kept
+serve_next-requires-clause-kept c = let some = some_wait (goal.at.serve_next-requires-clause-kept c).After-last-last in omega (arith, some, c.servings.invariant.kept)
+
+abbrev before_serving : After-serve_next → After-last-last
+before_serving c = (goal.at.servings-preserved c).After-last-last
+
+module _ (c : After-serve_next) where
+  abbrev ended : Ended
+  ended = c.serve_next.ensures.served.0
+
+  abbrev new : Scene
+  new = scene c.args.fs.now c.serve_next.new.tree c.args.sessions.now c.args.table.now c.serve_next.new.locks
+
+  abbrev serves : Serves (mid (before_serving c)) c.in-Some.ticket ended new
+  serves = c.serve_next.ensures.served.1 c.args.table.now
+
+  abbrev reaches : Reaches serves.request c.servings.tree c.serve_next.new.tree c.args.table.now c.sweep.new.locks.states c.servings.touched c.serve_next.new.touched
+  reaches = c.serve_next.ensures.reached serves.request serves.waits
+
+  served : IsSoFar c.args.ino.0 c.serve_next.new.touched (first (before_serving c)) new (c.servings.endings.told.items ++ ended ∷ [])
+  served =
+      so-far-served c.args.ino.0 c.servings.touched (first (before_serving c)) (mid (before_serving c)) c.servings.endings.told.items (swept (before_serving c))
+      c.in-Some.ticket ended new c.serve_next.new.touched c.state-lock.ensures.sound c.last-last.ensures.sound (move (before_serving c)) serves reaches
+
+  turn : IsTurnOfLeast (is_touched c.args.ino.0 c.serve_next.new.touched) new
+  turn =
+      turn-served c.args.ino.0 c.servings.touched (first (before_serving c)) (mid (before_serving c)) c.servings.endings.told.items (swept (before_serving c))
+      c.in-Some.ticket ended new c.serve_next.new.touched c.state-lock.ensures.sound c.last-last.ensures.sound (move (before_serving c)) serves reaches
+
+  one_more : length (c.servings.endings.told.items ++ ended ∷ []) ≡ length c.servings.endings.told.items + 1
+  one_more = length-append c.servings.endings.told.items (ended ∷ [])
+
+  one_less : length c.serve_next.new.locks.queue + 1 ≡ length c.servings.locks.queue
+  one_less =
+      let now = served in
+      let was = c.servings.invariant.so_far in
+      omega (arith, now.count, was.count, one_more)
+
+pub servings-smaller : goal.servings-smaller
+servings-smaller c = let less = one_less c in omega (arith, less)
+
+pub servings-preserved : goal.servings-preserved
+servings-preserved c =
+    let all = c.serve_next.ensures.served in
+    let same : c.serve_next.new.endings.kept.items ≡ c.serve_next.new.endings.told.items = all.3 ∙ ap (λ ms. ms ++ ended c ∷ []) c.servings.invariant.same ∙ sym all.2 in
+    let more : length c.serve_next.new.endings.told.items ≡ length c.servings.endings.told.items + 1 = ap length all.2 ∙ one_more c in
+    let less = one_less c in
+    let kept_more : length c.serve_next.new.endings.kept.items ≡ length c.servings.endings.kept.items + 1 = ap length same ∙ more ∙ ap (λ (ms : List Ended). length ms + 1) (sym c.servings.invariant.same) in
+    let room = c.serve_next.ensures.room in
+    record {
+      so_far = subst (IsSoFar c.args.ino.0 c.serve_next.new.touched (first (before_serving c)) (new c)) (sym all.2) (served c);
+      turn = turn c;
+      same = same;
+      told = omega (arith, more, less, room.0, c.servings.invariant.told);
+      kept = omega (arith, kept_more, less, room.1, c.servings.invariant.kept);
+    }
+
+pub returns-clause-settles : goal.returns-clause-settles
+returns-clause-settles c =
+    let first : Scene = scene c.args.fs.now c.args.tree.now c.args.sessions.now c.args.table.now c.args.locks.now in
+    let now : Scene = scene c.args.fs.now c.servings.tree c.args.sessions.now c.args.table.now c.servings.locks in
+    let last : Scene = scene c.args.fs.now c.servings.tree c.args.sessions.now c.args.table.now c.sweep.new.locks in
+    so-far-settled c.args.ino.0 c.servings.touched first last c.servings.endings.told.items
+    (so-far-swept c.args.ino.0 c.servings.touched first now c.servings.endings.told.items c.servings.invariant.so_far last c.sweep.ensures.swept)
+    (subst (GoesOn last) c.in_default.is c.sweep.ensures.next)

@@ -1,0 +1,19 @@
+use Rattle.std.proofs.Common.{◌≡◌, length}
+use Rattle.lockmachine.specs.Scene.{scene}
+use Rattle.capcore.specs.Serves.{is_touched}
+use Rattle.capcore.specs.Sweep.{IsTurnOfLeast}
+use Rattle.capcore.specs.Untold.{HasRoom}
+use Rattle.capcore.proofs.SoFar.{IsSoFar}
+use Rattle.capcore.proofs.settle.settle.Given as goal
+
+abbrev pub decreases-servings : goal.decreases-servings
+decreases-servings l = length l.locks.queue
+
+abbrev pub invariant-servings : goal.invariant-servings
+invariant-servings l = record {
+  so_far : IsSoFar l.ino.0 l.touched (scene l.fs l.fn.tree l.sessions l.table l.fn.locks) (scene l.fs l.tree l.sessions l.table l.locks) l.endings.told.items;
+  turn : IsTurnOfLeast (is_touched l.ino.0 l.touched) (scene l.fs l.tree l.sessions l.table l.locks);
+  same : l.endings.kept.items ≡ l.endings.told.items;
+  told : HasRoom l.endings.told l.locks;
+  kept : HasRoom l.endings.kept l.locks;
+}
