@@ -27,6 +27,9 @@ const WORKS: &str = "WORK is one of
   release-T          give back one of T inodes that are open, and open it again
   share-T            open all of T inodes that are open, for one client more
   poll-T             ask for messages, of which there is none, for a client that has T inodes open
+  alter-T            change the mode of one of T inodes that are open
+  rename-T           move a directory with a hundred open files to and fro, beside T inodes that are open
+  carry-T            move a directory with T open files to and fro
   retry              have two clients share a file, and ask again for each event that finds no memory
 with G of 1, 4 or 16, D of 1, 8 or 32, and T of 100, 1000, 10000 or 60000";
 

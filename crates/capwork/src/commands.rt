@@ -63,6 +63,9 @@ fn tally_of(alloc: Global, task: Task) -> Result<Tally, Fault> {
         Work::Release(size) => on_a_core(alloc, CoreWork::Release(size), task.times),
         Work::Share(size) => on_a_core(alloc, CoreWork::Share(size), task.times),
         Work::Poll(size) => on_a_core(alloc, CoreWork::Poll(size), task.times),
+        Work::Alter(size) => on_a_core(alloc, CoreWork::Alter(size), task.times),
+        Work::Rename(size) => on_a_core(alloc, CoreWork::Rename(size), task.times),
+        Work::Carry(size) => on_a_core(alloc, CoreWork::Carry(size), task.times),
         Work::Retry => on_a_core(alloc, CoreWork::Retry, task.times),
     }
 }

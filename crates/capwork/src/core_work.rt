@@ -3,6 +3,7 @@
 use crate::entries::{open, poll, reopen, revoke, share_inodes, want_to_write};
 use crate::fault::Fault;
 use crate::inodes::{USER, create, look_up, mode};
+use crate::moving::{alter, carry, rename};
 use crate::retry::retry;
 use crate::tally::Tally;
 use crate::work::{Size, TreeShape};
@@ -33,6 +34,12 @@ pub(crate) enum CoreWork {
     Share(Size),
     // A client asks for its messages.
     Poll(Size),
+    // Modes are changed.
+    Alter(Size),
+    // A directory is moved, beside so many other inodes.
+    Rename(Size),
+    // A directory with so many files is moved.
+    Carry(Size),
     // Files are shared, and events asked for again.
     Retry,
 }
@@ -54,6 +61,9 @@ fn work_on(alloc: Global, core: &mut Core, work: CoreWork, times: u32) -> Result
         CoreWork::Release(size) => reopen(alloc, core, size, times)?,
         CoreWork::Share(size) => share_inodes(alloc, core, size, times)?,
         CoreWork::Poll(size) => poll(alloc, core, size, times)?,
+        CoreWork::Alter(size) => alter(alloc, core, size, times)?,
+        CoreWork::Rename(size) => rename(alloc, core, size, times)?,
+        CoreWork::Carry(size) => carry(alloc, core, size, times)?,
         CoreWork::Retry => return retry(alloc, core, times),
     };
     Ok(Tally::of(sum))

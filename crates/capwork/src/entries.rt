@@ -17,7 +17,7 @@ const FILES: u32 = 1024;
 const READER: ClientId = ClientId(2);
 
 /// Who has an entry on each inode of the tree.
-const HOLDER: ClientId = ClientId(3);
+pub(crate) const HOLDER: ClientId = ClientId(3);
 
 /// How many messages a client takes at most.
 const MESSAGES: u32 = 9;
@@ -115,7 +115,7 @@ fn tree_of(size: Size) -> TreeShape {
 }
 
 // Builds the tree, gives all clients their sessions, and has the third open each inode.
-fn hold(alloc: Global, core: &mut Core, size: Size) -> Result<(), Fault> {
+pub(crate) fn hold(alloc: Global, core: &mut Core, size: Size) -> Result<(), Fault> {
     build(alloc, core, tree_of(size))?;
     open_session(alloc, core, READER)?;
     open_session(alloc, core, HOLDER)?;
@@ -207,7 +207,7 @@ fn open_again(core: &mut Core, ino: Ino) -> Result<u64, Fault> {
     shown(core, opening(HOLDER, ino, OpenMode::Read))
 }
 
-fn opening(client: ClientId, ino: Ino, mode: OpenMode) -> Event {
+pub(crate) fn opening(client: ClientId, ino: Ino, mode: OpenMode) -> Event {
     Event::Open { client, ino, mode }
 }
 
@@ -224,7 +224,7 @@ fn release(client: ClientId, ino: Ino, caps: CapSet) -> Event {
 }
 
 // The number of the last change of what the core shows.
-fn shown(core: &mut Core, event: Event) -> Result<u64, Fault> {
+pub(crate) fn shown(core: &mut Core, event: Event) -> Result<u64, Fault> {
     match core.apply(PASS, event)? {
         Reply::Opened { seq, .. } => Ok(seq),
         _ => Err(Fault::Refused),
@@ -232,7 +232,7 @@ fn shown(core: &mut Core, event: Event) -> Result<u64, Fault> {
 }
 
 // Has an event done that is answered by nothing else.
-fn done(core: &mut Core, event: Event) -> Result<(), Fault> {
+pub(crate) fn done(core: &mut Core, event: Event) -> Result<(), Fault> {
     match core.apply(PASS, event)? {
         Reply::Done => Ok(()),
         _ => Err(Fault::Refused),

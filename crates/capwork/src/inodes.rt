@@ -156,7 +156,7 @@ pub(crate) fn mode() -> Result<Mode, Fault> {
 }
 
 // The number of the inode that the core answers with.
-fn answer(core: &mut Core, event: Event) -> Result<u64, Fault> {
+pub(crate) fn answer(core: &mut Core, event: Event) -> Result<u64, Fault> {
     match core.apply(PASS, event)? {
         Reply::Ino(ino) => Ok(ino.0),
         _ => Err(Fault::Refused),

@@ -11,6 +11,7 @@ mod entries;
 mod fault;
 mod inodes;
 mod judging;
+mod moving;
 mod retry;
 mod tally;
 mod work;

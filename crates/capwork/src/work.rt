@@ -23,6 +23,12 @@ pub enum Work {
     Share(Size),
     /// Have a client that has so many inodes open ask for its messages, of which there is none.
     Poll(Size),
+    /// Have a core change the mode of one of so many inodes that are open.
+    Alter(Size),
+    /// Have a core move a directory with a hundred open files to and fro, beside so many other inodes that are open.
+    Rename(Size),
+    /// Have a core move a directory with so many open files to and fro.
+    Carry(Size),
     /// Have two clients share files, and ask a core again for what it finds no memory for.
     Retry,
 }
@@ -99,6 +105,9 @@ impl Work {
             "release" => Some(Work::Release(Size::read(shape)?)),
             "share" => Some(Work::Share(Size::read(shape)?)),
             "poll" => Some(Work::Poll(Size::read(shape)?)),
+            "alter" => Some(Work::Alter(Size::read(shape)?)),
+            "rename" => Some(Work::Rename(Size::read(shape)?)),
+            "carry" => Some(Work::Carry(Size::read(shape)?)),
             _ => None,
         }
     }

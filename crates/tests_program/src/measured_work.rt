@@ -19,7 +19,7 @@ fn tree(size: Size, layout: Layout) -> TreeShape {
 }
 
 // Words, and the work that each names.
-fn works() -> [(&'static str, Work); 17] {
+fn works() -> [(&'static str, Work); 20] {
     use Callers::{Any, OneUser};
     use Layout::{Deep, Flat};
     use Size::{Hundred, SixtyThousand, TenThousand, Thousand};
@@ -40,6 +40,9 @@ fn works() -> [(&'static str, Work); 17] {
         ("release-10000", Work::Release(TenThousand)),
         ("share-100", Work::Share(Hundred)),
         ("poll-1000", Work::Poll(Thousand)),
+        ("alter-10000", Work::Alter(TenThousand)),
+        ("rename-100", Work::Rename(Hundred)),
+        ("carry-60000", Work::Carry(SixtyThousand)),
         ("retry", Work::Retry),
     ]
 }
@@ -52,7 +55,7 @@ fn each_word_names_its_work(rt: HostRuntime) {
 }
 
 /// Words that name no work.
-const NO_WORK: [&str; 20] = [
+const NO_WORK: [&str; 23] = [
     "",
     "verdict",
     "verdict-1-plain",
@@ -72,6 +75,9 @@ const NO_WORK: [&str; 20] = [
     "want-200",
     "release",
     "share-100-flat",
+    "alter",
+    "rename-100-flat",
+    "carry-200",
     "retry-100",
 ];
 
@@ -139,7 +145,7 @@ fn expect(
 }
 
 /// A piece of work, how many times it is done, and what is printed.
-const SUMS: [(&str, &str, &str); 17] = [
+const SUMS: [(&str, &str, &str); 20] = [
     // The last grant is the one that allows.
     ("verdict-1-1-plain", "7", "sum 7\n"),
     ("verdict-4-8-ids", "7", "sum 28\n"),
@@ -164,6 +170,10 @@ const SUMS: [(&str, &str, &str); 17] = [
     ("share-100", "2", "sum 200\n"),
     // No message is due to the one client with entries.
     ("poll-100", "3", "sum 0\n"),
+    // Each change and each move is done at once.
+    ("alter-100", "3", "sum 3\n"),
+    ("rename-100", "3", "sum 3\n"),
+    ("carry-100", "3", "sum 3\n"),
 ];
 
 // Runs the program on a piece of work twice.
