@@ -16,7 +16,7 @@ returns-in-Some-clause-answered c = λ e asked.
     let known : IsSound s × IsTable s.scene.table = subst (λ (w : State). IsSound w × IsTable w.scene.table) c.self.view_is (c.self.invariant.0, c.oldest-oldest.ensures.sound) in
     let k = holder c.args.client c.args.ino in
     let stops : List ℕ → Option Stopped = λ name.
-        stop s.scene (asking_tests s.scene k.client k.ino.0 (Rename c.args.dir name)) (ask_needs s.scene k.client k.ino.0 (Rename c.args.dir name)) (waiting_tests s.scene k.ino.0 (Rename c.args.dir name)) in
+    stop s.scene (asking_tests s.scene k.client k.ino.0 (Rename c.args.dir name)) (ask_needs s.scene k.client k.ino.0 (Rename c.args.dir name)) (waiting_tests s.scene k.ino.0 (Rename c.args.dir name)) in
     stopped-answered s e c.in-Some.stopped c.alone.result known.0 known.1
     (asking-stop e k (Rename c.args.dir c.args.name.now) s.scene asked ∙ ap stops (sym c.as_slice.ensures) ∙ sym {b = stops c.as_slice.result.now} c.rename_stop.ensures ∙ c.in-Some.is)
     (c.alone.ensures.reply ∙ c.into.ensures) (c.alone.ensures.kept ∙ sym c.alone.ensures.reply) c.alone.ensures.ended
