@@ -7,9 +7,8 @@ use Rattle.inotree.specs.Alike.{IsAlike}
 use Rattle.captable.specs.declared.entry.EntryRow.{EntryRow}
 use Rattle.captable.specs.Calls.{entries_on}
 use Rattle.captable.specs.Table.{Table}
-use Rattle.lockmachine.specs.declared.request.Request.{Request}
 use Rattle.lockmachine.specs.Elsewhere.{IsSameBut}
-use Rattle.lockmachine.specs.Locks.{LockMap, lock_at, without_request}
+use Rattle.lockmachine.specs.Locks.{lock_at}
 use Rattle.lockmachine.specs.Requests.{first_for}
 use Rattle.lockmachine.specs.Scene.{Scene}
 use Rattle.lockmachine.proofs.PolicyElsewhere.{alike-itself}

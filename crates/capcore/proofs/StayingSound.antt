@@ -31,7 +31,7 @@ use Rattle.lockmachine.specs.Policy.{subject, permitted, is_open_session}
 use Rattle.lockmachine.specs.Requests.{first_for}
 use Rattle.lockmachine.specs.Scene.{Scene}
 use Rattle.lockmachine.specs.Moves.{first_move, IsQuiet, IsAtRest, WaitAtLocks}
-use Rattle.lockmachine.specs.Rows.{IsInRowOf, IsInRow}
+use Rattle.lockmachine.specs.Rows.{IsInRow}
 use Rattle.lockmachine.specs.Wants.{effective_want}
 use Rattle.lockmachine.proofs.Rest.{at_rest}
 use Rattle.capcore.specs.declared.outcome.Ended.{Ended}
