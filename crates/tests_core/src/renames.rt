@@ -291,8 +291,9 @@ const AS_DEEP_AS_MAY_BE: &[Said] = &[
 fn a_chain(alloc: Global) -> Result<Talk, AllocError> {
     let mut talk = Talk::new(alloc);
     talk.follows(NEITHER_LOOPS_NOR_IS_TAKEN)?;
-    for ino in 4..=33 {
-        let dir = ino - 1;
+    for turn in 0..30_u32 {
+        let dir = 3 + u64::from(turn);
+        let ino = dir + 1;
         let line = format!(in alloc; "mkdir 1 {dir} d 0755")?;
         let answer = format!(in alloc; "ino {ino}")?;
         talk.says(line.as_str(), answer.as_str())?;
