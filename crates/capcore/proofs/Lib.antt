@@ -50,3 +50,4 @@ pub mod Closing
 pub mod Waits
 pub mod Sweeping
 pub mod SoFar
+pub mod Served

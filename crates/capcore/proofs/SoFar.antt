@@ -26,7 +26,6 @@ use Rattle.lockmachine.specs.Moves.{may_end, may_begin, may_begin_in, first_move
 use Rattle.lockmachine.specs.Turns.{IsTurnOf, NothingEnds, WaitHere}
 use Rattle.lockmachine.proofs.Exact.{begins_not}
 use Rattle.lockmachine.proofs.PolicyElsewhere.{alike-itself}
-use Rattle.lockmachine.proofs.Queue.{taken_alone}
 use Rattle.lockmachine.proofs.SameBut.{begin-alike, first-moved}
 use Rattle.lockmachine.proofs.Turns.{quiet-turn, quiet-waits, served-ends, served-here, ends-turn, waits-less}
 use Rattle.capcore.specs.declared.outcome.Ended.{Ended}
@@ -38,6 +37,7 @@ use Rattle.capcore.specs.Sweep.{AreStill, IsSwept, IsTurnOfLeast, IsLeastOf, Kee
 use Rattle.capcore.specs.Touching.{IsSameOff}
 use Rattle.capcore.proofs.Moved.{makes-append, among-filter}
 use Rattle.capcore.proofs.OneChange.{alike-apart, place-after}
+use Rattle.capcore.proofs.Served.{one-less}
 use Rattle.capcore.proofs.SameOff.{off-refl, off-trans, off-wider}
 use Rattle.capcore.proofs.Sweeping.{locks_by_parts, still-kept}
 
@@ -195,13 +195,6 @@ module _ (ino : ℕ) (touched : StateMap) (first now : Scene) (told : List Ended
     makes : Makes now (Served q ended.outcome) new
     makes = (move ∙ ap Serve (sym numbered), subst (λ (t : Ticket). request_at now.locks t.0 ≡ Some q) (sym numbered) serves.waits, serves.may, is_after)
 
-    one_less : length (without_request now.locks q.ticket.0).queue + 1 ≡ length now.locks.queue
-    one_less =
-        let takes = taken_alone now.locks q order inside in
-        let was : length now.locks.queue ≡ length takes.earlier + length (q ∷ takes.later) = ap length takes.queue_was ∙ length-append takes.earlier (q ∷ takes.later) in
-        let is : length (without_request now.locks q.ticket.0).queue ≡ length takes.earlier + length takes.later = ap length takes.queue_is ∙ length-append takes.earlier takes.later in
-        omega (arith, was, is)
-
     -- ---- which inodes it touches
 
     abbrev more : Keeps q.ino.0 now.locks.states touched kept
@@ -332,7 +325,7 @@ module _ (ino : ℕ) (touched : StateMap) (first now : Scene) (told : List Ended
       count = (
           let queue : length new.locks.queue ≡ length (without_request now.locks q.ticket.0).queue = ap (λ (s : Scene). length s.locks.queue) is_after in
           let more : length (told ++ ended ∷ []) ≡ length told + 1 = length-append told (ended ∷ []) in
-          let less = one_less in
+          let less = one-less now.locks q order inside in
           let was = so.count in
           omega (arith, queue, more, less, was)
           );

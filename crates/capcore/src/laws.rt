@@ -1,6 +1,6 @@
 //! Laws of the core. No program needs to call them.
 
-ghost use Rattle.std.specs.Prelude.{◌≡◌, ℕ, ◌+◌, List, [], Some, None};
+ghost use Rattle.std.specs.Prelude.{◌≡◌, ℕ, ◌+◌, List, [], Some, None, length};
 ghost use Rattle.capbits.specs.declared.cap.Part.{Part};
 ghost use Rattle.inotree.specs.Tree.{Nodes, IsTree};
 ghost use Rattle.capbits.specs.declared.caller.Caller.{Caller};
@@ -16,7 +16,7 @@ ghost use Rattle.sessiontab.specs.Tests.{new_session_tests};
 ghost use Rattle.lockmachine.specs.Inodes.{StateMap};
 ghost use Rattle.captable.specs.declared.entry.EntryRow.{EntryRow};
 ghost use Rattle.captable.specs.Table.{IsTable};
-ghost use Rattle.lockmachine.specs.Locks.{lock_at, with_ino};
+ghost use Rattle.lockmachine.specs.Locks.{IsLockMap, lock_at, with_ino};
 ghost use Rattle.lockmachine.specs.Scene.{Scene, told_set};
 ghost use Rattle.capcore.specs.declared.event.Event.{Event};
 ghost use Rattle.capcore.specs.declared.outcome.Ended.{Ended};
@@ -28,7 +28,7 @@ ghost use Rattle.capcore.specs.Leaving.{with_parts, LeavesEntries};
 ghost use Rattle.capcore.specs.Judge.{judged, stop_reply};
 ghost use Rattle.capcore.specs.Step.{Step};
 ghost use Rattle.capcore.specs.History.{HasNoStray, IsOpening};
-ghost use Rattle.capcore.specs.Settle.{Made, MakesAll, Settles};
+ghost use Rattle.capcore.specs.Settle.{Made, MakesAll, Settles, ended_in};
 ghost use Rattle.capcore.specs.Finish.{finished};
 ghost use Rattle.capcore.specs.Headline.{EachServing, ServedDenied, ServedByName, NoneConflict};
 ghost use Rattle.capcore.specs.Sound.{IsSound};
@@ -107,4 +107,11 @@ pub fn numbers_begin_at_the_event()
     ensures { (old first : Scene) (row : EntryRow)
         → ((part : Part) → lock_at old.locks row.holder.ino.0 part ≡ lock_at first.locks row.holder.ino.0 part)
         → told_set old row ≡ told_set first row }
+{}
+
+/// A settling ends as many requests as there are fewer that wait, so that it serves at most as many as waited; and between two
+/// servings each lock begins at most one gather and ends at most two (`lockmachine`).
+pub fn a_settling_serves_at_most_who_waits()
+    ensures { (first settled : Scene) (moves : List Made) → IsLockMap first.locks → MakesAll first moves settled
+        → length (ended_in moves) + length settled.locks.queue ≡ length first.locks.queue }
 {}

@@ -39,9 +39,10 @@ pub use event::{Event, OpenMode};
 pub use giving::telling_leaves_all_but_what_was_told;
 pub use history::{EndedList, Row, Stop};
 pub use laws::{
-    a_sound_state_has_nothing_left_to_do, a_stop_changes_nothing, an_opening_is_sound,
-    numbers_begin_at_the_event, sessions_inodes_and_snapshots_leave_entries_alone,
-    the_held_are_apart, the_served_are_denied_by_name, the_served_are_denied_exactly,
+    a_settling_serves_at_most_who_waits, a_sound_state_has_nothing_left_to_do,
+    a_stop_changes_nothing, an_opening_is_sound, numbers_begin_at_the_event,
+    sessions_inodes_and_snapshots_leave_entries_alone, the_held_are_apart,
+    the_served_are_denied_by_name, the_served_are_denied_exactly,
     what_leaves_entries_alone_leaves_nothing_to_do,
 };
 pub use outcome::{Ended, Message, MessageList, Outcome, PartValues};

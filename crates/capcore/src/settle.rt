@@ -87,7 +87,16 @@ fn settle(
     'servings: while let Some(ticket) = sweep(fs, tree, sessions, table, locks, ino, &touched) {
         // A look at the locks and at the tree, by which the proof knows what they keep.
         let (_lock, _last) = (locks.state(ino, Part::A), tree.last());
-        serve_next(fs, tree, sessions, table, locks, ticket, &mut touched, endings);
+        serve_next(
+            fs,
+            tree,
+            sessions,
+            table,
+            locks,
+            ticket,
+            &mut touched,
+            endings,
+        );
     }
     touched
 }
@@ -175,7 +184,14 @@ fn serve_next(
         unreachable!()
     };
     let reached = reach(endings.alloc(), tree, table, locks, &request, touched);
-    let served = serve(endings.alloc(), fs, tree, sessions, &request, reached.is_ok());
+    let served = serve(
+        endings.alloc(),
+        fs,
+        tree,
+        sessions,
+        &request,
+        reached.is_ok(),
+    );
     let (client, ticket) = (request.client, request.ticket);
     // The request goes before its end is told, so that the proof has to follow it but once.
     drop(request);

@@ -121,7 +121,10 @@ impl States {
     pub fn after(&self, ino: Ino) -> Option<Ino>
         ensures { IsNext self.now (ino.0 + 1) result }
     {
-        let (number, _) = self.locks.range((Bound::Excluded(ino.0), Bound::Unbounded)).next()?;
+        let (number, _) = self
+            .locks
+            .range((Bound::Excluded(ino.0), Bound::Unbounded))
+            .next()?;
         Some(Ino(*number))
     }
 
