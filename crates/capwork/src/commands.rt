@@ -40,12 +40,20 @@ pub fn dispatch(
     }
 }
 
-// Does the work and writes the sum over its answers, as a line, and one more where something was asked for again.
+// Does the work and writes the sum over its answers, as a line, and one more where something was asked for again, or was served
+// without memory.
 fn run(alloc: Global, task: Task, writer: &mut impl Write) -> Result<(), Fault> {
-    let Tally { sum, stops } = tally_of(alloc, task)?;
+    let Tally {
+        sum,
+        stops,
+        starved,
+    } = tally_of(alloc, task)?;
     writeln!(writer, "sum {sum}").map_err(|_| Fault::WriteFailed)?;
     if stops > 0 {
         writeln!(writer, "stops {stops}").map_err(|_| Fault::WriteFailed)?;
+    }
+    if starved > 0 {
+        writeln!(writer, "starved {starved}").map_err(|_| Fault::WriteFailed)?;
     }
     Ok(())
 }

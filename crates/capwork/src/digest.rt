@@ -1,8 +1,7 @@
-//! A number for all that a core keeps, made without memory.
+//! A number for all that a value keeps, made without memory.
 
-use capcore::Core;
 use std::fmt;
-use std::fmt::Write;
+use std::fmt::{Debug, Write};
 use std::hash::{DefaultHasher, Hasher};
 
 // Takes text, and keeps a hash of it.
@@ -18,12 +17,13 @@ impl Write for Digest {
     }
 }
 
-/// A hash of all that the core keeps, its history included, as its `Debug` tells it in lines: in one line a slab tells its
-/// room, and not what it keeps. It takes no memory: where an event found none, the core can still be compared with what it was.
-pub(crate) fn digest_of(core: &Core) -> u64 {
+/// A hash of all that a value keeps, as its `Debug` tells it in lines: in one line a slab tells its room, and not what it
+/// keeps. Of a core its history is included. It takes no memory: where an event found none, the core can still be compared with
+/// what it was.
+pub(crate) fn digest_of<T: Debug>(value: &T) -> u64 {
     let mut digest = Digest {
         hasher: DefaultHasher::new(),
     };
-    let _ = write!(digest, "{core:#?}");
+    let _ = write!(digest, "{value:#?}");
     digest.hasher.finish()
 }

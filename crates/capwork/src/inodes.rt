@@ -103,6 +103,16 @@ pub(crate) fn creation_of(alloc: Global, dir: Ino, place: u64) -> Result<Event, 
     })
 }
 
+// The event that makes a directory, whose name has this number.
+pub(crate) fn directory_of_number(alloc: Global, dir: Ino, place: u64) -> Result<Event, Fault> {
+    Ok(Event::Mkdir {
+        client: CLIENT,
+        dir,
+        name: name_of(alloc, place)?,
+        mode: mode()?,
+    })
+}
+
 // Whether so many files fit into a tree beside its root and its first inodes.
 fn is_room(size: u64, times: u32) -> bool
     requires { size ≤ 60000 }
@@ -152,7 +162,12 @@ fn name_of(alloc: Global, place: u64) -> Result<Bytes, Fault> {
 }
 
 pub(crate) fn mode() -> Result<Mode, Fault> {
-    Mode::new(MODE).ok_or(Fault::Refused)
+    mode_of(MODE)
+}
+
+// The mode with these bits.
+pub(crate) fn mode_of(bits: u16) -> Result<Mode, Fault> {
+    Mode::new(bits).ok_or(Fault::Refused)
 }
 
 // The number of the inode that the core answers with.
@@ -171,6 +186,17 @@ pub(crate) fn open_session(alloc: Global, core: &mut Core, client: ClientId) -> 
 
 // The event by which a client gets a session in which it may do all.
 pub(crate) fn session_of(alloc: Global, client: ClientId) -> Result<Event, Fault> {
+    session_by(alloc, client, b"allow rw")
+}
+
+// The event by which a client gets a session in which it may do all below the directory in the root whose name has this number.
+pub(crate) fn session_below(alloc: Global, client: ClientId, place: u64) -> Result<Event, Fault> {
+    let grants = format!(in alloc; "allow rw path=/n{place}")?;
+    session_by(alloc, client, grants.as_bytes())
+}
+
+// The event by which a client gets a session with these grants.
+fn session_by(alloc: Global, client: ClientId, grants: &[u8]) -> Result<Event, Fault> {
     Ok(Event::Session {
         client,
         caller: Caller {
@@ -178,7 +204,7 @@ pub(crate) fn session_of(alloc: Global, client: ClientId) -> Result<Event, Fault
             gid: USER,
             groups: Groups::new(),
         },
-        grants: read_grants(alloc, b"allow rw")?,
+        grants: read_grants(alloc, grants)?,
     })
 }
 

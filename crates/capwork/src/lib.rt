@@ -3,6 +3,7 @@
 //! They stand in a library, as nothing can stand on a program, and the checks of a program load all that it links.
 #![tactic(auto)]
 
+mod asked;
 mod command_line;
 mod commands;
 mod core_work;

@@ -3,7 +3,7 @@
 
 use crate::entries::{HOLDER, done, hold, opening, shown};
 use crate::fault::Fault;
-use crate::inodes::{CLIENT, answer, creation_of, inode_at, mode, open_session, spread};
+use crate::inodes::{CLIENT, answer, creation_of, inode_at, mode, mode_of, open_session, spread};
 use crate::work::Size;
 use capbits::{Ino, Mode};
 use capcore::{Core, Event, OpenMode};
@@ -119,7 +119,7 @@ fn mode_change(ino: Ino, mode: Mode) -> Event {
 // One of two modes in turn.
 fn mode_at(turn: u32) -> Result<Mode, Fault> {
     if turn % 2 == 0 {
-        Mode::new(OTHER_MODE).ok_or(Fault::Refused)
+        mode_of(OTHER_MODE)
     } else {
         mode()
     }

@@ -1,61 +1,35 @@
-//! The work that asks again: two clients share files, and an event that finds no memory is asked for once more.
+//! The work that asks again: clients share files, and an event that finds no memory is asked for once more; and so is a request
+//! that found none when it was served.
 
+use crate::asked::{Answer, Asked, Places, event, read_reply};
 use crate::digest::digest_of;
 use crate::fault::Fault;
-use crate::inodes::{CLIENT, PASS, creation_of, session_of};
+use crate::inodes::{CLIENT, PASS};
 use crate::tally::Tally;
-use capbits::{Cap, CapSet, ClientId, Ino};
-use capcore::{Core, Event, Message, OpenMode, Reply, Stop};
+use capbits::{Cap, ClientId, Ino, Part};
+use capcore::{Core, OpenMode, Reply, Stop};
 use inotree::ROOT;
 use std::alloc::Global;
 
 /// Who shares the files that the first client makes.
 const OTHER: ClientId = ClientId(2);
 
-/// How many messages a client takes at most.
-const MESSAGES: u32 = 9;
+/// Who may do all below one directory alone.
+const TENANT: ClientId = ClientId(3);
 
-// What a client asks for, of one file.
-#[derive(Clone, Copy, Debug)]
-enum Asked {
-    // A session.
-    Session(ClientId),
-    // To make the file, whose name has this number.
-    Make(u32),
-    // To open it.
-    Open(ClientId, OpenMode),
-    // What it wants of it.
-    Want(ClientId, &'static [Cap]),
-    // To give these back.
-    Release(ClientId, &'static [Cap]),
-    // To give back what was revoked up to this change.
-    Ack(ClientId, u64),
-    // Its messages.
-    Poll(ClientId),
-}
+/// The numbers in the names of that directory and of another, and in that of the file that requests wait for.
+const TENANT_NUMBER: u64 = 1_000_000;
+const OTHER_NUMBER: u64 = 2_000_000;
 
-// What is answered, as far as it counts here.
-#[derive(Clone, Copy, Debug, PartialEq, Eq)]
-enum Answer {
-    // It is done.
-    Done,
-    // It is refused.
-    Refused,
-    // The inode that was made.
-    Inode(u64),
-    // The number of the change that is shown.
-    Change(u64),
-    // There is no message.
-    NoMessage,
-    // There is one message, of the change with this number.
-    Message(u64),
-    // Anything else.
-    Other,
-}
+const WAITING_NUMBER: u64 = 3_000_000;
 
 const SESSIONS: &[(Asked, Answer)] = &[
     (Asked::Session(CLIENT), Answer::Done),
     (Asked::Session(OTHER), Answer::Done),
+    (
+        Asked::SessionBelow(TENANT, TENANT_NUMBER),
+        Answer::Done,
+    ),
 ];
 
 // The first client has the file for itself and gives way to the other, then both read it, and then the first is alone.
@@ -75,30 +49,83 @@ const ROUND: &[(Asked, Answer)] = &[
     (Asked::Poll(CLIENT), Answer::Message(4)),
 ];
 
-/// Has two clients share so many files, one after another. The sum is a hash of all that the core keeps in the end.
+// A change waits until two clients have given up what they cache of it, and the file is moved away before, so that who asked
+// may not make it any more. Then attributes come, go and are read, and one more waits for the other client.
+const WAITING: &[(Asked, Answer)] = &[
+    (Asked::Open(CLIENT, OpenMode::Read), Answer::Change(1)),
+    (Asked::Want(CLIENT, &[Cap::As]), Answer::Change(2)),
+    (Asked::Open(OTHER, OpenMode::Read), Answer::Change(1)),
+    (Asked::Want(OTHER, &[Cap::As]), Answer::Change(2)),
+    (Asked::Mode(TENANT, 0o600), Answer::Waits),
+    (Asked::Poll(CLIENT), Answer::Message(3)),
+    (Asked::Poll(OTHER), Answer::Message(3)),
+    (Asked::Move(CLIENT), Answer::Done),
+    (Asked::Ack(CLIENT, 3), Answer::Done),
+    (Asked::Ack(OTHER, 3), Answer::Done),
+    (Asked::Poll(TENANT), Answer::EndedDenied),
+    (Asked::Poll(CLIENT), Answer::Message(4)),
+    (Asked::Poll(OTHER), Answer::Message(4)),
+    (Asked::Attribute(CLIENT, "ceph.quota"), Answer::Denied),
+    (Asked::Attribute(CLIENT, "user.a"), Answer::Done),
+    (Asked::Read(CLIENT, Part::X), Answer::Values),
+    (Asked::NoAttribute(CLIENT, "user.b"), Answer::Refused),
+    (Asked::Read(CLIENT, Part::F), Answer::Values),
+    (Asked::Read(CLIENT, Part::L), Answer::Values),
+    (Asked::Want(OTHER, &[Cap::Xs]), Answer::Change(5)),
+    (Asked::Attribute(CLIENT, "user.c"), Answer::Waits),
+    (Asked::Poll(OTHER), Answer::Message(6)),
+    (Asked::Ack(OTHER, 6), Answer::Done),
+    (Asked::Poll(CLIENT), Answer::EndedDone),
+    (Asked::Poll(OTHER), Answer::Message(7)),
+];
+
+/// Has two clients share so many files, one after another, and then wait for one more. The sum is a hash of all that the core
+/// keeps in the end.
 pub(crate) fn retry(alloc: Global, core: &mut Core, times: u32) -> Result<Tally, Fault> {
-    let mut stops = 0;
-    play(alloc, core, ROOT, SESSIONS, &mut stops)?;
+    let mut tally = Tally::of(0);
+    let at_root = Places {
+        file: ROOT,
+        here: ROOT,
+        there: ROOT,
+    };
+    play(alloc, core, at_root, SESSIONS, &mut tally)?;
     for round in 0..times {
-        let file = made(alloc, core, round, &mut stops)?;
-        play(alloc, core, file, ROUND, &mut stops)?;
+        let file = made(alloc, core, at_root, Asked::Make(u64::from(round)), &mut tally)?;
+        play(alloc, core, Places { file, ..at_root }, ROUND, &mut tally)?;
     }
-    Ok(Tally {
-        sum: digest_of(core),
-        stops,
-    })
+    wait(alloc, core, at_root, &mut tally)?;
+    tally.sum = digest_of(core);
+    Ok(tally)
+}
+
+// Has the clients wait for a file, in a directory that it is moved out of.
+fn wait(
+    alloc: Global,
+    core: &mut Core,
+    at_root: Places,
+    tally: &mut Tally,
+) -> Result<(), Fault> {
+    let here = made(alloc, core, at_root, Asked::Directory(TENANT_NUMBER), tally)?;
+    let there = made(alloc, core, at_root, Asked::Directory(OTHER_NUMBER), tally)?;
+    let places = Places {
+        file: ROOT,
+        here,
+        there,
+    };
+    let file = made(alloc, core, places, Asked::Make(WAITING_NUMBER), tally)?;
+    play(alloc, core, Places { file, ..places }, WAITING, tally)
 }
 
 // Asks for all that the script asks for, of one file.
 fn play(
     alloc: Global,
     core: &mut Core,
-    file: Ino,
+    places: Places,
     script: &[(Asked, Answer)],
-    stops: &mut u64,
+    tally: &mut Tally,
 ) -> Result<(), Fault> {
     for (asked, wanted) in script {
-        let answer = answer_to(alloc, core, file, asked, stops)?;
+        let answer = answer_to(alloc, core, places, *asked, tally)?;
         if answer != *wanted {
             return Err(Fault::Refused);
         }
@@ -106,82 +133,67 @@ fn play(
     Ok(())
 }
 
-// The file that is made for a round.
-fn made(alloc: Global, core: &mut Core, round: u32, stops: &mut u64) -> Result<Ino, Fault> {
-    match answer_to(alloc, core, ROOT, &Asked::Make(round), stops)? {
+// The inode that is made.
+fn made(
+    alloc: Global,
+    core: &mut Core,
+    places: Places,
+    asked: Asked,
+    tally: &mut Tally,
+) -> Result<Ino, Fault> {
+    match answer_to(alloc, core, places, asked, tally)? {
         Answer::Inode(number) => Ok(Ino(number)),
         _ => Err(Fault::Refused),
     }
 }
 
-// Asks the core, and once more where it finds no memory. It must not have changed then; stops are counted.
+// What is answered to it, and once more where it was served and found no memory. The tree must not have changed then. A
+// request of an earlier step that ended so is counted, and is told as done.
 fn answer_to(
     alloc: Global,
     core: &mut Core,
-    file: Ino,
-    asked: &Asked,
-    stops: &mut u64,
+    places: Places,
+    asked: Asked,
+    tally: &mut Tally,
+) -> Result<Answer, Fault> {
+    let before = digest_of(core.tree());
+    match answer_once(alloc, core, places, asked, tally)? {
+        Answer::NoMemory => (),
+        Answer::EndedNoMemory => {
+            tally.starved = tally.starved.wrapping_add(1);
+            return Ok(Answer::EndedDone);
+        }
+        answer => return Ok(answer),
+    }
+    if digest_of(core.tree()) != before {
+        return Err(Fault::Changed);
+    }
+    tally.starved = tally.starved.wrapping_add(1);
+    answer_once(alloc, core, places, asked, tally)
+}
+
+// Asks the core, and once more where the event finds no memory. The core must not have changed then.
+fn answer_once(
+    alloc: Global,
+    core: &mut Core,
+    places: Places,
+    asked: Asked,
+    tally: &mut Tally,
 ) -> Result<Answer, Fault> {
     let before = digest_of(core);
-    match core.apply(PASS, event(alloc, file, asked)?) {
-        Ok(reply) => return Ok(read_reply(&reply)),
+    match core.apply(PASS, event(alloc, places, asked)?) {
+        Ok(reply) => return Ok(answer_of(reply)),
         Err(Stop::NoMemory) => (),
         Err(stop) => return Err(Fault::Stopped(stop)),
     }
     if digest_of(core) != before {
         return Err(Fault::Changed);
     }
-    *stops = stops.wrapping_add(1);
-    let reply = core.apply(PASS, event(alloc, file, asked)?)?;
-    Ok(read_reply(&reply))
+    tally.stops = tally.stops.wrapping_add(1);
+    let reply = core.apply(PASS, event(alloc, places, asked)?)?;
+    Ok(answer_of(reply))
 }
 
-fn event(alloc: Global, ino: Ino, asked: &Asked) -> Result<Event, Fault> {
-    Ok(match asked {
-        Asked::Session(client) => session_of(alloc, *client)?,
-        Asked::Make(round) => creation_of(alloc, ino, u64::from(*round))?,
-        Asked::Open(client, mode) => Event::Open {
-            client: *client,
-            ino,
-            mode: *mode,
-        },
-        Asked::Want(client, caps) => Event::Want {
-            client: *client,
-            ino,
-            caps: CapSet::of(caps),
-        },
-        Asked::Release(client, caps) => Event::Release {
-            client: *client,
-            ino,
-            caps: CapSet::of(caps),
-        },
-        Asked::Ack(client, seq) => Event::Ack {
-            client: *client,
-            ino,
-            seq: *seq,
-        },
-        Asked::Poll(client) => Event::Poll {
-            client: *client,
-            max: MESSAGES,
-        },
-    })
-}
-
-fn read_reply(reply: &Reply) -> Answer {
-    match reply {
-        Reply::Done => Answer::Done,
-        Reply::Refused(_) => Answer::Refused,
-        Reply::Ino(ino) => Answer::Inode(ino.0),
-        Reply::Opened { seq, .. } => Answer::Change(*seq),
-        Reply::Messages(list) => read_messages(list.as_slice()),
-        _ => Answer::Other,
-    }
-}
-
-fn read_messages(messages: &[Message]) -> Answer {
-    match messages {
-        [] => Answer::NoMessage,
-        [Message::Caps { seq, .. }] => Answer::Message(*seq),
-        _ => Answer::Other,
-    }
+fn answer_of(reply: Reply) -> Answer {
+    read_reply(&reply)
 }

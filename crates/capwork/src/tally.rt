@@ -7,11 +7,17 @@ pub(crate) struct Tally {
     pub(crate) sum: u64,
     // How many events found no memory and were asked for again.
     pub(crate) stops: u64,
+    // How many requests found none when they were served.
+    pub(crate) starved: u64,
 }
 
 impl Tally {
     // The tally of work in which nothing is asked for again.
     pub(crate) fn of(sum: u64) -> Tally {
-        Tally { sum, stops: 0 }
+        Tally {
+            sum,
+            stops: 0,
+            starved: 0,
+        }
     }
 }

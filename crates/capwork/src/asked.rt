@@ -1,0 +1,195 @@
+//! What the clients ask for in the work that asks again, and what is answered as far as it counts there.
+
+use crate::fault::Fault;
+use crate::inodes::{creation_of, directory_of_number, mode_of, session_below, session_of};
+use capbits::{Cap, CapSet, ClientId, Ino, Part};
+use capcore::{Event, Message, OpenMode, Outcome, Reply};
+use inotree::{ROOT, Setting};
+use lockmachine::{Bytes, Change};
+use std::alloc::Global;
+
+/// How many messages a client takes at most.
+const MESSAGES: u32 = 9;
+
+/// What a client asks for, of one file.
+#[derive(Clone, Copy)]
+pub(crate) enum Asked {
+    /// A session, in which it may do all.
+    Session(ClientId),
+    /// A session, in which it may do all below the directory in the root whose name has this number.
+    SessionBelow(ClientId, u64),
+    /// To make a directory in the root, whose name has this number.
+    Directory(u64),
+    /// To make the file, whose name has this number.
+    Make(u64),
+    /// To open it.
+    Open(ClientId, OpenMode),
+    /// What it wants of it.
+    Want(ClientId, &'static [Cap]),
+    /// To give these back.
+    Release(ClientId, &'static [Cap]),
+    /// To give back what was revoked up to this change.
+    Ack(ClientId, u64),
+    /// To change its mode.
+    Mode(ClientId, u16),
+    /// To give it an attribute of this name.
+    Attribute(ClientId, &'static str),
+    /// To take the attribute of this name from it.
+    NoAttribute(ClientId, &'static str),
+    /// What it keeps of a part.
+    Read(ClientId, Part),
+    /// To move it into the other directory.
+    Move(ClientId),
+    /// Its messages.
+    Poll(ClientId),
+}
+
+/// The file that is asked about, the directory that it is made in, and one that it can be moved into.
+#[derive(Clone, Copy)]
+pub(crate) struct Places {
+    pub(crate) file: Ino,
+    pub(crate) here: Ino,
+    pub(crate) there: Ino,
+}
+
+/// What is answered, as far as it counts here.
+#[derive(Clone, Copy, Debug, PartialEq, Eq)]
+pub(crate) enum Answer {
+    /// It is done.
+    Done,
+    /// It is refused.
+    Refused,
+    /// It is denied.
+    Denied,
+    /// It waits.
+    Waits,
+    /// It found no memory when it was served.
+    NoMemory,
+    /// What the file keeps of the part.
+    Values,
+    /// The inode that was made.
+    Inode(u64),
+    /// The number of the change that is shown.
+    Change(u64),
+    /// There is no message.
+    NoMessage,
+    /// There is one message, of the change with this number.
+    Message(u64),
+    /// There is one message, that a request was done.
+    EndedDone,
+    /// There is one message, that a request was denied.
+    EndedDenied,
+    /// There is one message, that a request found no memory when it was served.
+    EndedNoMemory,
+    /// Anything else.
+    Other,
+}
+
+/// The event by which it is asked for.
+pub(crate) fn event(alloc: Global, places: Places, asked: Asked) -> Result<Event, Fault> {
+    let ino = places.file;
+    Ok(match asked {
+        Asked::Session(client) => session_of(alloc, client)?,
+        Asked::SessionBelow(client, number) => session_below(alloc, client, number)?,
+        Asked::Directory(number) => directory_of_number(alloc, ROOT, number)?,
+        Asked::Make(number) => creation_of(alloc, places.here, number)?,
+        Asked::Open(client, mode) => Event::Open { client, ino, mode },
+        Asked::Want(client, caps) => wanting(client, ino, caps),
+        Asked::Release(client, caps) => releasing(client, ino, caps),
+        Asked::Ack(client, seq) => Event::Ack { client, ino, seq },
+        Asked::Mode(client, bits) => altering(client, ino, set_mode(bits)?),
+        Asked::Attribute(client, name) => altering(client, ino, set_attribute(alloc, name)?),
+        Asked::NoAttribute(client, name) => altering(client, ino, remove_attribute(alloc, name)?),
+        Asked::Read(client, part) => Event::Get { client, ino, part },
+        Asked::Move(client) => moving(alloc, client, ino, places.there)?,
+        Asked::Poll(client) => polling(client),
+    })
+}
+
+fn wanting(client: ClientId, ino: Ino, caps: &[Cap]) -> Event {
+    let caps = CapSet::of(caps);
+    Event::Want { client, ino, caps }
+}
+
+fn releasing(client: ClientId, ino: Ino, caps: &[Cap]) -> Event {
+    let caps = CapSet::of(caps);
+    Event::Release { client, ino, caps }
+}
+
+fn altering(client: ClientId, ino: Ino, change: Change) -> Event {
+    Event::Alter {
+        client,
+        ino,
+        change,
+    }
+}
+
+fn set_mode(bits: u16) -> Result<Change, Fault> {
+    Ok(Change::Set(Setting::Mode(mode_of(bits)?)))
+}
+
+// The attribute's value is its name.
+fn set_attribute(alloc: Global, name: &str) -> Result<Change, Fault> {
+    let value = Bytes::read(alloc, name.as_bytes())?;
+    match Bytes::read(alloc, name.as_bytes()) {
+        Ok(name) => Ok(Change::SetXattr { name, value }),
+        Err(refused) => {
+            drop(value);
+            Err(refused.into())
+        }
+    }
+}
+
+fn remove_attribute(alloc: Global, name: &str) -> Result<Change, Fault> {
+    let name = Bytes::read(alloc, name.as_bytes())?;
+    Ok(Change::RemoveXattr { name })
+}
+
+fn moving(alloc: Global, client: ClientId, ino: Ino, dir: Ino) -> Result<Event, Fault> {
+    Ok(Event::Rename {
+        client,
+        ino,
+        dir,
+        name: Bytes::read(alloc, b"moved")?,
+    })
+}
+
+fn polling(client: ClientId) -> Event {
+    Event::Poll {
+        client,
+        max: MESSAGES,
+    }
+}
+
+/// What the reply says.
+pub(crate) fn read_reply(reply: &Reply) -> Answer {
+    match reply {
+        Reply::Done => Answer::Done,
+        Reply::Refused(_) => Answer::Refused,
+        Reply::Denied { .. } => Answer::Denied,
+        Reply::Waiting(_) => Answer::Waits,
+        Reply::OutOfMemory => Answer::NoMemory,
+        Reply::Values(_) => Answer::Values,
+        Reply::Ino(ino) => Answer::Inode(ino.0),
+        Reply::Opened { seq, .. } => Answer::Change(*seq),
+        Reply::Messages(list) => read_messages(list.as_slice()),
+    }
+}
+
+fn read_messages(messages: &[Message]) -> Answer {
+    match messages {
+        [] => Answer::NoMessage,
+        [Message::Caps { seq, .. }] => Answer::Message(*seq),
+        [Message::Ended { outcome, .. }] => read_outcome(outcome),
+        _ => Answer::Other,
+    }
+}
+
+fn read_outcome(outcome: &Outcome) -> Answer {
+    match outcome {
+        Outcome::Done => Answer::EndedDone,
+        Outcome::Denied { .. } => Answer::EndedDenied,
+        Outcome::OutOfMemory => Answer::EndedNoMemory,
+        Outcome::Values(_) | Outcome::Refused(_) | Outcome::Dropped => Answer::Other,
+    }
+}
