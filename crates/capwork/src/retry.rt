@@ -20,7 +20,6 @@ const TENANT: ClientId = ClientId(3);
 /// The numbers in the names of that directory and of another, and in that of the file that requests wait for.
 const TENANT_NUMBER: u64 = 1_000_000;
 const OTHER_NUMBER: u64 = 2_000_000;
-
 const WAITING_NUMBER: u64 = 3_000_000;
 
 const SESSIONS: &[(Asked, Answer)] = &[
