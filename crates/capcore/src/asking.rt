@@ -88,8 +88,8 @@ impl World {
         self.wait(client, ino, Ask::Rename { dir, name })
     }
 
-    // A step of a request that nothing stops: it waits, the locks of its inode settle, and the step ends there. The room for how
-    // it ends is made first, and can't be lost.
+    // A step of a request that nothing stops: it waits, the locks of what the step touches settle, and it ends there. The room for
+    // how it ends is made first, and can't be lost.
     fn wait(&mut self, client: ClientId, ino: Ino, ask: Ask) -> Result<Said, Stop>
         requires numbers { NumbersLeft self.old }
         requires passed { stop self.old.scene (asking_tests self.old.scene client ino.0 ask) (ask_needs self.old.scene client ino.0 ask)

@@ -165,7 +165,7 @@ impl World {
         Ok(Said::alone(self.alloc(), reply))
     }
 
-    // A step that is about one entry: what is asked of it is done, the locks of its inode settle, and the step ends there.
+    // A step that is about one entry: what is asked of it is done, the locks of what the step touches settle, and it ends there.
     fn touch(&mut self, client: ClientId, ino: Ino, touch: Touch) -> Result<Said, Stop>
         requires numbers { NumbersLeft self.old }
         ensures answered { IfOk result (λ said. IsAnswered self.old (touch_event client ino touch) said self.new) }
