@@ -1,6 +1,7 @@
 pub mod Again
 pub mod Apart
 pub mod AtEnd
+pub mod Bounded
 pub mod Concluded
 pub mod Counting
 pub mod Effects

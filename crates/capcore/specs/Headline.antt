@@ -1,6 +1,6 @@
 -- What the core promises of every step, in the words of its users.
-use Rattle.std.specs.Prelude.{◌≡◌, ◌==◌, ◌↔◌, Bool, true, false, ◌||◌, IsTrue, IsFalse}
-use Rattle.std.specs.Prelude.{List, ◌∷◌, ◌++◌, Option, Some, None}
+use Rattle.std.specs.Prelude.{◌≡◌, ◌==◌, ◌≤◌, ◌↔◌, Bool, true, false, ◌||◌, IsTrue, IsFalse}
+use Rattle.std.specs.Prelude.{List, [], ◌∷◌, ◌++◌, length, map, Option, Some, None}
 use Rattle.std.specs.List.{find}
 use Rattle.std.specs.Option.{option_map_or}
 use Rattle.capbits.specs.declared.cap.Cap.{Cap}
@@ -9,7 +9,7 @@ use Rattle.capbits.specs.Caps.{has}
 use Rattle.capbits.specs.Sets.{IsSubset, of_part, no_caps}
 use Rattle.capgrant.specs.declared.access.Access.{Access}
 use Rattle.capgrant.specs.declared.rule.Rule.{Rule}
-use Rattle.locktable.specs.declared.states.State.{State}
+use Rattle.locktable.specs.declared.states.State.{State as LockGoal}
 use Rattle.locktable.specs.declared.states.LockState.{LockState}
 use Rattle.locktable.specs.declared.states.LockState.TheVariants.{Stable, Gather}
 use Rattle.locktable.specs.Conflicts.{conflict}
@@ -22,10 +22,17 @@ use Rattle.lockmachine.specs.Policy.{failures}
 use Rattle.lockmachine.specs.declared.request.Request.{Request}
 use Rattle.lockmachine.specs.Scene.{Scene, against}
 use Rattle.lockmachine.specs.Moves.{is_open}
+use Rattle.lockmachine.specs.Runs.{AreFew}
+use Rattle.lockmachine.specs.declared.moves.Move.{Move}
+use Rattle.lockmachine.specs.declared.moves.Move.TheVariants.{Begin, End, Serve}
 use Rattle.capcore.specs.declared.outcome.Outcome.{Outcome}
 use Rattle.capcore.specs.declared.outcome.Outcome.TheVariants as outcome
 use Rattle.capcore.specs.Asks.{ask_before, ask_needs}
-use Rattle.capcore.specs.Settle.{Made, Served, MakesAll}
+use Rattle.capcore.specs.Settle.{Made, Began, Gathered, Served, MakesAll, ended_in}
+use Rattle.capcore.specs.State.{State}
+use Rattle.capcore.specs.Direct.{direct}
+use Rattle.capcore.specs.Step.{StepBy}
+use Rattle.capcore.specs.declared.outcome.Ended.{Ended}
 use Rattle.capcore.specs.declared.event.Event.{Event}
 use Rattle.capcore.specs.declared.reply.Reply.{Reply}
 use Rattle.capcore.specs.declared.reply.Reply.TheVariants as reply
@@ -90,6 +97,24 @@ EachServing Fact first moves =
     (before_it behind_it : List Made) (q : Request) (o : Outcome) (s : Scene) →
     moves ≡ before_it ++ Served q o ∷ behind_it → MakesAll first before_it s → Fact s q o
 
+-- ---- the moves of a step
+
+-- whatever moves make the step, this is so of them, from the scene that the event leads to by itself
+abbrev pub OfItsMoves : (Scene → List Made → Type 0) → State → Event → State → Type 0
+OfItsMoves Fact old e new =
+    (moves : List Made) (answer : Reply) (ended : List Ended) → StepBy old e moves answer ended new → Fact (direct old e).state.scene moves
+
+-- a move that was made, as a move of the locks
+abbrev pub move_of : Made → Move
+move_of (Began ino part to) = Begin ino part to
+move_of (Gathered ino part) = End ino part
+move_of (Served q o) = Serve q.ticket
+
+-- they serve at most as many requests as wait, and between two servings each lock begins at most one gather and ends at most two
+pub record AreBounded (first : Scene) (moves : List Made) : Type 0 where
+  pub served : length (ended_in moves) ≤ length first.locks.queue
+  pub between : (before_it some behind_it : List Made) → moves ≡ before_it ++ (some ++ behind_it) → ended_in some ≡ [] → AreFew (map move_of some)
+
 -- ---- caps
 
 -- the client holds the capability on the inode
@@ -105,12 +130,12 @@ abbrev pub IssuesExactly : Scene → Scene → Type 0
 IssuesExactly first last = (k : Holder) (cap : Cap) → holds last k cap ≡ (holds first k cap || is_due last k cap)
 
 -- what the entry holds of the part is in the row of this state
-abbrev pub IsInRow : EntryRow → Part → State → Type 0
+abbrev pub IsInRow : EntryRow → Part → LockGoal → Type 0
 IsInRow row part state = IsSubset (of_part part row.entry.held) (row_of part state row.holder.client)
 
 -- what it holds of the part outside the row of this state is being revoked, and keeps a gather to this state open: so it is
 -- by what revoking and an open gather are, of each entry of the table
-abbrev pub IsTakenBack : Scene → EntryRow → Part → State → Type 0
+abbrev pub IsTakenBack : Scene → EntryRow → Part → LockGoal → Type 0
 IsTakenBack s row part to =
     (cap : Cap) → IsTrue (has (of_part part row.entry.held) cap) → IsFalse (has (row_of part to row.holder.client) cap) →
     IsTrue (has (against s row) cap) × IsTrue (is_open s row.holder.ino.0 part to)

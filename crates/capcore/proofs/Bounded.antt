@@ -1,0 +1,88 @@
+-- How many requests a step serves, and how often its locks move between two servings.
+use Rattle.std.proofs.Common.{◌≡◌, ◌++◌, ℕ, List, [], ◌∷◌, Option, Some, None, length, map, refl, sym, subst, arith}
+use Rattle.inotree.specs.Tree.{child}
+use Rattle.captable.specs.declared.entry.Holder.{Holder}
+use Rattle.lockmachine.specs.Locks.{IsLockMap}
+use Rattle.lockmachine.specs.Runs.{Runs}
+use Rattle.lockmachine.specs.Scene.{Scene}
+use Rattle.lockmachine.proofs.Ending.{few}
+use Rattle.capcore.specs.declared.event.Event.{Event}
+use Rattle.capcore.specs.declared.event.Event.TheVariants as event
+use Rattle.capcore.specs.declared.stopped.Stopped.{Stopped}
+use Rattle.capcore.specs.State.{State}
+use Rattle.capcore.specs.Direct.{direct, effect, effect_unless, found}
+use Rattle.capcore.specs.Headline.{OfItsMoves, AreBounded, move_of}
+use Rattle.capcore.specs.Judge.{judged}
+use Rattle.capcore.specs.Settle.{Made, Began, Gathered, Served, MakesAll, ended_in}
+use Rattle.capcore.specs.Touching.{touched_by}
+use Rattle.capcore.proofs.OfInode.{event-order}
+use Rattle.capcore.proofs.Served.{served-count}
+
+-- ---- the queue stays in order, whatever the event
+
+found-order : (s : State) (o : Option ℕ) → IsLockMap s.scene.locks → IsLockMap (found s o).state.scene.locks
+found-order s None order = order
+found-order s (Some ino) order = order
+
+-- an event that is about no inode that is there lets nobody wait
+alone-order : (old : State) (e : Event) → touched_by e ≡ None → IsLockMap old.scene.locks → IsLockMap (effect old e).state.scene.locks
+alone-order old (event.Session client caller grants) is order = order
+alone-order old (event.Lookup client dir name) is order = found-order old (child old.scene.tree.nodes dir.0 name) order
+alone-order old (event.Create client dir name mode) is order = record { rising = order.rising; given = order.given; room = order.room }
+alone-order old (event.Mkdir client dir name mode) is order = record { rising = order.rising; given = order.given; room = order.room }
+alone-order old (event.MakeSnapshot client ino name) is order = order
+alone-order old (event.RemoveSnapshot client ino name) is order = order
+alone-order old (event.Open client ino mode) is order = absurd (cc)
+alone-order old (event.Want client ino caps) is order = absurd (cc)
+alone-order old (event.Ack client ino seq) is order = absurd (cc)
+alone-order old (event.Release client ino caps) is order = absurd (cc)
+alone-order old (event.Get client ino part) is order = absurd (cc)
+alone-order old (event.Alter client ino change) is order = absurd (cc)
+alone-order old (event.Unlink client ino) is order = absurd (cc)
+alone-order old (event.Rmdir client ino) is order = absurd (cc)
+alone-order old (event.Rename client ino dir name) is order = absurd (cc)
+alone-order old (event.Flush client ino change) is order = absurd (cc)
+alone-order old (event.Poll client max) is order = order
+
+pub direct-order : (old : State) (e : Event) → IsLockMap old.scene.locks → IsLockMap (direct old e).state.scene.locks
+direct-order old e order = by_stop (judged old.scene e) refl
+  where
+    by_touch : judged old.scene e ≡ None → (o : Option Holder) → touched_by e ≡ o → IsLockMap (direct old e).state.scene.locks
+    by_touch free (Some k) is = event-order old e k order is free
+    by_touch free None is = subst (λ (o : Option Stopped). IsLockMap (effect_unless old e o).state.scene.locks) (sym free) (alone-order old e is order)
+
+    by_stop : (o : Option Stopped) → judged old.scene e ≡ o → IsLockMap (direct old e).state.scene.locks
+    by_stop (Some stopped) is = subst (λ (o : Option Stopped). IsLockMap (effect_unless old e o).state.scene.locks) (sym is) order
+    by_stop None free = by_touch free (touched_by e) refl
+
+-- ---- between two servings
+
+-- moves in two parts
+makes-split : (s : Scene) (ms more : List Made) (t : Scene) → MakesAll s (ms ++ more) t → (mid : Scene) × MakesAll s ms mid × MakesAll mid more t
+makes-split s [] more t made = (s, refl, made)
+makes-split s (m ∷ ms) more t (next, one, made) = (let rest = makes-split next ms more t made in (rest.0, (next, one, rest.1), rest.2))
+
+-- moves that serve nobody are a run of moves of locks
+made-runs : (s : Scene) (ms : List Made) (t : Scene) → MakesAll s ms t → ended_in ms ≡ [] → Runs s (map move_of ms) t
+made-runs s [] t is none = is
+made-runs s (Began ino part to ∷ ms) t (next, (first, is), made) none =
+    (first, refl, subst (λ (u : Scene). Runs u (map move_of ms) t) is (made-runs next ms t made none))
+made-runs s (Gathered ino part ∷ ms) t (next, (first, is), made) none =
+    (first, refl, subst (λ (u : Scene). Runs u (map move_of ms) t) is (made-runs next ms t made none))
+made-runs s (Served q o ∷ ms) t made none = absurd (cc)
+
+pub moves-bounded : (s : Scene) (ms : List Made) (t : Scene) → IsLockMap s.locks → MakesAll s ms t → AreBounded s ms
+moves-bounded s ms t order made = record {
+  served = (let count = served-count s ms t order made in omega (arith, count));
+  between = λ before_it some behind_it is none.
+      let first = makes-split s before_it (some ++ behind_it) t (subst (λ (list : List Made). MakesAll s list t) is made) in
+      let then = makes-split first.0 some behind_it t first.2 in
+      few first.0 (map move_of some) then.0 (made-runs first.0 some then.0 then.1 none);
+}
+
+-- ---- the moves of a step
+
+-- what is so of all moves that are made, is so of those of a step
+pub of-its-moves : (Fact : Scene → List Made → Type 0) (old : State) (e : Event) (new : State)
+    → ((ms : List Made) (t : Scene) → MakesAll (direct old e).state.scene ms t → Fact (direct old e).state.scene ms) → OfItsMoves Fact old e new
+of-its-moves Fact old e new fact moves answer ended by = (let settles = by.settles in fact moves by.settled settles.made)
