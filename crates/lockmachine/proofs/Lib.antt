@@ -12,5 +12,8 @@ pub mod Ending
 pub mod Settling
 pub mod InRows
 pub mod PolicyElsewhere
+pub mod SameAt
+pub mod SameOutside
+pub mod Waiting
 pub mod SameBut
 pub mod Turns
