@@ -10,6 +10,7 @@ pub mod Places
 pub mod Moving
 pub mod Ending
 pub mod Settling
+pub mod EndsFirst
 pub mod InRows
 pub mod PolicyElsewhere
 pub mod SameAt

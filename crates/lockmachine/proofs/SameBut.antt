@@ -1,7 +1,6 @@
 -- Scenes that are the same but at one inode, or the same at one: what leaves them so, and what follows of their locks.
-use Rattle.std.proofs.Common.{◌≡◌, ◌≢◌, ℕ, Bool, false, cond, not, ◌&&◌, ◌==◌, Some, List, [], ◌∷◌, ◌++◌, map as each, refl, sym, ap, ◌∙◌, Contains}
+use Rattle.std.proofs.Common.{◌≡◌, ◌≢◌, ℕ, Bool, false, cond, ◌==◌, Some, List, [], ◌∷◌, ◌++◌, map as each, refl, sym, ap, ◌∙◌, Contains}
 use Rattle.std.specs.List.{find}
-use Rattle.std.proofs.lemmas.Bool.{ne_eqb}
 use Rattle.std.proofs.lemmas.List.{append-nil}
 use Rattle.capbits.specs.declared.cap.Part.{Part}
 use Rattle.capbits.specs.declared.ids.ClientId.{ClientId}
@@ -14,7 +13,7 @@ use Rattle.captable.specs.Calls.{entries_on}
 use Rattle.lockmachine.specs.declared.request.Ask.{Ask}
 use Rattle.lockmachine.specs.declared.request.Request.{Request}
 use Rattle.lockmachine.specs.declared.moves.Move.TheVariants.{Serve}
-use Rattle.lockmachine.specs.Requests.{same_part, part_of_ask, is_for, first_for}
+use Rattle.lockmachine.specs.Requests.{is_for, first_for}
 use Rattle.lockmachine.specs.Locks.{LockMap, IsLockMap, request_at, next_request, with_request, without_request}
 use Rattle.lockmachine.specs.Scene.{Scene}
 use Rattle.lockmachine.specs.Moves.{may_end, may_begin, first_move, IsAtRest, IsQuietBut}
@@ -23,7 +22,7 @@ use Rattle.lockmachine.specs.Elsewhere.{IsSameBut, IsSameAt}
 use Rattle.lockmachine.proofs.PolicyElsewhere.{alike-itself}
 use Rattle.lockmachine.proofs.Queue.{taken_alone}
 use Rattle.lockmachine.proofs.SameAt.{same-there, begin-there, end-there}
-use Rattle.lockmachine.proofs.SameOutside.{alike-trans, outside-one, quiet-outside, rest-outside, quiet-one, quiet-but}
+use Rattle.lockmachine.proofs.SameOutside.{not_for, alike-trans, outside-one, quiet-outside, rest-outside, quiet-one, quiet-but}
 use Rattle.lockmachine.proofs.Waiting.{quiet-waits-at, served-one}
 
 -- ---- one after another
@@ -86,10 +85,6 @@ same-tree ino s tree places alike = record {
   places = places;
   alike = alike;
 }
-
--- a request for a lock of another inode is not for this one
-not_for : (q : Request) (other : ℕ) (part : Part) → other ≢ q.ino.0 → is_for other part q ≡ false
-not_for q other part off = ap (λ b. b && same_part (part_of_ask q.ask) part) (ne_eqb q.ino.0 other (λ same. off (sym same)))
 
 -- what fails a test may stand between the others
 find_without : {T : Type 0} (p : T → Bool) (earlier : List T) (x : T) (later : List T) → p x ≡ false → find p (earlier ++ x ∷ later) ≡ find p (earlier ++ later)

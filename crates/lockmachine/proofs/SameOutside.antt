@@ -1,19 +1,26 @@
 -- Scenes that are the same outside some inodes: what leaves them so, and what follows of the other inodes' locks.
-use Rattle.std.proofs.Common.{◌≡◌, ℕ, Bool, false, ◌==◌, List, refl, sym, ap, subst, ◌∙◌, Contains}
+use Rattle.std.proofs.Common.{◌≡◌, ℕ, Bool, true, false, cond, not, ◌&&◌, ◌==◌, Some, List, [], ◌∷◌, zero, suc, filter, refl, sym, ap, subst, ◌∙◌, Contains, arith, true≢false}
+use Rattle.std.specs.List.{find}
 use Rattle.std.specs.FinMap as map
 use Rattle.std.specs.Cmp.{nat_eq_equiv}
 use Rattle.std.proofs.lemmas.Bool.{ne_eqb, eqb-false}
+use Rattle.capbits.specs.declared.cap.Part.{Part}
+use Rattle.capbits.specs.declared.ids.ClientId.{ClientId}
 use Rattle.sessiontab.specs.Table.{SessionTable}
 use Rattle.captable.specs.declared.entry.EntryRow.{EntryRow}
 use Rattle.captable.specs.Calls.{is_of_inode}
 use Rattle.inotree.specs.Tree.{Nodes}
 use Rattle.inotree.specs.Alike.{IsAlike}
+use Rattle.lockmachine.specs.declared.request.Request.{Request}
+use Rattle.lockmachine.specs.Requests.{same_part, part_of_ask, is_for, is_of_client}
+use Rattle.lockmachine.specs.Locks.{without_requests_of}
 use Rattle.lockmachine.specs.Scene.{Scene}
-use Rattle.lockmachine.specs.Moves.{IsAtRest, IsQuietBut, IsQuietOutside}
+use Rattle.lockmachine.specs.Moves.{may_end, may_begin, IsAtRest, IsQuietBut, IsQuietOutside}
 use Rattle.lockmachine.specs.Elsewhere.{IsSameBut, IsSameOutside}
+use Rattle.lockmachine.specs.Turns.{IsHeldUp}
 use Rattle.lockmachine.proofs.Finding.{contains-filter, filter-contains}
 use Rattle.lockmachine.proofs.PolicyElsewhere.{alike-itself}
-use Rattle.lockmachine.proofs.SameAt.{outside-there, quiet-there}
+use Rattle.lockmachine.proofs.SameAt.{outside-there, begin-there, end-there, quiet-there, held-there}
 
 -- ---- what leaves them so
 
@@ -73,6 +80,46 @@ outside-then at a b c first then = record {
   places = λ other off. then.places other off ∙ first.places other off;
   alike = λ other off. alike-trans a.tree b.tree c.tree other (first.alike other off) (then.alike other off);
 }
+
+-- ---- where a client waited, whose requests are all dropped
+
+-- a request for a lock of another inode is not for this one
+pub not_for : (q : Request) (other : ℕ) (part : Part) → other ≢ q.ino.0 → is_for other part q ≡ false
+not_for q other part off = ap (λ b. b && same_part (part_of_ask q.ask) part) (ne_eqb q.ino.0 other (λ same. off (sym same)))
+
+-- a search passes over what fails its test
+find_fewer : (p r : Request → Bool) (qs : List Request) → ((q : Request) → Contains qs q → r q ≡ true → p q ≡ false) → find p (filter (λ q. not (r q)) qs) ≡ find p qs
+find_fewer p r [] fails = refl
+find_fewer p r (x ∷ xs) fails =
+    let later = find_fewer p r xs (λ q (inside : Contains xs q). fails q (suc inside.0, omega (arith, inside.1), inside.2)) in
+    elim (r x) as (λ b. r x ≡ b → find p (cond (not b) (x ∷ filter (λ q. not (r q)) xs) (filter (λ q. not (r q)) xs)) ≡ cond (p x) (Some x) (find p xs)) [
+      | true ↦ λ dropped. later ∙ sym (ap (λ b. cond b (Some x) (find p xs)) (fails x (zero, omega arith, refl) dropped))
+      | false ↦ λ kept. ap (cond (p x) (Some x)) later
+    ] refl
+
+pub outside-dropped : (at : ℕ → Bool) (s : Scene) (client : ClientId) → ((q : Request) → Contains s.locks.queue q → is_of_client client q ≡ true → at q.ino.0 ≡ true)
+    → IsSameOutside at s (record s { locks = without_requests_of s.locks client })
+outside-dropped at s client waited = record {
+  fs = refl;
+  sessions = λ row inside off. refl;
+  entries = λ other off. refl;
+  locks = λ other part off. refl;
+  waiting = λ other part off. find_fewer (is_for other part) (is_of_client client) s.locks.queue
+      (λ q inside mine. not_for q other part (λ same. true≢false (sym (waited q inside mine) ∙ ap at (sym same) ∙ off)));
+  places = λ other off. refl;
+  alike = λ other off. alike-itself s.tree other;
+}
+
+-- ---- the same moves apply there, and who is held up stays so
+
+pub end-outside : (at : ℕ → Bool) (old new : Scene) → IsSameOutside at old new → (other : ℕ) (part : Part) → at other ≡ false → may_end new (other, part) ≡ may_end old (other, part)
+end-outside at old new same other part off = end-there other old new (outside-there at old new same other off) part
+
+pub begin-outside : (at : ℕ → Bool) (old new : Scene) → IsSameOutside at old new → (other : ℕ) (part : Part) → at other ≡ false → may_begin new (other, part) ≡ may_begin old (other, part)
+begin-outside at old new same other part off = begin-there other old new (outside-there at old new same other off) part
+
+pub held-outside : (at : ℕ → Bool) (old new : Scene) → IsSameOutside at old new → (q : Request) → at q.ino.0 ≡ false → IsHeldUp old q → IsHeldUp new q
+held-outside at old new same q off = held-there old new q (outside-there at old new same q.ino.0 off)
 
 -- ---- what is quiet stays quiet there
 

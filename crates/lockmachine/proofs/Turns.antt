@@ -149,10 +149,11 @@ runs-map old (step ∷ steps) new (first, of_lock, rest) sound = runs-map (with_
 
 -- ---- who waits elsewhere is held up
 
-waits-at : (s : Scene) (ino : ℕ) → WaitHere s ino → WaitAt (λ other. other == ino) s
+-- who waits at another inode, waits outside of it alone
+pub waits-at : (s : Scene) (ino : ℕ) → WaitHere s ino → WaitAt (λ other. other == ino) s
 waits-at s ino wait q inside off = wait q inside (eqb-false q.ino.0 ino off)
 
-waits-here : (s : Scene) (ino : ℕ) → WaitAt (λ other. other == ino) s → WaitHere s ino
+pub waits-here : (s : Scene) (ino : ℕ) → WaitAt (λ other. other == ino) s → WaitHere s ino
 waits-here s ino wait q inside off = wait q inside (ne_eqb q.ino.0 ino off)
 
 pub quiet-waits : (s : Scene) (ino : ℕ) → IsQuietBut s ino → WaitHere s ino

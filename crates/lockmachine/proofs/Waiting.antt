@@ -1,11 +1,12 @@
 -- Who waits outside of some inodes is held up by a gather that is open, and stays so.
-use Rattle.std.proofs.Common.{◌≡◌, ◌≢◌, ℕ, Bool, true, false, not, ◌&&◌, ◌==◌, Option, Some, None, List, [], ◌∷◌, refl, sym, ap, subst, ◌∙◌, Contains, true≢false}
+use Rattle.std.proofs.Common.{◌≡◌, ◌≢◌, ℕ, Bool, true, false, not, ◌&&◌, ◌==◌, Option, Some, None, List, [], ◌∷◌, filter, refl, sym, ap, subst, ◌∙◌, Contains, true≢false}
 use Rattle.std.specs.Prelude.{IsTrue}
 use Rattle.std.specs.Cmp.{nat_eq_equiv}
 use Rattle.std.specs.List.{find}
 use Rattle.std.specs.Option.{option_map_or}
 use Rattle.std.proofs.lemmas.Bool.{eqb-true}
 use Rattle.capbits.specs.declared.cap.Part.{Part}
+use Rattle.capbits.specs.declared.ids.ClientId.{ClientId}
 use Rattle.capbits.specs.declared.ids.Ticket.{Ticket}
 use Rattle.inotree.specs.Tree.{Nodes}
 use Rattle.locktable.specs.declared.states.State.{State}
@@ -14,8 +15,8 @@ use Rattle.locktable.specs.declared.states.LockState.TheVariants.{Stable, Gather
 use Rattle.lockmachine.specs.declared.request.Request.{Request}
 use Rattle.lockmachine.specs.declared.moves.Move.{Move}
 use Rattle.lockmachine.specs.declared.moves.Move.TheVariants.{Begin, End, Serve, Settled}
-use Rattle.lockmachine.specs.Requests.{same_part, part_of_ask, head_of_ask, is_for, first_for, is_numbered}
-use Rattle.lockmachine.specs.Locks.{LockMap, IsLockMap, lock_at, request_at, without_request}
+use Rattle.lockmachine.specs.Requests.{same_part, part_of_ask, head_of_ask, is_for, first_for, is_numbered, is_of_client}
+use Rattle.lockmachine.specs.Locks.{LockMap, IsLockMap, lock_at, request_at, without_request, without_requests_of}
 use Rattle.lockmachine.specs.Scene.{Scene, wanted_in_all}
 use Rattle.lockmachine.specs.Moves.{LockPlace, is_open, may_end_in, may_begin_in, may_serve, is_served_in, present_state, coming_state, first_move, moved, with_moved, IsQuiet, IsQuietOutside}
 use Rattle.lockmachine.specs.Runs.{is_of_lock, Runs, MoveLittle}
@@ -112,12 +113,18 @@ waits-kept-at at old (step ∷ steps) new (first, of_lock, rest) wait =
 pub waits-little-at : (at : ℕ → Bool) (old new : Scene) → MoveLittle old new → WaitAt at old → WaitAt at new
 waits-little-at at old new (steps, few, runs) = waits-kept-at at old steps new runs
 
--- ---- so does a request that is taken out
+-- ---- so do requests that are taken out
+
+waits-fewer : (at : ℕ → Bool) (s : Scene) (tree : Nodes) (p : Request → Bool) → WaitAt at s → WaitAt at (record s { tree = tree; locks = record s.locks { queue = filter p s.locks.queue } })
+waits-fewer at s tree p wait q inside off =
+    let held = wait q (contains-filter p s.locks.queue q inside) off in
+    record { from = held.from; to = held.to; gathers = held.gathers; is_held = held.is_held }
 
 pub waits-less-at : (at : ℕ → Bool) (s : Scene) (tree : Nodes) (ticket : ℕ) → WaitAt at s → WaitAt at (record s { tree = tree; locks = without_request s.locks ticket })
-waits-less-at at s tree ticket wait q inside off =
-    let held = wait q (contains-filter (λ r. not (is_numbered ticket r)) s.locks.queue q inside) off in
-    record { from = held.from; to = held.to; gathers = held.gathers; is_held = held.is_held }
+waits-less-at at s tree ticket = waits-fewer at s tree (λ q. not (is_numbered ticket q))
+
+pub waits-dropped-at : (at : ℕ → Bool) (s : Scene) (tree : Nodes) (client : ClientId) → WaitAt at s → WaitAt at (record s { tree = tree; locks = without_requests_of s.locks client })
+waits-dropped-at at s tree client = waits-fewer at s tree (λ q. not (is_of_client client q))
 
 -- ---- who is served
 
