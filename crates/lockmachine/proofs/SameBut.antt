@@ -1,5 +1,5 @@
 -- Scenes that are the same but at one inode, or the same at one: what leaves them so, and what follows of their locks.
-use Rattle.std.proofs.Common.{◌≡◌, ◌≢◌, ℕ, Bool, false, cond, ◌==◌, Some, List, [], ◌∷◌, ◌++◌, map as each, refl, sym, ap, ◌∙◌, Contains}
+use Rattle.std.proofs.Common.{◌≡◌, ◌≢◌, ℕ, Bool, false, cond, ◌==◌, Some, List, [], ◌∷◌, ◌++◌, refl, sym, ap, ◌∙◌, Contains}
 use Rattle.std.specs.List.{find}
 use Rattle.std.proofs.lemmas.List.{append-nil}
 use Rattle.capbits.specs.declared.cap.Part.{Part}

@@ -1,5 +1,5 @@
 -- Scenes that are the same outside some inodes: what leaves them so, and what follows of the other inodes' locks.
-use Rattle.std.proofs.Common.{◌≡◌, ℕ, Bool, true, false, cond, not, ◌&&◌, ◌==◌, Some, List, [], ◌∷◌, zero, suc, filter, refl, sym, ap, subst, ◌∙◌, Contains, arith, true≢false}
+use Rattle.std.proofs.Common.{◌≡◌, ◌≢◌, ℕ, Bool, true, false, cond, not, ◌&&◌, ◌==◌, Some, List, [], ◌∷◌, zero, suc, filter, refl, sym, ap, subst, ◌∙◌, Contains, arith, true≢false}
 use Rattle.std.specs.List.{find}
 use Rattle.std.specs.FinMap as map
 use Rattle.std.specs.Cmp.{nat_eq_equiv}
