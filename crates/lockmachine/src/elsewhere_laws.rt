@@ -64,8 +64,9 @@ pub fn a_serving_is_at_the_inode_that_moves()
 
 // ---- outside some inodes
 
-/// A scene is the same as itself outside any inodes; what is the same but at one inode, is the same outside of it; and what is
-/// the same outside some, is so outside of more. One change after another at the same inodes leaves the others the same.
+/// A scene is the same as itself outside any inodes; what is the same but at one inode, is the same outside of it; and
+/// what is the same outside some, is so outside of more. One change after another at the same inodes leaves the others the
+/// same.
 pub fn changes_at_some_inodes_add_up()
     ensures itself { (at : ℕ → Bool) (s : Scene) → IsSameOutside at s s }
     ensures one { (ino : ℕ) (old new : Scene) → IsSameBut ino old new → IsSameOutside (λ other. other == ino) old new }
@@ -81,8 +82,8 @@ pub fn a_dropped_client_changes_where_it_waited()
         → IsSameOutside at s (record s { locks = without_requests_of s.locks client }) }
 {}
 
-/// Where the locks are at rest, or quiet outside some inodes, what changes at those alone leaves all others quiet. Locks that are
-/// quiet at all inodes but one are quiet outside of it.
+/// Where the locks are at rest, or quiet outside some inodes, what changes at those alone leaves all others quiet. Locks
+/// that are quiet at all inodes but one are quiet outside of it.
 pub fn inodes_outside_stay_quiet()
     ensures rest { (at : ℕ → Bool) (old new : Scene) → IsAtRest old → IsSameOutside at old new → IsQuietOutside at new }
     ensures quiet { (at : ℕ → Bool) (old new : Scene) → IsQuietOutside at old → IsSameOutside at old new → IsQuietOutside at new }

@@ -83,8 +83,8 @@ pub fn a_new_request_keeps_the_order()
         → length locks.queue < 1024 → IsLockMap (with_request locks client ino ask) }
 {}
 
-/// A client's requests are taken out one after another, the oldest first, and no others are. Where the client has none, those
-/// that are left are those of all other clients, in their order.
+/// A client's requests are taken out one after another, the oldest first, and no others are. Where the client has none, all
+/// that wait are of others. The order of the queue is kept.
 pub fn a_clients_requests_go_one_by_one()
     ensures oldest { (locks : LockMap) (client : ClientId) (ticket : Ticket) → IsLockMap locks
         → option_map (λ (q : Request). q.ticket) (find (is_of_client client) locks.queue) ≡ Some ticket
@@ -95,7 +95,7 @@ pub fn a_clients_requests_go_one_by_one()
     ensures order { (locks : LockMap) (client : ClientId) → IsLockMap locks → IsLockMap (without_requests_of locks client) }
 {}
 
-/// Moves between two servings and further ones before the next are all moves between two servings; gathers that end are some.
+/// Moves between two servings and further ones before the next are moves between two servings; and so are gathers that end.
 pub fn moves_between_servings_add_up()
     ensures then { (a b c : Scene) → MoveLittle a b → MoveLittle b c → MoveLittle a c }
     ensures ends { (old new : Scene) → EndLittle old new → MoveLittle old new }

@@ -18,13 +18,15 @@ mod wants;
 pub use bytes::Bytes;
 pub use elsewhere_laws::{
     a_dropped_client_changes_where_it_waited, a_serving_is_at_the_inode_that_moves,
-    changes_at_one_inode_add_up, changes_at_some_inodes_add_up, changes_at_some_inodes_leave_others, inodes_outside_stay_quiet,
-    other_inodes_stay_quiet, what_is_the_same_but_at_one_inode,
+    changes_at_one_inode_add_up, changes_at_some_inodes_add_up,
+    changes_at_some_inodes_leave_others, inodes_outside_stay_quiet, other_inodes_stay_quiet,
+    what_is_the_same_but_at_one_inode,
 };
 pub use laws::{
     a_clients_requests_go_one_by_one, a_new_request_keeps_the_order, a_number_finds_its_request,
     a_number_takes_its_request, at_rest_is_settled, between_servings_locks_move_little,
-    moves_between_servings_add_up, moves_keep_rows, moves_keep_the_order, nothing_wanted_is_settled, settled_is_at_rest, the_least_number_is_served,
+    moves_between_servings_add_up, moves_keep_rows, moves_keep_the_order,
+    nothing_wanted_is_settled, settled_is_at_rest, the_least_number_is_served,
 };
 pub use locks::{Locks, MAX_WAITING};
 pub use moves::Move;

@@ -155,7 +155,8 @@ impl Locks {
         self.queue.as_slice()
     }
 
-    /// Takes out the oldest request of a client and answers its number, until the client has none. It takes no memory.
+    /// Takes the oldest request of a client out of the queue and answers its number. Where the client has none, nothing
+    /// changes. It takes no memory.
     pub fn drop_client(&mut self, client: ClientId) -> Option<Ticket>
         ensures dropped { result ≡ option_map (λ q. q.ticket) (find (requests.is_of_client client) self.old.queue) }
         ensures left { MatchOption result (self.new ≡ self.old) (λ ticket. self.new ≡ words.without_request self.old ticket.0) }
@@ -477,8 +478,8 @@ impl Locks {
         }
     }
 
-    /// Where no gather of a lower inode may end, ends those of an inode that may, in the order of the parts. It looks at the
-    /// entries of this inode alone, and takes no memory.
+    /// Where no gather of a lower inode may end, ends those of an inode that may, in the order of the parts. It looks at
+    /// the entries of this inode alone, and takes no memory.
     pub fn end_gathers_at(&mut self, table: &CapTable, ino: Ino)
         requires lower { (other : ℕ) (part : Part) → other < ino.0 → moves.may_end_by table.now self.old (other, part) ≡ false }
 

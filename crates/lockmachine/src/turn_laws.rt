@@ -110,8 +110,8 @@ pub fn where_others_are_held_up_one_is_served_here()
 
 // ---- who waits outside some inodes
 
-/// Where the locks are quiet outside some inodes, who waits outside of them is held up; and so who waits outside of more. Who
-/// waits at another inode is who waits outside of it.
+/// Where the locks are quiet outside some inodes, who waits outside of them is held up; and so is who waits outside of
+/// more. Who waits elsewhere than at one inode waits outside of it.
 pub fn who_waits_outside_quiet_inodes_is_held_up()
     ensures quiet { (at : ℕ → Bool) (s : Scene) → IsQuietOutside at s → WaitAt at s }
     ensures wider { (at wider : ℕ → Bool) (s : Scene) → ((q : ℕ) → wider q ≡ false → at q ≡ false) → WaitAt at s → WaitAt wider s }
@@ -119,8 +119,8 @@ pub fn who_waits_outside_quiet_inodes_is_held_up()
     ensures here { (s : Scene) (ino : ℕ) → WaitAt (λ other. other == ino) s → WaitHere s ino }
 {}
 
-/// Who waits outside some inodes stays held up: moves between two servings leave it so, at whatever inode they are, and so does a
-/// request that is taken out, or all of a client, with whatever change of the tree.
+/// Who waits outside some inodes stays held up: moves between two servings leave it so, at whatever inode they are, and so
+/// does a request that is taken out, or all of a client, with whatever change of the tree.
 pub fn who_is_held_up_outside_stays_so()
     ensures moves { (at : ℕ → Bool) (old new : Scene) → MoveLittle old new → WaitAt at old → WaitAt at new }
     ensures less { (at : ℕ → Bool) (s : Scene) (tree : Nodes) (ticket : ℕ) → WaitAt at s
