@@ -10,7 +10,7 @@ ghost use Rattle.capcore.specs.State.{State};
 ghost use Rattle.capcore.specs.Judge.{judged};
 ghost use Rattle.capcore.specs.Direct.{direct};
 ghost use Rattle.capcore.specs.Sound.{IsSound, AreGiven};
-ghost use Rattle.capcore.specs.Touching.{touched_by, Touches};
+ghost use Rattle.capcore.specs.Touching.{touched_by, TouchesOne};
 
 /// An event that is about one inode, and that nothing stops, changes that inode, its entries and who waits for its locks
 /// alone, and leaves of each entry what every state keeps, but that what is due is held. The tree, the table and the queue
@@ -18,7 +18,7 @@ ghost use Rattle.capcore.specs.Touching.{touched_by, Touches};
 /// entry is made and one request numbered. The event drops no request, and leaves the messages.
 pub fn events_of_one_inode_touch_it()
     ensures touches { (old : State) (e : Event) (k : Holder) → IsSound old → IsTable old.scene.table → touched_by e ≡ Some k
-        → judged old.scene e ≡ None → Touches k.ino.0 old (direct old e).state.scene }
+        → judged old.scene e ≡ None → TouchesOne k.ino.0 old (direct old e).state.scene }
     ensures table { (old : State) (e : Event) (k : Holder) → IsTable old.scene.table → touched_by e ≡ Some k
         → judged old.scene e ≡ None → IsTable (direct old e).state.scene.table }
     ensures order { (old : State) (e : Event) (k : Holder) → IsLockMap old.scene.locks → touched_by e ≡ Some k

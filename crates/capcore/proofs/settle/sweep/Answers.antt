@@ -17,8 +17,8 @@ module _ (c : After-advance_at) where
   abbrev new : Scene
   new = scene c.args.fs.now c.args.tree.now c.args.sessions.now c.args.table.now c.advance_at.new.self
 
-  more : IsSwept (is_touched c.args.ino.0 c.args.touched.now) c.args.ino.0 first new
-  more = swept-on (is_touched c.args.ino.0 c.args.touched.now) c.args.ino.0 first now c.inodes.invariant.swept c.inodes.at.0 c.inodes.invariant.here
+  more : IsSwept (is_touched c.args.ino.0 c.args.touched.now) first new
+  more = swept-on (is_touched c.args.ino.0 c.args.touched.now) first now c.inodes.invariant.swept c.inodes.at.0 c.inodes.invariant.here
       c.advance_at.new.self c.advance_at.ensures.moves c.advance_at.ensures.elsewhere
 
   still : AreStill (is_touched c.args.ino.0 c.args.touched.now) new
