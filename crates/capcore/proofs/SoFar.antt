@@ -1,6 +1,5 @@
 -- Where the settling of a step has come to, between two servings.
-use Rattle.std.proofs.Common.{◌≡◌, ◌≢◌, ◌<◌, ◌+◌, ℕ, Bool, true, false, not, inl, inr, Option, Some, None, is_some, List, [], ◌∷◌, ◌++◌, length, map as each, filter, refl, sym, ap, subst, ◌∙◌, Contains, append-nil, arith, true≢false}
-use Rattle.std.specs.Prelude.{IsTrue}
+use Rattle.std.proofs.Common.{◌≡◌, ◌≢◌, ◌+◌, ℕ, Bool, true, false, inl, inr, Some, is_some, List, [], ◌∷◌, ◌++◌, length, map as each, refl, sym, ap, subst, ◌∙◌, Contains, append-nil, arith, true≢false}
 use Rattle.std.specs.Option.{option_map}
 use Rattle.std.specs.FinMap as map
 use Rattle.std.proofs.lemmas.Bool.{eqb-true}
@@ -16,11 +15,10 @@ use Rattle.lockmachine.specs.declared.request.Request.{Request}
 use Rattle.lockmachine.specs.declared.moves.Move.TheVariants.{Serve, Settled}
 use Rattle.lockmachine.specs.Inodes.{StateMap, lock_in}
 use Rattle.lockmachine.specs.Requests.{first_for}
-use Rattle.lockmachine.specs.Elsewhere.{IsSameAt}
-use Rattle.lockmachine.specs.Locks.{LockMap, IsLockMap, lock_at, request_at, without_request}
-use Rattle.lockmachine.specs.Wants.{Want, want_of, in_all}
-use Rattle.lockmachine.specs.Scene.{Scene, wanted_in_all}
-use Rattle.lockmachine.specs.Moves.{may_end, may_begin, may_begin_in, first_move, IsQuietOutside}
+use Rattle.lockmachine.specs.Locks.{IsLockMap, lock_at, request_at, without_request}
+use Rattle.lockmachine.specs.Wants.{want_of, in_all}
+use Rattle.lockmachine.specs.Scene.{Scene}
+use Rattle.lockmachine.specs.Moves.{may_begin, may_begin_in, first_move, IsQuietOutside}
 use Rattle.lockmachine.specs.Turns.{NothingEnds, WaitAt}
 use Rattle.lockmachine.proofs.Exact.{ends_not, begins_not}
 use Rattle.lockmachine.proofs.PolicyElsewhere.{alike-itself}

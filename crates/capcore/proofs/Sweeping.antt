@@ -1,5 +1,5 @@
 -- How the locks of several inodes settle between two servings.
-use Rattle.std.proofs.Common.{◌≡◌, ◌≢◌, ◌<◌, ◌≤◌, ◌+◌, ℕ, Bool, true, false, cond, ◌||◌, ◌==◌, nat_lt, count_by, Option, Some, None, List, [], ◌∷◌, ◌++◌, refl, sym, ap, subst, ◌∙◌, Contains, true≢false, arith}
+use Rattle.std.proofs.Common.{◌≡◌, ◌≢◌, ◌<◌, ◌≤◌, ◌+◌, ℕ, Bool, true, false, cond, ◌||◌, ◌==◌, nat_lt, count_by, Option, Some, None, List, [], ◌∷◌, ◌++◌, refl, sym, ap, subst, ◌∙◌, true≢false, arith}
 use Rattle.std.specs.List.{list_any}
 use Rattle.std.specs.Ordering.{nat_cmp, eq_by_cmp}
 use Rattle.std.specs.Cmp.{unsigned_tied}
@@ -27,7 +27,7 @@ use Rattle.lockmachine.proofs.Turns.{turn-passes, turn-rests}
 use Rattle.lockmachine.proofs.Finding.{by_number}
 use Rattle.lockmachine.proofs.Waiting.{waits-kept-at}
 use Rattle.captable.specs.Table.{Table}
-use Rattle.capcore.specs.Settle.{MakesAll, ended_in}
+use Rattle.capcore.specs.Settle.{ended_in}
 use Rattle.capcore.specs.Sweep.{AreStill, IsSwept, IsNextOf}
 use Rattle.capcore.proofs.Moved.{as_made, makes-append, ended-append}
 

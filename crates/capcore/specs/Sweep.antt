@@ -10,7 +10,6 @@ use Rattle.captable.specs.Table.{Table}
 use Rattle.lockmachine.specs.declared.request.Request.{Request}
 use Rattle.lockmachine.specs.declared.moves.Move.TheVariants.{Serve, Settled}
 use Rattle.lockmachine.specs.Inodes.{StateMap}
-use Rattle.lockmachine.specs.Locks.{lock_at}
 use Rattle.lockmachine.specs.Scene.{Scene}
 use Rattle.lockmachine.specs.Moves.{first_move, may_end, may_begin}
 use Rattle.lockmachine.specs.Turns.{IsTurnOf, WaitAt}

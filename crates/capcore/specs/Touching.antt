@@ -12,7 +12,7 @@ use Rattle.captable.specs.declared.entry.Entry.{Entry}
 use Rattle.captable.specs.declared.entry.EntryRow.{EntryRow}
 use Rattle.captable.specs.declared.entry.Holder.{Holder}
 use Rattle.captable.specs.Table.{holder}
-use Rattle.captable.specs.Calls.{is_of_inode, entries_on, renumbered}
+use Rattle.captable.specs.Calls.{entries_on, renumbered}
 use Rattle.captable.specs.Many.{changed_where}
 use Rattle.lockmachine.specs.declared.request.Ask.{Ask}
 use Rattle.lockmachine.specs.declared.request.Ask.TheVariants.{Get, Alter, Unlink, Rmdir, Rename}

@@ -1,4 +1,4 @@
-use Rattle.std.proofs.Common.{ℕ, sym, ap, subst, ◌∙◌, true≢false}
+use Rattle.std.proofs.Common.{sym, ap, ◌∙◌, true≢false}
 use Rattle.std.specs.FinMap as map
 use Rattle.lockmachine.specs.Inodes.{StateMap}
 use Rattle.lockmachine.specs.Scene.{scene}

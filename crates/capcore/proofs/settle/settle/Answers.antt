@@ -14,7 +14,7 @@ use Rattle.lockmachine.proofs.Waiting.{served-at}
 use Rattle.capcore.specs.declared.outcome.Ended.{Ended}
 use Rattle.capcore.specs.Serves.{Serves, is_touched}
 use Rattle.capcore.specs.Sweep.{GoesOn, IsSwept, IsTurnOfLeast, Reaches}
-use Rattle.capcore.proofs.Moved.{IsMoved, moved-all}
+use Rattle.capcore.proofs.Moved.{moved-all}
 use Rattle.capcore.proofs.SoFar.{IsSoFar, so-far-begins, so-far-served, so-far-settled, so-far-swept, turn-of_least, turn-served}
 use Rattle.capcore.proofs.settle.settle.Goals as goal
 use Rattle.capcore.proofs.settle.settle.Goals.{After-last-last, After-serve_next}

@@ -1,9 +1,9 @@
-use Rattle.std.proofs.Common.{sym, subst}
+use Rattle.std.proofs.Common.{subst}
 use Rattle.lockmachine.specs.Scene.{Scene, scene}
 use Rattle.lockmachine.specs.Turns.{IsDue}
 use Rattle.capcore.specs.Serves.{is_touched}
 use Rattle.capcore.specs.Sweep.{AreStill, IsNextOf, IsSwept}
-use Rattle.capcore.proofs.Sweeping.{fewer_behind, last-turn, next-turn, still-kept, swept-begins, swept-on}
+use Rattle.capcore.proofs.Sweeping.{fewer_behind, last-turn, next-turn, still-kept, swept-on}
 use Rattle.capcore.proofs.settle.sweep.Goals as goal
 use Rattle.capcore.proofs.settle.sweep.Goals.{After-advance_at}
 
