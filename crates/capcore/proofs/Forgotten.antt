@@ -152,7 +152,7 @@ module _ (at : ℕ → Bool) (s : State) (sound : IsSoundBut at s) (tree : IsTre
   quiet_left q part None quiet = quiet
   quiet_left q part (Some (Stable state)) quiet = (
     ap (λ (ws : List Want). target_by s.scene.locks.queue (in_all ws) q part state)
-    (wants-kept s.scene after.tree s.scene.sessions q (all_rows _ s.scene.table.rows (λ row inside. want_left at s.scene tree row (kept-held s.scene row inside)))) ∙ quiet.0,
+        (wants-kept s.scene after.tree s.scene.sessions q (all_rows _ s.scene.table.rows (λ row inside. want_left at s.scene tree row (kept-held s.scene row inside)))) ∙ quiet.0,
     quiet.1,
   )
   quiet_left q part (Some (Gather from to)) quiet = quiet

@@ -111,7 +111,7 @@ pub ends-passed : (at : ℕ → Bool) (t : Table) (first old new : LockMap) (her
 ends-passed at t first old new here elsewhere same lower changes done other part above =
     by_number other here (may_end_by t new (other, part) ≡ false)
     (λ below. (let off : other ≢ here = λ is. omega (arith, below, is) in
-      ap (may_end_in t (other, part)) (changes.others other part off) ∙ lower other part below))
+    ap (may_end_in t (other, part)) (changes.others other part off) ∙ lower other part below))
     (λ is. subst (λ i. may_end_by t new (i, part) ≡ false) (sym is) (done part))
     (λ behind. (let off = above behind in ap (λ (locks : Option InodeLocks). may_end_in t (other, part) (option_map (lock_in part) locks)) (same other off) ∙ elsewhere other part off))
 
