@@ -35,7 +35,7 @@ use Rattle.capcore.specs.Needs.{Need}
 use Rattle.capcore.specs.Direct.{direct, effect, effect_unless, asks}
 use Rattle.capcore.specs.Serving.{judged_again}
 use Rattle.capcore.specs.Sound.{IsSound, AreGiven}
-use Rattle.capcore.specs.Touching.{asks_for, IsTouchedEntry, Touches}
+use Rattle.capcore.specs.Touching.{asks_for, IsTouchedEntry, TouchesOne}
 use Rattle.capcore.proofs.Touched.{all-left, asked-session, asked-there, AreBelow}
 
 -- ---- which events ask, and what
@@ -140,7 +140,7 @@ module _ (old : State) (k : Holder) (ask : Ask) (sound : IsSound old) (table : I
   abbrev first : Scene
   first = record old.scene { locks = with_request old.scene.locks k.client k.ino ask }
 
-  pub asking-touches : Touches k.ino.0 old first
+  pub asking-touches : TouchesOne k.ino.0 old first
   asking-touches = record {
     same = same-request old.scene k.client k.ino ask;
     states = refl;

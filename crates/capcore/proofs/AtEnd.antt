@@ -24,10 +24,11 @@ use Rattle.lockmachine.specs.Inodes.{StateMap}
 use Rattle.lockmachine.specs.Locks.{LockMap}
 use Rattle.lockmachine.specs.Scene.{Scene, scene}
 use Rattle.capcore.specs.Finishing.{entry_under, entry_from, is_on}
-use Rattle.capcore.specs.Touching.{finished_entry}
+use Rattle.capcore.specs.Touching.{finished_entry, forget_at, forget_among}
 use Rattle.capcore.specs.Serves.{is_touched}
 use Rattle.capcore.proofs.Leaving.{found-contains}
 use Rattle.capcore.proofs.ManyInodes.{same-where, changed-twice_where}
+use Rattle.capcore.proofs.Strays.{forget-one, forget-twice, forget-same}
 
 -- ---- who has an entry
 
@@ -153,3 +154,10 @@ at-end fs tree sessions t locks ino first before now touched apart was kept is =
         let then : before ≡ map.get first.locks.states row.holder.ino.0 = sym (ap (map.get first.locks.states) on ∙ was) in
         let at : now ≡ map.get locks.states row.holder.ino.0 = is ∙ sym (ap (map.get locks.states) on) in
         λ i. entry_under fs tree sessions (then i) (at i) row
+
+-- first the others are forgotten, and then the inode of the event: the strays of all that are touched
+pub forget-all : (ino : ℕ) (touched : StateMap) (s : Scene) → forget_at ino (forget_among (map.contains_key touched) s) ≡ forget_among (is_touched ino touched) s
+forget-all ino touched s =
+    sym (forget-one ino (forget_among (map.contains_key touched) s))
+    ∙ forget-twice (map.contains_key touched) (λ n. n == ino) s
+    ∙ forget-same (λ n. map.contains_key touched n || (n == ino)) (is_touched ino touched) s (λ n. or_turned (map.contains_key touched n) (n == ino))

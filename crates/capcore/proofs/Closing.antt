@@ -1,40 +1,44 @@
 -- What the calls of the step of an event about one inode come to.
-use Rattle.std.proofs.Common.{◌≡◌, ◌≤◌, ◌<◌, ◌^◌, ◌-◌, ℕ, ◌+◌, ◌++◌, Bool, true, false, Some, None, List, Contains, refl, sym, ap, subst, ◌∙◌, arith}
+use Rattle.std.proofs.Common.{◌≡◌, ◌≤◌, ◌<◌, ◌^◌, ◌-◌, ℕ, ◌+◌, ◌++◌, ◌==◌, Bool, true, false, Some, None, is_some, List, Contains, refl, sym, ap, subst, ◌∙◌, arith}
 use Rattle.std.specs.Prelude.{IsTrue, All}
 use Rattle.std.specs.FinMap as map
+use Rattle.std.proofs.lemmas.Bool.{eqb-true}
 use Rattle.std.proofs.lemmas.List.Elements.{All-weaker, All-contains}
+use Rattle.sessiontab.specs.Table.{SessionTable}
 use Rattle.sessiontab.specs.Calls.{has_session}
 use Rattle.captable.specs.declared.entry.EntryRow.{EntryRow}
 use Rattle.captable.specs.declared.entry.Holder.{Holder}
 use Rattle.captable.specs.Table.{IsTable}
 use Rattle.captable.specs.Calls.{is_of_inode, entries_on}
-use Rattle.lockmachine.specs.Locks.{IsLockMap}
+use Rattle.lockmachine.specs.Locks.{IsLockMap, lock_at}
+use Rattle.lockmachine.specs.Requests.{first_for}
 use Rattle.lockmachine.specs.Scene.{Scene}
-use Rattle.lockmachine.specs.Moves.{IsQuietBut}
-use Rattle.lockmachine.proofs.SameBut.{quiet-rest}
+use Rattle.lockmachine.specs.Moves.{IsQuietOutside}
+use Rattle.lockmachine.proofs.Finding.{filter-contains}
+use Rattle.lockmachine.proofs.SameOutside.{outside-one, rest-outside}
 use Rattle.capbits.specs.declared.ids.Ticket.{Ticket}
 use Rattle.capcore.specs.declared.event.Event.{Event}
 use Rattle.capcore.specs.declared.outcome.Ended.{Ended}
 use Rattle.capcore.specs.declared.reply.Said.{Said}
 use Rattle.capcore.specs.State.{State}
 use Rattle.capcore.specs.Answered.{IsAnswered}
-use Rattle.capcore.specs.Direct.{direct, reply_of, shown}
+use Rattle.capcore.specs.Direct.{direct, reply_of, shown, with_scene}
 use Rattle.capcore.specs.Judge.{judged}
 use Rattle.capcore.specs.Serves.{SettlesWith, EndsWith}
 use Rattle.capcore.specs.Settle.{MakesAll, ended_in}
 use Rattle.capcore.specs.Sound.{IsSoundEntry, IsSound, NumbersLeft}
-use Rattle.capcore.specs.Step.{earlier, state_at_end}
-use Rattle.capcore.specs.Touching.{touched_by, IsTouchedEntry, Touches, SettlesAt, finished_at}
+use Rattle.capcore.specs.Step.{earlier, all_ended, state_at_end}
+use Rattle.capcore.specs.Touching.{touched_by, IsTouchedEntry, Touches, TouchesOne, SettlesAt, finished_at}
 use Rattle.capcore.specs.Untold.{HaveOwnNumbers, but_for}
 use Rattle.capcore.proofs.Concluded.{IsConcluded, GivesOne, concluded}
 use Rattle.capcore.proofs.EndedIn.{earlier-all, earlier-but_own, own-numbers}
 use Rattle.capcore.proofs.Forgotten.{all_rows}
 use Rattle.capcore.proofs.OfInode.{event-touches, event-table, event-below, event-keeps}
-use Rattle.capcore.proofs.OneInode.{row_elsewhere, off_inode, filter-contains}
+use Rattle.capcore.proofs.SameOff.{row_elsewhere}
 
 -- ---- the numbers of those that a settling ends
 
-module _ (at : ℕ → Bool) (ino : ℕ) (first settled : Scene) (told : List Ended) (settles : SettlesWith at ino first settled told) where
+module _ (at from : ℕ → Bool) (first settled : Scene) (told : List Ended) (settles : SettlesWith at from first settled told) where
   made : MakesAll first settles.moves settled
   made = let at_them = settles.settles in let all = at_them.settles in all.made
 
@@ -52,34 +56,61 @@ module _ (at : ℕ → Bool) (ino : ℕ) (first settled : Scene) (told : List En
 
 -- ---- the entries, when the event alone has been applied
 
-module _ (ino : ℕ) (old : State) (first : Scene) (sound : IsSound old) (touches : Touches ino old first) where
-  -- what an entry on the inode has, and each entry of a sound state has elsewhere, all have
-  touches-all : (Q : EntryRow → Type 0) → ((row : EntryRow) → IsTouchedEntry first row → Q row) → ((row : EntryRow) → IsSoundEntry old.scene row → Q row) → All Q first.table.rows
-  touches-all Q here elsewhere = all_rows Q first.table.rows (λ row inside. by_test row inside (is_of_inode (record { 0 = ino }) row) refl)
+module _ (from : ℕ → Bool) (old touched : State) (sound : IsSound old) (touches : Touches from old touched) where
+  abbrev rows : List EntryRow
+  rows = touched.scene.table.rows
+
+  -- what an entry on one of the inodes has, and what each entry of a sound state has elsewhere, all have
+  touches-all : (Q : EntryRow → Type 0) → ((row : EntryRow) → IsTouchedEntry touched.scene row → Q row)
+      → ((row : EntryRow) → Contains old.scene.table.rows row → from row.holder.ino.0 ≡ false → IsSoundEntry old.scene row → Q row) → All Q rows
+  touches-all Q here elsewhere = all_rows Q rows (λ row inside. by_test row inside (from row.holder.ino.0) refl)
     where
-      by_test : (row : EntryRow) → Contains first.table.rows row → (b : Bool) → is_of_inode (record { 0 = ino }) row ≡ b → Q row
-      by_test row inside true on =
-          here row (All-contains (IsTouchedEntry first) (entries_on first.table (record { 0 = ino })) row touches.each (filter-contains (is_of_inode (record { 0 = ino })) first.table.rows row inside on))
+      by_test : (row : EntryRow) → Contains rows row → (b : Bool) → from row.holder.ino.0 ≡ b → Q row
+      by_test row inside true on = here row (touches.each row inside on)
       by_test row inside false off =
           let same = touches.same in
-          elsewhere row (All-contains (IsSoundEntry old.scene) old.scene.table.rows row sound.entries (row_elsewhere ino old.scene.table first.table same.entries row inside (off_inode row ino off)))
+          let was = row_elsewhere from old.scene.table touched.scene.table same.entries row inside off in
+          elsewhere row was off (All-contains (IsSoundEntry old.scene) old.scene.table.rows row sound.entries was)
 
-  pub touches-clients : All (λ row. IsTrue (has_session first.sessions row.holder.client.0)) first.table.rows
+  pub touches-clients : All (λ row. IsTrue (has_session touched.scene.sessions row.holder.client.0)) rows
   touches-clients =
-      touches-all (λ row. IsTrue (has_session first.sessions row.holder.client.0)) (λ row entry. entry.of_session)
-      (λ row entry. let same = touches.same in subst (λ sessions. IsTrue (has_session sessions row.holder.client.0)) (sym same.sessions) entry.of_session)
+      touches-all (λ row. IsTrue (has_session touched.scene.sessions row.holder.client.0)) (λ row entry. entry.of_session)
+      (λ row was off entry. let same = touches.same in ap is_some (same.sessions row was off) ∙ entry.of_session)
 
   -- each is on an inode that has locks
-  pub touches-locked : All (λ row. IsTrue (map.contains_key first.locks.states row.holder.ino.0)) first.table.rows
+  pub touches-locked : All (λ row. IsTrue (map.contains_key touched.scene.locks.states row.holder.ino.0)) rows
   touches-locked =
-      touches-all (λ row. IsTrue (map.contains_key first.locks.states row.holder.ino.0)) (λ row entry. touches.locked row.holder.ino.0 ∙ entry.on_inode)
-      (λ row entry. touches.locked row.holder.ino.0 ∙ touches.known row.holder.ino.0 ∙ entry.on_inode)
+      touches-all (λ row. IsTrue (map.contains_key touched.scene.locks.states row.holder.ino.0)) (λ row entry. touches.locked row.holder.ino.0 ∙ entry.on_inode)
+      (λ row was off entry. touches.locked row.holder.ino.0 ∙ touches.known row.holder.ino.0 ∙ entry.on_inode)
+
+-- ---- what touches one inode
+
+-- it touches the inodes of which there is but this one
+pub touches-one : (ino : ℕ) (old : State) (first : Scene) → IsSound old → TouchesOne ino old first → Touches (λ other. other == ino) old (with_scene old first)
+touches-one ino old first sound one = record {
+  same = outside-one ino old.scene first one.same;
+  states = one.states;
+  known = one.known;
+  locked = one.locked;
+  waiting = one.waiting;
+  messages = (let same = one.same in
+      subst (λ (t : SessionTable). All (λ m. IsTrue (has_session t m.client.0)) old.messages) (sym same.sessions) sound.messages);
+  at_lock = λ i part is none.
+      ap (λ i. first_for first.locks.queue i part) (eqb-true i ino is)
+      ∙ one.at_lock part (ap (λ i. lock_at first.locks i part) (sym (eqb-true i ino is)) ∙ none);
+  each = λ row inside is.
+      All-contains (IsTouchedEntry first) (entries_on first.table (record { 0 = ino })) row one.each
+      (filter-contains (is_of_inode (record { 0 = ino })) first.table.rows row inside is);
+}
 
 -- ---- an event about one inode that nothing stops, and the scene that it leads to by itself
 module _ (old : State) (e : Event) (k : Holder) (about : touched_by e ≡ Some k) (passed : judged old.scene e ≡ None) (sound : IsSound old) (table : IsTable old.scene.table)
     (first : Scene) (is : first ≡ (direct old e).state.scene) where
-  touches : Touches k.ino.0 old first
-  touches = subst (Touches k.ino.0 old) (sym is) (event-touches old e k sound table about passed)
+  abbrev from : ℕ → Bool
+  from other = other == k.ino.0
+
+  touches : Touches from old (with_scene old first)
+  touches = touches-one k.ino.0 old first sound (subst (TouchesOne k.ino.0 old) (sym is) (event-touches old e k sound table about passed))
 
   pub first-table : IsTable first.table
   first-table = subst (λ (s : Scene). IsTable s.table) (sym is) (event-table old e k table about passed)
@@ -89,8 +120,8 @@ module _ (old : State) (e : Event) (k : Holder) (about : touched_by e ≡ Some k
 
   -- ---- what the next calls ask
 
-  pub first-quiet : IsQuietBut first k.ino.0
-  first-quiet = let t = touches in quiet-rest k.ino.0 old.scene first sound.at_rest t.same
+  pub first-quiet : IsQuietOutside from first
+  first-quiet = let t = touches in rest-outside from old.scene first sound.at_rest t.same
 
   pub first-numbers : NumbersLeft old → All (λ row. row.entry.seq < 2 ^ 64 - 1) first.table.rows
   first-numbers (count, given, less) =
@@ -98,36 +129,40 @@ module _ (old : State) (e : Event) (k : Holder) (about : touched_by e ≡ Some k
       (subst (λ (s : Scene). All (λ row. row.entry.seq ≤ count) s.table.rows) (sym is) (gives count given).0)
 
   pub first-clients : All (λ row. IsTrue (has_session first.sessions row.holder.client.0)) first.table.rows
-  first-clients = touches-clients k.ino.0 old first sound touches
+  first-clients = touches-clients from old (with_scene old first) sound touches
 
   pub first-locked : All (λ row. IsTrue (map.contains_key first.locks.states row.holder.ino.0)) first.table.rows
-  first-locked = touches-locked k.ino.0 old first sound touches
+  first-locked = touches-locked from old (with_scene old first) sound touches
 
   -- ---- the end of the step
 
-  module _ (last : Scene) (told : List Ended) (ends : EndsWith k.ino.0 first last told) (last_table : IsTable last.table) where
-    last-is : last ≡ finished_at ends.at k.ino.0 (direct old e).state.scene ends.settled
-    last-is = ends.finished ∙ ap (λ (s : Scene). finished_at ends.at k.ino.0 s ends.settled) is
+  module _ (last : Scene) (told : List Ended) (ends : EndsWith from first last told) (last_table : IsTable last.table) where
+    abbrev settles : SettlesWith ends.at from first ends.settled told
+    settles = ends.settles
+
+    -- the event leaves the messages
+    left : with_scene old first ≡ (direct old e).state
+    left = λ i. record { scene = is i; messages = sym (event-keeps old e k about).1 i }
 
     -- the state at the end, by the requests that the settling ended
     abbrev pub closed_state : State
     closed_state = record { scene = last; messages = old.messages ++ earlier old.scene.locks.last told }
 
-    abbrev settles : SettlesWith ends.at k.ino.0 first ends.settled told
-    settles = ends.settles
-
-    same_state : closed_state ≡ state_at_end old settles.moves (finished_at ends.at k.ino.0 (direct old e).state.scene ends.settled)
-    same_state = λ i. record { scene = last-is i; messages = old.messages ++ earlier old.scene.locks.last (settles.ended_is i) }
+    same_state : closed_state ≡ state_at_end old (direct old e).state settles.moves (finished_at ends.at (direct old e).state.scene ends.settled)
+    same_state =
+        (λ i. record { scene = ends.finished i; messages = old.messages ++ earlier old.scene.locks.last (settles.ended_is i) })
+        ∙ ap (λ (s : State). state_at_end old s settles.moves (finished_at ends.at s.scene ends.settled)) left
 
     pub closed : (said : Said) (new : State) → said.reply ≡ reply_of closed_state told (direct old e).answer → said.kept ≡ said.reply → said.ended ≡ earlier old.scene.locks.last told
         → new ≡ shown (direct old e).answer closed_state → IsAnswered old e said new
     closed said new replies kept ended new-is =
-        let keeps = event-keeps old e k about in
         let c =
-        concluded ends.at k.ino.0 old e settles.moves ends.settled sound keeps.0 keeps.1
-        (event-touches old e k sound table about passed) (event-table old e k table about passed) gives (subst (λ (s : Scene). SettlesAt ends.at k.ino.0 settles.moves s ends.settled) is settles.settles) ends.tree
-        (subst (λ (s : Scene). IsTable s.table) last-is last_table) said.reply new
+        concluded ends.at from old e settles.moves ends.settled sound (subst (Touches from old) left touches)
+        (event-table old e k table about passed) gives (subst (λ (s : Scene). SettlesAt ends.at from settles.moves s ends.settled) is settles.settles) ends.tree
+        (subst (λ (s : State). IsTable s.scene.table) same_state last_table) said.reply new
         (replies ∙ (λ i. reply_of (same_state i) (settles.ended_is i) (direct old e).answer)) (new-is ∙ ap (shown (direct old e).answer) same_state) in
-        let ends_so : earlier old.scene.locks.last (ended_in settles.moves) ≡ said.ended = ap (earlier old.scene.locks.last) (sym settles.ended_is) ∙ sym ended in
+        let ends_so : all_ended old (direct old e) settles.moves ≡ said.ended =
+        ap (λ dropped. dropped ++ earlier old.scene.locks.last (ended_in settles.moves)) (event-keeps old e k about).0
+        ∙ ap (earlier old.scene.locks.last) (sym settles.ended_is) ∙ sym ended in
         let whole : IsConcluded old e said.reply said.ended new = subst (λ (ms : List Ended). IsConcluded old e said.reply ms new) ends_so c in
         record { step = whole.step; kept = kept; sound = whole.sound; issued = whole.issued; given = whole.given }

@@ -1,6 +1,6 @@
--- The step of an event that touched one inode, all together: it is a step of the rules, leaves the state sound, issues what is due
+-- The step of an event that touched some inodes, all together: it is a step of the rules, leaves the state sound, issues what is due
 -- and gives at most one number.
-use Rattle.std.proofs.Common.{◌≡◌, ◌≤◌, ℕ, ◌+◌, Bool, List, [], sym, subst}
+use Rattle.std.proofs.Common.{◌≡◌, ◌≤◌, ℕ, ◌+◌, Bool, List, sym, subst}
 use Rattle.std.specs.Prelude.{All}
 use Rattle.inotree.specs.Tree.{IsTree}
 use Rattle.captable.specs.Table.{IsTable}
@@ -13,9 +13,9 @@ use Rattle.capcore.specs.Direct.{direct, reply_of, shown}
 use Rattle.capcore.specs.Headline.{IssuesExactly}
 use Rattle.capcore.specs.Settle.{Made, ended_in}
 use Rattle.capcore.specs.Sound.{IsSound, AreGiven}
-use Rattle.capcore.specs.Step.{Step, earlier, state_at_end}
+use Rattle.capcore.specs.Step.{Step, all_ended, state_at_end}
 use Rattle.capcore.specs.Touching.{Touches, SettlesAt, finished_at}
-use Rattle.capcore.proofs.OneInode.{touched-ends, touched-issues}
+use Rattle.capcore.proofs.EndsThere.{touched-ends, touched-issues}
 use Rattle.capcore.proofs.StayingSound.{sound-touched, given-touched}
 use Rattle.capcore.proofs.Telling.{shown-sound, shown-issued, shown-given}
 use Rattle.capcore.proofs.TouchStep.{one-step}
@@ -34,27 +34,30 @@ GivesOne old e =
     All (λ row. row.entry.seq ≤ count) (direct old e).state.scene.table.rows
     × ((direct old e).state.scene.table.made ≤ count + 1) × ((direct old e).state.scene.locks.last ≤ count + 1)
 
-module _ (at : ℕ → Bool) (ino : ℕ) (old : State) (e : Event) (moves : List Made) (settled : Scene) (sound : IsSound old) (none : (direct old e).dropped ≡ []) (left : (direct old e).state.messages ≡ old.messages)
-    (touches : Touches ino old (direct old e).state.scene) (table : IsTable (direct old e).state.scene.table) (gives : GivesOne old e)
-    (settles : SettlesAt at ino moves (direct old e).state.scene settled) (tree : IsTree settled.tree) where
+module _ (at from : ℕ → Bool) (old : State) (e : Event) (moves : List Made) (settled : Scene) (sound : IsSound old)
+    (touches : Touches from old (direct old e).state) (table : IsTable (direct old e).state.scene.table) (gives : GivesOne old e)
+    (settles : SettlesAt at from moves (direct old e).state.scene settled) (tree : IsTree settled.tree) where
+  abbrev touched : State
+  touched = (direct old e).state
+
   abbrev pub last : State
-  last = state_at_end old moves (finished_at at ino (direct old e).state.scene settled)
+  last = state_at_end old touched moves (finished_at at touched.scene settled)
 
   pub concluded : IsTable last.scene.table → (answer : Reply) (new : State) → answer ≡ reply_of last (ended_in moves) (direct old e).answer
-      → new ≡ shown (direct old e).answer last → IsConcluded old e answer (earlier old.scene.locks.last (ended_in moves)) new
+      → new ≡ shown (direct old e).answer last → IsConcluded old e answer (all_ended old (direct old e) moves) new
   concluded last-table answer new answers is = record {
     step =
-        one-step at ino old e moves settled (finished_at at ino (direct old e).state.scene settled) none left settles
-        (touched-ends at ino old moves (direct old e).state.scene settled sound table touches settles) answer new answers is;
+        one-step old e moves settled (finished_at at touched.scene settled) settles.settles
+        (touched-ends at from old touched moves settled sound table touches settles) answer new answers is;
     sound =
         subst IsSound (sym is)
-        (shown-sound last (direct old e).answer (sound-touched at ino old moves (direct old e).state.scene settled sound tree table touches settles) last-table);
+        (shown-sound last (direct old e).answer (sound-touched at from old touched moves settled sound tree table touches settles) last-table);
     issued =
-        subst (λ (s : State). IssuesExactly (direct old e).state.scene s.scene) (sym is)
-        (shown-issued (direct old e).state.scene last (direct old e).answer last-table
-        (touched-issues at ino old moves (direct old e).state.scene settled sound table touches settles tree));
+        subst (λ (s : State). IssuesExactly touched.scene s.scene) (sym is)
+        (shown-issued touched.scene last (direct old e).answer last-table
+        (touched-issues at from old touched moves settled sound table touches settles tree));
     given = λ count given. (let b = gives count given in
         subst (AreGiven (count + 1)) (sym is)
         (shown-given (count + 1) last (direct old e).answer
-        (given-touched at ino count old moves (direct old e).state.scene settled settles b.0 b.1 b.2)));
+        (given-touched at from count old touched moves settled settles b.0 b.1 b.2)));
   }

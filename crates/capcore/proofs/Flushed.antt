@@ -28,7 +28,7 @@ use Rattle.capcore.specs.Judge.{judged}
 use Rattle.capcore.specs.Direct.{direct, effect_unless, says, with_flush}
 use Rattle.capcore.specs.Served.{change_call_tests}
 use Rattle.capcore.specs.Sound.{IsSound, AreGiven}
-use Rattle.capcore.specs.Touching.{IsTouchedEntry, Touches}
+use Rattle.capcore.specs.Touching.{IsTouchedEntry, TouchesOne}
 use Rattle.capcore.proofs.Again.{change-passed}
 use Rattle.capcore.proofs.OneChange.{by_change, alike_change, sound_change}
 use Rattle.capcore.proofs.Touched.{all-left, before-passed, after-passed, AreBelow}
@@ -49,7 +49,7 @@ same-flush s k change =
     (same-tree k.ino.0 s (tree_changed s.tree k.ino.0 change) (λ other off. place_change s.tree k.ino.0 change other off) (λ other off. alike_change s.tree k.ino.0 other change off))
     (same-entries k.ino.0 changed (touched s.table k) (λ other off. refl))
 
-pub flush-touches : (old : State) (k : Holder) (change : Change) → IsSound old → IsTable old.scene.table → Touches k.ino.0 old (with_flush old k change).scene
+pub flush-touches : (old : State) (k : Holder) (change : Change) → IsSound old → IsTable old.scene.table → TouchesOne k.ino.0 old (with_flush old k change).scene
 flush-touches old k change sound table = record {
   same = same-flush old.scene k change;
   states = refl;

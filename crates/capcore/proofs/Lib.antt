@@ -1,4 +1,5 @@
 pub mod Again
+pub mod Among
 pub mod Apart
 pub mod AtEnd
 pub mod Bounded
@@ -19,7 +20,7 @@ pub mod ManyInodes
 pub mod Kept
 pub mod Moved
 pub mod Numbered
-pub mod OneInode
+pub mod EndsThere
 pub mod OneChange
 pub mod Openings
 pub mod OwnServed
@@ -32,6 +33,7 @@ pub mod SameOff
 pub mod Servings
 pub mod Sounding
 pub mod StayingSound
+pub mod Strays
 pub mod Stopping
 pub mod Stops
 pub mod Undone

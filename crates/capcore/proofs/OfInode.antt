@@ -17,7 +17,7 @@ use Rattle.capcore.specs.State.{State}
 use Rattle.capcore.specs.Judge.{judged}
 use Rattle.capcore.specs.Direct.{Direct, direct, effect, effect_unless}
 use Rattle.capcore.specs.Touch.{touch_event}
-use Rattle.capcore.specs.Touching.{touched_by, asks_for, Touches}
+use Rattle.capcore.specs.Touching.{touched_by, asks_for, TouchesOne}
 use Rattle.capcore.specs.Sound.{IsSound, AreGiven}
 use Rattle.capcore.proofs.Asked.{asking, asking-stop, asking-direct, asking-touches, below-of_ask, order-of_ask}
 use Rattle.capcore.proofs.Flushed.{flush-touches, flush-table, flush-tree, below-of_flush}
@@ -57,15 +57,15 @@ module _ (old : State) (e : Event) (k : Holder) where
   by_effect : (P : Direct → Type 0) → judged old.scene e ≡ None → P (effect old e) → P (direct old e)
   by_effect P free = subst P (sym (ap (effect_unless old e) free))
 
-  touches-by : IsOfInode k e → IsSound old → IsTable old.scene.table → judged old.scene e ≡ None → Touches k.ino.0 old (direct old e).state.scene
+  touches-by : IsOfInode k e → IsSound old → IsTable old.scene.table → judged old.scene e ≡ None → TouchesOne k.ino.0 old (direct old e).state.scene
   touches-by (Touches_entry touch is) sound table free =
-      subst (λ (e : Event). judged old.scene e ≡ None → Touches k.ino.0 old (direct old e).state.scene) (sym is) (touches-touched old k touch sound table) free
+      subst (λ (e : Event). judged old.scene e ≡ None → TouchesOne k.ino.0 old (direct old e).state.scene) (sym is) (touches-touched old k touch sound table) free
   touches-by (Waits_for ask is) sound table free =
-      subst (λ (d : Direct). Touches k.ino.0 old d.state.scene) (sym (asking-direct old e k ask is free))
+      subst (λ (d : Direct). TouchesOne k.ino.0 old d.state.scene) (sym (asking-direct old e k ask is free))
       (asking-touches old k ask sound table (sym (asking-stop e k ask old.scene is) ∙ free))
   touches-by (Flushes change is) sound table free =
-      by_effect (λ d. Touches k.ino.0 old d.state.scene) free
-      (subst (λ (e : Event). Touches k.ino.0 old (effect old e).state.scene) (sym is) (flush-touches old k change sound table))
+      by_effect (λ d. TouchesOne k.ino.0 old d.state.scene) free
+      (subst (λ (e : Event). TouchesOne k.ino.0 old (effect old e).state.scene) (sym is) (flush-touches old k change sound table))
 
   table-by : IsOfInode k e → IsTable old.scene.table → judged old.scene e ≡ None → IsTable (direct old e).state.scene.table
   table-by (Touches_entry touch is) table free =
@@ -117,7 +117,7 @@ module _ (old : State) (e : Event) (k : Holder) where
 -- ---- the event
 
 pub event-touches : (old : State) (e : Event) (k : Holder) → IsSound old → IsTable old.scene.table → touched_by e ≡ Some k → judged old.scene e ≡ None
-    → Touches k.ino.0 old (direct old e).state.scene
+    → TouchesOne k.ino.0 old (direct old e).state.scene
 event-touches old e k sound table is = touches-by old e k (asked_by e k is) sound table
 
 pub event-table : (old : State) (e : Event) (k : Holder) → IsTable old.scene.table → touched_by e ≡ Some k → judged old.scene e ≡ None → IsTable (direct old e).state.scene.table

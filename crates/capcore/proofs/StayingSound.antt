@@ -1,9 +1,9 @@
--- A sound state stays sound after the step of an event that touched one inode.
-use Rattle.std.proofs.Common.{◌≡◌, ◌≢◌, ◌≤◌, ℕ, ◌+◌, ◌==◌, Bool, true, false, cond, ◌||◌, Some, None, List, filter, refl, sym, ap, subst, ◌∙◌, ◌&&◌, ◌++◌, inl, inr, Contains, eq-eqb, arith}
+-- A sound state stays sound after the step of an event that touched some inodes.
+use Rattle.std.proofs.Common.{◌≡◌, ◌≤◌, ℕ, ◌+◌, ◌==◌, Bool, true, false, cond, ◌||◌, Some, None, is_some, List, refl, sym, ap, subst, ◌∙◌, ◌&&◌, ◌++◌, Contains, arith}
 use Rattle.std.specs.Prelude.{IsTrue, All, nat_le}
 use Rattle.std.specs.List.{find, list_any}
 use Rattle.std.specs.Option.{option_map}
-use Rattle.std.specs.Cmp.{nat_cmp_total, nat_eq_equiv}
+use Rattle.std.specs.Cmp.{nat_eq_equiv}
 use Rattle.std.specs.FinMap as map
 use Rattle.std.proofs.lemmas.List.Elements.{All-append, All-contains, All-filter, All-map, All-same, All-weaker}
 use Rattle.capbits.specs.declared.cap.Cap.TheVariants.{P}
@@ -13,8 +13,6 @@ use Rattle.capbits.specs.Caps.{has}
 use Rattle.capbits.specs.Sets.{no_caps, meet, has-none, has-meet, IsSubset}
 use Rattle.inotree.specs.declared.node.Place.TheVariants.{Gone}
 use Rattle.inotree.specs.Tree.{Nodes, IsTree, place}
-use Rattle.inotree.specs.Calls.{forgotten}
-use Rattle.inotree.proofs.Maps.{same_or_other}
 use Rattle.sessiontab.specs.Table.{SessionTable}
 use Rattle.sessiontab.specs.Calls.{has_session}
 use Rattle.captable.specs.declared.entry.EntryRow.{EntryRow}
@@ -26,7 +24,7 @@ use Rattle.captable.proofs.Searches.{find-filter_kept}
 use Rattle.captable.proofs.Tables.{same-is}
 use Rattle.lockmachine.specs.declared.moves.Move.TheVariants.{Settled}
 use Rattle.lockmachine.specs.Inodes.{StateMap, lock_in}
-use Rattle.lockmachine.specs.Locks.{lock_at, without_ino}
+use Rattle.lockmachine.specs.Locks.{lock_at}
 use Rattle.lockmachine.specs.Policy.{subject, permitted, is_open_session}
 use Rattle.lockmachine.specs.Requests.{first_for}
 use Rattle.lockmachine.specs.Scene.{Scene}
@@ -36,18 +34,18 @@ use Rattle.lockmachine.specs.Wants.{effective_want}
 use Rattle.lockmachine.proofs.Rest.{at_rest}
 use Rattle.capcore.specs.declared.outcome.Ended.{Ended}
 use Rattle.capcore.specs.State.{State}
-use Rattle.capcore.specs.Finish.{due, allowed_to, is_kept}
+use Rattle.capcore.specs.Finish.{due, allowed_to}
 use Rattle.capcore.specs.Sound.{IsSoundEntry, IsSound, AreGiven}
 use Rattle.capcore.specs.Settle.{Made, ended_in}
 use Rattle.capcore.specs.Step.{earlier, state_at_end}
 use Rattle.capcore.specs.Touching.{IsTouchedEntry, Touches, SettlesAt, finished_at}
-use Rattle.capcore.proofs.OneInode.{any-map, any_elsewhere, filter-contains, row_elsewhere, off_due, same-end}
+use Rattle.capcore.proofs.EndsThere.{any-map, off_due, same-end}
 use Rattle.capcore.proofs.IssuedRows.{ended_row, want-ended, told-ended, revoked-ended, seq-ended, effective-ended, holds-due, holds-pin, in_row-ended}
 use Rattle.capcore.proofs.IssuedRest.{on_it, last_row, issued_at, by_place, of_inode-last, rest-issued}
 use Rattle.capcore.proofs.Placed.{in_row}
 use Rattle.capcore.proofs.Forgotten.{all_rows, IsSoundBut, sound-forgotten}
 use Rattle.capcore.proofs.Moved.{IsMoved, moved-all, no_lock-moved, nobody-moved, all-waiting, Waited, ended-waited}
-use Rattle.capcore.proofs.SameOff.{other_than, IsSameFrom, from-first}
+use Rattle.capcore.proofs.SameOff.{not-among, row_elsewhere, any_elsewhere, IsSameFrom, from-first}
 use Rattle.capcore.proofs.Touched.{permitted-pin, IsKeptEntry, kept-left}
 
 -- ---- the pin
@@ -70,18 +68,21 @@ wants_pin fs tree sessions row = by_session (is_open_session (map.get sessions.s
 -- ---- the step
 
 -- all that is known of it
-record IsGiven (at : ℕ → Bool) (ino : ℕ) (old : State) (first settled : Scene) : Type 0 where
-  here : at ino ≡ true
+record IsGiven (at from : ℕ → Bool) (old touched : State) (settled : Scene) : Type 0 where
+  among : (q : ℕ) → from q ≡ true → at q ≡ true
   sound : IsSound old
   tree : IsTree settled.tree
-  table : IsTable settled.table
-  -- the first scene has the same entries
-  moved : IsMoved first settled
-  touches : Touches ino old first
-  same : IsSameFrom at ino old.scene settled
+  table : IsTable touched.scene.table
+  -- the entries are those that the event left
+  moved : IsMoved touched.scene settled
+  touches : Touches from old touched
+  same : IsSameFrom at old.scene settled
   rests : first_move settled ≡ Settled
 
-module _ (at : ℕ → Bool) (ino : ℕ) (old : State) (first settled : Scene) where
+module _ (at from : ℕ → Bool) (old touched : State) (settled : Scene) where
+  abbrev first : Scene
+  first = touched.scene
+
   abbrev last : Scene
   last = issued_at old.scene settled at
 
@@ -94,7 +95,7 @@ module _ (at : ℕ → Bool) (ino : ℕ) (old : State) (first settled : Scene) w
   abbrev rows : List EntryRow
   rows = settled.table.rows
 
-  module _ (g : IsGiven at ino old first settled) where
+  module _ (g : IsGiven at from old touched settled) where
     -- ---- rest
 
     -- who waits, waits for a lock that is there
@@ -103,43 +104,42 @@ module _ (at : ℕ → Bool) (ino : ℕ) (old : State) (first settled : Scene) w
         let moved = g.moved in
         let touches = g.touches in
         let was = no_lock-moved first settled moved i part none in
-        elim (same_or_other nat_cmp_total map.nat_cmp-IsAntisymmetric i ino) as (λ _. first_for settled.locks.queue i part ≡ None) [
-          | inl is ↦
-              ap (λ i. first_for settled.locks.queue i part) is
-              ∙ nobody-moved first settled moved ino part (touches.at_lock part (sym (ap (λ i. lock_at first.locks i part) is) ∙ was))
-          | inr off ↦ (let same = g.same in
+        nobody-moved first settled moved i part (elim (from i) as (λ b. from i ≡ b → first_for first.locks.queue i part ≡ None) [
+          | true ↦ λ is. touches.at_lock i part is was
+          | false ↦ λ off. (let same = touches.same in
               let sound = g.sound in
               let before : lock_at old.scene.locks i part ≡ None = sym (ap (λ (states : StateMap). option_map (lock_in part) (map.get states i)) touches.states) ∙ was in
               same.waiting i part off ∙ subst (IsQuiet old.scene i part) before (sound.at_rest.each i part))
-        ]
+        ] refl)
 
     rest_last : IsAtRest last
     rest_last = rest-issued old.scene settled at (at_rest settled wait_at g.rests)
 
     -- ---- rows of other inodes are those of the old state
 
-    differs : (row : EntryRow) → on row ≡ false → row.holder.ino.0 ≢ ino
-    differs row off = other_than at ino row.holder.ino.0 g.here off
+    first_row : (row : EntryRow) → Contains rows row → Contains first.table.rows row
+    first_row row inside = let moved = g.moved in subst (λ (t : Table). Contains t.rows row) moved.table inside
 
-    old_row : (row : EntryRow) → Contains rows row → row.holder.ino.0 ≢ ino → Contains old.scene.table.rows row
-    old_row row inside off = let same = g.same in row_elsewhere ino old.scene.table settled.table same.entries row inside off
+    old_row : (row : EntryRow) → Contains rows row → from row.holder.ino.0 ≡ false → Contains old.scene.table.rows row
+    old_row row inside off =
+        let touches = g.touches in
+        let same = touches.same in
+        row_elsewhere from old.scene.table first.table same.entries row (first_row row inside) off
 
     of_its_inode : (k : Holder) (row : EntryRow) → is_row_of k row ≡ true → is_of_inode k.ino row ≡ true
     of_its_inode k row is = ap (λ (h : Holder). h.ino.0 == k.ino.0) (sym (same-is k row.holder is)) ∙ nat_eq_equiv.refl k.ino.0
 
-    old_found : (row : EntryRow) → Contains rows row → row.holder.ino.0 ≢ ino → find (is_row_of row.holder) old.scene.table.rows ≡ Some row
+    old_found : (row : EntryRow) → Contains rows row → from row.holder.ino.0 ≡ false → find (is_row_of row.holder) old.scene.table.rows ≡ Some row
     old_found row inside off =
         let k = row.holder in
-        let same = g.same in
+        let touches = g.touches in
+        let same = touches.same in
         sym (find-filter_kept (is_row_of k) (is_of_inode k.ino) (of_its_inode k) old.scene.table.rows)
         ∙ ap (find (is_row_of k)) (sym (same.entries k.ino off))
-        ∙ find-filter_kept (is_row_of k) (is_of_inode k.ino) (of_its_inode k) rows ∙ row_found settled.table row g.table inside
-
-    first_row : (row : EntryRow) → Contains rows row → Contains first.table.rows row
-    first_row row inside = let moved = g.moved in subst (λ (t : Table). Contains t.rows row) moved.table inside
+        ∙ find-filter_kept (is_row_of k) (is_of_inode k.ino) (of_its_inode k) first.table.rows ∙ row_found first.table row g.table (first_row row inside)
 
     -- what every state keeps of such a row, it keeps; so by itself the event leaves each row as one of its inode
-    kept_row : (row : EntryRow) → Contains rows row → row.holder.ino.0 ≢ ino → IsKeptEntry old.scene row
+    kept_row : (row : EntryRow) → Contains rows row → from row.holder.ino.0 ≡ false → IsKeptEntry old.scene row
     kept_row row inside off =
         let sound = g.sound in
         let was = All-contains (IsSoundEntry old.scene) old.scene.table.rows row sound.entries (old_row row inside off) in
@@ -153,20 +153,19 @@ module _ (at : ℕ → Bool) (ino : ℕ) (old : State) (first settled : Scene) w
           revoked = was.revoked;
         }
 
-    touched : (row : EntryRow) → Contains rows row → IsTouchedEntry first row
-    touched row inside =
+    touched_row : (row : EntryRow) → Contains rows row → IsTouchedEntry first row
+    touched_row row inside =
         let touches = g.touches in
-        elim (same_or_other nat_cmp_total map.nat_cmp-IsAntisymmetric row.holder.ino.0 ino) as (λ _. IsTouchedEntry first row) [
-          | inl is ↦
-              All-contains (IsTouchedEntry first) (filter (is_of_inode (record { 0 = ino })) first.table.rows) row touches.each
-              (filter-contains (is_of_inode (record { 0 = ino })) first.table.rows row (first_row row inside) (eq-eqb row.holder.ino.0 ino is))
-          | inr off ↦ (let same = touches.same in kept-left old.scene first row same.sessions touches.states touches.known (kept_row row inside off))
-        ]
+        elim (from row.holder.ino.0) as (λ b. from row.holder.ino.0 ≡ b → IsTouchedEntry first row) [
+          | true ↦ λ is. touches.each row (first_row row inside) is
+          | false ↦ λ off. (let same = touches.same in
+              kept-left old.scene first row (ap is_some (same.sessions row (old_row row inside off) off)) touches.states touches.known (kept_row row inside off))
+        ] refl
 
     -- ---- what is held is in its rows
 
     in_row_settled : (row : EntryRow) → Contains rows row → (part : Part) → IsInRow settled row part
-    in_row_settled row inside part = let moved = g.moved in let entry = touched row inside in moved.in_rows row part (first_row row inside) (entry.in_row part)
+    in_row_settled row inside part = let moved = g.moved in let entry = touched_row row inside in moved.in_rows row part (first_row row inside) (entry.in_row part)
 
     in_row_last : (row : EntryRow) → Contains rows row → (part : Part) → IsInRow settled (last_of row) part
     in_row_last row inside part =
@@ -202,6 +201,9 @@ module _ (at : ℕ → Bool) (ino : ℕ) (old : State) (first settled : Scene) w
         due_as_before : due last (ended_row old.scene settled row) ≡ due settled row
         due_as_before = λ i. meet (effective-ended old.scene settled row settled.fs settled.tree settled.sessions i) (allowed_to settled row)
 
+    settled_table : IsTable settled.table
+    settled_table = let moved = g.moved in subst IsTable (sym moved.table) g.table
+
     -- the same inodes are there
     there_still : (q : ℕ) → map.contains_key settled.tree.nodes q ≡ map.contains_key old.scene.tree.nodes q
     there_still q = let moved = g.moved in let touches = g.touches in moved.nodes q ∙ touches.known q
@@ -210,33 +212,33 @@ module _ (at : ℕ → Bool) (ino : ℕ) (old : State) (first settled : Scene) w
     entry_elsewhere row inside off =
         let sound = g.sound in
         let same = g.same in
-        let was = All-contains (IsSoundEntry old.scene) old.scene.table.rows row sound.entries (old_row row inside (differs row off)) in
+        let was = All-contains (IsSoundEntry old.scene) old.scene.table.rows row sound.entries (old_row row inside (not-among from at g.among row.holder.ino.0 off)) in
         record {
-          of_session = subst (λ (t : SessionTable). IsTrue (has_session t row.holder.client.0)) (sym same.sessions) was.of_session;
+          of_session = ap is_some (same.sessions row inside off) ∙ was.of_session;
           on_inode = there_still row.holder.ino.0 ∙ was.on_inode;
           holds_pin = was.holds_pin;
           wants_pin = was.wants_pin;
-          has_due = subst (λ caps. IsSubset caps row.entry.held) (sym (off_due at ino old settled g.here sound g.table same row inside off)) was.has_due;
+          has_due = subst (λ caps. IsSubset caps row.entry.held) (sym (off_due at old settled sound settled_table same row inside off)) was.has_due;
           told = was.told;
           revoked = was.revoked;
         }
 
     entry_last : (row : EntryRow) → Contains rows row → IsSoundEntry last (last_of row)
     entry_last row inside =
-        by_place old.scene settled at (IsSoundEntry last) row (λ here. entry_here row (touched row inside)) (λ off. entry_elsewhere row inside off)
+        by_place old.scene settled at (IsSoundEntry last) row (λ here. entry_here row (touched_row row inside)) (λ off. entry_elsewhere row inside off)
 
     -- ---- inodes
 
     locked_last : (q : ℕ) → map.contains_key settled.locks.states q ≡ map.contains_key settled.tree.nodes q
     locked_last q = let moved = g.moved in let touches = g.touches in moved.states q ∙ touches.locked q ∙ sym (moved.nodes q)
 
-    strays_last : (q : ℕ) → q ≢ ino → place settled.tree.nodes q ≡ Gone → IsTrue (list_any (is_of_inode (record { 0 = q })) last.table.rows)
+    strays_last : (q : ℕ) → at q ≡ false → place settled.tree.nodes q ≡ Gone → IsTrue (list_any (is_of_inode (record { 0 = q })) last.table.rows)
     strays_last q off gone =
         let sound = g.sound in
         let same = g.same in
         let of_it = is_of_inode (record { 0 = q }) in
         any-map of_it last_of (of_inode-last old.scene settled at q) rows
-        ∙ any_elsewhere ino old.scene.table settled.table same.entries q off ∙ sound.strays q (sym (same.places q off) ∙ gone)
+        ∙ any_elsewhere at old.scene.table settled.table same.entries q off ∙ sound.strays q (sym (same.places q off) ∙ gone)
 
     -- ---- all together
 
@@ -247,7 +249,7 @@ module _ (at : ℕ → Bool) (ino : ℕ) (old : State) (first settled : Scene) w
         all-waiting (λ q. IsTrue (has_session settled.sessions q.client.0)) first settled g.moved
         (All-weaker (λ q. IsTrue (has_session first.sessions q.client.0)) (λ q. IsTrue (has_session settled.sessions q.client.0)) (λ q. has_session_still q.client.0) first.locks.queue touches.waiting)
 
-    but_last : (messages : List Ended) → All (λ m. IsTrue (has_session settled.sessions m.client.0)) messages → IsSoundBut ino (record { scene = last; messages = messages })
+    but_last : (messages : List Ended) → All (λ m. IsTrue (has_session settled.sessions m.client.0)) messages → IsSoundBut at (record { scene = last; messages = messages })
     but_last messages told = record {
       entries = All-map (IsSoundEntry last) last_of rows (all_rows (λ row. IsSoundEntry last (last_of row)) rows entry_last);
       waiting = waiting_last;
@@ -258,74 +260,71 @@ module _ (at : ℕ → Bool) (ino : ℕ) (old : State) (first settled : Scene) w
       at_rest = rest_last;
     }
 
-    sound_last : (messages : List Ended) → All (λ m. IsTrue (has_session settled.sessions m.client.0)) messages → IsSound (record { scene = finished_at at ino old.scene settled; messages = messages })
-    sound_last messages told = sound-forgotten ino (record { scene = last; messages = messages }) g.tree (but_last messages told)
+    sound_last : (messages : List Ended) → All (λ m. IsTrue (has_session settled.sessions m.client.0)) messages → IsSound (record { scene = finished_at at old.scene settled; messages = messages })
+    sound_last messages told = sound-forgotten at (record { scene = last; messages = messages }) (but_last messages told) g.tree
 
-module _ (at : ℕ → Bool) (ino : ℕ) (old : State) (moves : List Made) (first settled : Scene) (sound : IsSound old) (tree : IsTree settled.tree) (table : IsTable first.table) (touches : Touches ino old first)
-    (settles : SettlesAt at ino moves first settled) where
-  moved-there : IsMoved first settled
-  moved-there = let made = settles.settles in moved-all first moves settled made.made
+module _ (at from : ℕ → Bool) (old touched : State) (moves : List Made) (settled : Scene) (sound : IsSound old) (tree : IsTree settled.tree) (table : IsTable touched.scene.table)
+    (touches : Touches from old touched) (settles : SettlesAt at from moves touched.scene settled) where
+  moved-there : IsMoved touched.scene settled
+  moved-there = let made = settles.settles in moved-all touched.scene moves settled made.made
 
-  given-all : IsGiven at ino old first settled
-  given-all = let made = settles.settles in let moved = moved-there in record {
-    here = settles.here;
+  given-all : IsGiven at from old touched settled
+  given-all = let made = settles.settles in record {
+    among = settles.among;
     sound = sound;
     tree = tree;
-    table = subst IsTable (sym moved.table) table;
-    moved = moved;
+    table = table;
+    moved = moved-there;
     touches = touches;
-    same = from-first at ino old.scene first settled settles.here touches.same settles.same;
+    same = from-first at from old.scene touched.scene settled settles.among touches.same settles.same;
     rests = made.settled;
   }
+
+  -- who has a session right after the event, has it at the end
+  connected : (client : ℕ) → IsTrue (has_session touched.scene.sessions client) → IsTrue (has_session settled.sessions client)
+  connected client is = let moved = moved-there in subst (λ (t : SessionTable). IsTrue (has_session t client)) (sym moved.sessions) is
 
   -- whose requests the moves ended, has a session
   ended-connected : All (λ m. IsTrue (has_session settled.sessions m.client.0)) (ended_in moves)
   ended-connected =
       let made = settles.settles in
-      let moved = moved-there in
-      All-weaker (Waited first.locks.queue) (λ m. IsTrue (has_session settled.sessions m.client.0))
+      All-weaker (Waited touched.scene.locks.queue) (λ m. IsTrue (has_session settled.sessions m.client.0))
       (λ m w. subst (λ (c : ClientId). IsTrue (has_session settled.sessions c.0)) (sym w.client)
-      (subst (λ (t : SessionTable). IsTrue (has_session t w.request.client.0)) (sym moved.sessions)
-      (All-contains (λ q. IsTrue (has_session first.sessions q.client.0)) first.locks.queue w.request touches.waiting w.inside)))
-      (ended_in moves) (ended-waited first moves settled made.made)
+      (connected w.request.client.0
+      (All-contains (λ q. IsTrue (has_session touched.scene.sessions q.client.0)) touched.scene.locks.queue w.request touches.waiting w.inside)))
+      (ended_in moves) (ended-waited touched.scene moves settled made.made)
 
-  messages-connected : All (λ m. IsTrue (has_session settled.sessions m.client.0)) old.messages
+  messages-connected : All (λ m. IsTrue (has_session settled.sessions m.client.0)) touched.messages
   messages-connected =
-      let same = given-all.same in
-      subst (λ (t : SessionTable). All (λ m. IsTrue (has_session t m.client.0)) old.messages) (sym same.sessions) sound.messages
+      All-weaker (λ m. IsTrue (has_session touched.scene.sessions m.client.0)) (λ m. IsTrue (has_session settled.sessions m.client.0)) (λ m. connected m.client.0) touched.messages touches.messages
 
-  pub sound-touched : IsSound (state_at_end old moves (finished_at at ino first settled))
+  pub sound-touched : IsSound (state_at_end old touched moves (finished_at at touched.scene settled))
   sound-touched =
-      subst (λ (s : Scene). IsSound (state_at_end old moves s)) (sym (same-end at ino old first settled touches))
-      (sound_last at ino old first settled given-all (old.messages ++ earlier old.scene.locks.last (ended_in moves))
-      (All-append (λ m. IsTrue (has_session settled.sessions m.client.0)) old.messages (earlier old.scene.locks.last (ended_in moves)) messages-connected
+      subst (λ (s : Scene). IsSound (state_at_end old touched moves s)) (sym (same-end at from old touched settled touches))
+      (sound_last at from old touched settled given-all (touched.messages ++ earlier old.scene.locks.last (ended_in moves))
+      (All-append (λ m. IsTrue (has_session settled.sessions m.client.0)) touched.messages (earlier old.scene.locks.last (ended_in moves)) messages-connected
       (All-filter (λ m. nat_le m.ticket.0 old.scene.locks.last) (λ m. IsTrue (has_session settled.sessions m.client.0)) (ended_in moves) ended-connected)))
 
 -- ---- numbers
 
-module _ (at : ℕ → Bool) (ino count : ℕ) (old : State) (moves : List Made) (first settled : Scene) (settles : SettlesAt at ino moves first settled)
-    (numbers : All (λ row. row.entry.seq ≤ count) first.table.rows) (made : first.table.made ≤ count + 1) (given : first.locks.last ≤ count + 1) where
-  moved-so : IsMoved first settled
-  moved-so = let all = settles.settles in moved-all first moves settled all.made
+module _ (at from : ℕ → Bool) (count : ℕ) (old touched : State) (moves : List Made) (settled : Scene) (settles : SettlesAt at from moves touched.scene settled)
+    (numbers : All (λ row. row.entry.seq ≤ count) touched.scene.table.rows) (made : touched.scene.table.made ≤ count + 1) (given : touched.scene.locks.last ≤ count + 1) where
+  moved-so : IsMoved touched.scene settled
+  moved-so = let all = settles.settles in moved-all touched.scene moves settled all.made
 
-  numbers_last : All (λ row. row.entry.seq ≤ count + 1) (issued_at first settled at).table.rows
+  numbers_last : All (λ row. row.entry.seq ≤ count + 1) (issued_at touched.scene settled at).table.rows
   numbers_last =
       let moved = moved-so in
-      All-map (λ row. row.entry.seq ≤ count + 1) (last_row first settled at) settled.table.rows
-      (All-weaker (λ row. row.entry.seq ≤ count) (λ row. (last_row first settled at row).entry.seq ≤ count + 1)
-      (λ row was. by_place first settled at (λ r. r.entry.seq ≤ count + 1) row (λ here. seq-ended first settled row count was) (λ off. omega (arith, was)))
-      settled.table.rows (All-same (λ row. row.entry.seq ≤ count) settled.table.rows first.table.rows (ap (λ (t : Table). t.rows) moved.table) numbers))
+      All-map (λ row. row.entry.seq ≤ count + 1) (last_row touched.scene settled at) settled.table.rows
+      (All-weaker (λ row. row.entry.seq ≤ count) (λ row. (last_row touched.scene settled at row).entry.seq ≤ count + 1)
+      (λ row was. by_place touched.scene settled at (λ r. r.entry.seq ≤ count + 1) row (λ here. seq-ended touched.scene settled row count was) (λ off. omega (arith, was)))
+      settled.table.rows (All-same (λ row. row.entry.seq ≤ count) settled.table.rows touched.scene.table.rows (ap (λ (t : Table). t.rows) moved.table) numbers))
 
   request_last : settled.locks.last ≤ count + 1
   request_last = let moved = moved-so in let same = moved.last in omega (arith, same, given)
 
   made_last : settled.table.made ≤ count + 1
-  made_last = let moved = moved-so in let same : settled.table.made ≡ first.table.made = ap (λ (t : Table). t.made) moved.table in omega (arith, same, made)
+  made_last = let moved = moved-so in let same : settled.table.made ≡ touched.scene.table.made = ap (λ (t : Table). t.made) moved.table in omega (arith, same, made)
 
-  pub given-touched : AreGiven (count + 1) (state_at_end old moves (finished_at at ino first settled))
-  given-touched =
-      let last = issued_at first settled at in
-      elim (is_kept last ino) as (λ b. AreGiven (count + 1) (state_at_end old moves (cond b last (record last { tree = forgotten last.tree ino; locks = without_ino last.locks ino })))) [
-        | true ↦ record { entries = numbers_last; last = request_last; made = made_last }
-        | false ↦ record { entries = numbers_last; last = request_last; made = made_last }
-      ]
+  pub given-touched : AreGiven (count + 1) (state_at_end old touched moves (finished_at at touched.scene settled))
+  given-touched = record { entries = numbers_last; last = request_last; made = made_last }

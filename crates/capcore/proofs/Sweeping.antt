@@ -1,5 +1,5 @@
 -- How the locks of several inodes settle between two servings.
-use Rattle.std.proofs.Common.{◌≡◌, ◌≢◌, ◌<◌, ◌≤◌, ◌+◌, ℕ, Bool, true, false, cond, ◌||◌, ◌==◌, nat_lt, count_by, Option, Some, None, List, [], ◌∷◌, ◌++◌, refl, sym, ap, subst, ◌∙◌, Contains, true≢false, arith}
+use Rattle.std.proofs.Common.{◌≡◌, ◌≢◌, ◌<◌, ◌≤◌, ◌+◌, ℕ, Bool, true, false, cond, ◌||◌, ◌==◌, nat_lt, count_by, Option, Some, None, List, [], ◌∷◌, ◌++◌, refl, sym, ap, subst, ◌∙◌, true≢false, arith}
 use Rattle.std.specs.List.{list_any}
 use Rattle.std.specs.Ordering.{nat_cmp, eq_by_cmp}
 use Rattle.std.specs.Cmp.{unsigned_tied}
@@ -19,12 +19,15 @@ use Rattle.lockmachine.specs.declared.states.InodeLocks.{InodeLocks}
 use Rattle.lockmachine.specs.Inodes.{lock_in}
 use Rattle.lockmachine.specs.Locks.{LockMap, lock_at}
 use Rattle.lockmachine.specs.Scene.{Scene, wanted_in_all}
-use Rattle.lockmachine.specs.Moves.{may_end, may_begin, may_end_in, may_begin_in, first_move}
+use Rattle.lockmachine.specs.Moves.{may_end_by, may_end_in, may_begin_in, first_move}
 use Rattle.lockmachine.specs.declared.moves.Move.TheVariants.{Settled}
-use Rattle.lockmachine.specs.Runs.{MoveLittle, ChangesLocksOf}
-use Rattle.lockmachine.specs.Turns.{IsTurnOf, IsDoneAt, WaitHere}
-use Rattle.lockmachine.proofs.Turns.{turn-passes, turn-rests, waits-kept}
-use Rattle.capcore.specs.Settle.{MakesAll, ended_in}
+use Rattle.lockmachine.specs.Runs.{MoveLittle, EndLittle, ChangesLocksOf}
+use Rattle.lockmachine.specs.Turns.{IsTurnOf, IsDoneAt, WaitAt}
+use Rattle.lockmachine.proofs.Turns.{turn-passes, turn-rests}
+use Rattle.lockmachine.proofs.Finding.{by_number}
+use Rattle.lockmachine.proofs.Waiting.{waits-kept-at}
+use Rattle.captable.specs.Table.{Table}
+use Rattle.capcore.specs.Settle.{ended_in}
 use Rattle.capcore.specs.Sweep.{AreStill, IsSwept, IsNextOf}
 use Rattle.capcore.proofs.Moved.{as_made, makes-append, ended-append}
 
@@ -64,8 +67,8 @@ still-kept at s locks still queue same = record {
 off_one : (at : ℕ → Bool) (one other : ℕ) → at one ≡ true → at other ≡ false → other ≢ one
 off_one at one other is off same = true≢false (sym is ∙ ap at (sym same) ∙ off)
 
-pub swept-begins : (at : ℕ → Bool) (ino : ℕ) (s : Scene) → WaitHere s ino → IsSwept at ino s s
-swept-begins at ino s waits = record {
+pub swept-begins : (at : ℕ → Bool) (s : Scene) → WaitAt at s → IsSwept at s s
+swept-begins at s waits = record {
   moves = [];
   made = refl;
   none = refl;
@@ -75,20 +78,48 @@ swept-begins at ino s waits = record {
   waits = waits;
 }
 
+-- what changes one of the inodes leaves the locks of all others
+pub same-elsewhere : (at : ℕ → Bool) (old new : LockMap) (here : ℕ) → at here ≡ true → ChangesLocksOf here old new
+    → (other : ℕ) → at other ≡ false → map.get new.states other ≡ map.get old.states other
+same-elsewhere at old new here touched changes other off =
+    locks_by_parts old new other (λ part. changes.others other part (off_one at here other touched off))
+
 -- gathers began and ended at one more of the inodes
-pub swept-on : (at : ℕ → Bool) (ino : ℕ) (first now : Scene) → IsSwept at ino first now → (here : ℕ) → at here ≡ true → (locks : LockMap)
-    → MoveLittle now (record now { locks = locks }) → ChangesLocksOf here now.locks locks → IsSwept at ino first (record now { locks = locks })
-swept-on at ino first now is here touched locks (steps, few, runs) changes =
+pub swept-on : (at : ℕ → Bool) (first now : Scene) → IsSwept at first now → (here : ℕ) → at here ≡ true → (locks : LockMap)
+    → MoveLittle now (record now { locks = locks }) → ChangesLocksOf here now.locks locks → IsSwept at first (record now { locks = locks })
+swept-on at first now is here touched locks (steps, few, runs) changes =
     let more = as_made now steps (record now { locks = locks }) runs in
     record {
       moves = is.moves ++ more.moves;
       made = makes-append first is.moves now more.moves (record now { locks = locks }) is.made more.made;
       none = ended-append is.moves more.moves ∙ ap (λ ms. ms ++ ended_in more.moves) is.none ∙ more.none;
       is = ap (λ (s : Scene). record s { locks = locks }) is.is;
-      states = λ other off. locks_by_parts now.locks locks other (λ part. changes.others other part (off_one at here other touched off)) ∙ is.states other off;
+      states = λ other off. same-elsewhere at now.locks locks here touched changes other off ∙ is.states other off;
       queue = changes.queue ∙ is.queue;
-      waits = waits-kept ino now steps (record now { locks = locks }) runs is.waits;
+      waits = waits-kept-at at now steps (record now { locks = locks }) runs is.waits;
     }
+
+-- ---- gathers that end before any other move
+
+-- no gather ends at the inodes up to one, nor at those behind it that are none of these
+pub ends-passed : (at : ℕ → Bool) (t : Table) (first old new : LockMap) (here : ℕ)
+    → ((other : ℕ) (part : Part) → at other ≡ false → may_end_by t first (other, part) ≡ false)
+    → ((other : ℕ) → at other ≡ false → map.get new.states other ≡ map.get first.states other)
+    → ((other : ℕ) (part : Part) → other < here → may_end_by t old (other, part) ≡ false)
+    → ChangesLocksOf here old new → ((part : Part) → may_end_by t new (here, part) ≡ false)
+    → (other : ℕ) (part : Part) → (here < other → at other ≡ false) → may_end_by t new (other, part) ≡ false
+ends-passed at t first old new here elsewhere same lower changes done other part above =
+    by_number other here (may_end_by t new (other, part) ≡ false)
+    (λ below. (let off : other ≢ here = λ is. omega (arith, below, is) in
+    ap (may_end_in t (other, part)) (changes.others other part off) ∙ lower other part below))
+    (λ is. subst (λ i. may_end_by t new (i, part) ≡ false) (sym is) (done part))
+    (λ behind. (let off = above behind in ap (λ (locks : Option InodeLocks). may_end_in t (other, part) (option_map (lock_in part) locks)) (same other off) ∙ elsewhere other part off))
+
+-- where gathers end, that is some moves between two servings
+pub ends-little : (old new : Scene) → EndLittle old new → MoveLittle old new
+ends-little old new (steps, ends, few, runs) = (steps, few, runs)
+
+-- ---- turns
 
 -- an inode is done, and it is the next one's turn
 pub next-turn : (at : ℕ → Bool) (s : Scene) (here : ℕ) (next : Ino) → AreStill at s → IsTurnOf s here → IsDoneAt s here → IsNextOf at here (Some next) → IsTurnOf s next.0

@@ -60,7 +60,7 @@ use Rattle.capcore.specs.Judge.{judged, before, needs, after, stop_by, first_den
 use Rattle.capcore.specs.Needs.{Need}
 use Rattle.capcore.specs.Direct.{Direct, direct, effect, effect_unless, opening_wants, with_entry, with_table}
 use Rattle.capcore.specs.Touch.{touch_event, touch_tests, touched_table}
-use Rattle.capcore.specs.Touching.{IsTouchedEntry, Touches}
+use Rattle.capcore.specs.Touching.{IsTouchedEntry, TouchesOne}
 use Rattle.capcore.specs.Headline.{IsInPlace}
 use Rattle.capcore.specs.Sound.{IsSound, IsSoundEntry, AreGiven}
 use Rattle.capcore.proofs.Judging.{no_test}
@@ -274,11 +274,11 @@ pub record IsKeptEntry (s : Scene) (row : EntryRow) : Type 0 where
   pub told : row.entry.told_seq ≤ row.entry.seq
   pub revoked : row.entry.revoke_seq ≤ row.entry.seq
 
--- so an event may leave it, where the same sessions, inodes and locks are there
-pub kept-left : (s new : Scene) (row : EntryRow) → new.sessions ≡ s.sessions → new.locks.states ≡ s.locks.states
+-- so an event may leave it, where its client has a session still, and the same inodes and locks are there
+pub kept-left : (s new : Scene) (row : EntryRow) → has_session new.sessions row.holder.client.0 ≡ has_session s.sessions row.holder.client.0 → new.locks.states ≡ s.locks.states
     → ((ino : ℕ) → map.contains_key new.tree.nodes ino ≡ map.contains_key s.tree.nodes ino) → IsKeptEntry s row → IsTouchedEntry new row
 kept-left s new row sessions states known is = record {
-  of_session = ap (λ (t : SessionTable). has_session t row.holder.client.0) sessions ∙ is.of_session;
+  of_session = sessions ∙ is.of_session;
   on_inode = known row.holder.ino.0 ∙ is.on_inode;
   wants_pin = is.wants_pin;
   pin = ap (λ b. b || has (effective_want new.fs new.tree new.sessions row) P) is.holds_pin;
@@ -315,7 +315,8 @@ sound-kept old sound table =
 pub all-left : (old : State) (new : Scene) → IsSound old → IsTable old.scene.table → new.sessions ≡ old.scene.sessions → new.locks.states ≡ old.scene.locks.states
     → ((ino : ℕ) → map.contains_key new.tree.nodes ino ≡ map.contains_key old.scene.tree.nodes ino) → All (IsTouchedEntry new) old.scene.table.rows
 all-left old new sound table sessions states known =
-    All-weaker (IsKeptEntry old.scene) (IsTouchedEntry new) (λ row. kept-left old.scene new row sessions states known) old.scene.table.rows (sound-kept old sound table)
+    All-weaker (IsKeptEntry old.scene) (IsTouchedEntry new) (λ row. kept-left old.scene new row (ap (λ (t : SessionTable). has_session t row.holder.client.0) sessions) states known) old.scene.table.rows
+    (sound-kept old sound table)
 
 -- what holds less is where it was
 less-in_row : (row : EntryRow) (e : Entry) (part : Part) (o : Option LockState) → IsSubset e.held row.entry.held → IsInRowOf row part o → IsInRowOf (record row { entry = e }) part o
@@ -453,9 +454,9 @@ module _ (old : State) (client : ClientId) (ino : Ino) (sound : IsSound old) (ta
 -- ---- the event
 
 pub touches-touched : (old : State) (k : Holder) (touch : Touch) → IsSound old → IsTable old.scene.table → judged old.scene (touch_event k.client k.ino touch) ≡ None
-    → Touches k.ino.0 old (direct old (touch_event k.client k.ino touch)).state.scene
+    → TouchesOne k.ino.0 old (direct old (touch_event k.client k.ino touch)).state.scene
 touches-touched old k touch sound table free =
-    subst (λ (s : State). Touches k.ino.0 old s.scene) (sym (touched-state old k.client k.ino touch free)) (record {
+    subst (λ (s : State). TouchesOne k.ino.0 old s.scene) (sym (touched-state old k.client k.ino touch free)) (record {
       same = same-entries k.ino.0 old.scene (touched_table old.scene.table k (revoked_of old.scene k) touch)
           (λ other apart. others-touched old.scene.table k other (λ same. apart (ap (λ (i : Ino). i.0) same)) (revoked_of old.scene k) touch);
       states = refl;

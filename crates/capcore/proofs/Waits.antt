@@ -1,5 +1,5 @@
 -- The step of a request that waits, as its calls go.
-use Rattle.std.proofs.Common.{◌≡◌, ◌<◌, ◌≤◌, ◌+◌, ◌==◌, false, not, cond, Some, None, List, ◌++◌, length, refl, sym, ap, subst, ◌∙◌, arith}
+use Rattle.std.proofs.Common.{◌≡◌, ◌<◌, ◌≤◌, ℕ, Bool, ◌+◌, ◌==◌, not, cond, Some, None, List, ◌++◌, length, refl, sym, ap, subst, ◌∙◌, arith}
 use Rattle.std.specs.Prelude.{IsTrue, All}
 use Rattle.std.specs.List.{count_by, find}
 use Rattle.std.specs.FinMap as map
@@ -13,20 +13,20 @@ use Rattle.lockmachine.specs.declared.request.Ask.{Ask}
 use Rattle.lockmachine.specs.declared.request.Ask.TheVariants.{Get, Alter, Unlink, Rmdir, Rename}
 use Rattle.lockmachine.specs.Locks.{LockMap, IsLockMap, queue_tests, with_request}
 use Rattle.lockmachine.specs.Scene.{Scene}
-use Rattle.lockmachine.specs.Moves.{IsQuietBut}
-use Rattle.lockmachine.proofs.SameBut.{quiet-rest}
+use Rattle.lockmachine.specs.Moves.{IsQuietOutside}
+use Rattle.lockmachine.proofs.SameOutside.{rest-outside}
 use Rattle.captable.specs.Table.{IsTable}
 use Rattle.capcore.specs.State.{State}
 use Rattle.capcore.specs.Answered.{IsAnswered}
 use Rattle.capcore.specs.Asks.{ask_needs}
 use Rattle.capcore.specs.declared.reply.Said.{Said}
-use Rattle.capcore.specs.Direct.{Answer, Awaits, Direct, direct, reply_of, shown, awaited_as, is_of_ticket}
+use Rattle.capcore.specs.Direct.{Answer, Awaits, Direct, direct, reply_of, shown, with_scene, awaited_as, is_of_ticket}
 use Rattle.capcore.specs.Judge.{judged, stop, asking_tests, waiting_tests}
 use Rattle.capcore.specs.Serves.{EndsWith}
 use Rattle.capcore.specs.Sound.{IsSound}
 use Rattle.capcore.specs.Step.{earlier}
 use Rattle.capcore.proofs.Asked.{asking-touches, asking-direct, asking-stop, order-of_ask}
-use Rattle.capcore.proofs.Closing.{told-own_numbers, told-but_own, touches-locked, closed}
+use Rattle.capcore.proofs.Closing.{told-own_numbers, told-but_own, touches-one, touches-locked, closed}
 use Rattle.capcore.proofs.Stops.{touched-asks}
 use Rattle.capcore.specs.declared.event.Event.{Event}
 use Rattle.capcore.specs.declared.event.Event.TheVariants as event
@@ -62,25 +62,30 @@ module _ (old : State) (k : Holder) (ask : Ask) (sound : IsSound old) (table : I
   abbrev first : Scene
   first = record old.scene { locks = locks }
 
-  touches : Touches k.ino.0 old first
-  touches = subst (λ (l : LockMap). Touches k.ino.0 old (record old.scene { locks = l })) (sym queued) (asking-touches old k ask sound table free)
+  abbrev from : ℕ → Bool
+  from other = other == k.ino.0
 
-  pub wait-quiet : IsQuietBut first k.ino.0
-  wait-quiet = let t = touches in quiet-rest k.ino.0 old.scene first sound.at_rest t.same
+  touches : Touches from old (with_scene old first)
+  touches =
+      subst (λ (l : LockMap). Touches from old (with_scene old (record old.scene { locks = l }))) (sym queued)
+      (touches-one k.ino.0 old (record old.scene { locks = with_request old.scene.locks k.client k.ino ask }) sound (asking-touches old k ask sound table free))
+
+  pub wait-quiet : IsQuietOutside from first
+  wait-quiet = let t = touches in rest-outside from old.scene first sound.at_rest t.same
 
   pub wait-locked : All (λ row. IsTrue (map.contains_key first.locks.states row.holder.ino.0)) first.table.rows
-  wait-locked = touches-locked k.ino.0 old first sound touches
+  wait-locked = touches-locked from old (with_scene old first) sound touches
 
-  module _ (last : Scene) (told : List Ended) (ends : EndsWith k.ino.0 first last told) where
+  module _ (last : Scene) (told : List Ended) (ends : EndsWith from first last told) where
     pub wait-differ : HaveOwnNumbers told
-    wait-differ = told-own_numbers ends.at k.ino.0 first ends.settled told ends.settles
+    wait-differ = told-own_numbers ends.at from first ends.settled told ends.settles
 
     module _ (last_table : IsTable last.table) (ticket : Ticket) (next : ticket.0 ≡ old.scene.locks.last + 1) (said : Said) (messages : List Ended)
         (replies : said.reply ≡ awaited_as ticket (find (is_of_ticket ticket) told)) (kept : said.kept ≡ said.reply) (ended : said.ended ≡ but_for ticket told)
         (left : messages ≡ old.messages ++ but_for ticket told) where
       others : earlier old.scene.locks.last told ≡ but_for ticket told
       others =
-          told-but_own ends.at k.ino.0 first ends.settled told ends.settles (subst IsLockMap (sym queued) (order-of_ask old.scene k ask order free)) old.scene.locks.last ticket next
+          told-but_own ends.at from first ends.settled told ends.settles (subst IsLockMap (sym queued) (order-of_ask old.scene k ask order free)) old.scene.locks.last ticket next
           (ap (λ (l : LockMap). l.last) queued)
 
       abbrev new : State

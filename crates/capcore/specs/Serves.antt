@@ -20,20 +20,21 @@ pub record Serves (old : Scene) (ticket : Ticket) (ended : Ended) (new : Scene) 
   pub ended_is : ended ≡ record { client = request.client; ticket = request.ticket; outcome = ended.outcome }
   pub is : new ≡ record old { tree = tree_after old.tree request ended.outcome; locks = without_request old.locks ticket.0 }
 
--- the inode of the event, or one that was moved with it and whose locks from before were kept
+-- the inode, or one whose locks from before were kept: another of the event, or one that was moved
 abbrev pub is_touched : ℕ → StateMap → ℕ → Bool
 is_touched ino touched other = (other == ino) || map.contains_key touched other
 
--- by some moves the locks settle, nothing changes but at these inodes, and these requests end, in this order
-pub record SettlesWith (at : ℕ → Bool) (ino : ℕ) (first settled : Scene) (ended : List Ended) : Type 0 where
+-- by some moves the locks settle, nothing changes but at these inodes, among which are those of the event, and these requests end,
+-- in this order
+pub record SettlesWith (at from : ℕ → Bool) (first settled : Scene) (ended : List Ended) : Type 0 where
   pub moves : List Made
-  pub settles : SettlesAt at ino moves first settled
+  pub settles : SettlesAt at from moves first settled
   pub ended_is : ended ≡ ended_in moves
 
--- the locks settle, these requests end, and the step ends at the inodes that it touched
-pub record EndsWith (ino : ℕ) (first last : Scene) (ended : List Ended) : Type 0 where
+-- the event was about these inodes: the locks settle, these requests end, and the step ends at the inodes that it touched
+pub record EndsWith (from : ℕ → Bool) (first last : Scene) (ended : List Ended) : Type 0 where
   pub at : ℕ → Bool
   pub settled : Scene
-  pub settles : SettlesWith at ino first settled ended
+  pub settles : SettlesWith at from first settled ended
   pub tree : IsTree settled.tree
-  pub finished : last ≡ finished_at at ino first settled
+  pub finished : last ≡ finished_at at first settled

@@ -10,10 +10,9 @@ use Rattle.captable.specs.Table.{Table}
 use Rattle.lockmachine.specs.declared.request.Request.{Request}
 use Rattle.lockmachine.specs.declared.moves.Move.TheVariants.{Serve, Settled}
 use Rattle.lockmachine.specs.Inodes.{StateMap}
-use Rattle.lockmachine.specs.Locks.{lock_at}
 use Rattle.lockmachine.specs.Scene.{Scene}
 use Rattle.lockmachine.specs.Moves.{first_move, may_end, may_begin}
-use Rattle.lockmachine.specs.Turns.{IsTurnOf, WaitHere}
+use Rattle.lockmachine.specs.Turns.{IsTurnOf, WaitAt}
 use Rattle.capcore.specs.Served.{is_rename}
 use Rattle.capcore.specs.Settle.{Made, MakesAll, ended_in}
 
@@ -37,26 +36,25 @@ pub record AreStill (at : ℕ → Bool) (s : Scene) : Type 0 where
   pub ends : (other : ℕ) (part : Part) → at other ≡ false → may_end s (other, part) ≡ false
   pub begins : (other : ℕ) (part : Part) → at other ≡ false → may_begin s (other, part) ≡ false
 
--- gathers began and ended at these inodes, always by the first move that applied; who waits at another inode than this one is
--- held up
-pub record IsSwept (at : ℕ → Bool) (ino : ℕ) (first now : Scene) : Type 0 where
+-- gathers began and ended at these inodes, always by the first move that applied; who waits at another is held up
+pub record IsSwept (at : ℕ → Bool) (first now : Scene) : Type 0 where
   pub moves : List Made
   pub made : MakesAll first moves now
   pub none : ended_in moves ≡ []
   pub is : now ≡ record first { locks = now.locks }
   pub states : (other : ℕ) → at other ≡ false → map.get now.locks.states other ≡ map.get first.locks.states other
   pub queue : now.locks.queue ≡ first.locks.queue
-  pub waits : WaitHere now ino
+  pub waits : WaitAt at now
 
 -- the request that is to be served next, or else no move applies
 abbrev pub GoesOn : Scene → Option Ticket → Type 0
 GoesOn s None = first_move s ≡ Settled
 GoesOn s (Some ticket) = first_move s ≡ Serve ticket
 
--- if the request moves its inode, the locks are kept of every other inode at or below it that somebody has an entry on
-abbrev pub Covers : Request → Nodes → Table → StateMap → Type 0
-Covers q tree table kept =
-    is_rename q.ask ≡ true → (row : EntryRow) → Contains table.rows row → row.holder.ino.0 ≢ q.ino.0 →
+-- if the request moves its inode, the locks are kept of every inode at or below it that somebody has an entry on, but for this one
+abbrev pub Covers : Request → ℕ → Nodes → Table → StateMap → Type 0
+Covers q ino tree table kept =
+    is_rename q.ask ≡ true → (row : EntryRow) → Contains table.rows row → row.holder.ino.0 ≢ ino →
     is_within tree.nodes row.holder.ino.0 q.ino.0 ≡ true → map.contains_key kept row.holder.ino.0 ≡ true
 
 -- locks of other inodes than this one are kept besides, as they are now
@@ -65,7 +63,8 @@ pub record Keeps (ino : ℕ) (states old new : StateMap) : Type 0 where
   pub besides : (other : ℕ) → map.contains_key old other ≡ false → map.contains_key new other ≡ true →
       (other ≢ ino) × (map.get new other ≡ map.get states other)
 
--- when the request is served, locks of other inodes are kept besides; they cover what it moves, or the tree stays as it was
-pub record Reaches (q : Request) (tree after : Nodes) (table : Table) (states old new : StateMap) : Type 0 where
-  pub keeps : Keeps q.ino.0 states old new
-  pub covers : (after ≡ tree) ⊎ Covers q tree table new
+-- when the request is served, locks of other inodes than this one are kept besides; they cover what it moves, or the tree stays
+-- as it was
+pub record Reaches (q : Request) (ino : ℕ) (tree after : Nodes) (table : Table) (states old new : StateMap) : Type 0 where
+  pub keeps : Keeps ino states old new
+  pub covers : (after ≡ tree) ⊎ Covers q ino tree table new

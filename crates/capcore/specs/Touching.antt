@@ -1,5 +1,5 @@
--- Events that are about one inode, and how their steps end.
-use Rattle.std.specs.Prelude.{◌≡◌, ◌≢◌, ◌≤◌, ℕ, Bool, true, false, ◌||◌, List, Option, Some, None, Contains, IsTrue, All, if◌then◌else◌}
+-- Events that are about one inode or about many, and how their steps end.
+use Rattle.std.specs.Prelude.{◌≡◌, ◌≤◌, ℕ, Bool, true, false, not, ◌||◌, List, Option, Some, None, Contains, IsTrue, All, if◌then◌else◌}
 use Rattle.std.specs.FinMap as map
 use Rattle.capbits.specs.declared.cap.Cap.TheVariants.{P}
 use Rattle.capbits.specs.declared.cap.Part.{Part}
@@ -12,11 +12,11 @@ use Rattle.captable.specs.declared.entry.Entry.{Entry}
 use Rattle.captable.specs.declared.entry.EntryRow.{EntryRow}
 use Rattle.captable.specs.declared.entry.Holder.{Holder}
 use Rattle.captable.specs.Table.{holder}
-use Rattle.captable.specs.Calls.{is_of_inode, entries_on, renumbered}
+use Rattle.captable.specs.Calls.{entries_on, renumbered}
 use Rattle.captable.specs.Many.{changed_where}
 use Rattle.lockmachine.specs.declared.request.Ask.{Ask}
 use Rattle.lockmachine.specs.declared.request.Ask.TheVariants.{Get, Alter, Unlink, Rmdir, Rename}
-use Rattle.lockmachine.specs.Elsewhere.{IsSameBut}
+use Rattle.lockmachine.specs.Elsewhere.{IsSameBut, IsSameOutside}
 use Rattle.lockmachine.specs.Wants.{effective_want}
 use Rattle.lockmachine.specs.Requests.{first_for}
 use Rattle.lockmachine.specs.Locks.{lock_at, without_ino}
@@ -101,40 +101,52 @@ pub record IsTouchedEntry (s : Scene) (row : EntryRow) : Type 0 where
   pub told : row.entry.told_seq ≤ row.entry.seq
   pub revoked : row.entry.revoke_seq ≤ row.entry.seq
 
--- the scene differs from that of the old state at this inode alone: in its entries, in who waits for its locks, or in what it is
-pub record Touches (ino : ℕ) (old : State) (first : Scene) : Type 0 where
-  pub same : IsSameBut ino old.scene first
+-- right after the event the state differs from the old one at these inodes alone: in their entries, in who waits for their locks,
+-- in what they are, in the sessions of clients that have no entry on another, and in what clients are still to be told
+pub record Touches (from : ℕ → Bool) (old touched : State) : Type 0 where
+  pub same : IsSameOutside from old.scene touched.scene
   -- no lock has moved yet
-  pub states : first.locks.states ≡ old.scene.locks.states
+  pub states : touched.scene.locks.states ≡ old.scene.locks.states
   -- the same inodes are there, each with its locks and no others
+  pub known : (other : ℕ) → map.contains_key touched.scene.tree.nodes other ≡ map.contains_key old.scene.tree.nodes other
+  pub locked : (other : ℕ) → map.contains_key touched.scene.locks.states other ≡ map.contains_key touched.scene.tree.nodes other
+  -- who waits or is still to be told has a session, and who waits at one of these, waits for a lock that is there
+  pub waiting : All (λ q. IsTrue (has_session touched.scene.sessions q.client.0)) touched.scene.locks.queue
+  pub messages : All (λ m. IsTrue (has_session touched.scene.sessions m.client.0)) touched.messages
+  pub at_lock : (ino : ℕ) (part : Part) → from ino ≡ true → lock_at touched.scene.locks ino part ≡ None →
+      first_for touched.scene.locks.queue ino part ≡ None
+  pub each : (row : EntryRow) → Contains touched.scene.table.rows row → from row.holder.ino.0 ≡ true → IsTouchedEntry touched.scene row
+
+-- the event is about one inode: it leaves sessions and messages, and leads to this scene
+pub record TouchesOne (ino : ℕ) (old : State) (first : Scene) : Type 0 where
+  pub same : IsSameBut ino old.scene first
+  pub states : first.locks.states ≡ old.scene.locks.states
   pub known : (other : ℕ) → map.contains_key first.tree.nodes other ≡ map.contains_key old.scene.tree.nodes other
   pub locked : (other : ℕ) → map.contains_key first.locks.states other ≡ map.contains_key first.tree.nodes other
-  -- who waits has a session, and waits at this inode for a lock that is there
   pub waiting : All (λ q. IsTrue (has_session first.sessions q.client.0)) first.locks.queue
   pub at_lock : (part : Part) → lock_at first.locks ino part ≡ None → first_for first.locks.queue ino part ≡ None
   pub each : All (IsTouchedEntry first) (entries_on first.table (record { 0 = ino }))
 
 -- ---- how their steps end
 
--- The inodes that a step touches are that of its event and, where it was moved, those at or below it that somebody has an
+-- The inodes that a step touches are those of its event and, where some were moved, those at or below them that somebody has an
 -- entry on.
 
--- off these inodes the locks are the same in both scenes, and so is of each that somebody has an entry on its path, its owner,
--- its group and its mode; and off that of the event, who waits first and where inodes stand. Entries and sessions are as they were
-pub record IsSameOff (at : ℕ → Bool) (ino : ℕ) (old new : Scene) : Type 0 where
+-- off these inodes the locks are the same in both scenes, so is where inodes stand, and so is of each that somebody has an entry
+-- on its path, its owner, its group and its mode. Entries and sessions are as they were
+pub record IsSameOff (at : ℕ → Bool) (old new : Scene) : Type 0 where
   pub fs : new.fs ≡ old.fs
   pub sessions : new.sessions ≡ old.sessions
   pub table : new.table ≡ old.table
   pub locks : (other : ℕ) (part : Part) → at other ≡ false → lock_at new.locks other part ≡ lock_at old.locks other part
+  pub places : (other : ℕ) → at other ≡ false → place new.tree.nodes other ≡ place old.tree.nodes other
   pub alike : (row : EntryRow) → Contains old.table.rows row → at row.holder.ino.0 ≡ false → IsAlike old.tree new.tree row.holder.ino.0
-  pub waiting : (other : ℕ) (part : Part) → other ≢ ino → first_for new.locks.queue other part ≡ first_for old.locks.queue other part
-  pub places : (other : ℕ) → other ≢ ino → place new.tree.nodes other ≡ place old.tree.nodes other
 
--- by these moves the locks have settled, and nothing has changed but at these inodes, of which that of the event is one
-pub record SettlesAt (at : ℕ → Bool) (ino : ℕ) (moves : List Made) (first settled : Scene) : Type 0 where
+-- by these moves the locks have settled, and nothing has changed but at these inodes, among which are those of the event
+pub record SettlesAt (at from : ℕ → Bool) (moves : List Made) (first settled : Scene) : Type 0 where
   pub settles : Settles first moves settled
-  pub here : at ino ≡ true
-  pub same : IsSameOff at ino first settled
+  pub among : (ino : ℕ) → from ino ≡ true → at ino ≡ true
+  pub same : IsSameOff at first settled
 
 -- the entry at the end: it gains what is due, and has a new number if its client is to know of another set than right
 -- after the event
@@ -146,7 +158,18 @@ finished_entry first settled row =
 abbrev pub forget_at : ℕ → Scene → Scene
 forget_at ino s = if is_kept s ino then s else record s { tree = forgotten s.tree ino; locks = without_ino s.locks ino }
 
--- the end of the step, at these inodes alone, of which only that of the event may have become a stray
-abbrev pub finished_at : (ℕ → Bool) → ℕ → Scene → Scene → Scene
-finished_at at ino first settled =
-    forget_at ino (record settled { table = changed_where (λ row. at row.holder.ino.0) (finished_entry first settled) settled.table })
+-- the inode is none of these, or it is kept
+abbrev pub stays : (ℕ → Bool) → Scene → ℕ → Bool
+stays at s ino = not (at ino) || is_kept s ino
+
+-- so goes each of these, all at once
+abbrev pub forget_among : (ℕ → Bool) → Scene → Scene
+forget_among at s = record s {
+  tree = record s.tree { nodes = map.retain_keys s.tree.nodes (stays at s) };
+  locks = record s.locks { states = map.retain_keys s.locks.states (stays at s) };
+}
+
+-- the end of the step, at these inodes alone
+abbrev pub finished_at : (ℕ → Bool) → Scene → Scene → Scene
+finished_at at first settled =
+    forget_among at (record settled { table = changed_where (λ row. at row.holder.ino.0) (finished_entry first settled) settled.table })

@@ -19,7 +19,7 @@ use crate::serving::{
     after_refusal, ask_denial, before_refusal, change_access, change_refusal, places_refusal,
     rename_denial,
 };
-use crate::settle::end_at;
+use crate::settle::end_at_one;
 use crate::stopped::Stopped;
 use crate::world::World;
 use capbits::{ClientId, Ino, Refusal};
@@ -111,7 +111,7 @@ impl World {
             return Err(refused.into());
         }
         let ticket = self.locks.enqueue(client, ino, ask);
-        end_at(
+        end_at_one(
             &self.fs,
             &mut self.tree,
             &self.sessions,

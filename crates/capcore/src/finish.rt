@@ -11,7 +11,7 @@ ghost use Rattle.lockmachine.specs.Scene.{Scene, scene};
 ghost use Rattle.capcore.specs.Finish.{allowed_by};
 ghost use Rattle.capcore.specs.Finishing as words;
 ghost use Rattle.capcore.specs.Direct.{opened_as};
-ghost use Rattle.capcore.specs.Touching.{forget_at, finished_at};
+ghost use Rattle.capcore.specs.Touching.{forget_at, forget_among, finished_at};
 ghost use Rattle.capcore.specs.Serves.{is_touched};
 
 use crate::reply::Reply;
@@ -27,9 +27,9 @@ use sessiontab::{MAX_SESSIONS, Sessions};
 
 // ---- at the touched inodes
 
-// Issues what is due on the touched inodes, numbers what clients are to know of, and forgets that of the event if it is a stray
-// that nobody has an entry on. The locks have settled. That of the event had the locks `before` when it came, and those that
-// were moved with it the ones that are kept of them.
+// Issues what is due on the touched inodes, numbers what clients are to know of, and forgets those that are strays that nobody has
+// an entry on. The locks have settled. The one inode had the locks `before` when the event came, and the others those that are
+// kept of them.
 pub(crate) fn finish(
     fs: &FsName,
     tree: &mut Tree,
@@ -47,12 +47,13 @@ pub(crate) fn finish(
         → ((other : ℕ) → map.contains_key touched.now other ≡ true
         → map.get touched.now other ≡ map.get first.locks.states other)
         → scene fs.now tree.new sessions.now table.new locks.new
-        ≡ finished_at (is_touched ino.0 touched.now) ino.0 first (scene fs.now tree.old sessions.now table.old locks.old) }
+        ≡ finished_at (is_touched ino.0 touched.now) first (scene fs.now tree.old sessions.now table.old locks.old) }
     ensures queue { locks.new.queue ≡ locks.old.queue }
 {
     finish_touched(fs, tree, sessions, table, locks, touched);
     let now = locks.of_ino(ino);
     finish_entries(fs, tree, sessions, table, ino, &before, &now);
+    forget_touched(tree, table, locks, touched);
     forget_unheld(tree, table, locks, ino);
 }
 
@@ -76,6 +77,17 @@ fn finish_touched(
         let kept = touched.get(ino).copied();
         let now = locks.of_ino(ino);
         finish_entries(fs, tree, sessions, table, ino, &kept, &now);
+    }
+}
+
+// Forgets those whose locks were kept, if they are strays that nobody has an entry on.
+fn forget_touched(tree: &mut Tree, table: &CapTable, locks: &mut Locks, touched: &States)
+    ensures left { (fs : List ℕ) (sessions : SessionTable) → scene fs tree.new sessions table.now locks.new
+        ≡ forget_among (map.contains_key touched.now) (scene fs tree.old sessions table.now locks.old) }
+    ensures queue { locks.new.queue ≡ locks.old.queue }
+{
+    for number in touched.inos() {
+        forget_unheld(tree, table, locks, Ino(*number));
     }
 }
 

@@ -14,7 +14,7 @@ use crate::judge::{by_test, denial};
 use crate::messages::Endings;
 use crate::reply::{Reply, Said};
 use crate::serving::{alter, change_access, change_refusal};
-use crate::settle::end_at;
+use crate::settle::end_at_one;
 use crate::stopped::Stopped;
 use crate::world::World;
 use capbits::{Cap, CapSet, ClientId, Ino, Part, Refusal};
@@ -45,7 +45,7 @@ impl World {
             return Err(refused.into());
         }
         self.table.touch(client, ino);
-        end_at(
+        end_at_one(
             &self.fs,
             &mut self.tree,
             &self.sessions,

@@ -13,24 +13,25 @@ use inotree::Tree;
 use lockmachine::{Ask, Locks, Request, States};
 use std::alloc::{AllocError, Global};
 
-// If the request moves its inode, keeps the locks of every other inode at or below it that somebody has an entry on.
+// If the request moves its inode, keeps the locks of every inode at or below it that somebody has an entry on, but for this one.
 pub(crate) fn reach(
     alloc: Global,
     tree: &Tree,
     table: &CapTable,
     locks: &Locks,
     request: &Request,
+    ino: Ino,
     touched: &mut States,
 ) -> Result<(), AllocError>
     requires locked { All (λ row. IsTrue (map.contains_key locks.now.states row.holder.ino.0)) table.now.rows }
-    ensures keeps { Keeps request.now.ino.0 locks.now.states touched.old touched.new }
-    ensures covers { OnOk result (Covers request.now tree.now table.now touched.new) }
+    ensures keeps { Keeps ino.0 locks.now.states touched.old touched.new }
+    ensures covers { OnOk result (Covers request.now ino.0 tree.now table.now touched.new) }
     ensures memory { OnErr result (is_rename request.now.ask ≡ true) }
 {
     match request.ask {
         Ask::Rename { .. } => {
             let inos = tree.within(alloc, request.ino)?;
-            keep_held(table, locks, request.ino, inos.as_slice(), touched)
+            keep_held(table, locks, ino, inos.as_slice(), touched)
         }
         Ask::Get(_) | Ask::Alter(_) | Ask::Unlink | Ask::Rmdir => Ok(()),
     }

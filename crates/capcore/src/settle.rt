@@ -1,13 +1,16 @@
 //! The locks settle at the inodes that a step touches, and who waits for them is served.
-ghost use Rattle.std.specs.Prelude.{◌≡◌, ◌≤◌, ◌<◌, ◌^◌, ◌-◌, ◌+◌, ◌++◌, ◌∷◌, [], true, false, length, ℕ, Some, All, IsTrue};
+ghost use Rattle.std.specs.Prelude.{◌≡◌, ◌==◌, ◌≤◌, ◌<◌, ◌^◌, ◌-◌, ◌+◌, ◌++◌, ◌∷◌, [], true, false, length, ℕ, List, Some, All, IsTrue};
 ghost use Rattle.std.specs.FinMap as map;
+ghost use Rattle.capbits.specs.declared.cap.Part.{Part};
+ghost use Rattle.inotree.specs.Tree.{Nodes};
+ghost use Rattle.sessiontab.specs.Table.{SessionTable};
 ghost use Rattle.sessiontab.specs.Calls.{has_session};
 ghost use Rattle.captable.specs.Table.{Table, IsTable};
 ghost use Rattle.lockmachine.specs.declared.request.Request.{Request};
 ghost use Rattle.lockmachine.specs.Locks.{request_at};
 ghost use Rattle.lockmachine.specs.Scene.{scene};
-ghost use Rattle.lockmachine.specs.Moves.{IsQuietBut};
-ghost use Rattle.lockmachine.specs.Turns.{WaitHere};
+ghost use Rattle.lockmachine.specs.Moves.{may_end_by, IsQuietOutside};
+ghost use Rattle.lockmachine.specs.Turns.{WaitAt};
 ghost use Rattle.capcore.specs.declared.outcome.Ended.{Ended};
 ghost use Rattle.capcore.specs.Serves.{Serves, SettlesWith, EndsWith, is_touched};
 ghost use Rattle.capcore.specs.Sweep.{AreStill, GoesOn, IsTurnOfLeast, IsLeastOf, IsNextOf, IsSwept, Reaches};
@@ -24,8 +27,8 @@ use inotree::Tree;
 use lockmachine::{Locks, Move, States};
 use sessiontab::Sessions;
 
-// Lets the locks settle after an event at one inode, and ends the step. The locks of every other inode are quiet.
-pub(crate) fn end_at(
+// Lets the locks settle after an event about one inode, and ends the step. The locks of every other inode are quiet.
+pub(crate) fn end_at_one(
     fs: &FsName,
     tree: &mut Tree,
     sessions: &Sessions,
@@ -34,7 +37,7 @@ pub(crate) fn end_at(
     ino: Ino,
     endings: &mut Endings,
 )
-    requires quiet { IsQuietBut (scene fs.now tree.old sessions.now table.old locks.old) ino.0 }
+    requires quiet { IsQuietOutside (λ other. other == ino.0) (scene fs.now tree.old sessions.now table.old locks.old) }
     requires none { endings.old.told.items ≡ [] }
     requires told { HasRoom endings.old.told locks.old }
     requires kept { HasRoom endings.old.kept locks.old }
@@ -42,7 +45,41 @@ pub(crate) fn end_at(
     requires locked { All (λ row. IsTrue (map.contains_key locks.old.states row.holder.ino.0)) table.old.rows }
     requires numbers { All (λ row. row.entry.seq < 2 ^ 64 - 1) table.old.rows }
     requires clients { All (λ row. IsTrue (has_session sessions.now row.holder.client.0)) table.old.rows }
-    ensures ends { EndsWith ino.0 (scene fs.now tree.old sessions.now table.old locks.old)
+    ensures ends { EndsWith (λ other. other == ino.0) (scene fs.now tree.old sessions.now table.old locks.old)
+        (scene fs.now tree.new sessions.now table.new locks.new) endings.new.told.items }
+    ensures kept { endings.new.kept.items ≡ endings.new.told.items }
+    // As many waited as wait and have ended.
+    ensures count { length endings.new.told.items + length locks.new.queue ≡ length locks.old.queue }
+    ensures table { IsTable table.new }
+{
+    let others = States::new(endings.alloc());
+    end_at(fs, tree, sessions, table, locks, ino, others, endings);
+}
+
+// Lets the locks settle after an event, and ends the step. The event was about one inode and those whose locks are kept as they
+// are; the locks of every other inode are quiet.
+pub(crate) fn end_at(
+    fs: &FsName,
+    tree: &mut Tree,
+    sessions: &Sessions,
+    table: &mut CapTable,
+    locks: &mut Locks,
+    ino: Ino,
+    others: States,
+    endings: &mut Endings,
+)
+    requires quiet { IsQuietOutside (is_touched ino.0 others) (scene fs.now tree.old sessions.now table.old locks.old) }
+    requires apart { map.contains_key others ino.0 ≡ false }
+    requires before { (other : ℕ) → map.contains_key others other ≡ true
+        → map.get others other ≡ map.get locks.old.states other }
+    requires none { endings.old.told.items ≡ [] }
+    requires told { HasRoom endings.old.told locks.old }
+    requires kept { HasRoom endings.old.kept locks.old }
+    requires same { endings.old.kept.items ≡ endings.old.told.items }
+    requires locked { All (λ row. IsTrue (map.contains_key locks.old.states row.holder.ino.0)) table.old.rows }
+    requires numbers { All (λ row. row.entry.seq < 2 ^ 64 - 1) table.old.rows }
+    requires clients { All (λ row. IsTrue (has_session sessions.now row.holder.client.0)) table.old.rows }
+    ensures ends { EndsWith (is_touched ino.0 others) (scene fs.now tree.old sessions.now table.old locks.old)
         (scene fs.now tree.new sessions.now table.new locks.new) endings.new.told.items }
     ensures kept { endings.new.kept.items ≡ endings.new.told.items }
     // As many waited as wait and have ended.
@@ -50,7 +87,7 @@ pub(crate) fn end_at(
     ensures table { IsTable table.new }
 {
     let before = locks.of_ino(ino);
-    let touched = settle(fs, tree, sessions, table, locks, ino, endings);
+    let touched = settle(fs, tree, sessions, table, locks, ino, others, endings);
     // A look at the tree, by which the proof knows what it keeps.
     let _last = tree.last();
     finish(fs, tree, sessions, table, locks, ino, before, &touched);
@@ -59,7 +96,7 @@ pub(crate) fn end_at(
 }
 
 // Makes the moves, always the first that applies, until none does. Each request that is served ends, once for its client and
-// once for the history. It answers the locks that other inodes had which were moved with this one.
+// once for the history. It answers the locks that the other inodes of the event had, and those that were moved with one of them.
 fn settle(
     fs: &FsName,
     tree: &mut Tree,
@@ -67,15 +104,20 @@ fn settle(
     table: &CapTable,
     locks: &mut Locks,
     ino: Ino,
+    others: States,
     endings: &mut Endings,
 ) -> States
-    requires quiet { IsQuietBut (scene fs.now tree.old sessions.now table.now locks.old) ino.0 }
+    requires quiet { IsQuietOutside (is_touched ino.0 others) (scene fs.now tree.old sessions.now table.now locks.old) }
+    requires apart { map.contains_key others ino.0 ≡ false }
+    requires before { (other : ℕ) → map.contains_key others other ≡ true
+        → map.get others other ≡ map.get locks.old.states other }
     requires none { endings.old.told.items ≡ [] }
     requires told { HasRoom endings.old.told locks.old }
     requires kept { HasRoom endings.old.kept locks.old }
     requires same { endings.old.kept.items ≡ endings.old.told.items }
     requires locked { All (λ row. IsTrue (map.contains_key locks.old.states row.holder.ino.0)) table.now.rows }
-    ensures settles { SettlesWith (is_touched ino.0 result) ino.0 (scene fs.now tree.old sessions.now table.now locks.old)
+    ensures settles { SettlesWith (is_touched ino.0 result) (is_touched ino.0 others)
+        (scene fs.now tree.old sessions.now table.now locks.old)
         (scene fs.now tree.new sessions.now table.now locks.new) endings.new.told.items }
     ensures kept { endings.new.kept.items ≡ endings.new.told.items }
     ensures count { length endings.new.told.items + length locks.new.queue ≡ length locks.old.queue }
@@ -83,7 +125,8 @@ fn settle(
     ensures before { (other : ℕ) → map.contains_key result other ≡ true
         → map.get result other ≡ map.get locks.old.states other }
 {
-    let mut touched = States::new(endings.alloc());
+    let mut touched = others;
+    end_gathers(table, locks, ino, &touched);
     'servings: while let Some(ticket) = sweep(fs, tree, sessions, table, locks, ino, &touched) {
         // A look at the locks and at the tree, by which the proof knows what they keep.
         let (_lock, _last) = (locks.state(ino, Part::A), tree.last());
@@ -93,6 +136,7 @@ fn settle(
             sessions,
             table,
             locks,
+            ino,
             ticket,
             &mut touched,
             endings,
@@ -102,6 +146,27 @@ fn settle(
 }
 
 // ---- moves of locks
+
+// Ends the gathers of the touched inodes that may end, one inode after the other. No gather of another inode may.
+fn end_gathers(table: &CapTable, locks: &mut Locks, ino: Ino, touched: &States)
+    requires elsewhere { (other : ℕ) (part : Part) → is_touched ino.0 touched.now other ≡ false
+        → may_end_by table.now locks.old (other, part) ≡ false }
+    ensures ends { (other : ℕ) (part : Part) → may_end_by table.now locks.new (other, part) ≡ false }
+    // Each is the first move that applies, whatever the tree and the sessions are.
+    ensures swept { (fs : List ℕ) (tree : Nodes) (sessions : SessionTable)
+        → WaitAt (is_touched ino.0 touched.now) (scene fs tree sessions table.now locks.old)
+        → IsSwept (is_touched ino.0 touched.now) (scene fs tree sessions table.now locks.old)
+        (scene fs tree sessions table.now locks.new) }
+{
+    let mut at = lowest(touched, ino);
+    'inodes: loop {
+        locks.end_gathers_at(table, at);
+        let Some(next) = next_touched(touched, ino, at) else {
+            return;
+        };
+        at = next;
+    }
+}
 
 // Lets the locks of the touched inodes move, one inode after the other, until a request is to be served, whose number it
 // answers, or no move applies.
@@ -116,8 +181,8 @@ fn sweep(
 ) -> Option<Ticket>
     requires turn { IsTurnOfLeast (is_touched ino.0 touched.now) (scene fs.now tree.now sessions.now table.now locks.old) }
     requires still { AreStill (is_touched ino.0 touched.now) (scene fs.now tree.now sessions.now table.now locks.old) }
-    requires waits { WaitHere (scene fs.now tree.now sessions.now table.now locks.old) ino.0 }
-    ensures swept { IsSwept (is_touched ino.0 touched.now) ino.0 (scene fs.now tree.now sessions.now table.now locks.old)
+    requires waits { WaitAt (is_touched ino.0 touched.now) (scene fs.now tree.now sessions.now table.now locks.old) }
+    ensures swept { IsSwept (is_touched ino.0 touched.now) (scene fs.now tree.now sessions.now table.now locks.old)
         (scene fs.now tree.now sessions.now table.now locks.new) }
     ensures next { GoesOn (scene fs.now tree.now sessions.now table.now locks.new) result }
 {
@@ -156,14 +221,15 @@ fn next_touched(touched: &States, ino: Ino, at: Ino) -> Option<Ino>
 
 // ---- servings
 
-// Serves the request with this number. If it moves its inode, the locks that each other inode has are kept which is at or below
-// it and has entries; for want of memory for that it ends so.
+// Serves the request with this number. If it moves its inode, the locks are kept that each inode but the one has which is at or
+// below it and has entries; for want of memory for that it ends so.
 fn serve_next(
     fs: &FsName,
     tree: &mut Tree,
     sessions: &Sessions,
     table: &CapTable,
     locks: &mut Locks,
+    ino: Ino,
     ticket: Ticket,
     touched: &mut States,
     endings: &mut Endings,
@@ -177,13 +243,13 @@ fn serve_next(
         × (endings.new.told.items ≡ endings.old.told.items ++ ended ∷ [])
         × (endings.new.kept.items ≡ endings.old.kept.items ++ ended ∷ []) }
     ensures reached { (q : Request) → request_at locks.old ticket.0 ≡ Some q
-        → Reaches q tree.old tree.new table.now locks.old.states touched.old touched.new }
+        → Reaches q ino.0 tree.old tree.new table.now locks.old.states touched.old touched.new }
     ensures room { (endings.old.told.room ≤ endings.new.told.room) × (endings.old.kept.room ≤ endings.new.kept.room) }
 {
     let Some(request) = locks.apply_move(Move::Serve(ticket)) else {
         unreachable!()
     };
-    let reached = reach(endings.alloc(), tree, table, locks, &request, touched);
+    let reached = reach(endings.alloc(), tree, table, locks, &request, ino, touched);
     let served = serve(
         endings.alloc(),
         fs,

@@ -1,25 +1,22 @@
-//! Laws of the steps of events that are about one inode. No program needs to call them.
+//! How an event becomes a step. No program needs to call this law.
 
-ghost use Rattle.std.specs.Prelude.{◌≡◌, ℕ, Bool, List, []};
+ghost use Rattle.std.specs.Prelude.{◌≡◌, List};
 ghost use Rattle.lockmachine.specs.Scene.{Scene};
 ghost use Rattle.capcore.specs.declared.event.Event.{Event};
 ghost use Rattle.capcore.specs.declared.reply.Reply.{Reply};
 ghost use Rattle.capcore.specs.State.{State};
 ghost use Rattle.capcore.specs.Direct.{direct, reply_of, shown};
 ghost use Rattle.capcore.specs.Finish.{finished};
-ghost use Rattle.capcore.specs.Settle.{Made, ended_in};
-ghost use Rattle.capcore.specs.Step.{Step, earlier, state_at_end};
-ghost use Rattle.capcore.specs.Touching.{SettlesAt};
+ghost use Rattle.capcore.specs.Settle.{Made, Settles, ended_in};
+ghost use Rattle.capcore.specs.Step.{Step, all_ended, state_at_end};
 
-/// An event that drops no request and leaves the messages is a whole step, once the locks of one inode have settled, the step
-/// has ended and its client was told what is answered. The requests of earlier steps that were served are what the step
-/// ended.
-pub fn an_event_of_one_inode_is_a_step()
-    ensures { (at : ℕ → Bool) (ino : ℕ) (old new : State) (e : Event) (moves : List Made) (settled last : Scene) (answer : Reply)
-        → (direct old e).dropped ≡ [] → (direct old e).state.messages ≡ old.messages
-        → SettlesAt at ino moves (direct old e).state.scene settled
+/// An event is a whole step, once the locks have settled, the step has ended and its client was told what is answered. The
+/// requests that the event dropped and those of earlier steps that were served are what the step ended.
+pub fn an_event_is_a_step_once_it_has_ended()
+    ensures { (old new : State) (e : Event) (moves : List Made) (settled last : Scene) (answer : Reply)
+        → Settles (direct old e).state.scene moves settled
         → finished old.scene (direct old e).state.scene settled ≡ last
-        → answer ≡ reply_of (state_at_end old moves last) (ended_in moves) (direct old e).answer
-        → new ≡ shown (direct old e).answer (state_at_end old moves last)
-        → Step old e answer (earlier old.scene.locks.last (ended_in moves)) new }
+        → answer ≡ reply_of (state_at_end old (direct old e).state moves last) (ended_in moves) (direct old e).answer
+        → new ≡ shown (direct old e).answer (state_at_end old (direct old e).state moves last)
+        → Step old e answer (all_ended old (direct old e) moves) new }
 {}

@@ -29,7 +29,7 @@ use crate::judge::{by_test, denial};
 use crate::messages::{Endings, Messages};
 use crate::poll::{due_messages, give};
 use crate::reply::{Reply, Said};
-use crate::settle::end_at;
+use crate::settle::end_at_one;
 use crate::start::first_locks;
 use crate::stopped::Stopped;
 use crate::told::revoked_of;
@@ -184,7 +184,7 @@ impl World {
             drop(endings);
             return Err(refused.into());
         }
-        end_at(
+        end_at_one(
             &self.fs,
             &mut self.tree,
             &self.sessions,

@@ -1,7 +1,8 @@
 -- Between two servings locks come to rest: each begins at most one gather, and ends at most two.
-use Rattle.std.proofs.Common.{◌≡◌, ℕ, ◌+◌, ◌≤◌, Bool, true, false, not, cond, Option, Some, None, List, [], ◌∷◌, refl, sym, ap, subst, ◌∙◌, arith, count_by, true≢false, zero-add}
+use Rattle.std.proofs.Common.{◌≡◌, ℕ, ◌+◌, ◌≤◌, Bool, true, false, not, cond, Option, Some, None, List, [], ◌∷◌, ◌++◌, refl, sym, ap, subst, ◌∙◌, arith, count_by, true≢false, zero-add}
 use Rattle.std.specs.Prelude.{IsTrue}
 use Rattle.std.specs.Option.{option_map}
+use Rattle.std.proofs.lemmas.List.Elements.{All-append}
 use Rattle.std.proofs.lemmas.List.Sums.{sum_by-cons}
 use Rattle.locktable.specs.declared.states.State.{State}
 use Rattle.locktable.specs.declared.states.LockState.{LockState}
@@ -12,7 +13,7 @@ use Rattle.lockmachine.specs.declared.moves.Move.TheVariants.{Begin, End, Serve,
 use Rattle.lockmachine.specs.Locks.{lock_at}
 use Rattle.lockmachine.specs.Scene.{Scene, wanted_in_all, head_in, loner, wanted, target}
 use Rattle.lockmachine.specs.Moves.{LockPlace, same_state, may_end_in, may_begin_in, present_state, coming_state, with_moved}
-use Rattle.lockmachine.specs.Runs.{is_of_lock, Runs, is_begin_of, is_end_of, AreFew}
+use Rattle.lockmachine.specs.Runs.{is_of_lock, Runs, is_begin_of, is_end_of, AreFew, MoveLittle, is_end, EndLittle}
 use Rattle.lockmachine.proofs.Exact.{same_state_itself}
 use Rattle.lockmachine.proofs.Moving.{IsMove, first_is, with_lock-each}
 
@@ -115,3 +116,22 @@ few s steps t runs = record {
     two_ends at None = omega arith
     two_ends at (Some (Stable state)) = let h = either (stays_in s at state) in omega arith
     two_ends at (Some (Gather from to)) = let h = either (stays_in s at to) in omega arith
+
+-- ---- one run after another
+
+pub runs-then : (a : Scene) (first : List Move) (b : Scene) (then : List Move) (c : Scene) → Runs a first b → Runs b then c → Runs a (first ++ then) c
+runs-then a [] b then c is runs = subst (λ (s : Scene). Runs s then c) is runs
+runs-then a (step ∷ steps) b then c (now, of_lock, rest) runs = (now, of_lock, runs-then (with_moved a step) steps b then c rest runs)
+
+pub little-then : (a b c : Scene) → MoveLittle a b → MoveLittle b c → MoveLittle a c
+little-then a b c (first, few_first, runs_first) (then, few_then, runs_then) =
+    let all = runs-then a first b then c runs_first runs_then in
+    (first ++ then, few a (first ++ then) c all, all)
+
+pub ends-little : (old new : Scene) → EndLittle old new → MoveLittle old new
+ends-little old new (steps, ends, few, runs) = (steps, few, runs)
+
+pub ends-then : (a b c : Scene) → EndLittle a b → EndLittle b c → EndLittle a c
+ends-then a b c (first, ends_first, few_first, runs_first) (then, ends_then, few_then, runs_then) =
+    let all = runs-then a first b then c runs_first runs_then in
+    (first ++ then, All-append (λ step. is_end step ≡ true) first then ends_first ends_then, few a (first ++ then) c all, all)

@@ -1,5 +1,5 @@
 -- What a search of a list finds, and what one that finds nothing says.
-use Rattle.std.proofs.Common.{◌≡◌, ℕ, zero, suc, ◌<◌, Bool, false, cond, Some, None, List, [], ◌∷◌, refl, sym, ap, ◌∙◌, Contains, arith}
+use Rattle.std.proofs.Common.{◌≡◌, ℕ, zero, suc, ◌<◌, Bool, true, false, cond, Some, None, List, [], ◌∷◌, refl, sym, ap, subst, ◌∙◌, Contains, arith}
 use Rattle.std.specs.List.{find, filter}
 use Rattle.std.specs.declared.cmp.Ordering.TheVariants.{Less, Equal, Greater}
 use Rattle.std.specs.Ordering.{nat_cmp}
@@ -35,6 +35,17 @@ no_part p none part =
 -- what a filter keeps was there
 pub contains-filter : {T : Type 0} (p : T → Bool) (xs : List T) (x : T) → Contains (filter p xs) x → Contains xs x
 contains-filter p xs x inside = All-contains (Contains xs) (filter p xs) x (All-filter p (Contains xs) xs (All-contains_itself xs)) inside
+
+-- and what passes is kept
+pub filter-contains : {T : Type 0} (p : T → Bool) (xs : List T) (x : T) → Contains xs x → p x ≡ true → Contains (filter p xs) x
+filter-contains p [] x (k, room, is) passes = absurd (omega arith)
+filter-contains p (y ∷ ys) x (zero, room, is) passes = subst (λ b. Contains (cond b (y ∷ filter p ys) (filter p ys)) x) (sym (ap p is ∙ passes)) (zero, omega arith, is)
+filter-contains p (y ∷ ys) x (suc k, room, is) passes =
+    let later = filter-contains p ys x (k, omega arith, is) passes in
+    elim (p y) as (λ b. Contains (cond b (y ∷ filter p ys) (filter p ys)) x) [
+      | true ↦ (suc later.0, omega (arith, later.1), later.2)
+      | false ↦ later
+    ]
 
 -- a number is below another, equal to it, or above it
 pub by_number : (x a : ℕ) (P : Type 0) → (x < a → P) → (x ≡ a → P) → (a < x → P) → P

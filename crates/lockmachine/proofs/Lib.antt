@@ -10,7 +10,11 @@ pub mod Places
 pub mod Moving
 pub mod Ending
 pub mod Settling
+pub mod EndsFirst
 pub mod InRows
 pub mod PolicyElsewhere
+pub mod SameAt
+pub mod SameOutside
+pub mod Waiting
 pub mod SameBut
 pub mod Turns

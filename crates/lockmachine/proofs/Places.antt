@@ -28,7 +28,8 @@ use Rattle.lockmachine.proofs.Rest.{same_key, passes}
 abbrev pub places_in : List ℕ → List LockPlace
 places_in inos = flat_map places_of inos
 
-find-each : {A B : Type 0} (p : B → Bool) (f : A → B) (xs : List A) → find p (each f xs) ≡ option_map f (find (λ x. p (f x)) xs)
+-- a search of what a function makes of each
+pub find-each : {A B : Type 0} (p : B → Bool) (f : A → B) (xs : List A) → find p (each f xs) ≡ option_map f (find (λ x. p (f x)) xs)
 find-each p f [] = refl
 find-each p f (x ∷ xs) = elim (p (f x)) as (λ b. cond b (Some (f x)) (find p (each f xs)) ≡ option_map f (cond b (Some x) (find (λ x. p (f x)) xs))) [
   | true ↦ refl

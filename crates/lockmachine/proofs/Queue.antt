@@ -1,7 +1,8 @@
 -- The queue: requests stand in it by their numbers.
-use Rattle.std.proofs.Common.{◌≡◌, ℕ, zero, suc, ◌+◌, ◌<◌, ◌≤◌, Bool, true, false, not, cond, Option, Some, None, List, [], ◌∷◌, ◌++◌, length, take, drop, get_or, refl, sym, ap, ◌∙◌, All, Contains, arith, drop-cons}
+use Rattle.std.proofs.Common.{◌≡◌, ℕ, zero, suc, ◌+◌, ◌<◌, ◌≤◌, Bool, true, false, not, cond, Option, Some, None, List, [], ◌∷◌, ◌++◌, length, take, drop, get_or, refl, sym, ap, subst, ◌∙◌, All, Contains, arith, drop-cons}
 use Rattle.std.specs.Prelude.{filter}
 use Rattle.std.specs.List.{find, position, remove, slice_get}
+use Rattle.std.specs.Option.{option_map}
 use Rattle.std.specs.Cmp.{nat_eq_equiv}
 use Rattle.std.proofs.lemmas.Bool.{ne_eqb, both_ways, eqb-true}
 use Rattle.std.proofs.lemmas.List.{length-append, take-append-drop}
@@ -19,8 +20,8 @@ use Rattle.lockmachine.specs.declared.request.Ask.{Ask}
 use Rattle.lockmachine.specs.declared.request.Request.{Request}
 use Rattle.lockmachine.specs.declared.moves.Move.{Move}
 use Rattle.lockmachine.specs.declared.moves.Move.TheVariants.{Begin, End, Serve, Settled}
-use Rattle.lockmachine.specs.Requests.{is_numbered, AreTicketsRising}
-use Rattle.lockmachine.specs.Locks.{LockMap, IsLockMap, TakesOnly, request_at, next_request, with_request, without_request}
+use Rattle.lockmachine.specs.Requests.{is_numbered, is_of_client, AreTicketsRising}
+use Rattle.lockmachine.specs.Locks.{LockMap, IsLockMap, TakesOnly, request_at, next_request, with_request, without_request, requests_of, without_requests_of, TakesOldest}
 use Rattle.lockmachine.specs.Scene.{Scene}
 use Rattle.lockmachine.specs.Moves.{LockPlace, places, may_end, may_serve, begin_or_rest, serve_or_begin, end_or_serve, first_move, moved, IsFirstServed}
 use Rattle.lockmachine.proofs.Rest.{not_found, passes}
@@ -164,18 +165,109 @@ least_served s ticket is move =
     let l = least (may_serve s.locks) s.locks.queue v.0 is.rising v.1 in
     (v.0, v.2, record { waits = l.waits; may = l.passes; least = l.least })
 
+-- ---- the requests of a client, one after another
+
+-- the first that passes a test is taken out of those that do, and of no others
+record TakesFirst (p : Request → Bool) (qs : List Request) (q : Request) : Type 0 where
+  waits : Contains qs q
+  passing : filter p qs ≡ q ∷ filter p (others q.ticket.0 qs)
+  failing : filter (λ r. not (p r)) (others q.ticket.0 qs) ≡ filter (λ r. not (p r)) qs
+
+takes_first : (p : Request → Bool) (qs : List Request) (q : Request) → AreTicketsRising qs → find p qs ≡ Some q → TakesFirst p qs q
+unfolding others
+takes_first p [] q rising found = absurd (cc)
+takes_first p (x ∷ xs) q rising found = elim (p x) as (λ b. p x ≡ b → cond b (Some x) (find p xs) ≡ Some q → TakesFirst p (x ∷ xs) q) [
+  | true ↦ λ passes found. (let e : x ≡ q = cc in subst (TakesFirst p (x ∷ xs)) e (at_first passes))
+  | false ↦ λ fails found. behind fails (takes_first p xs q (rising-tail x xs rising) found)
+] refl found
+  where
+    rest : others x.ticket.0 (x ∷ xs) ≡ xs
+    rest =
+        ap (λ b. cond (not b) (x ∷ others x.ticket.0 xs) (others x.ticket.0 xs)) (nat_eq_equiv.refl x.ticket.0)
+        ∙ all_others x.ticket.0 xs (rising-head x xs rising)
+
+    at_first : p x ≡ true → TakesFirst p (x ∷ xs) x
+    at_first passes = record {
+      waits = (0, omega arith, refl);
+      passing = ap (λ b. cond b (x ∷ filter p xs) (filter p xs)) passes ∙ ap (λ qs. x ∷ filter p qs) (sym rest);
+      failing = ap (filter (λ r. not (p r))) rest ∙ sym (ap (λ b. cond (not b) (x ∷ filter (λ r. not (p r)) xs) (filter (λ r. not (p r)) xs)) passes);
+    }
+
+    kept : Contains xs q → others q.ticket.0 (x ∷ xs) ≡ x ∷ others q.ticket.0 xs
+    kept inside =
+        let less : x.ticket.0 < q.ticket.0 = All-contains (λ r. x.ticket.0 < r.ticket.0) xs q (rising-head x xs rising) inside in
+        ap (λ b. cond (not b) (x ∷ others q.ticket.0 xs) (others q.ticket.0 xs)) (not_numbered' x q less)
+
+    behind : p x ≡ false → TakesFirst p xs q → TakesFirst p (x ∷ xs) q
+    behind fails is = record {
+      waits = (suc is.waits.0, omega (arith, is.waits.1), is.waits.2);
+      passing =
+          ap (λ b. cond b (x ∷ filter p xs) (filter p xs)) fails ∙ is.passing
+          ∙ sym (ap (λ qs. q ∷ filter p qs) (kept is.waits) ∙ ap (λ b. q ∷ cond b (x ∷ filter p (others q.ticket.0 xs)) (filter p (others q.ticket.0 xs))) fails);
+      failing =
+          ap (filter (λ r. not (p r))) (kept is.waits)
+          ∙ ap (λ b. cond (not b) (x ∷ filter (λ r. not (p r)) (others q.ticket.0 xs)) (filter (λ r. not (p r)) (others q.ticket.0 xs))) fails
+          ∙ ap (λ qs. x ∷ qs) is.failing
+          ∙ sym (ap (λ b. cond (not b) (x ∷ filter (λ r. not (p r)) xs) (filter (λ r. not (p r)) xs)) fails);
+    }
+
+-- the oldest request of a client, by the number that a call answers
+pub oldest_taken : (locks : LockMap) (client : ClientId) (ticket : Ticket) → IsLockMap locks → option_map (λ (q : Request). q.ticket) (find (is_of_client client) locks.queue) ≡ Some ticket
+    → TakesOldest client ticket locks (without_request locks ticket.0)
+unfolding others
+oldest_taken locks client ticket is = by_found (find (is_of_client client) locks.queue) refl
+  where
+    taken_out : (q : Request) → find (is_of_client client) locks.queue ≡ Some q → TakesOldest client q.ticket locks (without_request locks q.ticket.0)
+    taken_out q found =
+        let first = takes_first (is_of_client client) locks.queue q is.rising found in
+        record {
+          oldest = q;
+          numbered = refl;
+          waits = first.waits;
+          of_client = first.passing;
+          of_others = ap (λ (qs : List Request). record locks { queue = qs }) first.failing;
+        }
+
+    by_found : (o : Option Request) → find (is_of_client client) locks.queue ≡ o → option_map (λ (q : Request). q.ticket) o ≡ Some ticket → TakesOldest client ticket locks (without_request locks ticket.0)
+    by_found None none is = absurd (cc)
+    by_found (Some q) found is = (let e : q.ticket ≡ ticket = cc in subst (λ (t : Ticket). TakesOldest client t locks (without_request locks t.0)) e (taken_out q found))
+
+-- where a client has none, none is of it, and all are of others
+pub none_left : (locks : LockMap) (client : ClientId) → option_map (λ (q : Request). q.ticket) (find (is_of_client client) locks.queue) ≡ None
+    → (requests_of locks client ≡ []) × (without_requests_of locks client ≡ locks)
+none_left locks client none =
+    let nobody = not_there (find (is_of_client client) locks.queue) none in
+    (nothing_passes (is_of_client client) locks.queue nobody, ap (λ (qs : List Request). record locks { queue = qs }) (none_taken (is_of_client client) locks.queue nobody))
+  where
+    not_there : (o : Option Request) → option_map (λ (q : Request). q.ticket) o ≡ None → o ≡ None
+    not_there None is = refl
+    not_there (Some q) is = absurd (cc)
+
+    nothing_passes : (p : Request → Bool) (qs : List Request) → find p qs ≡ None → filter p qs ≡ []
+    nothing_passes p [] none = refl
+    nothing_passes p (x ∷ xs) none =
+        let n = not_found p x xs none in
+        ap (λ b. cond b (x ∷ filter p xs) (filter p xs)) n.0 ∙ nothing_passes p xs n.1
+
 -- ---- what keeps the order
 
-pub without_request-kept : (locks : LockMap) (ticket : ℕ) → IsLockMap locks → IsLockMap (without_request locks ticket)
-without_request-kept locks ticket is = record {
-  rising = AllPairs-filter (λ earlier later. earlier.ticket.0 < later.ticket.0) (λ q. not (is_numbered ticket q)) locks.queue is.rising;
-  given = All-filter (λ q. not (is_numbered ticket q)) (λ q. (1 ≤ q.ticket.0) × (q.ticket.0 ≤ locks.last)) locks.queue is.given;
+-- some of the requests are left
+fewer-kept : (locks : LockMap) (p : Request → Bool) → IsLockMap locks → IsLockMap (record locks { queue = filter p locks.queue })
+fewer-kept locks p is = record {
+  rising = AllPairs-filter (λ earlier later. earlier.ticket.0 < later.ticket.0) p locks.queue is.rising;
+  given = All-filter p (λ q. (1 ≤ q.ticket.0) × (q.ticket.0 ≤ locks.last)) locks.queue is.given;
   room =
-      let kept = length-filter (λ q. not (is_numbered ticket q)) locks.queue in
-      let fewer = count_by-le-length (λ q. not (is_numbered ticket q)) locks.queue in
+      let kept = length-filter p locks.queue in
+      let fewer = count_by-le-length p locks.queue in
       let room = is.room in
       omega arith;
 }
+
+pub without_request-kept : (locks : LockMap) (ticket : ℕ) → IsLockMap locks → IsLockMap (without_request locks ticket)
+without_request-kept locks ticket = fewer-kept locks (λ q. not (is_numbered ticket q))
+
+pub without_requests_of-kept : (locks : LockMap) (client : ClientId) → IsLockMap locks → IsLockMap (without_requests_of locks client)
+without_requests_of-kept locks client = fewer-kept locks (λ q. not (is_of_client client q))
 
 pub moved-kept : (locks : LockMap) (step : Move) → IsLockMap locks → IsLockMap (moved locks step)
 moved-kept locks (Begin ino part to) is = record { rising = is.rising; given = is.given; room = is.room }

@@ -15,7 +15,7 @@ use Rattle.lockmachine.specs.Moves.{LockPlace, present_state, coming_state, firs
 use Rattle.lockmachine.specs.Runs.{is_of_lock, Runs, is_begin_of, is_end_of, ChangesLocksOf}
 use Rattle.lockmachine.specs.Turns.{IsTurnOf, IsNextAt}
 use Rattle.lockmachine.proofs.Moving.{IsMove, first_is, with_lock-each}
-use Rattle.lockmachine.proofs.Ending.{begins_left, ends_left, locks_of, one_left}
+use Rattle.lockmachine.proofs.Ending.{begins_left, ends_left, locks_of, one_left, runs-then}
 use Rattle.lockmachine.proofs.Turns.{turn-kept}
 
 -- ---- the moves that are left at the inode
@@ -101,9 +101,8 @@ elsewhere_kept : (t : LockMap) (ino : ℕ) (p : Part) (lock : LockState) (other 
 elsewhere_kept t ino p lock other part =
     with_lock-each t ino p lock (λ b (at : LockPlace) o. at.0 ≢ ino → o ≡ lock_at t at.0 at.1) (λ off. absurd (off refl)) (λ at off. refl) (other, part)
 
-runs_more : (a : Scene) (steps : List Move) (b : Scene) (step : Move) → Runs a steps b → first_move b ≡ step → IsTrue (is_of_lock step) → Runs a (steps ++ step ∷ []) (with_moved b step)
-runs_more a [] b step is first of_lock = (subst (λ s. first_move s ≡ step) is first, of_lock, ap (λ s. with_moved s step) is)
-runs_more a (m ∷ steps) b step (now, of_lock', rest) first of_lock = (now, of_lock', runs_more (with_moved a m) steps b step rest first of_lock)
+pub runs_more : (a : Scene) (steps : List Move) (b : Scene) (step : Move) → Runs a steps b → first_move b ≡ step → IsTrue (is_of_lock step) → Runs a (steps ++ step ∷ []) (with_moved b step)
+runs_more a steps b step runs first of_lock = runs-then a steps b (step ∷ []) (with_moved b step) runs (first, of_lock, refl)
 
 -- what holds after each move
 pub record SoFar (first now : Scene) (ino : ℕ) : Type 0 where
@@ -117,7 +116,7 @@ pub record OneMore (first now new : Scene) (ino : ℕ) : Type 0 where
   pub fewer : moves_left new ino < moves_left now ino
 
 -- one lock of the inode in another state
-one_changed : (t : LockMap) (ino : ℕ) (part : Part) (lock : LockState) → ChangesLocksOf ino t (with_lock t ino part lock)
+pub one_changed : (t : LockMap) (ino : ℕ) (part : Part) (lock : LockState) → ChangesLocksOf ino t (with_lock t ino part lock)
 one_changed t ino part lock = record { others = elsewhere_kept t ino part lock; queue = refl; last = refl }
 
 pub one_more : (first now : Scene) (ino : ℕ) (step : Move) (new : LockMap) → SoFar first now ino → IsNextAt now ino step → step ≢ Settled → ((ticket : Ticket) → step ≢ Serve ticket) → new ≡ moved now.locks step

@@ -1,38 +1,34 @@
 -- Whose turn it is: how it passes from one inode to the next, and what moves leave of it. Who waits elsewhere is held up.
-use Rattle.std.proofs.Common.{◌≡◌, ◌≢◌, ℕ, ◌<◌, Bool, true, false, not, ◌&&◌, ◌==◌, Option, Some, None, List, [], ◌∷◌, refl, sym, ap, subst, ◌∙◌, Contains, arith, true≢false}
-use Rattle.std.specs.Prelude.{IsTrue}
-use Rattle.std.specs.Cmp.{nat_eq_equiv}
-use Rattle.std.specs.List.{find, list_any}
-use Rattle.std.specs.Option.{is_some, option_map, option_map_or}
+use Rattle.std.proofs.Common.{◌≡◌, ◌≢◌, ℕ, ◌<◌, true, false, ◌==◌, Option, Some, None, List, [], ◌∷◌, refl, sym, ap, subst, ◌∙◌, Contains, arith}
+use Rattle.std.specs.List.{find}
+use Rattle.std.specs.Option.{is_some, option_map}
 use Rattle.std.specs.FinMap as map
-use Rattle.std.proofs.lemmas.Bool.{eqb-true, eqb-false}
+use Rattle.std.proofs.lemmas.Bool.{ne_eqb, eqb-true, eqb-false}
 use Rattle.capbits.specs.declared.cap.Part.{Part}
 use Rattle.capbits.specs.declared.ids.Ticket.{Ticket}
-use Rattle.capbits.specs.Sets.{is_empty}
 use Rattle.inotree.specs.Tree.{Nodes}
-use Rattle.locktable.specs.declared.states.State.{State}
-use Rattle.locktable.specs.declared.states.LockState.{LockState}
-use Rattle.locktable.specs.declared.states.LockState.TheVariants.{Stable, Gather}
 use Rattle.lockmachine.specs.declared.states.InodeLocks.{InodeLocks}
 use Rattle.lockmachine.specs.declared.request.Request.{Request}
 use Rattle.lockmachine.specs.declared.moves.Move.{Move}
-use Rattle.lockmachine.specs.declared.moves.Move.TheVariants.{Begin, End, Serve, Settled}
+use Rattle.lockmachine.specs.declared.moves.Move.TheVariants.{Serve, Settled}
 use Rattle.lockmachine.specs.Inodes.{lock_in}
-use Rattle.lockmachine.specs.Requests.{same_part, part_of_ask, head_of_ask, is_for, first_for, is_numbered}
 use Rattle.lockmachine.specs.Locks.{LockMap, IsLockMap, lock_at, request_at, without_request}
-use Rattle.lockmachine.specs.Scene.{Scene, wanted_in_all, outside}
-use Rattle.lockmachine.specs.Moves.{LockPlace, is_open, places, may_end, may_end_in, may_begin, may_begin_in, may_serve, is_served_in, present_state, coming_state, begin_or_rest, serve_or_begin, end_or_serve, first_move, moved, with_moved, IsQuiet, IsQuietBut}
-use Rattle.lockmachine.specs.Runs.{is_of_lock, Runs, MoveLittle, ChangesLocksOf}
+use Rattle.lockmachine.specs.Scene.{Scene}
+use Rattle.lockmachine.specs.Moves.{LockPlace, places, may_end, may_end_in, may_begin, may_serve, begin_or_rest, serve_or_begin, end_or_serve, first_move, with_moved, IsQuietBut}
+use Rattle.lockmachine.specs.Runs.{Runs, MoveLittle, ChangesLocksOf}
 use Rattle.lockmachine.specs.Elsewhere.{IsSameBut, IsSameAt}
-use Rattle.lockmachine.specs.Turns.{IsTurnOf, IsDoneAt, NothingEnds, IsHeldUp, WaitHere}
+use Rattle.lockmachine.specs.Turns.{IsTurnOf, IsDoneAt, NothingEnds, IsHeldUp, WaitHere, WaitAt}
 use Rattle.lockmachine.proofs.Exact.{ends_not, begins_not}
 use Rattle.lockmachine.proofs.Idle.{find_nothing}
 use Rattle.lockmachine.proofs.Rest.{none_at}
-use Rattle.lockmachine.proofs.Finding.{fails_at, find_none, contains-filter, by_number}
-use Rattle.lockmachine.proofs.Moving.{IsMove, first_is, with_lock-each}
+use Rattle.lockmachine.proofs.Finding.{fails_at, find_none, by_number}
 use Rattle.lockmachine.proofs.Places.{serve_first}
-use Rattle.lockmachine.proofs.Queue.{found_by_number, least_served, moved-kept}
+use Rattle.lockmachine.proofs.Queue.{moved-kept}
+use Rattle.lockmachine.proofs.SameAt.{same-there, held-there}
+use Rattle.lockmachine.proofs.SameOutside.{quiet-one}
 use Rattle.lockmachine.proofs.SameBut.{same-at, same-locks, begin-alike, end-alike}
+use Rattle.lockmachine.proofs.Waiting.{queue-moved, quiet-waits-at, waits-kept-at, waits-less-at, served-one}
+pub use Rattle.lockmachine.proofs.Waiting.{held-up-unserved}
 
 -- ---- whose turn it is
 
@@ -140,13 +136,6 @@ changes-map ino old new changes is = record {
 
 -- ---- moves between two servings
 
--- a move that begins or ends a gather leaves the queue and the last number
-queue-moved : (locks : LockMap) (step : Move) → IsTrue (is_of_lock step) → ((moved locks step).queue ≡ locks.queue) × ((moved locks step).last ≡ locks.last)
-queue-moved locks (Begin ino part to) of_lock = (refl, refl)
-queue-moved locks (End ino part) of_lock = (refl, refl)
-queue-moved locks (Serve ticket) of_lock = absurd (true≢false (sym of_lock))
-queue-moved locks Settled of_lock = absurd (true≢false (sym of_lock))
-
 pub runs-queue : (old : Scene) (steps : List Move) (new : Scene) → Runs old steps new → (new.locks.queue ≡ old.locks.queue) × (new.locks.last ≡ old.locks.last)
 runs-queue old [] new is = (ap (λ (s : Scene). s.locks.queue) is, ap (λ (s : Scene). s.locks.last) is)
 runs-queue old (step ∷ steps) new (first, of_lock, rest) =
@@ -160,105 +149,30 @@ runs-map old (step ∷ steps) new (first, of_lock, rest) sound = runs-map (with_
 
 -- ---- who waits elsewhere is held up
 
--- who waits for a lock has a first to wait for it
-some_first : (p : Request → Bool) (qs : List Request) (q : Request) → Contains qs q → p q ≡ true → find p qs ≢ None
-some_first p qs q inside passes none = true≢false (sym passes ∙ fails_at p qs none q inside)
+-- who waits at another inode, waits outside of it alone
+pub waits-at : (s : Scene) (ino : ℕ) → WaitHere s ino → WaitAt (λ other. other == ino) s
+waits-at s ino wait q inside off = wait q inside (eqb-false q.ino.0 ino off)
 
-for_itself : (q : Request) → is_for q.ino.0 (part_of_ask q.ask) q ≡ true
-for_itself q = rw (nat_eq_equiv.refl q.ino.0) (itself (part_of_ask q.ask))
-  where
-    itself : (part : Part) → same_part part part ≡ true
-    itself part = nat_eq_equiv.refl _
+pub waits-here : (s : Scene) (ino : ℕ) → WaitAt (λ other. other == ino) s → WaitHere s ino
+waits-here s ino wait q inside off = wait q inside (ne_eqb q.ino.0 ino off)
 
 pub quiet-waits : (s : Scene) (ino : ℕ) → IsQuietBut s ino → WaitHere s ino
-quiet-waits s ino quiet q inside off =
-    let part = part_of_ask q.ask in
-    let first = some_first (is_for q.ino.0 part) s.locks.queue q inside (for_itself q) in
-    held first (lock_at s.locks q.ino.0 part) refl (quiet.each_other q.ino.0 part off)
-  where
-    held : first_for s.locks.queue q.ino.0 (part_of_ask q.ask) ≢ None → (o : Option LockState) → lock_at s.locks q.ino.0 (part_of_ask q.ask) ≡ o
-        → IsQuiet s q.ino.0 (part_of_ask q.ask) o → IsHeldUp s q
-    held first None is none = absurd (first none)
-    held first (Some (Stable state)) is stays = absurd (first stays.1)
-    held first (Some (Gather from to)) is stays = record { from = from; to = to; gathers = is; is_held = stays }
-
-and_false : (b : Bool) → (b && false) ≡ false
-and_false true = refl
-and_false false = refl
-
-pub held-up-unserved : (s : Scene) (q : Request) → IsHeldUp s q → may_serve s.locks q ≡ false
-held-up-unserved s q held =
-    let first = option_map_or (is_numbered q.ticket.0) (first_for s.locks.queue q.ino.0 (part_of_ask q.ask)) false in
-    ap (λ o. first && is_served_in o (head_of_ask q.client q.ask)) held.gathers ∙ and_false first
+quiet-waits s ino quiet = waits-here s ino (quiet-waits-at (λ other. other == ino) s (quiet-one s ino quiet))
 
 -- where its inode is the same, it is held up still
 pub held-alike : (old new : Scene) (q : Request) → IsSameAt q.ino.0 old new → IsHeldUp old q → IsHeldUp new q
-held-alike old new q same held = record {
-  from = held.from;
-  to = held.to;
-  gathers = same.locks (part_of_ask q.ask) ∙ held.gathers;
-  is_held = ap (list_any (λ row. not (is_empty (outside (part_of_ask q.ask) held.to row)))) same.entries ∙ held.is_held;
-}
-
--- the lock is in a gather that is open
-abbrev IsOpenGather : Scene → LockPlace → State → State → Option LockState → Type 0
-IsOpenGather s at from to o = (is_open s at.0 at.1 to ≡ true) × (o ≡ Some (Gather from to))
-
-begun_not : (s : Scene) (at : LockPlace) (from to : State) (o : Option LockState) → IsOpenGather s at from to o → may_begin_in s.locks.queue (wanted_in_all s at.0) at o ≢ true
-begun_not s at from to o held may = true≢false (sym may ∙ ap (may_begin_in s.locks.queue (wanted_in_all s at.0) at) held.1)
-
-ended_not : (s : Scene) (at : LockPlace) (from to : State) (o : Option LockState) → IsOpenGather s at from to o → may_end_in s.table at o ≢ true
-ended_not s at from to o held may = true≢false (sym may ∙ ap (may_end_in s.table at) held.1 ∙ ap not held.0)
-
--- a move leaves it so
-open-moved : (s : Scene) (step : Move) → IsMove s step → IsTrue (is_of_lock step) → (at : LockPlace) (from to : State)
-    → IsOpenGather s at from to (lock_at s.locks at.0 at.1) → lock_at (moved s.locks step) at.0 at.1 ≡ Some (Gather from to)
-open-moved s (Begin ino part goes) is of_lock at from to =
-    with_lock-each s.locks ino.0 part (Gather (present_state (lock_at s.locks ino.0 part)) goes)
-    (λ b (p : LockPlace) o. IsOpenGather s p from to (lock_at s.locks p.0 p.1) → o ≡ Some (Gather from to))
-    (λ held. absurd (begun_not s (ino.0, part) from to (lock_at s.locks ino.0 part) held is.0)) (λ p held. held.1) at
-open-moved s (End ino part) is of_lock at from to =
-    with_lock-each s.locks ino.0 part (Stable (coming_state (lock_at s.locks ino.0 part)))
-    (λ b (p : LockPlace) o. IsOpenGather s p from to (lock_at s.locks p.0 p.1) → o ≡ Some (Gather from to))
-    (λ held. absurd (ended_not s (ino.0, part) from to (lock_at s.locks ino.0 part) held is)) (λ p held. held.1) at
-open-moved s (Serve ticket) is of_lock at from to = absurd (true≢false (sym of_lock))
-open-moved s Settled is of_lock at from to = absurd (true≢false (sym of_lock))
-
-held-moved : (s : Scene) (step : Move) → IsMove s step → IsTrue (is_of_lock step) → (q : Request) → IsHeldUp s q → IsHeldUp (with_moved s step) q
-held-moved s step is of_lock q held = record {
-  from = held.from;
-  to = held.to;
-  gathers = open-moved s step is of_lock (q.ino.0, part_of_ask q.ask) held.from held.to (held.is_held, held.gathers);
-  is_held = held.is_held;
-}
+held-alike old new q same = held-there old new q (same-there q.ino.0 old new same)
 
 pub waits-kept : (ino : ℕ) (old : Scene) (steps : List Move) (new : Scene) → Runs old steps new → WaitHere old ino → WaitHere new ino
-waits-kept ino old [] new is wait = subst (λ (s : Scene). WaitHere s ino) (sym is) wait
-waits-kept ino old (step ∷ steps) new (first, of_lock, rest) wait =
-    waits-kept ino (with_moved old step) steps new rest (λ q inside off.
-    (let was : Contains old.locks.queue q = subst (λ (qs : List Request). Contains qs q) (queue-moved old.locks step of_lock).0 inside in
-    held-moved old step (subst (IsMove old) first (first_is old)) of_lock q (wait q was off)))
+waits-kept ino old steps new runs wait = waits-here new ino (waits-kept-at (λ other. other == ino) old steps new runs (waits-at old ino wait))
 
 pub waits-little : (ino : ℕ) (old new : Scene) → MoveLittle old new → WaitHere old ino → WaitHere new ino
 waits-little ino old new (steps, few, runs) = waits-kept ino old steps new runs
 
--- a request that may be served waits here
-may-here : (s : Scene) (ino : ℕ) (q : Request) → WaitHere s ino → Contains s.locks.queue q → may_serve s.locks q ≡ true → q.ino.0 ≡ ino
-may-here s ino q wait inside may = elim (q.ino.0 == ino) as (λ b. (q.ino.0 == ino) ≡ b → q.ino.0 ≡ ino) [
-  | true ↦ λ e. eqb-true q.ino.0 ino e
-  | false ↦ λ e. absurd (true≢false (sym may ∙ held-up-unserved s q (wait q inside (eqb-false q.ino.0 ino e))))
-] refl
-
 pub served-here : (s : Scene) (ino : ℕ) (ticket : Ticket) → IsLockMap s.locks → WaitHere s ino → first_move s ≡ Serve ticket
     → (q : Request) × (request_at s.locks ticket.0 ≡ Some q) × Contains s.locks.queue q × (q.ino.0 ≡ ino) × (q.ticket ≡ ticket)
-served-here s ino ticket is wait move =
-    let served = least_served s ticket is move in
-    let q = served.0 in
-    let first = served.2 in
-    let found = subst (λ (t : Ticket). request_at s.locks t.0 ≡ Some q) served.1 (found_by_number s.locks q is first.waits) in
-    (q, found, first.waits, may-here s ino q wait first.waits first.may, served.1)
+served-here s ino ticket is wait = served-one s ino ticket is (waits-at s ino wait)
 
 pub waits-less : (s : Scene) (ino : ℕ) (tree : Nodes) (ticket : ℕ) → WaitHere s ino → WaitHere (record s { tree = tree; locks = without_request s.locks ticket }) ino
-waits-less s ino tree ticket wait q inside off =
-    let held = wait q (contains-filter (λ r. not (is_numbered ticket r)) s.locks.queue q inside) off in
-    record { from = held.from; to = held.to; gathers = held.gathers; is_held = held.is_held }
+waits-less s ino tree ticket wait =
+    waits-here (record s { tree = tree; locks = without_request s.locks ticket }) ino (waits-less-at (λ other. other == ino) s tree ticket (waits-at s ino wait))

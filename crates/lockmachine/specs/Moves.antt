@@ -188,3 +188,7 @@ WaitAtLocks s = (ino : ℕ) (part : Part) → lock_at s.locks ino part ≡ None 
 -- each lock of another inode is quiet
 pub record IsQuietBut (s : Scene) (ino : ℕ) : Type 0 where
   pub each_other : (other : ℕ) (part : Part) → other ≢ ino → IsQuiet s other part (lock_at s.locks other part)
+
+-- each lock of an inode that is not among these is quiet
+pub record IsQuietOutside (at : ℕ → Bool) (s : Scene) : Type 0 where
+  pub each_other : (other : ℕ) (part : Part) → at other ≡ false → IsQuiet s other part (lock_at s.locks other part)

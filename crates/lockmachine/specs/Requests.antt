@@ -68,6 +68,10 @@ first_for queue ino part = find (is_for ino part) queue
 abbrev pub is_numbered : ℕ → Request → Bool
 is_numbered ticket q = q.ticket.0 == ticket
 
+-- the request is this client's
+abbrev pub is_of_client : ClientId → Request → Bool
+is_of_client client q = q.client.0 == client.0
+
 -- each request has a number below those of all that stand behind it
 abbrev pub AreTicketsRising : List Request → Type 0
 AreTicketsRising queue = AllPairs (λ earlier later. earlier.ticket.0 < later.ticket.0) queue

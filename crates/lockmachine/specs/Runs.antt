@@ -1,5 +1,6 @@
 -- The moves that locks make between two servings.
 use Rattle.std.specs.Prelude.{◌≡◌, ◌≢◌, ◌≤◌, ℕ, Bool, true, false, ◌&&◌, ◌==◌, IsTrue, List, [], ◌∷◌, count_by}
+use Rattle.std.specs.List.{AllPass}
 use Rattle.capbits.specs.declared.cap.Part.{Part}
 use Rattle.lockmachine.specs.declared.moves.Move.{Move}
 use Rattle.lockmachine.specs.declared.moves.Move.TheVariants.{Begin, End, Serve, Settled}
@@ -42,6 +43,17 @@ pub record AreFew (steps : List Move) : Type 0 where
 -- some such moves lead from one scene to the other
 abbrev pub MoveLittle : Scene → Scene → Type 0
 MoveLittle old new = (steps : List Move) × AreFew steps × Runs old steps new
+
+-- the move ends a gather
+abbrev pub is_end : Move → Bool
+is_end (Begin ino part to) = false
+is_end (End ino part) = true
+is_end (Serve ticket) = false
+is_end Settled = false
+
+-- some such moves lead from one scene to the other, and each of them ends a gather
+abbrev pub EndLittle : Scene → Scene → Type 0
+EndLittle old new = (steps : List Move) × AllPass is_end steps × AreFew steps × Runs old steps new
 
 -- the locks of all other inodes are as they were, and so are the queue and the last number
 pub record ChangesLocksOf (ino : ℕ) (old new : LockMap) : Type 0 where

@@ -1,5 +1,5 @@
 -- Whose turn it is, where a step touches many inodes: a caller goes over them in the order of their numbers.
-use Rattle.std.specs.Prelude.{◌≡◌, ◌≢◌, ◌<◌, ℕ, true, false, Option, Some, None, Contains}
+use Rattle.std.specs.Prelude.{◌≡◌, ◌≢◌, ◌<◌, ℕ, Bool, true, false, Option, Some, None, Contains}
 use Rattle.capbits.specs.declared.cap.Part.{Part}
 use Rattle.capbits.specs.declared.ids.Ticket.{Ticket}
 use Rattle.locktable.specs.declared.states.State.{State}
@@ -53,3 +53,7 @@ pub record IsHeldUp (s : Scene) (q : Request) : Type 0 where
 -- who waits at another inode, is held up
 abbrev pub WaitHere : Scene → ℕ → Type 0
 WaitHere s ino = (q : Request) → Contains s.locks.queue q → q.ino.0 ≢ ino → IsHeldUp s q
+
+-- who waits at an inode that is not among these, is held up
+abbrev pub WaitAt : (ℕ → Bool) → Scene → Type 0
+WaitAt at s = (q : Request) → Contains s.locks.queue q → at q.ino.0 ≡ false → IsHeldUp s q

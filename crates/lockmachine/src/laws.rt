@@ -1,6 +1,8 @@
 //! Laws of the locks. No program needs to call them.
 
-ghost use Rattle.std.specs.Prelude.{◌≡◌, ◌<◌, ℕ, List, [], Some, Contains, length};
+ghost use Rattle.std.specs.Prelude.{◌≡◌, ◌<◌, ℕ, List, [], None, Some, Contains, length};
+ghost use Rattle.std.specs.List.{find};
+ghost use Rattle.std.specs.Option.{option_map};
 ghost use Rattle.std.specs.FinMap as map;
 ghost use Rattle.lockmachine.specs.declared.states.InodeLocks.{InodeLocks};
 ghost use Rattle.capbits.specs.declared.ids.ClientId.{ClientId};
@@ -13,10 +15,11 @@ ghost use Rattle.lockmachine.specs.declared.request.Request.{Request};
 ghost use Rattle.lockmachine.specs.declared.moves.Move.{Move};
 ghost use Rattle.lockmachine.specs.declared.moves.Move.TheVariants.{Serve, Settled};
 ghost use Rattle.lockmachine.specs.Inodes.{in_sync};
+ghost use Rattle.lockmachine.specs.Requests.{is_of_client};
 ghost use Rattle.lockmachine.specs.Scene.{Scene};
-ghost use Rattle.lockmachine.specs.Locks.{LockMap, IsLockMap, TakesOnly, request_at, with_request, without_request};
+ghost use Rattle.lockmachine.specs.Locks.{LockMap, IsLockMap, TakesOnly, TakesOldest, request_at, requests_of, with_request, without_request, without_requests_of};
 ghost use Rattle.lockmachine.specs.Moves.{first_move, moved, with_moved, IsFirstServed, IsAtRest, WaitAtLocks};
-ghost use Rattle.lockmachine.specs.Runs.{Runs, AreFew};
+ghost use Rattle.lockmachine.specs.Runs.{Runs, AreFew, MoveLittle, EndLittle};
 ghost use Rattle.lockmachine.specs.Rows.{IsInRow};
 
 /// Where no move applies, and who waits, waits for a lock that is there, the locks are at rest: each is stable at its
@@ -78,4 +81,23 @@ pub fn moves_keep_the_order()
 pub fn a_new_request_keeps_the_order()
     ensures { (locks : LockMap) (client : ClientId) (ino : Ino) (ask : Ask) → IsLockMap locks
         → length locks.queue < 1024 → IsLockMap (with_request locks client ino ask) }
+{}
+
+/// A client's requests are taken out one after another, the oldest first, and no others are. Where the client has none, all
+/// that wait are of others. The order of the queue is kept.
+pub fn a_clients_requests_go_one_by_one()
+    ensures oldest { (locks : LockMap) (client : ClientId) (ticket : Ticket) → IsLockMap locks
+        → option_map (λ (q : Request). q.ticket) (find (is_of_client client) locks.queue) ≡ Some ticket
+        → TakesOldest client ticket locks (without_request locks ticket.0) }
+    ensures none { (locks : LockMap) (client : ClientId)
+        → option_map (λ (q : Request). q.ticket) (find (is_of_client client) locks.queue) ≡ None
+        → (requests_of locks client ≡ []) × (without_requests_of locks client ≡ locks) }
+    ensures order { (locks : LockMap) (client : ClientId) → IsLockMap locks → IsLockMap (without_requests_of locks client) }
+{}
+
+/// Moves between two servings and further ones before the next are moves between two servings; and so are gathers that end.
+pub fn moves_between_servings_add_up()
+    ensures then { (a b c : Scene) → MoveLittle a b → MoveLittle b c → MoveLittle a c }
+    ensures ends { (old new : Scene) → EndLittle old new → MoveLittle old new }
+    ensures ends_then { (a b c : Scene) → EndLittle a b → EndLittle b c → EndLittle a c }
 {}

@@ -1,16 +1,19 @@
 //! The locks by inode, the queue, and the moves of both.
-ghost use Rattle.std.specs.Prelude.{◌≡◌, ◌+◌, ◌-◌, ◌<◌, ◌^◌, None, length, position, IfOk, OnOk, OnErr};
+ghost use Rattle.std.specs.Prelude.{◌≡◌, ◌+◌, ◌-◌, ◌<◌, ◌^◌, ℕ, List, None, false, length, position, IfOk, OnOk, OnErr, MatchOption};
 ghost use Rattle.std.specs.List.{find};
 ghost use Rattle.std.specs.Option.{option_map, option_copied};
 ghost use Rattle.std.specs.FinMap as map;
 ghost use Rattle.capbits.specs.Refusal.{first_failing};
+ghost use Rattle.capbits.specs.declared.cap.Part.{Part};
+ghost use Rattle.inotree.specs.Tree.{Nodes};
+ghost use Rattle.sessiontab.specs.Table.{SessionTable};
 ghost use Rattle.lockmachine.specs.declared.moves.Move.TheVariants.{Settled};
 ghost use Rattle.lockmachine.specs.Locks as words;
 ghost use Rattle.lockmachine.specs.Requests as requests;
 ghost use Rattle.lockmachine.specs.Scene.{scene, head_in, target_by};
 ghost use Rattle.lockmachine.specs.Moves as moves;
 ghost use Rattle.lockmachine.specs.Moves.{first_move, moved, handed};
-ghost use Rattle.lockmachine.specs.Runs.{MoveLittle, ChangesLocksOf};
+ghost use Rattle.lockmachine.specs.Runs.{MoveLittle, EndLittle, ChangesLocksOf};
 ghost use Rattle.lockmachine.specs.Turns.{IsTurnOf, IsNextAt, IsDue};
 
 use crate::moves::Move;
@@ -142,6 +145,36 @@ impl Locks {
             unreachable!()
         };
         ticket
+    }
+
+    /// The requests that wait, the oldest first.
+    pub fn requests(&self) -> &[Request]
+        ensures requests { result.now ≡ self.now.queue }
+        ensures sound { words.IsLockMap self.now }
+    {
+        self.queue.as_slice()
+    }
+
+    /// Takes the oldest request of a client out of the queue and answers its number. Where the client has none, nothing
+    /// changes. It takes no memory.
+    pub fn drop_client(&mut self, client: ClientId) -> Option<Ticket>
+        ensures dropped { result ≡ option_map (λ q. q.ticket) (find (requests.is_of_client client) self.old.queue) }
+        ensures left { MatchOption result (self.new ≡ self.old) (λ ticket. self.new ≡ words.without_request self.old ticket.0) }
+    {
+        let ticket = self.first_of(client)?;
+        let _dropped = self.take_request(ticket);
+        Some(ticket)
+    }
+
+    // The number of a client's oldest request.
+    fn first_of(&self, client: ClientId) -> Option<Ticket>
+        ensures { result ≡ option_map (λ q. q.ticket) (find (requests.is_of_client client) self.now.queue) }
+    {
+        let request = self
+            .queue
+            .iter()
+            .find(|request| request.client.0 == client.0)?;
+        Some(request.ticket)
     }
 
     // ---- which move comes next
@@ -441,6 +474,24 @@ impl Locks {
                 Move::Settled => return None,
                 Move::Serve(ticket) => return Some(ticket),
                 step => self.make(step),
+            }
+        }
+    }
+
+    /// Where no gather of a lower inode may end, ends those of an inode that may, in the order of the parts. It looks at
+    /// the entries of this inode alone, and takes no memory.
+    pub fn end_gathers_at(&mut self, table: &CapTable, ino: Ino)
+        requires lower { (other : ℕ) (part : Part) → other < ino.0 → moves.may_end_by table.now self.old (other, part) ≡ false }
+
+        // Each is the first move that applies to all, whatever the tree and the sessions are.
+        ensures ends { (fs : List ℕ) (tree : Nodes) (sessions : SessionTable)
+            → EndLittle (scene fs tree sessions table.now self.old) (scene fs tree sessions table.now self.new) }
+        ensures done { (part : Part) → moves.may_end_by table.now self.new (ino.0, part) ≡ false }
+        ensures elsewhere { ChangesLocksOf ino.0 self.old self.new }
+    {
+        for part in &PARTS {
+            if self.may_end(table, ino, *part) {
+                self.make(Move::End { ino, part: *part });
             }
         }
     }

@@ -1,20 +1,21 @@
 //! Laws of whose turn it is, where a step touches many inodes. No program needs to call them.
 
-ghost use Rattle.std.specs.Prelude.{◌≡◌, ◌≢◌, ◌<◌, ℕ, List, None, Some, Contains, false};
+ghost use Rattle.std.specs.Prelude.{◌≡◌, ◌≢◌, ◌<◌, ◌==◌, ℕ, Bool, List, None, Some, Contains, true, false};
 ghost use Rattle.std.specs.List.{find};
 ghost use Rattle.std.specs.Option.{option_map};
 ghost use Rattle.capbits.specs.declared.cap.Part.{Part};
+ghost use Rattle.capbits.specs.declared.ids.ClientId.{ClientId};
 ghost use Rattle.capbits.specs.declared.ids.Ticket.{Ticket};
 ghost use Rattle.inotree.specs.Tree.{Nodes};
 ghost use Rattle.lockmachine.specs.declared.request.Request.{Request};
 ghost use Rattle.lockmachine.specs.declared.moves.Move.{Move};
 ghost use Rattle.lockmachine.specs.declared.moves.Move.TheVariants.{Serve, Settled};
-ghost use Rattle.lockmachine.specs.Locks.{LockMap, IsLockMap, request_at, without_request};
+ghost use Rattle.lockmachine.specs.Locks.{LockMap, IsLockMap, request_at, without_request, without_requests_of};
 ghost use Rattle.lockmachine.specs.Scene.{Scene};
-ghost use Rattle.lockmachine.specs.Moves.{may_end, may_begin, may_serve, first_move, IsQuietBut};
+ghost use Rattle.lockmachine.specs.Moves.{may_end, may_begin, may_serve, first_move, IsQuietBut, IsQuietOutside};
 ghost use Rattle.lockmachine.specs.Runs.{Runs, MoveLittle, ChangesLocksOf};
 ghost use Rattle.lockmachine.specs.Elsewhere.{IsSameBut, IsSameAt};
-ghost use Rattle.lockmachine.specs.Turns.{IsTurnOf, IsDoneAt, NothingEnds, IsHeldUp, WaitHere};
+ghost use Rattle.lockmachine.specs.Turns.{IsTurnOf, IsDoneAt, NothingEnds, IsHeldUp, WaitHere, WaitAt};
 
 // ---- whose turn it is
 
@@ -104,5 +105,33 @@ pub fn who_is_held_up_stays_so()
 pub fn where_others_are_held_up_one_is_served_here()
     ensures { (s : Scene) (ino : ℕ) (ticket : Ticket) → IsLockMap s.locks → WaitHere s ino → first_move s ≡ Serve ticket
         → (q : Request) × (request_at s.locks ticket.0 ≡ Some q) × Contains s.locks.queue q × (q.ino.0 ≡ ino)
+        × (q.ticket ≡ ticket) }
+{}
+
+// ---- who waits outside some inodes
+
+/// Where the locks are quiet outside some inodes, who waits outside of them is held up; and so is who waits outside of
+/// more. Who waits elsewhere than at one inode waits outside of it.
+pub fn who_waits_outside_quiet_inodes_is_held_up()
+    ensures quiet { (at : ℕ → Bool) (s : Scene) → IsQuietOutside at s → WaitAt at s }
+    ensures wider { (at wider : ℕ → Bool) (s : Scene) → ((q : ℕ) → wider q ≡ false → at q ≡ false) → WaitAt at s → WaitAt wider s }
+    ensures one { (s : Scene) (ino : ℕ) → WaitHere s ino → WaitAt (λ other. other == ino) s }
+    ensures here { (s : Scene) (ino : ℕ) → WaitAt (λ other. other == ino) s → WaitHere s ino }
+{}
+
+/// Who waits outside some inodes stays held up: moves between two servings leave it so, at whatever inode they are, and so
+/// does a request that is taken out, or all of a client, with whatever change of the tree.
+pub fn who_is_held_up_outside_stays_so()
+    ensures moves { (at : ℕ → Bool) (old new : Scene) → MoveLittle old new → WaitAt at old → WaitAt at new }
+    ensures less { (at : ℕ → Bool) (s : Scene) (tree : Nodes) (ticket : ℕ) → WaitAt at s
+        → WaitAt at (record s { tree = tree; locks = without_request s.locks ticket }) }
+    ensures dropped { (at : ℕ → Bool) (s : Scene) (tree : Nodes) (client : ClientId) → WaitAt at s
+        → WaitAt at (record s { tree = tree; locks = without_requests_of s.locks client }) }
+{}
+
+/// Where who waits outside some inodes is held up, a request that is served waits at one of them.
+pub fn where_others_are_held_up_one_is_served_there()
+    ensures { (at : ℕ → Bool) (s : Scene) (ticket : Ticket) → IsLockMap s.locks → WaitAt at s → first_move s ≡ Serve ticket
+        → (q : Request) × (request_at s.locks ticket.0 ≡ Some q) × Contains s.locks.queue q × (at q.ino.0 ≡ true)
         × (q.ticket ≡ ticket) }
 {}

@@ -8,10 +8,11 @@ use Rattle.captable.specs.declared.entry.EntryRow.{EntryRow}
 use Rattle.captable.specs.Table.{Table}
 use Rattle.captable.specs.Calls.{is_of_inode, entries_on}
 use Rattle.captable.specs.Many.{changed_where}
-use Rattle.lockmachine.specs.Scene.{scene}
+use Rattle.lockmachine.specs.Scene.{Scene, scene}
 use Rattle.capcore.specs.Finishing.{entry_under, entry_from, is_on}
-use Rattle.capcore.specs.Touching.{forget_at}
-use Rattle.capcore.proofs.AtEnd.{at-end}
+use Rattle.capcore.specs.Serves.{is_touched}
+use Rattle.capcore.specs.Touching.{forget_at, forget_among}
+use Rattle.capcore.proofs.AtEnd.{at-end, forget-all}
 use Rattle.capcore.proofs.ManyInodes.{entries_on-stay, holders-stay}
 use Rattle.capcore.proofs.finish.finish.Goals as goal
 
@@ -29,9 +30,15 @@ finish_entries-requires c =
 
 pub returns-clause-finished : goal.returns-clause-finished
 returns-clause-finished c = λ first was kept.
-    c.forget_unheld.ensures.left c.args.fs.now c.args.sessions.now
-    ∙ ap (λ (t : Table). forget_at c.args.ino.0 (scene c.args.fs.now c.args.tree.now c.args.sessions.now t c.args.locks.now))
+    let fs = c.args.fs.now in
+    let sessions = c.args.sessions.now in
+    let touched = c.args.touched.now in
+    let ended : Scene = scene fs c.args.tree.now sessions c.finish_entries.new.table c.args.locks.now in
+    c.forget_unheld.ensures.left fs sessions
+    ∙ ap (forget_at c.args.ino.0) (c.forget_touched.ensures.left fs sessions)
+    ∙ forget-all c.args.ino.0 touched ended
+    ∙ ap (λ (t : Table). forget_among (is_touched c.args.ino.0 touched) (scene fs c.args.tree.now sessions t c.args.locks.now))
     (c.finish_entries.ensures
-    ∙ ap (changed_where (is_of_inode c.args.ino) (entry_under c.args.fs.now c.args.tree.now c.args.sessions.now c.args.before c.of_ino-now.result)) c.finish_touched.ensures
-    ∙ at-end c.args.fs.now c.args.tree.now c.args.sessions.now c.args.table.now c.args.locks.now c.args.ino first c.args.before c.of_ino-now.result c.args.touched.now
+    ∙ ap (changed_where (is_of_inode c.args.ino) (entry_under fs c.args.tree.now sessions c.args.before c.of_ino-now.result)) c.finish_touched.ensures
+    ∙ at-end fs c.args.tree.now sessions c.args.table.now c.args.locks.now c.args.ino first c.args.before c.of_ino-now.result touched
     c.requires.apart was kept c.of_ino-now.ensures)

@@ -1,4 +1,4 @@
-use Rattle.std.proofs.Common.{sym, subst}
+use Rattle.std.proofs.Common.{sym}
 use Rattle.lockmachine.specs.Scene.{Scene, scene}
 use Rattle.capcore.specs.Serves.{is_touched}
 use Rattle.capcore.proofs.settle.end_at.Goals as goal

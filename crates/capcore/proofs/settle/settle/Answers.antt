@@ -1,4 +1,4 @@
-use Rattle.std.proofs.Common.{◌≡◌, ◌<◌, ◌+◌, ◌++◌, ◌∷◌, [], length, List, Some, Contains, sym, ap, subst, ◌∙◌, arith}
+use Rattle.std.proofs.Common.{◌≡◌, ◌<◌, ◌+◌, ◌++◌, ◌∷◌, [], ℕ, Bool, true, length, List, Some, Contains, sym, ap, subst, ◌∙◌, arith}
 use Rattle.std.specs.Prelude.{All, IsTrue}
 use Rattle.std.specs.FinMap as map
 use Rattle.std.proofs.lemmas.List.{length-append}
@@ -6,34 +6,44 @@ use Rattle.std.proofs.lemmas.List.Elements.{All-weaker}
 use Rattle.captable.specs.declared.entry.EntryRow.{EntryRow}
 use Rattle.lockmachine.specs.declared.request.Request.{Request}
 use Rattle.lockmachine.specs.declared.moves.Move.TheVariants.{Serve}
-use Rattle.lockmachine.specs.Locks.{request_at}
+use Rattle.lockmachine.specs.Locks.{lock_at, request_at}
 use Rattle.lockmachine.specs.Moves.{first_move}
 use Rattle.lockmachine.specs.Scene.{Scene, scene}
-use Rattle.lockmachine.specs.Inodes.{StateMap}
-use Rattle.lockmachine.specs.Turns.{IsTurnOf}
-use Rattle.lockmachine.proofs.Turns.{served-here}
+use Rattle.lockmachine.proofs.Exact.{ends_not}
+use Rattle.lockmachine.proofs.Waiting.{served-at}
 use Rattle.capcore.specs.declared.outcome.Ended.{Ended}
 use Rattle.capcore.specs.Serves.{Serves, is_touched}
-use Rattle.capcore.specs.Sweep.{GoesOn, IsTurnOfLeast, Reaches}
-use Rattle.capcore.proofs.Moved.{IsMoved, moved-all}
-use Rattle.capcore.proofs.SoFar.{IsSoFar, so-far-begins, so-far-served, so-far-settled, so-far-swept, turn-begins, turn-served}
+use Rattle.capcore.specs.Sweep.{GoesOn, IsSwept, IsTurnOfLeast, Reaches}
+use Rattle.capcore.proofs.Moved.{moved-all}
+use Rattle.capcore.proofs.SoFar.{IsSoFar, so-far-begins, so-far-served, so-far-settled, so-far-swept, turn-of_least, turn-served}
 use Rattle.capcore.proofs.settle.settle.Goals as goal
 use Rattle.capcore.proofs.settle.settle.Goals.{After-last-last, After-serve_next}
+
+pub end_gathers-requires : goal.end_gathers-requires
+end_gathers-requires c =
+    let first : Scene = scene c.args.fs.now c.args.tree.now c.args.sessions.now c.args.table.now c.args.locks.now in
+    record { elsewhere = λ other part off. ends_not first (other, part) (lock_at first.locks other part) (c.requires.quiet.each_other other part off) }
 
 pub servings-init : goal.servings-init
 servings-init c =
     let first : Scene = scene c.args.fs.now c.args.tree.now c.args.sessions.now c.args.table.now c.args.locks.now in
+    let now : Scene = scene c.args.fs.now c.args.tree.now c.args.sessions.now c.args.table.now c.end_gathers.new.locks in
+    let at : ℕ → Bool = is_touched c.args.ino.0 c.args.others in
+    let begun = so-far-begins c.args.ino.0 c.args.others first c.requires.quiet c.requires.apart c.requires.before in
+    let swept : IsSwept at first now = c.end_gathers.ensures.swept c.args.fs.now c.args.tree.now c.args.sessions.now begun.waits in
+    let so : IsSoFar c.args.ino.0 at c.args.others first now [] = so-far-swept c.args.ino.0 at c.args.others first first [] begun now swept in
+    let queue : length c.end_gathers.new.locks.queue ≡ length c.args.locks.now.queue = ap length swept.queue in
     record {
-      so_far =
-          subst (λ told. IsSoFar c.args.ino.0 c.new-touched.result first first told) (sym c.requires.none)
-          (subst (λ (touched : StateMap). IsSoFar c.args.ino.0 touched first first []) (sym c.new-touched.ensures) (so-far-begins c.args.ino.0 first c.requires.quiet));
-      turn =
-          subst (λ (touched : StateMap). IsTurnOfLeast (is_touched c.args.ino.0 touched) first) (sym c.new-touched.ensures)
-          (turn-begins c.args.ino.0 first c.requires.quiet);
+      so_far = subst (IsSoFar c.args.ino.0 at c.args.others first now) (sym c.requires.none) so;
+      turn = turn-of_least at now so.still c.end_gathers.ensures.ends;
       same = c.requires.same;
-      told = c.requires.told;
-      kept = c.requires.kept;
+      told = omega (arith, queue, c.requires.told);
+      kept = omega (arith, queue, c.requires.kept);
     }
+
+-- the inodes of the event
+abbrev from : After-last-last → ℕ → Bool
+from c = is_touched c.args.ino.0 c.args.others
 
 module _ (c : After-last-last) where
   abbrev first : Scene
@@ -46,8 +56,8 @@ module _ (c : After-last-last) where
   mid = scene c.args.fs.now c.servings.tree c.args.sessions.now c.args.table.now c.sweep.new.locks
 
   -- gathers began and ended
-  swept : IsSoFar c.args.ino.0 c.servings.touched first mid c.servings.endings.told.items
-  swept = so-far-swept c.args.ino.0 c.servings.touched first now c.servings.endings.told.items c.servings.invariant.so_far mid c.sweep.ensures.swept
+  swept : IsSoFar c.args.ino.0 (from c) c.servings.touched first mid c.servings.endings.told.items
+  swept = so-far-swept c.args.ino.0 (is_touched c.args.ino.0 c.args.others) c.servings.touched first now c.servings.endings.told.items c.servings.invariant.so_far mid c.sweep.ensures.swept
 
   -- where each entry's inode had locks, it has some
   locked : All (λ (row : EntryRow). IsTrue (map.contains_key c.args.locks.now.states row.holder.ino.0)) c.args.table.now.rows
@@ -61,8 +71,9 @@ module _ (c : After-last-last) where
   move : first_move mid ≡ Serve c.in-Some.ticket
   move = subst (GoesOn mid) c.in-Some.is c.sweep.ensures.next
 
-  here : (r : Request) × (request_at c.sweep.new.locks c.in-Some.ticket.0 ≡ Some r) × Contains c.sweep.new.locks.queue r × (r.ino.0 ≡ c.args.ino.0) × (r.ticket ≡ c.in-Some.ticket)
-  here = (let so = swept in served-here mid c.args.ino.0 c.in-Some.ticket c.state-lock.ensures.sound so.waits move)
+  here : (r : Request) × (request_at c.sweep.new.locks c.in-Some.ticket.0 ≡ Some r) × Contains c.sweep.new.locks.queue r × (is_touched c.args.ino.0 c.servings.touched r.ino.0 ≡ true)
+      × (r.ticket ≡ c.in-Some.ticket)
+  here = (let so = swept in served-at (is_touched c.args.ino.0 c.servings.touched) mid c.in-Some.ticket c.state-lock.ensures.sound so.waits move)
 
   -- somebody waits
   some_wait : 0 < length c.servings.locks.queue
@@ -98,17 +109,17 @@ module _ (c : After-serve_next) where
   abbrev serves : Serves (mid (before_serving c)) c.in-Some.ticket ended new
   serves = c.serve_next.ensures.served.1 c.args.table.now
 
-  abbrev reaches : Reaches serves.request c.servings.tree c.serve_next.new.tree c.args.table.now c.sweep.new.locks.states c.servings.touched c.serve_next.new.touched
+  abbrev reaches : Reaches serves.request c.args.ino.0 c.servings.tree c.serve_next.new.tree c.args.table.now c.sweep.new.locks.states c.servings.touched c.serve_next.new.touched
   reaches = c.serve_next.ensures.reached serves.request serves.waits
 
-  served : IsSoFar c.args.ino.0 c.serve_next.new.touched (first (before_serving c)) new (c.servings.endings.told.items ++ ended ∷ [])
+  served : IsSoFar c.args.ino.0 (from (before_serving c)) c.serve_next.new.touched (first (before_serving c)) new (c.servings.endings.told.items ++ ended ∷ [])
   served =
-      so-far-served c.args.ino.0 c.servings.touched (first (before_serving c)) (mid (before_serving c)) c.servings.endings.told.items (swept (before_serving c))
+      so-far-served c.args.ino.0 (from (before_serving c)) c.servings.touched (first (before_serving c)) (mid (before_serving c)) c.servings.endings.told.items (swept (before_serving c))
       c.in-Some.ticket ended new c.serve_next.new.touched c.state-lock.ensures.sound c.last-last.ensures.sound (move (before_serving c)) serves reaches
 
   turn : IsTurnOfLeast (is_touched c.args.ino.0 c.serve_next.new.touched) new
   turn =
-      turn-served c.args.ino.0 c.servings.touched (first (before_serving c)) (mid (before_serving c)) c.servings.endings.told.items (swept (before_serving c))
+      turn-served c.args.ino.0 (from (before_serving c)) c.servings.touched (first (before_serving c)) (mid (before_serving c)) c.servings.endings.told.items (swept (before_serving c))
       c.in-Some.ticket ended new c.serve_next.new.touched c.state-lock.ensures.sound c.last-last.ensures.sound (move (before_serving c)) serves reaches
 
   one_more : length (c.servings.endings.told.items ++ ended ∷ []) ≡ length c.servings.endings.told.items + 1
@@ -132,7 +143,7 @@ servings-preserved c =
     let kept_more : length c.serve_next.new.endings.kept.items ≡ length c.servings.endings.kept.items + 1 = ap length same ∙ more ∙ ap (λ (ms : List Ended). length ms + 1) (sym c.servings.invariant.same) in
     let room = c.serve_next.ensures.room in
     record {
-      so_far = subst (IsSoFar c.args.ino.0 c.serve_next.new.touched (first (before_serving c)) (new c)) (sym all.2) (served c);
+      so_far = subst (IsSoFar c.args.ino.0 (from (before_serving c)) c.serve_next.new.touched (first (before_serving c)) (new c)) (sym all.2) (served c);
       turn = turn c;
       same = same;
       told = omega (arith, more, less, room.0, c.servings.invariant.told);
@@ -144,6 +155,6 @@ returns-clause-settles c =
     let first : Scene = scene c.args.fs.now c.args.tree.now c.args.sessions.now c.args.table.now c.args.locks.now in
     let now : Scene = scene c.args.fs.now c.servings.tree c.args.sessions.now c.args.table.now c.servings.locks in
     let last : Scene = scene c.args.fs.now c.servings.tree c.args.sessions.now c.args.table.now c.sweep.new.locks in
-    so-far-settled c.args.ino.0 c.servings.touched first last c.servings.endings.told.items
-    (so-far-swept c.args.ino.0 c.servings.touched first now c.servings.endings.told.items c.servings.invariant.so_far last c.sweep.ensures.swept)
+    so-far-settled c.args.ino.0 (is_touched c.args.ino.0 c.args.others) c.servings.touched first last c.servings.endings.told.items
+    (so-far-swept c.args.ino.0 (is_touched c.args.ino.0 c.args.others) c.servings.touched first now c.servings.endings.told.items c.servings.invariant.so_far last c.sweep.ensures.swept)
     (subst (GoesOn last) c.in_default.is c.sweep.ensures.next)

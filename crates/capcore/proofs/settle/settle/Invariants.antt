@@ -11,7 +11,7 @@ decreases-servings l = length l.locks.queue
 
 abbrev pub invariant-servings : goal.invariant-servings
 invariant-servings l = record {
-  so_far : IsSoFar l.ino.0 l.touched (scene l.fs l.fn.tree l.sessions l.table l.fn.locks) (scene l.fs l.tree l.sessions l.table l.locks) l.endings.told.items;
+  so_far : IsSoFar l.ino.0 (is_touched l.ino.0 l.fn.others) l.touched (scene l.fs l.fn.tree l.sessions l.table l.fn.locks) (scene l.fs l.tree l.sessions l.table l.locks) l.endings.told.items;
   turn : IsTurnOfLeast (is_touched l.ino.0 l.touched) (scene l.fs l.tree l.sessions l.table l.locks);
   same : l.endings.kept.items ≡ l.endings.told.items;
   told : HasRoom l.endings.told l.locks;

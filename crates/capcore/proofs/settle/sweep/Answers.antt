@@ -1,9 +1,9 @@
-use Rattle.std.proofs.Common.{sym, subst}
+use Rattle.std.proofs.Common.{subst}
 use Rattle.lockmachine.specs.Scene.{Scene, scene}
 use Rattle.lockmachine.specs.Turns.{IsDue}
 use Rattle.capcore.specs.Serves.{is_touched}
 use Rattle.capcore.specs.Sweep.{AreStill, IsNextOf, IsSwept}
-use Rattle.capcore.proofs.Sweeping.{fewer_behind, last-turn, next-turn, still-kept, swept-begins, swept-on}
+use Rattle.capcore.proofs.Sweeping.{fewer_behind, last-turn, next-turn, still-kept, swept-on}
 use Rattle.capcore.proofs.settle.sweep.Goals as goal
 use Rattle.capcore.proofs.settle.sweep.Goals.{After-advance_at}
 
@@ -17,8 +17,8 @@ module _ (c : After-advance_at) where
   abbrev new : Scene
   new = scene c.args.fs.now c.args.tree.now c.args.sessions.now c.args.table.now c.advance_at.new.self
 
-  more : IsSwept (is_touched c.args.ino.0 c.args.touched.now) c.args.ino.0 first new
-  more = swept-on (is_touched c.args.ino.0 c.args.touched.now) c.args.ino.0 first now c.inodes.invariant.swept c.inodes.at.0 c.inodes.invariant.here
+  more : IsSwept (is_touched c.args.ino.0 c.args.touched.now) first new
+  more = swept-on (is_touched c.args.ino.0 c.args.touched.now) first now c.inodes.invariant.swept c.inodes.at.0 c.inodes.invariant.here
       c.advance_at.new.self c.advance_at.ensures.moves c.advance_at.ensures.elsewhere
 
   still : AreStill (is_touched c.args.ino.0 c.args.touched.now) new

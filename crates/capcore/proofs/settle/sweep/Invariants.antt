@@ -11,7 +11,7 @@ decreases-inodes l = behind l.ino.0 l.touched l.at.0
 
 abbrev pub invariant-inodes : goal.invariant-inodes
 invariant-inodes l = record {
-  swept : IsSwept (is_touched l.ino.0 l.touched) l.ino.0 (scene l.fs l.tree l.sessions l.table l.fn.locks) (scene l.fs l.tree l.sessions l.table l.locks);
+  swept : IsSwept (is_touched l.ino.0 l.touched) (scene l.fs l.tree l.sessions l.table l.fn.locks) (scene l.fs l.tree l.sessions l.table l.locks);
   turn : IsTurnOf (scene l.fs l.tree l.sessions l.table l.locks) l.at.0;
   here : is_touched l.ino.0 l.touched l.at.0 ≡ true;
 }

@@ -1,5 +1,9 @@
+use Rattle.capcore.proofs.Closing.{touches-one}
 use Rattle.capcore.proofs.OfInode.{event-touches, event-table, event-order, event-tree, event-below, event-keeps}
 use Rattle.capcore.proofs.touching.events_of_one_inode_touch_it.Goals as goal
+
+pub returns-clause-one : goal.returns-clause-one
+returns-clause-one c = touches-one
 
 pub returns-clause-touches : goal.returns-clause-touches
 returns-clause-touches c = event-touches

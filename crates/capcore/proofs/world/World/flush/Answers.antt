@@ -1,4 +1,4 @@
-use Rattle.std.proofs.Common.{◌≡◌, ◌+◌, ◌++◌, List, length, None, refl, sym, ap, subst, ◌∙◌, arith}
+use Rattle.std.proofs.Common.{◌≡◌, ◌==◌, ◌+◌, ◌++◌, List, length, None, refl, sym, ap, subst, ◌∙◌, arith}
 use Rattle.std.proofs.lemmas.List.{length-append}
 use Rattle.captable.specs.declared.entry.Holder.{Holder}
 use Rattle.captable.specs.Table.{IsTable, holder}
@@ -63,14 +63,14 @@ module _ (c : After-touch) where
       (λ i. record old.scene { tree = c.in_default-alter.ensures.ok i; table = c.touch.ensures i })
       ∙ sym (ap (λ (d : Direct). d.state.scene) by_itself)
 
-pub end_at-requires-clause-quiet : goal.end_at-requires-clause-quiet
-end_at-requires-clause-quiet g =
-    let c = (goal.at.end_at-requires-clause-quiet g).After-touch in
+pub end_at_one-requires-clause-quiet : goal.end_at_one-requires-clause-quiet
+end_at_one-requires-clause-quiet g =
+    let c = (goal.at.end_at_one-requires-clause-quiet g).After-touch in
     first-quiet (old c) (e c) (k c) refl (passed c) c.self.invariant.0 c.oldest-oldest.ensures.sound (first c) (is c)
 
-pub end_at-requires-clause-locked : goal.end_at-requires-clause-locked
-end_at-requires-clause-locked g =
-    let c = (goal.at.end_at-requires-clause-locked g).After-touch in
+pub end_at_one-requires-clause-locked : goal.end_at_one-requires-clause-locked
+end_at_one-requires-clause-locked g =
+    let c = (goal.at.end_at_one-requires-clause-locked g).After-touch in
     first-locked (old c) (e c) (k c) refl (passed c) c.self.invariant.0 c.oldest-oldest.ensures.sound (first c) (is c)
 
 -- ---- the end of the step
@@ -80,19 +80,19 @@ module _ (c : After-close) where
   before = (goal.at.invariant_of-self-2 c).After-touch
 
   abbrev last : Scene
-  last = record { fs = c.self.inside.fs; tree = c.end_at.new.tree; sessions = c.self.inside.sessions; table = c.end_at.new.table; locks = c.end_at.new.locks }
+  last = record { fs = c.self.inside.fs; tree = c.end_at_one.new.tree; sessions = c.self.inside.sessions; table = c.end_at_one.new.table; locks = c.end_at_one.new.locks }
 
   abbrev told : List Ended
-  told = c.end_at.new.endings.told.items
+  told = c.end_at_one.new.endings.told.items
 
   abbrev new : State
   new = record { scene = last; messages = c.close.new.messages.items }
 
-  ends : EndsWith c.args.ino.0 (first before) last told
-  ends = c.end_at.ensures.ends
+  ends : EndsWith (λ other. other == c.args.ino.0) (first before) last told
+  ends = c.end_at_one.ensures.ends
 
   all : earlier c.self.inside.locks.last told ≡ told
-  all = let w = ends in told-all w.at c.args.ino.0 (first before) w.settled told w.settles c.waiting.ensures.sound
+  all = let w = ends in told-all w.at (λ other. other == c.args.ino.0) (first before) w.settled told w.settles c.waiting.ensures.sound
 
   -- the state when the step had ended at the inode
   abbrev closed_as : State
@@ -109,16 +109,16 @@ module _ (c : After-close) where
   whole : IsAnswered (old before) (e before) c.close.result new
   whole =
       closed (old before) (e before) (k before) refl (passed before) c.self.invariant.0 c.oldest-oldest.ensures.sound (first before) (is before)
-      last told ends c.end_at.ensures.table c.close.result new
+      last told ends c.end_at_one.ensures.table c.close.result new
       (c.close.ensures.reply ∙ ap (reply_of closed_as told) answer)
-      (c.close.ensures.kept ∙ sym c.close.ensures.reply) (c.close.ensures.ended ∙ c.end_at.ensures.kept ∙ sym all) new_is
+      (c.close.ensures.kept ∙ sym c.close.ensures.reply) (c.close.ensures.ended ∙ c.end_at_one.ensures.kept ∙ sym all) new_is
 
 pub invariant_of-self-2 : goal.invariant_of-self-2
 invariant_of-self-2 c =
     let w = whole c in
-    let items : length c.close.new.messages.items ≡ length c.self.inside.messages.items + length c.end_at.new.endings.told.items =
-    ap length c.close.ensures.items ∙ length-append c.self.inside.messages.items c.end_at.new.endings.told.items in
-    (w.sound, omega (arith, items, c.close.ensures.room, c.end_at.ensures.count, c.self.invariant.1))
+    let items : length c.close.new.messages.items ≡ length c.self.inside.messages.items + length c.end_at_one.new.endings.told.items =
+    ap length c.close.ensures.items ∙ length-append c.self.inside.messages.items c.end_at_one.new.endings.told.items in
+    (w.sound, omega (arith, items, c.close.ensures.room, c.end_at_one.ensures.count, c.self.invariant.1))
 
 pub returns-clause-answered : goal.returns-clause-answered
 returns-clause-answered c =

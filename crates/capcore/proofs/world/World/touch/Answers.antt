@@ -1,4 +1,4 @@
-use Rattle.std.proofs.Common.{◌≡◌, ◌+◌, ◌++◌, List, length, [], None, refl, sym, ap, subst, ◌∙◌, arith}
+use Rattle.std.proofs.Common.{◌≡◌, ◌==◌, ◌+◌, ◌++◌, List, length, [], None, refl, sym, ap, subst, ◌∙◌, arith}
 use Rattle.std.proofs.lemmas.List.{length-append}
 use Rattle.capbits.specs.Refusal.{first_failing}
 use Rattle.captable.specs.declared.entry.Holder.{Holder}
@@ -61,25 +61,25 @@ module _ (c : In_default-touch_entry) where
       first-is old c.args.client c.args.ino c.args.touch passed c.self.invariant.0 c.oldest-oldest.ensures.sound c.touch_entry.new.table
       (table-of old.scene k c.args.touch c.touch_entry.new.table c.revoked_of-revoked.result c.in_default-touch_entry.ensures.ok (c.revoked_of-revoked.ensures old.scene refl refl))
 
-pub end_at-requires-clause-quiet : goal.end_at-requires-clause-quiet
-end_at-requires-clause-quiet g =
-    let c = (goal.at.end_at-requires-clause-quiet g).In_default-touch_entry in
+pub end_at_one-requires-clause-quiet : goal.end_at_one-requires-clause-quiet
+end_at_one-requires-clause-quiet g =
+    let c = (goal.at.end_at_one-requires-clause-quiet g).In_default-touch_entry in
     first-quiet (old c) (e c) (k c) (touched-by c.args.client c.args.ino c.args.touch) (passed c) c.self.invariant.0 c.oldest-oldest.ensures.sound (first c) (is c)
 
-pub end_at-requires-clause-numbers : goal.end_at-requires-clause-numbers
-end_at-requires-clause-numbers g =
-    let c = (goal.at.end_at-requires-clause-numbers g).In_default-touch_entry in
+pub end_at_one-requires-clause-numbers : goal.end_at_one-requires-clause-numbers
+end_at_one-requires-clause-numbers g =
+    let c = (goal.at.end_at_one-requires-clause-numbers g).In_default-touch_entry in
     first-numbers (old c) (e c) (k c) (touched-by c.args.client c.args.ino c.args.touch) (passed c) c.self.invariant.0 c.oldest-oldest.ensures.sound (first c) (is c)
     (subst NumbersLeft (sym c.self.view_is) c.requires.numbers)
 
-pub end_at-requires-clause-clients : goal.end_at-requires-clause-clients
-end_at-requires-clause-clients g =
-    let c = (goal.at.end_at-requires-clause-clients g).In_default-touch_entry in
+pub end_at_one-requires-clause-clients : goal.end_at_one-requires-clause-clients
+end_at_one-requires-clause-clients g =
+    let c = (goal.at.end_at_one-requires-clause-clients g).In_default-touch_entry in
     first-clients (old c) (e c) (k c) (touched-by c.args.client c.args.ino c.args.touch) (passed c) c.self.invariant.0 c.oldest-oldest.ensures.sound (first c) (is c)
 
-pub end_at-requires-clause-locked : goal.end_at-requires-clause-locked
-end_at-requires-clause-locked g =
-    let c = (goal.at.end_at-requires-clause-locked g).In_default-touch_entry in
+pub end_at_one-requires-clause-locked : goal.end_at_one-requires-clause-locked
+end_at_one-requires-clause-locked g =
+    let c = (goal.at.end_at_one-requires-clause-locked g).In_default-touch_entry in
     first-locked (old c) (e c) (k c) (touched-by c.args.client c.args.ino c.args.touch) (passed c) c.self.invariant.0 c.oldest-oldest.ensures.sound (first c) (is c)
 
 -- ---- the end of the step
@@ -87,7 +87,7 @@ end_at-requires-clause-locked g =
 pub close-requires-clause-list : goal.close-requires-clause-list
 close-requires-clause-list c =
     let st : State = record {
-      scene = record { fs = c.self.inside.fs; tree = c.end_at.new.tree; sessions = c.self.inside.sessions; table = c.end_at.new.table; locks = c.end_at.new.locks };
+      scene = record { fs = c.self.inside.fs; tree = c.end_at_one.new.tree; sessions = c.self.inside.sessions; table = c.end_at_one.new.table; locks = c.end_at_one.new.locks };
       messages = [];
     } in
     ap has_list (c.tell-reply.ensures.reply st refl refl) ∙ no_list-touch st (holder c.args.client c.args.ino) c.args.touch
@@ -97,19 +97,19 @@ module _ (c : After-close) where
   before = (goal.at.invariant_of-self-2 c).In_default-touch_entry
 
   abbrev last : Scene
-  last = record { fs = c.self.inside.fs; tree = c.end_at.new.tree; sessions = c.self.inside.sessions; table = c.end_at.new.table; locks = c.end_at.new.locks }
+  last = record { fs = c.self.inside.fs; tree = c.end_at_one.new.tree; sessions = c.self.inside.sessions; table = c.end_at_one.new.table; locks = c.end_at_one.new.locks }
 
   abbrev told : List Ended
-  told = c.end_at.new.endings.told.items
+  told = c.end_at_one.new.endings.told.items
 
   abbrev new : State
   new = record { scene = record last { table = c.tell-reply.new.table }; messages = c.close.new.messages.items }
 
-  ends : EndsWith c.args.ino.0 (first before) last told
-  ends = c.end_at.ensures.ends
+  ends : EndsWith (λ other. other == c.args.ino.0) (first before) last told
+  ends = c.end_at_one.ensures.ends
 
   all : earlier c.self.inside.locks.last told ≡ told
-  all = let w = ends in told-all w.at c.args.ino.0 (first before) w.settled told w.settles c.waiting.ensures.sound
+  all = let w = ends in told-all w.at (λ other. other == c.args.ino.0) (first before) w.settled told w.settles c.waiting.ensures.sound
 
   -- the state when the step had ended at the inode
   abbrev closed_as : State
@@ -130,16 +130,16 @@ module _ (c : After-close) where
   whole : IsAnswered (old before) (e before) c.close.result new
   whole =
       closed (old before) (e before) (k before) (touched-by c.args.client c.args.ino c.args.touch) (passed before) c.self.invariant.0 c.oldest-oldest.ensures.sound (first before) (is before)
-      last told ends c.end_at.ensures.table c.close.result new
+      last told ends c.end_at_one.ensures.table c.close.result new
       (c.close.ensures.reply ∙ c.tell-reply.ensures.reply closed_as refl refl ∙ touch-reply closed_as told (k before) c.args.touch ∙ ap (reply_of closed_as told) answer)
-      (c.close.ensures.kept ∙ sym c.close.ensures.reply) (c.close.ensures.ended ∙ c.end_at.ensures.kept ∙ sym all) new_is
+      (c.close.ensures.kept ∙ sym c.close.ensures.reply) (c.close.ensures.ended ∙ c.end_at_one.ensures.kept ∙ sym all) new_is
 
 pub invariant_of-self-2 : goal.invariant_of-self-2
 invariant_of-self-2 c =
     let w = whole c in
-    let items : length c.close.new.messages.items ≡ length c.self.inside.messages.items + length c.end_at.new.endings.told.items =
-    ap length c.close.ensures.items ∙ length-append c.self.inside.messages.items c.end_at.new.endings.told.items in
-    (w.sound, omega (arith, items, c.close.ensures.room, c.end_at.ensures.count, c.self.invariant.1))
+    let items : length c.close.new.messages.items ≡ length c.self.inside.messages.items + length c.end_at_one.new.endings.told.items =
+    ap length c.close.ensures.items ∙ length-append c.self.inside.messages.items c.end_at_one.new.endings.told.items in
+    (w.sound, omega (arith, items, c.close.ensures.room, c.end_at_one.ensures.count, c.self.invariant.1))
 
 pub returns-clause-answered : goal.returns-clause-answered
 returns-clause-answered c =

@@ -38,23 +38,23 @@ enqueue-ticket-requires-clause-room g =
 
 -- ---- while it waits
 
-pub end_at-requires-clause-quiet : goal.end_at-requires-clause-quiet
-end_at-requires-clause-quiet g =
-    let c = (goal.at.end_at-requires-clause-quiet g).After-oldest-oldest in
+pub end_at_one-requires-clause-quiet : goal.end_at_one-requires-clause-quiet
+end_at_one-requires-clause-quiet g =
+    let c = (goal.at.end_at_one-requires-clause-quiet g).After-oldest-oldest in
     wait-quiet (old c) (k c) g.args.ask g.self.invariant.0 g.oldest-oldest.ensures.sound g.waiting-waiting.ensures.sound (free c) g.enqueue-ticket.new.self g.enqueue-ticket.ensures.queued
 
-pub end_at-requires-clause-locked : goal.end_at-requires-clause-locked
-end_at-requires-clause-locked g =
-    let c = (goal.at.end_at-requires-clause-locked g).After-oldest-oldest in
+pub end_at_one-requires-clause-locked : goal.end_at_one-requires-clause-locked
+end_at_one-requires-clause-locked g =
+    let c = (goal.at.end_at_one-requires-clause-locked g).After-oldest-oldest in
     wait-locked (old c) (k c) g.args.ask g.self.invariant.0 g.oldest-oldest.ensures.sound g.waiting-waiting.ensures.sound (free c) g.enqueue-ticket.new.self g.enqueue-ticket.ensures.queued
 
 pub close_with-requires-clause-differ : goal.close_with-requires-clause-differ
 close_with-requires-clause-differ g =
     let c = (goal.at.close_with-requires-clause-differ g).After-oldest-oldest in
-    let last : Scene = record { fs = g.self.inside.fs; tree = g.end_at.new.tree; sessions = g.self.inside.sessions; table = g.end_at.new.table; locks = g.end_at.new.locks } in
+    let last : Scene = record { fs = g.self.inside.fs; tree = g.end_at_one.new.tree; sessions = g.self.inside.sessions; table = g.end_at_one.new.table; locks = g.end_at_one.new.locks } in
     wait-differ (old c) (k c) g.args.ask g.self.invariant.0 g.oldest-oldest.ensures.sound g.waiting-waiting.ensures.sound (free c) g.enqueue-ticket.new.self g.enqueue-ticket.ensures.queued
-    last g.end_at.new.endings.told.items
-    g.end_at.ensures.ends
+    last g.end_at_one.new.endings.told.items
+    g.end_at_one.ensures.ends
 
 -- ---- the end of the step
 
@@ -63,7 +63,7 @@ module _ (g : After-close_with) where
   c = (goal.at.invariant_of-self-2 g).After-oldest-oldest
 
   abbrev last : Scene
-  last = record { fs = g.self.inside.fs; tree = g.end_at.new.tree; sessions = g.self.inside.sessions; table = g.end_at.new.table; locks = g.end_at.new.locks }
+  last = record { fs = g.self.inside.fs; tree = g.end_at_one.new.tree; sessions = g.self.inside.sessions; table = g.end_at_one.new.table; locks = g.end_at_one.new.locks }
 
   abbrev new : State
   new = record { scene = last; messages = g.close_with.new.messages.items }
@@ -71,24 +71,24 @@ module _ (g : After-close_with) where
   whole : (e : Event) → asks_for e ≡ Some (k c, g.args.ask) → IsAnswered (old c) e g.close_with.result new
   whole =
       wait-answered (old c) (k c) g.args.ask g.self.invariant.0 g.oldest-oldest.ensures.sound g.waiting-waiting.ensures.sound (free c) g.enqueue-ticket.new.self g.enqueue-ticket.ensures.queued
-      last g.end_at.new.endings.told.items
-      g.end_at.ensures.ends
-      g.end_at.ensures.table g.enqueue-ticket.result g.enqueue-ticket.ensures.ticket g.close_with.result g.close_with.new.messages.items
+      last g.end_at_one.new.endings.told.items
+      g.end_at_one.ensures.ends
+      g.end_at_one.ensures.table g.enqueue-ticket.result g.enqueue-ticket.ensures.ticket g.close_with.result g.close_with.new.messages.items
       g.close_with.ensures.reply g.close_with.ensures.kept g.close_with.ensures.ended
-      (g.close_with.ensures.items ∙ ap (λ (ms : List Ended). ms ++ but_for g.enqueue-ticket.result g.end_at.new.endings.told.items) g.reserve.ensures.items)
+      (g.close_with.ensures.items ∙ ap (λ (ms : List Ended). ms ++ but_for g.enqueue-ticket.result g.end_at_one.new.endings.told.items) g.reserve.ensures.items)
 
 pub invariant_of-self-2 : goal.invariant_of-self-2
 invariant_of-self-2 g =
     let asked = some-asking (k (c g)) g.args.ask in
     let w = whole g asked.0 asked.1 in
     let ticket = g.enqueue-ticket.result in
-    let told = g.end_at.new.endings.told.items in
+    let told = g.end_at_one.new.endings.told.items in
     let items : length g.close_with.new.messages.items ≡ length g.self.inside.messages.items + length (but_for ticket told) =
     ap length g.close_with.ensures.items ∙ length-append g.reserve.new.self.items (but_for ticket told) ∙ ap (λ (ms : List Ended). length ms + length (but_for ticket told)) g.reserve.ensures.items in
     let few = few-others ticket told in
     let queue : length g.enqueue-ticket.new.self.queue ≡ length g.self.inside.locks.queue + 1 =
     ap (λ (l : LockMap). length l.queue) g.enqueue-ticket.ensures.queued ∙ length-append g.self.inside.locks.queue (next_request g.self.inside.locks g.args.client g.args.ino g.args.ask ∷ []) in
-    (w.sound, omega (arith, items, few, queue, g.in_default-reserve.ensures.ok, g.close_with.ensures.room, g.end_at.ensures.count, g.waiting-waiting.ensures.waiting))
+    (w.sound, omega (arith, items, few, queue, g.in_default-reserve.ensures.ok, g.close_with.ensures.room, g.end_at_one.ensures.count, g.waiting-waiting.ensures.waiting))
 
 pub returns-clause-answered : goal.returns-clause-answered
 returns-clause-answered g = λ e asked. subst (λ (s : State). IsAnswered s e g.close_with.result (new g)) g.self.view_is (whole g e asked)

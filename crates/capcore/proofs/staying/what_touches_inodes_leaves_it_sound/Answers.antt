@@ -1,5 +1,5 @@
 use Rattle.capcore.proofs.StayingSound.{sound-touched, given-touched}
-use Rattle.capcore.proofs.staying.what_touches_one_inode_leaves_it_sound.Goals as goal
+use Rattle.capcore.proofs.staying.what_touches_inodes_leaves_it_sound.Goals as goal
 
 pub returns-clause-sound : goal.returns-clause-sound
 returns-clause-sound c = sound-touched

@@ -1,0 +1,72 @@
+-- Which inodes a step touches: that of its event, and those whose locks from before are kept.
+use Rattle.std.proofs.Common.{◌≡◌, ◌≢◌, ℕ, Bool, true, false, ◌||◌, ◌==◌, ◌⊎◌, inl, inr, is_some, List, refl, sym, ap, ◌∙◌, eq-eqb, true≢false}
+use Rattle.std.specs.FinMap as map
+use Rattle.std.specs.Ordering.{nat_cmp}
+use Rattle.std.proofs.lemmas.Bool.{ne_eqb}
+use Rattle.lockmachine.specs.declared.states.InodeLocks.{InodeLocks}
+use Rattle.lockmachine.specs.Inodes.{StateMap}
+use Rattle.lockmachine.specs.Moves.{IsQuietOutside}
+use Rattle.lockmachine.specs.Scene.{Scene}
+use Rattle.capcore.specs.declared.outcome.Ended.{Ended}
+use Rattle.capcore.specs.Serves.{EndsWith, is_touched}
+
+or_true : (a b : Bool) → a || b ≡ true → (a ≡ true) ⊎ (b ≡ true)
+or_true true b is = inl refl
+or_true false b is = inr is
+
+or_false : (a b : Bool) → a || b ≡ false → (a ≡ false) × (b ≡ false)
+or_false true b is = absurd (true≢false is)
+or_false false b is = (refl, is)
+
+itself : (n : ℕ) → (n == n) ≡ true
+itself n = eq-eqb n n refl
+
+-- an inode that is not touched is another, and none of its locks are kept
+pub untouched : (ino : ℕ) (touched : StateMap) (other : ℕ) → is_touched ino touched other ≡ false → (other ≢ ino) × (map.contains_key touched other ≡ false)
+untouched ino touched other off =
+    let both = or_false (other == ino) (map.contains_key touched other) off in
+    ((λ same. true≢false (sym (ap (λ n. n == ino) same ∙ itself ino) ∙ both.0)), both.1)
+
+pub not-touched : (ino : ℕ) (touched : StateMap) (other : ℕ) → other ≢ ino → map.contains_key touched other ≡ false → is_touched ino touched other ≡ false
+not-touched ino touched other off none = ap (λ b. b || map.contains_key touched other) (ne_eqb other ino off) ∙ none
+
+-- the inode itself is touched
+pub one-touched : (ino : ℕ) (touched : StateMap) (other : ℕ) → (other == ino) ≡ true → is_touched ino touched other ≡ true
+one-touched ino touched other is = ap (λ b. b || map.contains_key touched other) is
+
+-- and where more locks are kept, more are
+pub more-touched : (ino : ℕ) (touched kept : StateMap) → ((other : ℕ) → map.contains_key touched other ≡ true → map.contains_key kept other ≡ true)
+    → (other : ℕ) → is_touched ino touched other ≡ true → is_touched ino kept other ≡ true
+more-touched ino touched kept more other is = elim (or_true (other == ino) (map.contains_key touched other) is) as (λ _. is_touched ino kept other ≡ true) [
+  | inl here ↦ one-touched ino kept other here
+  | inr there ↦ either (other == ino) (more other there)
+]
+  where
+    either : (a : Bool) → map.contains_key kept other ≡ true → (a || map.contains_key kept other) ≡ true
+    either true e = refl
+    either false e = e
+
+-- locks that are quiet outside of it alone are so outside of all that are touched
+pub quiet-among : (ino : ℕ) (touched : StateMap) (s : Scene) → IsQuietOutside (λ other. other == ino) s → IsQuietOutside (is_touched ino touched) s
+quiet-among ino touched s quiet = record {
+  each_other = λ other part off. quiet.each_other other part (or_false (other == ino) (map.contains_key touched other) off).0;
+}
+
+-- ---- at the inode alone
+
+-- what ends at more inodes, has ended at this one
+pub ends-one : (ino : ℕ) (touched : StateMap) (first last : Scene) (told : List Ended) → EndsWith (is_touched ino touched) first last told → EndsWith (λ other. other == ino) first last told
+ends-one ino touched first last told ends = let all = ends.settles in let there = all.settles in record {
+  at = ends.at;
+  settled = ends.settled;
+  settles = record {
+    moves = all.moves;
+    settles = record { settles = there.settles; among = λ q is. there.among q (one-touched ino touched q is); same = there.same };
+    ended_is = all.ended_is;
+  };
+  tree = ends.tree;
+  finished = ends.finished;
+}
+
+pub none-kept : (other : ℕ) → map.contains_key (map.empty {X = InodeLocks} {R = nat_cmp}) other ≡ false
+none-kept other = ap is_some (map.get-empty nat_cmp other)

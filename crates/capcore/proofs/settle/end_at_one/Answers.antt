@@ -1,0 +1,22 @@
+use Rattle.std.proofs.Common.{sym, ap, ◌∙◌, true≢false}
+use Rattle.std.specs.FinMap as map
+use Rattle.lockmachine.specs.Inodes.{StateMap}
+use Rattle.lockmachine.specs.Scene.{scene}
+use Rattle.capcore.proofs.Among.{quiet-among, ends-one, none-kept}
+use Rattle.capcore.proofs.settle.end_at_one.Goals as goal
+
+pub end_at-requires-clause-quiet : goal.end_at-requires-clause-quiet
+end_at-requires-clause-quiet c =
+    quiet-among c.args.ino.0 c.new-others.result (scene c.args.fs.now c.args.tree.now c.args.sessions.now c.args.table.now c.args.locks.now) c.requires.quiet
+
+pub end_at-requires-clause-apart : goal.end_at-requires-clause-apart
+end_at-requires-clause-apart c = ap (λ (m : StateMap). map.contains_key m c.args.ino.0) c.new-others.ensures ∙ none-kept c.args.ino.0
+
+pub end_at-requires-clause-before : goal.end_at-requires-clause-before
+end_at-requires-clause-before c = λ other kept.
+    absurd (true≢false (sym kept ∙ ap (λ (m : StateMap). map.contains_key m other) c.new-others.ensures ∙ none-kept other))
+
+pub returns-clause-ends : goal.returns-clause-ends
+returns-clause-ends c =
+    ends-one c.args.ino.0 c.new-others.result (scene c.args.fs.now c.args.tree.now c.args.sessions.now c.args.table.now c.args.locks.now)
+    (scene c.args.fs.now c.end_at.new.tree c.args.sessions.now c.end_at.new.table c.end_at.new.locks) c.end_at.new.endings.told.items c.end_at.ensures.ends
