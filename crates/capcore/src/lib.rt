@@ -19,6 +19,7 @@ mod outcome;
 mod own_laws;
 mod poll;
 mod reach;
+mod recalling;
 mod reply;
 mod serving;
 mod serving_laws;
