@@ -37,7 +37,7 @@ mod world;
 pub use capbits::Refusal;
 pub use ending::what_touches_one_inode_ends_there;
 pub use event::{Event, OpenMode};
-pub use giving::telling_leaves_all_but_what_was_told;
+pub use giving::{a_recall_leaves_all_but_the_marks, telling_leaves_all_but_what_was_told};
 pub use history::{EndedList, Row, Stop};
 pub use laws::{
     a_settling_serves_at_most_who_waits, a_sound_state_has_nothing_left_to_do,
