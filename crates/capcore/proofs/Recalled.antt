@@ -1,6 +1,5 @@
 -- A recall is a whole step: it marks entries as asked for, by which nothing is judged, moved or issued.
 use Rattle.std.proofs.Common.{◌≡◌, ◌≤◌, ℕ, ◌+◌, Bool, true, false, cond, ◌||◌, List, [], take, refl, sym, ap, subst}
-use Rattle.std.specs.Prelude.{All}
 use Rattle.std.proofs.lemmas.List.Elements.{All-map}
 use Rattle.captable.specs.declared.entry.EntryRow.{EntryRow}
 use Rattle.captable.specs.declared.entry.Holder.{Holder}
@@ -40,21 +39,19 @@ recalled-retold t n =
     (map_alike (asked_row named) (retold as_told (asked_too named)) (λ row. row_asked row (is_among named row.holder)) t.rows)
 
 module _ (old : State) (sound : IsSound old) (count : ℕ) where
-  named : List Holder
+  abbrev named : List Holder
   named = take count old.scene.table.recall
 
   abbrev new : State
   new = with_table old (recalled old.scene.table count)
 
   pub recalled-sound : IsSound (with_table old (recalled old.scene.table count))
-  unfolding named
   recalled-sound =
       subst (λ t. IsSound (with_table old t)) (sym (recalled-retold old.scene.table count))
       (retold-sound old as_told (asked_too named) old.messages sound.messages (λ row below. below) sound)
 
   -- no number changes
   recalled-given : (most : ℕ) → AreGiven most old → AreGiven (most + 1) new
-  unfolding named
   recalled-given most given = later-given most new (
     subst (λ t. AreGiven most (with_table old t)) (sym (recalled-retold old.scene.table count))
     (record { entries = All-map (λ row. row.entry.seq ≤ most) (retold as_told (asked_too named)) old.scene.table.rows given.entries; last = given.last; made = given.made }))

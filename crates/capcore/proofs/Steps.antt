@@ -16,7 +16,7 @@ use Rattle.capcore.specs.State.{State}
 use Rattle.capcore.specs.Answered.{IsAnswered}
 use Rattle.inotree.specs.declared.node.Kind.TheVariants.{Directory, File}
 use Rattle.capcore.specs.Judge.{judged}
-use Rattle.capcore.specs.Direct.{Direct, direct, effect, effect_unless, found, reply_of, shown, with_scene, IsDirect}
+use Rattle.capcore.specs.Direct.{Answer, Direct, direct, effect, effect_unless, found, reply_of, shown, with_scene, IsDirect}
 use Rattle.capcore.specs.Settle.{Settles}
 use Rattle.capcore.specs.Finish.{finished}
 use Rattle.capcore.specs.Leaving.{with_parts, LeavesEntries}
@@ -69,11 +69,7 @@ none_dropped old e None = none_dropped-effect old e
 
 -- an event that says its answer, and leads by itself to a sound state in which nothing is left to do, is a whole step
 module _ (old new : State) (e : Event) (answer : Reply) (is : IsDirect old e answer new) (sound : IsSound new) (finishes : finished old.scene new.scene new.scene ≡ new.scene) where
-  d : Direct
-  d = direct old e
-
   whole_step : Step old e answer [] new
-  unfolding d
   whole_step = (
     [],
     record {
@@ -82,12 +78,15 @@ module _ (old new : State) (e : Event) (answer : Reply) (is : IsDirect old e ans
       -- what it says tells no client of anything
       new_is =
           is.state_is
-          ∙ sym (ap (λ a. shown a (state_after old d [] d.state.scene)) (sym is.answer_is) ∙ (λ i. record d.state { scene = done i; messages = append-nil d.state.messages i }));
+          ∙ sym (ap (λ (a : Answer). shown a (state_after old d [] d.state.scene)) (sym is.answer_is) ∙ (λ i. record d.state { scene = done i; messages = append-nil d.state.messages i }));
       answer_is = ap (reply_of (state_after old d [] d.state.scene) []) is.answer_is;
       ended_is = sym (ap (λ xs. xs ++ []) (none_dropped old e (judged old.scene e)));
     },
   )
     where
+      d : Direct
+      d = direct old e
+
       done : finished old.scene d.state.scene d.state.scene ≡ d.state.scene
       done = subst (λ (s : State). finished old.scene s.scene s.scene ≡ s.scene) is.state_is finishes
 
