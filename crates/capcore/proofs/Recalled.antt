@@ -53,8 +53,8 @@ module _ (old : State) (sound : IsSound old) (count : ℕ) where
   -- no number changes
   recalled-given : (most : ℕ) → AreGiven most old → AreGiven (most + 1) new
   recalled-given most given = later-given most new (
-    subst (λ t. AreGiven most (with_table old t)) (sym (recalled-retold old.scene.table count))
-    (record { entries = All-map (λ row. row.entry.seq ≤ most) (retold as_told (asked_too named)) old.scene.table.rows given.entries; last = given.last; made = given.made }))
+      subst (λ t. AreGiven most (with_table old t)) (sym (recalled-retold old.scene.table count))
+      (record { entries = All-map (λ row. row.entry.seq ≤ most) (retold as_told (asked_too named)) old.scene.table.rows given.entries; last = given.last; made = given.made }))
 
   -- and what each client is to know that it holds is what it was
   pub recalled-finished : IsTable old.scene.table → finished old.scene (with_table old (recalled old.scene.table count)).scene (with_table old (recalled old.scene.table count)).scene ≡ (with_table old (recalled old.scene.table count)).scene

@@ -172,11 +172,7 @@ fn recalled(alloc: Global, table: &mut CapTable, n: u32) -> Result<Vec<(u32, u64
     named(alloc, &holders)
 }
 
-fn first_to_recall(
-    alloc: Global,
-    table: &CapTable,
-    n: u32,
-) -> Result<Vec<(u32, u64)>, AllocError> {
+fn first_to_recall(alloc: Global, table: &CapTable, n: u32) -> Result<Vec<(u32, u64)>, AllocError> {
     named(alloc, &table.first_to_recall(n)?)
 }
 
