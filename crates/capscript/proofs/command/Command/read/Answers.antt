@@ -17,6 +17,9 @@ returns-in-lookup c = rw (text_from_reads c.args.word.now (codes "lookup") (omeg
 pub returns-in-create : goal.returns-in-create
 returns-in-create c = rw (text_from_reads c.args.word.now (codes "create") (omega arith) (search rules)) refl
 
+pub returns-in-mkdir : goal.returns-in-mkdir
+returns-in-mkdir c = rw (text_from_reads c.args.word.now (codes "mkdir") (omega arith) (search rules)) refl
+
 pub returns-in-mksnap : goal.returns-in-mksnap
 returns-in-mksnap c = rw (text_from_reads c.args.word.now (codes "mksnap") (omega arith) (search rules)) refl
 
