@@ -52,6 +52,8 @@ same_asking k other ask more e is asking =
 
 pub asking : (e : Event) (k : Holder) (ask : Ask) → asks_for e ≡ Some (k, ask) → IsAsking k ask e
 asking (event.Session client caller grants) k ask is = absurd (none-some (k, ask) is)
+asking (event.Unblock client) k ask is = absurd (none-some (k, ask) is)
+asking (event.Recall count) k ask is = absurd (none-some (k, ask) is)
 asking (event.Lookup client dir name) k ask is = absurd (none-some (k, ask) is)
 asking (event.Create client dir name mode) k ask is = absurd (none-some (k, ask) is)
 asking (event.Mkdir client dir name mode) k ask is = absurd (none-some (k, ask) is)

@@ -27,6 +27,8 @@ found-order s (Some ino) order = order
 -- an event that is about no inode that is there lets nobody wait
 alone-order : (old : State) (e : Event) → touched_by e ≡ None → IsLockMap old.scene.locks → IsLockMap (effect old e).state.scene.locks
 alone-order old (event.Session client caller grants) is order = order
+alone-order old (event.Unblock client) is order = order
+alone-order old (event.Recall count) is order = order
 alone-order old (event.Lookup client dir name) is order = found-order old (child old.scene.tree.nodes dir.0 name) order
 alone-order old (event.Create client dir name mode) is order = record { rising = order.rising; given = order.given; room = order.room }
 alone-order old (event.Mkdir client dir name mode) is order = record { rising = order.rising; given = order.given; room = order.room }

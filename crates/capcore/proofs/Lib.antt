@@ -28,6 +28,7 @@ pub mod Placed
 pub mod Polled
 pub mod Polling
 pub mod Promised
+pub mod Recalled
 pub mod Revoking
 pub mod SameOff
 pub mod Servings

@@ -16,28 +16,30 @@ use Rattle.capcore.specs.State.{State}
 use Rattle.capcore.specs.Answered.{IsAnswered}
 use Rattle.inotree.specs.declared.node.Kind.TheVariants.{Directory, File}
 use Rattle.capcore.specs.Judge.{judged}
-use Rattle.capcore.specs.Direct.{Direct, direct, effect, effect_unless, found, reply_of, shown, with_scene, IsDirect}
+use Rattle.capcore.specs.Direct.{Answer, Direct, direct, effect, effect_unless, found, reply_of, shown, with_scene, IsDirect}
 use Rattle.capcore.specs.Settle.{Settles}
 use Rattle.capcore.specs.Finish.{finished}
 use Rattle.capcore.specs.Leaving.{with_parts, LeavesEntries}
 use Rattle.capcore.specs.Sound.{IsSound, AreGiven}
 use Rattle.capcore.specs.Step.{Step, state_after}
-use Rattle.capcore.specs.Touching.{touched_by, is_poll}
+use Rattle.capcore.specs.Touching.{touched_by, is_listing}
 use Rattle.capcore.proofs.Finishing.{sound-settles}
 use Rattle.capcore.proofs.Judging.{no_test}
 use Rattle.capcore.proofs.Leaving.{kept-sound, kept-finished}
 use Rattle.capcore.proofs.Promised.{issues-exactly}
 use Rattle.capcore.proofs.Sounding.{later-given}
-use Rattle.capcore.proofs.Untouched.{nothing-leaves, session-leaves, changed-leaves, birth-leaves}
+use Rattle.capcore.proofs.Untouched.{nothing-leaves, session-leaves, unblocked-leaves, changed-leaves, birth-leaves}
 
--- the event is about no entry and no request, and asks for no messages
+-- the event is about no entry and no request, and is answered with no list
 abbrev pub IsAlone : Event → Type 0
-IsAlone e = (touched_by e ≡ None) × (is_poll e ≡ false)
+IsAlone e = (touched_by e ≡ None) × (is_listing e ≡ false)
 
 -- ---- the event by itself
 
 none_dropped-effect : (old : State) (e : Event) → (effect old e).dropped ≡ []
 none_dropped-effect old (event.Session client caller grants) = refl
+none_dropped-effect old (event.Unblock client) = refl
+none_dropped-effect old (event.Recall count) = refl
 none_dropped-effect old (event.Lookup client dir name) = by_found (child old.scene.tree.nodes dir.0 name)
   where
     by_found : (o : Option ℕ) → (found old o).dropped ≡ []
@@ -63,33 +65,40 @@ none_dropped : (old : State) (e : Event) (o : Option Stopped) → (effect_unless
 none_dropped old e (Some r) = refl
 none_dropped old e None = none_dropped-effect old e
 
--- and tells no client of anything
-none_shown-effect : (old : State) (e : Event) → IsAlone e → (s : State) → shown (effect old e).answer s ≡ s
-none_shown-effect old (event.Session client caller grants) alone s = refl
-none_shown-effect old (event.Lookup client dir name) alone s = by_found (child old.scene.tree.nodes dir.0 name)
-  where
-    by_found : (o : Option ℕ) → shown (found old o).answer s ≡ s
-    by_found None = refl
-    by_found (Some ino) = refl
-none_shown-effect old (event.Create client dir name mode) alone s = refl
-none_shown-effect old (event.Mkdir client dir name mode) alone s = refl
-none_shown-effect old (event.MakeSnapshot client ino name) alone s = refl
-none_shown-effect old (event.RemoveSnapshot client ino name) alone s = refl
-none_shown-effect old (event.Open client ino mode) alone s = absurd (none-some (holder client ino) (sym alone.0))
-none_shown-effect old (event.Want client ino caps) alone s = absurd (none-some (holder client ino) (sym alone.0))
-none_shown-effect old (event.Ack client ino seq) alone s = absurd (none-some (holder client ino) (sym alone.0))
-none_shown-effect old (event.Release client ino caps) alone s = absurd (none-some (holder client ino) (sym alone.0))
-none_shown-effect old (event.Get client ino part) alone s = absurd (none-some (holder client ino) (sym alone.0))
-none_shown-effect old (event.Alter client ino change) alone s = absurd (none-some (holder client ino) (sym alone.0))
-none_shown-effect old (event.Unlink client ino) alone s = absurd (none-some (holder client ino) (sym alone.0))
-none_shown-effect old (event.Rmdir client ino) alone s = absurd (none-some (holder client ino) (sym alone.0))
-none_shown-effect old (event.Rename client ino dir name) alone s = absurd (none-some (holder client ino) (sym alone.0))
-none_shown-effect old (event.Flush client ino change) alone s = absurd (none-some (holder client ino) (sym alone.0))
-none_shown-effect old (event.Poll client max) alone s = absurd (true≢false alone.1)
+-- ---- a whole step
 
-none_shown : (old : State) (e : Event) → IsAlone e → (o : Option Stopped) (s : State) → shown (effect_unless old e o).answer s ≡ s
-none_shown old e alone (Some r) s = refl
-none_shown old e alone None s = none_shown-effect old e alone s
+-- an event that says its answer, and leads by itself to a sound state in which nothing is left to do, is a whole step
+module _ (old new : State) (e : Event) (answer : Reply) (is : IsDirect old e answer new) (sound : IsSound new) (finishes : finished old.scene new.scene new.scene ≡ new.scene) where
+  whole_step : Step old e answer [] new
+  whole_step = (
+    [],
+    record {
+      settled = d.state.scene;
+      settles = subst (λ (s : State). Settles s.scene [] s.scene) is.state_is (sound-settles new sound);
+      -- what it says tells no client of anything
+      new_is =
+          is.state_is
+          ∙ sym (ap (λ (a : Answer). shown a (state_after old d [] d.state.scene)) (sym is.answer_is) ∙ (λ i. record d.state { scene = done i; messages = append-nil d.state.messages i }));
+      answer_is = ap (reply_of (state_after old d [] d.state.scene) []) is.answer_is;
+      ended_is = sym (ap (λ xs. xs ++ []) (none_dropped old e (judged old.scene e)));
+    },
+  )
+    where
+      d : Direct
+      d = direct old e
+
+      done : finished old.scene d.state.scene d.state.scene ≡ d.state.scene
+      done = subst (λ (s : State). finished old.scene s.scene s.scene ≡ s.scene) is.state_is finishes
+
+  pub direct-answered : (says : Said) → ((count : ℕ) → AreGiven count old → AreGiven (count + 1) new)
+      → says.reply ≡ answer → says.kept ≡ answer → says.ended ≡ [] → IsAnswered old e says new
+  direct-answered says given answers kept none = record {
+    step = subst (λ (ended : List Ended). Step old e says.reply ended new) (sym none) (subst (λ (r : Reply). Step old e r [] new) (sym answers) whole_step);
+    kept = kept ∙ sym answers;
+    sound = sound;
+    issued = issues-exactly old e answer new is sound;
+    given = given;
+  }
 
 -- ---- what the event leaves alone
 
@@ -110,6 +119,8 @@ module _ (old : State) (sound : IsSound old) (tree : IsTree old.scene.tree) wher
   effect-left (event.Session client caller grants) alone none =
       let passed : first_failing (new_session_tests old.scene.sessions client.0) ≡ None = no_test old.scene (new_session_tests old.scene.sessions client.0) [] [] none in
       record { leaves = session-leaves old sound client.0 caller grants passed; is = refl }
+  effect-left (event.Unblock client) alone none = record { leaves = unblocked-leaves old sound client.0; is = refl }
+  effect-left (event.Recall count) alone none = absurd (true≢false alone.1)
   effect-left (event.Lookup client dir name) alone none = found-left (child old.scene.tree.nodes dir.0 name)
   effect-left (event.Create client dir name mode) alone none = record { leaves = birth-leaves old sound File dir.0 name _ tree; is = refl }
   effect-left (event.Mkdir client dir name mode) alone none = record { leaves = birth-leaves old sound Directory dir.0 name _ tree; is = refl }
@@ -148,31 +159,5 @@ module _ (old : State) (sound : IsSound old) (tree : IsTree old.scene.tree) wher
         subst (λ (s : State). finished old.scene s.scene s.scene ≡ s.scene) (sym left.is)
         (kept-finished old sound new.scene.tree new.scene.sessions new.scene.locks.states left.leaves table)
 
-    whole_step : IsTable old.scene.table → Step old e answer [] new
-    whole_step table = (
-      [],
-      record {
-        settled = d.state.scene;
-        settles = subst (λ (s : State). Settles s.scene [] s.scene) is.state_is (sound-settles new direct-sound);
-        new_is =
-            is.state_is
-            ∙ sym (none_shown old e alone (judged old.scene e) (state_after old d [] d.state.scene) ∙ (λ i. record d.state { scene = done i; messages = append-nil d.state.messages i }));
-        answer_is = ap (reply_of (state_after old d [] d.state.scene) []) is.answer_is;
-        ended_is = sym (ap (λ xs. xs ++ []) (none_dropped old e (judged old.scene e)));
-      },
-    )
-      where
-        d : Direct
-        d = direct old e
-
-        done : finished old.scene d.state.scene d.state.scene ≡ d.state.scene
-        done = subst (λ (s : State). finished old.scene s.scene s.scene ≡ s.scene) is.state_is (direct-finished table)
-
     pub alone-answered : (says : Said) → IsTable old.scene.table → says.reply ≡ answer → says.kept ≡ answer → says.ended ≡ [] → IsAnswered old e says new
-    alone-answered says table answers kept none = record {
-      step = subst (λ (ended : List Ended). Step old e says.reply ended new) (sym none) (subst (λ (r : Reply). Step old e r [] new) (sym answers) (whole_step table));
-      kept = kept ∙ sym answers;
-      sound = direct-sound;
-      issued = issues-exactly old e answer new is direct-sound;
-      given = direct-given;
-    }
+    alone-answered says table answers kept none = direct-answered old new e answer is direct-sound (direct-finished table) says direct-given answers kept none

@@ -1,9 +1,11 @@
--- New sessions, new inodes and snapshots leave alone all that entries and requests depend on.
+-- New sessions, clients that come off the blocklist, new inodes and snapshots leave alone all that entries and requests depend on.
 use Rattle.std.proofs.Common.{◌≡◌, ℕ, ◌+◌, Bool, true, false, cond, Option, Some, None, is_some, List, refl, sym, ap, ◌∙◌}
 use Rattle.std.specs.Option.{option_map}
 use Rattle.std.specs.Cmp.{nat_cmp_total}
 use Rattle.std.specs.Ordering.{nat_cmp, eq_by_cmp}
 use Rattle.std.specs.FinMap as map
+use Rattle.std.specs.FinSet as set
+use Rattle.std.specs.FinSet.{FinSet}
 use Rattle.std.proofs.lemmas.List.Elements.{All-weaker}
 use Rattle.capbits.specs.declared.caller.Caller.{Caller}
 use Rattle.capbits.specs.Refusal.{first_failing}
@@ -18,7 +20,7 @@ use Rattle.inotree.specs.Calls.{with_new, new_node, changed}
 use Rattle.inotree.proofs.Maps.{insert-other}
 use Rattle.inotree.proofs.Elsewhere.{field-changed, not_next}
 use Rattle.sessiontab.specs.Table.{SessionTable}
-use Rattle.sessiontab.specs.Calls.{with_session}
+use Rattle.sessiontab.specs.Calls.{with_session, without_blocked}
 use Rattle.sessiontab.specs.Tests.{new_session_tests}
 use Rattle.sessiontab.proofs.Elsewhere.{session-kept}
 use Rattle.captable.specs.declared.entry.EntryRow.{EntryRow}
@@ -49,15 +51,22 @@ module _ (s : State) (sound : IsSound s) where
   abbrev SameWant : Nodes → SessionTable → EntryRow → Type 0
   SameWant tree sessions row = effective_want s.scene.fs tree sessions row ≡ effective_want s.scene.fs s.scene.tree s.scene.sessions row
 
-  pub nothing-leaves : LeavesEntries s.scene s.scene.tree s.scene.sessions s.scene.locks.states
-  nothing-leaves = record {
+  -- whoever is on the blocklist
+  blocked-leaves : (blocked : FinSet nat_cmp) → LeavesEntries s.scene s.scene.tree (record s.scene.sessions { blocked = blocked }) s.scene.locks.states
+  blocked-leaves blocked = record {
     connected = λ client has. has;
     there = λ ino here. here;
     locks = λ ino here. refl;
     new_locks = none_new;
     strays = λ ino gone. gone;
-    wants = All-weaker (IsSoundEntry s.scene) (SameWant s.scene.tree s.scene.sessions) (λ row entry. refl) s.scene.table.rows sound.entries;
+    wants = All-weaker (IsSoundEntry s.scene) (SameWant s.scene.tree (record s.scene.sessions { blocked = blocked })) (λ row entry. refl) s.scene.table.rows sound.entries;
   }
+
+  pub nothing-leaves : LeavesEntries s.scene s.scene.tree s.scene.sessions s.scene.locks.states
+  nothing-leaves = blocked-leaves s.scene.sessions.blocked
+
+  pub unblocked-leaves : (client : ℕ) → LeavesEntries s.scene s.scene.tree (without_blocked s.scene.sessions client) s.scene.locks.states
+  unblocked-leaves client = blocked-leaves (set.remove s.scene.sessions.blocked client)
 
   pub session-leaves : (client : ℕ) (caller : Caller) (grants : List Grant) → first_failing (new_session_tests s.scene.sessions client) ≡ None
       → LeavesEntries s.scene s.scene.tree (with_session s.scene.sessions client caller grants) s.scene.locks.states
@@ -119,6 +128,9 @@ module _ {s : State} (sound : IsSound s) where
       → IsSound (with_scene s (record s.scene { sessions = with_session s.scene.sessions client caller grants }))
   session-sound client caller grants passed =
       kept-sound s sound s.scene.tree (with_session s.scene.sessions client caller grants) s.scene.locks.states (session-leaves s sound client caller grants passed)
+
+  pub unblocked-sound : (client : ℕ) → IsSound (with_scene s (record s.scene { sessions = without_blocked s.scene.sessions client }))
+  unblocked-sound client = kept-sound s sound s.scene.tree (without_blocked s.scene.sessions client) s.scene.locks.states (unblocked-leaves s sound client)
 
   pub changed-sound : (f : Node → Node) (ino : ℕ) → ((n : Node) → (f n).site ≡ n.site) → ((n : Node) → (f n).attr ≡ n.attr)
       → IsSound (with_tree s (changed f s.scene.tree ino))

@@ -1,5 +1,5 @@
 -- What an event does and answers by itself, before any lock moves.
-use Rattle.std.specs.Prelude.{◌≡◌, ℕ, ◌+◌, ◌==◌, Bool, true, false, List, [], ◌∷◌, Option, Some, None, is_some, unwrap_or, if◌then◌else◌}
+use Rattle.std.specs.Prelude.{◌≡◌, ℕ, ◌+◌, ◌==◌, Bool, true, false, List, [], ◌∷◌, take, Option, Some, None, is_some, unwrap_or, if◌then◌else◌}
 use Rattle.std.specs.List.{find}
 use Rattle.std.specs.FinMap as map
 use Rattle.capbits.specs.declared.cap.Cap.TheVariants.{P, Fs, Fx, Fc, Fr, Fw, Fb}
@@ -16,11 +16,11 @@ use Rattle.inotree.specs.Inodes.{with_snapshot, without_snapshot}
 use Rattle.inotree.specs.Tree.{Nodes, child}
 use Rattle.inotree.specs.Calls.{with_new, changed}
 use Rattle.sessiontab.specs.declared.session.Session.{Session}
-use Rattle.sessiontab.specs.Calls.{with_session}
+use Rattle.sessiontab.specs.Calls.{with_session, without_blocked}
 use Rattle.captable.specs.declared.entry.Holder.{Holder}
 use Rattle.captable.specs.declared.entry.EntryRow.{EntryRow}
 use Rattle.captable.specs.Table.{Table, holder, is_row_of, entry_at}
-use Rattle.captable.specs.Calls.{opened, wanting, taken, released, touched, told, changed as changed_entry}
+use Rattle.captable.specs.Calls.{opened, wanting, taken, released, touched, told, recalled, changed as changed_entry}
 use Rattle.lockmachine.specs.declared.request.Ask.{Ask}
 use Rattle.lockmachine.specs.declared.request.Ask.TheVariants.{Get, Alter, Unlink, Rmdir, Rename}
 use Rattle.lockmachine.specs.declared.request.Change.{Change}
@@ -183,6 +183,9 @@ with_flush s k change =
 abbrev pub effect : State → Event → Direct
 effect s (event.Session client caller grants) =
     says (with_scene s (record s.scene { sessions = with_session s.scene.sessions client.0 caller grants })) reply.Done
+effect s (event.Unblock client) =
+    says (with_scene s (record s.scene { sessions = without_blocked s.scene.sessions client.0 })) reply.Done
+effect s (event.Recall count) = says (with_table s (recalled s.scene.table count)) (reply.Recalled (take count s.scene.table.recall))
 effect s (event.Lookup client dir name) = found s (child s.scene.tree.nodes dir.0 name)
 effect s (event.Create client dir name mode) = born s File client dir.0 name mode
 effect s (event.Mkdir client dir name mode) = born s Directory client dir.0 name mode
@@ -232,4 +235,5 @@ has_list (reply.Waiting ticket) = false
 has_list (reply.Denied access rules) = false
 has_list (reply.Refused refusal) = false
 has_list (reply.Messages messages) = true
+has_list (reply.Recalled holders) = true
 has_list reply.OutOfMemory = false

@@ -73,6 +73,7 @@ is_stop (reply.Ino ino) = false
 is_stop (reply.Opened seq caps) = false
 is_stop (reply.Values values) = false
 is_stop (reply.Messages messages) = false
+is_stop (reply.Recalled holders) = false
 is_stop (reply.Waiting ticket) = false
 is_stop (reply.Denied access rules) = true
 is_stop (reply.Refused refusal) = true

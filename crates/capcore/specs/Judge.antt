@@ -9,7 +9,7 @@ use Rattle.capgrant.specs.declared.access.Access.{Access}
 use Rattle.capgrant.specs.declared.access.Access.TheVariants.{Read, Write, Snapshot}
 use Rattle.capbits.specs.Refusal.{Test, first_failing}
 use Rattle.sessiontab.specs.Table.{SessionTable}
-use Rattle.sessiontab.specs.Tests.{connected_test, session_tests, new_session_tests}
+use Rattle.sessiontab.specs.Tests.{connected_test, session_tests, new_session_tests, blocked_test}
 use Rattle.inotree.specs.Tree.{Nodes, child}
 use Rattle.inotree.specs.Tests.{known_test, inode_tests, directory_test, file_test, found_test, new_inode_tests, new_snapshot_tests, old_snapshot_tests}
 use Rattle.captable.specs.declared.entry.Holder.{Holder}
@@ -60,6 +60,8 @@ asking_tests s client ino ask = session_tests s.sessions client.0 ++ ask_before 
 -- the tests that stand before policy
 abbrev pub before : Scene → Event → List Test
 before s (event.Session client caller grants) = new_session_tests s.sessions client.0
+before s (event.Unblock client) = blocked_test s.sessions client.0 ∷ []
+before s (event.Recall count) = []
 before s (event.Lookup client dir name) = asked_tests s client dir.0 ++ directory_test s.tree dir.0 ∷ found_test s.tree dir.0 name ∷ []
 before s (event.Create client dir name mode) = asked_tests s client dir.0
 before s (event.Mkdir client dir name mode) = asked_tests s client dir.0
@@ -87,6 +89,8 @@ opening_needs client ino opening.ReadWrite = need client ino Read ∷ need clien
 -- the accesses that an event needs, in order
 abbrev pub needs : Scene → Event → List Need
 needs s (event.Session client caller grants) = []
+needs s (event.Unblock client) = []
+needs s (event.Recall count) = []
 needs s (event.Lookup client dir name) = need_if client (child s.tree.nodes dir.0 name) Read
 needs s (event.Create client dir name mode) = need client dir.0 Write ∷ []
 needs s (event.Mkdir client dir name mode) = need client dir.0 Write ∷ []
@@ -125,6 +129,8 @@ flush_tests s k change =
 -- the tests that stand behind policy
 abbrev pub after : Scene → Event → List Test
 after s (event.Session client caller grants) = []
+after s (event.Unblock client) = []
+after s (event.Recall count) = []
 after s (event.Lookup client dir name) = []
 after s (event.Create client dir name mode) = new_inode_tests s.tree dir.0 name
 after s (event.Mkdir client dir name mode) = new_inode_tests s.tree dir.0 name

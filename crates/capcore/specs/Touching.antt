@@ -31,6 +31,8 @@ use Rattle.capcore.specs.State.{State}
 -- who asks, and of which inode, where the event is about one that is there already: about an entry on it, or about what it keeps
 abbrev pub touched_by : Event → Option Holder
 touched_by (event.Session client caller grants) = None
+touched_by (event.Unblock client) = None
+touched_by (event.Recall count) = None
 touched_by (event.Lookup client dir name) = None
 touched_by (event.Create client dir name mode) = None
 touched_by (event.Mkdir client dir name mode) = None
@@ -51,6 +53,8 @@ touched_by (event.Poll client max) = None
 -- of an event that waits for a lock, who asks, of which inode, and what
 abbrev pub asks_for : Event → Option (Holder × Ask)
 asks_for (event.Session client caller grants) = None
+asks_for (event.Unblock client) = None
+asks_for (event.Recall count) = None
 asks_for (event.Lookup client dir name) = None
 asks_for (event.Create client dir name mode) = None
 asks_for (event.Mkdir client dir name mode) = None
@@ -68,25 +72,27 @@ asks_for (event.Rename client ino dir name) = Some (holder client ino, Rename di
 asks_for (event.Flush client ino change) = None
 asks_for (event.Poll client max) = None
 
--- the event asks for messages
-abbrev pub is_poll : Event → Bool
-is_poll (event.Session client caller grants) = false
-is_poll (event.Lookup client dir name) = false
-is_poll (event.Create client dir name mode) = false
-is_poll (event.Mkdir client dir name mode) = false
-is_poll (event.MakeSnapshot client ino name) = false
-is_poll (event.RemoveSnapshot client ino name) = false
-is_poll (event.Open client ino mode) = false
-is_poll (event.Want client ino caps) = false
-is_poll (event.Ack client ino seq) = false
-is_poll (event.Release client ino caps) = false
-is_poll (event.Get client ino part) = false
-is_poll (event.Alter client ino change) = false
-is_poll (event.Unlink client ino) = false
-is_poll (event.Rmdir client ino) = false
-is_poll (event.Rename client ino dir name) = false
-is_poll (event.Flush client ino change) = false
-is_poll (event.Poll client max) = true
+-- the event is answered with a list: of messages, or of who is asked to give back
+abbrev pub is_listing : Event → Bool
+is_listing (event.Session client caller grants) = false
+is_listing (event.Unblock client) = false
+is_listing (event.Recall count) = true
+is_listing (event.Lookup client dir name) = false
+is_listing (event.Create client dir name mode) = false
+is_listing (event.Mkdir client dir name mode) = false
+is_listing (event.MakeSnapshot client ino name) = false
+is_listing (event.RemoveSnapshot client ino name) = false
+is_listing (event.Open client ino mode) = false
+is_listing (event.Want client ino caps) = false
+is_listing (event.Ack client ino seq) = false
+is_listing (event.Release client ino caps) = false
+is_listing (event.Get client ino part) = false
+is_listing (event.Alter client ino change) = false
+is_listing (event.Unlink client ino) = false
+is_listing (event.Rmdir client ino) = false
+is_listing (event.Rename client ino dir name) = false
+is_listing (event.Flush client ino change) = false
+is_listing (event.Poll client max) = true
 
 -- ---- what they leave
 

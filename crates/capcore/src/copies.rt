@@ -83,6 +83,7 @@ pub(crate) fn copy_of_reply(reply: &Reply) -> Reply
         },
         Reply::Values(_values) => unreachable!(),
         Reply::Messages(_messages) => unreachable!(),
+        Reply::Recalled(_holders) => unreachable!(),
         Reply::Waiting(ticket) => Reply::Waiting(*ticket),
         Reply::Refused(refusal) => Reply::Refused(*refusal),
         Reply::OutOfMemory => Reply::OutOfMemory,

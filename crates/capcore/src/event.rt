@@ -27,6 +27,17 @@ pub enum Event {
         /// What it may do, and where.
         grants: Grants,
     },
+    /// A client that was thrown out is let in again: it comes off the blocklist.
+    Unblock {
+        /// The client.
+        client: ClientId,
+    },
+    /// Clients are asked to give back what they have not used for longest: the first entries in the order of recall are
+    /// marked, and none is moved.
+    Recall {
+        /// How many entries, at most.
+        count: u32,
+    },
     /// A client asks which inode a directory has under a name.
     Lookup {
         /// The client.

@@ -1,10 +1,12 @@
-//! What a client is told at the end of a step. No program needs to call this law.
+//! What a client is told at the end of a step, and what it is asked for. No program needs to call these laws.
 
-ghost use Rattle.std.specs.Prelude.{ℕ};
+ghost use Rattle.std.specs.Prelude.{◌≡◌, ℕ};
 ghost use Rattle.captable.specs.Table.{IsTable};
+ghost use Rattle.captable.specs.Calls.{recalled};
 ghost use Rattle.lockmachine.specs.Scene.{Scene};
 ghost use Rattle.capcore.specs.State.{State};
-ghost use Rattle.capcore.specs.Direct.{Answer, shown};
+ghost use Rattle.capcore.specs.Direct.{Answer, shown, with_table};
+ghost use Rattle.capcore.specs.Finish.{finished};
 ghost use Rattle.capcore.specs.Headline.{IssuesExactly};
 ghost use Rattle.capcore.specs.Sound.{IsSound, AreGiven};
 
@@ -14,4 +16,12 @@ pub fn telling_leaves_all_but_what_was_told()
     ensures given { (count : ℕ) (s : State) (answer : Answer) → AreGiven count s → AreGiven count (shown answer s) }
     ensures issued { (first : Scene) (s : State) (answer : Answer) → IsTable s.scene.table → IssuesExactly first s.scene
         → IssuesExactly first (shown answer s).scene }
+{}
+
+/// A recall marks entries as asked for, and leaves a sound state sound; no client is to know of anything else than before, and
+/// nothing is to be issued, forgotten or numbered.
+pub fn a_recall_leaves_all_but_the_marks()
+    ensures sound { (s : State) (n : ℕ) → IsSound s → IsSound (with_table s (recalled s.scene.table n)) }
+    ensures finished { (s : State) (n : ℕ) → IsSound s → IsTable s.scene.table
+        → let new = with_table s (recalled s.scene.table n) in finished s.scene new.scene new.scene ≡ new.scene }
 {}

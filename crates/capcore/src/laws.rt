@@ -11,7 +11,7 @@ ghost use Rattle.inotree.specs.declared.node.Kind.{Kind};
 ghost use Rattle.inotree.specs.declared.node.Node.{Node};
 ghost use Rattle.inotree.specs.Calls.{with_new, changed};
 ghost use Rattle.sessiontab.specs.Table.{SessionTable};
-ghost use Rattle.sessiontab.specs.Calls.{with_session};
+ghost use Rattle.sessiontab.specs.Calls.{with_session, without_blocked};
 ghost use Rattle.sessiontab.specs.Tests.{new_session_tests};
 ghost use Rattle.lockmachine.specs.Inodes.{StateMap};
 ghost use Rattle.captable.specs.declared.entry.EntryRow.{EntryRow};
@@ -74,11 +74,13 @@ pub fn what_leaves_entries_alone_leaves_nothing_to_do()
         ≡ with_parts s.scene tree sessions states }
 {}
 
-/// A new session, a new inode, and a snapshot that comes or goes are such events.
+/// A new session, a client that comes off the blocklist, a new inode, and a snapshot that comes or goes are such events.
 pub fn sessions_inodes_and_snapshots_leave_entries_alone()
     ensures session { (s : State) (client : ℕ) (caller : Caller) (grants : List Grant) → IsSound s
         → first_failing (new_session_tests s.scene.sessions client) ≡ None
         → LeavesEntries s.scene s.scene.tree (with_session s.scene.sessions client caller grants) s.scene.locks.states }
+    ensures unblocked { (s : State) (client : ℕ) → IsSound s
+        → LeavesEntries s.scene s.scene.tree (without_blocked s.scene.sessions client) s.scene.locks.states }
     ensures inode { (s : State) (kind : Kind) (dir : ℕ) (name : List ℕ) (attr : Attr) → IsSound s
         → IsTree s.scene.tree → LeavesEntries s.scene (with_new s.scene.tree kind dir name attr) s.scene.sessions
         (with_ino s.scene.locks (s.scene.tree.last + 1)).states }

@@ -19,6 +19,7 @@ mod outcome;
 mod own_laws;
 mod poll;
 mod reach;
+mod recalling;
 mod reply;
 mod serving;
 mod serving_laws;
@@ -36,7 +37,7 @@ mod world;
 pub use capbits::Refusal;
 pub use ending::what_touches_inodes_ends_there;
 pub use event::{Event, OpenMode};
-pub use giving::telling_leaves_all_but_what_was_told;
+pub use giving::{a_recall_leaves_all_but_the_marks, telling_leaves_all_but_what_was_told};
 pub use history::{EndedList, Row, Stop};
 pub use laws::{
     a_settling_serves_at_most_who_waits, a_sound_state_has_nothing_left_to_do,

@@ -7,6 +7,7 @@ use crate::history::EndedList;
 use crate::outcome::{MessageList, PartValues};
 use capbits::{CapSet, Ino, Refusal, Ticket};
 use capgrant::{Access, Rules};
+use captable::Holders;
 use std::alloc::Global;
 
 /// The answer to an event.
@@ -27,6 +28,8 @@ pub enum Reply {
     Values(PartValues),
     /// The messages that were due to the client, the first of them.
     Messages(MessageList),
+    /// Whose entries are asked for, on which inodes, the first in the order of recall first.
+    Recalled(Holders),
     /// The request waits for a lock, under this number.
     Waiting(Ticket),
     /// No grant of the client allows an access that the request needs.

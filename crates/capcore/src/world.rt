@@ -5,7 +5,7 @@ ghost use Rattle.inotree.specs.Calls.{with_new};
 ghost use Rattle.inotree.specs.Tests.{create_tests};
 ghost use Rattle.capcore.specs.Sound.{IsSound, AreGiven, NumbersLeft};
 ghost use Rattle.capcore.specs.Touch.{touch_event};
-ghost use Rattle.capcore.specs.Touching.{touched_by, is_poll};
+ghost use Rattle.capcore.specs.Touching.{touched_by, is_listing};
 ghost use Rattle.captable.specs.Table.{IsTable, holder, entry_at};
 ghost use Rattle.lockmachine.specs.Locks.{lock_at};
 ghost use Rattle.sessiontab.specs.Calls.{status_of};
@@ -62,7 +62,7 @@ impl Model for World {
     ghost use Rattle.capcore.specs.Codes.{state_code};
     ghost use Rattle.capcore.specs.Sound.{IsSound, AreGiven, NumbersLeft};
     ghost use Rattle.capcore.specs.Touch.{touch_event};
-    ghost use Rattle.capcore.specs.Touching.{touched_by, is_poll};
+    ghost use Rattle.capcore.specs.Touching.{touched_by, is_listing};
     ghost use Rattle.capcore.specs.Untold.{HasRoom};
 
     ghost Value = { State };
@@ -142,7 +142,9 @@ impl World {
                 change,
             } => self.flush(*client, *ino, change),
             Event::Poll { client, max } => self.poll(*client, *max),
+            Event::Recall { count } => self.recall(*count),
             Event::Session { .. }
+            | Event::Unblock { .. }
             | Event::Lookup { .. }
             | Event::Create { .. }
             | Event::Mkdir { .. }
@@ -154,7 +156,7 @@ impl World {
     // A step that leaves alone what entries and requests depend on: no lock moves, and all is done when the event is.
     fn act_alone(&mut self, event: &Event) -> Result<Said, Stop>
         requires touches { touched_by event.now ≡ None }
-        requires polls { is_poll event.now ≡ false }
+        requires lists { is_listing event.now ≡ false }
         ensures answered { IfOk result (λ said. IsAnswered self.old event.now said self.new) }
         ensures err { OnErr result (self.new ≡ self.old) }
         ensures memory { IfErr result (λ stop. stop ≡ Stop.NoMemory) }
@@ -230,7 +232,7 @@ impl World {
     // The event by itself.
     fn act(&mut self, event: &Event) -> Result<Reply, Stop>
         requires touches { touched_by event.now ≡ None }
-        requires polls { is_poll event.now ≡ false }
+        requires lists { is_listing event.now ≡ false }
         ensures direct { IfOk result (λ reply. IsDirect self.old event.now reply self.new) }
         ensures err { OnErr result (self.new ≡ self.old) }
         ensures memory { IfErr result (λ stop. stop ≡ Stop.NoMemory) }
@@ -241,6 +243,7 @@ impl World {
                 caller,
                 grants,
             } => self.open_session(*client, caller, grants),
+            Event::Unblock { client } => Ok(self.unblock(*client)),
             Event::Lookup { client, dir, name } => {
                 Ok(self.lookup(*client, *dir, name.as_slice()))
             }
@@ -262,7 +265,8 @@ impl World {
             Event::RemoveSnapshot { client, ino, name } => {
                 self.remove_snapshot(*client, *ino, name.as_slice())
             }
-            Event::Open { .. }
+            Event::Recall { .. }
+            | Event::Open { .. }
             | Event::Want { .. }
             | Event::Ack { .. }
             | Event::Release { .. }
@@ -295,6 +299,16 @@ impl World {
         let caller = copy_of_caller(caller);
         self.sessions.open_session(client, caller, grants)?;
         Ok(Reply::Done)
+    }
+
+    fn unblock(&mut self, client: ClientId) -> Reply
+        ensures { IsDirect self.old (event.Unblock client) result self.new }
+    {
+        if let Some(refusal) = self.sessions.unblock_refusal(client) {
+            return Reply::Refused(refusal);
+        }
+        self.sessions.unblock(client);
+        Reply::Done
     }
 
     fn lookup(&self, client: ClientId, dir: Ino, name: &[u8]) -> Reply

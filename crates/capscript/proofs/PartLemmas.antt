@@ -3,7 +3,9 @@ use Rattle.std.proofs.Common.{◌≡◌, ℕ, ◌+◌, ◌<◌, List, [], ◌∷
 use Rattle.std.specs.List.{flat_map}
 use Rattle.std.proofs.lemmas.List.{append-nil, take_more, map-append}
 use Rattle.std.proofs.lemmas.List.Concat.{flat_map-append}
+use Rattle.captable.specs.declared.entry.Holder.{Holder}
 use Rattle.capscript.specs.PartTexts.{byte_text, hex_text}
+use Rattle.capscript.specs.Replies.{holder_text, holders_text}
 
 -- the texts so far, and one more
 pub texts-push : {X : Type 0} (f : X → List ℕ) (start line after : List ℕ) (xs : List X) (x : X) → line ≡ start ++ flat_map f xs → after ≡ line ++ f x → after ≡ start ++ flat_map f (xs ++ x ∷ [])
@@ -26,3 +28,8 @@ texts-yielded f shows start line after xs x before now =
 pub some_hex : (bytes : List ℕ) → 0 < length bytes → hex_text bytes ≡ flat_map byte_text bytes
 some_hex [] some = absurd (omega arith)
 some_hex (byte ∷ bytes) some = refl
+
+-- nor have some holders
+pub some_holders : (holders : List Holder) → 0 < length holders → holders_text holders ≡ flat_map holder_text holders
+some_holders [] some = absurd (omega arith)
+some_holders (k ∷ holders) some = refl

@@ -1,5 +1,5 @@
 -- What a line says.
-use Rattle.std.specs.Prelude.{◌≡◌, ℕ, ◌^◌, Result, Ok, Err, List, [], ◌∷◌, length, codes, bytes_eq, nat_le, if◌then◌else◌}
+use Rattle.std.specs.Prelude.{◌≡◌, ℕ, ◌^◌, Option, Some, None, Result, Ok, Err, List, [], ◌∷◌, length, codes, bytes_eq, nat_le, if◌then◌else◌}
 use Rattle.std.specs.Option.{ok_or}
 use Rattle.capbits.specs.declared.caller.Caller.{Caller}
 use Rattle.capbits.specs.declared.ids.ClientId.{ClientId}
@@ -23,25 +23,27 @@ use Rattle.capscript.specs.Lines.{is_skipped, longest_line}
 use Rattle.capscript.specs.Values.{number_below, number_in, client_in, ino_in, seq_in, mode_in, open_mode_in, part_in, bytes_in, groups_in, Spells}
 use Rattle.capscript.specs.Words.{parts, command_in}
 
--- the client who asks
-abbrev pub client_of : Event → ClientId
-client_of (events.Session client caller grants) = client
-client_of (events.Lookup client dir name) = client
-client_of (events.Create client dir name mode) = client
-client_of (events.Mkdir client dir name mode) = client
-client_of (events.MakeSnapshot client ino name) = client
-client_of (events.RemoveSnapshot client ino name) = client
-client_of (events.Open client ino mode) = client
-client_of (events.Want client ino caps) = client
-client_of (events.Ack client ino seq) = client
-client_of (events.Release client ino caps) = client
-client_of (events.Get client ino part) = client
-client_of (events.Alter client ino change) = client
-client_of (events.Unlink client ino) = client
-client_of (events.Rmdir client ino) = client
-client_of (events.Rename client ino dir name) = client
-client_of (events.Flush client ino change) = client
-client_of (events.Poll client max) = client
+-- the client that the event is about; a recall is about none
+abbrev pub client_of : Event → Option ClientId
+client_of (events.Session client caller grants) = Some client
+client_of (events.Unblock client) = Some client
+client_of (events.Recall count) = None
+client_of (events.Lookup client dir name) = Some client
+client_of (events.Create client dir name mode) = Some client
+client_of (events.Mkdir client dir name mode) = Some client
+client_of (events.MakeSnapshot client ino name) = Some client
+client_of (events.RemoveSnapshot client ino name) = Some client
+client_of (events.Open client ino mode) = Some client
+client_of (events.Want client ino caps) = Some client
+client_of (events.Ack client ino seq) = Some client
+client_of (events.Release client ino caps) = Some client
+client_of (events.Get client ino part) = Some client
+client_of (events.Alter client ino change) = Some client
+client_of (events.Unlink client ino) = Some client
+client_of (events.Rmdir client ino) = Some client
+client_of (events.Rename client ino dir name) = Some client
+client_of (events.Flush client ino change) = Some client
+client_of (events.Poll client max) = Some client
 
 -- What a line says: nothing, as it is skipped; an event; that a client opens a session with the grants that a text means, whatever these
 -- are; an event with the set of capabilities that a word spells; or nothing that can be read, by its fault.
@@ -88,6 +90,20 @@ session_by (client_word ∷ uid_word ∷ gid_word ∷ groups_word ∷ text ∷ [
   groups ← groups_in groups_word
   opened client (record { uid = uid; gid = gid; groups = groups }) text
 session_by arguments = Faulty faults.Count
+
+-- a client
+abbrev pub client_by : (ClientId → Event) → List (List ℕ) → Line
+client_by event (client_word ∷ []) = do
+  client ← client_in client_word
+  Says (event client)
+client_by event arguments = Faulty faults.Count
+
+-- how many entries are asked for, at most
+abbrev pub recall_by : List (List ℕ) → Line
+recall_by (count_word ∷ []) = do
+  count ← number_in count_word
+  Says (events.Recall count)
+recall_by arguments = Faulty faults.Count
 
 -- a client, an inode and what it is opened for
 abbrev pub open_by : List (List ℕ) → Line
@@ -198,6 +214,8 @@ poll_by arguments = Faulty faults.Count
 -- a command with its arguments
 abbrev pub said_with : Command → List (List ℕ) → Line
 said_with commands.Session arguments = session_by arguments
+said_with commands.Unblock arguments = client_by events.Unblock arguments
+said_with commands.Recall arguments = recall_by arguments
 said_with commands.Lookup arguments = named_by events.Lookup arguments
 said_with commands.Create arguments = new_inode_by events.Create arguments
 said_with commands.Mkdir arguments = new_inode_by events.Mkdir arguments

@@ -9,11 +9,12 @@ use Rattle.capgrant.specs.declared.rule.Rule.{Rule}
 use Rattle.capgrant.specs.Access.{access_word}
 use Rattle.capgrant.specs.Rule.{rule_number}
 use Rattle.capbits.specs.Refusal.{refusal_word}
+use Rattle.captable.specs.declared.entry.Holder.{Holder}
 use Rattle.capcore.specs.declared.outcome.Message.{Message}
 use Rattle.capcore.specs.declared.outcome.Message.TheVariants as messages
 use Rattle.capcore.specs.declared.outcome.Outcome.{Outcome}
 use Rattle.capcore.specs.declared.reply.Reply.{Reply}
-use Rattle.capcore.specs.declared.reply.Reply.TheVariants.{Done, Ino, Opened, Values, Messages, Waiting, Denied, Refused, OutOfMemory}
+use Rattle.capcore.specs.declared.reply.Reply.TheVariants.{Done, Ino, Opened, Values, Messages, Recalled, Waiting, Denied, Refused, OutOfMemory}
 use Rattle.capcore.specs.Direct.{outcome_reply}
 use Rattle.capscript.specs.PartTexts.{values_text}
 
@@ -30,6 +31,15 @@ rules_text (rule ∷ rules) = join_by rule_text (codes ",") (enumerate_from 1 (r
 abbrev pub denial_text : Access → List Rule → List ℕ
 denial_text access rules = codes "denied " ++ access_word access ++ codes " " ++ rules_text rules
 
+-- a client, and the inode that it has an entry on
+abbrev pub holder_text : Holder → List ℕ
+holder_text k = codes " " ++ decimal k.client.0 ++ codes ":" ++ decimal k.ino.0
+
+-- each in its order, or a dash for nobody
+abbrev pub holders_text : List Holder → List ℕ
+holders_text [] = codes " -"
+holders_text (k ∷ holders) = flat_map holder_text (k ∷ holders)
+
 -- the first line of a reply, without the line feed that ends it
 abbrev pub reply_line : Reply → List ℕ
 reply_line Done = codes "done"
@@ -37,6 +47,7 @@ reply_line (Ino ino) = codes "ino " ++ decimal ino.0
 reply_line (Opened seq caps) = codes "caps " ++ decimal seq ++ codes " " ++ text_of caps
 reply_line (Values values) = codes "attr " ++ values_text values
 reply_line (Messages given) = codes "messages " ++ decimal (length given)
+reply_line (Recalled holders) = codes "recalled" ++ holders_text holders
 reply_line (Waiting ticket) = codes "waiting " ++ decimal ticket.0
 reply_line (Denied access rules) = denial_text access rules
 reply_line (Refused refusal) = codes "refused " ++ refusal_word refusal

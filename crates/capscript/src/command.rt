@@ -7,6 +7,10 @@ use crate::fault::LineFault;
 pub(crate) enum Command {
     /// A client opens a session.
     Session,
+    /// A client comes off the blocklist.
+    Unblock,
+    /// Clients are asked to give back.
+    Recall,
     /// A client asks for the inode of a name.
     Lookup,
     /// A client makes a file.
@@ -51,6 +55,8 @@ impl Command {
     {
         match word {
             b"session" => Ok(Command::Session),
+            b"unblock" => Ok(Command::Unblock),
+            b"recall" => Ok(Command::Recall),
             b"lookup" => Ok(Command::Lookup),
             b"create" => Ok(Command::Create),
             b"mkdir" => Ok(Command::Mkdir),

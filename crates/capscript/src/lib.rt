@@ -14,6 +14,7 @@ mod message_text;
 mod part_text;
 mod reply;
 mod running;
+mod session_event;
 mod values;
 mod watched;
 mod words;

@@ -16,7 +16,7 @@ use std::alloc::Global;
 /// How many bytes a line may have, without its line feed. A line that is skipped may have more.
 pub const MAX_LINE: usize = 65536;
 
-/// Reads a line, which has no line feed, by its number in the script: the event that it says, with the client who asks.
+/// Reads a line, which has no line feed, by its number in the script: the event that it says, with the client that it is about.
 /// None for a line that is skipped: it is empty, or begins with `#`.
 ///
 /// A line that says no event and is not skipped has one fault, which is told with the line's number. `NoMemory` comes last, and only for a line that
@@ -27,12 +27,12 @@ pub fn read_line(
     text: &[u8],
 ) -> Result<Option<(Option<ClientId>, Event)>, ScriptFault>
     ensures skipped { (result ≡ Ok None) ↔ IsTrue (is_skipped text.now) }
-    // What is read is what the line says; and each of these events has a client, who asks.
+    // What is read is what the line says, with the client that it is about.
     ensures event { IfOk result (λ read. IfSome read (λ said. Reads text.now said.1)) }
-    ensures client { IfOk result (λ read. IfSome read (λ said. said.0 ≡ Some (client_of said.1))) }
+    ensures client { IfOk result (λ read. IfSome read (λ said. said.0 ≡ client_of said.1)) }
     // What the line says is read, unless memory runs out.
     ensures only { (event : AnEvent) → Reads text.now event
-        → (result ≡ Err stops.NoMemory) ⊎ (result ≡ Ok (Some (Some (client_of event), event))) }
+        → (result ≡ Err stops.NoMemory) ⊎ (result ≡ Ok (Some (client_of event, event))) }
     // Which fault it is.
     ensures err { IfErr result (IsStop line text.now) }
     // A fault of the line is told, whatever memory there is.
@@ -43,7 +43,7 @@ pub fn read_line(
         return Ok(None);
     }
     match read_event(alloc, text) {
-        Ok(event) => Ok(Some((Some(client_of(&event)), event))),
+        Ok(event) => Ok(Some((client_of(&event), event))),
         Err(Refused::Wrong(kind)) => Err(ScriptFault::LineFault { line, kind }),
         Err(Refused::NoMemory) => Err(ScriptFault::NoMemory),
     }
@@ -55,12 +55,14 @@ fn is_skipped(text: &[u8]) -> bool
     matches!(text, [] | [b'#', ..])
 }
 
-// The client who asks.
-fn client_of(event: &Event) -> ClientId
+// The client that the event is about, if it is about one.
+fn client_of(event: &Event) -> Option<ClientId>
     ensures { result ≡ client_of event.now }
 {
     match event {
+        Event::Recall { .. } => None,
         Event::Session { client, .. }
+        | Event::Unblock { client }
         | Event::Lookup { client, .. }
         | Event::Create { client, .. }
         | Event::Mkdir { client, .. }
@@ -76,6 +78,6 @@ fn client_of(event: &Event) -> ClientId
         | Event::Rmdir { client, .. }
         | Event::Rename { client, .. }
         | Event::Flush { client, .. }
-        | Event::Poll { client, .. } => *client,
+        | Event::Poll { client, .. } => Some(*client),
     }
 }

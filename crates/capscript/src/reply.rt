@@ -1,6 +1,6 @@
 //! The texts of replies.
 ghost use Rattle.std.specs.Prelude.{◌≡◌, ◌++◌, IfOk, IfSome, OnOk};
-ghost use Rattle.capscript.specs.Replies.{denial_text, reply_line, reply_text, rules_text, rule_text};
+ghost use Rattle.capscript.specs.Replies.{denial_text, holder_text, holders_text, reply_line, reply_text, rules_text, rule_text};
 ghost use Rattle.capbits.specs.Text.{text_of};
 
 use crate::message_text::print_messages;
@@ -8,6 +8,7 @@ use crate::part_text::print_values;
 use capbits::{CapSet, write_caps};
 use capcore::Reply;
 use capgrant::{Access, Rule, Rules};
+use captable::Holder;
 use std::alloc::{AllocError, Global};
 use std::fmt::Display;
 use std::io::Write;
@@ -43,6 +44,10 @@ fn print_reply(text: &mut Vec<u8>, reply: &Reply) -> Result<(), AllocError>
         Reply::Messages(messages) => {
             let count = messages.as_slice().len();
             print(text, format_args!("messages {count}"))
+        }
+        Reply::Recalled(holders) => {
+            print(text, "recalled")?;
+            print_holders(text, holders.as_slice())
         }
         Reply::Waiting(ticket) => print(text, format_args!("waiting {ticket}")),
         Reply::Denied { access, rules } => print_denial(text, *access, rules),
@@ -99,4 +104,25 @@ fn print_rule(text: &mut Vec<u8>, grant: usize, rule: Rule) -> Result<(), AllocE
 {
     let rule = rule.number();
     print(text, format_args!("{grant}:{rule}"))
+}
+
+// Each behind a space, in their order; a dash for nobody.
+fn print_holders(text: &mut Vec<u8>, holders: &[Holder]) -> Result<(), AllocError>
+    ensures { OnOk result (text.new.items ≡ text.old.items ++ holders_text holders.now) }
+{
+    if holders.is_empty() {
+        return print(text, " -");
+    }
+    for holder in holders {
+        print_holder(text, *holder)?;
+    }
+    Ok(())
+}
+
+// The client, and the inode that it has an entry on.
+fn print_holder(text: &mut Vec<u8>, holder: Holder) -> Result<(), AllocError>
+    ensures { OnOk result (text.new.items ≡ text.old.items ++ holder_text holder) }
+{
+    let Holder { client, ino } = holder;
+    print(text, format_args!(" {client}:{ino}"))
 }

@@ -333,14 +333,14 @@ impl CapTable {
         ensures err { OnErr result (self.new ≡ self.old) }
     {
         // All are named before one is marked, since the list of them may want memory.
-        let named = self.first_holders(n)?;
-        self.ask_all(&named);
-        Ok(Holders::from_vec(named))
+        let named = self.first_to_recall(n)?;
+        self.ask_all(named.as_slice());
+        Ok(named)
     }
 
-    // The first `n` holders in the order of recall.
-    fn first_holders(&self, n: u32) -> Result<Vec<Holder>, AllocError>
-        ensures named { IfOk result (λ named. named.items ≡ take n self.now.recall) }
+    /// The first `n` holders in the order of recall, all of them if there are fewer: those that `recall` would name.
+    pub fn first_to_recall(&self, n: u32) -> Result<Holders, AllocError>
+        ensures named { IfOk result (λ named. named ≡ take n self.now.recall) }
         ensures sound { IsTable self.now }
     {
         let mut named = Vec::new(self.alloc);
@@ -352,7 +352,7 @@ impl CapTable {
             named.push(holder)?;
             next = self.newer(holder.client, holder.ino);
         }
-        Ok(named)
+        Ok(Holders::from_vec(named))
     }
 
     // Marks the entries of these holders as asked for capabilities.

@@ -29,6 +29,8 @@ mod looking;
 #[cfg(test)]
 mod moved_entries;
 #[cfg(test)]
+mod recalls;
+#[cfg(test)]
 mod removals;
 #[cfg(test)]
 mod renames;

@@ -1,7 +1,8 @@
 //! What the lines of a script say.
 
-use crate::asserting::{holds, same};
+use crate::asserting::same;
 use crate::telling::event_text;
+use capcore::Event;
 use capscript::{LineFault, ScriptFault, read_line};
 use std::alloc::Global;
 use std::process::Abort;
@@ -13,7 +14,9 @@ fn said(rt: &(impl AllocGlobal + Abort), line: &str) -> Result<String, Fail> {
     let text = match read_line(alloc, 7, line.as_bytes()) {
         Ok(None) => String::from_str(alloc, "skipped")?,
         Ok(Some((client, event))) => {
-            holds(rt, client.is_some(), line);
+            // A recall alone is about no client.
+            let about = !matches!(event, Event::Recall { .. });
+            same(rt, client.is_some(), about, line);
             event_text(alloc, &event)?
         }
         Err(fault) => format!(in alloc; "{fault}")?,
@@ -43,6 +46,10 @@ const EVENTS: &[(&str, &str)] = &[
         "session 4294967295 1 2 0,1,2,3,4,5,6,7,8,9,10,11,12,13,14,15 none",
         "session 4294967295 1 2 [0, 1, 2, 3, 4, 5, 6, 7, 8, 9, 10, 11, 12, 13, 14, 15] 0",
     ),
+    ("unblock 1", "unblock 1"),
+    ("unblock 004294967295", "unblock 4294967295"),
+    ("recall 0", "recall 0"),
+    ("recall 4294967295", "recall 4294967295"),
     ("lookup 1 1 d", "lookup 1 1 [100]"),
     (
         "lookup 1 18446744073709551615 #",
@@ -146,6 +153,15 @@ const FAULTS: &[(&str, &str)] = &[
     ("create 1 1 f", "line 7: Count"),
     ("create 1 1 f 0644 more words here", "line 7: Count"),
     ("session 1 10 10 -", "line 7: Count"),
+    ("unblock", "line 7: Count"),
+    ("unblock x 2", "line 7: Count"),
+    ("unblock 4294967296", "line 7: Number"),
+    ("unblock ", "line 7: Number"),
+    ("Recall 1", "line 7: Command"),
+    ("recall", "line 7: Count"),
+    ("recall 1 2", "line 7: Count"),
+    ("recall -", "line 7: Number"),
+    ("recall 4294967296", "line 7: Number"),
     ("lookup 1 x f", "line 7: Number"),
     ("lookup 1  f", "line 7: Number"),
     ("lookup  1 1", "line 7: Number"),

@@ -4,6 +4,7 @@ use capbits::{Caller, CapSet, ClientId, Ino, Mode};
 use capcore::{Core, Ended, Event, Outcome, Reply, Row, Stop};
 use capgrant::Rules;
 use capspec::Grants;
+use captable::Holders;
 use inotree::Setting;
 use lockmachine::{Bytes, Change};
 use std::alloc::{AllocError, Global};
@@ -13,6 +14,15 @@ fn rules_text(alloc: Global, rules: &Rules) -> Result<String, AllocError> {
     for rule in rules.iter() {
         let number = rule.number();
         text.push_str(format!(in alloc; ", rule {number} {rule}")?.as_str())?;
+    }
+    Ok(text)
+}
+
+fn holders_text(alloc: Global, holders: &Holders) -> Result<String, AllocError> {
+    let mut text = String::new(alloc);
+    for holder in holders.as_slice() {
+        let (client, ino) = (holder.client, holder.ino);
+        text.push_str(format!(in alloc; " {client}:{ino}")?.as_str())?;
     }
     Ok(text)
 }
@@ -30,6 +40,10 @@ pub fn reply_text(alloc: Global, reply: &Reply) -> Result<String, AllocError> {
         Reply::Messages(messages) => {
             let count = messages.as_slice().len();
             format!(in alloc; "messages {count}")
+        }
+        Reply::Recalled(holders) => {
+            let named = holders_text(alloc, holders)?;
+            format!(in alloc; "recalled{named}")
         }
         Reply::Waiting(ticket) => format!(in alloc; "waiting {ticket:?}"),
         Reply::Denied { access, rules } => {
@@ -168,6 +182,8 @@ pub fn event_text(alloc: Global, event: &Event) -> Result<String, AllocError> {
             caller,
             grants,
         } => session_text(alloc, *client, caller, grants),
+        Event::Unblock { client } => format!(in alloc; "unblock {client}"),
+        Event::Recall { count } => format!(in alloc; "recall {count}"),
         Event::Lookup { client, dir, name } => named_text(alloc, "lookup", *client, *dir, name),
         Event::Create {
             client,

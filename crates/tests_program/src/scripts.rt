@@ -75,6 +75,29 @@ fn snapshots_and_clients_without_grants(rt: HostRuntime) -> Result<(), Fail> {
     transcript(&rt, SNAPSHOTS)
 }
 
+const RECALLS: &[(&str, &str)] = &[
+    ("unblock 1", "refused NotBlocked"),
+    ("recall 1", "recalled -"),
+    ("session 1 10 10 - allow rw", "done"),
+    ("create 1 1 f 0644", "ino 2"),
+    ("create 1 1 g 0644", "ino 3"),
+    ("create 1 1 h 0644", "ino 4"),
+    ("open 1 2 r", "caps 1 pFscr"),
+    ("open 1 3 r", "caps 1 pFscr"),
+    ("open 1 4 r", "caps 1 pFscr"),
+    ("want 1 2 pFr", "caps 1 pFscr"),
+    ("recall 2", "recalled 1:3 1:4"),
+    ("recall 0", "recalled -"),
+    ("recall 9", "recalled 1:3 1:4 1:2"),
+    ("poll 1 2", "messages 2\n  recall 2\n  recall 3"),
+    ("poll 1 9", "messages 1\n  recall 4"),
+];
+
+#[test]
+fn what_was_left_alone_longest_is_asked_for(rt: HostRuntime) -> Result<(), Fail> {
+    transcript(&rt, RECALLS)
+}
+
 /// The second line of a script, and what is said of it.
 const BAD_LINES: [(&str, &str); 10] = [
     ("lookup 1 x f", "capd: line 2: Number\n"),

@@ -58,6 +58,8 @@ enum Look {
     // The first in the order of recall, and the next behind one.
     Oldest(Option<(u32, u64)>),
     Newer(u32, u64, Option<(u32, u64)>),
+    // So many would be recalled, which are these.
+    FirstToRecall(u32, Places),
     // Whether an entry is asked for capabilities, and which of the client's entries are, in the order of making.
     IsAsked(u32, u64, bool),
     Marks(u32, &'static [bool]),
@@ -168,6 +170,10 @@ fn named(alloc: Global, holders: &Holders) -> Result<Vec<(u32, u64)>, AllocError
 fn recalled(alloc: Global, table: &mut CapTable, n: u32) -> Result<Vec<(u32, u64)>, AllocError> {
     let holders = table.recall(n)?;
     named(alloc, &holders)
+}
+
+fn first_to_recall(alloc: Global, table: &CapTable, n: u32) -> Result<Vec<(u32, u64)>, AllocError> {
+    named(alloc, &table.first_to_recall(n)?)
 }
 
 fn recalled_as_list(
@@ -334,6 +340,7 @@ fn see(rt: &impl Abort, alloc: Global, table: &CapTable, look: Look, at: At) -> 
         Holds(client, want) => same(rt, held(table, client), Some(caps(want)), at),
         Wants(client, want) => same(rt, wanted(table, client), Some(caps(want)), at),
         Order(want) => are(rt, recall_order(alloc, table), want, at)?,
+        FirstToRecall(n, want) => are(rt, first_to_recall(alloc, table, n), want, at)?,
         HoldersOf(ino, want) => are(rt, holders_of(alloc, table, ino), want, at)?,
         EntriesOf(client, want) => are(rt, entries_of(alloc, table, client), want, at)?,
         Oldest(want) => same(rt, oldest(table), want, at),
@@ -545,7 +552,15 @@ fn a_client_that_goes_takes_its_entries_with_it(rt: HostRuntime) -> Result<(), F
 const ONE_CLIENT: &[Act] = &[Open(1, 2), Open(1, 3), Open(1, 4), Touch(1, 2)];
 
 const RECALLS: &[Round] = &[
-    (ONE_CLIENT, &[]),
+    (
+        ONE_CLIENT,
+        &[
+            FirstToRecall(0, &[]),
+            FirstToRecall(2, &[(1, 3), (1, 4)]),
+            FirstToRecall(9, &[(1, 3), (1, 4), (1, 2)]),
+            Marks(1, &[false, false, false]),
+        ],
+    ),
     (
         &[Recall(2, &[(1, 3), (1, 4)])],
         &[Marks(1, &[false, true, true])],

@@ -1,4 +1,4 @@
-use Rattle.capcore.proofs.Untouched.{session-leaves, changed-leaves, birth-leaves}
+use Rattle.capcore.proofs.Untouched.{session-leaves, unblocked-leaves, changed-leaves, birth-leaves}
 use Rattle.capcore.proofs.laws.sessions_inodes_and_snapshots_leave_entries_alone.Goals as goal
 
 pub returns-clause-session : goal.returns-clause-session
@@ -9,3 +9,6 @@ returns-clause-inode c = λ s kind dir name attr sound. birth-leaves s sound kin
 
 pub returns-clause-snapshot : goal.returns-clause-snapshot
 returns-clause-snapshot c = λ s f ino sound. changed-leaves s sound f ino
+
+pub returns-clause-unblocked : goal.returns-clause-unblocked
+returns-clause-unblocked c = λ s client sound. unblocked-leaves s sound client

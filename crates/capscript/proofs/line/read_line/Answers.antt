@@ -10,7 +10,7 @@ use Rattle.capscript.proofs.line.read_line.Goals as goal
 
 pub returns-in-Ok-clause-only : goal.returns-in-Ok-clause-only
 returns-in-Ok-clause-only c event reads =
-    rw c.client_of.ensures (inr (ap (λ (e : Event). Ok (Some (Some (client_of e), e))) (tells_once (said_in c.args.text.now) c.in-Ok.event event c.in-Ok.ensures (reads_said c.args.text.now event (sym c.is_skipped.ensures ∙ c.if-is_skipped.false) reads))))
+    rw c.client_of.ensures (inr (ap (λ (e : Event). Ok (Some (client_of e, e))) (tells_once (said_in c.args.text.now) c.in-Ok.event event c.in-Ok.ensures (reads_said c.args.text.now event (sym c.is_skipped.ensures ∙ c.if-is_skipped.false) reads))))
 
 pub returns-in-Ok-clause-told : goal.returns-in-Ok-clause-told
 returns-in-Ok-clause-told c kind fault =

@@ -5,11 +5,20 @@ use Rattle.capscript.proofs.command.Command.read.Goals as goal
 pub returns-in-session : goal.returns-in-session
 returns-in-session c = rw (text_from_reads c.args.word.now (codes "session") (omega arith) (search rules)) refl
 
+pub returns-in-unblock : goal.returns-in-unblock
+returns-in-unblock c = rw (text_from_reads c.args.word.now (codes "unblock") (omega arith) (search rules)) refl
+
+pub returns-in-recall : goal.returns-in-recall
+returns-in-recall c = rw (text_from_reads c.args.word.now (codes "recall") (omega arith) (search rules)) refl
+
 pub returns-in-lookup : goal.returns-in-lookup
 returns-in-lookup c = rw (text_from_reads c.args.word.now (codes "lookup") (omega arith) (search rules)) refl
 
 pub returns-in-create : goal.returns-in-create
 returns-in-create c = rw (text_from_reads c.args.word.now (codes "create") (omega arith) (search rules)) refl
+
+pub returns-in-mkdir : goal.returns-in-mkdir
+returns-in-mkdir c = rw (text_from_reads c.args.word.now (codes "mkdir") (omega arith) (search rules)) refl
 
 pub returns-in-mksnap : goal.returns-in-mksnap
 returns-in-mksnap c = rw (text_from_reads c.args.word.now (codes "mksnap") (omega arith) (search rules)) refl

@@ -6,4 +6,4 @@ use Rattle.captable.proofs.table.CapTable.recall.Goals as goal
 
 pub returns-clause-ok : goal.returns-clause-ok
 returns-clause-ok c =
-    c.ask_all.ensures ∙ ap (fold (changed_by asking) c.args.self.now) (c.deref.ensures.value ∙ c.in_ok-named.ensures.named) ∙ fold-asked c.args.self.now c.args.n c.first_holders.ensures.sound
+    c.ask_all.ensures ∙ ap (fold (changed_by asking) c.args.self.now) (c.as_slice.ensures ∙ c.in_ok-named.ensures.named) ∙ fold-asked c.args.self.now c.args.n c.first_to_recall.ensures.sound

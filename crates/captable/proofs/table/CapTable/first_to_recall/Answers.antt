@@ -1,8 +1,8 @@
 use Rattle.std.proofs.Common.{◌≡◌, ℕ, ◌+◌, ◌≤◌, ◌∙◌, List, Some, None, [], ◌∷◌, ◌++◌, sym, ap, arith, length, length-append, take, slice_get}
 use Rattle.captable.specs.declared.entry.Holder.{Holder}
 use Rattle.captable.proofs.Recalling.{newer-next, take-next, take-all}
-use Rattle.captable.proofs.table.CapTable.first_holders.Goals as goal
-use Rattle.captable.proofs.table.CapTable.first_holders.Goals.{in-Some+then-len-n, in_default}
+use Rattle.captable.proofs.table.CapTable.first_to_recall.Goals as goal
+use Rattle.captable.proofs.table.CapTable.first_to_recall.Goals.{in-Some+then-len-n, in_default}
 
 pub named-preserved : goal.named-preserved
 named-preserved c =
@@ -22,7 +22,8 @@ pub returns-clause-named : goal.returns-clause-named
 returns-clause-named c =
     let hs : List Holder = c.args.self.now.recall in
     let i : ℕ = length c.named.named.items in
-    elim c.match-next.branch [
+    c.from_vec.ensures
+    ∙ elim c.match-next.branch [
       | in-Some+then-len-n w ↦ (let full : i ≡ c.args.n = omega (arith, w.len.ensures, w.if-len-n.true) in c.named.invariant.so_far ∙ ap (λ m. take m hs) full)
       | in_default w ↦ (let none : slice_get hs i ≡ None = sym c.named.invariant.next_is ∙ w.in_default.is in c.named.invariant.so_far ∙ take-all hs i c.args.n none c.named.invariant.few)
     ]

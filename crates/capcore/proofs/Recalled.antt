@@ -1,0 +1,68 @@
+-- A recall is a whole step: it marks entries as asked for, by which nothing is judged, moved or issued.
+use Rattle.std.proofs.Common.{◌≡◌, ◌≤◌, ℕ, ◌+◌, Bool, true, false, cond, ◌||◌, List, [], take, refl, sym, ap, subst}
+use Rattle.std.proofs.lemmas.List.Elements.{All-map}
+use Rattle.captable.specs.declared.entry.EntryRow.{EntryRow}
+use Rattle.captable.specs.declared.entry.Holder.{Holder}
+use Rattle.captable.specs.Table.{Table, IsTable, is_among}
+use Rattle.captable.specs.Calls.{asked_row, recalled, with_asked}
+use Rattle.captable.proofs.Tables.{IsTable-recalled}
+use Rattle.capcore.specs.declared.event.Event.TheVariants as event
+use Rattle.capcore.specs.declared.reply.Reply.TheVariants as reply
+use Rattle.capcore.specs.declared.reply.Said.{Said}
+use Rattle.capcore.specs.State.{State}
+use Rattle.capcore.specs.Answered.{IsAnswered}
+use Rattle.capcore.specs.Direct.{with_table}
+use Rattle.capcore.specs.Finish.{finished}
+use Rattle.capcore.specs.Sound.{IsSound, AreGiven}
+use Rattle.capcore.proofs.Finishing.{same-finished}
+use Rattle.capcore.proofs.Sounding.{later-given}
+use Rattle.capcore.proofs.Steps.{direct-answered}
+use Rattle.capcore.proofs.Telling.{map_alike, retold, retold_table, retold-sound}
+
+-- no change more was told
+abbrev as_told : EntryRow → ℕ
+as_told row = row.entry.told_seq
+
+-- who was named is asked, and who was asked before
+abbrev asked_too : List Holder → EntryRow → Bool
+asked_too named row = is_among named row.holder || row.entry.asked
+
+row_asked : (row : EntryRow) (b : Bool) → cond b (record row { entry = with_asked true row.entry }) row
+    ≡ record row { entry = record row.entry { told_seq = row.entry.told_seq; asked = b || row.entry.asked } }
+row_asked row true = refl
+row_asked row false = refl
+
+recalled-retold : (t : Table) (n : ℕ) → recalled t n ≡ retold_table as_told (asked_too (take n t.recall)) t
+recalled-retold t n =
+    let named : List Holder = take n t.recall in
+    ap (λ (rows : List EntryRow). record t { rows = rows })
+    (map_alike (asked_row named) (retold as_told (asked_too named)) (λ row. row_asked row (is_among named row.holder)) t.rows)
+
+module _ (old : State) (sound : IsSound old) (count : ℕ) where
+  abbrev named : List Holder
+  named = take count old.scene.table.recall
+
+  abbrev new : State
+  new = with_table old (recalled old.scene.table count)
+
+  pub recalled-sound : IsSound (with_table old (recalled old.scene.table count))
+  recalled-sound =
+      subst (λ t. IsSound (with_table old t)) (sym (recalled-retold old.scene.table count))
+      (retold-sound old as_told (asked_too named) old.messages sound.messages (λ row below. below) sound)
+
+  -- no number changes
+  recalled-given : (most : ℕ) → AreGiven most old → AreGiven (most + 1) new
+  recalled-given most given = later-given most new (
+      subst (λ t. AreGiven most (with_table old t)) (sym (recalled-retold old.scene.table count))
+      (record { entries = All-map (λ row. row.entry.seq ≤ most) (retold as_told (asked_too named)) old.scene.table.rows given.entries; last = given.last; made = given.made }))
+
+  -- and what each client is to know that it holds is what it was
+  pub recalled-finished : IsTable old.scene.table → finished old.scene (with_table old (recalled old.scene.table count)).scene (with_table old (recalled old.scene.table count)).scene ≡ (with_table old (recalled old.scene.table count)).scene
+  recalled-finished table = same-finished new recalled-sound (IsTable-recalled old.scene.table count table) old.scene (λ row inside. refl)
+
+  pub recall-answered : (said : Said) → IsTable old.scene.table → said.reply ≡ reply.Recalled (take count old.scene.table.recall)
+      → said.kept ≡ reply.Recalled (take count old.scene.table.recall) → said.ended ≡ []
+      → IsAnswered old (event.Recall count) said (with_table old (recalled old.scene.table count))
+  recall-answered said table answers kept none =
+      direct-answered old new (event.Recall count) (reply.Recalled (take count old.scene.table.recall)) (record { answer_is = refl; state_is = refl })
+      recalled-sound (recalled-finished table) said recalled-given answers kept none

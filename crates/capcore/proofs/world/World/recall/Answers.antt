@@ -1,0 +1,33 @@
+use Rattle.std.proofs.Common.{sym, ap, subst}
+use Rattle.capcore.specs.declared.event.Event.TheVariants as event
+use Rattle.capcore.specs.declared.reply.Reply.TheVariants as reply
+use Rattle.capcore.specs.declared.reply.Said.{Said}
+use Rattle.capcore.specs.State.{State}
+use Rattle.capcore.specs.Answered.{IsAnswered}
+use Rattle.capcore.specs.Direct.{with_table}
+use Rattle.capcore.proofs.Recalled.{recalled-sound, recall-answered}
+use Rattle.capcore.proofs.world.World.recall.Goals as goal
+use Rattle.capcore.proofs.world.World.recall.Goals.{After-new}
+
+module _ (c : After-new) where
+  -- the state before the event
+  abbrev old : State
+  old = record { scene = record { fs = c.self.inside.fs; tree = c.self.inside.tree; sessions = c.self.inside.sessions; table = c.self.inside.table; locks = c.self.inside.locks }; messages = c.self.inside.messages.items }
+
+  -- and behind it
+  abbrev new : State
+  new = with_table old c.recall.new.self
+
+  abbrev said : Said
+  said = record { reply = reply.Recalled c.in_ok-named.named; kept = reply.Recalled c.in_ok-kept.kept; ended = c.new.result }
+
+  whole : IsAnswered old (event.Recall c.args.count) said new
+  whole =
+      subst (λ t. IsAnswered old (event.Recall c.args.count) said (with_table old t)) (sym c.in_ok-named.ensures.ok)
+      (recall-answered old c.self.invariant.0 c.args.count said c.first_to_recall.ensures.sound (ap reply.Recalled c.in_ok-named.ensures.named) (ap reply.Recalled c.in_ok-kept.ensures.named) c.new.ensures)
+
+pub invariant_of-self-2 : goal.invariant_of-self-2
+invariant_of-self-2 c = rw c.in_ok-named.ensures.ok (recalled-sound _ c.self.invariant.0 c.args.count, c.self.invariant.1)
+
+pub returns-clause-answered : goal.returns-clause-answered
+returns-clause-answered c = subst (λ (s : State). IsAnswered s (event.Recall c.args.count) (said c) (new c)) c.self.view_is (whole c)

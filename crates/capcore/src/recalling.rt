@@ -1,0 +1,26 @@
+//! The step of a recall: clients are asked to give back what they have not used for longest.
+ghost use Rattle.std.specs.Prelude.{◌≡◌, IfOk, IfErr, OnErr};
+ghost use Rattle.capcore.specs.declared.event.Event.TheVariants as event;
+ghost use Rattle.capcore.specs.Answered.{IsAnswered};
+
+use crate::history::{EndedList, Stop};
+use crate::reply::{Reply, Said};
+use crate::world::World;
+
+impl World {
+    // A step that marks the first entries in the order of recall as asked for, and names them. It moves none.
+    pub(crate) fn recall(&mut self, count: u32) -> Result<Said, Stop>
+        ensures answered { IfOk result (λ said. IsAnswered self.old (event.Recall count) said self.new) }
+        ensures err { OnErr result (self.new ≡ self.old) }
+        ensures memory { IfErr result (λ stop. stop ≡ Stop.NoMemory) }
+    {
+        // The list once for the history and once for the reply, both before an entry is marked.
+        let kept = self.table.first_to_recall(count)?;
+        let named = self.table.recall(count)?;
+        Ok(Said {
+            reply: Reply::Recalled(named),
+            kept: Reply::Recalled(kept),
+            ended: EndedList::new(self.alloc()),
+        })
+    }
+}
