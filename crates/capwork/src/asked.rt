@@ -173,6 +173,7 @@ pub(crate) fn read_reply(reply: &Reply) -> Answer {
         Reply::Ino(ino) => Answer::Inode(ino.0),
         Reply::Opened { seq, .. } => Answer::Change(*seq),
         Reply::Messages(list) => read_messages(list.as_slice()),
+        Reply::Recalled(_) => Answer::Other,
     }
 }
 
