@@ -1,5 +1,5 @@
 -- How many requests a step serves, and how often its locks move between two servings.
-use Rattle.std.proofs.Common.{◌≡◌, ◌++◌, ℕ, List, [], ◌∷◌, Option, Some, None, length, map, refl, sym, subst, arith}
+use Rattle.std.proofs.Common.{◌≡◌, ◌++◌, ℕ, List, [], ◌∷◌, Option, Some, None, map, refl, sym, subst, arith}
 use Rattle.inotree.specs.Tree.{child}
 use Rattle.captable.specs.declared.entry.Holder.{Holder}
 use Rattle.lockmachine.specs.Locks.{IsLockMap}
