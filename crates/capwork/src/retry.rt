@@ -19,16 +19,15 @@ const TENANT: ClientId = ClientId(3);
 
 /// The numbers in the names of that directory and of another, and in that of the file that requests wait for.
 const TENANT_NUMBER: u64 = 1_000_000;
+
 const OTHER_NUMBER: u64 = 2_000_000;
+
 const WAITING_NUMBER: u64 = 3_000_000;
 
 const SESSIONS: &[(Asked, Answer)] = &[
     (Asked::Session(CLIENT), Answer::Done),
     (Asked::Session(OTHER), Answer::Done),
-    (
-        Asked::SessionBelow(TENANT, TENANT_NUMBER),
-        Answer::Done,
-    ),
+    (Asked::SessionBelow(TENANT, TENANT_NUMBER), Answer::Done),
 ];
 
 // The first client has the file for itself and gives way to the other, then both read it, and then the first is alone.
@@ -89,7 +88,13 @@ pub(crate) fn retry(alloc: Global, core: &mut Core, times: u32) -> Result<Tally,
     };
     play(alloc, core, at_root, SESSIONS, &mut tally)?;
     for round in 0..times {
-        let file = made(alloc, core, at_root, Asked::Make(u64::from(round)), &mut tally)?;
+        let file = made(
+            alloc,
+            core,
+            at_root,
+            Asked::Make(u64::from(round)),
+            &mut tally,
+        )?;
         play(alloc, core, Places { file, ..at_root }, ROUND, &mut tally)?;
     }
     wait(alloc, core, at_root, &mut tally)?;
@@ -98,12 +103,7 @@ pub(crate) fn retry(alloc: Global, core: &mut Core, times: u32) -> Result<Tally,
 }
 
 // Has the clients wait for a file, in a directory that it is moved out of.
-fn wait(
-    alloc: Global,
-    core: &mut Core,
-    at_root: Places,
-    tally: &mut Tally,
-) -> Result<(), Fault> {
+fn wait(alloc: Global, core: &mut Core, at_root: Places, tally: &mut Tally) -> Result<(), Fault> {
     let here = made(alloc, core, at_root, Asked::Directory(TENANT_NUMBER), tally)?;
     let there = made(alloc, core, at_root, Asked::Directory(OTHER_NUMBER), tally)?;
     let places = Places {
