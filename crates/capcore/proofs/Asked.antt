@@ -52,6 +52,10 @@ same_asking k other ask more e is asking =
 
 pub asking : (e : Event) (k : Holder) (ask : Ask) → asks_for e ≡ Some (k, ask) → IsAsking k ask e
 asking (event.Session client caller grants) k ask is = absurd (none-some (k, ask) is)
+asking (event.CloseSession client) k ask is = absurd (none-some (k, ask) is)
+asking (event.Stale client) k ask is = absurd (none-some (k, ask) is)
+asking (event.Renew client) k ask is = absurd (none-some (k, ask) is)
+asking (event.Evict client) k ask is = absurd (none-some (k, ask) is)
 asking (event.Unblock client) k ask is = absurd (none-some (k, ask) is)
 asking (event.Recall count) k ask is = absurd (none-some (k, ask) is)
 asking (event.Lookup client dir name) k ask is = absurd (none-some (k, ask) is)

@@ -6,14 +6,18 @@ use Rattle.lockmachine.specs.Locks.{IsLockMap}
 use Rattle.lockmachine.specs.Runs.{Runs}
 use Rattle.lockmachine.specs.Scene.{Scene}
 use Rattle.lockmachine.proofs.Ending.{few}
+use Rattle.lockmachine.proofs.Queue.{without_requests_of-kept}
 use Rattle.capcore.specs.declared.event.Event.{Event}
 use Rattle.capcore.specs.declared.event.Event.TheVariants as event
+use Rattle.capcore.specs.declared.outcome.Ended.{Ended}
+use Rattle.capcore.specs.declared.reply.Reply.{Reply}
 use Rattle.capcore.specs.declared.stopped.Stopped.{Stopped}
 use Rattle.capcore.specs.State.{State}
 use Rattle.capcore.specs.Direct.{direct, effect, effect_unless, found}
-use Rattle.capcore.specs.Headline.{OfItsMoves, AreBounded, move_of}
+use Rattle.capcore.specs.Headline.{ByMoves, AreBounded, move_of}
 use Rattle.capcore.specs.Judge.{judged}
 use Rattle.capcore.specs.Settle.{Made, Began, Gathered, Served, MakesAll, ended_in}
+use Rattle.capcore.specs.Step.{Step}
 use Rattle.capcore.specs.Touching.{touched_by}
 use Rattle.capcore.proofs.OfInode.{event-order}
 use Rattle.capcore.proofs.Served.{served-count}
@@ -27,6 +31,10 @@ found-order s (Some ino) order = order
 -- an event that is about no inode that is there lets nobody wait
 alone-order : (old : State) (e : Event) → touched_by e ≡ None → IsLockMap old.scene.locks → IsLockMap (effect old e).state.scene.locks
 alone-order old (event.Session client caller grants) is order = order
+alone-order old (event.CloseSession client) is order = without_requests_of-kept old.scene.locks client order
+alone-order old (event.Stale client) is order = order
+alone-order old (event.Renew client) is order = order
+alone-order old (event.Evict client) is order = without_requests_of-kept old.scene.locks client order
 alone-order old (event.Unblock client) is order = order
 alone-order old (event.Recall count) is order = order
 alone-order old (event.Lookup client dir name) is order = found-order old (child old.scene.tree.nodes dir.0 name) order
@@ -85,6 +93,6 @@ moves-bounded s ms t order made = record {
 -- ---- the moves of a step
 
 -- what is so of all moves that are made, is so of those of a step
-pub of-its-moves : (Fact : Scene → List Made → Type 0) (old : State) (e : Event) (new : State)
-    → ((ms : List Made) (t : Scene) → MakesAll (direct old e).state.scene ms t → Fact (direct old e).state.scene ms) → OfItsMoves Fact old e new
-of-its-moves Fact old e new fact moves answer ended by = (let settles = by.settles in fact moves by.settled settles.made)
+pub by-moves : (Fact : Scene → List Made → Type 0) (old : State) (e : Event) (answer : Reply) (ended : List Ended) (new : State) → Step old e answer ended new
+    → ((ms : List Made) (t : Scene) → MakesAll (direct old e).state.scene ms t → Fact (direct old e).state.scene ms) → ByMoves Fact old e answer new
+by-moves Fact old e answer ended new (moves, by) fact = (let settles = by.settles in (moves, ended, by, fact moves by.settled settles.made))

@@ -55,3 +55,7 @@ pub mod Waits
 pub mod Sweeping
 pub mod SoFar
 pub mod Served
+pub mod Turned
+pub mod TurnStep
+pub mod Dropped
+pub mod Reaching

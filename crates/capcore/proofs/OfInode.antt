@@ -33,6 +33,10 @@ pub data IsOfInode (k : Holder) (e : Event) : Type 0 where
 
 pub asked_by : (e : Event) (k : Holder) → touched_by e ≡ Some k → IsOfInode k e
 asked_by (event.Session client caller grants) k is = absurd (none-some k is)
+asked_by (event.CloseSession client) k is = absurd (none-some k is)
+asked_by (event.Stale client) k is = absurd (none-some k is)
+asked_by (event.Renew client) k is = absurd (none-some k is)
+asked_by (event.Evict client) k is = absurd (none-some k is)
 asked_by (event.Unblock client) k is = absurd (none-some k is)
 asked_by (event.Recall count) k is = absurd (none-some k is)
 asked_by (event.Lookup client dir name) k is = absurd (none-some k is)

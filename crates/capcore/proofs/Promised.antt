@@ -59,6 +59,10 @@ module _ (old last : State) (ended : List Ended) where
   -- one that waits for no lock
   effect-no_stop : (e : Event) → asks_for e ≡ None → is_stop (read_off (effect old e)) ≡ false
   effect-no_stop (event.Session client caller grants) none = refl
+  effect-no_stop (event.CloseSession client) none = refl
+  effect-no_stop (event.Stale client) none = refl
+  effect-no_stop (event.Renew client) none = refl
+  effect-no_stop (event.Evict client) none = refl
   effect-no_stop (event.Unblock client) none = refl
   effect-no_stop (event.Recall count) none = refl
   effect-no_stop (event.Lookup client dir name) none = lookup-no_stop (child old.scene.tree.nodes dir.0 name)

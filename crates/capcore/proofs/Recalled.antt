@@ -64,5 +64,5 @@ module _ (old : State) (sound : IsSound old) (count : ℕ) where
       → said.kept ≡ reply.Recalled (take count old.scene.table.recall) → said.ended ≡ []
       → IsAnswered old (event.Recall count) said (with_table old (recalled old.scene.table count))
   recall-answered said table answers kept none =
-      direct-answered old new (event.Recall count) (reply.Recalled (take count old.scene.table.recall)) (record { answer_is = refl; state_is = refl })
+      direct-answered old new (event.Recall count) refl (reply.Recalled (take count old.scene.table.recall)) (record { answer_is = refl; state_is = refl })
       recalled-sound (recalled-finished table) said recalled-given answers kept none

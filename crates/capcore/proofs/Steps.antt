@@ -22,7 +22,7 @@ use Rattle.capcore.specs.Finish.{finished}
 use Rattle.capcore.specs.Leaving.{with_parts, LeavesEntries}
 use Rattle.capcore.specs.Sound.{IsSound, AreGiven}
 use Rattle.capcore.specs.Step.{Step, state_after}
-use Rattle.capcore.specs.Touching.{touched_by, is_listing}
+use Rattle.capcore.specs.Touching.{touched_by, turned_by, is_listing}
 use Rattle.capcore.proofs.Finishing.{sound-settles}
 use Rattle.capcore.proofs.Judging.{no_test}
 use Rattle.capcore.proofs.Leaving.{kept-sound, kept-finished}
@@ -30,45 +30,49 @@ use Rattle.capcore.proofs.Promised.{issues-exactly}
 use Rattle.capcore.proofs.Sounding.{later-given}
 use Rattle.capcore.proofs.Untouched.{nothing-leaves, session-leaves, unblocked-leaves, changed-leaves, birth-leaves}
 
--- the event is about no entry and no request, and is answered with no list
+-- the event is about no entry, no request and no session that is there, and is answered with no list
 abbrev pub IsAlone : Event → Type 0
-IsAlone e = (touched_by e ≡ None) × (is_listing e ≡ false)
+IsAlone e = (touched_by e ≡ None) × (is_listing e ≡ false) × (turned_by e ≡ None)
 
 -- ---- the event by itself
 
-none_dropped-effect : (old : State) (e : Event) → (effect old e).dropped ≡ []
-none_dropped-effect old (event.Session client caller grants) = refl
-none_dropped-effect old (event.Unblock client) = refl
-none_dropped-effect old (event.Recall count) = refl
-none_dropped-effect old (event.Lookup client dir name) = by_found (child old.scene.tree.nodes dir.0 name)
+none_dropped-effect : (old : State) (e : Event) → turned_by e ≡ None → (effect old e).dropped ≡ []
+none_dropped-effect old (event.Session client caller grants) is = refl
+none_dropped-effect old (event.CloseSession client) is = absurd (none-some client (sym is))
+none_dropped-effect old (event.Stale client) is = absurd (none-some client (sym is))
+none_dropped-effect old (event.Renew client) is = absurd (none-some client (sym is))
+none_dropped-effect old (event.Evict client) is = absurd (none-some client (sym is))
+none_dropped-effect old (event.Unblock client) is = refl
+none_dropped-effect old (event.Recall count) is = refl
+none_dropped-effect old (event.Lookup client dir name) is = by_found (child old.scene.tree.nodes dir.0 name)
   where
     by_found : (o : Option ℕ) → (found old o).dropped ≡ []
     by_found None = refl
     by_found (Some ino) = refl
-none_dropped-effect old (event.Create client dir name mode) = refl
-none_dropped-effect old (event.Mkdir client dir name mode) = refl
-none_dropped-effect old (event.MakeSnapshot client ino name) = refl
-none_dropped-effect old (event.RemoveSnapshot client ino name) = refl
-none_dropped-effect old (event.Open client ino mode) = refl
-none_dropped-effect old (event.Want client ino caps) = refl
-none_dropped-effect old (event.Ack client ino seq) = refl
-none_dropped-effect old (event.Release client ino caps) = refl
-none_dropped-effect old (event.Get client ino part) = refl
-none_dropped-effect old (event.Alter client ino change) = refl
-none_dropped-effect old (event.Unlink client ino) = refl
-none_dropped-effect old (event.Rmdir client ino) = refl
-none_dropped-effect old (event.Rename client ino dir name) = refl
-none_dropped-effect old (event.Flush client ino change) = refl
-none_dropped-effect old (event.Poll client max) = refl
+none_dropped-effect old (event.Create client dir name mode) is = refl
+none_dropped-effect old (event.Mkdir client dir name mode) is = refl
+none_dropped-effect old (event.MakeSnapshot client ino name) is = refl
+none_dropped-effect old (event.RemoveSnapshot client ino name) is = refl
+none_dropped-effect old (event.Open client ino mode) is = refl
+none_dropped-effect old (event.Want client ino caps) is = refl
+none_dropped-effect old (event.Ack client ino seq) is = refl
+none_dropped-effect old (event.Release client ino caps) is = refl
+none_dropped-effect old (event.Get client ino part) is = refl
+none_dropped-effect old (event.Alter client ino change) is = refl
+none_dropped-effect old (event.Unlink client ino) is = refl
+none_dropped-effect old (event.Rmdir client ino) is = refl
+none_dropped-effect old (event.Rename client ino dir name) is = refl
+none_dropped-effect old (event.Flush client ino change) is = refl
+none_dropped-effect old (event.Poll client max) is = refl
 
-none_dropped : (old : State) (e : Event) (o : Option Stopped) → (effect_unless old e o).dropped ≡ []
-none_dropped old e (Some r) = refl
-none_dropped old e None = none_dropped-effect old e
+none_dropped : (old : State) (e : Event) → turned_by e ≡ None → (o : Option Stopped) → (effect_unless old e o).dropped ≡ []
+none_dropped old e is (Some r) = refl
+none_dropped old e is None = none_dropped-effect old e is
 
 -- ---- a whole step
 
 -- an event that says its answer, and leads by itself to a sound state in which nothing is left to do, is a whole step
-module _ (old new : State) (e : Event) (answer : Reply) (is : IsDirect old e answer new) (sound : IsSound new) (finishes : finished old.scene new.scene new.scene ≡ new.scene) where
+module _ (old new : State) (e : Event) (still : turned_by e ≡ None) (answer : Reply) (is : IsDirect old e answer new) (sound : IsSound new) (finishes : finished old.scene new.scene new.scene ≡ new.scene) where
   whole_step : Step old e answer [] new
   whole_step = (
     [],
@@ -80,7 +84,7 @@ module _ (old new : State) (e : Event) (answer : Reply) (is : IsDirect old e ans
           is.state_is
           ∙ sym (ap (λ (a : Answer). shown a (state_after old d [] d.state.scene)) (sym is.answer_is) ∙ (λ i. record d.state { scene = done i; messages = append-nil d.state.messages i }));
       answer_is = ap (reply_of (state_after old d [] d.state.scene) []) is.answer_is;
-      ended_is = sym (ap (λ xs. xs ++ []) (none_dropped old e (judged old.scene e)));
+      ended_is = sym (ap (λ xs. xs ++ []) (none_dropped old e still (judged old.scene e)));
     },
   )
     where
@@ -119,6 +123,10 @@ module _ (old : State) (sound : IsSound old) (tree : IsTree old.scene.tree) wher
   effect-left (event.Session client caller grants) alone none =
       let passed : first_failing (new_session_tests old.scene.sessions client.0) ≡ None = no_test old.scene (new_session_tests old.scene.sessions client.0) [] [] none in
       record { leaves = session-leaves old sound client.0 caller grants passed; is = refl }
+  effect-left (event.CloseSession client) alone none = absurd (none-some client (sym alone.2))
+  effect-left (event.Stale client) alone none = absurd (none-some client (sym alone.2))
+  effect-left (event.Renew client) alone none = absurd (none-some client (sym alone.2))
+  effect-left (event.Evict client) alone none = absurd (none-some client (sym alone.2))
   effect-left (event.Unblock client) alone none = record { leaves = unblocked-leaves old sound client.0; is = refl }
   effect-left (event.Recall count) alone none = absurd (true≢false alone.1)
   effect-left (event.Lookup client dir name) alone none = found-left (child old.scene.tree.nodes dir.0 name)
@@ -160,4 +168,4 @@ module _ (old : State) (sound : IsSound old) (tree : IsTree old.scene.tree) wher
         (kept-finished old sound new.scene.tree new.scene.sessions new.scene.locks.states left.leaves table)
 
     pub alone-answered : (says : Said) → IsTable old.scene.table → says.reply ≡ answer → says.kept ≡ answer → says.ended ≡ [] → IsAnswered old e says new
-    alone-answered says table answers kept none = direct-answered old new e answer is direct-sound (direct-finished table) says direct-given answers kept none
+    alone-answered says table answers kept none = direct-answered old new e alone.2 answer is direct-sound (direct-finished table) says direct-given answers kept none

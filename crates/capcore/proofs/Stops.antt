@@ -45,6 +45,10 @@ holder_is a b is = cc
 -- which inode it touches
 touched_as : (e : Event) (p : Holder × Ask) → asks_for e ≡ Some p → touched_by e ≡ Some p.0
 touched_as (event.Session client caller grants) p is = absurd (cc)
+touched_as (event.CloseSession client) p is = absurd (cc)
+touched_as (event.Stale client) p is = absurd (cc)
+touched_as (event.Renew client) p is = absurd (cc)
+touched_as (event.Evict client) p is = absurd (cc)
 touched_as (event.Unblock client) p is = absurd (cc)
 touched_as (event.Recall count) p is = absurd (cc)
 touched_as (event.Lookup client dir name) p is = absurd (cc)

@@ -296,7 +296,7 @@ placed-in_row s row part (Some (Stable state)) place = place
 placed-in_row s row part (Some (Gather from to)) place = place.0
 
 -- and every state keeps it
-sound-kept : (old : State) → IsSound old → IsTable old.scene.table → All (IsKeptEntry old.scene) old.scene.table.rows
+pub sound-kept : (old : State) → IsSound old → IsTable old.scene.table → All (IsKeptEntry old.scene) old.scene.table.rows
 sound-kept old sound table =
     All-weaker (Contains old.scene.table.rows) (IsKeptEntry old.scene) each old.scene.table.rows (All-contains_itself old.scene.table.rows)
   where

@@ -1,5 +1,5 @@
 -- What an event does and answers by itself, before any lock moves.
-use Rattle.std.specs.Prelude.{◌≡◌, ℕ, ◌+◌, ◌==◌, Bool, true, false, List, [], ◌∷◌, take, Option, Some, None, is_some, unwrap_or, if◌then◌else◌}
+use Rattle.std.specs.Prelude.{◌≡◌, ℕ, ◌+◌, ◌==◌, Bool, true, false, List, [], ◌∷◌, map as each, filter, not, take, Option, Some, None, is_some, unwrap_or, if◌then◌else◌}
 use Rattle.std.specs.List.{find}
 use Rattle.std.specs.FinMap as map
 use Rattle.capbits.specs.declared.cap.Cap.TheVariants.{P, Fs, Fx, Fc, Fr, Fw, Fb}
@@ -16,15 +16,18 @@ use Rattle.inotree.specs.Inodes.{with_snapshot, without_snapshot}
 use Rattle.inotree.specs.Tree.{Nodes, child}
 use Rattle.inotree.specs.Calls.{with_new, changed}
 use Rattle.sessiontab.specs.declared.session.Session.{Session}
-use Rattle.sessiontab.specs.Calls.{with_session, without_blocked}
+use Rattle.sessiontab.specs.declared.session.Status.TheVariants as status
+use Rattle.sessiontab.specs.Table.{SessionTable}
+use Rattle.sessiontab.specs.Calls.{with_session, without_session, with_status, with_evicted, without_blocked}
 use Rattle.captable.specs.declared.entry.Holder.{Holder}
 use Rattle.captable.specs.declared.entry.EntryRow.{EntryRow}
 use Rattle.captable.specs.Table.{Table, holder, is_row_of, entry_at}
-use Rattle.captable.specs.Calls.{opened, wanting, taken, released, touched, told, recalled, changed as changed_entry}
+use Rattle.captable.specs.Calls.{opened, wanting, taken, released, touched, told, recalled, without_client, changed as changed_entry}
 use Rattle.lockmachine.specs.declared.request.Ask.{Ask}
 use Rattle.lockmachine.specs.declared.request.Ask.TheVariants.{Get, Alter, Unlink, Rmdir, Rename}
 use Rattle.lockmachine.specs.declared.request.Change.{Change}
-use Rattle.lockmachine.specs.Locks.{with_ino, with_request}
+use Rattle.lockmachine.specs.declared.request.Request.{Request}
+use Rattle.lockmachine.specs.Locks.{with_ino, with_request, requests_of, without_requests_of}
 use Rattle.lockmachine.specs.Scene.{Scene, told_set}
 use Rattle.capcore.specs.declared.event.Event.{Event}
 use Rattle.capcore.specs.declared.event.Event.TheVariants as event
@@ -39,7 +42,7 @@ use Rattle.capcore.specs.State.{State}
 use Rattle.capcore.specs.declared.stopped.Stopped.{Stopped}
 use Rattle.capcore.specs.Asks.{tree_changed}
 use Rattle.capcore.specs.Judge.{judged, stop_reply, revoked_of}
-use Rattle.capcore.specs.Messages.{first_messages, with_given}
+use Rattle.capcore.specs.Messages.{is_to, first_messages, with_given}
 
 abbrev pub with_scene : State → Scene → State
 with_scene s scene = record s { scene = scene }
@@ -178,11 +181,43 @@ abbrev pub with_flush : State → Holder → Change → State
 with_flush s k change =
     with_scene s (record s.scene { tree = tree_changed s.scene.tree k.ino.0 change; table = touched s.scene.table k })
 
+-- ---- of a client's session
+
+abbrev pub with_sessions : State → SessionTable → State
+with_sessions s sessions = with_scene s (record s.scene { sessions = sessions })
+
+-- with these sessions; and nothing of the client is left: no entry, no request, and nothing that it was still to be told of
+abbrev pub without : State → ClientId → SessionTable → State
+without s client sessions = record {
+  scene = record s.scene {
+    sessions = sessions;
+    table = without_client s.scene.table client;
+    locks = without_requests_of s.scene.locks client;
+  };
+  messages = filter (λ m. not (is_to client m)) s.messages;
+}
+
+-- a request ends unserved, since its client's session does
+abbrev pub dropped_of : Request → Ended
+dropped_of q = record { client = q.client; ticket = q.ticket; outcome = outcome.Dropped }
+
+-- the client's session ends, by which these are left: its requests are dropped, the oldest first
+abbrev pub ends : State → ClientId → SessionTable → Direct
+ends s client sessions = record {
+  state = without s client sessions;
+  answer = Says reply.Done;
+  dropped = each dropped_of (requests_of s.scene.locks client);
+}
+
 -- ---- the effect of an event that nothing stops
 
 abbrev pub effect : State → Event → Direct
 effect s (event.Session client caller grants) =
     says (with_scene s (record s.scene { sessions = with_session s.scene.sessions client.0 caller grants })) reply.Done
+effect s (event.CloseSession client) = ends s client (without_session s.scene.sessions client.0)
+effect s (event.Stale client) = says (with_sessions s (with_status s.scene.sessions client.0 status.Stale)) reply.Done
+effect s (event.Renew client) = says (with_sessions s (with_status s.scene.sessions client.0 status.Open)) reply.Done
+effect s (event.Evict client) = ends s client (with_evicted s.scene.sessions client.0)
 effect s (event.Unblock client) =
     says (with_scene s (record s.scene { sessions = without_blocked s.scene.sessions client.0 })) reply.Done
 effect s (event.Recall count) = says (with_table s (recalled s.scene.table count)) (reply.Recalled (take count s.scene.table.recall))

@@ -9,7 +9,7 @@ use Rattle.capgrant.specs.declared.access.Access.{Access}
 use Rattle.capgrant.specs.declared.access.Access.TheVariants.{Read, Write, Snapshot}
 use Rattle.capbits.specs.Refusal.{Test, first_failing}
 use Rattle.sessiontab.specs.Table.{SessionTable}
-use Rattle.sessiontab.specs.Tests.{connected_test, session_tests, new_session_tests, blocked_test}
+use Rattle.sessiontab.specs.Tests.{connected_test, session_tests, stale_tests, new_session_tests, evict_tests, blocked_test}
 use Rattle.inotree.specs.Tree.{Nodes, child}
 use Rattle.inotree.specs.Tests.{known_test, inode_tests, directory_test, file_test, found_test, new_inode_tests, new_snapshot_tests, old_snapshot_tests}
 use Rattle.captable.specs.declared.entry.Holder.{Holder}
@@ -60,6 +60,10 @@ asking_tests s client ino ask = session_tests s.sessions client.0 ++ ask_before 
 -- the tests that stand before policy
 abbrev pub before : Scene → Event → List Test
 before s (event.Session client caller grants) = new_session_tests s.sessions client.0
+before s (event.CloseSession client) = connected_test s.sessions client.0 ∷ []
+before s (event.Stale client) = session_tests s.sessions client.0
+before s (event.Renew client) = stale_tests s.sessions client.0
+before s (event.Evict client) = evict_tests s.sessions client.0
 before s (event.Unblock client) = blocked_test s.sessions client.0 ∷ []
 before s (event.Recall count) = []
 before s (event.Lookup client dir name) = asked_tests s client dir.0 ++ directory_test s.tree dir.0 ∷ found_test s.tree dir.0 name ∷ []
@@ -89,6 +93,10 @@ opening_needs client ino opening.ReadWrite = need client ino Read ∷ need clien
 -- the accesses that an event needs, in order
 abbrev pub needs : Scene → Event → List Need
 needs s (event.Session client caller grants) = []
+needs s (event.CloseSession client) = []
+needs s (event.Stale client) = []
+needs s (event.Renew client) = []
+needs s (event.Evict client) = []
 needs s (event.Unblock client) = []
 needs s (event.Recall count) = []
 needs s (event.Lookup client dir name) = need_if client (child s.tree.nodes dir.0 name) Read
@@ -129,6 +137,10 @@ flush_tests s k change =
 -- the tests that stand behind policy
 abbrev pub after : Scene → Event → List Test
 after s (event.Session client caller grants) = []
+after s (event.CloseSession client) = []
+after s (event.Stale client) = []
+after s (event.Renew client) = []
+after s (event.Evict client) = []
 after s (event.Unblock client) = []
 after s (event.Recall count) = []
 after s (event.Lookup client dir name) = []

@@ -12,6 +12,7 @@ pub mod Messages
 pub mod Step
 pub mod Touch
 pub mod Touching
+pub mod Turn
 pub mod Finishing
 pub mod History
 pub mod Codes

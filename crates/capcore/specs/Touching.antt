@@ -3,6 +3,7 @@ use Rattle.std.specs.Prelude.{◌≡◌, ◌≤◌, ℕ, Bool, true, false, not,
 use Rattle.std.specs.FinMap as map
 use Rattle.capbits.specs.declared.cap.Cap.TheVariants.{P}
 use Rattle.capbits.specs.declared.cap.Part.{Part}
+use Rattle.capbits.specs.declared.ids.ClientId.{ClientId}
 use Rattle.capbits.specs.Caps.{has}
 use Rattle.inotree.specs.Calls.{forgotten}
 use Rattle.inotree.specs.Tree.{place}
@@ -31,6 +32,10 @@ use Rattle.capcore.specs.State.{State}
 -- who asks, and of which inode, where the event is about one that is there already: about an entry on it, or about what it keeps
 abbrev pub touched_by : Event → Option Holder
 touched_by (event.Session client caller grants) = None
+touched_by (event.CloseSession client) = None
+touched_by (event.Stale client) = None
+touched_by (event.Renew client) = None
+touched_by (event.Evict client) = None
 touched_by (event.Unblock client) = None
 touched_by (event.Recall count) = None
 touched_by (event.Lookup client dir name) = None
@@ -50,9 +55,39 @@ touched_by (event.Rename client ino dir name) = Some (holder client ino)
 touched_by (event.Flush client ino change) = Some (holder client ino)
 touched_by (event.Poll client max) = None
 
+-- whose session an event ends, makes stale or renews
+abbrev pub turned_by : Event → Option ClientId
+turned_by (event.Session client caller grants) = None
+turned_by (event.CloseSession client) = Some client
+turned_by (event.Stale client) = Some client
+turned_by (event.Renew client) = Some client
+turned_by (event.Evict client) = Some client
+turned_by (event.Unblock client) = None
+turned_by (event.Recall count) = None
+turned_by (event.Lookup client dir name) = None
+turned_by (event.Create client dir name mode) = None
+turned_by (event.Mkdir client dir name mode) = None
+turned_by (event.MakeSnapshot client ino name) = None
+turned_by (event.RemoveSnapshot client ino name) = None
+turned_by (event.Open client ino mode) = None
+turned_by (event.Want client ino caps) = None
+turned_by (event.Ack client ino seq) = None
+turned_by (event.Release client ino caps) = None
+turned_by (event.Get client ino part) = None
+turned_by (event.Alter client ino change) = None
+turned_by (event.Unlink client ino) = None
+turned_by (event.Rmdir client ino) = None
+turned_by (event.Rename client ino dir name) = None
+turned_by (event.Flush client ino change) = None
+turned_by (event.Poll client max) = None
+
 -- of an event that waits for a lock, who asks, of which inode, and what
 abbrev pub asks_for : Event → Option (Holder × Ask)
 asks_for (event.Session client caller grants) = None
+asks_for (event.CloseSession client) = None
+asks_for (event.Stale client) = None
+asks_for (event.Renew client) = None
+asks_for (event.Evict client) = None
 asks_for (event.Unblock client) = None
 asks_for (event.Recall count) = None
 asks_for (event.Lookup client dir name) = None
@@ -75,6 +110,10 @@ asks_for (event.Poll client max) = None
 -- the event is answered with a list: of messages, or of who is asked to give back
 abbrev pub is_listing : Event → Bool
 is_listing (event.Session client caller grants) = false
+is_listing (event.CloseSession client) = false
+is_listing (event.Stale client) = false
+is_listing (event.Renew client) = false
+is_listing (event.Evict client) = false
 is_listing (event.Unblock client) = false
 is_listing (event.Recall count) = true
 is_listing (event.Lookup client dir name) = false

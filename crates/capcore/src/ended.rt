@@ -29,6 +29,27 @@ pub(crate) fn close(messages: &mut Messages, reply: Reply, endings: Endings) -> 
     Said { reply, kept, ended }
 }
 
+// That it is done, and the requests that the step ended: those that were dropped, of which nobody is told, and those that were served.
+pub(crate) fn close_dropped(messages: &mut Messages, dropped: Messages, endings: Endings) -> Said
+    requires room { length messages.old.items + length endings.told.items ≤ messages.old.room }
+    requires list { length dropped.items + length endings.kept.items ≤ dropped.room }
+    ensures items { messages.new.items ≡ messages.old.items ++ endings.told.items }
+    ensures room { messages.old.room ≤ messages.new.room }
+    ensures reply { result.reply ≡ reply.Done }
+    ensures kept { result.kept ≡ reply.Done }
+    ensures ended { result.ended ≡ dropped.items ++ endings.kept.items }
+{
+    let Endings { told, kept } = endings;
+    messages.append(told);
+    let mut all = dropped;
+    all.append(kept);
+    Said {
+        reply: Reply::Done,
+        kept: Reply::Done,
+        ended: all.into_list(),
+    }
+}
+
 // How the request with this number ended in the step, if it did; else that it waits; and the other requests that the step ended.
 pub(crate) fn close_with(messages: &mut Messages, ticket: Ticket, endings: Endings) -> Said
     requires differ { HaveOwnNumbers endings.told.items }

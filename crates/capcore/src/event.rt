@@ -27,6 +27,28 @@ pub enum Event {
         /// What it may do, and where.
         grants: Grants,
     },
+    /// A client ends its session. All that it held, wanted and waited for goes with it, and so does what it was still to be
+    /// told of.
+    CloseSession {
+        /// The client.
+        client: ClientId,
+    },
+    /// A client has not been heard of for too long: its session is stale. What it holds it still holds, but what it wants
+    /// counts no more.
+    Stale {
+        /// The client.
+        client: ClientId,
+    },
+    /// A client whose session was stale was heard of: its session is open again, and what it wants counts.
+    Renew {
+        /// The client.
+        client: ClientId,
+    },
+    /// A client is thrown out: its session ends, and it comes on the blocklist.
+    Evict {
+        /// The client.
+        client: ClientId,
+    },
     /// A client that was thrown out is let in again: it comes off the blocklist.
     Unblock {
         /// The client.

@@ -4,6 +4,7 @@
 #![tactic(auto)]
 
 mod asking;
+mod client;
 mod copies;
 mod ended;
 mod ending;

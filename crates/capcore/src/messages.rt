@@ -1,8 +1,8 @@
 //! The requests that ended and that no client was told of.
-ghost use Rattle.std.specs.Prelude.{◌≡◌, ◌+◌, ◌≤◌, ◌<◌, ◌++◌, [], ◌∷◌, length, filter, IfOk, OnOk, OnErr};
+ghost use Rattle.std.specs.Prelude.{◌≡◌, ◌+◌, ◌≤◌, ◌<◌, ◌++◌, [], ◌∷◌, length, filter, not, IfOk, OnOk, OnErr};
 ghost use Rattle.std.specs.List.{find, list_any, position};
 ghost use Rattle.capcore.specs.Direct.{is_of_ticket};
-ghost use Rattle.capcore.specs.Messages.{is_left, is_end_of};
+ghost use Rattle.capcore.specs.Messages.{is_to, is_left, is_end_of};
 ghost use Rattle.capcore.specs.Untold.{HaveOwnNumbers, but_for};
 
 use crate::history::EndedList;
@@ -131,6 +131,14 @@ impl Messages {
     {
         self.items.retain(|ended| is_left(client, given, ended));
     }
+
+    // Nothing is due to the client any more.
+    pub(crate) fn remove_to(&mut self, client: ClientId)
+        ensures items { self.new.items ≡ filter (λ m. not (is_to client m)) self.old.items }
+        ensures room { self.new.room ≡ self.old.room }
+    {
+        self.items.retain(|ended| !is_to(client, ended));
+    }
 }
 
 // The requests that a step ends: once to be told to their clients, and once for the history.
@@ -183,11 +191,18 @@ impl Endings {
     }
 }
 
+// Whether it is the client's.
+fn is_to(client: ClientId, ended: &Ended) -> bool
+    ensures { result ≡ is_to client ended.now }
+{
+    ended.client.0 == client.0
+}
+
 // Whether the message is still due to its client, when a client was given some.
 fn is_left(client: ClientId, given: &[Message], ended: &Ended) -> bool
     ensures { result ≡ is_left client given.now ended.now }
 {
-    !(ended.client.0 == client.0 && is_told(ended.ticket, given))
+    !(is_to(client, ended) && is_told(ended.ticket, given))
 }
 
 // Whether one of the messages tells how the request with this number ended.

@@ -59,7 +59,7 @@ fn keep_held(
 }
 
 // Keeps the locks of the inode as they are, if none of it were kept.
-fn keep(locks: &Locks, ino: Ino, touched: &mut States) -> Result<(), AllocError>
+pub(crate) fn keep(locks: &Locks, ino: Ino, touched: &mut States) -> Result<(), AllocError>
     requires locked { map.contains_key locks.now.states ino.0 ≡ true }
     ensures keeps { (other : ℕ) → map.contains_key touched.old other ≡ true → map.get touched.new other ≡ map.get touched.old other }
     ensures adds { (other : ℕ) → map.contains_key touched.old other ≡ false → map.contains_key touched.new other ≡ true

@@ -4,7 +4,7 @@ ghost use Rattle.capcore.specs.History.{HasNoStray, IsOpening, IsNext, IsTold, R
 ghost use Rattle.capcore.specs.State.{State};
 ghost use Rattle.capcore.specs.Direct.{direct};
 ghost use Rattle.capcore.specs.Sound.{IsSound};
-ghost use Rattle.capcore.specs.Headline.{DeniedExactly, DeniesByName, ServedDenied, ServedByName, EachServing, OfItsMoves, AreBounded};
+ghost use Rattle.capcore.specs.Headline.{DeniedExactly, DeniesByName, ServedDenied, ServedByName, EachServing, ByMoves, AreBounded};
 ghost use Rattle.capcore.specs.Headline.{IssuesExactly, AreInPlace, NoneConflict, is_stop};
 ghost use Rattle.sessiontab.specs.Calls.{status_of};
 ghost use Rattle.captable.specs.Table.{holder, entry_at};
@@ -71,9 +71,9 @@ impl Core {
         ensures named { IfOk result (λ answer. DeniesByName self.old.state.scene event answer) }
         // So are the requests that wait, when they are served. At most as many are served as wait, and between two of them each
         // lock begins at most one gather and ends at most two.
-        ensures served_denied { OnOk result (OfItsMoves (EachServing ServedDenied) self.old.state event self.new.state) }
-        ensures served_named { OnOk result (OfItsMoves (EachServing ServedByName) self.old.state event self.new.state) }
-        ensures bounded { OnOk result (OfItsMoves AreBounded self.old.state event self.new.state) }
+        ensures served_denied { IfOk result (λ answer. ByMoves (EachServing ServedDenied) self.old.state event answer self.new.state) }
+        ensures served_named { IfOk result (λ answer. ByMoves (EachServing ServedByName) self.old.state event answer self.new.state) }
+        ensures bounded { IfOk result (λ answer. ByMoves AreBounded self.old.state event answer self.new.state) }
         // What is issued is what is wanted, permitted and allowed; and no two clients hold what may not be held together.
         ensures issued { OnOk result (IssuesExactly (direct self.old.state event).state.scene self.new.state.scene) }
         ensures in_place { OnOk result (AreInPlace self.new.state.scene) }

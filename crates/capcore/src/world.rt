@@ -5,7 +5,7 @@ ghost use Rattle.inotree.specs.Calls.{with_new};
 ghost use Rattle.inotree.specs.Tests.{create_tests};
 ghost use Rattle.capcore.specs.Sound.{IsSound, AreGiven, NumbersLeft};
 ghost use Rattle.capcore.specs.Touch.{touch_event};
-ghost use Rattle.capcore.specs.Touching.{touched_by, is_listing};
+ghost use Rattle.capcore.specs.Touching.{touched_by, turned_by, is_listing};
 ghost use Rattle.captable.specs.Table.{IsTable, holder, entry_at};
 ghost use Rattle.lockmachine.specs.Locks.{lock_at};
 ghost use Rattle.sessiontab.specs.Calls.{status_of};
@@ -21,6 +21,7 @@ ghost use Rattle.lockmachine.specs.Locks.{IsLockMap};
 ghost use Rattle.capbits.specs.Refusal.{first_failing};
 ghost use Rattle.capcore.specs.declared.event.Event.TheVariants as event;
 
+use crate::client::Turn;
 use crate::copies::{copy_of_caller, copy_of_reply};
 use crate::ended::close;
 use crate::event::{Event, OpenMode};
@@ -142,6 +143,10 @@ impl World {
                 change,
             } => self.flush(*client, *ino, change),
             Event::Poll { client, max } => self.poll(*client, *max),
+            Event::CloseSession { client } => self.turn(*client, Turn::Close),
+            Event::Stale { client } => self.turn(*client, Turn::Stale),
+            Event::Renew { client } => self.turn(*client, Turn::Renew),
+            Event::Evict { client } => self.turn(*client, Turn::Evict),
             Event::Recall { count } => self.recall(*count),
             Event::Session { .. }
             | Event::Unblock { .. }
@@ -157,6 +162,7 @@ impl World {
     fn act_alone(&mut self, event: &Event) -> Result<Said, Stop>
         requires touches { touched_by event.now ≡ None }
         requires lists { is_listing event.now ≡ false }
+        requires turns { turned_by event.now ≡ None }
         ensures answered { IfOk result (λ said. IsAnswered self.old event.now said self.new) }
         ensures err { OnErr result (self.new ≡ self.old) }
         ensures memory { IfErr result (λ stop. stop ≡ Stop.NoMemory) }
@@ -233,6 +239,7 @@ impl World {
     fn act(&mut self, event: &Event) -> Result<Reply, Stop>
         requires touches { touched_by event.now ≡ None }
         requires lists { is_listing event.now ≡ false }
+        requires turns { turned_by event.now ≡ None }
         ensures direct { IfOk result (λ reply. IsDirect self.old event.now reply self.new) }
         ensures err { OnErr result (self.new ≡ self.old) }
         ensures memory { IfErr result (λ stop. stop ≡ Stop.NoMemory) }
@@ -265,7 +272,11 @@ impl World {
             Event::RemoveSnapshot { client, ino, name } => {
                 self.remove_snapshot(*client, *ino, name.as_slice())
             }
-            Event::Recall { .. }
+            Event::CloseSession { .. }
+            | Event::Stale { .. }
+            | Event::Renew { .. }
+            | Event::Evict { .. }
+            | Event::Recall { .. }
             | Event::Open { .. }
             | Event::Want { .. }
             | Event::Ack { .. }

@@ -5,12 +5,12 @@ use Rattle.capcore.specs.declared.history.Row.{Row}
 use Rattle.capcore.specs.declared.reply.Reply.{Reply}
 use Rattle.capcore.specs.Answered.{IsAnswered}
 use Rattle.capcore.specs.Direct.{direct}
-use Rattle.capcore.specs.Headline.{DeniedExactly, DeniesByName, ServedDenied, ServedByName, EachServing, OfItsMoves, AreBounded, IssuesExactly, is_stop}
+use Rattle.capcore.specs.Headline.{DeniedExactly, DeniesByName, ServedDenied, ServedByName, EachServing, ByMoves, AreBounded, IssuesExactly, is_stop}
 use Rattle.capcore.specs.History.{Told, told, Replays, rows_of}
 use Rattle.capcore.specs.Sound.{IsSound}
 use Rattle.capcore.specs.Step.{Step}
 use Rattle.capcore.proofs.Apart.{held-apart}
-use Rattle.capcore.proofs.Bounded.{direct-order, moves-bounded, of-its-moves}
+use Rattle.capcore.proofs.Bounded.{direct-order, moves-bounded, by-moves}
 use Rattle.capcore.proofs.Servings.{served-denied, served-by_name}
 use Rattle.capcore.proofs.Promised.{denied-exactly, denies-by_name, stopped-unchanged}
 use Rattle.capcore.proofs.Growing.{more-told, replays-more}
@@ -57,18 +57,20 @@ returns-clause-named c =
 
 pub returns-clause-served_denied : goal.returns-clause-served_denied
 returns-clause-served_denied c =
-    subst (λ (t : Told). OfItsMoves (EachServing ServedDenied) t.state c.args.event c.step.new.self) c.self.view_is
-    (of-its-moves (EachServing ServedDenied) c.self.inside.world c.args.event c.step.new.self (λ moves last made. served-denied (direct c.self.inside.world c.args.event).state.scene last moves made))
+    subst (λ (t : Told). ByMoves (EachServing ServedDenied) t.state c.args.event c.in_ok-reply.field-0.reply c.step.new.self) c.self.view_is
+    (by-moves (EachServing ServedDenied) c.self.inside.world c.args.event c.in_ok-reply.field-0.reply c.in_ok-reply.field-0.ended c.step.new.self (step_of c)
+    (λ moves last made. served-denied (direct c.self.inside.world c.args.event).state.scene last moves made))
 
 pub returns-clause-served_named : goal.returns-clause-served_named
 returns-clause-served_named c =
-    subst (λ (t : Told). OfItsMoves (EachServing ServedByName) t.state c.args.event c.step.new.self) c.self.view_is
-    (of-its-moves (EachServing ServedByName) c.self.inside.world c.args.event c.step.new.self (λ moves last made. served-by_name (direct c.self.inside.world c.args.event).state.scene last moves made))
+    subst (λ (t : Told). ByMoves (EachServing ServedByName) t.state c.args.event c.in_ok-reply.field-0.reply c.step.new.self) c.self.view_is
+    (by-moves (EachServing ServedByName) c.self.inside.world c.args.event c.in_ok-reply.field-0.reply c.in_ok-reply.field-0.ended c.step.new.self (step_of c)
+    (λ moves last made. served-by_name (direct c.self.inside.world c.args.event).state.scene last moves made))
 
 pub returns-clause-bounded : goal.returns-clause-bounded
 returns-clause-bounded c =
-    subst (λ (t : Told). OfItsMoves AreBounded t.state c.args.event c.step.new.self) c.self.view_is
-    (of-its-moves AreBounded c.self.inside.world c.args.event c.step.new.self
+    subst (λ (t : Told). ByMoves AreBounded t.state c.args.event c.in_ok-reply.field-0.reply c.step.new.self) c.self.view_is
+    (by-moves AreBounded c.self.inside.world c.args.event c.in_ok-reply.field-0.reply c.in_ok-reply.field-0.ended c.step.new.self (step_of c)
     (λ moves last made. moves-bounded (direct c.self.inside.world c.args.event).state.scene moves last (direct-order c.self.inside.world c.args.event c.in_ok-reply.ensures.locks) made))
 
 pub returns-clause-issued : goal.returns-clause-issued

@@ -11,5 +11,5 @@ returns-clause-answered c =
     let s = c.args.self.now in
     let known : IsSound s × IsTree s.scene.tree × IsTable s.scene.table =
     subst (λ (w : State). IsSound w × IsTree w.scene.tree × IsTable w.scene.table) c.self.view_is (c.self.invariant.0, c.last-last.ensures.sound, c.oldest-oldest.ensures.sound) in
-    alone-answered s known.0 known.1 c.args.event.now (c.requires.touches, c.requires.lists) c.in_ok-reply.reply c.act.new.self c.in_ok-reply.ensures.direct
+    alone-answered s known.0 known.1 c.args.event.now (c.requires.touches, c.requires.lists, c.requires.turns) c.in_ok-reply.reply c.act.new.self c.in_ok-reply.ensures.direct
     c.alone.result known.2 c.alone.ensures.reply c.alone.ensures.kept c.alone.ensures.ended

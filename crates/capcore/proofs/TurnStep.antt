@@ -1,0 +1,185 @@
+-- What the calls of the step of a client's session come to.
+use Rattle.std.proofs.Common.{◌≡◌, ◌≤◌, ◌<◌, ◌^◌, ◌-◌, ℕ, ◌+◌, ◌++◌, true, false, not, Bool, Option, Some, None, is_some, List, [], Contains, length, refl, sym, ap, subst, ◌∙◌, arith}
+use Rattle.std.specs.Prelude.{IsTrue, All}
+use Rattle.std.specs.Option.{option_map}
+use Rattle.std.specs.FinMap as map
+use Rattle.std.proofs.lemmas.List.Sums.{length-filter, count_by-le-length}
+use Rattle.std.proofs.lemmas.List.Elements.{All-weaker, All-contains_itself}
+use Rattle.capbits.specs.declared.ids.ClientId.{ClientId}
+use Rattle.capbits.specs.declared.refusal.Refusal.{Refusal}
+use Rattle.capbits.specs.Refusal.{first_failing}
+use Rattle.locktable.specs.declared.states.LockState.{LockState}
+use Rattle.sessiontab.specs.Calls.{has_session}
+use Rattle.captable.specs.declared.entry.EntryRow.{EntryRow}
+use Rattle.captable.specs.Table.{IsTable}
+use Rattle.lockmachine.specs.declared.request.Request.{Request}
+use Rattle.lockmachine.specs.declared.states.InodeLocks.{InodeLocks}
+use Rattle.lockmachine.specs.Inodes.{StateMap, lock_in}
+use Rattle.lockmachine.specs.Locks.{LockMap, IsLockMap}
+use Rattle.lockmachine.specs.Requests.{part_of_ask, is_of_client}
+use Rattle.lockmachine.specs.Moves.{IsAtRest, IsQuietOutside}
+use Rattle.lockmachine.specs.Scene.{Scene}
+use Rattle.lockmachine.proofs.Queue.{without_requests_of-kept}
+use Rattle.lockmachine.proofs.SameOutside.{rest-outside}
+use Rattle.lockmachine.proofs.Waiting.{quiet-waits-at}
+use Rattle.capcore.specs.declared.client.Turn.{Turn}
+use Rattle.capcore.specs.declared.client.Turn.TheVariants.{Close, Stale, Renew, Evict}
+use Rattle.capcore.specs.declared.event.Event.{Event}
+use Rattle.capcore.specs.declared.outcome.Ended.{Ended}
+use Rattle.capcore.specs.declared.reply.Reply.TheVariants as reply
+use Rattle.capcore.specs.declared.reply.Said.{Said}
+use Rattle.capcore.specs.declared.stopped.Stopped.TheVariants.{ByTest}
+use Rattle.capcore.specs.State.{State}
+use Rattle.capcore.specs.Answered.{IsAnswered}
+use Rattle.capcore.specs.Direct.{Direct, direct, reply_of, shown}
+use Rattle.capcore.specs.Judge.{judged, stop}
+use Rattle.capcore.specs.Messages.{is_to}
+use Rattle.capcore.specs.Serves.{SettlesWith, EndsWith, is_touched}
+use Rattle.capcore.specs.Settle.{ended_in}
+use Rattle.capcore.specs.Sound.{IsSound, NumbersLeft}
+use Rattle.capcore.specs.Step.{earlier, all_ended, state_at_end}
+use Rattle.capcore.specs.Touching.{Touches, SettlesAt, finished_at}
+use Rattle.capcore.specs.Turn.{ReachesClient, turn_event, turn_tests, is_end, locks_left, messages_left, dropped_by, turned}
+use Rattle.capcore.proofs.Closing.{told-all, touches-clients, touches-locked}
+use Rattle.capcore.proofs.Concluded.{IsConcluded, GivesOne, concluded}
+use Rattle.capcore.proofs.Turned.{turn_direct, direct-turned, turned-touches, turned-table, turned-below, turned-made, turned-last}
+
+-- ---- what is tested
+
+before-turn : (s : Scene) (client : ClientId) (turn : Turn) → judged s (turn_event client turn) ≡ stop s (turn_tests s.sessions client turn) [] []
+before-turn s client Close = refl
+before-turn s client Stale = refl
+before-turn s client Renew = refl
+before-turn s client Evict = refl
+
+-- the first test that fails, stops it, and nothing else
+pub turn-stop : (s : Scene) (client : ClientId) (turn : Turn) → judged s (turn_event client turn) ≡ option_map ByTest (first_failing (turn_tests s.sessions client turn))
+turn-stop s client turn = before-turn s client turn ∙ by_test (first_failing (turn_tests s.sessions client turn)) refl
+  where
+    by_test : (o : Option Refusal) → first_failing (turn_tests s.sessions client turn) ≡ o → stop s (turn_tests s.sessions client turn) [] [] ≡ option_map ByTest o
+    by_test (Some r) is = rw is refl
+    by_test None is = rw is refl
+
+-- ---- who waits, waits for a lock that is there
+
+pub waiting-locked : (s : Scene) → IsAtRest s → All (λ q. IsTrue (map.contains_key s.locks.states q.ino.0)) s.locks.queue
+waiting-locked s rest =
+    All-weaker (Contains s.locks.queue) (λ q. IsTrue (map.contains_key s.locks.states q.ino.0)) each_one s.locks.queue (All-contains_itself s.locks.queue)
+  where
+    there : (q : Request) (o : Option InodeLocks) (lock : LockState) → option_map (lock_in (part_of_ask q.ask)) o ≡ Some lock → is_some o ≡ true
+    there q None lock is = absurd (cc)
+    there q (Some locks) lock is = refl
+
+    each_one : (q : Request) → Contains s.locks.queue q → IsTrue (map.contains_key s.locks.states q.ino.0)
+    each_one q inside =
+        let held = quiet-waits-at (λ _. false) s (record { each_other = λ other part off. rest.each other part }) q inside refl in
+        there q (map.get s.locks.states q.ino.0) _ held.gathers
+
+-- ---- no more are left than there were
+
+pub few-waiting : (b : Bool) (locks : LockMap) (client : ClientId) → length (locks_left b locks client).queue ≤ length locks.queue
+few-waiting false locks client = omega arith
+few-waiting true locks client =
+    let kept = length-filter (λ (q : Request). not (is_of_client client q)) locks.queue in
+    let few = count_by-le-length (λ (q : Request). not (is_of_client client q)) locks.queue in
+    omega (arith, kept, few)
+
+pub few-messages : (b : Bool) (messages : List Ended) (client : ClientId) → length (messages_left b messages client) ≤ length messages
+few-messages false messages client = omega arith
+few-messages true messages client =
+    let kept = length-filter (λ m. not (is_to client m)) messages in
+    let few = count_by-le-length (λ m. not (is_to client m)) messages in
+    omega (arith, kept, few)
+
+-- ---- an event that nothing stops, and the state that it leads to by itself
+
+module _ (old : State) (client : ClientId) (turn : Turn) (passed : judged old.scene (turn_event client turn) ≡ None) (sound : IsSound old) (table : IsTable old.scene.table)
+    (ino : ℕ) (others : StateMap) (reaches : ReachesClient ino client old.scene.table old.scene.locks others) where
+  abbrev e : Event
+  e = turn_event client turn
+
+  abbrev from : ℕ → Bool
+  from = is_touched ino others
+
+  abbrev touched : State
+  touched = turned old client turn
+
+  touches : Touches from old touched
+  touches = turned-touches old client turn sound table from reaches.entries reaches.requests
+
+  by_itself : direct old e ≡ turn_direct old client turn
+  by_itself = direct-turned old client turn passed
+
+  gives-turned : (count : ℕ) → All (λ row. row.entry.seq ≤ count) old.scene.table.rows → All (λ row. row.entry.seq ≤ count) touched.scene.table.rows
+  gives-turned count all = turned-below count (is_end turn) old.scene.table client all
+
+  gives : GivesOne old e
+  gives count given =
+      subst (λ (d : Direct). All (λ row. row.entry.seq ≤ count) d.state.scene.table.rows × (d.state.scene.table.made ≤ count + 1) × (d.state.scene.locks.last ≤ count + 1)) (sym by_itself)
+      (let made = given.made in
+      let last = given.last in
+      let same_made = turned-made (is_end turn) old.scene.table client in
+      let same_last = turned-last (is_end turn) old.scene.locks client in
+      (gives-turned count given.entries, omega (arith, made, same_made), omega (arith, last, same_last)))
+
+  -- ---- what the next calls ask
+
+  pub turn-quiet : IsQuietOutside from touched.scene
+  turn-quiet = let t = touches in rest-outside from old.scene touched.scene sound.at_rest t.same
+
+  pub turn-before : (other : ℕ) → map.contains_key others other ≡ true → map.get others other ≡ map.get touched.scene.locks.states other
+  turn-before other kept = let t = touches in reaches.before other kept ∙ ap (λ (m : StateMap). map.get m other) (sym t.states)
+
+  pub turn-locked : All (λ row. IsTrue (map.contains_key touched.scene.locks.states row.holder.ino.0)) touched.scene.table.rows
+  turn-locked = touches-locked from old touched sound touches
+
+  pub turn-clients : All (λ row. IsTrue (has_session touched.scene.sessions row.holder.client.0)) touched.scene.table.rows
+  turn-clients = touches-clients from old touched sound touches
+
+  pub turn-numbers : NumbersLeft old → All (λ row. row.entry.seq < 2 ^ 64 - 1) touched.scene.table.rows
+  turn-numbers (count, given, less) =
+      All-weaker (λ (row : EntryRow). row.entry.seq ≤ count) (λ (row : EntryRow). row.entry.seq < 2 ^ 64 - 1) (λ row few. omega (arith, few, less)) touched.scene.table.rows
+      (gives-turned count given.entries)
+
+  order-left : (b : Bool) → IsLockMap old.scene.locks → IsLockMap (locks_left b old.scene.locks client)
+  order-left false order = order
+  order-left true order = without_requests_of-kept old.scene.locks client order
+
+  -- ---- the end of the step
+
+  module _ (order : IsLockMap old.scene.locks) (last : Scene) (told : List Ended) (ends : EndsWith from touched.scene last told) (last_table : IsTable last.table) where
+    abbrev settles : SettlesWith ends.at from touched.scene ends.settled told
+    settles = ends.settles
+
+    -- all that were served were of earlier steps
+    all : earlier old.scene.locks.last told ≡ told
+    all =
+        subst (λ n. earlier n told ≡ told) (turned-last (is_end turn) old.scene.locks client)
+        (told-all ends.at from touched.scene ends.settled told settles (order-left (is_end turn) order))
+
+    -- the state at the end
+    abbrev pub turn_closed : State
+    turn_closed = record { scene = last; messages = touched.messages ++ told }
+
+    abbrev by_the_rules : State
+    by_the_rules = state_at_end old (direct old e).state settles.moves (finished_at ends.at (direct old e).state.scene ends.settled)
+
+    same_state : turn_closed ≡ by_the_rules
+    same_state =
+        (λ i. record { scene = ends.finished i; messages = touched.messages ++ (sym all ∙ ap (earlier old.scene.locks.last) settles.ended_is) i })
+        ∙ ap (λ (d : Direct). state_at_end old d.state settles.moves (finished_at ends.at d.state.scene ends.settled)) (sym by_itself)
+
+    pub turn-closed : (said : Said) → said.reply ≡ reply.Done → said.kept ≡ reply.Done → said.ended ≡ dropped_by (is_end turn) old.scene.locks client ++ told
+        → IsAnswered old e said turn_closed
+    turn-closed said replies kept ended =
+        let c =
+        concluded ends.at from old e settles.moves ends.settled sound (subst (λ (d : Direct). Touches from old d.state) (sym by_itself) touches)
+        (subst (λ (d : Direct). IsTable d.state.scene.table) (sym by_itself) (turned-table (is_end turn) old.scene.table client table)) gives
+        (subst (λ (d : Direct). SettlesAt ends.at from settles.moves d.state.scene ends.settled) (sym by_itself) settles.settles) ends.tree
+        (subst (λ (s : State). IsTable s.scene.table) same_state last_table) said.reply turn_closed
+        (replies ∙ sym (ap (λ (d : Direct). reply_of by_the_rules (ended_in settles.moves) d.answer) by_itself))
+        (same_state ∙ sym (ap (λ (d : Direct). shown d.answer by_the_rules) by_itself)) in
+        let ends_so : all_ended old (direct old e) settles.moves ≡ said.ended =
+        (λ i. (by_itself i).dropped ++ earlier old.scene.locks.last (sym settles.ended_is i)) ∙ ap (λ ms. dropped_by (is_end turn) old.scene.locks client ++ ms) all ∙ sym ended in
+        let whole : IsConcluded old e said.reply said.ended turn_closed = subst (λ (ms : List Ended). IsConcluded old e said.reply ms turn_closed) ends_so c in
+        record { step = whole.step; kept = kept ∙ sym replies; sound = whole.sound; issued = whole.issued; given = whole.given }

@@ -1,0 +1,272 @@
+-- A client's session ends, is stale or open again, by itself: it touches the inodes where the client is.
+use Rattle.std.proofs.Common.{◌≡◌, ◌≢◌, ◌≤◌, ℕ, zero, suc, ◌==◌, Bool, true, false, not, cond, Option, Some, None, is_some, List, [], ◌∷◌, refl, sym, ap, subst, ◌∙◌, Contains, true≢false, arith, eq-eqb}
+use Rattle.std.specs.Prelude.{IsTrue, All, filter}
+use Rattle.std.specs.Cmp.{nat_cmp_total}
+use Rattle.std.specs.Option.{option_map_or}
+use Rattle.std.specs.FinMap as map
+use Rattle.std.specs.Ordering.{nat_cmp, eq_by_cmp}
+use Rattle.std.proofs.lemmas.Bool.{eqb-true}
+use Rattle.std.proofs.lemmas.List.Elements.{All-weaker, All-contains, All-contains_itself, All-filter, filter_passes}
+use Rattle.capbits.specs.declared.cap.Part.{Part}
+use Rattle.capbits.specs.declared.ids.ClientId.{ClientId}
+use Rattle.capbits.specs.declared.ids.Ino.{Ino}
+use Rattle.sessiontab.specs.declared.session.Session.{Session}
+use Rattle.sessiontab.specs.declared.session.Status.TheVariants as status
+use Rattle.sessiontab.specs.Connected.{SessionMap, change_session}
+use Rattle.sessiontab.specs.Table.{SessionTable}
+use Rattle.sessiontab.specs.Calls.{has_session}
+use Rattle.sessiontab.proofs.Sound.{same_key}
+use Rattle.captable.specs.declared.entry.EntryRow.{EntryRow}
+use Rattle.captable.specs.Table.{Table, IsTable}
+use Rattle.captable.specs.Calls.{is_of_client, is_of_inode, entries_on, without_client}
+use Rattle.captable.proofs.ByInode.{entries_on-without_client}
+use Rattle.captable.proofs.Tables.{IsTable-without_client}
+use Rattle.lockmachine.specs.declared.request.Request.{Request}
+use Rattle.lockmachine.specs.Inodes.{StateMap}
+use Rattle.lockmachine.specs.Locks.{LockMap, lock_at}
+use Rattle.lockmachine.specs.Requests.{is_of_client as is_asked_by, first_for, is_for}
+use Rattle.lockmachine.specs.Elsewhere.{IsSameOutside}
+use Rattle.lockmachine.specs.Moves.{IsQuiet}
+use Rattle.lockmachine.specs.Scene.{Scene}
+use Rattle.lockmachine.proofs.PolicyElsewhere.{alike-itself}
+use Rattle.lockmachine.proofs.Finding.{contains-filter, fails_at, find_none}
+use Rattle.lockmachine.proofs.SameOutside.{outside-itself, outside-then, outside-dropped}
+use Rattle.capcore.specs.declared.client.Turn.{Turn}
+use Rattle.capcore.specs.declared.client.Turn.TheVariants.{Close, Stale, Renew, Evict}
+use Rattle.capcore.specs.declared.reply.Reply.TheVariants as reply
+use Rattle.capcore.specs.State.{State}
+use Rattle.capcore.specs.Direct.{Direct, Says, direct, effect, effect_unless}
+use Rattle.capcore.specs.Judge.{judged}
+use Rattle.capcore.specs.Messages.{is_to}
+use Rattle.capcore.specs.Sound.{IsSound}
+use Rattle.capcore.specs.Touching.{Touches, IsTouchedEntry}
+use Rattle.capcore.specs.Turn.{turn_event, turned_sessions, is_end, table_left, locks_left, messages_left, dropped_by, turned}
+use Rattle.capcore.proofs.Touched.{IsKeptEntry, kept-left, sound-kept}
+
+-- ---- the event
+
+abbrev pub turn_direct : State → ClientId → Turn → Direct
+turn_direct old client turn = record { state = turned old client turn; answer = Says reply.Done; dropped = dropped_by (is_end turn) old.scene.locks client }
+
+effect-turned : (old : State) (client : ClientId) (turn : Turn) → effect old (turn_event client turn) ≡ turn_direct old client turn
+effect-turned old client Close = refl
+effect-turned old client Stale = refl
+effect-turned old client Renew = refl
+effect-turned old client Evict = refl
+
+pub direct-turned : (old : State) (client : ClientId) (turn : Turn) → judged old.scene (turn_event client turn) ≡ None → direct old (turn_event client turn) ≡ turn_direct old client turn
+direct-turned old client turn free = ap (effect_unless old (turn_event client turn)) free ∙ effect-turned old client turn
+
+-- ---- the sessions of others
+
+module _ (sessions : SessionMap) (client other : ℕ) where
+  by_key : (b : Bool) → eq_by_cmp nat_cmp other client ≡ b → other ≢ client → (new : Option Session) → cond b new (map.get sessions other) ≡ map.get sessions other
+  by_key true is off new = absurd (off (same_key other client is))
+  by_key false is off new = refl
+
+  removed-other : other ≢ client → map.get (map.remove sessions client) other ≡ map.get sessions other
+  removed-other off = map.get-remove nat_cmp_total sessions client other ∙ by_key (eq_by_cmp nat_cmp other client) refl off None
+
+  inserted-other : (session : Session) → other ≢ client → map.get (map.insert sessions client session) other ≡ map.get sessions other
+  inserted-other session off = map.get-insert nat_cmp_total sessions client session other ∙ by_key (eq_by_cmp nat_cmp other client) refl off (Some session)
+
+  changed-other : (f : Session → Session) → other ≢ client → map.get (change_session f sessions client) other ≡ map.get sessions other
+  changed-other f off = by_session (map.get sessions client)
+    where
+      by_session : (o : Option Session) → map.get (option_map_or (λ session. map.insert sessions client (f session)) o sessions) other ≡ map.get sessions other
+      by_session None = refl
+      by_session (Some session) = inserted-other (f session) off
+
+  -- who has a session has one still, if one is changed
+  some-inserted : (session : Session) (b : Bool) → eq_by_cmp nat_cmp other client ≡ b → is_some (map.get sessions client) ≡ true → is_some (cond b (Some session) (map.get sessions other)) ≡ is_some (map.get sessions other)
+  some-inserted session true is there = sym (ap (λ k. is_some (map.get sessions k)) (same_key other client is) ∙ there)
+  some-inserted session false is there = refl
+
+  changed-has : (f : Session → Session) → map.contains_key (change_session f sessions client) other ≡ map.contains_key sessions other
+  changed-has f = by_session (map.get sessions client) refl
+    where
+      by_session : (o : Option Session) → map.get sessions client ≡ o → is_some (map.get (option_map_or (λ session. map.insert sessions client (f session)) o sessions) other) ≡ is_some (map.get sessions other)
+      by_session None is = refl
+      by_session (Some session) is =
+          ap is_some (map.get-insert nat_cmp_total sessions client (f session) other)
+          ∙ some-inserted (f session) (eq_by_cmp nat_cmp other client) refl (ap is_some is)
+
+pub turned-other : (t : SessionTable) (client : ClientId) (turn : Turn) (other : ℕ) → other ≢ client.0 → map.get (turned_sessions t client turn).sessions other ≡ map.get t.sessions other
+turned-other t client Close other off = removed-other t.sessions client.0 other off
+turned-other t client Stale other off = changed-other t.sessions client.0 other (λ session. record session { status = status.Stale }) off
+turned-other t client Renew other off = changed-other t.sessions client.0 other (λ session. record session { status = status.Open }) off
+turned-other t client Evict other off = removed-other t.sessions client.0 other off
+
+-- where the session does not end, it is there
+turned-has : (t : SessionTable) (client : ClientId) (turn : Turn) (other : ℕ) → is_end turn ≡ false → has_session (turned_sessions t client turn) other ≡ has_session t other
+turned-has t client Close other still = absurd (true≢false still)
+turned-has t client Stale other still = changed-has t.sessions client.0 other (λ session. record session { status = status.Stale })
+turned-has t client Renew other still = changed-has t.sessions client.0 other (λ session. record session { status = status.Open })
+turned-has t client Evict other still = absurd (true≢false still)
+
+-- whose session ends is left nowhere
+not_true : (b : Bool) → not b ≡ true → b ≡ false
+not_true true is = absurd (true≢false (sym is))
+not_true false is = refl
+
+apart : (a b : ℕ) → (a == b) ≡ false → a ≢ b
+apart a b off same = true≢false (sym (eq-eqb a b same) ∙ off)
+
+-- ---- what is left
+
+module _ {T : Type 0} (mine : T → Bool) (Q R : T → Type 0) (xs : List T) (all : All Q xs) where
+  -- of those that are not the client's
+  left-ended : ((x : T) → mine x ≡ false → Q x → R x) → All R (filter (λ x. not (mine x)) xs)
+  left-ended keeps =
+      All-weaker (Contains (filter (λ x. not (mine x)) xs)) R one (filter (λ x. not (mine x)) xs) (All-contains_itself (filter (λ x. not (mine x)) xs))
+    where
+      one : (x : T) → Contains (filter (λ x. not (mine x)) xs) x → R x
+      one x inside =
+          let passes = All-contains (λ x. not (mine x) ≡ true) (filter (λ x. not (mine x)) xs) x (filter_passes (λ x. not (mine x)) xs) inside in
+          keeps x (not_true (mine x) passes) (All-contains Q xs x all (contains-filter (λ x. not (mine x)) xs x inside))
+
+module _ (old : State) (client : ClientId) (turn : Turn) (sound : IsSound old) (table : IsTable old.scene.table) where
+  abbrev sessions : SessionTable
+  sessions = turned_sessions old.scene.sessions client turn
+
+  -- the session of another client, or any where none ends
+  has_by : (b : Bool) → is_end turn ≡ b → (other : ℕ) → (b ≡ true → (other == client.0) ≡ false) → has_session sessions other ≡ has_session old.scene.sessions other
+  has_by true is other off = ap is_some (turned-other old.scene.sessions client turn other (apart other client.0 (off refl)))
+  has_by false is other off = turned-has old.scene.sessions client turn other is
+
+  -- ---- outside of where the client is
+
+  module _ (from : ℕ → Bool) (entries : (row : EntryRow) → Contains old.scene.table.rows row → is_of_client client row ≡ true → from row.holder.ino.0 ≡ true)
+      (requests : (q : Request) → Contains old.scene.locks.queue q → is_asked_by client q ≡ true → from q.ino.0 ≡ true) where
+    abbrev with_theirs : Scene
+    with_theirs = record old.scene { sessions = sessions }
+
+    not_mine : (row : EntryRow) → Contains old.scene.table.rows row → from row.holder.ino.0 ≡ false → is_of_client client row ≡ false
+    not_mine row inside off = by_test (is_of_client client row) refl
+      where
+        by_test : (b : Bool) → is_of_client client row ≡ b → b ≡ false
+        by_test true mine = absurd (true≢false (sym (entries row inside mine) ∙ off))
+        by_test false mine = refl
+
+    outside-sessions : IsSameOutside from old.scene with_theirs
+    outside-sessions = record {
+      fs = refl;
+      sessions = λ row inside off. turned-other old.scene.sessions client turn row.holder.client.0 (apart row.holder.client.0 client.0 (not_mine row inside off));
+      entries = λ other off. refl;
+      locks = λ other part off. refl;
+      waiting = λ other part off. refl;
+      places = λ other off. refl;
+      alike = λ other off. alike-itself old.scene.tree other;
+    }
+
+    -- of those on another inode none is the client's
+    others-left : (other : Ino) → from other.0 ≡ false → entries_on (without_client old.scene.table client) other ≡ entries_on old.scene.table other
+    others-left other off =
+        entries_on-without_client old.scene.table client other
+        ∙ all_pass (λ row. not (is_of_client client row)) (entries_on old.scene.table other)
+        (λ row inside.
+        let on = All-contains (λ row. is_of_inode other row ≡ true) (entries_on old.scene.table other) row (filter_passes (is_of_inode other) old.scene.table.rows) inside in
+        ap not (not_mine row (contains-filter (is_of_inode other) old.scene.table.rows row inside) (ap from (eqb-true row.holder.ino.0 other.0 on) ∙ off)))
+      where
+        all_pass : (p : EntryRow → Bool) (rows : List EntryRow) → ((row : EntryRow) → Contains rows row → p row ≡ true) → filter p rows ≡ rows
+        all_pass p [] passes = refl
+        all_pass p (row ∷ rows) passes =
+            ap (λ b. cond b (row ∷ filter p rows) (filter p rows)) (passes row (zero, omega arith, refl))
+            ∙ ap (λ rest. row ∷ rest) (all_pass p rows (λ r (inside : Contains rows r). passes r (suc inside.0, omega (arith, inside.1), inside.2)))
+
+    outside-left : (b : Bool) → IsSameOutside from with_theirs (record with_theirs { table = table_left b old.scene.table client; locks = locks_left b old.scene.locks client })
+    outside-left false = outside-itself from with_theirs
+    outside-left true =
+        outside-then from with_theirs (record with_theirs { table = without_client old.scene.table client }) _
+        (record {
+          fs = refl;
+          sessions = λ row inside off. refl;
+          entries = others-left;
+          locks = λ other part off. refl;
+          waiting = λ other part off. refl;
+          places = λ other off. refl;
+          alike = λ other off. alike-itself old.scene.tree other;
+        })
+        (outside-dropped from (record with_theirs { table = without_client old.scene.table client }) client requests)
+
+    -- ---- what is left there
+
+    left-states : (b : Bool) → (locks_left b old.scene.locks client).states ≡ old.scene.locks.states
+    left-states false = refl
+    left-states true = refl
+
+    abbrev HasSession : ClientId → Type 0
+    HasSession other = IsTrue (has_session sessions other.0)
+
+    left-waiting : (b : Bool) → is_end turn ≡ b → All (λ q. HasSession q.client) (locks_left b old.scene.locks client).queue
+    left-waiting false is =
+        All-weaker (λ q. IsTrue (has_session old.scene.sessions q.client.0)) (λ q. HasSession q.client) (λ q has. has_by false is q.client.0 (λ e. absurd (true≢false (sym e))) ∙ has) old.scene.locks.queue sound.waiting
+    left-waiting true is =
+        left-ended (is_asked_by client) (λ q. IsTrue (has_session old.scene.sessions q.client.0)) (λ q. HasSession q.client) old.scene.locks.queue sound.waiting
+        (λ q off has. has_by true is q.client.0 (λ e. off) ∙ has)
+
+    left-messages : (b : Bool) → is_end turn ≡ b → All (λ m. HasSession m.client) (messages_left b old.messages client)
+    left-messages false is =
+        All-weaker (λ m. IsTrue (has_session old.scene.sessions m.client.0)) (λ m. HasSession m.client) (λ m has. has_by false is m.client.0 (λ e. absurd (true≢false (sym e))) ∙ has) old.messages sound.messages
+    left-messages true is =
+        left-ended (is_to client) (λ m. IsTrue (has_session old.scene.sessions m.client.0)) (λ m. HasSession m.client) old.messages sound.messages
+        (λ m off has. has_by true is m.client.0 (λ e. off) ∙ has)
+
+    -- nobody waits where nobody waited
+    left-none : (b : Bool) (ino : ℕ) (part : Part) → first_for old.scene.locks.queue ino part ≡ None → first_for (locks_left b old.scene.locks client).queue ino part ≡ None
+    left-none false ino part none = none
+    left-none true ino part none =
+        let kept : Request → Bool = λ q. not (is_asked_by client q) in
+        find_none (is_for ino part) (filter kept old.scene.locks.queue)
+        (λ q inside. fails_at (is_for ino part) old.scene.locks.queue none q (contains-filter kept old.scene.locks.queue q inside))
+
+    left-lock : (b : Bool) (ino : ℕ) (part : Part) → lock_at (locks_left b old.scene.locks client) ino part ≡ lock_at old.scene.locks ino part
+    left-lock false ino part = refl
+    left-lock true ino part = refl
+
+    -- each entry is left as it was
+    abbrev first : Scene
+    first = (turned old client turn).scene
+
+    one-left : (row : EntryRow) → has_session sessions row.holder.client.0 ≡ has_session old.scene.sessions row.holder.client.0 → IsKeptEntry old.scene row → IsTouchedEntry first row
+    one-left row has kept = kept-left old.scene first row has (left-states (is_end turn)) (λ ino. refl) kept
+
+    left-entries : (b : Bool) → is_end turn ≡ b → All (IsTouchedEntry first) (table_left b old.scene.table client).rows
+    left-entries false is =
+        All-weaker (IsKeptEntry old.scene) (IsTouchedEntry first) (λ row kept. one-left row (has_by false is row.holder.client.0 (λ e. absurd (true≢false (sym e)))) kept) old.scene.table.rows
+        (sound-kept old sound table)
+    left-entries true is =
+        left-ended (is_of_client client) (IsKeptEntry old.scene) (IsTouchedEntry first) old.scene.table.rows (sound-kept old sound table)
+        (λ row off kept. one-left row (has_by true is row.holder.client.0 (λ e. off)) kept)
+
+    pub turned-touches : Touches from old (turned old client turn)
+    turned-touches = record {
+      same = outside-then from old.scene with_theirs first outside-sessions (outside-left (is_end turn));
+      states = left-states (is_end turn);
+      known = λ other. refl;
+      locked = λ other. ap (λ (m : StateMap). map.contains_key m other) (left-states (is_end turn)) ∙ sound.locked other;
+      waiting = left-waiting (is_end turn) refl;
+      messages = left-messages (is_end turn) refl;
+      at_lock = λ ino part on none.
+          left-none (is_end turn) ino part
+          (subst (IsQuiet old.scene ino part) (sym (left-lock (is_end turn) ino part) ∙ none) (let rest = sound.at_rest in rest.each ino part));
+      each = λ row inside on. All-contains (IsTouchedEntry first) first.table.rows row (left-entries (is_end turn) refl) inside;
+    }
+
+-- ---- the table, and numbers
+
+pub turned-table : (b : Bool) (t : Table) (client : ClientId) → IsTable t → IsTable (table_left b t client)
+turned-table false t client is = is
+turned-table true t client is = IsTable-without_client t client is
+
+pub turned-below : (count : ℕ) (b : Bool) (t : Table) (client : ClientId) → All (λ row. row.entry.seq ≤ count) t.rows → All (λ row. row.entry.seq ≤ count) (table_left b t client).rows
+turned-below count false t client all = all
+turned-below count true t client all = All-filter (λ row. not (is_of_client client row)) (λ row. row.entry.seq ≤ count) t.rows all
+
+pub turned-made : (b : Bool) (t : Table) (client : ClientId) → (table_left b t client).made ≡ t.made
+turned-made false t client = refl
+turned-made true t client = refl
+
+pub turned-last : (b : Bool) (locks : LockMap) (client : ClientId) → (locks_left b locks client).last ≡ locks.last
+turned-last false locks client = refl
+turned-last true locks client = refl

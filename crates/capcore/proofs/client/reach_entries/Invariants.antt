@@ -1,0 +1,15 @@
+use Rattle.std.proofs.Common.{Contains, length}
+use Rattle.captable.specs.declared.entry.EntryRow.{EntryRow}
+use Rattle.capcore.specs.Sweep.{Keeps}
+use Rattle.capcore.proofs.Reaching.{AreReached}
+use Rattle.capcore.proofs.client.reach_entries.Given as goal
+
+abbrev pub decreases-rows : goal.decreases-rows
+decreases-rows l = length l.walk
+
+abbrev pub invariant-rows : goal.invariant-rows
+invariant-rows l = record {
+  keeps : Keeps 1 l.locks.states l.fn.others l.others;
+  reached : AreReached 1 l.others l.initial.walk l.walk;
+  among : (row : EntryRow) → Contains l.walk row → Contains l.table.rows row;
+}

@@ -1,0 +1,147 @@
+use Rattle.std.proofs.Common.{◌≡◌, ◌≤◌, ◌<◌, ◌^◌, ◌-◌, ◌++◌, List, length, None, sym, ap, subst, ◌∙◌, arith, length-append}
+use Rattle.std.specs.Prelude.{All, IsTrue}
+use Rattle.std.specs.FinMap as map
+use Rattle.std.specs.Option.{option_map}
+use Rattle.sessiontab.specs.Calls.{has_session}
+use Rattle.captable.specs.Table.{IsTable}
+use Rattle.lockmachine.specs.Moves.{IsQuietOutside}
+use Rattle.lockmachine.specs.Scene.{Scene}
+use Rattle.capcore.specs.declared.event.Event.{Event}
+use Rattle.capcore.specs.declared.outcome.Ended.{Ended}
+use Rattle.capcore.specs.declared.stopped.Stopped.TheVariants.{ByTest}
+use Rattle.capcore.specs.State.{State}
+use Rattle.capcore.specs.Answered.{IsAnswered}
+use Rattle.capcore.specs.Judge.{judged}
+use Rattle.capcore.specs.Serves.{EndsWith, is_touched}
+use Rattle.capcore.specs.Sound.{IsSound, NumbersLeft}
+use Rattle.capcore.specs.Turn.{turn_event, turned, is_end, dropped_by}
+use Rattle.capcore.proofs.Stops.{stopped-answered}
+use Rattle.capcore.proofs.TurnStep.{turn-stop, waiting-locked, few-waiting, few-messages, turn-quiet, turn-locked, turn-clients, turn-numbers, turn-closed}
+use Rattle.capcore.proofs.world.World.turn.Goals as goal
+use Rattle.capcore.proofs.world.World.turn.Goals.{After-leave, After-close_dropped}
+
+-- ---- one that is stopped
+
+pub returns-in-Some-clause-answered : goal.returns-in-Some-clause-answered
+returns-in-Some-clause-answered c =
+    let s = c.args.self.now in
+    let known : IsSound s × IsTable s.scene.table = subst (λ (w : State). IsSound w × IsTable w.scene.table) c.self.view_is (c.self.invariant.0, c.oldest-oldest.ensures.sound) in
+    let inside : State = record { scene = record { fs = c.self.inside.fs; tree = c.self.inside.tree; sessions = c.self.inside.sessions; table = c.self.inside.table; locks = c.self.inside.locks }; messages = c.self.inside.messages.items } in
+    stopped-answered s (turn_event c.args.client c.args.turn) (ByTest c.in-Some.refusal) c.alone.result known.0 known.1
+    (ap (λ (w : State). judged w.scene (turn_event c.args.client c.args.turn)) (sym c.self.view_is) ∙ turn-stop inside.scene c.args.client c.args.turn ∙ ap (option_map ByTest) (sym c.turn_refusal.ensures ∙ c.in-Some.is))
+    c.alone.ensures.reply (c.alone.ensures.kept ∙ sym c.alone.ensures.reply) c.alone.ensures.ended
+
+pub new-requires-clause-waiting : goal.new-requires-clause-waiting
+new-requires-clause-waiting c =
+    let s : Scene = record { fs = c.self.inside.fs; tree = c.self.inside.tree; sessions = c.self.inside.sessions; table = c.self.inside.table; locks = c.self.inside.locks } in
+    let sound = c.self.invariant.0 in
+    waiting-locked s sound.at_rest
+
+-- ---- one that nothing stops, by itself
+
+module _ (c : After-leave) where
+  abbrev old : State
+  old = record { scene = record { fs = c.self.inside.fs; tree = c.self.inside.tree; sessions = c.self.inside.sessions; table = c.self.inside.table; locks = c.self.inside.locks }; messages = c.self.inside.messages.items }
+
+  abbrev e : Event
+  e = turn_event c.args.client c.args.turn
+
+  abbrev first : Scene
+  first = record old.scene { sessions = c.turn_session.new.sessions; table = c.leave.new.table; locks = c.leave.new.locks }
+
+  passed : judged old.scene e ≡ None
+  passed = turn-stop old.scene c.args.client c.args.turn ∙ ap (option_map ByTest) (sym c.turn_refusal.ensures ∙ c.in_default.is)
+
+  is : first ≡ (turned old c.args.client c.args.turn).scene
+  is = λ i. record old.scene { sessions = c.in_default-turn_session.ensures.ok i; table = c.leave.ensures.table i; locks = c.leave.ensures.locks i }
+
+  fewer : length c.leave.new.locks.queue ≤ length c.self.inside.locks.queue
+  fewer = rw c.leave.ensures.locks (few-waiting (is_end c.args.turn) c.self.inside.locks c.args.client)
+
+  numbers : NumbersLeft old
+  numbers = subst NumbersLeft (sym c.self.view_is) c.requires.numbers
+
+pub end_at-requires-clause-quiet : goal.end_at-requires-clause-quiet
+end_at-requires-clause-quiet g =
+    let c = (goal.at.end_at-requires-clause-quiet g).After-leave in
+    subst (IsQuietOutside (is_touched 1 c.in_ok-room.room.others)) (sym (is c))
+    (turn-quiet (old c) c.args.client c.args.turn (passed c) c.self.invariant.0 c.oldest-oldest.ensures.sound 1 c.in_ok-room.room.others c.in_ok-room.ensures.reaches)
+
+pub end_at-requires-clause-told : goal.end_at-requires-clause-told
+end_at-requires-clause-told g =
+    let c = (goal.at.end_at-requires-clause-told g).After-leave in
+    let told = c.in_ok-room.ensures.told in
+    let none = ap length told.0 in
+    omega (arith, none, told.1, fewer c)
+
+pub end_at-requires-clause-kept : goal.end_at-requires-clause-kept
+end_at-requires-clause-kept g =
+    let c = (goal.at.end_at-requires-clause-kept g).After-leave in
+    let kept = c.in_ok-room.ensures.kept in
+    let none = ap length kept.0 in
+    omega (arith, none, kept.1, fewer c)
+
+pub end_at-requires-clause-locked : goal.end_at-requires-clause-locked
+end_at-requires-clause-locked g =
+    let c = (goal.at.end_at-requires-clause-locked g).After-leave in
+    subst (λ (s : Scene). All (λ row. IsTrue (map.contains_key s.locks.states row.holder.ino.0)) s.table.rows) (sym (is c))
+    (turn-locked (old c) c.args.client c.args.turn (passed c) c.self.invariant.0 c.oldest-oldest.ensures.sound 1 c.in_ok-room.room.others c.in_ok-room.ensures.reaches)
+
+pub end_at-requires-clause-numbers : goal.end_at-requires-clause-numbers
+end_at-requires-clause-numbers g =
+    let c = (goal.at.end_at-requires-clause-numbers g).After-leave in
+    subst (λ (s : Scene). All (λ row. row.entry.seq < 2 ^ 64 - 1) s.table.rows) (sym (is c))
+    (turn-numbers (old c) c.args.client c.args.turn (passed c) c.self.invariant.0 c.oldest-oldest.ensures.sound 1 c.in_ok-room.room.others c.in_ok-room.ensures.reaches (numbers c))
+
+pub end_at-requires-clause-clients : goal.end_at-requires-clause-clients
+end_at-requires-clause-clients g =
+    let c = (goal.at.end_at-requires-clause-clients g).After-leave in
+    subst (λ (s : Scene). All (λ row. IsTrue (has_session s.sessions row.holder.client.0)) s.table.rows) (sym (is c))
+    (turn-clients (old c) c.args.client c.args.turn (passed c) c.self.invariant.0 c.oldest-oldest.ensures.sound 1 c.in_ok-room.room.others c.in_ok-room.ensures.reaches)
+
+-- ---- the end of the step
+
+module _ (g : After-close_dropped) where
+  abbrev c : After-leave
+  c = (goal.at.invariant_of-self-2 g).After-leave
+
+  abbrev told : List Ended
+  told = g.end_at.new.endings.told.items
+
+  abbrev last : Scene
+  last = record { fs = g.self.inside.fs; tree = g.end_at.new.tree; sessions = g.turn_session.new.sessions; table = g.end_at.new.table; locks = g.end_at.new.locks }
+
+  abbrev new : State
+  new = record { scene = last; messages = g.close_dropped.new.messages.items }
+
+  ends : EndsWith (is_touched 1 g.in_ok-room.room.others) (turned (old c) g.args.client g.args.turn).scene last told
+  ends = subst (λ (s : Scene). EndsWith (is_touched 1 g.in_ok-room.room.others) s last told) (is c) g.end_at.ensures.ends
+
+  items : g.close_dropped.new.messages.items ≡ (turned (old c) g.args.client g.args.turn).messages ++ told
+  items = g.close_dropped.ensures.items ∙ ap (λ ms. ms ++ told) g.leave.ensures.messages
+
+  whole : IsAnswered (old c) (e c) g.close_dropped.result new
+  whole =
+      subst (λ (ms : List Ended). IsAnswered (old c) (e c) g.close_dropped.result (record { scene = last; messages = ms })) (sym items)
+      (turn-closed (old c) g.args.client g.args.turn (passed c) g.self.invariant.0 g.oldest-oldest.ensures.sound 1 g.in_ok-room.room.others g.in_ok-room.ensures.reaches
+      g.waiting-waiting.ensures.sound last told ends g.end_at.ensures.table g.close_dropped.result g.close_dropped.ensures.reply g.close_dropped.ensures.kept
+      (g.close_dropped.ensures.ended ∙ (λ i. (g.leave.ensures.dropped ∙ ap (λ ms. ms ++ dropped_by (is_end g.args.turn) g.self.inside.locks g.args.client) g.in_ok-room.ensures.dropped.0) i ++ g.end_at.ensures.kept i)))
+
+pub close_dropped-requires-clause-room : goal.close_dropped-requires-clause-room
+close_dropped-requires-clause-room g =
+    let c = (goal.at.close_dropped-requires-clause-room g).After-leave in
+    let few = few-messages (is_end g.args.turn) g.self.inside.messages.items g.args.client in
+    let left = ap length g.leave.ensures.messages in
+    omega (arith, few, left, fewer c, g.leave.ensures.left, g.end_at.ensures.count, g.self.invariant.1)
+
+pub invariant_of-self-2 : goal.invariant_of-self-2
+invariant_of-self-2 g =
+    let w = whole g in
+    let few = few-messages (is_end g.args.turn) g.self.inside.messages.items g.args.client in
+    let left = ap length g.leave.ensures.messages in
+    let items = ap length g.close_dropped.ensures.items ∙ length-append g.leave.new.messages.items (told g) in
+    (w.sound, omega (arith, few, left, items, fewer (c g), g.leave.ensures.left, g.close_dropped.ensures.room, g.end_at.ensures.count, g.self.invariant.1))
+
+pub returns-clause-answered : goal.returns-clause-answered
+returns-clause-answered g =
+    subst (λ (s : State). IsAnswered s (turn_event g.args.client g.args.turn) g.close_dropped.result (new g)) g.self.view_is (whole g)

@@ -1,0 +1,273 @@
+//! Steps by which a client's session ends, becomes stale or is open again.
+ghost use Rattle.std.specs.Prelude.{◌≡◌, ◌+◌, ◌≤◌, ◌++◌, true, [], None, All, IsTrue, Contains, length, map as each, IfOk, IfErr, OnOk, OnErr};
+ghost use Rattle.std.specs.FinMap as map;
+ghost use Rattle.capbits.specs.Refusal.{first_failing};
+ghost use Rattle.captable.specs.declared.entry.EntryRow.{EntryRow};
+ghost use Rattle.captable.specs.Calls.{is_of_client};
+ghost use Rattle.lockmachine.specs.declared.request.Request.{Request};
+ghost use Rattle.lockmachine.specs.Locks.{requests_of, without_requests_of};
+ghost use Rattle.lockmachine.specs.Requests.{is_of_client as is_asked_by};
+ghost use Rattle.capcore.specs.Answered.{IsAnswered};
+ghost use Rattle.capcore.specs.Direct.{dropped_of};
+ghost use Rattle.capcore.specs.Serves.{is_touched};
+ghost use Rattle.capcore.specs.Sound.{NumbersLeft};
+ghost use Rattle.capcore.specs.Sweep.{Keeps};
+ghost use Rattle.capcore.specs.Turn.{ReachesClient, turn_event, turn_tests, turned_sessions, is_end};
+ghost use Rattle.capcore.specs.Turn as words;
+
+use crate::ended::close_dropped;
+use crate::history::Stop;
+use crate::messages::{Endings, Messages};
+use crate::outcome::{Ended, Outcome};
+use crate::reach::keep;
+use crate::reply::{Reply, Said};
+use crate::settle::end_at;
+use crate::world::World;
+use capbits::{ClientId, Ino, Refusal};
+use captable::CapTable;
+use inotree::ROOT;
+use lockmachine::{Locks, States};
+use sessiontab::Sessions;
+use std::alloc::{AllocError, Global};
+
+// What becomes of a client's session.
+#[derive(Clone, Copy, Debug)]
+pub(crate) enum Turn {
+    // The client ends it.
+    Close,
+    // It is stale.
+    Stale,
+    // It is open again.
+    Renew,
+    // The client is thrown out.
+    Evict,
+}
+
+// What the step takes, made before anything changes.
+#[derive(Debug, Drop)]
+struct Room {
+    // The locks of each inode that the client has an entry on or waits for, but for the root's.
+    others: States,
+    // For each request that waits, in case that it is served,
+    endings: Endings,
+    // or dropped.
+    dropped: Messages,
+}
+
+impl World {
+    // A step of a client's session. Where it ends, the client's requests are dropped, its entries go, and nobody is told what it
+    // was still to be told of. Then the locks settle of all inodes that the client had an entry on or waited for, and it ends
+    // there.
+    pub(crate) fn turn(&mut self, client: ClientId, turn: Turn) -> Result<Said, Stop>
+        requires numbers { NumbersLeft self.old }
+        ensures answered { IfOk result (λ said. IsAnswered self.old (turn_event client turn) said self.new) }
+        ensures err { OnErr result (self.new ≡ self.old) }
+        ensures memory { IfErr result (λ stop. stop ≡ Stop.NoMemory) }
+    {
+        // A look at the entries and at the locks, by which the proof knows what they keep.
+        let (_oldest, _waiting) = (self.table.oldest(), self.locks.waiting());
+        if let Some(refusal) = turn_refusal(&self.sessions, client, turn) {
+            return Ok(Said::alone(self.alloc(), Reply::Refused(refusal)));
+        }
+        let mut room = Room::new(self.alloc(), &self.table, &self.locks, client)?;
+        if let Err(refused) = turn_session(&mut self.sessions, client, turn) {
+            drop(room);
+            return Err(refused.into());
+        }
+        let (table, locks, messages) = (&mut self.table, &mut self.locks, &mut self.messages);
+        leave(table, locks, messages, client, turn, &mut room.dropped);
+        let Room {
+            others,
+            mut endings,
+            dropped,
+        } = room;
+        end_at(
+            &self.fs,
+            &mut self.tree,
+            &self.sessions,
+            &mut self.table,
+            &mut self.locks,
+            ROOT,
+            others,
+            &mut endings,
+        );
+        Ok(close_dropped(&mut self.messages, dropped, endings))
+    }
+}
+
+// ---- the session
+
+// The first test that fails.
+fn turn_refusal(sessions: &Sessions, client: ClientId, turn: Turn) -> Option<Refusal>
+    ensures { result ≡ first_failing (turn_tests sessions.now client turn) }
+{
+    match turn {
+        Turn::Close => sessions.connected_refusal(client),
+        Turn::Stale => sessions.session_refusal(client),
+        Turn::Renew => sessions.renew_refusal(client),
+        Turn::Evict => sessions.evict_refusal(client),
+    }
+}
+
+// The session ends, or has another status. An eviction alone takes memory: for want of it nothing changes.
+fn turn_session(sessions: &mut Sessions, client: ClientId, turn: Turn) -> Result<(), AllocError>
+    requires passed { first_failing (turn_tests sessions.old client turn) ≡ None }
+    ensures ok { OnOk result (sessions.new ≡ turned_sessions sessions.old client turn) }
+    ensures err { OnErr result (sessions.new ≡ sessions.old) }
+{
+    match turn {
+        Turn::Close => sessions.close_session(client),
+        Turn::Stale => sessions.mark_stale(client),
+        Turn::Renew => sessions.renew(client),
+        Turn::Evict => sessions.evict(client)?,
+    }
+    Ok(())
+}
+
+// ---- what goes with it
+
+// Where the session ends, takes out all that is the client's, and lists its requests as dropped.
+fn leave(
+    table: &mut CapTable,
+    locks: &mut Locks,
+    messages: &mut Messages,
+    client: ClientId,
+    turn: Turn,
+    dropped: &mut Messages,
+)
+    requires room { length dropped.old.items + length locks.old.queue ≤ dropped.old.room }
+    ensures table { table.new ≡ words.table_left (is_end turn) table.old client }
+    ensures locks { locks.new ≡ words.locks_left (is_end turn) locks.old client }
+    ensures messages { messages.new.items ≡ words.messages_left (is_end turn) messages.old.items client }
+    ensures left { messages.new.room ≡ messages.old.room }
+    ensures dropped { dropped.new.items ≡ dropped.old.items ++ words.dropped_by (is_end turn) locks.old client }
+    ensures room { length dropped.new.items + length locks.new.queue ≤ dropped.new.room }
+{
+    match turn {
+        Turn::Close | Turn::Evict => {
+            table.drop_client(client);
+            messages.remove_to(client);
+            drop_requests(locks, client, dropped);
+        }
+        Turn::Stale | Turn::Renew => {}
+    }
+}
+
+// Takes the client's requests out, and lists them, the oldest first.
+fn drop_requests(locks: &mut Locks, client: ClientId, dropped: &mut Messages)
+    requires room { length dropped.old.items + length locks.old.queue ≤ dropped.old.room }
+    ensures locks { locks.new ≡ without_requests_of locks.old client }
+    ensures dropped { dropped.new.items ≡ dropped.old.items ++ each dropped_of (requests_of locks.old client) }
+    ensures room { length dropped.new.items + length locks.new.queue ≤ dropped.new.room }
+{
+    // A look at the locks, by which the proof knows what they keep.
+    let _waiting = locks.waiting();
+    'requests: while let Some(ticket) = locks.drop_client(client) {
+        let outcome = Outcome::Dropped;
+        dropped.push(Ended {
+            client,
+            ticket,
+            outcome,
+        });
+    }
+}
+
+// ---- room
+
+impl Room {
+    // The locks of all inodes where the client is, and room for each request that waits.
+    fn new(
+        alloc: Global,
+        table: &CapTable,
+        locks: &Locks,
+        client: ClientId,
+    ) -> Result<Room, AllocError>
+        requires locked { All (λ row. IsTrue (map.contains_key locks.now.states row.holder.ino.0)) table.now.rows }
+        requires waiting { All (λ q. IsTrue (map.contains_key locks.now.states q.ino.0)) locks.now.queue }
+        ensures reaches { IfOk result (λ room. ReachesClient 1 client table.now locks.now room.others) }
+        ensures told { IfOk result (λ room. (room.endings.told.items ≡ []) × (length locks.now.queue ≤ room.endings.told.room)) }
+        ensures kept { IfOk result (λ room. (room.endings.kept.items ≡ []) × (length locks.now.queue ≤ room.endings.kept.room)) }
+        ensures dropped { IfOk result (λ room. (room.dropped.items ≡ []) × (length locks.now.queue ≤ room.dropped.room)) }
+    {
+        let others = reach_client(alloc, table, locks, client)?;
+        let Ok(endings) = Endings::with_room(alloc, locks.waiting()) else {
+            drop(others);
+            return Err(AllocError);
+        };
+        match Messages::with_room(alloc, locks.waiting()) {
+            Ok(dropped) => Ok(Room {
+                others,
+                endings,
+                dropped,
+            }),
+            Err(refused) => {
+                drop(others);
+                drop(endings);
+                Err(refused)
+            }
+        }
+    }
+}
+
+// The locks, as they are, of each inode that the client has an entry on or waits for, but for the root's.
+fn reach_client(
+    alloc: Global,
+    table: &CapTable,
+    locks: &Locks,
+    client: ClientId,
+) -> Result<States, AllocError>
+    requires locked { All (λ row. IsTrue (map.contains_key locks.now.states row.holder.ino.0)) table.now.rows }
+    requires waiting { All (λ q. IsTrue (map.contains_key locks.now.states q.ino.0)) locks.now.queue }
+    ensures { IfOk result (λ others. ReachesClient 1 client table.now locks.now others) }
+{
+    let mut others = States::new(alloc);
+    reach_entries(table, locks, client, &mut others)?;
+    reach_requests(locks, client, &mut others)?;
+    Ok(others)
+}
+
+// Keeps the locks of each inode that the client has an entry on, but for the root's.
+fn reach_entries(
+    table: &CapTable,
+    locks: &Locks,
+    client: ClientId,
+    others: &mut States,
+) -> Result<(), AllocError>
+    requires locked { All (λ row. IsTrue (map.contains_key locks.now.states row.holder.ino.0)) table.now.rows }
+    ensures keeps { Keeps 1 locks.now.states others.old others.new }
+    ensures reaches { OnOk result ((row : EntryRow) → Contains table.now.rows row → is_of_client client row ≡ true
+        → is_touched 1 others.new row.holder.ino.0 ≡ true) }
+{
+    let mut walk = table.entries_of(client);
+    'rows: while let Some(row) = walk.next() {
+        keep_other(locks, row.holder.ino, others)?;
+    }
+    Ok(())
+}
+
+// Keeps the locks of each inode that the client waits for, but for the root's.
+fn reach_requests(locks: &Locks, client: ClientId, others: &mut States) -> Result<(), AllocError>
+    requires waiting { All (λ q. IsTrue (map.contains_key locks.now.states q.ino.0)) locks.now.queue }
+    ensures keeps { Keeps 1 locks.now.states others.old others.new }
+    ensures reaches { OnOk result ((q : Request) → Contains locks.now.queue q → is_asked_by client q ≡ true
+        → is_touched 1 others.new q.ino.0 ≡ true) }
+{
+    for request in locks.requests() {
+        if request.client.0 == client.0 {
+            keep_other(locks, request.ino, others)?;
+        }
+    }
+    Ok(())
+}
+
+// Keeps the locks of the inode as they are, if it is not the root.
+fn keep_other(locks: &Locks, ino: Ino, others: &mut States) -> Result<(), AllocError>
+    requires locked { map.contains_key locks.now.states ino.0 ≡ true }
+    ensures keeps { Keeps 1 locks.now.states others.old others.new }
+    ensures reaches { OnOk result (is_touched 1 others.new ino.0 ≡ true) }
+{
+    if ino == ROOT {
+        return Ok(());
+    }
+    keep(locks, ino, others)
+}
