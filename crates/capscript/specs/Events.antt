@@ -26,6 +26,10 @@ use Rattle.capscript.specs.Words.{parts, command_in}
 -- the client that the event is about; a recall is about none
 abbrev pub client_of : Event → Option ClientId
 client_of (events.Session client caller grants) = Some client
+client_of (events.CloseSession client) = Some client
+client_of (events.Stale client) = Some client
+client_of (events.Renew client) = Some client
+client_of (events.Evict client) = Some client
 client_of (events.Unblock client) = Some client
 client_of (events.Recall count) = None
 client_of (events.Lookup client dir name) = Some client
@@ -214,6 +218,10 @@ poll_by arguments = Faulty faults.Count
 -- a command with its arguments
 abbrev pub said_with : Command → List (List ℕ) → Line
 said_with commands.Session arguments = session_by arguments
+said_with commands.CloseSession arguments = client_by events.CloseSession arguments
+said_with commands.Stale arguments = client_by events.Stale arguments
+said_with commands.Renew arguments = client_by events.Renew arguments
+said_with commands.Evict arguments = client_by events.Evict arguments
 said_with commands.Unblock arguments = client_by events.Unblock arguments
 said_with commands.Recall arguments = recall_by arguments
 said_with commands.Lookup arguments = named_by events.Lookup arguments

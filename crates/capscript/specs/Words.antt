@@ -3,7 +3,7 @@ use Rattle.std.specs.Prelude.{◌==◌, not, ℕ, Bool, Result, List, [], ◌∷
 use Rattle.std.specs.List.{list_all, slice_split, join_with_byte}
 use Rattle.std.specs.Option.{ok_or}
 use Rattle.capscript.specs.declared.command.Command.{Command}
-use Rattle.capscript.specs.declared.command.Command.TheVariants.{Session, Unblock, Recall, Lookup, Create, Mkdir, MakeSnapshot, RemoveSnapshot, Open, Want, Ack, Release, Get, Alter, Unlink, Rmdir, Rename, Flush, Poll}
+use Rattle.capscript.specs.declared.command.Command.TheVariants.{Session, CloseSession, Stale, Renew, Evict, Unblock, Recall, Lookup, Create, Mkdir, MakeSnapshot, RemoveSnapshot, Open, Want, Ack, Release, Get, Alter, Unlink, Rmdir, Rename, Flush, Poll}
 use Rattle.capscript.specs.declared.fault.LineFault.{LineFault}
 use Rattle.capscript.specs.declared.fault.LineFault.TheVariants as faults
 
@@ -35,6 +35,10 @@ is_one_word part = list_all (λ b. not (is_space b)) part
 -- the first word of a line with the command
 abbrev pub command_word : Command → List ℕ
 command_word Session = codes "session"
+command_word CloseSession = codes "close"
+command_word Stale = codes "stale"
+command_word Renew = codes "renew"
+command_word Evict = codes "evict"
 command_word Unblock = codes "unblock"
 command_word Recall = codes "recall"
 command_word Lookup = codes "lookup"
@@ -56,7 +60,8 @@ command_word Poll = codes "poll"
 
 abbrev pub commands : List Command
 commands =
-    Session ∷ Unblock ∷ Recall ∷ Lookup ∷ Create ∷ Mkdir ∷ MakeSnapshot ∷ RemoveSnapshot ∷ Open ∷ Want ∷ Ack ∷ Release
+    Session ∷ CloseSession ∷ Stale ∷ Renew ∷ Evict ∷ Unblock ∷ Recall
+    ∷ Lookup ∷ Create ∷ Mkdir ∷ MakeSnapshot ∷ RemoveSnapshot ∷ Open ∷ Want ∷ Ack ∷ Release
     ∷ Get ∷ Alter ∷ Unlink ∷ Rmdir ∷ Rename ∷ Flush ∷ Poll ∷ []
 
 -- the command that a word is

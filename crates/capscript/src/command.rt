@@ -7,6 +7,14 @@ use crate::fault::LineFault;
 pub(crate) enum Command {
     /// A client opens a session.
     Session,
+    /// A client ends its session.
+    CloseSession,
+    /// A client's session is stale.
+    Stale,
+    /// A client's session is open again.
+    Renew,
+    /// A client is thrown out.
+    Evict,
     /// A client comes off the blocklist.
     Unblock,
     /// Clients are asked to give back.
@@ -55,6 +63,10 @@ impl Command {
     {
         match word {
             b"session" => Ok(Command::Session),
+            b"close" => Ok(Command::CloseSession),
+            b"stale" => Ok(Command::Stale),
+            b"renew" => Ok(Command::Renew),
+            b"evict" => Ok(Command::Evict),
             b"unblock" => Ok(Command::Unblock),
             b"recall" => Ok(Command::Recall),
             b"lookup" => Ok(Command::Lookup),

@@ -13,7 +13,9 @@ use crate::entry_event::{read_ack, read_open, read_poll, read_release, read_want
 use crate::fault::{LineFault, Refused};
 use crate::inode_event::{read_alter, read_flush, read_get, read_rename, read_rmdir, read_unlink};
 use crate::line::MAX_LINE;
-use crate::session_event::{read_recall, read_unblock};
+use crate::session_event::{
+    read_close, read_evict, read_recall, read_renew, read_stale, read_unblock,
+};
 use crate::values::{read_client, read_groups, read_ino, read_number, read_permissions};
 use crate::words::split_words;
 use capbits::{Caller, ClientId, Ino, Mode};
@@ -61,6 +63,10 @@ fn read_arguments(alloc: Global, command: Command, arguments: &[&[u8]]) -> Resul
 {
     match command {
         Command::Session => read_session(alloc, arguments),
+        Command::CloseSession => read_close(arguments),
+        Command::Stale => read_stale(arguments),
+        Command::Renew => read_renew(arguments),
+        Command::Evict => read_evict(arguments),
         Command::Unblock => read_unblock(arguments),
         Command::Recall => read_recall(arguments),
         Command::Lookup => {

@@ -62,6 +62,10 @@ fn client_of(event: &Event) -> Option<ClientId>
     match event {
         Event::Recall { .. } => None,
         Event::Session { client, .. }
+        | Event::CloseSession { client }
+        | Event::Stale { client }
+        | Event::Renew { client }
+        | Event::Evict { client }
         | Event::Unblock { client }
         | Event::Lookup { client, .. }
         | Event::Create { client, .. }

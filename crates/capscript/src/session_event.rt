@@ -11,6 +11,42 @@ use crate::values::{read_client, read_number};
 use capbits::ClientId;
 use capcore::Event;
 
+// A client that ends its session.
+pub(crate) fn read_close(arguments: &[&[u8]]) -> Result<Event, Refused>
+    ensures { let said = client_by events.CloseSession (map (λ word. word.now) arguments.now) in
+        MatchResult result (Tells said) (IsRefused said) }
+{
+    let client = read_only_client(arguments)?;
+    Ok(Event::CloseSession { client })
+}
+
+// A client whose session is stale.
+pub(crate) fn read_stale(arguments: &[&[u8]]) -> Result<Event, Refused>
+    ensures { let said = client_by events.Stale (map (λ word. word.now) arguments.now) in
+        MatchResult result (Tells said) (IsRefused said) }
+{
+    let client = read_only_client(arguments)?;
+    Ok(Event::Stale { client })
+}
+
+// A client whose session is open again.
+pub(crate) fn read_renew(arguments: &[&[u8]]) -> Result<Event, Refused>
+    ensures { let said = client_by events.Renew (map (λ word. word.now) arguments.now) in
+        MatchResult result (Tells said) (IsRefused said) }
+{
+    let client = read_only_client(arguments)?;
+    Ok(Event::Renew { client })
+}
+
+// A client that is thrown out.
+pub(crate) fn read_evict(arguments: &[&[u8]]) -> Result<Event, Refused>
+    ensures { let said = client_by events.Evict (map (λ word. word.now) arguments.now) in
+        MatchResult result (Tells said) (IsRefused said) }
+{
+    let client = read_only_client(arguments)?;
+    Ok(Event::Evict { client })
+}
+
 // A client that comes off the blocklist.
 pub(crate) fn read_unblock(arguments: &[&[u8]]) -> Result<Event, Refused>
     ensures { let said = client_by events.Unblock (map (λ word. word.now) arguments.now) in

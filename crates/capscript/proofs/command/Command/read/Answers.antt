@@ -5,6 +5,18 @@ use Rattle.capscript.proofs.command.Command.read.Goals as goal
 pub returns-in-session : goal.returns-in-session
 returns-in-session c = rw (text_from_reads c.args.word.now (codes "session") (omega arith) (search rules)) refl
 
+pub returns-in-close : goal.returns-in-close
+returns-in-close c = rw (text_from_reads c.args.word.now (codes "close") (omega arith) (search rules)) refl
+
+pub returns-in-stale : goal.returns-in-stale
+returns-in-stale c = rw (text_from_reads c.args.word.now (codes "stale") (omega arith) (search rules)) refl
+
+pub returns-in-renew : goal.returns-in-renew
+returns-in-renew c = rw (text_from_reads c.args.word.now (codes "renew") (omega arith) (search rules)) refl
+
+pub returns-in-evict : goal.returns-in-evict
+returns-in-evict c = rw (text_from_reads c.args.word.now (codes "evict") (omega arith) (search rules)) refl
+
 pub returns-in-unblock : goal.returns-in-unblock
 returns-in-unblock c = rw (text_from_reads c.args.word.now (codes "unblock") (omega arith) (search rules)) refl
 
@@ -43,3 +55,18 @@ returns-in-rename c = rw (text_from_reads c.args.word.now (codes "rename") (omeg
 
 pub returns-in-flush : goal.returns-in-flush
 returns-in-flush c = rw (text_from_reads c.args.word.now (codes "flush") (omega arith) (search rules)) refl
+
+pub returns-in-open : goal.returns-in-open
+returns-in-open c = rw (text_from_reads c.args.word.now (codes "open") (omega arith) (search rules)) refl
+
+pub returns-in-want : goal.returns-in-want
+returns-in-want c = rw (text_from_reads c.args.word.now (codes "want") (omega arith) (search rules)) refl
+
+pub returns-in-ack : goal.returns-in-ack
+returns-in-ack c = rw (text_from_reads c.args.word.now (codes "ack") (omega arith) (search rules)) refl
+
+pub returns-in-get : goal.returns-in-get
+returns-in-get c = rw (text_from_reads c.args.word.now (codes "get") (omega arith) (search rules)) refl
+
+pub returns-in-poll : goal.returns-in-poll
+returns-in-poll c = rw (text_from_reads c.args.word.now (codes "poll") (omega arith) (search rules)) refl
