@@ -43,7 +43,11 @@ mod request_refusals;
 #[cfg(test)]
 mod runs;
 #[cfg(test)]
+mod sessions_end;
+#[cfg(test)]
 mod sharing;
+#[cfg(test)]
+mod stale_sessions;
 #[cfg(test)]
 mod steps;
 #[cfg(test)]
