@@ -42,6 +42,18 @@ pub(crate) enum Asked {
     Move(ClientId),
     /// Its messages.
     Poll(ClientId),
+    /// So many entries back.
+    Recall(u32),
+    /// To end its session.
+    Close(ClientId),
+    /// That it be stale.
+    Stale(ClientId),
+    /// That it be open again.
+    Renew(ClientId),
+    /// That it be thrown out.
+    Evict(ClientId),
+    /// That it be let in again.
+    Unblock(ClientId),
 }
 
 /// The file that is asked about, the directory that it is made in, and one that it can be moved into.
@@ -81,6 +93,10 @@ pub(crate) enum Answer {
     EndedDenied,
     /// There is one message, that a request found no memory when it was served.
     EndedNoMemory,
+    /// There is one message, that something is asked back.
+    AskedBack,
+    /// So many entries are asked back.
+    Recalled(usize),
     /// Anything else.
     Other,
 }
@@ -103,6 +119,12 @@ pub(crate) fn event(alloc: Global, places: Places, asked: Asked) -> Result<Event
         Asked::Read(client, part) => Event::Get { client, ino, part },
         Asked::Move(client) => moving(alloc, client, ino, places.there)?,
         Asked::Poll(client) => polling(client),
+        Asked::Recall(count) => Event::Recall { count },
+        Asked::Close(client) => Event::CloseSession { client },
+        Asked::Stale(client) => Event::Stale { client },
+        Asked::Renew(client) => Event::Renew { client },
+        Asked::Evict(client) => Event::Evict { client },
+        Asked::Unblock(client) => Event::Unblock { client },
     })
 }
 
@@ -173,7 +195,7 @@ pub(crate) fn read_reply(reply: &Reply) -> Answer {
         Reply::Ino(ino) => Answer::Inode(ino.0),
         Reply::Opened { seq, .. } => Answer::Change(*seq),
         Reply::Messages(list) => read_messages(list.as_slice()),
-        Reply::Recalled(_) => Answer::Other,
+        Reply::Recalled(holders) => Answer::Recalled(holders.len()),
     }
 }
 
@@ -182,6 +204,7 @@ fn read_messages(messages: &[Message]) -> Answer {
         [] => Answer::NoMessage,
         [Message::Caps { seq, .. }] => Answer::Message(*seq),
         [Message::Ended { outcome, .. }] => read_outcome(outcome),
+        [Message::Recall { .. }] => Answer::AskedBack,
         _ => Answer::Other,
     }
 }

@@ -77,7 +77,28 @@ const WAITING: &[(Asked, Answer)] = &[
     (Asked::Poll(OTHER), Answer::Message(7)),
 ];
 
-/// Has two clients share so many files, one after another, and then wait for one more. The sum is a hash of all that the core
+// What was left alone longest is asked back. Then the first client is thrown out while two changes wait for what it holds, of
+// which one is its own; it comes back, is stale for a while, and the other ends its session.
+const ENDING: &[(Asked, Answer)] = &[
+    (Asked::Recall(1), Answer::Recalled(1)),
+    (Asked::Poll(CLIENT), Answer::AskedBack),
+    (Asked::Release(OTHER, &[Cap::As]), Answer::Done),
+    (Asked::Mode(OTHER, 0o640), Answer::Waits),
+    (Asked::Mode(CLIENT, 0o600), Answer::Waits),
+    (Asked::Evict(CLIENT), Answer::Done),
+    (Asked::Poll(OTHER), Answer::EndedDone),
+    (Asked::Session(CLIENT), Answer::Refused),
+    (Asked::Unblock(CLIENT), Answer::Done),
+    (Asked::Session(CLIENT), Answer::Done),
+    (Asked::Open(CLIENT, OpenMode::Read), Answer::Change(1)),
+    (Asked::Stale(CLIENT), Answer::Done),
+    (Asked::Renew(CLIENT), Answer::Done),
+    (Asked::Close(OTHER), Answer::Done),
+    (Asked::Session(OTHER), Answer::Done),
+    (Asked::Poll(OTHER), Answer::NoMessage),
+];
+
+/// Has two clients share so many files, one after another, then wait for one more, and end their sessions. The sum is a hash of all that the core
 /// keeps in the end.
 pub(crate) fn retry(alloc: Global, core: &mut Core, times: u32) -> Result<Tally, Fault> {
     let mut tally = Tally::of(0);
@@ -102,7 +123,7 @@ pub(crate) fn retry(alloc: Global, core: &mut Core, times: u32) -> Result<Tally,
     Ok(tally)
 }
 
-// Has the clients wait for a file, in a directory that it is moved out of.
+// Has the clients wait for a file, in a directory that it is moved out of, and end their sessions.
 fn wait(alloc: Global, core: &mut Core, at_root: Places, tally: &mut Tally) -> Result<(), Fault> {
     let here = made(alloc, core, at_root, Asked::Directory(TENANT_NUMBER), tally)?;
     let there = made(alloc, core, at_root, Asked::Directory(OTHER_NUMBER), tally)?;
@@ -112,7 +133,8 @@ fn wait(alloc: Global, core: &mut Core, at_root: Places, tally: &mut Tally) -> R
         there,
     };
     let file = made(alloc, core, places, Asked::Make(WAITING_NUMBER), tally)?;
-    play(alloc, core, Places { file, ..places }, WAITING, tally)
+    play(alloc, core, Places { file, ..places }, WAITING, tally)?;
+    play(alloc, core, Places { file, ..places }, ENDING, tally)
 }
 
 // Asks for all that the script asks for, of one file.
