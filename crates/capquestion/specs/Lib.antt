@@ -1,6 +1,4 @@
 pub mod Options
 pub mod Fault
-pub mod Access
-pub mod Line
 pub mod Values
 pub mod Question

@@ -15,8 +15,8 @@ use Rattle.capquestion.specs.declared.options.Opt.{Opt}
 use Rattle.capquestion.specs.declared.options.Opt.TheVariants.{Grants, Fs, Uid, Gid, Groups, Path, Owner, Group, Mode, Access}
 use Rattle.capquestion.specs.declared.question.Values.{Values}
 use Rattle.capquestion.specs.declared.question.Question.{Question}
-use Rattle.capquestion.specs.Access.{IsAccessWord}
-use Rattle.capquestion.specs.Line.{explain_text}
+use Rattle.capexplain.specs.Access.{IsAccessWord}
+use Rattle.capexplain.specs.Explaining.{explain_text}
 use Rattle.capquestion.specs.Options.{all_options}
 use Rattle.capquestion.specs.Values.{IsFs, AreGroupsIf, ArePathNames, IsModeText}
 

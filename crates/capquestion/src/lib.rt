@@ -5,17 +5,13 @@
 //! What reads a command line takes text, so bytes are spelled as text here, and spelled back.
 #![tactic(auto)]
 
-mod access;
 mod fault;
-mod line;
 mod lists;
 mod options;
 mod question;
 mod words;
 
-pub use access::read_access;
 pub use fault::QuestionFault;
-pub use line::explain_line;
 pub use options::Opt;
 pub use question::{Question, Values};
 pub use words::{spell, spelled};

@@ -7,13 +7,12 @@ ghost use Rattle.capspec.specs.Grants.{Reads};
 ghost use Rattle.capspec.specs.Items.{IsNumber};
 ghost use Rattle.capquestion.specs.Values.{AreGroupsIf, ArePathNames};
 
-use crate::access::read_access;
 use crate::fault::QuestionFault;
 use crate::fault::QuestionFault::BadValue;
-use crate::line::explain_line;
 use crate::lists::read_groups;
 use crate::options::Opt;
 use capbits::{Caller, Groups, read_mode, read_u32};
+use capexplain::{explain_line, read_access};
 use capgrant::{Access, Attr, verdict};
 use capspec::{FsName, Grants, SpecFaultKind, TreePath, read_grants};
 use std::alloc::{AllocError, Global};

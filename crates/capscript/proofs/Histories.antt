@@ -23,7 +23,7 @@ use Rattle.capscript.specs.Faults.{IsStop}
 use Rattle.capscript.specs.declared.fault.ScriptFault.{ScriptFault}
 use Rattle.capscript.specs.declared.fault.ScriptFault.TheVariants as stops
 use Rattle.capscript.specs.Lines.{lines, is_skipped}
-use Rattle.capscript.specs.Replies.{reply_text}
+use Rattle.capexplain.specs.Replies.{reply_text}
 use Rattle.capscript.specs.Transcript.{LinesSay, replies_text, IsTranscript, Answered, Ran, Answers, AnswersLine, StopsIn, fs_name, root_attr}
 use Rattle.capcore.proofs.Growing.{replays-more}
 use Rattle.capcore.proofs.Numbered.{numbered-nil, numbered-snoc}

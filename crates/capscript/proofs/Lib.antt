@@ -2,8 +2,6 @@ pub mod LineWords
 pub mod Numerals
 pub mod GroupNumbers
 pub mod SaidLines
-pub mod PartLemmas
-pub mod PrintedRules
 pub mod KnownBytes
 pub mod Flags
 pub mod Histories

@@ -1,19 +1,10 @@
 -- The words that changes begin with, and how many words they take.
-use Rattle.std.specs.Prelude.{ℕ, Bool, true, false, Option, List, [], ◌∷◌, find, codes, bytes_eq}
+use Rattle.std.specs.Prelude.{ℕ, Bool, true, false, Option, List, [], ◌∷◌, find, bytes_eq}
 use Rattle.std.specs.Option.{option_map_or}
-use Rattle.capscript.specs.declared.change.ChangeWord.{ChangeWord}
-use Rattle.capscript.specs.declared.change.ChangeWord.TheVariants as words
+use Rattle.capexplain.specs.declared.change_word.ChangeWord.{ChangeWord}
+use Rattle.capexplain.specs.declared.change_word.ChangeWord.TheVariants as words
+use Rattle.capexplain.specs.Words.{change_word}
 use Rattle.capscript.specs.Words.{is_one_word}
-
--- the first word of a change of this kind
-abbrev pub change_word : ChangeWord → List ℕ
-change_word words.Mode = codes "chmod"
-change_word words.Uid = codes "chown"
-change_word words.Gid = codes "chgrp"
-change_word words.SetXattr = codes "setx"
-change_word words.RemoveXattr = codes "rmx"
-change_word words.Size = codes "size"
-change_word words.Time = codes "times"
 
 abbrev pub change_words : List ChangeWord
 change_words = words.Mode ∷ words.Uid ∷ words.Gid ∷ words.SetXattr ∷ words.RemoveXattr ∷ words.Size ∷ words.Time ∷ []

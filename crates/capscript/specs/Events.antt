@@ -12,10 +12,10 @@ use Rattle.lockmachine.specs.declared.request.Change.{Change}
 use Rattle.lockmachine.specs.declared.request.Change.TheVariants.{Set, SetXattr, RemoveXattr}
 use Rattle.capcore.specs.declared.event.Event.{Event}
 use Rattle.capcore.specs.declared.event.Event.TheVariants as events
-use Rattle.capscript.specs.declared.change.ChangeWord.{ChangeWord}
-use Rattle.capscript.specs.declared.change.ChangeWord.TheVariants as words
-use Rattle.capscript.specs.declared.command.Command.{Command}
-use Rattle.capscript.specs.declared.command.Command.TheVariants as commands
+use Rattle.capexplain.specs.declared.change_word.ChangeWord.{ChangeWord}
+use Rattle.capexplain.specs.declared.change_word.ChangeWord.TheVariants as words
+use Rattle.capexplain.specs.declared.command.Command.{Command}
+use Rattle.capexplain.specs.declared.command.Command.TheVariants as commands
 use Rattle.capscript.specs.declared.fault.LineFault.{LineFault}
 use Rattle.capscript.specs.declared.fault.LineFault.TheVariants as faults
 use Rattle.capscript.specs.Changes.{change_kind, is_counted}

@@ -4,7 +4,5 @@ pub mod Values
 pub mod Changes
 pub mod Events
 pub mod Faults
-pub mod PartTexts
-pub mod Replies
 pub mod Watched
 pub mod Transcript

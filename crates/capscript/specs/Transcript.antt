@@ -15,7 +15,7 @@ use Rattle.capscript.specs.declared.fault.ScriptFault.TheVariants as stops
 use Rattle.capscript.specs.Events.{Reads}
 use Rattle.capscript.specs.Faults.{HasFault}
 use Rattle.capscript.specs.Lines.{lines, is_skipped}
-use Rattle.capscript.specs.Replies.{reply_text}
+use Rattle.capexplain.specs.Replies.{reply_text}
 
 -- The lines say these events, in order: each line that is not skipped says one.
 pub record LinesSay (script : List (List ℕ)) (events : List Event) : Type 0 where

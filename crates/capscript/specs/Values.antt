@@ -14,6 +14,7 @@ use Rattle.capbits.specs.declared.ids.Ino.{Ino}
 use Rattle.capspec.specs.Items.{is_comma}
 use Rattle.capcore.specs.declared.event.OpenMode.{OpenMode}
 use Rattle.capcore.specs.declared.event.OpenMode.TheVariants as opens
+use Rattle.capexplain.specs.Words.{open_word, part_word}
 use Rattle.capscript.specs.declared.fault.LineFault.{LineFault}
 use Rattle.capscript.specs.declared.fault.LineFault.TheVariants.{Number, Mode, Hex}
 use Rattle.capscript.specs.declared.fault.LineFault.TheVariants as faults
@@ -70,23 +71,11 @@ list_in word = do
 abbrev pub groups_in : List ℕ → Result (List ℕ) LineFault
 groups_in word = if bytes_eq word (codes "-") then Ok [] else list_in word
 
--- the word for what an inode is opened for
-abbrev pub open_word : OpenMode → List ℕ
-open_word opens.Read = codes "r"
-open_word opens.Write = codes "w"
-open_word opens.ReadWrite = codes "rw"
-
 -- what an inode is opened for
 abbrev pub open_mode_in : List ℕ → Result OpenMode LineFault
 open_mode_in word = ok_or (find (λ mode. bytes_eq word (open_word mode)) (opens.Read ∷ opens.Write ∷ opens.ReadWrite ∷ [])) Mode
 
--- the word for a part of what an inode keeps
-abbrev pub part_word : Part → List ℕ
-part_word A = codes "A"
-part_word L = codes "L"
-part_word X = codes "X"
-part_word F = codes "F"
-
+-- a part of what an inode keeps
 abbrev pub part_in : List ℕ → Result Part LineFault
 part_in word = ok_or (find (λ part. bytes_eq word (part_word part)) (A ∷ L ∷ X ∷ F ∷ [])) faults.Part
 

@@ -1,9 +1,10 @@
 -- The words of a line, and what the first of them says.
-use Rattle.std.specs.Prelude.{◌==◌, not, ℕ, Bool, Result, List, [], ◌∷◌, find, codes, bytes_eq}
+use Rattle.std.specs.Prelude.{◌==◌, not, ℕ, Bool, Result, List, [], ◌∷◌, find, bytes_eq}
 use Rattle.std.specs.List.{list_all, slice_split, join_with_byte}
 use Rattle.std.specs.Option.{ok_or}
-use Rattle.capscript.specs.declared.command.Command.{Command}
-use Rattle.capscript.specs.declared.command.Command.TheVariants.{Session, CloseSession, Stale, Renew, Evict, Unblock, Recall, Lookup, Create, Mkdir, MakeSnapshot, RemoveSnapshot, Open, Want, Ack, Release, Get, Alter, Unlink, Rmdir, Rename, Flush, Poll}
+use Rattle.capexplain.specs.declared.command.Command.{Command}
+use Rattle.capexplain.specs.declared.command.Command.TheVariants.{Session, CloseSession, Stale, Renew, Evict, Unblock, Recall, Lookup, Create, Mkdir, MakeSnapshot, RemoveSnapshot, Open, Want, Ack, Release, Get, Alter, Unlink, Rmdir, Rename, Flush, Poll}
+use Rattle.capexplain.specs.Words.{command_word}
 use Rattle.capscript.specs.declared.fault.LineFault.{LineFault}
 use Rattle.capscript.specs.declared.fault.LineFault.TheVariants as faults
 
@@ -31,32 +32,6 @@ parts text = six_parts (words text)
 -- The part is one word. The last part of a line with more words than parts has a space.
 abbrev pub is_one_word : List ℕ → Bool
 is_one_word part = list_all (λ b. not (is_space b)) part
-
--- the first word of a line with the command
-abbrev pub command_word : Command → List ℕ
-command_word Session = codes "session"
-command_word CloseSession = codes "close"
-command_word Stale = codes "stale"
-command_word Renew = codes "renew"
-command_word Evict = codes "evict"
-command_word Unblock = codes "unblock"
-command_word Recall = codes "recall"
-command_word Lookup = codes "lookup"
-command_word Create = codes "create"
-command_word Mkdir = codes "mkdir"
-command_word MakeSnapshot = codes "mksnap"
-command_word RemoveSnapshot = codes "rmsnap"
-command_word Open = codes "open"
-command_word Want = codes "want"
-command_word Ack = codes "ack"
-command_word Release = codes "release"
-command_word Get = codes "get"
-command_word Alter = codes "alter"
-command_word Unlink = codes "unlink"
-command_word Rmdir = codes "rmdir"
-command_word Rename = codes "rename"
-command_word Flush = codes "flush"
-command_word Poll = codes "poll"
 
 abbrev pub commands : List Command
 commands =

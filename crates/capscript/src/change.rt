@@ -10,56 +10,36 @@ ghost use Rattle.capscript.specs.Words as lines;
 use crate::fault::{LineFault, Refused};
 use crate::hex::read_bytes;
 use crate::values::{read_long_number, read_number, read_permissions};
+use capexplain::ChangeWord;
 use inotree::Setting;
 use lockmachine::{Bytes, Change};
 use std::alloc::Global;
 
-/// A change, by the word that it begins with.
-#[derive(Clone, Copy, Debug, PartialEq, Eq)]
-pub(crate) enum ChangeWord {
-    /// The permission bits.
-    Mode,
-    /// The owner.
-    Uid,
-    /// The group.
-    Gid,
-    /// The value of an attribute.
-    SetXattr,
-    /// An attribute less.
-    RemoveXattr,
-    /// How many bytes of data there are.
-    Size,
-    /// When the inode was changed.
-    Time,
+// The change that begins with a word.
+fn read_kind(word: &[u8]) -> Option<ChangeWord>
+    ensures { result ≡ changes.change_kind word.now }
+{
+    match word {
+        b"chmod" => Some(ChangeWord::Mode),
+        b"chown" => Some(ChangeWord::Uid),
+        b"chgrp" => Some(ChangeWord::Gid),
+        b"setx" => Some(ChangeWord::SetXattr),
+        b"rmx" => Some(ChangeWord::RemoveXattr),
+        b"size" => Some(ChangeWord::Size),
+        b"times" => Some(ChangeWord::Time),
+        _ => None,
+    }
 }
 
-impl ChangeWord {
-    // The change that begins with a word.
-    fn read(word: &[u8]) -> Option<ChangeWord>
-        ensures { result ≡ changes.change_kind word.now }
-    {
-        match word {
-            b"chmod" => Some(ChangeWord::Mode),
-            b"chown" => Some(ChangeWord::Uid),
-            b"chgrp" => Some(ChangeWord::Gid),
-            b"setx" => Some(ChangeWord::SetXattr),
-            b"rmx" => Some(ChangeWord::RemoveXattr),
-            b"size" => Some(ChangeWord::Size),
-            b"times" => Some(ChangeWord::Time),
-            _ => None,
-        }
-    }
-
-    // Whether it takes so many words.
-    fn takes(self, more: &[&[u8]]) -> bool
-        ensures { result ≡ changes.takes self (map (λ word. word.now) more.now) }
-    {
-        match (self, more) {
-            (ChangeWord::SetXattr, [_name, value]) => is_one_word(value),
-            (ChangeWord::SetXattr, _) => false,
-            (_, [_word]) => true,
-            _ => false,
-        }
+// Whether a change of this kind takes so many words.
+fn takes(kind: ChangeWord, more: &[&[u8]]) -> bool
+    ensures { result ≡ changes.takes kind (map (λ word. word.now) more.now) }
+{
+    match (kind, more) {
+        (ChangeWord::SetXattr, [_name, value]) => is_one_word(value),
+        (ChangeWord::SetXattr, _) => false,
+        (_, [_word]) => true,
+        _ => false,
     }
 }
 
@@ -76,8 +56,8 @@ pub(crate) fn is_counted(words: &[&[u8]]) -> bool
     let Some((first, more)) = words.split_first() else {
         return false;
     };
-    match ChangeWord::read(first) {
-        Some(kind) => kind.takes(more),
+    match read_kind(first) {
+        Some(kind) => takes(kind, more),
         None => true,
     }
 }
@@ -91,7 +71,7 @@ pub(crate) fn read_change(alloc: Global, words: &[&[u8]]) -> Result<Change, Refu
     let Some((first, more)) = words.split_first() else {
         return Err(Refused::Wrong(LineFault::Count));
     };
-    let Some(kind) = ChangeWord::read(first) else {
+    let Some(kind) = read_kind(first) else {
         return Err(Refused::Wrong(LineFault::Change));
     };
     read_by_kind(alloc, kind, more)

@@ -8,7 +8,7 @@ ghost use Rattle.capcore.specs.declared.event.Event.TheVariants as events;
 ghost use Rattle.capscript.specs.Events.{Tells, said_in, said_with, session_by, named_by, new_inode_by, opened};
 ghost use Rattle.capscript.specs.Faults.{IsRefused};
 
-use crate::command::Command;
+use crate::command::read_command;
 use crate::entry_event::{read_ack, read_open, read_poll, read_release, read_want};
 use crate::fault::{LineFault, Refused};
 use crate::inode_event::{read_alter, read_flush, read_get, read_rename, read_rmdir, read_unlink};
@@ -20,6 +20,7 @@ use crate::values::{read_client, read_groups, read_ino, read_number, read_permis
 use crate::words::split_words;
 use capbits::{Caller, ClientId, Ino, Mode};
 use capcore::Event;
+use capexplain::Command;
 use capspec::{Grants, read_grants};
 use lockmachine::Bytes;
 use std::alloc::Global;
@@ -49,7 +50,7 @@ pub(crate) fn read_event(alloc: Global, text: &[u8]) -> Result<Event, Refused>
     let Some((first, arguments)) = words.as_slice().split_first() else {
         return Err(Refused::Wrong(LineFault::Command));
     };
-    let command = Command::read(first)?;
+    let command = read_command(first)?;
     if text.len() > MAX_LINE {
         return Err(Refused::Wrong(LineFault::Count));
     }

@@ -3,8 +3,8 @@ use Rattle.std.proofs.lemmas.Bool.Decides.{nat_tests}
 use Rattle.std.specs.Borrow.{Bor}
 use Rattle.lockmachine.specs.declared.request.Change.{Change}
 use Rattle.capcore.specs.declared.event.Event.{Event}
-use Rattle.capscript.specs.declared.change.ChangeWord.{ChangeWord}
-use Rattle.capscript.specs.declared.change.ChangeWord.TheVariants as words
+use Rattle.capexplain.specs.declared.change_word.ChangeWord.{ChangeWord}
+use Rattle.capexplain.specs.declared.change_word.ChangeWord.TheVariants as words
 use Rattle.capscript.specs.declared.fault.LineFault.TheVariants as faults
 use Rattle.capscript.specs.Events.{says_kind}
 use Rattle.capscript.specs.Faults.{Has}

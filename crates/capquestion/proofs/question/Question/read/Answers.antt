@@ -1,7 +1,7 @@
 use Rattle.std.proofs.Common.{rules, [], ◌∷◌, refl}
 use Rattle.capquestion.specs.declared.fault.QuestionFault.TheVariants.{BadValue}
 use Rattle.capquestion.specs.declared.options.Opt.TheVariants.{Grants, Fs, Uid, Gid, Groups, Path, Owner, Group, Mode, Access}
-use Rattle.capquestion.specs.Access.{IsAccessWord}
+use Rattle.capexplain.specs.Access.{IsAccessWord}
 use Rattle.capquestion.specs.Values.{IsFs, ArePathNames}
 use Rattle.capquestion.proofs.FirstBad.{first_bad, none_good, names_first_bad, bad_grants, good_grants, good_path}
 use Rattle.capquestion.proofs.question.Question.read.Goals as goal

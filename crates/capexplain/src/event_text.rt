@@ -1,0 +1,254 @@
+//! The texts of events: the lines that say them.
+ghost use Rattle.std.specs.Prelude.{◌≡◌, ◌++◌, codes, IfOk, OnOk};
+ghost use Rattle.std.specs.Fmt.{decimal};
+ghost use Rattle.capexplain.specs.EventTexts.{arguments_text, change_text, event_text, grants_text, groups_text, named_text, numbered_text, setting_text};
+ghost use Rattle.capexplain.specs.Words.{open_word, part_word};
+
+use crate::change_word::ChangeWord;
+use crate::command::Command;
+use crate::part_text::{print_bytes, print_mode};
+use crate::text::{print, print_caps};
+use capbits::{Caller, ClientId, Groups, Ino, Part};
+use capcore::{Event, OpenMode};
+use capspec::{Grants, write_grants};
+use inotree::Setting;
+use lockmachine::{Bytes, Change};
+use std::alloc::{AllocError, Global};
+
+/// The line of a script that says the event, without its line feed: grants in their written form or `none`, modes as four octal
+/// digits, numbers without leading zeros. Only memory can be missing.
+pub fn event_line(alloc: Global, event: &Event) -> Result<Vec<u8>, AllocError>
+    ensures { IfOk result (λ text. text.items ≡ event_text event.now) }
+{
+    let mut text = Vec::new(alloc);
+    print_event(&mut text, event)?;
+    Ok(text)
+}
+
+// Appends the line.
+pub(crate) fn print_event(text: &mut Vec<u8>, event: &Event) -> Result<(), AllocError>
+    ensures { OnOk result (text.new.items ≡ text.old.items ++ event_text event.now) }
+{
+    print(text, Command::of(event).word())?;
+    print_arguments(text, event)
+}
+
+// All behind the first word, each word behind a space.
+fn print_arguments(text: &mut Vec<u8>, event: &Event) -> Result<(), AllocError>
+    ensures { OnOk result (text.new.items ≡ text.old.items ++ arguments_text event.now) }
+{
+    match event {
+        Event::Session {
+            client,
+            caller,
+            grants,
+        } => print_session(text, *client, caller, grants),
+        Event::CloseSession { client }
+        | Event::Stale { client }
+        | Event::Renew { client }
+        | Event::Evict { client }
+        | Event::Unblock { client } => print(text, format_args!(" {client}")),
+        Event::Recall { count } => print(text, format_args!(" {count}")),
+        Event::Lookup { client, dir, name } => print_named(text, *client, *dir, name),
+        Event::MakeSnapshot { client, ino, name } | Event::RemoveSnapshot { client, ino, name } => {
+            print_named(text, *client, *ino, name)
+        }
+        Event::Create {
+            client,
+            dir,
+            name,
+            mode,
+        }
+        | Event::Mkdir {
+            client,
+            dir,
+            name,
+            mode,
+        } => {
+            print_named(text, *client, *dir, name)?;
+            print(text, " ")?;
+            print_mode(text, *mode)
+        }
+        Event::Open { client, ino, mode } => {
+            let word = open_word(*mode);
+            print(text, format_args!(" {client} {ino} {word}"))
+        }
+        Event::Want { client, ino, caps } | Event::Release { client, ino, caps } => {
+            print(text, format_args!(" {client} {ino} "))?;
+            print_caps(text, *caps)
+        }
+        Event::Ack { client, ino, seq } => print(text, format_args!(" {client} {ino} {seq}")),
+        Event::Get { client, ino, part } => {
+            let word = part_word(*part);
+            print(text, format_args!(" {client} {ino} {word}"))
+        }
+        Event::Alter {
+            client,
+            ino,
+            change,
+        }
+        | Event::Flush {
+            client,
+            ino,
+            change,
+        } => {
+            print(text, format_args!(" {client} {ino} "))?;
+            print_change(text, change)
+        }
+        Event::Unlink { client, ino } | Event::Rmdir { client, ino } => {
+            print(text, format_args!(" {client} {ino}"))
+        }
+        Event::Rename {
+            client,
+            ino,
+            dir,
+            name,
+        } => {
+            print(text, format_args!(" {client} {ino} {dir} "))?;
+            print_name(text, name)
+        }
+        Event::Poll { client, max } => print(text, format_args!(" {client} {max}")),
+    }
+}
+
+// ---- a session
+
+// The client, its user and groups, and its grants.
+fn print_session(
+    text: &mut Vec<u8>,
+    client: ClientId,
+    caller: &Caller,
+    grants: &Grants,
+) -> Result<(), AllocError>
+    ensures { OnOk result (text.new.items ≡ text.old.items
+        ++ (codes " " ++ decimal client.0 ++ codes " " ++ decimal caller.now.uid ++ codes " " ++ decimal caller.now.gid ++ codes " "
+        ++ groups_text caller.now.groups ++ codes " " ++ grants_text grants.now)) }
+{
+    let (uid, gid) = (caller.uid, caller.gid);
+    print(text, format_args!(" {client} {uid} {gid} "))?;
+    print_groups(text, &caller.groups)?;
+    print(text, " ")?;
+    print_grants(text, grants)
+}
+
+// The groups, joined by commas; a dash for none.
+fn print_groups(text: &mut Vec<u8>, groups: &Groups) -> Result<(), AllocError>
+    ensures { OnOk result (text.new.items ≡ text.old.items ++ groups_text groups.now) }
+{
+    let gids = groups.as_slice();
+    if gids.is_empty() {
+        return print(text, "-");
+    }
+    for (place, gid) in gids.iter().enumerate() {
+        if place > 0 {
+            print(text, ",")?;
+        }
+        print(text, *gid)?;
+    }
+    Ok(())
+}
+
+// The grants in their written form; `none` for none.
+fn print_grants(text: &mut Vec<u8>, grants: &Grants) -> Result<(), AllocError>
+    ensures { OnOk result (text.new.items ≡ text.old.items ++ grants_text grants.now) }
+{
+    if grants.len() == 0 {
+        return print(text, "none");
+    }
+    let written = write_grants(*text.allocator(), grants)?;
+    text.extend_from_slice(written.as_slice())?;
+    Ok(())
+}
+
+// ---- names and changes
+
+// A client, an inode and a name.
+fn print_named(
+    text: &mut Vec<u8>,
+    client: ClientId,
+    ino: Ino,
+    name: &Bytes,
+) -> Result<(), AllocError>
+    ensures { OnOk result (text.new.items ≡ text.old.items ++ named_text client ino name.now) }
+{
+    print(text, format_args!(" {client} {ino} "))?;
+    print_name(text, name)
+}
+
+// A name, as it is.
+fn print_name(text: &mut Vec<u8>, name: &Bytes) -> Result<(), AllocError>
+    ensures { OnOk result (text.new.items ≡ text.old.items ++ name.now) }
+{
+    text.extend_from_slice(name.as_slice())?;
+    Ok(())
+}
+
+// The word of the change, and what is behind it.
+fn print_change(text: &mut Vec<u8>, change: &Change) -> Result<(), AllocError>
+    ensures { OnOk result (text.new.items ≡ text.old.items ++ change_text change.now) }
+{
+    match change {
+        Change::Set(setting) => print_setting(text, *setting),
+        Change::SetXattr { name, value } => {
+            let word = ChangeWord::SetXattr.word();
+            print(text, format_args!("{word} "))?;
+            print_name(text, name)?;
+            print(text, " ")?;
+            print_bytes(text, value.as_slice())
+        }
+        Change::RemoveXattr { name } => {
+            let word = ChangeWord::RemoveXattr.word();
+            print(text, format_args!("{word} "))?;
+            print_name(text, name)
+        }
+    }
+}
+
+fn print_setting(text: &mut Vec<u8>, setting: Setting) -> Result<(), AllocError>
+    ensures { OnOk result (text.new.items ≡ text.old.items ++ setting_text setting) }
+{
+    match setting {
+        Setting::Mode(mode) => {
+            let word = ChangeWord::Mode.word();
+            print(text, format_args!("{word} "))?;
+            print_mode(text, mode)
+        }
+        Setting::Uid(uid) => print_number(text, ChangeWord::Uid, u64::from(uid)),
+        Setting::Gid(gid) => print_number(text, ChangeWord::Gid, u64::from(gid)),
+        Setting::Size(size) => print_number(text, ChangeWord::Size, size),
+        Setting::Time(time) => print_number(text, ChangeWord::Time, time),
+    }
+}
+
+// The word of a change, and a number.
+fn print_number(text: &mut Vec<u8>, kind: ChangeWord, number: u64) -> Result<(), AllocError>
+    ensures { OnOk result (text.new.items ≡ text.old.items ++ numbered_text kind number) }
+{
+    let word = kind.word();
+    print(text, format_args!("{word} {number}"))
+}
+
+// ---- words
+
+// What an inode is opened for.
+fn open_word(mode: OpenMode) -> &'static str
+    ensures { result.now ≡ open_word mode }
+{
+    match mode {
+        OpenMode::Read => "r",
+        OpenMode::Write => "w",
+        OpenMode::ReadWrite => "rw",
+    }
+}
+
+// A part of what an inode keeps.
+fn part_word(part: Part) -> &'static str
+    ensures { result.now ≡ part_word part }
+{
+    match part {
+        Part::A => "A",
+        Part::L => "L",
+        Part::X => "X",
+        Part::F => "F",
+    }
+}

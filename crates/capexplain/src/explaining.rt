@@ -1,0 +1,80 @@
+//! The line that answers a question.
+ghost use Rattle.std.specs.Prelude.{◌≡◌, ◌++◌, IfOk, OnOk, map};
+ghost use Rattle.capspec.specs.Names.{slashed};
+ghost use Rattle.capexplain.specs.Explaining.{explain_text, path_text, failure_text, failures_text};
+
+use crate::text::print;
+use capgrant::{Access, Rule, Verdict};
+use std::alloc::{AllocError, Global};
+
+/// The line that says what the verdict is on the access to the inode with these names from the root down, and by which
+/// grant or rules: each grant has its number, from 1. It has no line feed. Only memory can be missing.
+pub fn explain_line(
+    alloc: Global,
+    access: Access,
+    path: &[&[u8]],
+    verdict: &Verdict,
+) -> Result<Vec<u8>, AllocError>
+    ensures { IfOk result (λ line. line.items ≡ explain_text access (map (λ name. name.now) path.now) verdict.now) }
+{
+    let mut line = Vec::new(alloc);
+    match verdict {
+        Verdict::Allowed { grant } => {
+            print(&mut line, format_args!("allowed {access} "))?;
+            print_path(&mut line, path)?;
+            print(&mut line, format_args!(" grant {grant}"))?;
+        }
+        Verdict::Denied { rules } => {
+            print(&mut line, format_args!("denied {access} "))?;
+            print_path(&mut line, path)?;
+            print(&mut line, " ")?;
+            print_failures(&mut line, rules.as_slice())?;
+        }
+    }
+    Ok(line)
+}
+
+fn print_path(line: &mut Vec<u8>, path: &[&[u8]]) -> Result<(), AllocError>
+    ensures { OnOk result (line.new.items ≡ line.old.items ++ path_text (map (λ name. name.now) path.now)) }
+{
+    if path.is_empty() {
+        return Ok(line.push(b'/')?);
+    }
+    print_names(line, path)
+}
+
+// Appends names, with a slash before each.
+fn print_names(line: &mut Vec<u8>, names: &[&[u8]]) -> Result<(), AllocError>
+    ensures { OnOk result (line.new.items ≡ line.old.items ++ slashed (map (λ name. name.now) names.now)) }
+{
+    for name in names {
+        line.push(b'/')?;
+        line.extend_from_slice(name)?;
+    }
+    Ok(())
+}
+
+fn print_failures(line: &mut Vec<u8>, rules: &[Rule]) -> Result<(), AllocError>
+    ensures { OnOk result (line.new.items ≡ line.old.items ++ failures_text rules.now) }
+{
+    if rules.is_empty() {
+        print(line, "no grants")?;
+    }
+    for (place, rule) in rules.iter().enumerate() {
+        if place > 0 {
+            print(line, ", ")?;
+        }
+        print_failure(line, place + 1, *rule)?;
+    }
+    Ok(())
+}
+
+fn print_failure(line: &mut Vec<u8>, number: usize, rule: Rule) -> Result<(), AllocError>
+    ensures { OnOk result (line.new.items ≡ line.old.items ++ failure_text (number, rule)) }
+{
+    let rule_number = rule.number();
+    print(
+        line,
+        format_args!("grant {number} rule {rule_number} {rule}"),
+    )
+}

@@ -1,0 +1,23 @@
+//! Texts for people: what was decided about an access and why, what happened, and what was answered.
+//!
+//! Public source: "Capabilities in CephFS" in the Ceph documentation.
+#![tactic(auto)]
+
+mod access;
+mod audit;
+mod change_word;
+mod command;
+mod event_text;
+mod explaining;
+mod message_text;
+mod part_text;
+mod reply;
+mod text;
+
+pub use access::read_access;
+pub use audit::audit_line;
+pub use change_word::ChangeWord;
+pub use command::Command;
+pub use event_text::event_line;
+pub use explaining::explain_line;
+pub use reply::reply_lines;

@@ -1,0 +1,110 @@
+//! The texts of replies.
+ghost use Rattle.std.specs.Prelude.{◌≡◌, ◌++◌, IfOk, OnOk};
+ghost use Rattle.capexplain.specs.Replies.{denial_text, holder_text, holders_text, reply_line, reply_text, rules_text, rule_text};
+
+use crate::message_text::print_messages;
+use crate::part_text::print_values;
+use crate::text::{print, print_caps};
+use capcore::Reply;
+use capgrant::{Access, Rule, Rules};
+use captable::Holder;
+use std::alloc::{AllocError, Global};
+
+/// The text of a reply: a line, with its line feed; behind that of messages one more for each of them.
+pub fn reply_lines(alloc: Global, reply: &Reply) -> Result<Vec<u8>, AllocError>
+    ensures { IfOk result (λ text. text.items ≡ reply_text reply.now) }
+{
+    let mut text = Vec::new(alloc);
+    print_reply(&mut text, reply)?;
+    text.push(b'\n')?;
+    if let Reply::Messages(messages) = reply {
+        print_messages(&mut text, messages.as_slice())?;
+    }
+    Ok(text)
+}
+
+// The first line, without its line feed.
+pub(crate) fn print_reply(text: &mut Vec<u8>, reply: &Reply) -> Result<(), AllocError>
+    ensures { OnOk result (text.new.items ≡ text.old.items ++ reply_line reply.now) }
+{
+    match reply {
+        Reply::Done => print(text, "done"),
+        Reply::Ino(ino) => print(text, format_args!("ino {ino}")),
+        Reply::Opened { seq, caps } => {
+            print(text, format_args!("caps {seq} "))?;
+            print_caps(text, *caps)
+        }
+        Reply::Values(values) => {
+            print(text, "attr ")?;
+            print_values(text, values)
+        }
+        Reply::Messages(messages) => {
+            let count = messages.as_slice().len();
+            print(text, format_args!("messages {count}"))
+        }
+        Reply::Recalled(holders) => {
+            print(text, "recalled")?;
+            print_holders(text, holders.as_slice())
+        }
+        Reply::Waiting(ticket) => print(text, format_args!("waiting {ticket}")),
+        Reply::Denied { access, rules } => print_denial(text, *access, rules),
+        Reply::Refused(refusal) => print(text, format_args!("refused {refusal}")),
+        Reply::OutOfMemory => print(text, "out-of-memory"),
+    }
+}
+
+// The access that no grant allows, and the rules by which the grants fail.
+pub(crate) fn print_denial(
+    text: &mut Vec<u8>,
+    access: Access,
+    rules: &Rules,
+) -> Result<(), AllocError>
+    ensures { OnOk result (text.new.items ≡ text.old.items ++ denial_text access rules.now) }
+{
+    print(text, format_args!("denied {access} "))?;
+    print_rules(text, rules.as_slice())
+}
+
+// The rules by which the grants fail, each behind the number of its grant, from 1.
+fn print_rules(text: &mut Vec<u8>, rules: &[Rule]) -> Result<(), AllocError>
+    ensures { OnOk result (text.new.items ≡ text.old.items ++ rules_text rules.now) }
+{
+    if rules.is_empty() {
+        print(text, "-")?;
+    }
+    for (place, rule) in rules.iter().enumerate() {
+        if place > 0 {
+            print(text, ",")?;
+        }
+        print_rule(text, place + 1, *rule)?;
+    }
+    Ok(())
+}
+
+fn print_rule(text: &mut Vec<u8>, grant: usize, rule: Rule) -> Result<(), AllocError>
+    ensures { OnOk result (text.new.items ≡ text.old.items ++ rule_text (grant, rule)) }
+{
+    let rule = rule.number();
+    print(text, format_args!("{grant}:{rule}"))
+}
+
+// Each behind a space, in their order; a dash for nobody.
+fn print_holders(text: &mut Vec<u8>, holders: &[Holder]) -> Result<(), AllocError>
+    ensures { OnOk result (text.new.items ≡ text.old.items ++ holders_text holders.now) }
+{
+    if holders.is_empty() {
+        return print(text, " -");
+    }
+    for holder in holders {
+        print_holder(text, *holder)?;
+    }
+    Ok(())
+}
+
+// The client, and the inode that it has an entry on.
+fn print_holder(text: &mut Vec<u8>, holder: Holder) -> Result<(), AllocError>
+    ensures { OnOk result (text.new.items ≡ text.old.items ++ holder_text holder) }
+{
+    let Holder { client, ino } = holder;
+    print(text, format_args!(" {client}:{ino}"))
+}
