@@ -55,6 +55,8 @@ mod talks;
 #[cfg(test)]
 mod telling;
 #[cfg(test)]
+mod texts;
+#[cfg(test)]
 mod waiting;
 #[cfg(test)]
 mod waits;

@@ -1,8 +1,11 @@
 //! What tests look at in a core.
 
+use crate::steps::lock_text;
 use crate::telling::{inode_text, row_text};
-use capbits::{ClientId, Ino};
+use capbits::{ClientId, Ino, Part};
 use capcore::Core;
+use capexplain::audit_line;
+use locktable::LockState;
 use sessiontab::Status;
 use std::alloc::{AllocError, Global};
 
@@ -13,6 +16,10 @@ pub enum Look {
     Rows,
     /// A row of the history, by its place from 0.
     Row(usize),
+    /// The text of a row of the history, by its place from 0.
+    Audit(usize),
+    /// The lock of an inode's owner, group and mode.
+    Auth(u64),
     /// The last inode that was made.
     Last,
     /// The inode that a directory has under a name.
@@ -34,6 +41,17 @@ fn row(alloc: Global, core: &Core, place: usize) -> Result<String, AllocError> {
     }
 }
 
+fn audit(alloc: Global, core: &Core, place: usize) -> Result<String, AllocError> {
+    match core.history().get(place) {
+        Some(row) => String::from_utf8_lossy(alloc, audit_line(alloc, row)?.as_slice()),
+        None => String::from_str(alloc, "no row"),
+    }
+}
+
+fn auth(core: &Core, number: u64) -> Option<LockState> {
+    core.lock_state(Ino(number), Part::A)
+}
+
 fn last(core: &Core) -> u64 {
     core.tree().last().0
 }
@@ -51,6 +69,8 @@ pub fn seen(alloc: Global, core: &Core, look: Look) -> Result<String, AllocError
     match look {
         Look::Rows => format!(in alloc; "{}", row_count(core)),
         Look::Row(place) => row(alloc, core, place),
+        Look::Audit(place) => audit(alloc, core, place),
+        Look::Auth(number) => lock_text(alloc, auth(core, number)),
         Look::Last => format!(in alloc; "{}", last(core)),
         Look::Child(dir, name) => format!(in alloc; "{:?}", child(core, dir, name)),
         Look::Session(client) => format!(in alloc; "{:?}", session(core, client)),

@@ -5,8 +5,8 @@ use crate::telling::answer_text;
 use arrayvec::ArrayVec;
 use capbits::{Cap, CapSet, Ino, Mode, Ticket};
 use capcore::{Message, MessageList, Outcome, PartValues, Refusal, Reply, Stop};
+use capexplain::reply_lines;
 use capgrant::{Access, Attr, Rule, Rules};
-use capscript::reply_lines;
 use std::alloc::Global;
 use std::test::Fail;
 

@@ -145,6 +145,22 @@ fn the_next_session_hears_nothing_of_the_last(rt: HostRuntime) -> Result<(), Fai
     talks(&rt, &[ONE_HAS_A_FILE, ITS_MESSAGES_GO])
 }
 
+// And so it is of one that was thrown out.
+const ITS_MESSAGES_GO_TOO: &[Said] = &[
+    ("get 2 2 F", "waiting 1"),
+    ("poll 1 9", "messages 1\n  caps 2 2 pFscr"),
+    ("ack 1 2 2", "done"),
+    ("evict 2", "done"),
+    ("unblock 2", "done"),
+    ("session 2 20 20 - allow rw", "done"),
+    ("poll 2 9", "messages 0"),
+];
+
+#[test]
+fn who_was_thrown_out_hears_nothing_of_it(rt: HostRuntime) -> Result<(), Fail> {
+    talks(&rt, &[ONE_HAS_A_FILE, ITS_MESSAGES_GO_TOO])
+}
+
 // Four requests wait, two of each client, the change of the second first.
 const FOUR_WAIT: &[Step] = &[
     ("session 1 10 10 - allow rw", "done", "-; -; -"),
@@ -226,6 +242,7 @@ fn throw_out_many(alloc: Global) -> Result<Talk, AllocError> {
     // There is no room on the blocklist for one more, who may end its session all the same.
     talk.says("session 1025 1 1 - none", "done")?;
     talk.says("evict 1025", "refused Limit")?;
+    talk.says("session 1025 1 1 - none", "refused SessionOpen")?;
     talk.says("stale 1025", "done")?;
     talk.says("evict 1025", "refused Limit")?;
     talk.says("evict 1", "refused NoSession")?;

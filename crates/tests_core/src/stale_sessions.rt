@@ -96,3 +96,62 @@ const ITS_REQUEST_IS_SERVED: &[Said] = &[
 fn the_request_of_a_stale_client_is_served(rt: HostRuntime) -> Result<(), Fail> {
     talks(&rt, &[ONE_HAS_A_FILE, ITS_REQUEST_IS_SERVED])
 }
+
+// The lock moves in the step by which the client becomes stale, and moves back in the one by which it is renewed.
+const BOTH_READ: &[Said] = &[
+    ("session 1 10 10 - allow rw", "done"),
+    ("session 2 20 20 - allow rw", "done"),
+    ("create 1 1 f 0644", "ino 2"),
+    ("open 1 2 r", "caps 1 pFscr"),
+    ("open 2 2 r", "caps 1 pFscr"),
+    ("want 2 2 pAsxFr", "caps 2 pAsFscr"),
+    ("stale 1", "done"),
+    ("poll 2 9", "messages 1\n  caps 2 3 pAsxFscr"),
+    ("renew 1", "done"),
+    ("poll 2 9", "messages 1\n  caps 2 4 pAsFscr"),
+];
+
+#[test]
+fn a_lock_moves_when_a_client_becomes_stale(rt: HostRuntime) -> Result<(), Fail> {
+    talks(&rt, &[BOTH_READ])
+}
+
+// What the client was told before it became stale, it may acknowledge while it is.
+const IT_ACKNOWLEDGES: &[Said] = &[
+    ("open 2 2 r", "caps 1 p"),
+    ("poll 1 9", "messages 1\n  caps 2 2 pFrw"),
+    ("stale 1", "done"),
+    ("ack 1 2 2", "done"),
+    ("poll 2 9", "messages 1\n  caps 2 2 pFr"),
+    ("release 1 2 Fw", "done"),
+    ("poll 2 9", "messages 1\n  caps 2 3 pFscr"),
+    ("renew 1", "done"),
+    ("poll 1 9", "messages 1\n  caps 2 4 pFscr"),
+];
+
+#[test]
+fn a_stale_client_acknowledges(rt: HostRuntime) -> Result<(), Fail> {
+    talks(&rt, &[ONE_HAS_A_FILE, IT_ACKNOWLEDGES])
+}
+
+// What was asked of a client is asked still when it is renewed, and not of its next session.
+const ASKED_BACK: &[Said] = &[
+    ("session 1 10 10 - allow rw", "done"),
+    ("create 1 1 f 0644", "ino 2"),
+    ("open 1 2 r", "caps 1 pFscr"),
+    ("recall 9", "recalled 1:2"),
+    ("stale 1", "done"),
+    ("renew 1", "done"),
+    ("poll 1 9", "messages 1\n  recall 2"),
+    ("recall 1", "recalled 1:2"),
+    ("close 1", "done"),
+    ("recall 9", "recalled -"),
+    ("session 1 10 10 - allow rw", "done"),
+    ("open 1 2 r", "caps 1 pFscr"),
+    ("poll 1 9", "messages 0"),
+];
+
+#[test]
+fn what_is_asked_back_ends_with_the_session(rt: HostRuntime) -> Result<(), Fail> {
+    talks(&rt, &[ASKED_BACK])
+}

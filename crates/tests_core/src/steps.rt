@@ -3,7 +3,8 @@
 use crate::asserting::same;
 use capbits::{CapSet, ClientId, Ino, Part, PassId, write_caps};
 use capcore::{Core, Event};
-use capscript::{read_line, reply_lines};
+use capexplain::reply_lines;
+use capscript::read_line;
 use captable::Entry;
 use locktable::{LockState, State};
 use std::alloc::{AllocError, Global};
@@ -23,7 +24,8 @@ fn state_text(alloc: Global, state: State) -> Result<String, AllocError> {
     }
 }
 
-fn lock_text(alloc: Global, lock: Option<LockState>) -> Result<String, AllocError> {
+/// A lock by its state, or by the two of a gather; a dash where there is none.
+pub fn lock_text(alloc: Global, lock: Option<LockState>) -> Result<String, AllocError> {
     match lock {
         None => String::from_str(alloc, "-"),
         Some(LockState::Stable(state)) => state_text(alloc, state),
