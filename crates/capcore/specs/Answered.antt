@@ -9,7 +9,7 @@ use Rattle.capcore.specs.Sound.{IsSound, AreGiven}
 use Rattle.capcore.specs.Step.{Step}
 
 -- it is a step, with this answer and these requests of earlier steps that it ended; the state stays sound, what is issued is
--- what is wanted, permitted and allowed, and at most one number more is given
+-- what is wanted, permitted and allowed, and no number rises by more than one
 pub record IsAnswered (old : State) (e : Event) (said : Said) (new : State) : Type 0 where
   pub step : Step old e said.reply said.ended new
   pub kept : said.kept ≡ said.reply

@@ -48,9 +48,9 @@ pub(crate) enum Turn {
 struct Room {
     // The locks of each inode that the client has an entry on or waits for, but for the root's.
     others: States,
-    // For each request that waits, in case that it is served,
+    // Lists with a place for each request that waits: of those that are served,
     endings: Endings,
-    // or dropped.
+    // and of those that are dropped, of which nobody is told.
     dropped: Messages,
 }
 
