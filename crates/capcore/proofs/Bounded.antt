@@ -94,5 +94,5 @@ moves-bounded s ms t order made = record {
 
 -- what is so of all moves that are made, is so of those of a step
 pub by-moves : (Fact : Scene → List Made → Type 0) (old : State) (e : Event) (answer : Reply) (ended : List Ended) (new : State) → Step old e answer ended new
-    → ((ms : List Made) (t : Scene) → MakesAll (direct old e).state.scene ms t → Fact (direct old e).state.scene ms) → ByMoves Fact old e answer new
-by-moves Fact old e answer ended new (moves, by) fact = (let settles = by.settles in (moves, ended, by, fact moves by.settled settles.made))
+    → ((ms : List Made) (t : Scene) → MakesAll (direct old e).state.scene ms t → Fact (direct old e).state.scene ms) → ByMoves Fact old e answer ended new
+by-moves Fact old e answer ended new (moves, by) fact = (let settles = by.settles in (moves, by, fact moves by.settled settles.made))

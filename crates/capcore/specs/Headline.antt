@@ -100,10 +100,10 @@ EachServing Fact first moves =
 
 -- ---- the moves of a step
 
--- some moves make the step, with this answer, and of them this is so, from the scene that the event leads to by itself
-abbrev pub ByMoves : (Scene → List Made → Type 0) → State → Event → Reply → State → Type 0
-ByMoves Fact old e answer new =
-    (moves : List Made) × (ended : List Ended) × StepBy old e moves answer ended new × Fact (direct old e).state.scene moves
+-- some moves make the step, with this answer and these requests that it ended, and of them this is so, from the scene that the
+-- event leads to by itself
+abbrev pub ByMoves : (Scene → List Made → Type 0) → State → Event → Reply → List Ended → State → Type 0
+ByMoves Fact old e answer ended new = (moves : List Made) × StepBy old e moves answer ended new × Fact (direct old e).state.scene moves
 
 -- a move that was made, as a move of the locks
 abbrev pub move_of : Made → Move

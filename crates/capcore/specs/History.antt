@@ -76,6 +76,10 @@ pub record IsNext (old : Told) (pass : PassId) (e : Event) (answer : Reply) (new
   pub rows : new.rows ≡ old.rows ++ made_row pass (rows_of pass old.rows + 1) e answer ended ∷ []
   pub max_rows : new.max_rows ≡ old.max_rows
 
+-- one row was added, and this is so of the requests that it says were ended
+abbrev pub InItsRow : List Row → List Row → (List Ended → Type 0) → Type 0
+InItsRow old new Fact = (row : Row) × (new ≡ old ++ row ∷ []) × Fact row.ended
+
 -- ---- what every core keeps
 
 -- the history is legal, led here from some opening state and is not longer than it may be; and the state is sound, with the

@@ -1,6 +1,6 @@
 //! The core and its steps.
 ghost use Rattle.std.specs.Prelude.{◌≡◌, ◌↔◌, ◌+◌, ◌<◌, ◌^◌, [], length, Err, IsTrue, IfOk, OnOk, OnErr};
-ghost use Rattle.capcore.specs.History.{HasNoStray, IsOpening, IsNext, IsTold, Replays, rows_of, AreNumbered};
+ghost use Rattle.capcore.specs.History.{HasNoStray, IsOpening, IsNext, IsTold, InItsRow, Replays, rows_of, AreNumbered};
 ghost use Rattle.capcore.specs.State.{State};
 ghost use Rattle.capcore.specs.Direct.{direct};
 ghost use Rattle.capcore.specs.Sound.{IsSound};
@@ -71,9 +71,12 @@ impl Core {
         ensures named { IfOk result (λ answer. DeniesByName self.old.state.scene event answer) }
         // So are the requests that wait, when they are served. At most as many are served as wait, and between two of them each
         // lock begins at most one gather and ends at most two.
-        ensures served_denied { IfOk result (λ answer. ByMoves (EachServing ServedDenied) self.old.state event answer self.new.state) }
-        ensures served_named { IfOk result (λ answer. ByMoves (EachServing ServedByName) self.old.state event answer self.new.state) }
-        ensures bounded { IfOk result (λ answer. ByMoves AreBounded self.old.state event answer self.new.state) }
+        ensures served_denied { IfOk result (λ answer. InItsRow self.old.rows self.new.rows
+            (λ ended. ByMoves (EachServing ServedDenied) self.old.state event answer ended self.new.state)) }
+        ensures served_named { IfOk result (λ answer. InItsRow self.old.rows self.new.rows
+            (λ ended. ByMoves (EachServing ServedByName) self.old.state event answer ended self.new.state)) }
+        ensures bounded { IfOk result (λ answer. InItsRow self.old.rows self.new.rows
+            (λ ended. ByMoves AreBounded self.old.state event answer ended self.new.state)) }
         // What is issued is what is wanted, permitted and allowed; and no two clients hold what may not be held together.
         ensures issued { OnOk result (IssuesExactly (direct self.old.state event).state.scene self.new.state.scene) }
         ensures in_place { OnOk result (AreInPlace self.new.state.scene) }

@@ -1,4 +1,4 @@
-use Rattle.std.proofs.Common.{◌≡◌, ◌<◌, ◌+◌, length, ap, sym, subst, ◌∙◌, arith}
+use Rattle.std.proofs.Common.{◌≡◌, ◌<◌, ◌+◌, ◌++◌, ◌∷◌, [], length, ap, sym, subst, ◌∙◌, arith}
 use Rattle.std.specs.Prelude.{IsTrue}
 use Rattle.capcore.specs.State.{State}
 use Rattle.capcore.specs.declared.history.Row.{Row}
@@ -6,7 +6,7 @@ use Rattle.capcore.specs.declared.reply.Reply.{Reply}
 use Rattle.capcore.specs.Answered.{IsAnswered}
 use Rattle.capcore.specs.Direct.{direct}
 use Rattle.capcore.specs.Headline.{DeniedExactly, DeniesByName, ServedDenied, ServedByName, EachServing, ByMoves, AreBounded, IssuesExactly, is_stop}
-use Rattle.capcore.specs.History.{Told, told, Replays, rows_of}
+use Rattle.capcore.specs.History.{Told, told, InItsRow, Replays, rows_of}
 use Rattle.capcore.specs.Sound.{IsSound}
 use Rattle.capcore.specs.Step.{Step}
 use Rattle.capcore.proofs.Apart.{held-apart}
@@ -34,9 +34,16 @@ kept_step c =
 next : (c : In_ok-push) → IsSound c.step.new.self
 next c = let all = answered_of c in all.sound
 
+-- its row, which comes last
+abbrev row_of : In_ok-push → Row
+row_of c = record { pass = c.args.pass; nth = c.next_number-nth.result; event = c.args.event; reply = c.in_ok-reply.field-0.kept; ended = c.in_ok-reply.field-0.ended }
+
+added : (c : In_ok-push) → c.push.new.self.items ≡ c.self.inside.rows.items ++ row_of c ∷ []
+added c = c.in_ok-push.ensures.items ∙ ap (λ rows. rows ++ row_of c ∷ []) c.reserve.ensures.items
+
 pub invariant_of-self-2 : goal.invariant_of-self-2
 invariant_of-self-2 c =
-    let row : Row = record { pass = c.args.pass; nth = c.next_number-nth.result; event = c.args.event; reply = c.in_ok-reply.field-0.kept; ended = c.in_ok-reply.field-0.ended } in
+    let row : Row = row_of c in
     let step : Step c.self.inside.world row.event row.reply row.ended c.step.new.self = kept_step c in
     let nth : row.nth ≡ rows_of row.pass c.self.inside.rows.items + 1 = c.next_number-nth.ensures ∙ ap (λ rows. rows_of c.args.pass rows + 1) (c.deref.ensures.value ∙ c.reserve.ensures.items) in
     let less : length c.self.inside.rows.items < c.self.inside.max_rows = omega (arith, c.len.ensures, c.if-len-self.false) in
@@ -57,21 +64,30 @@ returns-clause-named c =
 
 pub returns-clause-served_denied : goal.returns-clause-served_denied
 returns-clause-served_denied c =
-    subst (λ (t : Told). ByMoves (EachServing ServedDenied) t.state c.args.event c.in_ok-reply.field-0.reply c.step.new.self) c.self.view_is
-    (by-moves (EachServing ServedDenied) c.self.inside.world c.args.event c.in_ok-reply.field-0.reply c.in_ok-reply.field-0.ended c.step.new.self (step_of c)
-    (λ moves last made. served-denied (direct c.self.inside.world c.args.event).state.scene last moves made))
+    subst (λ (t : Told). InItsRow t.rows c.push.new.self.items (λ ended. ByMoves (EachServing ServedDenied) t.state c.args.event c.in_ok-reply.field-0.reply ended c.step.new.self)) c.self.view_is (
+      row_of c,
+      added c,
+      by-moves (EachServing ServedDenied) c.self.inside.world c.args.event c.in_ok-reply.field-0.reply c.in_ok-reply.field-0.ended c.step.new.self (step_of c)
+          (λ moves last made. served-denied (direct c.self.inside.world c.args.event).state.scene last moves made),
+    )
 
 pub returns-clause-served_named : goal.returns-clause-served_named
 returns-clause-served_named c =
-    subst (λ (t : Told). ByMoves (EachServing ServedByName) t.state c.args.event c.in_ok-reply.field-0.reply c.step.new.self) c.self.view_is
-    (by-moves (EachServing ServedByName) c.self.inside.world c.args.event c.in_ok-reply.field-0.reply c.in_ok-reply.field-0.ended c.step.new.self (step_of c)
-    (λ moves last made. served-by_name (direct c.self.inside.world c.args.event).state.scene last moves made))
+    subst (λ (t : Told). InItsRow t.rows c.push.new.self.items (λ ended. ByMoves (EachServing ServedByName) t.state c.args.event c.in_ok-reply.field-0.reply ended c.step.new.self)) c.self.view_is (
+      row_of c,
+      added c,
+      by-moves (EachServing ServedByName) c.self.inside.world c.args.event c.in_ok-reply.field-0.reply c.in_ok-reply.field-0.ended c.step.new.self (step_of c)
+          (λ moves last made. served-by_name (direct c.self.inside.world c.args.event).state.scene last moves made),
+    )
 
 pub returns-clause-bounded : goal.returns-clause-bounded
 returns-clause-bounded c =
-    subst (λ (t : Told). ByMoves AreBounded t.state c.args.event c.in_ok-reply.field-0.reply c.step.new.self) c.self.view_is
-    (by-moves AreBounded c.self.inside.world c.args.event c.in_ok-reply.field-0.reply c.in_ok-reply.field-0.ended c.step.new.self (step_of c)
-    (λ moves last made. moves-bounded (direct c.self.inside.world c.args.event).state.scene moves last (direct-order c.self.inside.world c.args.event c.in_ok-reply.ensures.locks) made))
+    subst (λ (t : Told). InItsRow t.rows c.push.new.self.items (λ ended. ByMoves AreBounded t.state c.args.event c.in_ok-reply.field-0.reply ended c.step.new.self)) c.self.view_is (
+      row_of c,
+      added c,
+      by-moves AreBounded c.self.inside.world c.args.event c.in_ok-reply.field-0.reply c.in_ok-reply.field-0.ended c.step.new.self (step_of c)
+          (λ moves last made. moves-bounded (direct c.self.inside.world c.args.event).state.scene moves last (direct-order c.self.inside.world c.args.event c.in_ok-reply.ensures.locks) made),
+    )
 
 pub returns-clause-issued : goal.returns-clause-issued
 returns-clause-issued c =
@@ -92,7 +108,7 @@ returns-clause-at_rest c = let sound = next c in sound.at_rest
 
 pub returns-clause-legal : goal.returns-clause-legal
 returns-clause-legal c =
-    let row : Row = record { pass = c.args.pass; nth = c.next_number-nth.result; event = c.args.event; reply = c.in_ok-reply.field-0.kept; ended = c.in_ok-reply.field-0.ended } in
+    let row : Row = row_of c in
     let step : Step c.self.inside.world row.event row.reply row.ended c.step.new.self = kept_step c in
     subst (λ (t : Told). (first : State) → Replays first t.rows t.state → Replays first c.push.new.self.items c.step.new.self) c.self.view_is
     (λ first past. rw (c.in_ok-push.ensures.items, c.reserve.ensures.items) (replays-more first c.self.inside.rows.items c.self.inside.world row c.step.new.self past step))
