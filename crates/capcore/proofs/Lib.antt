@@ -30,6 +30,7 @@ pub mod Polling
 pub mod Promised
 pub mod Recalled
 pub mod Revoking
+pub mod SameEvents
 pub mod SameOff
 pub mod Servings
 pub mod Sounding

@@ -15,10 +15,10 @@ use Rattle.capcore.specs.Direct.{is_of_ticket}
 use Rattle.capcore.specs.Untold.{HaveOwnNumbers, but_for}
 
 -- none of the others has the number of the first
-own-head : (m : Ended) (ms : List Ended) → HaveOwnNumbers (m ∷ ms) → All (λ other. other.ticket.0 ≢ m.ticket.0) ms
+pub own-head : (m : Ended) (ms : List Ended) → HaveOwnNumbers (m ∷ ms) → All (λ other. other.ticket.0 ≢ m.ticket.0) ms
 own-head m ms differ = λ k d room. differ 0 (suc k) d (omega arith) (omega arith)
 
-own-tail : (m : Ended) (ms : List Ended) → HaveOwnNumbers (m ∷ ms) → HaveOwnNumbers ms
+pub own-tail : (m : Ended) (ms : List Ended) → HaveOwnNumbers (m ∷ ms) → HaveOwnNumbers ms
 own-tail m ms differ = λ i j d less room. differ (suc i) (suc j) d (omega arith) (omega arith)
 
 -- where none has the number, all are left

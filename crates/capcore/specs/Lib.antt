@@ -22,3 +22,4 @@ pub mod Leaving
 pub mod Answered
 pub mod Serves
 pub mod Sweep
+pub mod SameEvents

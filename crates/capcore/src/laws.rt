@@ -19,6 +19,7 @@ ghost use Rattle.captable.specs.Table.{IsTable};
 ghost use Rattle.lockmachine.specs.Locks.{IsLockMap, lock_at, with_ino};
 ghost use Rattle.lockmachine.specs.Scene.{Scene, told_set};
 ghost use Rattle.capcore.specs.declared.event.Event.{Event};
+ghost use Rattle.capcore.specs.declared.history.Row.{Row};
 ghost use Rattle.capcore.specs.declared.outcome.Ended.{Ended};
 ghost use Rattle.capcore.specs.declared.reply.Reply.{Reply};
 ghost use Rattle.capcore.specs.declared.stopped.Stopped.{Stopped};
@@ -27,7 +28,8 @@ ghost use Rattle.capcore.specs.Direct.{with_scene};
 ghost use Rattle.capcore.specs.Leaving.{with_parts, LeavesEntries};
 ghost use Rattle.capcore.specs.Judge.{judged, stop_reply};
 ghost use Rattle.capcore.specs.Step.{Step};
-ghost use Rattle.capcore.specs.History.{HasNoStray, IsOpening};
+ghost use Rattle.capcore.specs.History.{HasNoStray, IsOpening, IsLegal};
+ghost use Rattle.capcore.specs.SameEvents.{FoundMemory, AllFoundMemory, calls};
 ghost use Rattle.capcore.specs.Settle.{Made, MakesAll, Settles, ended_in};
 ghost use Rattle.capcore.specs.Finish.{finished};
 ghost use Rattle.capcore.specs.Headline.{EachServing, ServedDenied, ServedByName, NoneConflict};
@@ -116,4 +118,23 @@ pub fn numbers_begin_at_the_event()
 pub fn a_settling_serves_at_most_who_waits()
     ensures { (first settled : Scene) (moves : List Made) → IsLockMap first.locks → MakesAll first moves settled
         → length (ended_in moves) + length settled.locks.queue ≡ length first.locks.queue }
+{}
+
+/// An event has one step in which every request finds its memory: what it answers, which requests of earlier steps it ends and
+/// where it leads are the same in any other such step.
+pub fn a_step_that_finds_memory_has_one_end()
+    ensures { (old new other : State) (e : Event) (a b : Reply) (xs ys : List Ended) → IsLockMap old.scene.locks
+        → Step old e a xs new → Step old e b ys other → FoundMemory a xs → FoundMemory b ys
+        → (a ≡ b) × (xs ≡ ys) × (new ≡ other) }
+{}
+
+/// So where no request finds no memory, events alone say what is answered and where they lead: two legal histories from one
+/// opening with the same events, called by the same passes, have the same rows and lead to the same state.
+pub fn the_same_events_have_the_same_history()
+    ensures rows { (fs : List ℕ) (tree : Nodes) (first last end : State) (rows others : List Row) → IsOpening fs tree first
+        → IsLegal first rows last → IsLegal first others end → calls rows ≡ calls others
+        → AllFoundMemory rows → AllFoundMemory others → rows ≡ others }
+    ensures state { (fs : List ℕ) (tree : Nodes) (first last end : State) (rows others : List Row) → IsOpening fs tree first
+        → IsLegal first rows last → IsLegal first others end → calls rows ≡ calls others
+        → AllFoundMemory rows → AllFoundMemory others → last ≡ end }
 {}

@@ -1,0 +1,22 @@
+-- Where no request finds no memory, events alone say what is answered and where they lead.
+use Rattle.std.specs.Prelude.{◌≢◌, List, All, map}
+use Rattle.capbits.specs.declared.ids.PassId.{PassId}
+use Rattle.capcore.specs.declared.event.Event.{Event}
+use Rattle.capcore.specs.declared.history.Row.{Row}
+use Rattle.capcore.specs.declared.outcome.Ended.{Ended}
+use Rattle.capcore.specs.declared.outcome.Outcome.TheVariants as outcome
+use Rattle.capcore.specs.declared.reply.Reply.{Reply}
+use Rattle.capcore.specs.declared.reply.Reply.TheVariants as reply
+
+-- neither the request of this answer nor one of those that ended found no memory
+pub record FoundMemory (answer : Reply) (ended : List Ended) : Type 0 where
+  pub answered : answer ≢ reply.OutOfMemory
+  pub each : All (λ m. m.outcome ≢ outcome.OutOfMemory) ended
+
+-- so it is of each row
+abbrev pub AllFoundMemory : List Row → Type 0
+AllFoundMemory rows = All (λ row. FoundMemory row.reply row.ended) rows
+
+-- which events were called, and by which passes
+abbrev pub calls : List Row → List (PassId × Event)
+calls rows = map (λ row. (row.pass, row.event)) rows
