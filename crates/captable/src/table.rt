@@ -10,6 +10,7 @@ use cap_arena::{MAX_NODES, TripleLists};
 use capbits::{Cap, CapSet, ClientId, Ino, Refusal};
 use std::alloc::{AllocError, Global};
 use std::collections::HashMap;
+use std::fmt;
 use std::marker::{Brand, Model};
 use std::sync::ledger::Blank;
 
@@ -19,7 +20,7 @@ pub const MAX_ENTRIES: usize = MAX_NODES;
 /// The entries of all clients on all inodes, at most `MAX_ENTRIES`, one for each client on an inode. They have two
 /// orders: the order of making, which stays, and the order of recall, in which clients are asked to give capabilities
 /// back: the entry that was left alone longest is the oldest, and comes first.
-#[derive(Debug, Drop)]
+#[derive(Drop)]
 pub struct CapTable {
     alloc: Global,
     lists: TripleLists<Slot>,
@@ -45,6 +46,18 @@ impl Model for CapTable {
     ghost view = { λ t. table_of t.lists t.made };
 
     ghost invariant = { λ t. Kept t.lists t.keys t.made × AreQuiet t.lists t.quiet };
+}
+
+// All but the places: they are no part of what the table keeps, and where memory was wanting there are fewer.
+impl fmt::Debug for CapTable {
+    fn fmt<W: fmt::Write>(&self, f: &mut fmt::Formatter<W>) -> fmt::Result {
+        f.debug_struct("CapTable")
+            .field("alloc", &self.alloc)
+            .field("lists", &self.lists)
+            .field("keys", &self.keys)
+            .field("made", &self.made)
+            .finish()
+    }
 }
 
 impl CapTable {
