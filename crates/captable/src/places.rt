@@ -1,5 +1,5 @@
 //! Places in the lists of clients, before which no entry is due. Of a client without one nothing is known.
-ghost use Rattle.std.specs.Prelude.{◌≡◌, ◌==◌, OnOk, OnErr, Some, if◌then◌else◌};
+ghost use Rattle.std.specs.Prelude.{◌≡◌, true, IfSome, if◌then◌else◌};
 ghost use Rattle.std.specs.Option.{option_map};
 ghost use Rattle.std.specs.HashMap.{get};
 ghost use Rattle.captable.specs.Places as words;
@@ -113,7 +113,8 @@ pub(crate) fn first_due(
     from: Option<usize>,
 ) -> Option<usize>
     requires { IsQuiet lists.now client from }
-    ensures { IsQuiet lists.now client result }
+    ensures quiet { IsQuiet lists.now client result }
+    ensures due { IfSome result (λ key. words.is_due_at lists.now key ≡ true) }
 {
     let mut place = from;
     'places: while let Some(key) = place {

@@ -352,7 +352,7 @@ impl CapTable {
     /// The client's entries from the place on that `skip_quiet` came to, or from an earlier one, of which an entry is due
     /// since then, in the order of making: among them each entry that is due.
     pub fn due_of(&self, client: ClientId) -> Walk<'_>
-        ensures rows { filter is_due result ≡ filter is_due (filter (is_of_client client) self.now.rows) }
+        ensures due { filter is_due result ≡ filter is_due (filter (is_of_client client) self.now.rows) }
         ensures sound { IsTable self.now }
     {
         let at = quiet_place(&self.quiet, &self.lists, client);

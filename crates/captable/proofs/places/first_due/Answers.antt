@@ -15,8 +15,8 @@ places-preserved c =
     step-quiet c.args.lists.now c.args.client c.places.place c.in-Some.key c.in-Some.is c.next_of_client-place.ensures.sound c.places.invariant c.next_of_client-place.result c.next_of_client-place.ensures.next
     (sym c.is_due_at.ensures ∙ c.if-is_due_at.false)
 
-pub returns-then-is_due_at : goal.returns-then-is_due_at
-returns-then-is_due_at c = subst (IsQuiet c.args.lists.now c.args.client) c.in-Some.is c.places.invariant
+pub returns-then-is_due_at-clause-quiet : goal.returns-then-is_due_at-clause-quiet
+returns-then-is_due_at-clause-quiet c = subst (IsQuiet c.args.lists.now c.args.client) c.in-Some.is c.places.invariant
 
-pub returns-in_default : goal.returns-in_default
-returns-in_default c = c.places.invariant
+pub returns-in_default-clause-quiet : goal.returns-in_default-clause-quiet
+returns-in_default-clause-quiet c = c.places.invariant

@@ -5,8 +5,8 @@ use Rattle.captable.specs.Calls.{is_of_client, is_due}
 use Rattle.captable.proofs.QuietKeys.{rows-due}
 use Rattle.captable.proofs.table.CapTable.due_of.Goals as goal
 
-pub returns-clause-rows : goal.returns-clause-rows
-returns-clause-rows c =
+pub returns-clause-due : goal.returns-clause-due
+returns-clause-due c =
     let t = c.self.inside.lists in
     let client = c.args.client in
     ap (filter is_due) c.from_place.ensures

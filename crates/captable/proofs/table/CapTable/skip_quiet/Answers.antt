@@ -11,7 +11,7 @@ invariant_of-self c =
     let old = c.self.inside.quiet in
     let new = c.insert.new.self in
     let quiet : AreQuiet t new = elim c.match-insert.branch [
-      | in-Ok w ↦ quiet-put old new t c.args.client c.first_due-place.result w.in-Ok.ensures.updates.0 c.first_due-place.ensures c.self.invariant.1
+      | in-Ok w ↦ quiet-put old new t c.args.client c.first_due-place.result w.in-Ok.ensures.updates.0 c.first_due-place.ensures.quiet c.self.invariant.1
       | in-Err w ↦ quiet-alike old new t (λ q. ap (lookup (same_client q)) w.in-Err.ensures.err) c.self.invariant.1
     ] in
     (c.self.invariant.0, quiet)
