@@ -1,8 +1,9 @@
 -- The messages that a walk over a client's entries lists, and what giving them leaves.
 use Rattle.std.proofs.Common.{◌≡◌, ◌≤◌, ◌<◌, ℕ, zero, suc, Bool, true, false, cond, ◌&&◌, ◌||◌, List, [], ◌∷◌, ◌++◌, length, take, filter, map, refl, sym, ap, subst, ◌∙◌, append_assoc, append-nil, arith}
-use Rattle.std.specs.Prelude.{◌==◌}
+use Rattle.std.specs.Prelude.{◌==◌, nat_lt}
 use Rattle.std.specs.List.{list_any, flat_map, IsDistinct}
 use Rattle.std.specs.Cmp.{nat_eq_equiv}
+use Rattle.std.proofs.lemmas.Bool.{or_parts}
 use Rattle.std.proofs.lemmas.List.{take-append-le, take_all}
 use Rattle.std.proofs.lemmas.List.Folds.{list_any-append}
 use Rattle.capbits.specs.declared.ids.ClientId.{ClientId}
@@ -11,10 +12,10 @@ use Rattle.capbits.specs.Caps.{Caps}
 use Rattle.captable.specs.declared.entry.Entry.{Entry}
 use Rattle.captable.specs.declared.entry.EntryRow.{EntryRow}
 use Rattle.captable.specs.Table.{Table, IsTable, holder, same, is_among}
-use Rattle.captable.specs.Calls.{is_of_client, changed, told, with_asked}
+use Rattle.captable.specs.Calls.{is_of_client, is_due, changed, told, with_asked}
 use Rattle.captable.specs.Many.{changed_where, remade}
 use Rattle.captable.proofs.OneByOne.{fold-changed_by}
-use Rattle.lockmachine.specs.Scene.{Scene}
+use Rattle.lockmachine.specs.Scene.{Scene, told_set}
 use Rattle.capcore.specs.declared.outcome.Ended.{Ended}
 use Rattle.capcore.specs.declared.outcome.Message.{Message}
 use Rattle.capcore.specs.declared.outcome.Message.TheVariants as message
@@ -79,11 +80,24 @@ first-due s client max t ended table messages =
     ap (λ ms. take max (end_messages client ms ++ due_of s.scene (filter (is_of_client client) s.scene.table.rows))) messages
     ∙ ap (λ (t : Table). take max (end_messages client ended ++ due_of s.scene (filter (is_of_client client) t.rows))) table
 
--- what a walk over the client's entries has listed
-pub listed-first : (s : State) (client : ClientId) (max : ℕ) (t : Table) (ended : List Ended) (rows : List EntryRow) (listed : List Message) → rows ≡ filter (is_of_client client) t.rows → s.scene.table ≡ t → s.messages ≡ ended
+-- entries that are not due add no message
+due-rows : (s : Scene) (rows : List EntryRow) → due_of s (filter is_due rows) ≡ due_of s rows
+due-rows s [] = refl
+due-rows s (row ∷ rows) = by_test (is_due row) refl (due-rows s rows)
+  where
+    by_test : (b : Bool) → is_due row ≡ b → due_of s (filter is_due rows) ≡ due_of s rows → due_of s (cond b (row ∷ filter is_due rows) (filter is_due rows)) ≡ due_of s (row ∷ rows)
+    by_test true e rest = ap (λ ms. (caps_messages s row ++ recall_messages row) ++ ms) rest
+    by_test false e rest =
+        let p = or_parts (nat_lt row.entry.told_seq row.entry.seq) row.entry.asked e in
+        let none : caps_messages s row ++ recall_messages row ≡ [] =
+        λ i. cond (p.0 i) (message.Caps row.holder.ino row.entry.seq (told_set s row) ∷ []) [] ++ cond (p.1 i) (message.Recall row.holder.ino ∷ []) [] in
+        rest ∙ ap (λ ms. ms ++ due_of s rows) (sym none)
+
+-- what a walk over those of the client's entries that are due has listed
+pub listed-first : (s : State) (client : ClientId) (max : ℕ) (t : Table) (ended : List Ended) (rows : List EntryRow) (listed : List Message) → filter is_due rows ≡ filter is_due (filter (is_of_client client) t.rows) → s.scene.table ≡ t → s.messages ≡ ended
     → listed ≡ take max (end_messages client ended ++ due_of s.scene rows) → listed ≡ first_messages s client max
 listed-first s client max t ended rows listed of table messages is =
-    is ∙ ap (λ rows. take max (end_messages client ended ++ due_of s.scene rows)) of ∙ sym (first-due s client max t ended table messages)
+    is ∙ ap (λ ms. take max (end_messages client ended ++ ms)) (sym (due-rows s.scene rows) ∙ ap (due_of s.scene) of ∙ due-rows s.scene (filter (is_of_client client) t.rows)) ∙ sym (first-due s client max t ended table messages)
 
 -- ---- the requests that ended
 

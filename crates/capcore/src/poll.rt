@@ -27,7 +27,7 @@ pub(crate) fn due_messages(
         → due ≡ first_messages s client max) }
 {
     let mut due = ended_messages(alloc, ended, client, max)?;
-    let mut walk = table.entries_of(client);
+    let mut walk = table.due_of(client);
     'rows: while let Some(row) = walk.next() {
         add_due(&mut due, max, locks, &row)?;
         if due.as_slice().len() >= max as usize {

@@ -222,6 +222,7 @@ impl World {
         let given = due_messages(alloc, ended, &self.table, &self.locks, client, max)?;
         let kept = due_messages(alloc, ended, &self.table, &self.locks, client, max)?;
         give(&mut self.table, client, given.as_slice());
+        self.table.skip_quiet(client);
         self.messages.remove_given(client, given.as_slice());
         Ok(Said {
             reply: Reply::Messages(given),

@@ -1,10 +1,11 @@
 -- The parts of a table without entries.
-use Rattle.std.proofs.Common.{◌≡◌, ℕ, Some, None, [], refl, sym, ap, subst, ◌∙◌, arith}
+use Rattle.std.proofs.Common.{◌≡◌, ℕ, Option, Some, None, [], refl, sym, ap, subst, ◌∙◌, arith}
 use Rattle.std.specs.List.{IsDistinct}
 use Rattle.std.specs.Ordering.{nat_cmp}
 use Rattle.std.specs.FinMap as map
 use Rattle.std.specs.HashMap.{HashMap}
 use Rattle.std.specs.Map.{lookup}
+use Rattle.capbits.specs.declared.ids.ClientId.{ClientId}
 use Rattle.cap_arena.specs.Heads.{ends_or_none}
 use Rattle.cap_arena.specs.declared.nodes.Ends.{Ends}
 use Rattle.cap_arena.specs.Lists.{Lists, ListName, OfInode, OfClient, OfRecall, IsList, IsLists, empty}
@@ -12,6 +13,7 @@ use Rattle.captable.specs.declared.entry.Holder.{Holder}
 use Rattle.captable.specs.declared.entry.Slot.{Slot}
 use Rattle.captable.specs.Table.{same}
 use Rattle.captable.specs.Kept.{Kept}
+use Rattle.captable.specs.Places.{same_client, AreQuiet}
 use Rattle.captable.proofs.Tables.{IsTable-empty}
 
 no_ends_at : (number : ℕ) → map.get (map.empty {X = Ends} {R = nat_cmp}) number ≡ None
@@ -42,8 +44,12 @@ Kept-empty t hs nodes keys =
       once = λ number. omega arith;
       inodes = λ ino. refl;
       clients = λ client. refl;
+      ordered = λ client. record { rises = λ i j there apart. absurd (cc) };
       keyed = record {
         to_node = λ k key e. absurd (let n : None ≡ Some key = sym (ap (lookup (same k)) keys) ∙ e in cc);
         to_key = λ k key e. absurd (cc);
       };
     }
+
+pub AreQuiet-empty : {S : Type 0} (t : Lists Slot) (places : HashMap ClientId (Option ℕ) S) → places.entries ≡ [] → AreQuiet t places
+AreQuiet-empty t places none client place e = absurd (let n : None ≡ Some place = sym (ap (lookup (same_client client)) none) ∙ e in cc)

@@ -1,20 +1,21 @@
 -- What is kept of a table's parts, after a change of one node.
-use Rattle.std.proofs.Common.{◌≡◌, ℕ, ◌+◌, ◌≤◌, Bool, true, false, not, cond, Option, Some, None, IsSome, List, [], ◌∷◌, ◌++◌, map, filter, length, refl, sym, ap, ◌∙◌, arith, nat_eq, suc}
+use Rattle.std.proofs.Common.{◌≡◌, ℕ, ◌+◌, ◌<◌, ◌≤◌, Bool, true, false, not, cond, ◌||◌, Option, Some, None, IsSome, List, [], ◌∷◌, ◌++◌, map, filter, length, refl, sym, ap, subst, ◌∙◌, arith, nat_eq, suc}
 use Rattle.std.specs.Option.{option_map, option_map_or}
 use Rattle.std.specs.HashMap.{HashMap, get}
 use Rattle.std.proofs.lemmas.List.{map-append}
 use Rattle.std.proofs.lemmas.Bool.{eq-eqb, eqb-true}
 use Rattle.cap_arena.specs.declared.nodes.Node.{Node}
 use Rattle.cap_arena.specs.Walks.{is_among}
-use Rattle.cap_arena.specs.Lists.{Lists, ListName, belongs, node_at, keys, IsLists}
+use Rattle.cap_arena.specs.Lists.{Lists, ListName, OfRecall, belongs, node_at, keys, IsLists}
 use Rattle.captable.specs.declared.entry.Holder.{Holder}
 use Rattle.captable.specs.declared.entry.Entry.{Entry}
 use Rattle.captable.specs.declared.entry.EntryRow.{EntryRow}
 use Rattle.captable.specs.declared.entry.Slot.{Slot}
 use Rattle.captable.specs.Table.{IsTable, same, is_row_of}
 use Rattle.captable.specs.Calls.{new_entry, opened, changed, change_rows, without, moved_last, touched}
-use Rattle.captable.specs.Nodes.{holder_of, row_of, with_entry, has_number, by_number, table_by}
+use Rattle.captable.specs.Nodes.{holder_of, row_of, with_entry, has_number, with_first, nodes_at, nodes_in, by_number, table_by}
 use Rattle.captable.specs.Kept.{AreBelow, AreKeys}
+use Rattle.captable.specs.Places.{number_at}
 use Rattle.captable.proofs.Tables.{same_equiv, same-is}
 use Rattle.captable.proofs.OneByOne.{one_at_once, if_passing}
 use Rattle.captable.proofs.NodesAt.{is_held_by, IsHeld, IsFree, AllHave, set_in}
@@ -152,3 +153,37 @@ all_have t is name key there = by_node (node_at t key) (sym ((is.lists name).nod
     by_node : (o : Option (Node Slot)) → option_map_or (belongs name) o false ≡ true → IsSome o
     by_node None e = absurd (cc)
     by_node (Some n) e = refl
+
+-- ---- numbers of nodes
+
+abbrev number_of : Option (Node Slot) → ℕ
+number_of o = option_map_or (λ (node : Node Slot). node.value.number) o 0
+
+below-first : (end : ℕ) (o : Option (Node Slot)) (ns : List (Node Slot)) → AreBelow end (with_first o ns) → IsSome o → number_of o < end
+below-first end None ns below some = absurd (cc)
+below-first end (Some m) ns below some = below.0
+
+below-rest : (end : ℕ) (o : Option (Node Slot)) (ns : List (Node Slot)) → AreBelow end (with_first o ns) → AreBelow end ns
+below-rest end None ns below = below
+below-rest end (Some m) ns below = below.1
+
+below-at : (at : ℕ → Option (Node Slot)) (ks : List ℕ) (end : ℕ) → AreBelow end (nodes_at at ks) → (k : ℕ) → is_among ks k ≡ true → IsSome (at k) → number_of (at k) < end
+below-at at [] end below k there some = absurd (cc)
+below-at at (q ∷ ks) end below k there some = by_test (nat_eq k q) refl there (below-at at ks end (below-rest end (at q) (nodes_at at ks) below) k)
+  where
+    by_test : (b : Bool) → nat_eq k q ≡ b → (b || is_among ks k) ≡ true → (is_among ks k ≡ true → IsSome (at k) → number_of (at k) < end) → number_of (at k) < end
+    by_test true e there rest =
+        let is : k ≡ q = eqb-true k q e in
+        subst (λ x. number_of (at x) < end) (sym is) (below-first end (at q) (nodes_at at ks) below (subst (λ x. IsSome (at x)) is some))
+    by_test false e there rest = rest there some
+
+-- the node of each key of a list has a number below the next one
+pub number-below : (t : Lists Slot) → IsLists t → (end : ℕ) → AreBelow end (nodes_in t OfRecall) → (name : ListName) (k : ℕ) → is_among (keys t name) k ≡ true → number_at t k < end
+number-below t is end below name k there = below-at (node_at t) (keys t OfRecall) end below k ((is.lists OfRecall).nodes k ∙ each (node_at t k) some) some
+  where
+    some : IsSome (node_at t k)
+    some = all_have t is name k there
+
+    each : (o : Option (Node Slot)) → IsSome o → option_map_or (belongs {T = Slot} OfRecall) o false ≡ true
+    each None some = absurd (cc)
+    each (Some n) some = refl

@@ -9,6 +9,9 @@ pub mod NodesAt
 pub mod Numbers
 pub mod OneByOne
 pub mod Opening
+pub mod Orders
+pub mod Quiet
+pub mod QuietKeys
 pub mod Reading
 pub mod Recalling
 pub mod Removing

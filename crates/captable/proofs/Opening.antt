@@ -1,11 +1,12 @@
 -- A table's parts, where a node was added.
-use Rattle.std.proofs.Common.{◌≡◌, ℕ, ◌+◌, ◌≤◌, Bool, true, false, cond, Some, None, [], ◌∷◌, ◌++◌, map, filter, length, refl, sym, ap, subst, ◌∙◌, arith, nat_eq, suc, append-nil}
-use Rattle.std.specs.Option.{option_map}
+use Rattle.std.proofs.Common.{◌≡◌, ℕ, ◌+◌, ◌<◌, ◌≤◌, Bool, true, false, cond, Some, None, [], ◌∷◌, ◌++◌, map, filter, length, refl, sym, ap, subst, ◌∙◌, arith, nat_eq, suc, append-nil}
+use Rattle.std.specs.Option.{option_map, option_map_or}
 use Rattle.std.specs.HashMap.{HashMap, get}
 use Rattle.std.proofs.lemmas.Bool.{eq-eqb, eqb-true}
 use Rattle.std.proofs.lemmas.List.{map-append}
 use Rattle.std.proofs.lemmas.List.Elements.{filter-append}
 use Rattle.capbits.specs.Refusal.{first_failing}
+use Rattle.capbits.specs.declared.ids.ClientId.{ClientId}
 use Rattle.cap_arena.specs.declared.nodes.Node.{Node}
 use Rattle.cap_arena.specs.Walks.{is_among}
 use Rattle.cap_arena.specs.Calls.{Adds}
@@ -18,24 +19,29 @@ use Rattle.captable.specs.Calls.{new_entry, opened, is_of_client, is_of_inode}
 use Rattle.captable.specs.Tests.{open_tests}
 use Rattle.captable.specs.Nodes.{holder_of, row_of, has_number, with_first, nodes_at, nodes_in, table_by, table_of}
 use Rattle.captable.specs.Kept.{AreBelow, Kept}
+use Rattle.captable.specs.Places.{number_at, AreInOrder}
+use Rattle.captable.proofs.Orders.{order-same, order-wider}
 use Rattle.captable.proofs.Tables.{same_equiv, same-is, IsTable-opened}
 use Rattle.captable.proofs.NodesAt.{nodes-append, nodes-same}
 use Rattle.captable.proofs.Numbers.{below-more, below-append, once-next}
-use Rattle.captable.proofs.Keeping.{held, not_in, table-added}
+use Rattle.captable.proofs.Keeping.{held, not_in, number-below, table-added}
 use Rattle.captable.proofs.Reading.{entry-found}
 
 module _ {S : Type 0} (t t' : Lists Slot) (hs hs' : HashMap Holder ℕ S) (made : ℕ) (key : ℕ) (x : Node Slot) (is : Kept t hs made) (adds : Adds t t' key x)
     (entry : x.value.entry ≡ new_entry) (number : x.value.number ≡ made) (new : entry_at (table_of t made) (holder_of x) ≡ None) where
   -- the nodes that were there
-  nodes-before : (name : ListName) → nodes_at (node_at t') (keys t name) ≡ nodes_in t name
-  nodes-before name = nodes-same (node_at t) (node_at t') (keys t name) (λ k there. alike k there (nat_eq k key) refl)
+  node-before : (name : ListName) (k : ℕ) → is_among (keys t name) k ≡ true → node_at t' k ≡ node_at t k
+  node-before name k there = alike (nat_eq k key) refl
     where
-      alike : (k : ℕ) → is_among (keys t name) k ≡ true → (b : Bool) → nat_eq k key ≡ b → node_at t' k ≡ node_at t k
-      alike k there false e = adds.nodes k ∙ ap (λ b. cond b (Some x) (node_at t k)) e
-      alike k there true e =
+      alike : (b : Bool) → nat_eq k key ≡ b → node_at t' k ≡ node_at t k
+      alike false e = adds.nodes k ∙ ap (λ b. cond b (Some x) (node_at t k)) e
+      alike true e =
           let same_key : k ≡ key = eqb-true k key e in
           let out : is_among (keys t name) key ≡ false = not_in t is.sound name key adds.was_free in
           absurd (let c : is_among (keys t name) key ≡ true = ap (is_among (keys t name)) (sym same_key) ∙ there in cc)
+
+  nodes-before : (name : ListName) → nodes_at (node_at t') (keys t name) ≡ nodes_in t name
+  nodes-before name = nodes-same (node_at t) (node_at t') (keys t name) (node-before name)
 
   own-node : node_at t' key ≡ Some x
   own-node = adds.nodes key ∙ ap (λ b. cond b (Some x) (node_at t key)) (eq-eqb key key refl)
@@ -60,6 +66,23 @@ module _ {S : Type 0} (t t' : Lists Slot) (hs hs' : HashMap Holder ℕ S) (made 
       last : (b : Bool) → map row_of (cond b (x ∷ []) []) ≡ cond b (row_of x ∷ []) []
       last true = refl
       last false = refl
+
+  -- numbers rise
+  ordered-more : (client : ClientId) → AreInOrder (number_at t') (keys t' (OfClient client))
+  ordered-more client = subst (AreInOrder (number_at t')) (sym (adds.lists (OfClient client))) (by_test (belongs (OfClient client) x))
+    where
+      stays : (k : ℕ) → is_among (keys t (OfClient client)) k ≡ true → number_at t' k ≡ number_at t k
+      stays k there = ap (λ o. option_map_or (λ (node : Node Slot). node.value.number) o 0) (node-before (OfClient client) k there)
+
+      own : number_at t' key ≡ made
+      own = ap (λ o. option_map_or (λ (node : Node Slot). node.value.number) o 0) own-node ∙ number
+
+      less : (k : ℕ) → is_among (keys t (OfClient client)) k ≡ true → number_at t' k < number_at t' key
+      less k there = omega (arith, stays k there, own, number-below t is.sound made is.below (OfClient client) k there)
+
+      by_test : (b : Bool) → AreInOrder (number_at t') (cond b (keys t (OfClient client) ++ key ∷ []) (keys t (OfClient client)))
+      by_test true = order-wider (number_at t') (keys t (OfClient client)) key less (order-same (number_at t) (number_at t') (keys t (OfClient client)) stays (is.ordered client))
+      by_test false = order-same (number_at t) (number_at t') (keys t (OfClient client)) stays (is.ordered client)
 
   no-key : (q : ℕ) → get same hs (holder_of x) ≡ Some q → ⊥
   no-key q found = let o = held t hs is.keyed (holder_of x) q found in (let has = entry-found t hs made is (holder_of x) q o.0 found o.1.there in absurd (cc))
@@ -106,5 +129,6 @@ module _ {S : Type 0} (t t' : Lists Slot) (hs hs' : HashMap Holder ℕ S) (made 
           once = λ a. subst (λ ns. length (filter (has_number a) ns) ≤ 1) (sym (nodes-more OfRecall)) (once-next (nodes_in t OfRecall) x made number is.below is.once a);
           inodes = λ ino. list-more (OfInode ino) (is_of_inode ino) refl (is.inodes ino);
           clients = λ client. list-more (OfClient client) (is_of_client client) refl (is.clients client);
+          ordered = λ client. ordered-more client;
           keyed = record { to_node = to_node-more; to_key = to_key-more };
         }

@@ -1,33 +1,39 @@
 -- What the parts of a table answer.
-use Rattle.std.proofs.Common.{◌≡◌, ℕ, true, Some, None, IsSome, is_some, List, [], ◌∷◌, map, length, refl, sym, ap, ◌∙◌, nat_le, suc}
+use Rattle.std.proofs.Common.{◌≡◌, ℕ, true, Option, Some, None, IsSome, is_some, List, [], ◌∷◌, filter, map, length, slice_get, refl, sym, ap, ◌∙◌, nat_le, suc}
 use Rattle.std.specs.Prelude.{◌==◌}
 use Rattle.std.specs.List.{find}
 use Rattle.std.specs.Option.{option_map, option_and_then}
 use Rattle.std.specs.HashMap.{HashMap, get}
 use Rattle.std.proofs.lemmas.Bool.{eq-eqb}
+use Rattle.capbits.specs.declared.ids.ClientId.{ClientId}
 use Rattle.cap_arena.specs.declared.nodes.Node.{Node}
 use Rattle.capbits.specs.declared.refusal.Refusal.TheVariants.{Limit}
 use Rattle.capbits.specs.Refusal.{first_failing, refused_if}
 use Rattle.cap_arena.specs.Walks.{key_after}
 use Rattle.cap_arena.specs.Calls.{add_tests}
-use Rattle.cap_arena.specs.Lists.{Lists, OfInode, OfRecall, node_at, count, keys}
+use Rattle.cap_arena.specs.Lists.{Lists, OfInode, OfClient, OfRecall, node_at, count, keys}
 use Rattle.cap_arena.proofs.Counts.{length-recall}
 use Rattle.captable.specs.declared.entry.Holder.{Holder}
 use Rattle.captable.specs.declared.entry.Slot.{Slot}
 use Rattle.captable.specs.Table.{same, is_row_of, entry_of, entry_at}
-use Rattle.captable.specs.Calls.{newer_in, is_of_inode}
+use Rattle.captable.specs.Calls.{newer_in, is_of_client, is_of_inode}
 use Rattle.captable.specs.Tests.{open_tests}
 use Rattle.captable.specs.Nodes.{holder_of, row_of, nodes_in, by_number, table_of, AreLists}
+use Rattle.captable.specs.Walks.{first_holder}
 use Rattle.captable.specs.Kept.{Kept}
 use Rattle.captable.proofs.Tables.{same-is}
 use Rattle.captable.proofs.Searches.{find-filter_kept}
 use Rattle.captable.proofs.Numbers.{length-by_number}
-use Rattle.captable.proofs.NodesAt.{length-nodes, find-held, find-free, newer-held, newer-free}
+use Rattle.captable.proofs.NodesAt.{length-nodes, first-held, find-held, find-free, newer-held, newer-free}
 use Rattle.captable.proofs.Keeping.{held, free, is_in, all_have}
 
 length-mapped : {X Y : Type 0} (f : X → Y) (xs : List X) → length (map f xs) ≡ length xs
 length-mapped f [] = refl
 length-mapped f (x ∷ xs) = ap suc (length-mapped f xs)
+
+first-mapped : (ns : List (Node Slot)) → slice_get (map holder_of ns) 0 ≡ first_holder (map row_of ns)
+first-mapped [] = refl
+first-mapped (n ∷ ns) = refl
 
 module _ {S : Type 0} (t : Lists Slot) (hs : HashMap Holder ℕ S) (made : ℕ) (is : Kept t hs made) where
   -- the row of a holder is found among those on its inode
@@ -54,6 +60,13 @@ module _ {S : Type 0} (t : Lists Slot) (hs : HashMap Holder ℕ S) (made : ℕ) 
   newer-found h key found =
       let o = held t hs is.keyed h key found in
       newer-held (node_at t) h key o.0 o.1 (keys t OfRecall) (all_have t is.sound OfRecall)
+
+  -- the holder of a client's first node
+  pub first-found : (client : ClientId) (o : Option ℕ) → o ≡ slice_get (keys t (OfClient client)) 0
+      → option_and_then (λ k. option_map holder_of (node_at t k)) o ≡ first_holder (filter (is_of_client client) (table_of t made).rows)
+  first-found client o first =
+      ap (λ o. option_and_then (λ k. option_map holder_of (node_at t k)) o) first ∙ sym (first-held (node_at t) (keys t (OfClient client)) (all_have t is.sound (OfClient client)))
+      ∙ first-mapped (nodes_in t (OfClient client)) ∙ ap first_holder (is.clients client)
 
   pub newer-none : (h : Holder) → get same hs h ≡ None → newer_in (table_of t made).recall h ≡ None
   newer-none h none = newer-free (node_at t) h (free t hs is.keyed h none) (keys t OfRecall)
@@ -84,5 +97,6 @@ module _ {S : Type 0} (t : Lists Slot) (hs : HashMap Holder ℕ S) (made : ℕ) 
         once = is.once;
         inodes = is.inodes;
         clients = is.clients;
+        ordered = is.ordered;
         keyed = record { to_node = λ k q e. is.keyed.to_node k q (sym (alike k) ∙ e); to_key = λ k q e. alike k ∙ is.keyed.to_key k q e };
       }

@@ -1,10 +1,12 @@
 -- A table's parts, where a node was taken out.
 use Rattle.std.proofs.Common.{◌≡◌, ℕ, ◌≤◌, Bool, true, false, not, cond, Some, None, map, filter, length, refl, sym, ap, subst, ◌∙◌, nat_eq}
-use Rattle.std.specs.Option.{option_map}
+use Rattle.std.specs.Option.{option_map, option_map_or}
 use Rattle.std.specs.HashMap.{HashMap, get}
 use Rattle.std.specs.Cmp.{nat_eq_equiv}
 use Rattle.std.proofs.lemmas.Bool.{eq-eqb, eqb-true}
-use Rattle.cap_arena.specs.Calls.{Removes}
+use Rattle.capbits.specs.declared.ids.ClientId.{ClientId}
+use Rattle.cap_arena.specs.declared.nodes.Node.{Node}
+use Rattle.cap_arena.specs.Calls.{keys_without, Removes}
 use Rattle.cap_arena.specs.Lists.{Lists, ListName, OfInode, OfClient, OfRecall, node_at, keys, IsLists}
 use Rattle.captable.specs.declared.entry.Holder.{Holder}
 use Rattle.captable.specs.declared.entry.EntryRow.{EntryRow}
@@ -13,6 +15,8 @@ use Rattle.captable.specs.Table.{Table, IsTable, same, is_row_of}
 use Rattle.captable.specs.Calls.{without, is_of_client, is_of_inode}
 use Rattle.captable.specs.Nodes.{holder_of, row_of, has_number, nodes_at, nodes_in, table_by, table_of}
 use Rattle.captable.specs.Kept.{AreBelow, Kept}
+use Rattle.captable.specs.Places.{number_at, AreInOrder}
+use Rattle.captable.proofs.Orders.{order-same, order-left, left-apart}
 use Rattle.captable.proofs.Tables.{same_equiv, same-is, IsTable-without}
 use Rattle.captable.proofs.Searches.{filter-filter}
 use Rattle.captable.proofs.NodesAt.{is_held_by, nodes-removed}
@@ -33,6 +37,15 @@ module _ {S : Type 0} (t t' : Lists Slot) (hs hs' : HashMap Holder ℕ S) (made 
   list-left name q was =
       ap (map row_of) (nodes-left name) ∙ sym (filter-mapped (λ row. not (is_row_of h row)) row_of (nodes_in t name)) ∙ ap (filter (λ row. not (is_row_of h row))) was
       ∙ sym (filter-filter q (λ row. not (is_row_of h row)) (table_of t made).rows) ∙ ap (λ (u : Table). filter q u.rows) (sym table-left)
+
+  ordered-left : (client : ClientId) → AreInOrder (number_at t') (keys t' (OfClient client))
+  ordered-left client =
+      let ks = keys t (OfClient client) in
+      subst (AreInOrder (number_at t')) (sym (removes.lists (OfClient client)))
+      (order-same (number_at t) (number_at t') (keys_without ks key) (λ k there. number-stays k (nat_eq_equiv.symm k key ∙ left-apart ks key k there)) (order-left (number_at t) ks key (is.ordered client)))
+    where
+      number-stays : (k : ℕ) → nat_eq k key ≡ false → number_at t' k ≡ number_at t k
+      number-stays k apart = ap (λ o. option_map_or (λ (node : Node Slot). node.value.number) o 0) (removes.nodes k ∙ ap (λ b. cond b None (node_at t k)) apart)
 
   module _ (updates : (q : Holder) → get same hs' q ≡ cond (same h q) None (get same hs q)) where
     to_node-left : (k : Holder) (q : ℕ) → get same hs' k ≡ Some q → option_map holder_of (node_at t' q) ≡ Some k
@@ -75,5 +88,6 @@ module _ {S : Type 0} (t t' : Lists Slot) (hs hs' : HashMap Holder ℕ S) (made 
           once = λ number. subst (λ ns. length (filter (has_number number) ns) ≤ 1) (sym (nodes-left OfRecall)) (once-filter (λ m. not (is_held_by h m)) (nodes_in t OfRecall) is.once number);
           inodes = λ ino. list-left (OfInode ino) (is_of_inode ino) (is.inodes ino);
           clients = λ client. list-left (OfClient client) (is_of_client client) (is.clients client);
+          ordered = λ client. ordered-left client;
           keyed = record { to_node = to_node-left; to_key = to_key-left };
         }

@@ -1,6 +1,6 @@
 -- A table's parts, where an entry was changed.
 use Rattle.std.proofs.Common.{◌≡◌, ℕ, ◌≤◌, Bool, true, false, cond, Option, Some, None, map, filter, length, refl, sym, ap, subst, ◌∙◌, nat_eq}
-use Rattle.std.specs.Option.{option_map}
+use Rattle.std.specs.Option.{option_map, option_map_or}
 use Rattle.std.specs.HashMap.{HashMap, get}
 use Rattle.cap_arena.specs.declared.nodes.Node.{Node}
 use Rattle.cap_arena.specs.Lists.{Lists, ListName, OfInode, OfClient, OfRecall, node_at, keys, IsLists}
@@ -12,6 +12,8 @@ use Rattle.captable.specs.Table.{IsTable, same, is_row_of}
 use Rattle.captable.specs.Calls.{changed, is_of_client, is_of_inode}
 use Rattle.captable.specs.Nodes.{holder_of, row_of, with_entry, has_number, nodes_at, nodes_in, table_by, table_of, SetsEntry}
 use Rattle.captable.specs.Kept.{AreBelow, Kept}
+use Rattle.captable.specs.Places.{number_at, AreInOrder}
+use Rattle.captable.proofs.Orders.{order-same}
 use Rattle.captable.proofs.Tables.{IsTable-changed}
 use Rattle.captable.proofs.Searches.{filter-map}
 use Rattle.captable.proofs.OneByOne.{same_holder}
@@ -46,6 +48,14 @@ module _ {S : Type 0} (t t' : Lists Slot) (hs : HashMap Holder ℕ S) (made : �
       by_test true (Some m) = refl
       by_test false o = refl
 
+  number-stays : (k : ℕ) → number_at t' k ≡ number_at t k
+  number-stays k = ap (λ o. option_map_or (λ (node : Node Slot). node.value.number) o 0) (sets.nodes k) ∙ by_test (nat_eq k key) (node_at t k)
+    where
+      by_test : (b : Bool) (o : Option (Node Slot)) → option_map_or (λ (node : Node Slot). node.value.number) (cond b (option_map (with_entry x) o) o) 0 ≡ option_map_or (λ (node : Node Slot). node.value.number) o 0
+      by_test true None = refl
+      by_test true (Some m) = refl
+      by_test false o = refl
+
   pub Kept-put : IsLists t' → Kept t' hs made
   Kept-put sound =
       record {
@@ -55,5 +65,7 @@ module _ {S : Type 0} (t t' : Lists Slot) (hs : HashMap Holder ℕ S) (made : �
         once = λ number. subst (λ ns. length (filter (has_number number) ns) ≤ 1) (sym (nodes-now OfRecall)) (once-map (set_in h x) (keeps_number h x) (nodes_in t OfRecall) is.once number);
         inodes = λ ino. list-now (OfInode ino) (is_of_inode ino) (λ row. ap (λ (k : Holder). is_of_inode ino (record row { holder = k })) (same_holder (λ _. x) row (is_row_of h row))) (is.inodes ino);
         clients = λ client. list-now (OfClient client) (is_of_client client) (λ row. ap (λ (k : Holder). is_of_client client (record row { holder = k })) (same_holder (λ _. x) row (is_row_of h row))) (is.clients client);
+        ordered = λ client.
+            subst (AreInOrder (number_at t')) (sym (sets.lists (OfClient client))) (order-same (number_at t) (number_at t') (keys t (OfClient client)) (λ k there. number-stays k) (is.ordered client));
         keyed = record { to_node = λ k q e. holders-stay q ∙ is.keyed.to_node k q e; to_key = λ k q e. is.keyed.to_key k q (sym (holders-stay q) ∙ e) };
       }

@@ -1,6 +1,6 @@
 -- A table's parts, where a node became the last one in the order of recall.
 use Rattle.std.proofs.Common.{◌≡◌, ℕ, ◌≤◌, not, Some, List, [], ◌∷◌, ◌++◌, map, filter, length, refl, sym, ap, subst, ◌∙◌}
-use Rattle.std.specs.Option.{option_map}
+use Rattle.std.specs.Option.{option_map, option_map_or}
 use Rattle.std.specs.HashMap.{HashMap, get}
 use Rattle.cap_arena.specs.declared.nodes.Node.{Node}
 use Rattle.cap_arena.specs.Calls.{keys_without, Touches}
@@ -11,6 +11,8 @@ use Rattle.captable.specs.Table.{Table, IsTable, same}
 use Rattle.captable.specs.Calls.{touched, is_of_client, is_of_inode}
 use Rattle.captable.specs.Nodes.{holder_of, row_of, has_number, with_first, nodes_at, nodes_in, table_by, table_of}
 use Rattle.captable.specs.Kept.{AreBelow, Kept}
+use Rattle.captable.specs.Places.{number_at, AreInOrder}
+use Rattle.captable.proofs.Orders.{order-same}
 use Rattle.captable.proofs.Moves.{IsTable-touched}
 use Rattle.captable.proofs.NodesAt.{is_held_by, nodes-append, nodes-same, nodes-removed, nodes-one}
 use Rattle.captable.proofs.Numbers.{number-moved, below-append, below-filter}
@@ -58,5 +60,8 @@ module _ {S : Type 0} (t t' : Lists Slot) (hs : HashMap Holder ℕ S) (made : �
         once = λ number. subst (λ ns. length (filter (has_number number) ns) ≤ 1) (sym recall-now) (once-now number);
         inodes = λ ino. ap (map row_of) (nodes-stay (OfInode ino) (touches.inodes ino)) ∙ is.inodes ino ∙ ap (λ (u : Table). filter (is_of_inode ino) u.rows) (sym table-moved);
         clients = λ client. ap (map row_of) (nodes-stay (OfClient client) (touches.clients client)) ∙ is.clients client ∙ ap (λ (u : Table). filter (is_of_client client) u.rows) (sym table-moved);
+        ordered = λ client.
+            subst (AreInOrder (number_at t')) (sym (touches.clients client))
+            (order-same (number_at t) (number_at t') (keys t (OfClient client)) (λ k there. ap (λ o. option_map_or (λ (node : Node Slot). node.value.number) o 0) (touches.nodes k)) (is.ordered client));
         keyed = record { to_node = λ k q e. ap (option_map holder_of) (touches.nodes q) ∙ is.keyed.to_node k q e; to_key = λ k q e. is.keyed.to_key k q (sym (ap (option_map holder_of) (touches.nodes q)) ∙ e) };
       }

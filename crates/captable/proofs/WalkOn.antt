@@ -33,7 +33,7 @@ after-in (k ∷ ks) key = by_test (nat_eq key k) (after-in ks key)
     by_test true there = wider (slice_get ks 0) (first ks)
     by_test false there = wider (key_after ks key) there
 
-apart-from : (k : ℕ) (ks : List ℕ) (j : ℕ) → AllByRecursion (λ q. nat_eq k q ≡ false) ks → is_among ks j ≡ true → nat_eq j k ≡ false
+pub apart-from : (k : ℕ) (ks : List ℕ) (j : ℕ) → AllByRecursion (λ q. nat_eq k q ≡ false) ks → is_among ks j ≡ true → nat_eq j k ≡ false
 apart-from k [] j apart there = absurd (cc)
 apart-from k (q ∷ ks) j apart there = by_test (nat_eq j q) refl there (apart-from k ks j apart.1)
   where
@@ -46,11 +46,11 @@ skip-first : (k : ℕ) (ks : List ℕ) (o : Option ℕ) → AllByRecursion (λ q
 skip-first k ks None apart there = refl
 skip-first k ks (Some j) apart there = ap (λ b. cond b (k ∷ ks) (keys_on ks j)) (apart-from k ks j apart there)
 
-from-first : (ks : List ℕ) → keys_from ks (slice_get ks 0) ≡ ks
+pub from-first : (ks : List ℕ) → keys_from ks (slice_get ks 0) ≡ ks
 from-first [] = refl
 from-first (k ∷ ks) = ap (λ b. cond b (k ∷ ks) (keys_on ks k)) (eq-eqb k k refl)
 
-first-in : (ks : List ℕ) → IsPlaceIn ks (slice_get ks 0)
+pub first-in : (ks : List ℕ) → IsPlaceIn ks (slice_get ks 0)
 first-in [] = tt
 first-in (k ∷ ks) = head_in k ks
 
@@ -78,7 +78,7 @@ module _ (t : Lists Slot) (is : IsLists t) where
       ∙ ap (λ o. map row_of (with_first o (nodes_at (node_at t) behind))) there
 
   -- the node of a key of the list belongs into it
-  of-list : (name : ListName) (key : ℕ) (n : Node Slot) → node_at t key ≡ Some n → is_among (keys t name) key ≡ true → belongs name n ≡ true
+  pub of-list : (name : ListName) (key : ℕ) (n : Node Slot) → node_at t key ≡ Some n → is_among (keys t name) key ≡ true → belongs name n ≡ true
   of-list name key n there listed = sym (ap (λ o. option_map_or (belongs name) o false) there) ∙ sym ((is.lists name).nodes key) ∙ listed
 
   pub next-of-inode : (ino : Ino) (key : ℕ) (n : Node Slot) → node_at t key ≡ Some n → is_among (keys t (OfInode ino)) key ≡ true
@@ -94,3 +94,14 @@ module _ (t : Lists Slot) (is : IsLists t) where
       let same : n.client.0 ≡ client.0 = eqb-true n.client.0 client.0 (of-list (OfClient client) key n there listed) in
       ap (λ o. option_and_then (λ (node : Node Slot). key_after (keys t (OfClient node.client)) key) o) there
       ∙ (λ i. key_after (keys t (OfClient (record { 0 = same i }))) key)
+
+  -- where the key is known to be in the list
+  pub next-listed : (client : ClientId) (key : ℕ) → is_among (keys t (OfClient client)) key ≡ true
+      → option_and_then (λ (node : Node Slot). key_after (keys t (OfClient node.client)) key) (node_at t key) ≡ key_after (keys t (OfClient client)) key
+  next-listed client key listed = by_node (node_at t key) refl
+    where
+      by_node : (o : Option (Node Slot)) → node_at t key ≡ o → option_and_then (λ (node : Node Slot). key_after (keys t (OfClient node.client)) key) (node_at t key) ≡ key_after (keys t (OfClient client)) key
+      by_node None e =
+          let none : is_among (keys t (OfClient client)) key ≡ false = (is.lists (OfClient client)).nodes key ∙ ap (λ o. option_map_or (belongs (OfClient client)) o false) e in
+          absurd (cc)
+      by_node (Some n) e = next-of-client client key n e listed

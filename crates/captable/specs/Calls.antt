@@ -1,5 +1,5 @@
 -- What each call on the table changes and answers.
-use Rattle.std.specs.Prelude.{ℕ, ◌+◌, Bool, true, false, not, ◌==◌, Option, None, List, [], ◌∷◌, ◌++◌, map, filter, take, slice_get, if◌then◌else◌}
+use Rattle.std.specs.Prelude.{ℕ, ◌+◌, Bool, true, false, not, ◌==◌, ◌||◌, nat_lt, Option, None, List, [], ◌∷◌, ◌++◌, map, filter, take, slice_get, if◌then◌else◌}
 use Rattle.capbits.specs.declared.cap.Cap.TheVariants.{P}
 use Rattle.capbits.specs.declared.ids.ClientId.{ClientId}
 use Rattle.capbits.specs.declared.ids.Ino.{Ino}
@@ -70,6 +70,13 @@ told e = record e { told_seq = e.seq }
 
 abbrev pub with_asked : Bool → Entry → Entry
 with_asked asked e = record e { asked = asked }
+
+-- the client was not told of the last change, or is asked to give back
+abbrev pub is_due_entry : Entry → Bool
+is_due_entry e = nat_lt e.told_seq e.seq || e.asked
+
+abbrev pub is_due : EntryRow → Bool
+is_due row = is_due_entry row.entry
 
 -- ---- release
 

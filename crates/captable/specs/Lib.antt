@@ -4,5 +4,6 @@ pub mod Codes
 pub mod Kept
 pub mod Many
 pub mod Nodes
+pub mod Places
 pub mod Tests
 pub mod Walks

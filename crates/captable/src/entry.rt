@@ -66,6 +66,13 @@ impl Entry {
         }
     }
 
+    // Whether the client was not told of the last change, or is asked to give back.
+    pub(crate) fn is_due(&self) -> bool
+        ensures { result ≡ words.is_due_entry self.now }
+    {
+        self.told_seq < self.seq || self.asked
+    }
+
     // The client holds these too.
     pub(crate) fn issued(&self, caps: CapSet) -> Entry
         ensures { result ≡ words.issued caps self.now }

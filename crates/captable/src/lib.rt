@@ -7,6 +7,7 @@ mod entry;
 mod holders;
 mod laws;
 mod nodes;
+mod places;
 mod table;
 mod walk;
 

@@ -4,11 +4,13 @@ ghost use Rattle.std.specs.Prelude.{◌≡◌, ◌<◌, ◌^◌, ◌-◌, [], �
 use crate::entry::{Entry, Holder, Slot};
 use crate::holders::Holders;
 use crate::nodes::{add_node, holder_at, remove_node, set_entry, touch_node};
+use crate::places::{first_due, lower_place, move_place, quiet_place};
 use crate::walk::Walk;
 use cap_arena::{MAX_NODES, TripleLists};
 use capbits::{Cap, CapSet, ClientId, Ino, Refusal};
 use std::alloc::{AllocError, Global};
 use std::collections::HashMap;
+use std::fmt;
 use std::marker::{Brand, Model};
 use std::sync::ledger::Blank;
 
@@ -18,12 +20,14 @@ pub const MAX_ENTRIES: usize = MAX_NODES;
 /// The entries of all clients on all inodes, at most `MAX_ENTRIES`, one for each client on an inode. They have two
 /// orders: the order of making, which stays, and the order of recall, in which clients are asked to give capabilities
 /// back: the entry that was left alone longest is the oldest, and comes first.
-#[derive(Debug, Drop)]
+#[derive(Drop)]
 pub struct CapTable {
     alloc: Global,
     lists: TripleLists<Slot>,
     // The key of each holder's node.
     keys: HashMap<Holder, usize>,
+    // Of some clients, a place in the list of its nodes, before which no entry is due.
+    quiet: HashMap<ClientId, Option<usize>>,
     // How many entries were made so far.
     made: u64,
 }
@@ -33,6 +37,7 @@ impl Model for CapTable {
     ghost use Rattle.captable.specs.Codes.{table_code};
     ghost use Rattle.captable.specs.Nodes.{table_of};
     ghost use Rattle.captable.specs.Kept.{Kept};
+    ghost use Rattle.captable.specs.Places.{AreQuiet};
 
     ghost Value = { Table };
 
@@ -40,7 +45,19 @@ impl Model for CapTable {
 
     ghost view = { λ t. table_of t.lists t.made };
 
-    ghost invariant = { λ t. Kept t.lists t.keys t.made };
+    ghost invariant = { λ t. Kept t.lists t.keys t.made × AreQuiet t.lists t.quiet };
+}
+
+// All but the places: they are no part of what the table keeps, and where memory was wanting there are fewer.
+impl fmt::Debug for CapTable {
+    fn fmt<W: fmt::Write>(&self, f: &mut fmt::Formatter<W>) -> fmt::Result {
+        f.debug_struct("CapTable")
+            .field("alloc", &self.alloc)
+            .field("lists", &self.lists)
+            .field("keys", &self.keys)
+            .field("made", &self.made)
+            .finish()
+    }
 }
 
 impl CapTable {
@@ -53,7 +70,7 @@ impl CapTable {
     ghost use Rattle.captable.specs.Many.{changed_by, asking};
     ghost use Rattle.capbits.specs.Refusal.{first_failing};
     ghost use Rattle.captable.specs.Tests.{open_tests, entry_test, ack_tests, release_tests};
-    ghost use Rattle.captable.specs.Calls.{opened, changed, wanting, issued, taken, renumbered, told, with_asked, released, without, without_client, newer_in, touched, recalled, is_of_client, is_of_inode};
+    ghost use Rattle.captable.specs.Calls.{opened, changed, wanting, issued, taken, renumbered, told, with_asked, released, without, without_client, newer_in, touched, recalled, is_of_client, is_of_inode, is_due};
 
     /// A table without entries, of which none was made yet. No clause can say that the memory for it is there.
     pub fn new(alloc: Global) -> Result<CapTable, AllocError>
@@ -61,10 +78,12 @@ impl CapTable {
     {
         let lists = TripleLists::new(alloc)?;
         let keys = HashMap::new(alloc);
+        let quiet = HashMap::new(alloc);
         Ok(CapTable {
             alloc,
             lists,
             keys,
+            quiet,
             made: 0,
         })
     }
@@ -177,6 +196,9 @@ impl CapTable {
     {
         if let Some(key) = self.keys.get(&holder) {
             set_entry(&mut self.lists, *key, entry);
+            if entry.is_due() {
+                lower_place(&mut self.quiet, &self.lists, holder.client, *key);
+            }
         }
     }
 
@@ -287,7 +309,9 @@ impl CapTable {
         ensures { self.new ≡ without self.old holder }
     {
         if let Some(key) = self.keys.remove(&holder) {
+            let next = self.lists.next_of_client(key);
             remove_node::<Brand>(&mut self.lists, key, Blank::new(1));
+            move_place(&mut self.quiet, holder.client, key, next);
         }
     }
 
@@ -300,10 +324,18 @@ impl CapTable {
         holder_at(&self.lists, key)
     }
 
+    // Keeps no place of the client.
+    fn forget(&mut self, client: ClientId)
+        ensures { self.new ≡ self.old }
+    {
+        let _place = self.quiet.remove(&client);
+    }
+
     /// All entries of the client go, from both orders.
     pub fn drop_client(&mut self, client: ClientId)
         ensures { self.new ≡ without_client self.old client }
     {
+        self.forget(client);
         'entries: while let Some(first) = self.first_of(client) {
             self.remove(first);
         }
@@ -315,6 +347,29 @@ impl CapTable {
         ensures sound { IsTable self.now }
     {
         Walk::of_client(&self.lists, client)
+    }
+
+    /// The client's entries from the place on that `skip_quiet` came to, or from an earlier one, of which an entry is due
+    /// since then, in the order of making: among them each entry that is due.
+    pub fn due_of(&self, client: ClientId) -> Walk<'_>
+        ensures due { filter is_due result ≡ filter is_due (filter (is_of_client client) self.now.rows) }
+        ensures sound { IsTable self.now }
+    {
+        let at = quiet_place(&self.quiet, &self.lists, client);
+        Walk::from_place(&self.lists, client, at)
+    }
+
+    /// Walks over those of the client's entries that are not due, up to the first that is, so that `due_of` begins there.
+    /// For want of memory it may begin before.
+    pub fn skip_quiet(&mut self, client: ClientId)
+        ensures { self.new ≡ self.old }
+    {
+        let from = quiet_place(&self.quiet, &self.lists, client);
+        let place = first_due(&self.lists, client, from);
+        match self.quiet.insert(client, place) {
+            Ok(_old) => {}
+            Err(_pair) => {}
+        }
     }
 
     /// The entries on the inode, in the order of making.

@@ -3,6 +3,7 @@ ghost use Rattle.std.specs.Prelude.{◌≡◌, IfSome, IfNone, [], ◌∷◌, ma
 ghost use Rattle.cap_arena.specs.Lists.{IsLists, OfInode, OfClient};
 ghost use Rattle.captable.specs.Nodes as words;
 ghost use Rattle.captable.specs.Nodes.{nodes_in};
+ghost use Rattle.captable.specs.Walks.{rows_from, IsPlaceOf};
 
 use crate::entry::{EntryRow, Slot};
 use crate::nodes::row_of;
@@ -44,6 +45,19 @@ impl<'a> Walk<'a> {
         ensures { result ≡ map words.row_of (nodes_in lists.now (OfClient client)) }
     {
         let at = lists.first_of_client(client);
+        let sought = Sought::Client(client);
+        Walk { lists, sought, at }
+    }
+
+    // The entries of the client from a place on.
+    pub(crate) fn from_place(
+        lists: &'a TripleLists<Slot>,
+        client: ClientId,
+        at: Option<usize>,
+    ) -> Walk<'a>
+        requires { IsPlaceOf lists.now (OfClient client) at }
+        ensures { result ≡ rows_from lists.now (OfClient client) at }
+    {
         let sought = Sought::Client(client);
         Walk { lists, sought, at }
     }

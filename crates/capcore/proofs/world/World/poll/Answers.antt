@@ -42,7 +42,7 @@ module _ (c : After-new) where
 
   -- and behind it
   abbrev new : State
-  new = record { scene = record old.scene { table = c.give.new.table }; messages = c.remove_given.new.self.items }
+  new = record { scene = record old.scene { table = c.skip_quiet.new.self }; messages = c.remove_given.new.self.items }
 
   abbrev said : Said
   said = record { reply = reply.Messages c.in_ok-given.given; kept = reply.Messages c.in_ok-kept.kept; ended = c.new.result }
@@ -56,11 +56,11 @@ module _ (c : After-new) where
   kept_items : c.remove_given.new.self.items ≡ filter (is_left c.args.client c.in_ok-given.given) old.messages
   kept_items = c.remove_given.ensures.items ∙ ap (λ (given : List Message). filter (is_left c.args.client given) old.messages) c.as_slice-2.ensures
 
-  told : c.give.new.table ≡ changed_where (is_of_client c.args.client) (after_messages c.in_ok-given.given) old.scene.table
-  told = c.give.ensures ∙ ap (λ (given : List Message). changed_where (is_of_client c.args.client) (after_messages given) old.scene.table) c.as_slice.ensures
+  told : c.skip_quiet.new.self ≡ changed_where (is_of_client c.args.client) (after_messages c.in_ok-given.given) old.scene.table
+  told = c.skip_quiet.ensures ∙ c.give.ensures ∙ ap (λ (given : List Message). changed_where (is_of_client c.args.client) (after_messages given) old.scene.table) c.as_slice.ensures
 
   left : with_given old c.args.client (first_messages old c.args.client c.args.max) ≡ new
-  left = polled-new old c.self.invariant.0 c.oldest-oldest.ensures.sound c.args.client c.args.max c.in_ok-given.given c.give.new.table c.remove_given.new.self.items first told kept_items
+  left = polled-new old c.self.invariant.0 c.oldest-oldest.ensures.sound c.args.client c.args.max c.in_ok-given.given c.skip_quiet.new.self c.remove_given.new.self.items first told kept_items
 
   whole : IsAnswered old (event.Poll c.args.client c.args.max) said new
   whole =

@@ -4,34 +4,38 @@ use Rattle.cap_arena.specs.declared.nodes.Node.{Node}
 use Rattle.captable.specs.declared.entry.Holder.{Holder}
 use Rattle.captable.specs.declared.entry.Slot.{Slot}
 use Rattle.captable.specs.Table.{holder, same, entry_at}
-use Rattle.captable.specs.Calls.{opened}
+use Rattle.captable.specs.Calls.{opened, is_due_entry}
 use Rattle.captable.specs.Tests.{open_tests}
 use Rattle.captable.specs.Kept.{Kept}
+use Rattle.captable.specs.Places.{AreQuiet}
+use Rattle.captable.proofs.Quiet.{quiet-added}
 use Rattle.captable.proofs.Reading.{refused-alike, Kept-keys}
 use Rattle.captable.proofs.Opening.{Kept-more, table-more}
 use Rattle.captable.proofs.table.CapTable.open_entry.Goals as goal
 
 pub add_node-requires-clause-passed : goal.add_node-requires-clause-passed
 add_node-requires-clause-passed c =
-    refused-alike c.self.inside.lists c.self.inside.keys c.self.inside.made c.self.invariant ∙ ap (λ t. first_failing (open_tests t)) c.self.view_is ∙ c.requires.passed
+    refused-alike c.self.inside.lists c.self.inside.keys c.self.inside.made c.self.invariant.0 ∙ ap (λ t. first_failing (open_tests t)) c.self.view_is ∙ c.requires.passed
 
 pub invariant_of-self-in_err-key : goal.invariant_of-self-in_err-key
 invariant_of-self-in_err-key c =
-    subst (λ t. Kept t c.reserve.new.self c.self.inside.made) (sym c.in_err-key.ensures.err)
-    (Kept-keys c.self.inside.lists c.self.inside.keys c.self.inside.made c.self.invariant c.reserve.new.self c.in_ok-reserve.ensures.entries.2)
+    subst (λ t. Kept t c.reserve.new.self c.self.inside.made × AreQuiet t c.self.inside.quiet) (sym c.in_err-key.ensures.err)
+    (Kept-keys c.self.inside.lists c.self.inside.keys c.self.inside.made c.self.invariant.0 c.reserve.new.self c.in_ok-reserve.ensures.entries.2, c.self.invariant.1)
 
 pub invariant_of-self-2 : goal.invariant_of-self-2
 invariant_of-self-2 c =
     let h = holder c.args.client c.args.ino in
     let x : Node Slot = record { client = c.args.client; ino = c.args.ino; value = record { entry = c.new-entry.result; number = c.self.inside.made } } in
-    let updates = λ (q : Holder). c.in-Ok.ensures.updates.0 q ∙ ap (λ o. cond (same h q) (Some c.in_ok-key.key) o) (c.in_ok-reserve.ensures.entries.2 q) in
-    Kept-more c.self.inside.lists c.add_node.new.lists c.self.inside.keys c.insert.new.self c.self.inside.made c.in_ok-key.key x c.self.invariant c.in_ok-key.ensures.ok
-    c.new-entry.ensures refl (ap (λ t. entry_at t h) c.self.view_is ∙ c.requires.new) updates c.add_node.ensures.sound
-    (ap (λ t. first_failing (open_tests t)) c.self.view_is ∙ c.requires.passed)
+    let updates = λ (q : Holder). c.in-Ok.ensures.updates.0 q ∙ ap (λ o. cond (same h q) (Some c.in_ok-key.key) o) (c.in_ok-reserve.ensures.entries.2 q) in (
+      Kept-more c.self.inside.lists c.add_node.new.lists c.self.inside.keys c.insert.new.self c.self.inside.made c.in_ok-key.key x c.self.invariant.0 c.in_ok-key.ensures.ok
+          c.new-entry.ensures refl (ap (λ t. entry_at t h) c.self.view_is ∙ c.requires.new) updates c.add_node.ensures.sound
+          (ap (λ t. first_failing (open_tests t)) c.self.view_is ∙ c.requires.passed),
+      quiet-added c.self.inside.lists c.add_node.new.lists c.in_ok-key.key x c.in_ok-key.ensures.ok (ap is_due_entry c.new-entry.ensures) c.self.inside.quiet c.self.invariant.1,
+    )
 
 pub returns-clause-ok : goal.returns-clause-ok
 returns-clause-ok c =
     let h = holder c.args.client c.args.ino in
     let x : Node Slot = record { client = c.args.client; ino = c.args.ino; value = record { entry = c.new-entry.result; number = c.self.inside.made } } in
-    table-more c.self.inside.lists c.add_node.new.lists c.self.inside.keys c.insert.new.self c.self.inside.made c.in_ok-key.key x c.self.invariant c.in_ok-key.ensures.ok
+    table-more c.self.inside.lists c.add_node.new.lists c.self.inside.keys c.insert.new.self c.self.inside.made c.in_ok-key.key x c.self.invariant.0 c.in_ok-key.ensures.ok
     c.new-entry.ensures refl (ap (λ t. entry_at t h) c.self.view_is ∙ c.requires.new) ∙ ap (λ t. opened t h) c.self.view_is

@@ -1,8 +1,13 @@
 use Rattle.std.proofs.Common.{◌≡◌, Some, None, ◌∙◌, sym, ap}
 use Rattle.std.specs.HashMap.{get}
+use Rattle.captable.specs.declared.entry.Holder.{Holder}
 use Rattle.captable.specs.Table.{same, entry_at}
+use Rattle.captable.specs.Nodes.{SetsEntry}
 use Rattle.captable.specs.Calls.{changed}
+use Rattle.captable.specs.Kept.{Kept}
 use Rattle.captable.proofs.Changes.{none_found}
+use Rattle.captable.proofs.Keeping.{held}
+use Rattle.captable.proofs.Quiet.{quiet-set, quiet-due}
 use Rattle.captable.proofs.Reading.{entry-none, node-there}
 use Rattle.captable.proofs.Setting.{Kept-put, table-put}
 use Rattle.captable.proofs.table.CapTable.put.Goals as goal
@@ -12,18 +17,48 @@ invariant_of-self c =
     let t = c.self.inside.lists in
     let hs = c.self.inside.keys in
     let made = c.self.inside.made in
-    let found : get same hs c.args.holder ≡ Some c.in-Some.key.now = sym c.in-Some.ensures.value in
-    Kept-put t c.set_entry.new.lists hs made c.args.holder c.in-Some.key.now c.args.entry c.self.invariant found
-    (c.set_entry.ensures.there (node-there t hs made c.self.invariant c.args.holder c.in-Some.key.now found)) c.set_entry.ensures.sound
+    let h = c.args.holder in
+    let key = c.in-Some.key.now in
+    let found : get same hs h ≡ Some key = sym c.in-Some.ensures.value in
+    let sets : SetsEntry t c.set_entry.new.lists key c.args.entry = c.set_entry.ensures.there (node-there t hs made c.self.invariant.0 h key found) in
+    let kept : Kept c.set_entry.new.lists hs made = Kept-put t c.set_entry.new.lists hs made h key c.args.entry c.self.invariant.0 found sets c.set_entry.ensures.sound in
+    let o = held t hs c.self.invariant.0.keyed h key found in (
+      kept,
+      quiet-due t c.set_entry.new.lists key c.args.entry sets c.self.inside.quiet c.self.invariant.1 c.self.invariant.0.sound kept.ordered
+          h.client o.0 o.1.there (ap (λ (q : Holder). q.client) o.2) c.lower_place.new.places c.lower_place.ensures,
+    )
 
-pub returns-in-Some : goal.returns-in-Some
-returns-in-Some c =
+pub invariant_of-self-else-is_due : goal.invariant_of-self-else-is_due
+invariant_of-self-else-is_due c =
+    let t = c.self.inside.lists in
+    let hs = c.self.inside.keys in
+    let made = c.self.inside.made in
+    let h = c.args.holder in
+    let key = c.in-Some.key.now in
+    let found : get same hs h ≡ Some key = sym c.in-Some.ensures.value in
+    let sets : SetsEntry t c.set_entry.new.lists key c.args.entry = c.set_entry.ensures.there (node-there t hs made c.self.invariant.0 h key found) in (
+      Kept-put t c.set_entry.new.lists hs made h key c.args.entry c.self.invariant.0 found sets c.set_entry.ensures.sound,
+      quiet-set t c.set_entry.new.lists key c.args.entry sets c.self.inside.quiet c.self.invariant.1 (sym c.is_due.ensures ∙ c.if-is_due.false),
+    )
+
+pub returns-then-is_due : goal.returns-then-is_due
+returns-then-is_due c =
     let t = c.self.inside.lists in
     let hs = c.self.inside.keys in
     let made = c.self.inside.made in
     let found : get same hs c.args.holder ≡ Some c.in-Some.key.now = sym c.in-Some.ensures.value in
-    table-put t c.set_entry.new.lists hs made c.args.holder c.in-Some.key.now c.args.entry c.self.invariant found
-    (c.set_entry.ensures.there (node-there t hs made c.self.invariant c.args.holder c.in-Some.key.now found))
+    table-put t c.set_entry.new.lists hs made c.args.holder c.in-Some.key.now c.args.entry c.self.invariant.0 found
+    (c.set_entry.ensures.there (node-there t hs made c.self.invariant.0 c.args.holder c.in-Some.key.now found))
+    ∙ ap (λ t. changed t c.args.holder (λ _. c.args.entry)) c.self.view_is
+
+pub returns-else-is_due : goal.returns-else-is_due
+returns-else-is_due c =
+    let t = c.self.inside.lists in
+    let hs = c.self.inside.keys in
+    let made = c.self.inside.made in
+    let found : get same hs c.args.holder ≡ Some c.in-Some.key.now = sym c.in-Some.ensures.value in
+    table-put t c.set_entry.new.lists hs made c.args.holder c.in-Some.key.now c.args.entry c.self.invariant.0 found
+    (c.set_entry.ensures.there (node-there t hs made c.self.invariant.0 c.args.holder c.in-Some.key.now found))
     ∙ ap (λ t. changed t c.args.holder (λ _. c.args.entry)) c.self.view_is
 
 pub returns-in_default : goal.returns-in_default
@@ -31,4 +66,4 @@ returns-in_default c =
     let h = c.args.holder in
     let none : get same c.self.inside.keys h ≡ None = sym c.in_default.ensures.value in
     none_found c.args.self.now h (λ _. c.args.entry)
-    (ap (λ t. entry_at t h) (sym c.self.view_is) ∙ entry-none c.self.inside.lists c.self.inside.keys c.self.inside.made c.self.invariant h none)
+    (ap (λ t. entry_at t h) (sym c.self.view_is) ∙ entry-none c.self.inside.lists c.self.inside.keys c.self.inside.made c.self.invariant.0 h none)

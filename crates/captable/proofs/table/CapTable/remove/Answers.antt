@@ -1,29 +1,47 @@
-use Rattle.std.proofs.Common.{◌≡◌, None, ◌∙◌, sym, ap, subst}
+use Rattle.std.proofs.Common.{◌≡◌, true, Some, None, ◌∙◌, sym, ap, subst}
 use Rattle.std.specs.HashMap.{get}
+use Rattle.std.proofs.lemmas.Bool.{eq-eqb}
+use Rattle.capbits.specs.declared.ids.ClientId.{ClientId}
+use Rattle.cap_arena.specs.Walks.{is_among}
+use Rattle.cap_arena.specs.Lists.{OfClient, keys}
+use Rattle.captable.specs.declared.entry.Holder.{Holder}
 use Rattle.captable.specs.Table.{IsTable, same, entry_at}
 use Rattle.captable.specs.Calls.{without}
 use Rattle.captable.proofs.Absent.{without-none}
 use Rattle.captable.proofs.Reading.{entry-none, node-there}
+use Rattle.captable.proofs.Keeping.{held, is_in}
+use Rattle.captable.proofs.Quiet.{quiet-removed}
+use Rattle.captable.proofs.WalkOn.{next-of-client}
 use Rattle.captable.proofs.Removing.{Kept-left, table-left}
 use Rattle.captable.proofs.table.CapTable.remove.Goals as goal
 
 pub remove_node-requires-clause-there : goal.remove_node-requires-clause-there
-remove_node-requires-clause-there c = node-there c.self.inside.lists c.self.inside.keys c.self.inside.made c.self.invariant c.args.holder c.in-Some.key (sym c.in-Some.ensures.value)
+remove_node-requires-clause-there c = node-there c.self.inside.lists c.self.inside.keys c.self.inside.made c.self.invariant.0 c.args.holder c.in-Some.key (sym c.in-Some.ensures.value)
 
 pub invariant_of-self : goal.invariant_of-self
 invariant_of-self c =
-    Kept-left c.self.inside.lists c.remove_node.new.lists c.self.inside.keys c.remove.new.self c.self.inside.made c.args.holder c.in-Some.key c.self.invariant
-    (sym c.in-Some.ensures.value) c.remove_node.ensures.removed c.remove.ensures.updates.0 c.remove_node.ensures.sound
+    let t = c.self.inside.lists in
+    let found : get same c.self.inside.keys c.args.holder ≡ Some c.in-Some.key = sym c.in-Some.ensures.value in
+    let o = held t c.self.inside.keys c.self.invariant.0.keyed c.args.holder c.in-Some.key found in
+    let of : o.0.client ≡ c.args.holder.client = ap (λ (h : Holder). h.client) o.2 in
+    let listed : is_among (keys t (OfClient c.args.holder.client)) c.in-Some.key ≡ true =
+    is_in t c.self.invariant.0.sound (OfClient c.args.holder.client) c.in-Some.key o.0 o.1.there (eq-eqb o.0.client.0 c.args.holder.client.0 (ap (λ (q : ClientId). q.0) of)) in (
+      Kept-left t c.remove_node.new.lists c.self.inside.keys c.remove.new.self c.self.inside.made c.args.holder c.in-Some.key c.self.invariant.0
+          found c.remove_node.ensures.removed c.remove.ensures.updates.0 c.remove_node.ensures.sound,
+      quiet-removed t c.remove_node.new.lists c.in-Some.key c.remove_node.ensures.removed c.self.invariant.0.sound c.args.holder.client o.0 o.1.there of
+          c.next_of_client-next.result (c.next_of_client-next.ensures.next ∙ next-of-client t c.self.invariant.0.sound c.args.holder.client c.in-Some.key o.0 o.1.there listed)
+          c.self.inside.quiet c.move_place.new.places c.move_place.ensures c.self.invariant.1,
+    )
 
 pub returns-in-Some : goal.returns-in-Some
 returns-in-Some c =
     let h = c.args.holder in
-    table-left c.self.inside.lists c.remove_node.new.lists c.self.inside.keys c.remove.new.self c.self.inside.made h c.in-Some.key c.self.invariant
+    table-left c.self.inside.lists c.remove_node.new.lists c.self.inside.keys c.remove.new.self c.self.inside.made h c.in-Some.key c.self.invariant.0
     (sym c.in-Some.ensures.value) c.remove_node.ensures.removed ∙ ap (λ t. without t h) c.self.view_is
 
 pub returns-in_default : goal.returns-in_default
 returns-in_default c =
     let h = c.args.holder in
     let none : get same c.self.inside.keys h ≡ None = sym c.in_default.ensures.value in
-    c.self.view_is ∙ without-none c.args.self.now h (subst IsTable c.self.view_is c.self.invariant.table)
-    (ap (λ t. entry_at t h) (sym c.self.view_is) ∙ entry-none c.self.inside.lists c.self.inside.keys c.self.inside.made c.self.invariant h none)
+    c.self.view_is ∙ without-none c.args.self.now h (subst IsTable c.self.view_is c.self.invariant.0.table)
+    (ap (λ t. entry_at t h) (sym c.self.view_is) ∙ entry-none c.self.inside.lists c.self.inside.keys c.self.inside.made c.self.invariant.0 h none)

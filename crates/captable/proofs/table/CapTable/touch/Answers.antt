@@ -4,27 +4,30 @@ use Rattle.captable.specs.Table.{IsTable, holder, same, entry_at}
 use Rattle.captable.specs.Calls.{touched}
 use Rattle.captable.proofs.Absent.{touched-none}
 use Rattle.captable.proofs.Reading.{entry-none, node-there}
+use Rattle.captable.proofs.Quiet.{quiet-touched}
 use Rattle.captable.proofs.Touching.{Kept-touched, table-moved}
 use Rattle.captable.proofs.table.CapTable.touch.Goals as goal
 
 pub touch_node-requires-clause-there : goal.touch_node-requires-clause-there
 touch_node-requires-clause-there c =
-    node-there c.self.inside.lists c.self.inside.keys c.self.inside.made c.self.invariant (holder c.args.client c.args.ino) c.in-Some.key.now (sym c.in-Some.ensures.value)
+    node-there c.self.inside.lists c.self.inside.keys c.self.inside.made c.self.invariant.0 (holder c.args.client c.args.ino) c.in-Some.key.now (sym c.in-Some.ensures.value)
 
 pub invariant_of-self : goal.invariant_of-self
-invariant_of-self c =
-    Kept-touched c.self.inside.lists c.touch_node.new.lists c.self.inside.keys c.self.inside.made (holder c.args.client c.args.ino) c.in-Some.key.now c.self.invariant
-    (sym c.in-Some.ensures.value) c.touch_node.ensures.touched c.touch_node.ensures.sound
+invariant_of-self c = (
+  Kept-touched c.self.inside.lists c.touch_node.new.lists c.self.inside.keys c.self.inside.made (holder c.args.client c.args.ino) c.in-Some.key.now c.self.invariant.0
+      (sym c.in-Some.ensures.value) c.touch_node.ensures.touched c.touch_node.ensures.sound,
+  quiet-touched c.self.inside.lists c.touch_node.new.lists c.in-Some.key.now c.touch_node.ensures.touched c.self.inside.quiet c.self.invariant.1,
+)
 
 pub returns-in-Some : goal.returns-in-Some
 returns-in-Some c =
     let h = holder c.args.client c.args.ino in
-    table-moved c.self.inside.lists c.touch_node.new.lists c.self.inside.keys c.self.inside.made h c.in-Some.key.now c.self.invariant
+    table-moved c.self.inside.lists c.touch_node.new.lists c.self.inside.keys c.self.inside.made h c.in-Some.key.now c.self.invariant.0
     (sym c.in-Some.ensures.value) c.touch_node.ensures.touched ∙ ap (λ t. touched t h) c.self.view_is
 
 pub returns-in_default : goal.returns-in_default
 returns-in_default c =
     let h = holder c.args.client c.args.ino in
     let none : get same c.self.inside.keys h ≡ None = sym c.in_default.ensures.value in
-    touched-none c.args.self.now h (subst IsTable c.self.view_is c.self.invariant.table)
-    (ap (λ t. entry_at t h) (sym c.self.view_is) ∙ entry-none c.self.inside.lists c.self.inside.keys c.self.inside.made c.self.invariant h none)
+    touched-none c.args.self.now h (subst IsTable c.self.view_is c.self.invariant.0.table)
+    (ap (λ t. entry_at t h) (sym c.self.view_is) ∙ entry-none c.self.inside.lists c.self.inside.keys c.self.inside.made c.self.invariant.0 h none)

@@ -1,0 +1,15 @@
+use Rattle.std.proofs.Common.{◌∙◌, ap, filter}
+use Rattle.cap_arena.specs.Lists.{OfClient, keys}
+use Rattle.captable.specs.Table.{Table}
+use Rattle.captable.specs.Calls.{is_of_client, is_due}
+use Rattle.captable.proofs.QuietKeys.{rows-due}
+use Rattle.captable.proofs.table.CapTable.due_of.Goals as goal
+
+pub returns-clause-due : goal.returns-clause-due
+returns-clause-due c =
+    let t = c.self.inside.lists in
+    let client = c.args.client in
+    ap (filter is_due) c.from_place.ensures
+    ∙ rows-due t (keys t (OfClient client)) c.quiet_place-at.result (c.self.invariant.0.sound.lists (OfClient client)).once c.quiet_place-at.ensures
+    ∙ ap (filter is_due) (c.self.invariant.0.clients client)
+    ∙ ap (λ (u : Table). filter is_due (filter (is_of_client client) u.rows)) c.self.view_is
