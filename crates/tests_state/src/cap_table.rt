@@ -33,8 +33,11 @@ enum Act {
     Recall(u32, Places),
     // As that, from the list that the holders are made of.
     RecallAsList(u32, Places),
-    // What a message does to the mark of the entry that it goes to.
+    // An entry is marked as asked for capabilities, and what a message does to the mark of the entry that it goes to.
+    Mark(u32, u64),
     Unmark(u32, u64),
+    // A client's entries that are not due are walked over, up to the first that is.
+    SkipQuiet(u32),
 }
 
 // What is seen in a table.
@@ -55,6 +58,8 @@ enum Look {
     Order(Places),
     HoldersOf(u64, Places),
     EntriesOf(u32, Places),
+    // The client's entries from the first on that may be due.
+    DueOf(u32, Places),
     // The first in the order of recall, and the next behind one.
     Oldest(Option<(u32, u64)>),
     Newer(u32, u64, Option<(u32, u64)>),
@@ -185,8 +190,16 @@ fn recalled_as_list(
     named(alloc, &Holders::from_vec(list))
 }
 
+fn mark(table: &mut CapTable, client: u32, ino: u64) {
+    table.ask(ClientId(client), Ino(ino), true);
+}
+
 fn unmark(table: &mut CapTable, client: u32, ino: u64) {
     table.ask(ClientId(client), Ino(ino), false);
+}
+
+fn skip_quiet(table: &mut CapTable, client: u32) {
+    table.skip_quiet(ClientId(client));
 }
 
 // Sees that the places are the wanted ones, if there was memory for them.
@@ -219,7 +232,9 @@ fn take(
         DropClient(client) => drop_client(table, client),
         Recall(n, want) => are(rt, recalled(alloc, table, n), want, at)?,
         RecallAsList(n, want) => are(rt, recalled_as_list(alloc, table, n), want, at)?,
+        Mark(client, ino) => mark(table, client, ino),
         Unmark(client, ino) => unmark(table, client, ino),
+        SkipQuiet(client) => skip_quiet(table, client),
     }
     Ok(())
 }
@@ -285,6 +300,10 @@ fn entries_of(alloc: Global, table: &CapTable, client: u32) -> Result<Vec<(u32, 
     walked(alloc, table.entries_of(ClientId(client)))
 }
 
+fn due_of(alloc: Global, table: &CapTable, client: u32) -> Result<Vec<(u32, u64)>, AllocError> {
+    walked(alloc, table.due_of(ClientId(client)))
+}
+
 fn recall_order(alloc: Global, table: &CapTable) -> Result<Vec<(u32, u64)>, AllocError> {
     let mut places = Vec::new(alloc);
     let mut next = table.oldest();
@@ -343,6 +362,7 @@ fn see(rt: &impl Abort, alloc: Global, table: &CapTable, look: Look, at: At) -> 
         FirstToRecall(n, want) => are(rt, first_to_recall(alloc, table, n), want, at)?,
         HoldersOf(ino, want) => are(rt, holders_of(alloc, table, ino), want, at)?,
         EntriesOf(client, want) => are(rt, entries_of(alloc, table, client), want, at)?,
+        DueOf(client, want) => are(rt, due_of(alloc, table, client), want, at)?,
         Oldest(want) => same(rt, oldest(table), want, at),
         Newer(client, ino, want) => same(rt, newer(table, client, ino), want, at),
         IsAsked(client, ino, want) => same(rt, is_asked(table, client, ino), Some(want), at),
@@ -589,4 +609,37 @@ const A_MESSAGE: &[Round] = &[
 #[test]
 fn a_message_takes_the_mark_away_and_leaves_the_order(rt: HostRuntime) -> Result<(), Fail> {
     runs(&rt, A_MESSAGE)
+}
+
+const DUE: &[Round] = &[
+    // Nothing is known before the first walk.
+    (ONE_CLIENT, &[DueOf(1, &[(1, 2), (1, 3), (1, 4)])]),
+    (&[SkipQuiet(1)], &[DueOf(1, &[])]),
+    (&[Mark(1, 3)], &[DueOf(1, &[(1, 3), (1, 4)])]),
+    (&[Mark(1, 4)], &[DueOf(1, &[(1, 3), (1, 4)])]),
+    (&[Mark(1, 2)], &[DueOf(1, &[(1, 2), (1, 3), (1, 4)])]),
+    (
+        &[Unmark(1, 2), SkipQuiet(1)],
+        &[DueOf(1, &[(1, 3), (1, 4)])],
+    ),
+    // A change that the client was not told of.
+    (
+        &[Give(1, "p"), Renumber(1, "-", "p")],
+        &[DueOf(1, &[(1, 2), (1, 3), (1, 4)])],
+    ),
+    // The entry at the place goes, and others come and go.
+    (
+        &[Tell(1), Release(2, "p", Ok(()))],
+        &[DueOf(1, &[(1, 3), (1, 4)])],
+    ),
+    (
+        &[Open(1, 2), Open(2, 3), DropClient(2)],
+        &[DueOf(1, &[(1, 3), (1, 4), (1, 2)]), DueOf(2, &[])],
+    ),
+    (&[DropClient(1), Open(1, 4)], &[DueOf(1, &[(1, 4)])]),
+];
+
+#[test]
+fn a_walk_over_what_is_due_begins_behind_what_is_not(rt: HostRuntime) -> Result<(), Fail> {
+    runs(&rt, DUE)
 }

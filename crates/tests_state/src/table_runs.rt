@@ -53,11 +53,13 @@ fn no_more_than_65536_entries(rt: HostRuntime) -> Result<(), Fail> {
 
 // ---- beside a plain list
 
-// Who has an entry, and what it wants.
+// Who has an entry, what it wants, and what is due of it.
 #[derive(Clone, Copy)]
 struct Row {
     holder: Holder,
     want: CapSet,
+    asked: bool,
+    untold: bool,
 }
 
 // A table as plain lists: in the order of making, and in that of recall.
@@ -90,7 +92,12 @@ fn open_both(
         client: ClientId(client),
         ino: Ino(ino),
     };
-    plain.rows.push(Row { holder, want })?;
+    plain.rows.push(Row {
+        holder,
+        want,
+        asked: false,
+        untold: false,
+    })?;
     plain.recall.push(holder)?;
     Ok(())
 }
@@ -131,6 +138,49 @@ fn want_both(table: &mut CapTable, plain: &mut Plain, client: u32, ino: u64, wan
     }
 }
 
+fn ask_both(table: &mut CapTable, plain: &mut Plain, client: u32, ino: u64, asked: bool) {
+    table.ask(ClientId(client), Ino(ino), asked);
+    for row in plain.rows.iter_mut() {
+        if is_of(row.holder, client, ino) {
+            row.asked = asked;
+        }
+    }
+}
+
+fn set_untold(plain: &mut Plain, client: u32, ino: u64, untold: bool) {
+    for row in plain.rows.iter_mut() {
+        if is_of(row.holder, client, ino) {
+            row.untold = untold;
+        }
+    }
+}
+
+// What the client is to know of changes.
+fn change_both(table: &mut CapTable, plain: &mut Plain, client: u32, ino: u64) {
+    if let Some(entry) = table.find(ClientId(client), Ino(ino)) {
+        if entry.seq < u64::MAX {
+            table.renumber(ClientId(client), Ino(ino), caps("-"), caps("p"));
+        }
+    }
+    set_untold(plain, client, ino, true);
+}
+
+fn tell_both(table: &mut CapTable, plain: &mut Plain, client: u32, ino: u64) {
+    table.tell(ClientId(client), Ino(ino));
+    set_untold(plain, client, ino, false);
+}
+
+// A call that makes something due, or not due any more.
+fn due_call(table: &mut CapTable, plain: &mut Plain, kind: u32, client: u32, ino: u64) {
+    match kind {
+        45..=47 => ask_both(table, plain, client, ino, true),
+        48..=51 => ask_both(table, plain, client, ino, false),
+        52..=54 => change_both(table, plain, client, ino),
+        55..=57 => tell_both(table, plain, client, ino),
+        _ => table.skip_quiet(ClientId(client)),
+    }
+}
+
 // One call: most are openings, so that the table is rather full.
 fn call(
     table: &mut CapTable,
@@ -154,8 +204,12 @@ fn call(
             drop_both(table, plain, client);
             Ok(())
         }
-        _ => {
+        39..=44 => {
             leave_both(table, plain, client, ino);
+            Ok(())
+        }
+        _ => {
+            due_call(table, plain, kind, client, ino);
             Ok(())
         }
     }
@@ -178,6 +232,28 @@ fn entries_agree(table: &CapTable, plain: &Plain, client: u32) -> bool {
         }
     }
     walk.next().is_none()
+}
+
+// The next entry of a walk that is due.
+fn next_due(walk: &mut Walk<'_>) -> Option<Holder> {
+    for _ in 0..INODES {
+        let row = walk.next()?;
+        if row.entry.asked || row.entry.told_seq < row.entry.seq {
+            return Some(row.holder);
+        }
+    }
+    None
+}
+
+fn due_agree(table: &CapTable, plain: &Plain, client: u32) -> bool {
+    let mut walk = table.due_of(ClientId(client));
+    for row in &plain.rows {
+        let is_due = row.asked || row.untold;
+        if row.holder.client.0 == client && is_due && next_due(&mut walk) != Some(row.holder) {
+            return false;
+        }
+    }
+    next_due(&mut walk).is_none()
 }
 
 fn holders_agree(table: &CapTable, plain: &Plain, ino: u64) -> bool {
@@ -203,6 +279,7 @@ fn recall_agrees(table: &CapTable, plain: &Plain) -> bool {
 
 fn agree(table: &CapTable, plain: &Plain, client: u32, ino: u64) -> bool {
     entries_agree(table, plain, client)
+        && due_agree(table, plain, client)
         && holders_agree(table, plain, ino)
         && recall_agrees(table, plain)
 }
@@ -227,7 +304,7 @@ fn run(alloc: Global, table: &mut CapTable) -> Result<Option<u32>, AllocError> {
     };
     let mut seed = 20_260_801;
     for made in 0..CALLS {
-        let kind = number(&mut seed, 45);
+        let kind = number(&mut seed, 60);
         let client = number(&mut seed, CLIENTS);
         let ino = u64::from(number(&mut seed, INODES));
         call(table, &mut plain, kind, client, ino)?;
