@@ -106,8 +106,7 @@ type LongLine = (&'static str, usize, &'static str, &'static str);
 
 fn says_long(alloc: Global, talk: &mut Talk, long: LongLine) -> Result<(), AllocError> {
     let (front, length, back, answer) = long;
-    let zeros = vec![in alloc; b'0'; length]?;
-    let zeros = String::from_utf8_lossy(alloc, zeros.as_slice())?;
+    let zeros = "0".repeat(alloc, length)?;
     let line = format!(in alloc; "{front}{zeros}{back}")?;
     talk.says(line.as_str(), answer)
 }

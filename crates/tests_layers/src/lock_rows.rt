@@ -82,6 +82,12 @@ fn gather_has(rt: &impl Abort, (part, from, to, mine, theirs): Gather) {
     same(rt, held, set_of(theirs), (part, lock, OTHER));
 }
 
+fn gathers_have(rt: &impl Abort, gathers: &[Gather]) {
+    for gather in gathers {
+        gather_has(rt, *gather);
+    }
+}
+
 const OWN: State = State::Excl(HOLDER);
 
 const LAZY: &[Cap] = &[Cap::Fr, Cap::Fl];
@@ -97,9 +103,7 @@ const FILE_GATHERS: &[Gather] = &[
 
 #[test]
 fn a_gather_of_a_file_allows_what_both_rows_have(rt: HostRuntime) {
-    for gather in FILE_GATHERS {
-        gather_has(&rt, *gather);
-    }
+    gathers_have(&rt, FILE_GATHERS);
 }
 
 const METADATA_GATHERS: &[Gather] = &[
@@ -111,7 +115,5 @@ const METADATA_GATHERS: &[Gather] = &[
 
 #[test]
 fn a_gather_of_metadata_allows_what_both_rows_have(rt: HostRuntime) {
-    for gather in METADATA_GATHERS {
-        gather_has(&rt, *gather);
-    }
+    gathers_have(&rt, METADATA_GATHERS);
 }

@@ -2,7 +2,7 @@
 
 use crate::asserting::same;
 use capbits::{CapSet, ClientId, Ino, Refusal, read_caps};
-use captable::{CapTable, Entry, Holder, Holders, Walk};
+use captable::{CapTable, Entry, Holder, Holders, MAX_ENTRIES, Walk};
 use std::alloc::{AllocError, Global};
 use std::process::Abort;
 use std::test::Fail;
@@ -15,6 +15,8 @@ type Places = &'static [(u32, u64)];
 enum Act {
     // An entry of a client is opened on an inode.
     Open(u32, u64),
+    // As many entries are opened as there may be, of 64 clients.
+    Fill,
     // Of inode 2, a client wants the first, holds the second and is told of it.
     Issue(u32, &'static str, &'static str),
     // It holds these too.
@@ -27,6 +29,8 @@ enum Act {
     Ack(u64, u64, Result<(), Refusal>),
     // Client 1 gives these back, of an inode.
     Release(u64, &'static str, Result<(), Refusal>),
+    // A client gives its whole entry back.
+    Leave(u32, u64),
     Touch(u32, u64),
     DropClient(u32),
     // So many entries are recalled, which are these.
@@ -46,7 +50,8 @@ enum Look {
     // A client has no entry on an inode, or an empty one.
     NoEntry(u32, u64),
     EmptyEntry(u32, u64),
-    // Why nothing can be asked of the entry.
+    // Why no entry can be made, and why nothing can be asked of one.
+    OpenRefusal(Option<Refusal>),
     EntryRefusal(u32, u64, Option<Refusal>),
     // The number of the last change of an entry on inode 2, of its last revocation, and of the last change that the
     // client was told of.
@@ -76,8 +81,11 @@ use Look::*;
 // What is done, and what is seen then.
 type Round = (&'static [Act], &'static [Look]);
 
-// Where a test fails: the number of the round, and of what is done or seen in it.
-type At = (usize, usize);
+// What a case shows, and its rounds on a new table.
+type Case = (&'static str, &'static [Round]);
+
+// Where a test fails: the case, the number of the round, and of what is done or seen in it.
+type At = (&'static str, usize, usize);
 
 // The set that a text names; no set for a text that names none.
 pub(crate) fn caps(text: &str) -> CapSet {
@@ -87,8 +95,8 @@ pub(crate) fn caps(text: &str) -> CapSet {
     }
 }
 
-pub(crate) fn made(alloc: Global) -> Result<CapTable, Fail> {
-    Ok(CapTable::new(alloc)?)
+pub(crate) fn made(alloc: Global) -> Result<CapTable, AllocError> {
+    CapTable::new(alloc)
 }
 
 // ---- what is done
@@ -113,8 +121,19 @@ pub(crate) fn open(
     }
 }
 
-fn renumber(table: &mut CapTable, client: u32, before: &str, after: &str) {
-    let (client, ino) = (ClientId(client), Ino(2));
+fn fill(table: &mut CapTable) -> Result<(), AllocError> {
+    for n in 0..MAX_ENTRIES {
+        let _opened = open(table, (n % 64) as u32, (n / 64) as u64)?;
+    }
+    Ok(())
+}
+
+pub(crate) fn set_want(table: &mut CapTable, client: u32, ino: u64, want: &str) {
+    table.set_want(ClientId(client), Ino(ino), caps(want));
+}
+
+pub(crate) fn renumber(table: &mut CapTable, client: u32, ino: u64, before: &str, after: &str) {
+    let (client, ino) = (ClientId(client), Ino(ino));
     if let Some(entry) = table.find(client, ino) {
         if entry.seq < u64::MAX {
             table.renumber(client, ino, caps(before), caps(after));
@@ -122,19 +141,19 @@ fn renumber(table: &mut CapTable, client: u32, before: &str, after: &str) {
     }
 }
 
-fn tell(table: &mut CapTable, client: u32) {
-    table.tell(ClientId(client), Ino(2));
+pub(crate) fn tell(table: &mut CapTable, client: u32, ino: u64) {
+    table.tell(ClientId(client), Ino(ino));
 }
 
-fn give(table: &mut CapTable, client: u32, held: &str) {
-    table.issue(ClientId(client), Ino(2), caps(held));
+pub(crate) fn give(table: &mut CapTable, client: u32, ino: u64, held: &str) {
+    table.issue(ClientId(client), Ino(ino), caps(held));
 }
 
 fn issue(table: &mut CapTable, client: u32, want: &str, held: &str) {
-    table.set_want(ClientId(client), Ino(2), caps(want));
-    give(table, client, held);
-    renumber(table, client, "-", held);
-    tell(table, client);
+    set_want(table, client, 2, want);
+    give(table, client, 2, held);
+    renumber(table, client, 2, "-", held);
+    tell(table, client, 2);
 }
 
 fn ack(table: &mut CapTable, ino: u64, seq: u64) -> Result<(), Refusal> {
@@ -146,8 +165,13 @@ fn ack(table: &mut CapTable, ino: u64, seq: u64) -> Result<(), Refusal> {
     Ok(())
 }
 
-fn release(table: &mut CapTable, ino: u64, text: &str) -> Result<(), Refusal> {
-    let (client, ino, caps) = (ClientId(1), Ino(ino), caps(text));
+pub(crate) fn release(
+    table: &mut CapTable,
+    client: u32,
+    ino: u64,
+    text: &str,
+) -> Result<(), Refusal> {
+    let (client, ino, caps) = (ClientId(client), Ino(ino), caps(text));
     if let Some(refusal) = table.release_refusal(client, ino, caps) {
         return Err(refusal);
     }
@@ -155,11 +179,17 @@ fn release(table: &mut CapTable, ino: u64, text: &str) -> Result<(), Refusal> {
     Ok(())
 }
 
-fn touch(table: &mut CapTable, client: u32, ino: u64) {
+// The client gives its whole entry back, where it has one.
+pub(crate) fn leave(table: &mut CapTable, client: u32, ino: u64) {
+    give(table, client, ino, "p");
+    let _released = release(table, client, ino, "p");
+}
+
+pub(crate) fn touch(table: &mut CapTable, client: u32, ino: u64) {
     table.touch(ClientId(client), Ino(ino));
 }
 
-fn drop_client(table: &mut CapTable, client: u32) {
+pub(crate) fn drop_client(table: &mut CapTable, client: u32) {
     table.drop_client(ClientId(client));
 }
 
@@ -190,15 +220,11 @@ fn recalled_as_list(
     named(alloc, &Holders::from_vec(list))
 }
 
-fn mark(table: &mut CapTable, client: u32, ino: u64) {
-    table.ask(ClientId(client), Ino(ino), true);
+pub(crate) fn ask(table: &mut CapTable, client: u32, ino: u64, asked: bool) {
+    table.ask(ClientId(client), Ino(ino), asked);
 }
 
-fn unmark(table: &mut CapTable, client: u32, ino: u64) {
-    table.ask(ClientId(client), Ino(ino), false);
-}
-
-fn skip_quiet(table: &mut CapTable, client: u32) {
+pub(crate) fn skip_quiet(table: &mut CapTable, client: u32) {
     table.skip_quiet(ClientId(client));
 }
 
@@ -208,9 +234,40 @@ fn are(
     found: Result<Vec<(u32, u64)>, AllocError>,
     want: Places,
     at: At,
-) -> Result<(), Fail> {
+) -> Result<(), AllocError> {
     same(rt, found?.as_slice(), want, at);
     Ok(())
+}
+
+fn opens(
+    rt: &impl Abort,
+    table: &mut CapTable,
+    client: u32,
+    ino: u64,
+    at: At,
+) -> Result<(), AllocError> {
+    let answer = open(table, client, ino)?;
+    same(rt, answer, Ok(()), at);
+    Ok(())
+}
+
+// Does what needs no memory.
+fn change(rt: &impl Abort, table: &mut CapTable, act: Act, at: At) {
+    match act {
+        Issue(client, want, held) => issue(table, client, want, held),
+        Give(client, held) => give(table, client, 2, held),
+        Renumber(client, before, after) => renumber(table, client, 2, before, after),
+        Tell(client) => tell(table, client, 2),
+        Ack(ino, seq, want) => same(rt, ack(table, ino, seq), want, at),
+        Release(ino, text, want) => same(rt, release(table, 1, ino, text), want, at),
+        Leave(client, ino) => leave(table, client, ino),
+        Touch(client, ino) => touch(table, client, ino),
+        DropClient(client) => drop_client(table, client),
+        Mark(client, ino) => ask(table, client, ino, true),
+        Unmark(client, ino) => ask(table, client, ino, false),
+        SkipQuiet(client) => skip_quiet(table, client),
+        Open(..) | Fill | Recall(..) | RecallAsList(..) => (),
+    }
 }
 
 fn take(
@@ -219,24 +276,17 @@ fn take(
     table: &mut CapTable,
     act: Act,
     at: At,
-) -> Result<(), Fail> {
+) -> Result<(), AllocError> {
     match act {
-        Open(client, ino) => same(rt, open(table, client, ino)?, Ok(()), at),
-        Issue(client, want, held) => issue(table, client, want, held),
-        Give(client, held) => give(table, client, held),
-        Renumber(client, before, after) => renumber(table, client, before, after),
-        Tell(client) => tell(table, client),
-        Ack(ino, seq, want) => same(rt, ack(table, ino, seq), want, at),
-        Release(ino, text, want) => same(rt, release(table, ino, text), want, at),
-        Touch(client, ino) => touch(table, client, ino),
-        DropClient(client) => drop_client(table, client),
-        Recall(n, want) => are(rt, recalled(alloc, table, n), want, at)?,
-        RecallAsList(n, want) => are(rt, recalled_as_list(alloc, table, n), want, at)?,
-        Mark(client, ino) => mark(table, client, ino),
-        Unmark(client, ino) => unmark(table, client, ino),
-        SkipQuiet(client) => skip_quiet(table, client),
+        Open(client, ino) => opens(rt, table, client, ino, at),
+        Fill => fill(table),
+        Recall(n, want) => are(rt, recalled(alloc, table, n), want, at),
+        RecallAsList(n, want) => are(rt, recalled_as_list(alloc, table, n), want, at),
+        _ => {
+            change(rt, table, act, at);
+            Ok(())
+        }
     }
-    Ok(())
 }
 
 // ---- what is seen
@@ -254,6 +304,10 @@ fn empty_entry() -> Entry {
 
 fn entry(table: &CapTable, client: u32, ino: u64) -> Option<Entry> {
     table.find(ClientId(client), Ino(ino))
+}
+
+fn open_refusal(table: &CapTable) -> Option<Refusal> {
+    table.open_refusal()
 }
 
 fn entry_refusal(table: &CapTable, client: u32, ino: u64) -> Option<Refusal> {
@@ -345,15 +399,22 @@ fn has_marks(
     found: Result<Vec<bool>, AllocError>,
     want: &[bool],
     at: At,
-) -> Result<(), Fail> {
+) -> Result<(), AllocError> {
     same(rt, found?.as_slice(), want, at);
     Ok(())
 }
 
-fn see(rt: &impl Abort, alloc: Global, table: &CapTable, look: Look, at: At) -> Result<(), Fail> {
+fn see(
+    rt: &impl Abort,
+    alloc: Global,
+    table: &CapTable,
+    look: Look,
+    at: At,
+) -> Result<(), AllocError> {
     match look {
         NoEntry(client, ino) => same(rt, entry(table, client, ino), None, at),
         EmptyEntry(client, ino) => same(rt, entry(table, client, ino), Some(empty_entry()), at),
+        OpenRefusal(want) => same(rt, open_refusal(table), want, at),
         EntryRefusal(client, ino, want) => same(rt, entry_refusal(table, client, ino), want, at),
         Numbers(client, want) => same(rt, numbers(table, client), Some(want), at),
         Holds(client, want) => same(rt, held(table, client), Some(caps(want)), at),
@@ -377,23 +438,23 @@ fn play(
     rt: &impl Abort,
     alloc: Global,
     table: &mut CapTable,
-    number: usize,
+    (title, number): (&'static str, usize),
     (acts, looks): Round,
-) -> Result<(), Fail> {
+) -> Result<(), AllocError> {
     for (nth, act) in acts.iter().enumerate() {
-        take(rt, alloc, table, *act, (number, nth))?;
+        take(rt, alloc, table, *act, (title, number, nth))?;
     }
     for (nth, look) in looks.iter().enumerate() {
-        see(rt, alloc, table, *look, (number, nth))?;
+        see(rt, alloc, table, *look, (title, number, nth))?;
     }
     Ok(())
 }
 
 // Plays the rounds on a new table. No other function owns a table: each statement of one that does is dear to prove.
-fn runs(rt: &(impl Abort + AllocGlobal), rounds: &[Round]) -> Result<(), Fail> {
+fn runs(rt: &(impl Abort + AllocGlobal), (title, rounds): Case) -> Result<(), AllocError> {
     let mut table = made(rt.alloc())?;
     for (number, round) in rounds.iter().enumerate() {
-        play(rt, rt.alloc(), &mut table, number, *round)?;
+        play(rt, rt.alloc(), &mut table, (title, number), *round)?;
     }
     Ok(())
 }
@@ -412,11 +473,6 @@ const A_NEW_ENTRY: &[Round] = &[
     ),
 ];
 
-#[test]
-fn a_new_entry_is_empty(rt: HostRuntime) -> Result<(), Fail> {
-    runs(&rt, A_NEW_ENTRY)
-}
-
 // A client has a file for itself, another one opens it, and the first is asked to give back all but reading and
 // writing.
 const SHARED_FILE: &[Act] = &[
@@ -432,11 +488,6 @@ const TOLD_1_REVOKED_3: &[Round] = &[
     (&[Renumber(1, "pFrw", "pFr")], &[Numbers(1, (3, 3, 1))]),
     (&[Ack(2, 2, Err(Refusal::BadSeq))], &[]),
 ];
-
-#[test]
-fn a_number_above_what_was_told_is_bad_before_it_is_old(rt: HostRuntime) -> Result<(), Fail> {
-    runs(&rt, TOLD_1_REVOKED_3)
-}
 
 const ACKNOWLEDGEMENTS: &[Round] = &[
     (SHARED_FILE, &[Numbers(1, (2, 2, 1))]),
@@ -464,11 +515,6 @@ const ACKNOWLEDGEMENTS: &[Round] = &[
     ),
 ];
 
-#[test]
-fn acknowledgements_name_the_last_revocation(rt: HostRuntime) -> Result<(), Fail> {
-    runs(&rt, ACKNOWLEDGEMENTS)
-}
-
 // The first client gives back what it was asked for: it holds pFrw.
 const GIVEN_BACK: &[Act] = &[Tell(1), Ack(2, 2, Ok(()))];
 
@@ -489,11 +535,6 @@ const RELEASES: &[Round] = &[
     ),
 ];
 
-#[test]
-fn released_capabilities_are_neither_held_nor_wanted(rt: HostRuntime) -> Result<(), Fail> {
-    runs(&rt, RELEASES)
-}
-
 // The first client gives back writing too, and holds more anew: pFscr.
 const HELD_ANEW: &[Act] = &[
     Release(2, "Fw", Ok(())),
@@ -509,11 +550,6 @@ const MORE: &[Round] = &[
     (&[Renumber(1, "pFscr", "pFscr")], &[Numbers(1, (3, 2, 2))]),
 ];
 
-#[test]
-fn more_has_a_new_number_and_the_same_has_none(rt: HostRuntime) -> Result<(), Fail> {
-    runs(&rt, MORE)
-}
-
 const THE_PIN: &[Round] = &[
     (SHARED_FILE, &[]),
     (GIVEN_BACK, &[]),
@@ -523,11 +559,6 @@ const THE_PIN: &[Round] = &[
         &[NoEntry(1, 2), Order(&[(2, 2)]), HoldersOf(2, &[(2, 2)])],
     ),
 ];
-
-#[test]
-fn the_pin_takes_the_entry_with_it(rt: HostRuntime) -> Result<(), Fail> {
-    runs(&rt, THE_PIN)
-}
 
 // Three entries, the first of which was touched last; and a client without an entry was touched.
 const THREE_ENTRIES: &[Act] = &[Open(1, 2), Open(1, 3), Open(2, 2), Touch(1, 2), Touch(7, 2)];
@@ -549,11 +580,6 @@ const ORDERS: &[Round] = &[
     ),
 ];
 
-#[test]
-fn the_orders_are_kept_apart(rt: HostRuntime) -> Result<(), Fail> {
-    runs(&rt, ORDERS)
-}
-
 const A_CLIENT_GOES: &[Round] = &[
     (&[], &[Oldest(None)]),
     (THREE_ENTRIES, &[]),
@@ -562,11 +588,6 @@ const A_CLIENT_GOES: &[Round] = &[
         &[NoEntry(1, 3), Order(&[(2, 2)]), HoldersOf(2, &[(2, 2)])],
     ),
 ];
-
-#[test]
-fn a_client_that_goes_takes_its_entries_with_it(rt: HostRuntime) -> Result<(), Fail> {
-    runs(&rt, A_CLIENT_GOES)
-}
 
 // The entries of client 1 on the inodes 2, 3 and 4, the first of which was touched last.
 const ONE_CLIENT: &[Act] = &[Open(1, 2), Open(1, 3), Open(1, 4), Touch(1, 2)];
@@ -592,11 +613,6 @@ const RECALLS: &[Round] = &[
     ),
 ];
 
-#[test]
-fn recall_names_the_oldest(rt: HostRuntime) -> Result<(), Fail> {
-    runs(&rt, RECALLS)
-}
-
 const A_MESSAGE: &[Round] = &[
     (ONE_CLIENT, &[]),
     (
@@ -605,11 +621,6 @@ const A_MESSAGE: &[Round] = &[
     ),
     (&[RecallAsList(1, &[(1, 3)])], &[]),
 ];
-
-#[test]
-fn a_message_takes_the_mark_away_and_leaves_the_order(rt: HostRuntime) -> Result<(), Fail> {
-    runs(&rt, A_MESSAGE)
-}
 
 const DUE: &[Round] = &[
     // Nothing is known before the first walk.
@@ -639,7 +650,46 @@ const DUE: &[Round] = &[
     (&[DropClient(1), Open(1, 4)], &[DueOf(1, &[(1, 4)])]),
 ];
 
+const ALL_ENTRIES: &[Round] = &[
+    (&[Fill], &[OpenRefusal(Some(Refusal::Limit))]),
+    (&[Leave(5, 700)], &[OpenRefusal(None)]),
+    (&[Open(64, 2_000)], &[OpenRefusal(Some(Refusal::Limit))]),
+];
+
+const CASES: &[Case] = &[
+    ("a new entry is empty", A_NEW_ENTRY),
+    (
+        "a number above what was told is bad before it is old",
+        TOLD_1_REVOKED_3,
+    ),
+    (
+        "acknowledgements name the last revocation",
+        ACKNOWLEDGEMENTS,
+    ),
+    (
+        "released capabilities are neither held nor wanted",
+        RELEASES,
+    ),
+    ("more has a new number and the same has none", MORE),
+    ("the pin takes the entry with it", THE_PIN),
+    ("the orders are kept apart", ORDERS),
+    (
+        "a client that goes takes its entries with it",
+        A_CLIENT_GOES,
+    ),
+    ("recall names the oldest", RECALLS),
+    (
+        "a message takes the mark away and leaves the order",
+        A_MESSAGE,
+    ),
+    ("a walk over what is due begins behind what is not", DUE),
+    ("no more than 65536 entries", ALL_ENTRIES),
+];
+
 #[test]
-fn a_walk_over_what_is_due_begins_behind_what_is_not(rt: HostRuntime) -> Result<(), Fail> {
-    runs(&rt, DUE)
+fn entries_are_opened_changed_recalled_and_dropped(rt: HostRuntime) -> Result<(), Fail> {
+    for case in CASES {
+        runs(&rt, *case)?;
+    }
+    Ok(())
 }

@@ -6,7 +6,6 @@ use capgrant::Attr;
 use inotree::{Kind, Name, Node, Place, Setting, Tree};
 use std::alloc::{AllocError, Global};
 use std::process::Abort;
-use std::test::Fail;
 
 // What is asked of a tree. A number is that of an inode, and the root is 1. The bytes are a name, or a value.
 #[derive(Clone, Copy)]
@@ -75,8 +74,11 @@ pub(crate) type Answered = Result<Answer, AllocError>;
 // What is asked, with the answers, and what is seen then.
 pub(crate) type Round<'a> = (&'a [(Ask, Answer)], &'a [Look]);
 
-// Where a test fails: the number of the round, and of what is asked or seen in it.
-type Where = (usize, usize);
+// What a case shows, and its rounds.
+pub(crate) type Case = (&'static str, &'static [Round<'static>]);
+
+// Where a test fails: the case, the number of the round, and of what is asked or seen in it.
+type Where = (&'static str, usize, usize);
 
 // Reading and entering for all, and writing for the owner.
 fn open_mode() -> Mode {
@@ -184,7 +186,7 @@ pub(crate) fn create(tree: &mut Tree, dir: u64, name: &[u8]) -> Answered {
     Ok(Ok(ino.0))
 }
 
-fn unlink(tree: &mut Tree, ino: u64) -> Answer {
+pub(crate) fn unlink(tree: &mut Tree, ino: u64) -> Answer {
     if let Some(refusal) = tree.inode_refusal(Ino(ino)) {
         return Err(refusal);
     }
@@ -426,31 +428,60 @@ fn see(rt: &impl Abort, tree: &Tree, look: Look, at: Where) {
 // ---- whole runs
 
 // A tree that has its root alone.
-pub(crate) fn made(alloc: Global) -> Result<Tree, Fail> {
-    Ok(Tree::new(alloc, attr())?)
+pub(crate) fn made(alloc: Global) -> Result<Tree, AllocError> {
+    Tree::new(alloc, attr())
+}
+
+// Asks, and sees that the answer is the wanted one.
+fn is_answered(
+    rt: &impl Abort,
+    tree: &mut Tree,
+    (ask, want): (Ask, Answer),
+    at: Where,
+) -> Result<(), AllocError> {
+    let answer = asked(tree, ask)?;
+    same(rt, answer, want, at);
+    Ok(())
 }
 
 // Asks one after the other and sees that the answers are the wanted ones, and then looks at the tree.
-fn play(rt: &impl Abort, tree: &mut Tree, number: usize, (asks, looks): Round) -> Result<(), Fail> {
-    for (nth, (ask, want)) in asks.iter().enumerate() {
-        same(rt, asked(tree, *ask)?, *want, (number, nth));
+fn play(
+    rt: &impl Abort,
+    tree: &mut Tree,
+    (title, number): (&'static str, usize),
+    (asks, looks): Round,
+) -> Result<(), AllocError> {
+    for (nth, asked) in asks.iter().enumerate() {
+        is_answered(rt, tree, *asked, (title, number, nth))?;
     }
     for (nth, look) in looks.iter().enumerate() {
-        see(rt, tree, *look, (number, nth));
+        see(rt, tree, *look, (title, number, nth));
     }
     Ok(())
 }
 
-// Plays the rounds on a tree.
-pub(crate) fn runs_on(rt: &impl Abort, tree: &mut Tree, rounds: &[Round]) -> Result<(), Fail> {
+// Plays the rounds of a case on a tree.
+pub(crate) fn runs_on(
+    rt: &impl Abort,
+    tree: &mut Tree,
+    (title, rounds): Case,
+) -> Result<(), AllocError> {
     for (number, round) in rounds.iter().enumerate() {
-        play(rt, tree, number, *round)?;
+        play(rt, tree, (title, number), *round)?;
     }
     Ok(())
 }
 
-// Plays the rounds on a new tree. Few other functions own a tree: each statement of one that does is dear to prove.
-pub(crate) fn runs(rt: &(impl Abort + AllocGlobal), rounds: &[Round]) -> Result<(), Fail> {
+// Plays a case on a new tree. Few other functions own a tree: each statement of one that does is dear to prove.
+fn runs(rt: &(impl Abort + AllocGlobal), case: Case) -> Result<(), AllocError> {
     let mut tree = made(rt.alloc())?;
-    runs_on(rt, &mut tree, rounds)
+    runs_on(rt, &mut tree, case)
+}
+
+// Plays each case on a new tree of its own.
+pub(crate) fn run_all(rt: &(impl Abort + AllocGlobal), cases: &[Case]) -> Result<(), AllocError> {
+    for case in cases {
+        runs(rt, *case)?;
+    }
+    Ok(())
 }

@@ -1,29 +1,30 @@
 //! Sets of capabilities, their numbers and their texts.
 
-use crate::asserting::{holds, same};
+use crate::asserting::{holds, made, same};
 use capbits::{Cap, CapBytes, CapSet, CapText, Part, read_caps, write_caps};
 use std::alloc::{AllocError, Global};
 use std::process::Abort;
-use std::test::Fail;
 
 // The number of the set with this number.
 fn kept_bits(bits: u32) -> Option<u32> {
     CapSet::from_bits(bits).map(CapSet::bits)
 }
 
+// The numbers of each known bit, and of sets of several.
+const KNOWN: &[u32] = &[
+    1, 4, 8, 16, 32, 64, 128, 256, 512, 1024, 2048, 4096, 8192, 16384, 32768, 0, 16129, 16349,
+    65533,
+];
+
+const UNKNOWN: &[u32] = &[2, 3, 65535, 65536, 65537, u32::MAX];
+
 #[test]
 fn numbers_of_known_bits_are_sets(rt: HostRuntime) {
-    let single = [
-        1, 4, 8, 16, 32, 64, 128, 256, 512, 1024, 2048, 4096, 8192, 16384, 32768,
-    ];
-    for bits in single {
-        same(&rt, kept_bits(bits), Some(bits), bits);
+    for bits in KNOWN {
+        same(&rt, kept_bits(*bits), Some(*bits), *bits);
     }
-    for bits in [0, 16129, 16349, 65533] {
-        same(&rt, kept_bits(bits), Some(bits), bits);
-    }
-    for bits in [2, 3, 65535, 65536, 65537, u32::MAX] {
-        same(&rt, kept_bits(bits), None, bits);
+    for bits in UNKNOWN {
+        same(&rt, kept_bits(*bits), None, *bits);
     }
 }
 
@@ -33,8 +34,8 @@ fn bits_of(caps: &[Cap]) -> u32 {
 }
 
 // The set with this number.
-fn set_of(bits: u32) -> Result<CapSet, Fail> {
-    Ok(CapSet::from_bits(bits).ok_or("no set")?)
+fn set_of(rt: &impl Abort, bits: u32) -> CapSet {
+    CapSet::from_bits(bits).expect(rt, "a set")
 }
 
 // Small readers: what a call promises stays behind in them.
@@ -98,13 +99,12 @@ const BITS: &[(Cap, u32)] = &[
 ];
 
 #[test]
-fn each_capability_has_a_bit(rt: HostRuntime) -> Result<(), Fail> {
-    let all = set_of(65533)?;
+fn each_capability_has_a_bit(rt: HostRuntime) {
+    let all = set_of(&rt, 65533);
     for row in BITS {
         let (cap, bit) = *row;
         has_bit(&rt, all, cap, bit);
     }
-    Ok(())
 }
 
 #[test]
@@ -153,14 +153,17 @@ fn bits_of_part(part: Part) -> u32 {
     bits_of(part.caps())
 }
 
+const PARTS: &[(Part, u32)] = &[
+    (Part::A, 12),
+    (Part::L, 48),
+    (Part::X, 192),
+    (Part::F, 65280),
+];
+
 #[test]
 fn a_part_has_its_capabilities(rt: HostRuntime) {
-    for (part, wanted) in [
-        (Part::A, 12),
-        (Part::L, 48),
-        (Part::X, 192),
-        (Part::F, 65280),
-    ] {
+    for row in PARTS {
+        let (part, wanted) = *row;
         same(&rt, bits_of_part(part), wanted, part);
     }
 }
@@ -170,53 +173,55 @@ fn bits_read(text: &str) -> Result<u32, CapText> {
     read_caps(text.as_bytes()).map(CapSet::bits)
 }
 
+// Sees which sets texts name, or where the fault of each is.
+fn are_read(rt: &impl Abort, rows: &[(&str, Result<u32, CapText>)]) {
+    for row in rows {
+        let (text, wanted) = *row;
+        same(rt, bits_read(text), wanted, text);
+    }
+}
+
 // Texts, and the numbers of the sets that they name.
-const TEXTS: &[(&str, u32)] = &[
-    ("-", 0),
-    ("p", 1),
-    ("As", 4),
-    ("Frw", 2048 + 4096),
-    ("pAsLsXsFs", 1 + 4 + 16 + 64 + 256),
-    ("pAsxLsXsxFsxcrwb", 16349),
-    ("pFsxcrwb", 16129),
-    ("pAsxLsxXsxFsxcrwbal", 65533),
+const TEXTS: &[(&str, Result<u32, CapText>)] = &[
+    ("-", Ok(0)),
+    ("p", Ok(1)),
+    ("As", Ok(4)),
+    ("Frw", Ok(2048 + 4096)),
+    ("pAsLsXsFs", Ok(1 + 4 + 16 + 64 + 256)),
+    ("pAsxLsXsxFsxcrwb", Ok(16349)),
+    ("pFsxcrwb", Ok(16129)),
+    ("pAsxLsxXsxFsxcrwbal", Ok(65533)),
 ];
 
 #[test]
 fn a_text_is_one_set(rt: HostRuntime) {
-    for row in TEXTS {
-        let (text, bits) = *row;
-        same(&rt, bits_read(text), Ok(bits), text);
-    }
+    are_read(&rt, TEXTS);
 }
 
 // Texts, and where the fault of each is.
-const FAULTS: &[(&str, usize)] = &[
-    ("pFcs", 3),
-    ("pF", 2),
-    ("", 0),
-    ("--", 1),
-    ("-p", 1),
-    ("p-", 1),
-    ("pp", 1),
-    ("s", 0),
-    ("ps", 1),
-    ("Asp", 2),
-    ("pAc", 2),
-    ("pAL", 2),
-    ("pFsAs", 3),
-    ("pFss", 3),
-    ("pFsxcrwbalx", 10),
-    ("pfs", 1),
-    ("pFs ", 3),
+const FAULTS: &[(&str, Result<u32, CapText>)] = &[
+    ("pFcs", Err(CapText { at: 3 })),
+    ("pF", Err(CapText { at: 2 })),
+    ("", Err(CapText { at: 0 })),
+    ("--", Err(CapText { at: 1 })),
+    ("-p", Err(CapText { at: 1 })),
+    ("p-", Err(CapText { at: 1 })),
+    ("pp", Err(CapText { at: 1 })),
+    ("s", Err(CapText { at: 0 })),
+    ("ps", Err(CapText { at: 1 })),
+    ("Asp", Err(CapText { at: 2 })),
+    ("pAc", Err(CapText { at: 2 })),
+    ("pAL", Err(CapText { at: 2 })),
+    ("pFsAs", Err(CapText { at: 3 })),
+    ("pFss", Err(CapText { at: 3 })),
+    ("pFsxcrwbalx", Err(CapText { at: 10 })),
+    ("pfs", Err(CapText { at: 1 })),
+    ("pFs ", Err(CapText { at: 3 })),
 ];
 
 #[test]
 fn a_fault_is_where_no_spelling_goes_on(rt: HostRuntime) {
-    for row in FAULTS {
-        let (text, at) = *row;
-        same(&rt, bits_read(text), Err(CapText { at }), text);
-    }
+    are_read(&rt, FAULTS);
 }
 
 fn fault_text(alloc: Global, at: usize) -> Result<String, AllocError> {
@@ -224,20 +229,19 @@ fn fault_text(alloc: Global, at: usize) -> Result<String, AllocError> {
 }
 
 #[test]
-fn a_fault_prints_its_place(rt: HostRuntime) -> Result<(), Fail> {
-    let text = fault_text(rt.alloc(), 3)?;
+fn a_fault_prints_its_place(rt: HostRuntime) {
+    let text = made(&rt, fault_text(rt.alloc(), 3), "a text");
     same(
         &rt,
         text.as_str(),
         "no set of capabilities, wrong at 3",
         "a fault at 3",
     );
-    Ok(())
 }
 
 // The text of the set with this number.
-fn text_of(bits: u32) -> Result<CapBytes, Fail> {
-    Ok(write_caps(set_of(bits)?))
+fn text_of(rt: &impl Abort, bits: u32) -> CapBytes {
+    write_caps(set_of(rt, bits))
 }
 
 fn length(bytes: CapBytes) -> usize {
@@ -255,12 +259,11 @@ const SETS: &[(u32, &str)] = &[
 ];
 
 #[test]
-fn each_set_has_one_text(rt: HostRuntime) -> Result<(), Fail> {
+fn each_set_has_one_text(rt: HostRuntime) {
     for row in SETS {
         let (number, text) = *row;
-        let bytes = text_of(number)?;
+        let bytes = text_of(&rt, number);
         same(&rt, bytes.as_slice(), text.as_bytes(), ("text", number));
         same(&rt, length(bytes), text.len(), ("length", number));
     }
-    Ok(())
 }

@@ -1,9 +1,11 @@
 //! The limits of a tree, each at the last value that passes and at the first that does not.
 
-use crate::asserting::{holds, present, same};
+use crate::asserting::{present, same};
 use crate::tree_steps::Ask::*;
 use crate::tree_steps::Look::*;
-use crate::tree_steps::{Answer, Round, asked, create, made, runs, runs_on, set_xattr, snap_add};
+use crate::tree_steps::{
+    Answer, Answered, Case, Round, asked, create, made, runs_on, set_xattr, snap_add,
+};
 use capbits::Refusal;
 use inotree::{MAX_INODES, MAX_NAMES, Name, Place, Tree, is_bad_attribute, is_bad_name};
 use std::alloc::{AllocError, Global};
@@ -13,6 +15,8 @@ use std::test::Fail;
 // What is in a tree before the rounds.
 #[derive(Clone, Copy)]
 enum Full {
+    // The root alone.
+    Nothing,
     // A chain of as many directories as a path may have names: inode 2 in the root, up to 33 in 32.
     Path,
     // As many attributes and as many snapshots of the root as there may be: n0 to n63.
@@ -21,12 +25,11 @@ enum Full {
     Tree,
 }
 
-fn fill_path(rt: &impl Abort, tree: &mut Tree) -> Result<(), Fail> {
-    let mut deepest = 1;
-    for _ in 0..MAX_NAMES {
-        deepest = asked(tree, Mkdir(deepest, b"d"))??;
+fn fill_path(rt: &impl Abort, tree: &mut Tree) -> Result<(), AllocError> {
+    for parent in 1..=MAX_NAMES {
+        let answer = asked(tree, Mkdir(parent as u64, b"d"))?;
+        same(rt, answer, Ok(parent as u64 + 1), parent);
     }
-    same(rt, deepest, 33, "the last of the chain");
     Ok(())
 }
 
@@ -41,7 +44,7 @@ fn keep(alloc: Global, tree: &mut Tree, number: u32) -> Result<(Answer, Answer),
     Ok((attribute, snapshot))
 }
 
-fn fill_root(rt: &impl Abort, alloc: Global, tree: &mut Tree) -> Result<(), Fail> {
+fn fill_root(rt: &impl Abort, alloc: Global, tree: &mut Tree) -> Result<(), AllocError> {
     for number in 0..64 {
         let answers = keep(alloc, tree, number)?;
         same(rt, answers, (Ok(0), Ok(0)), number);
@@ -49,31 +52,33 @@ fn fill_root(rt: &impl Abort, alloc: Global, tree: &mut Tree) -> Result<(), Fail
     Ok(())
 }
 
-fn create_numbered(alloc: Global, tree: &mut Tree, number: usize) -> Result<u64, Fail> {
+fn create_numbered(alloc: Global, tree: &mut Tree, number: usize) -> Answered {
     let name = format!(in alloc; "{number}")?;
-    Ok(create(tree, 1, name.as_bytes())??)
+    create(tree, 1, name.as_bytes())
 }
 
-fn fill_tree(alloc: Global, tree: &mut Tree) -> Result<(), Fail> {
+fn fill_tree(rt: &impl Abort, alloc: Global, tree: &mut Tree) -> Result<(), AllocError> {
     for number in 1..MAX_INODES {
-        create_numbered(alloc, tree, number)?;
+        let answer = create_numbered(alloc, tree, number)?;
+        same(rt, answer, Ok(number as u64 + 1), number);
     }
     Ok(())
 }
 
-fn fill(rt: &impl Abort, alloc: Global, tree: &mut Tree, full: Full) -> Result<(), Fail> {
+fn fill(rt: &impl Abort, alloc: Global, tree: &mut Tree, full: Full) -> Result<(), AllocError> {
     match full {
+        Full::Nothing => Ok(()),
         Full::Path => fill_path(rt, tree),
         Full::Root => fill_root(rt, alloc, tree),
-        Full::Tree => fill_tree(alloc, tree),
+        Full::Tree => fill_tree(rt, alloc, tree),
     }
 }
 
-// Plays the rounds on a new tree once this is full.
-fn runs_full(rt: &(impl Abort + AllocGlobal), full: Full, rounds: &[Round]) -> Result<(), Fail> {
+// Plays a case on a new tree once this is full.
+fn runs_full(rt: &(impl Abort + AllocGlobal), full: Full, case: Case) -> Result<(), AllocError> {
     let mut tree = made(rt.alloc())?;
     fill(rt, rt.alloc(), &mut tree, full)?;
-    runs_on(rt, &mut tree, rounds)
+    runs_on(rt, &mut tree, case)
 }
 
 const THIRTY_TWO_NAMES: &[Round] = &[
@@ -92,11 +97,6 @@ const THIRTY_TWO_NAMES: &[Round] = &[
     ),
 ];
 
-#[test]
-fn no_path_has_more_than_thirty_two_names(rt: HostRuntime) -> Result<(), Fail> {
-    runs_full(&rt, Full::Path, THIRTY_TWO_NAMES)
-}
-
 const A_PAIR: &[Round] = &[(
     &[
         (Mkdir(1, b"q"), Ok(34)),
@@ -111,11 +111,6 @@ const A_PAIR: &[Round] = &[(
     ],
     &[Parent(34, 32)],
 )];
-
-#[test]
-fn what_lies_below_counts_too(rt: HostRuntime) -> Result<(), Fail> {
-    runs_full(&rt, Full::Path, A_PAIR)
-}
 
 const LONG_VALUE: &[u8] = &[0; 4096];
 
@@ -132,11 +127,6 @@ const SIXTY_FOUR: &[Round] = &[(
     &[FirstSnapshot(1, b"n0")],
 )];
 
-#[test]
-fn an_inode_has_sixty_four_attributes_and_snapshots(rt: HostRuntime) -> Result<(), Fail> {
-    runs_full(&rt, Full::Root, SIXTY_FOUR)
-}
-
 const LONG_NAME: &[u8] = &[b'n'; 255];
 
 const TOO_LONG_A_NAME: &[u8] = &[b'n'; 256];
@@ -150,11 +140,6 @@ const LONG_NAMES: &[Round] = &[(
     &[Child(1, LONG_NAME, Some(2))],
 )];
 
-#[test]
-fn names_have_up_to_255_bytes(rt: HostRuntime) -> Result<(), Fail> {
-    runs(&rt, LONG_NAMES)
-}
-
 const TOO_LONG_NAMES: &[Round] = &[(
     &[
         (Create(1, LONG_NAME), Ok(2)),
@@ -165,27 +150,35 @@ const TOO_LONG_NAMES: &[Round] = &[(
 )];
 
 #[test]
-fn names_of_256_bytes_are_refused(rt: HostRuntime) -> Result<(), Fail> {
-    runs(&rt, TOO_LONG_NAMES)
+fn a_name_is_read_if_it_is_not_too_long(rt: HostRuntime) {
+    let read = present(&rt, Name::read(LONG_NAME), "a long name");
+    same(&rt, read.as_bytes(), LONG_NAME, "a long name");
+    same(&rt, Name::read(TOO_LONG_A_NAME).is_none(), true, "too long");
 }
 
-#[test]
-fn a_name_is_read_if_it_is_not_too_long(rt: HostRuntime) {
-    let read = present(&rt, Name::read(&[b'n'; 255]), "a long name");
-    same(&rt, read.as_bytes(), LONG_NAME, "a long name");
-    holds(&rt, Name::read(&[b'n'; 256]).is_none(), "too long a name");
+// A name, and whether it can not be given.
+const NAMES: &[(&str, bool)] = &[
+    ("", true),
+    (".", true),
+    ("..", true),
+    ("a/b", true),
+    ("a\0b", true),
+    ("...", false),
+    ("a", false),
+    (".a", false),
+];
+
+fn is_bad(name: &str) -> bool {
+    is_bad_name(name.as_bytes())
 }
 
 #[test]
 fn names_that_can_not_be_given(rt: HostRuntime) {
-    for bad in ["", ".", "..", "a/b", "a\0b"] {
-        holds(&rt, is_bad_name(bad.as_bytes()), bad);
+    for (name, want) in NAMES {
+        same(&rt, is_bad(name), *want, *name);
     }
-    for good in ["...", "a", ".a"] {
-        holds(&rt, !is_bad_name(good.as_bytes()), good);
-    }
-    holds(&rt, !is_bad_attribute(b"a/b"), "an attribute a/b");
-    holds(&rt, is_bad_attribute(b"a\0b"), "an attribute a\0b");
+    same(&rt, is_bad_attribute(b"a/b"), false, "an attribute a/b");
+    same(&rt, is_bad_attribute(b"a\0b"), true, "an attribute a\0b");
 }
 
 const ALL_INODES: &[Round] = &[
@@ -201,7 +194,32 @@ const ALL_INODES: &[Round] = &[
     (&[(Forget(65536), Ok(0)), (Create(1, b"m"), Ok(65537))], &[]),
 ];
 
+// What is in a tree before the rounds of each case.
+const CASES: &[(Full, Case)] = &[
+    (
+        Full::Path,
+        ("no path has more than thirty two names", THIRTY_TWO_NAMES),
+    ),
+    (Full::Path, ("what lies below counts too", A_PAIR)),
+    (
+        Full::Root,
+        (
+            "an inode has sixty four attributes and snapshots",
+            SIXTY_FOUR,
+        ),
+    ),
+    (Full::Nothing, ("names have up to 255 bytes", LONG_NAMES)),
+    (
+        Full::Nothing,
+        ("names of 256 bytes are refused", TOO_LONG_NAMES),
+    ),
+    (Full::Tree, ("one directory holds all inodes", ALL_INODES)),
+];
+
 #[test]
-fn one_directory_holds_all_inodes(rt: HostRuntime) -> Result<(), Fail> {
-    runs_full(&rt, Full::Tree, ALL_INODES)
+fn a_tree_has_its_limits(rt: HostRuntime) -> Result<(), Fail> {
+    for (full, case) in CASES {
+        runs_full(&rt, *full, *case)?;
+    }
+    Ok(())
 }

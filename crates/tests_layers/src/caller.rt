@@ -45,16 +45,24 @@ fn sixteen_groups(rt: &impl Abort) -> Groups {
     groups
 }
 
+// Group ids, and whether the caller has them.
+const GIDS: &[(u32, bool)] = &[
+    (50, true),
+    (100, true),
+    (115, true),
+    (10, false),
+    (99, false),
+    (116, false),
+];
+
 #[test]
 fn a_caller_has_its_first_group_and_sixteen_more(rt: HostRuntime) {
     let groups = sixteen_groups(&rt);
     same(&rt, count(&groups), 16, "len");
     same(&rt, greatest(&groups), Some(115), "max");
     let caller = caller_of(groups);
-    for gid in [50, 100, 115] {
-        holds(&rt, has_gid(&caller, gid), ("has", gid));
-    }
-    for gid in [10, 99, 116] {
-        holds(&rt, !has_gid(&caller, gid), ("lacks", gid));
+    for row in GIDS {
+        let (gid, wanted) = *row;
+        same(&rt, has_gid(&caller, gid), wanted, ("has", gid));
     }
 }

@@ -1,9 +1,9 @@
 //! Numbers: as texts write them, as modes, and as the ids of clients, inodes, requests and passes.
 
-use crate::asserting::same;
+use crate::asserting::{made, same};
 use capbits::{ClientId, Ino, Mode, PassId, Ticket, read_mode, read_u32, read_u64};
+use std::alloc::{AllocError, Global};
 use std::process::Abort;
-use std::test::Fail;
 
 // Sees what number a text writes, if it has to fit 32 bits and if it has to fit 64.
 fn reads_as(rt: &impl Abort, text: &str, short: Option<u32>, long: Option<u64>) {
@@ -45,13 +45,26 @@ fn mode_bits(text: &str) -> Option<u16> {
     read_mode(text.as_bytes()).map(Mode::bits)
 }
 
+// Texts, and the bits of the modes that they write.
+const MODES: &[(&str, Option<u16>)] = &[
+    ("0644", Some(0o644)),
+    ("644", Some(0o644)),
+    ("0", Some(0)),
+    ("7777", Some(0o7777)),
+    ("", None),
+    ("00644", None),
+    ("10000", None),
+    ("8", None),
+    ("0o64", None),
+    ("+64", None),
+    ("64 ", None),
+];
+
 #[test]
 fn reads_octal_modes(rt: HostRuntime) {
-    for (text, bits) in [("0644", 0o644), ("644", 0o644), ("0", 0), ("7777", 0o7777)] {
-        same(&rt, mode_bits(text), Some(bits), text);
-    }
-    for text in ["", "00644", "10000", "8", "0o64", "+64", "64 "] {
-        same(&rt, mode_bits(text), None, text);
+    for row in MODES {
+        let (text, bits) = *row;
+        same(&rt, mode_bits(text), bits, text);
     }
 }
 
@@ -60,25 +73,36 @@ fn kept_bits(bits: u16) -> Option<u16> {
     Mode::new(bits).map(Mode::bits)
 }
 
+// Numbers, and the bits of the modes that have them.
+const KEPT: &[(u16, Option<u16>)] = &[
+    (0, Some(0)),
+    (0o644, Some(0o644)),
+    (0o7777, Some(0o7777)),
+    (0o10000, None),
+    (u16::MAX, None),
+];
+
 #[test]
 fn a_mode_has_at_most_twelve_bits(rt: HostRuntime) {
-    for bits in [0, 0o644, 0o7777] {
-        same(&rt, kept_bits(bits), Some(bits), bits);
-    }
-    for bits in [0o10000, u16::MAX] {
-        same(&rt, kept_bits(bits), None, bits);
+    for row in KEPT {
+        let (bits, wanted) = *row;
+        same(&rt, kept_bits(bits), wanted, bits);
     }
 }
 
-#[test]
-fn ids_print_in_decimal(rt: HostRuntime) -> Result<(), Fail> {
+// Four ids as a text, the last one in four places.
+fn text_of_ids(alloc: Global) -> Result<String, AllocError> {
     let (client, ino, ticket, pass) = (ClientId(7), Ino(u64::MAX), Ticket(0), PassId(32));
-    let text = format!(in rt.alloc(); "{client} {ino} {ticket} {pass:>4}")?;
+    format!(in alloc; "{client} {ino} {ticket} {pass:>4}")
+}
+
+#[test]
+fn ids_print_in_decimal(rt: HostRuntime) {
+    let text = made(&rt, text_of_ids(rt.alloc()), "a text");
     same(
         &rt,
         text.as_str(),
         "7 18446744073709551615 0   32",
         "four ids",
     );
-    Ok(())
 }

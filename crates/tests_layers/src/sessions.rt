@@ -2,7 +2,7 @@
 
 use crate::asserting::same;
 use capbits::{Caller, ClientId, Groups, Refusal};
-use capspec::{Flags4, Grants, SpecFault, read_grants};
+use capspec::{Flags4, Grants, read_grants};
 use sessiontab::{MAX_BLOCKED, MAX_SESSIONS, Sessions, Status};
 use std::alloc::{AllocError, Global};
 use std::process::Abort;
@@ -38,11 +38,27 @@ enum Look {
 use Ask::*;
 use Look::*;
 
-// What is asked, with the answers, and what is seen then.
-type Round = (&'static [(Ask, &'static str)], &'static [Look]);
+// What is asked, and what is answered.
+type Asked = (Ask, &'static str);
 
-// Where a test fails: the number of the round, and of what is asked or seen in it.
-type At = (usize, usize);
+// What is asked, with the answers, and what is seen then.
+type Round = (&'static [Asked], &'static [Look]);
+
+// What is there before the rounds of a case.
+#[derive(Clone, Copy)]
+enum Before {
+    Nobody,
+    // As many sessions as there may be, of the clients 0 to 63, and client 99 on the blocklist.
+    SixtyFour,
+    // As many blocked clients as there may be: 0 to 1023.
+    AllBlocked,
+}
+
+// What a case shows, what is there before it, and its rounds.
+type Case = (&'static str, Before, &'static [Round]);
+
+// Where a test fails: the case, the number of the round, and of what is asked or seen in it.
+type At = (&'static str, usize, usize);
 
 fn caller(uid: u32) -> Caller {
     Caller {
@@ -52,8 +68,12 @@ fn caller(uid: u32) -> Caller {
     }
 }
 
-fn grants(alloc: Global, text: &str) -> Result<Grants, SpecFault> {
-    read_grants(alloc, text.as_bytes())
+// The grants of a text. No text here has a fault, so that memory alone can be missing.
+fn grants(alloc: Global, text: &str) -> Result<Grants, AllocError> {
+    match read_grants(alloc, text.as_bytes()) {
+        Ok(grants) => Ok(grants),
+        Err(_fault) => Err(AllocError),
+    }
 }
 
 // ---- the tests of each call, and then the call
@@ -78,9 +98,9 @@ pub(crate) fn opened_for(
     client: u32,
     uid: u32,
     text: &str,
-) -> Result<Option<Refusal>, Fail> {
+) -> Result<Option<Refusal>, AllocError> {
     let grants = grants(alloc, text)?;
-    Ok(opened(sessions, ClientId(client), caller(uid), grants)?)
+    opened(sessions, ClientId(client), caller(uid), grants)
 }
 
 fn closed(sessions: &mut Sessions, client: ClientId) -> Option<Refusal> {
@@ -131,7 +151,7 @@ fn text_of(alloc: Global, refusal: Option<Refusal>) -> Result<String, AllocError
     }
 }
 
-fn asked(alloc: Global, sessions: &mut Sessions, ask: Ask) -> Result<String, Fail> {
+fn asked(alloc: Global, sessions: &mut Sessions, ask: Ask) -> Result<String, AllocError> {
     let refusal = match ask {
         Open(client) => opened_for(alloc, sessions, client, 10, "allow rw")?,
         OpenFor(client, uid, text) => opened_for(alloc, sessions, client, uid, text)?,
@@ -141,11 +161,11 @@ fn asked(alloc: Global, sessions: &mut Sessions, ask: Ask) -> Result<String, Fai
         Evict(client) => evicted(sessions, ClientId(client))?,
         Unblock(client) => unblocked(sessions, ClientId(client)),
     };
-    Ok(text_of(alloc, refusal)?)
+    text_of(alloc, refusal)
 }
 
-pub(crate) fn made(alloc: Global) -> Result<Sessions, Fail> {
-    Ok(Sessions::new(alloc)?)
+pub(crate) fn made(alloc: Global) -> Result<Sessions, AllocError> {
+    Sessions::new(alloc)
 }
 
 // ---- what is seen
@@ -186,40 +206,100 @@ fn see(rt: &impl Abort, sessions: &Sessions, look: Look, at: At) {
 
 // ---- whole runs
 
+// Asks, and sees that the answer is the wanted one.
+fn is_answered(
+    rt: &impl Abort,
+    alloc: Global,
+    sessions: &mut Sessions,
+    (ask, want): Asked,
+    at: At,
+) -> Result<(), AllocError> {
+    let text = asked(alloc, sessions, ask)?;
+    same(rt, text.as_str(), want, at);
+    Ok(())
+}
+
+// Asks before the rounds, which is to be done. A failure says the client in the place of an act.
+fn is_done(
+    rt: &impl Abort,
+    alloc: Global,
+    sessions: &mut Sessions,
+    client: u32,
+    ask: Ask,
+) -> Result<(), AllocError> {
+    let at = ("before the rounds", 0, client as usize);
+    is_answered(rt, alloc, sessions, (ask, "done"), at)
+}
+
+fn connect_all(rt: &impl Abort, alloc: Global, sessions: &mut Sessions) -> Result<(), AllocError> {
+    is_done(rt, alloc, sessions, 99, Open(99))?;
+    is_done(rt, alloc, sessions, 99, Evict(99))?;
+    for client in 0..64 {
+        is_done(rt, alloc, sessions, client, Open(client))?;
+    }
+    Ok(())
+}
+
+fn block_all(rt: &impl Abort, alloc: Global, sessions: &mut Sessions) -> Result<(), AllocError> {
+    for client in 0..1024 {
+        is_done(rt, alloc, sessions, client, Open(client))?;
+        is_done(rt, alloc, sessions, client, Evict(client))?;
+    }
+    Ok(())
+}
+
+fn fill(
+    rt: &impl Abort,
+    alloc: Global,
+    sessions: &mut Sessions,
+    before: Before,
+) -> Result<(), AllocError> {
+    match before {
+        Before::Nobody => Ok(()),
+        Before::SixtyFour => connect_all(rt, alloc, sessions),
+        Before::AllBlocked => block_all(rt, alloc, sessions),
+    }
+}
+
 // Asks one after the other and sees that the answers are the wanted ones, and then looks at the sessions.
 fn play(
     rt: &impl Abort,
     alloc: Global,
     sessions: &mut Sessions,
-    number: usize,
-    (asks, looks): (&[(Ask, &'static str)], &[Look]),
-) -> Result<(), Fail> {
-    for (nth, (ask, want)) in asks.iter().enumerate() {
-        let text = asked(alloc, sessions, *ask)?;
-        same(rt, text.as_str(), want, (number, nth));
+    (title, number): (&'static str, usize),
+    (asks, looks): Round,
+) -> Result<(), AllocError> {
+    for (nth, asked) in asks.iter().enumerate() {
+        is_answered(rt, alloc, sessions, *asked, (title, number, nth))?;
     }
     for (nth, look) in looks.iter().enumerate() {
-        see(rt, sessions, *look, (number, nth));
+        see(rt, sessions, *look, (title, number, nth));
     }
     Ok(())
 }
 
-// Asks on new sessions, and plays the rounds behind that. No other function owns sessions: each statement of one that
-// does is dear to prove.
-fn runs_behind(
-    rt: &(impl Abort + AllocGlobal),
-    asks: &[(Ask, &'static str)],
-    rounds: &[Round],
-) -> Result<(), Fail> {
-    let mut sessions = made(rt.alloc())?;
-    play(rt, rt.alloc(), &mut sessions, usize::MAX, (asks, &[]))?;
+fn play_all(
+    rt: &impl Abort,
+    alloc: Global,
+    sessions: &mut Sessions,
+    (title, before, rounds): Case,
+) -> Result<(), AllocError> {
+    fill(rt, alloc, sessions, before)?;
     for (number, round) in rounds.iter().enumerate() {
-        play(rt, rt.alloc(), &mut sessions, number, *round)?;
+        play(rt, alloc, sessions, (title, number), *round)?;
     }
     Ok(())
 }
 
-const COMING_AND_GOING: &[(Ask, &str)] = &[
+// Plays a case on new sessions. No other function owns sessions: each statement of one that does is dear to prove.
+fn runs(rt: &(impl Abort + AllocGlobal), case: Case) -> Result<(), AllocError> {
+    let mut sessions = made(rt.alloc())?;
+    let end = play_all(rt, rt.alloc(), &mut sessions, case);
+    drop(sessions);
+    end
+}
+
+const COMING_AND_GOING: &[Asked] = &[
     (Open(1), "done"),
     (Open(2), "done"),
     (Open(3), "done"),
@@ -260,10 +340,7 @@ const AT_THE_END: &[Look] = &[
     IsAt(9, None, false),
 ];
 
-#[test]
-fn clients_come_and_go(rt: HostRuntime) -> Result<(), Fail> {
-    runs_behind(&rt, COMING_AND_GOING, &[(&[], AT_THE_END)])
-}
+const COME_AND_GONE: &[Round] = &[(COMING_AND_GOING, AT_THE_END)];
 
 const THREE_CLIENTS: &[Round] = &[
     (
@@ -284,22 +361,6 @@ const THREE_CLIENTS: &[Round] = &[
     ),
     (&[(Close(2), "done")], &[Uid(2, None), HasGrants(2, false)]),
 ];
-
-#[test]
-fn each_client_has_its_own_caller_and_grants(rt: HostRuntime) -> Result<(), Fail> {
-    runs_behind(&rt, &[], THREE_CLIENTS)
-}
-
-// As many sessions as there may be, of the clients 0 to 63, and client 99 on the blocklist.
-fn openings(alloc: Global) -> Result<Vec<(Ask, &'static str)>, Fail> {
-    let mut asks = Vec::new(alloc);
-    asks.push((Open(99), "done"))?;
-    asks.push((Evict(99), "done"))?;
-    for client in 0..64 {
-        asks.push((Open(client), "done"))?;
-    }
-    Ok(asks)
-}
 
 const BEHIND_SIXTY_FOUR: &[Round] = &[
     (
@@ -322,23 +383,6 @@ const BEHIND_SIXTY_FOUR: &[Round] = &[
     (&[(Close(8), "done")], &[WouldBe(7, None)]),
 ];
 
-#[test]
-fn sixty_four_sessions_are_the_most(rt: HostRuntime) -> Result<(), Fail> {
-    same(&rt, MAX_SESSIONS, 64, "the most sessions");
-    let openings = openings(rt.alloc())?;
-    runs_behind(&rt, openings.as_slice(), BEHIND_SIXTY_FOUR)
-}
-
-// As many blocked clients as there may be: 0 to 1023.
-fn evictions(alloc: Global) -> Result<Vec<(Ask, &'static str)>, Fail> {
-    let mut asks = Vec::new(alloc);
-    for client in 0..1024 {
-        asks.push((Open(client), "done"))?;
-        asks.push((Evict(client), "done"))?;
-    }
-    Ok(asks)
-}
-
 const BEHIND_ALL: &[Round] = &[(
     &[
         (Evict(1024), "NoSession"),
@@ -355,9 +399,31 @@ const BEHIND_ALL: &[Round] = &[(
     &[],
 )];
 
+const CASES: &[Case] = &[
+    ("clients come and go", Before::Nobody, COME_AND_GONE),
+    (
+        "each client has its own caller and grants",
+        Before::Nobody,
+        THREE_CLIENTS,
+    ),
+    (
+        "sixty-four sessions are the most",
+        Before::SixtyFour,
+        BEHIND_SIXTY_FOUR,
+    ),
+    (
+        "a thousand and twenty-four blocked clients are the most",
+        Before::AllBlocked,
+        BEHIND_ALL,
+    ),
+];
+
 #[test]
-fn a_thousand_and_twenty_four_blocked_clients_are_the_most(rt: HostRuntime) -> Result<(), Fail> {
+fn clients_come_and_go_and_are_thrown_out(rt: HostRuntime) -> Result<(), Fail> {
+    same(&rt, MAX_SESSIONS, 64, "the most sessions");
     same(&rt, MAX_BLOCKED, 1024, "the most blocked clients");
-    let evictions = evictions(rt.alloc())?;
-    runs_behind(&rt, evictions.as_slice(), BEHIND_ALL)
+    for case in CASES {
+        runs(&rt, *case)?;
+    }
+    Ok(())
 }

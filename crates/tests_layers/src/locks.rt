@@ -19,8 +19,8 @@ use Step::*;
 
 const PARTS: [Part; 4] = [Part::A, Part::L, Part::X, Part::F];
 
-pub(crate) fn made(alloc: Global) -> Result<Locks, Fail> {
-    Ok(Locks::new(alloc)?)
+pub(crate) fn made(alloc: Global) -> Result<Locks, AllocError> {
+    Locks::new(alloc)
 }
 
 fn take(locks: &mut Locks, step: Step) -> Result<(), AllocError> {
@@ -38,7 +38,7 @@ fn state(locks: &Locks, ino: u64, part: Part) -> Option<LockState> {
 }
 
 // Sees that each lock of an inode is in the first state, or that it has none.
-fn is_in(rt: &impl Abort, locks: &Locks, ino: u64, has_locks: bool, number: usize) {
+fn is_in(rt: &impl Abort, locks: &Locks, (ino, has_locks): (u64, bool), number: usize) {
     let sync = Some(LockState::Stable(State::Sync));
     let want = if has_locks { sync } else { None };
     for part in PARTS {
@@ -55,17 +55,17 @@ fn play(
     locks: &mut Locks,
     number: usize,
     (steps, seen): (&[Step], Seen),
-) -> Result<(), Fail> {
+) -> Result<(), AllocError> {
     for step in steps {
         take(locks, *step)?;
     }
-    for (ino, has_locks) in seen {
-        is_in(rt, locks, *ino, *has_locks, number);
+    for inode in seen {
+        is_in(rt, locks, *inode, number);
     }
     Ok(())
 }
 
-fn runs(rt: &impl Abort, alloc: Global, rounds: &[(&[Step], Seen)]) -> Result<(), Fail> {
+fn runs(rt: &impl Abort, alloc: Global, rounds: &[(&[Step], Seen)]) -> Result<(), AllocError> {
     let mut locks = made(alloc)?;
     for (number, round) in rounds.iter().enumerate() {
         play(rt, &mut locks, number, *round)?;
@@ -73,13 +73,9 @@ fn runs(rt: &impl Abort, alloc: Global, rounds: &[(&[Step], Seen)]) -> Result<()
     Ok(())
 }
 
-#[test]
-fn no_inode_has_locks_at_first(rt: HostRuntime) -> Result<(), Fail> {
-    let seen: Seen = &[(0, false), (1, false), (u64::MAX, false)];
-    runs(&rt, rt.alloc(), &[(&[], seen)])
-}
-
 const COMING_AND_GOING: &[(&[Step], Seen)] = &[
+    // No inode has locks at first.
+    (&[], &[(0, false), (1, false), (u64::MAX, false)]),
     (&[Drop(1)], &[(1, false), (2, false), (3, false)]),
     (&[Add(2)], &[(1, false), (2, true), (3, false)]),
     (&[Add(1)], &[(1, true), (2, true), (3, false)]),
@@ -95,7 +91,7 @@ const COMING_AND_GOING: &[(&[Step], Seen)] = &[
 
 #[test]
 fn an_inode_has_locks_from_its_making_to_its_end(rt: HostRuntime) -> Result<(), Fail> {
-    runs(&rt, rt.alloc(), COMING_AND_GOING)
+    Ok(runs(&rt, rt.alloc(), COMING_AND_GOING)?)
 }
 
 // The lock of a part, of four that differ.
@@ -124,23 +120,27 @@ fn each_part_has_a_lock_of_its_own(rt: HostRuntime) {
     }
 }
 
-#[test]
-fn bytes_are_kept_as_they_are(rt: HostRuntime) -> Result<(), Fail> {
-    let cases: [&[u8]; 5] = [b"", b"a", b"report.txt", b"a/b", &[0, 255, 0]];
-    for bytes in cases {
-        let read = Bytes::read(rt.alloc(), bytes)?;
-        same(&rt, read.as_slice(), bytes, bytes);
-    }
+const BYTES: &[&[u8]] = &[b"", b"a", b"report.txt", b"a/b", &[0, 255, 0]];
+
+fn are_kept(rt: &impl Abort, alloc: Global, bytes: &[u8]) -> Result<(), AllocError> {
+    let read = Bytes::read(alloc, bytes)?;
+    same(rt, read.as_slice(), bytes, bytes);
+    Ok(())
+}
+
+fn are_given_back(rt: &impl Abort, alloc: Global, bytes: &[u8]) -> Result<(), AllocError> {
+    let made = Bytes::from(bytes.to_vec(alloc)?);
+    same(rt, made.as_slice(), bytes, bytes);
+    let vector = made.into_inner();
+    same(rt, vector.as_slice(), bytes, bytes);
     Ok(())
 }
 
 #[test]
-fn bytes_are_made_of_a_vector_and_give_one_back(rt: HostRuntime) -> Result<(), Fail> {
-    let cases: [&[u8]; 3] = [b"", b"report.txt", &[0, 255, 0]];
-    for bytes in cases {
-        let made = Bytes::from(bytes.to_vec(rt.alloc())?);
-        same(&rt, made.as_slice(), bytes, bytes);
-        same(&rt, made.into_inner().as_slice(), bytes, bytes);
+fn bytes_are_kept_as_they_are_and_given_back(rt: HostRuntime) -> Result<(), Fail> {
+    for bytes in BYTES {
+        are_kept(&rt, rt.alloc(), bytes)?;
+        are_given_back(&rt, rt.alloc(), bytes)?;
     }
     Ok(())
 }

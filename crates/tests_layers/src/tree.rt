@@ -3,7 +3,7 @@
 use crate::asserting::same;
 use crate::tree_steps::Ask::*;
 use crate::tree_steps::Look::*;
-use crate::tree_steps::{Round, made, runs, runs_on};
+use crate::tree_steps::{Case, Round, made, run_all, runs_on};
 use capbits::Refusal;
 use inotree::{Place, Tree};
 use std::alloc::{AllocError, Global};
@@ -32,11 +32,6 @@ const DIRECTORIES: &[Round] = &[(
     &[],
 )];
 
-#[test]
-fn a_directory_moves_neither_into_itself_nor_over_another(rt: HostRuntime) -> Result<(), Fail> {
-    runs(&rt, DIRECTORIES)
-}
-
 const INTO_A_FILE: &[Round] = &[(
     &[
         (Create(1, b"f"), Ok(2)),
@@ -47,11 +42,6 @@ const INTO_A_FILE: &[Round] = &[(
     ],
     &[],
 )];
-
-#[test]
-fn an_inode_moves_only_into_a_directory(rt: HostRuntime) -> Result<(), Fail> {
-    runs(&rt, INTO_A_FILE)
-}
 
 const A_STRAY: &[Round] = &[
     (
@@ -78,11 +68,6 @@ const A_STRAY: &[Round] = &[
     (&[(Create(1, b"f"), Ok(3))], &[At(3, Place::Here)]),
 ];
 
-#[test]
-fn an_unlinked_file_is_a_stray_until_it_is_forgotten(rt: HostRuntime) -> Result<(), Fail> {
-    runs(&rt, A_STRAY)
-}
-
 const A_SNAPSHOT: &[Round] = &[
     (
         &[
@@ -101,11 +86,6 @@ const A_SNAPSHOT: &[Round] = &[
     (&[(SnapAdd(1, b".."), Err(Refusal::NameBad))], &[]),
 ];
 
-#[test]
-fn a_directory_with_a_snapshot_is_not_empty(rt: HostRuntime) -> Result<(), Fail> {
-    runs(&rt, A_SNAPSHOT)
-}
-
 const THREE_NAMES: &[Round] = &[(
     &[
         (Mkdir(1, b"a"), Ok(2)),
@@ -115,9 +95,20 @@ const THREE_NAMES: &[Round] = &[(
     &[PathLength(4, Some(3)), Path(4, &[b"a", b"b", b"c"])],
 )];
 
+const CASES: &[Case] = &[
+    (
+        "a directory moves neither into itself nor over another",
+        DIRECTORIES,
+    ),
+    ("an inode moves only into a directory", INTO_A_FILE),
+    ("an unlinked file is a stray until it is forgotten", A_STRAY),
+    ("a directory with a snapshot is not empty", A_SNAPSHOT),
+    ("a path has its names from the root down", THREE_NAMES),
+];
+
 #[test]
-fn a_path_has_its_names_from_the_root_down(rt: HostRuntime) -> Result<(), Fail> {
-    runs(&rt, THREE_NAMES)
+fn inodes_are_made_moved_and_unlinked(rt: HostRuntime) -> Result<(), Fail> {
+    Ok(run_all(&rt, CASES)?)
 }
 
 const NAMES_OF_REFUSALS: &[(Refusal, &str)] = &[
@@ -150,17 +141,26 @@ fn printed(alloc: Global, refusal: Refusal) -> Result<String, AllocError> {
     format!(in alloc; "{refusal}")
 }
 
+fn prints_as(
+    rt: &impl Abort,
+    alloc: Global,
+    (refusal, name): (Refusal, &str),
+) -> Result<(), AllocError> {
+    let text = printed(alloc, refusal)?;
+    same(rt, text.as_str(), name, refusal);
+    Ok(())
+}
+
 #[test]
 fn a_refusal_prints_as_its_name(rt: HostRuntime) -> Result<(), Fail> {
-    for (refusal, name) in NAMES_OF_REFUSALS {
-        let text = printed(rt.alloc(), *refusal)?;
-        same(&rt, text.as_str(), name, *refusal);
+    for named in NAMES_OF_REFUSALS {
+        prints_as(&rt, rt.alloc(), *named)?;
     }
     Ok(())
 }
 
 // What has an attribute and a snapshot.
-const KEPT: Round = (
+const KEPT: &[Round] = &[(
     &[
         (Mkdir(1, b"d"), Ok(2)),
         (Create(2, b"f"), Ok(3)),
@@ -168,7 +168,7 @@ const KEPT: Round = (
         (SnapAdd(2, b"s"), Ok(0)),
     ],
     &[],
-);
+)];
 
 const SOURCE: &[Round] = &[(&[(Unlink(3), Ok(0))], &[])];
 
@@ -186,25 +186,31 @@ const COPY: &[Round] = &[
     ),
 ];
 
-fn copied(tree: &Tree) -> Result<Tree, Fail> {
-    Ok(tree.copy()?)
+fn copied(tree: &Tree) -> Result<Tree, AllocError> {
+    tree.copy()
 }
 
-// Plays the first rounds on a copy of the tree, once the others are played on the tree.
-fn runs_on_a_copy(
-    rt: &impl Abort,
-    tree: &mut Tree,
-    own: &[Round],
-    others: &[Round],
-) -> Result<(), Fail> {
+// Plays cases on two trees, one after the other.
+fn runs_on_two(rt: &impl Abort, source: &mut Tree, copy: &mut Tree) -> Result<(), AllocError> {
+    runs_on(rt, source, ("the source", SOURCE))?;
+    runs_on(rt, copy, ("the copy", COPY))
+}
+
+// Plays a case on the tree, and one on a copy that was made before.
+fn runs_on_a_copy(rt: &impl Abort, tree: &mut Tree) -> Result<(), AllocError> {
     let mut copy = copied(tree)?;
-    runs_on(rt, tree, others)?;
-    runs_on(rt, &mut copy, own)
+    let end = runs_on_two(rt, tree, &mut copy);
+    drop(copy);
+    end
+}
+
+fn runs_and_copies(rt: &(impl Abort + AllocGlobal)) -> Result<(), AllocError> {
+    let mut tree = made(rt.alloc())?;
+    runs_on(rt, &mut tree, ("before the copy", KEPT))?;
+    runs_on_a_copy(rt, &mut tree)
 }
 
 #[test]
 fn a_copy_equals_its_source_and_goes_its_own_way(rt: HostRuntime) -> Result<(), Fail> {
-    let mut tree = made(rt.alloc())?;
-    runs_on(&rt, &mut tree, &[KEPT])?;
-    runs_on_a_copy(&rt, &mut tree, COPY, SOURCE)
+    Ok(runs_and_copies(&rt)?)
 }

@@ -1,9 +1,9 @@
 //! Worked runs: what clients want and hold of inodes, and the moves that the locks make for it.
 
-use crate::asserting::same;
-use crate::cap_table::{caps, open};
+use crate::asserting::{present, same};
+use crate::cap_table::{caps, give, open, release, set_want};
 use crate::sessions::{marked, opened_for};
-use crate::tree_steps::{Ask, asked, create, made};
+use crate::tree_steps::{create, made, unlink};
 use crate::{cap_table, locks, sessions};
 use capbits::{CapSet, ClientId, Ino, Part};
 use capspec::FsName;
@@ -12,7 +12,7 @@ use inotree::Tree;
 use lockmachine::{Locks, Move, Wants, wants_on};
 use locktable::State;
 use sessiontab::Sessions;
-use std::alloc::Global;
+use std::alloc::{AllocError, Global};
 use std::process::Abort;
 use std::test::Fail;
 
@@ -58,51 +58,62 @@ struct Held {
     locks: Locks,
 }
 
-fn fs_name() -> Result<FsName, Fail> {
-    Ok(FsName::read(b"cephfs").ok_or("no name")?)
+fn fs_name(rt: &impl Abort) -> FsName {
+    present(rt, FsName::read(b"cephfs"), "the name of the file system")
 }
 
-fn nobody_known(alloc: Global) -> Result<Known, Fail> {
+fn nobody_known(alloc: Global) -> Result<Known, AllocError> {
     let sessions = sessions::made(alloc)?;
     let tree = made(alloc)?;
     Ok(Known { tree, sessions })
 }
 
-fn nothing_held(alloc: Global) -> Result<Held, Fail> {
+fn nothing_held(alloc: Global) -> Result<Held, AllocError> {
     let table = cap_table::made(alloc)?;
     let locks = locks::made(alloc)?;
     Ok(Held { table, locks })
 }
 
-fn empty_stage(alloc: Global) -> Result<Stage, Fail> {
-    let fs = fs_name()?;
+fn empty_stage(rt: &impl Abort, alloc: Global) -> Result<Stage, AllocError> {
     let held = nothing_held(alloc)?;
     let known = nobody_known(alloc)?;
+    let fs = fs_name(rt);
     Ok(Stage { fs, known, held })
 }
 
-fn add_file(tree: &mut Tree, locks: &mut Locks, name: u8) -> Result<(), Fail> {
+fn add_file(tree: &mut Tree, locks: &mut Locks, name: u8) -> Result<(), AllocError> {
     if let Ok(ino) = create(tree, 1, &[name])? {
         locks.add_ino(Ino(ino))?;
     }
     Ok(())
 }
 
-fn want(table: &mut CapTable, client: u32, ino: u64, text: &str) -> Result<(), Fail> {
-    let _ = open(table, client, ino)?;
-    table.set_want(ClientId(client), Ino(ino), caps(text));
+fn connect(
+    alloc: Global,
+    sessions: &mut Sessions,
+    client: u32,
+    grants: &str,
+) -> Result<(), AllocError> {
+    let _refusal = opened_for(alloc, sessions, client, client, grants)?;
     Ok(())
 }
 
-fn issue(table: &mut CapTable, client: u32, ino: u64, text: &str) {
-    table.issue(ClientId(client), Ino(ino), caps(text));
+fn go_stale(sessions: &mut Sessions, client: u32) {
+    let _refusal = marked(sessions, ClientId(client));
 }
 
-fn release(table: &mut CapTable, client: u32, ino: u64, text: &str) {
-    let (client, ino, caps) = (ClientId(client), Ino(ino), caps(text));
-    if table.release_refusal(client, ino, caps).is_none() {
-        table.release(client, ino, caps);
-    }
+fn unlink_file(tree: &mut Tree, ino: u64) {
+    let _answer = unlink(tree, ino);
+}
+
+fn give_back(table: &mut CapTable, client: u32, ino: u64, text: &str) {
+    let _answer = release(table, client, ino, text);
+}
+
+fn want(table: &mut CapTable, client: u32, ino: u64, text: &str) -> Result<(), AllocError> {
+    let _opened = open(table, client, ino)?;
+    set_want(table, client, ino, text);
+    Ok(())
 }
 
 // The next move is made. Nobody waits, so no request is handed out.
@@ -118,7 +129,7 @@ fn make_next(stage: &mut Stage) -> Move {
 }
 
 // The moves until none applies, of which no run here has as many as twenty.
-fn settle(alloc: Global, stage: &mut Stage) -> Result<Vec<Move>, Fail> {
+fn settle(alloc: Global, stage: &mut Stage) -> Result<Vec<Move>, AllocError> {
     let mut moves = Vec::new(alloc);
     for _ in 0..20 {
         match make_next(stage) {
@@ -129,44 +140,62 @@ fn settle(alloc: Global, stage: &mut Stage) -> Result<Vec<Move>, Fail> {
     Ok(moves)
 }
 
-fn take(alloc: Global, stage: &mut Stage, act: Act) -> Result<(), Fail> {
+fn come_to_rest(alloc: Global, stage: &mut Stage) -> Result<(), AllocError> {
+    let _moves = settle(alloc, stage)?;
+    Ok(())
+}
+
+// Does what needs no memory.
+fn change(stage: &mut Stage, act: Act) {
     match act {
-        Connect(client, grants) => {
-            let _ = opened_for(alloc, &mut stage.known.sessions, client, client, grants)?;
-        }
-        Goes(client) => {
-            let _ = marked(&mut stage.known.sessions, ClientId(client));
-        }
-        File(name) => add_file(&mut stage.known.tree, &mut stage.held.locks, name)?,
-        Unlink(ino) => {
-            let _ = asked(&mut stage.known.tree, Ask::Unlink(ino))?;
-        }
-        Want(client, ino, text) => want(&mut stage.held.table, client, ino, text)?,
-        Issue(client, ino, text) => issue(&mut stage.held.table, client, ino, text),
-        Release(client, ino, text) => release(&mut stage.held.table, client, ino, text),
-        Settle => {
-            let _moves = settle(alloc, stage)?;
+        Goes(client) => go_stale(&mut stage.known.sessions, client),
+        Unlink(ino) => unlink_file(&mut stage.known.tree, ino),
+        Issue(client, ino, text) => give(&mut stage.held.table, client, ino, text),
+        Release(client, ino, text) => give_back(&mut stage.held.table, client, ino, text),
+        Connect(..) | File(_) | Want(..) | Settle => (),
+    }
+}
+
+fn take(alloc: Global, stage: &mut Stage, act: Act) -> Result<(), AllocError> {
+    match act {
+        Connect(client, grants) => connect(alloc, &mut stage.known.sessions, client, grants),
+        File(name) => add_file(&mut stage.known.tree, &mut stage.held.locks, name),
+        Want(client, ino, text) => want(&mut stage.held.table, client, ino, text),
+        Settle => come_to_rest(alloc, stage),
+        _ => {
+            change(stage, act);
+            Ok(())
         }
     }
-    Ok(())
 }
 
 // What was done and is wanted at the end: the moves, what is wanted of inode 2, and whether nothing moves any more.
 type Seen = (Vec<Move>, Wants, Move);
 
-// Plays the acts, and then lets the locks move.
-fn play_on(alloc: Global, stage: &mut Stage, acts: &[Act]) -> Result<Seen, Fail> {
-    for act in acts {
-        take(alloc, stage, *act)?;
-    }
-    let moves = settle(alloc, stage)?;
-    let wants = wants_on(
+// What is wanted of inode 2.
+fn wants(stage: &Stage) -> Wants {
+    wants_on(
         &stage.fs,
         &stage.known.tree,
         &stage.known.sessions,
         &stage.held.table,
         Ino(2),
-    );
+    )
+}
+
+fn take_all(alloc: Global, stage: &mut Stage, acts: &[Act]) -> Result<(), AllocError> {
+    for act in acts {
+        take(alloc, stage, *act)?;
+    }
+    Ok(())
+}
+
+// Plays the acts behind two clients and a file, and then lets the locks move.
+fn play_on(alloc: Global, stage: &mut Stage, acts: &[Act]) -> Result<Seen, AllocError> {
+    take_all(alloc, stage, TWO)?;
+    take_all(alloc, stage, acts)?;
+    let moves = settle(alloc, stage)?;
+    let wants = wants(stage);
     let last = make_next(stage);
     Ok((moves, wants, last))
 }
@@ -198,15 +227,22 @@ const READER: &str = "pFscr";
 const WRITER: &str = "pFsxcrwb";
 
 // Two clients that may do all, and a file.
-const TWO: [Act; 3] = [Connect(1, ALL), Connect(2, ALL), File(2)];
+const TWO: &[Act] = &[Connect(1, ALL), Connect(2, ALL), File(2)];
 
-// Sees that the locks make these moves behind the acts, and no more after them. A case has a number.
-fn moves_are(rt: &impl Abort, seen: &Seen, number: usize, rows: &[Row]) {
-    same(rt, seen.0.len(), rows.len(), number);
-    for (found, row) in seen.0.iter().zip(rows) {
-        same(rt, *found, move_of(*row), number);
+// Where a test fails: what its cases show, and the number of the case.
+type At = (&'static str, usize);
+
+fn nth_move(seen: &Seen, nth: usize) -> Option<Move> {
+    seen.0.get(nth).copied()
+}
+
+// Sees that the locks make these moves behind the acts, and no more after them.
+fn moves_are(rt: &impl Abort, seen: &Seen, at: At, rows: &[Row]) {
+    same(rt, seen.0.len(), rows.len(), at);
+    for (nth, row) in rows.iter().enumerate() {
+        same(rt, nth_move(seen, nth), Some(move_of(*row)), at);
     }
-    same(rt, seen.2, Move::Settled, number);
+    same(rt, seen.2, Move::Settled, at);
 }
 
 // A loner, and what it wants.
@@ -221,23 +257,25 @@ fn wants_are(rt: &impl Abort, seen: &Seen, number: usize, (_, wanted, loner): Wa
     same(rt, seen.1.loner, loner_of(loner), number);
 }
 
-// Plays the acts behind two clients and a file.
-fn play_two(alloc: Global, acts: &[Act]) -> Result<Seen, Fail> {
-    let mut stage = empty_stage(alloc)?;
-    for act in TWO {
-        take(alloc, &mut stage, act)?;
-    }
-    play_on(alloc, &mut stage, acts)
+// Plays the acts on a new stage, which is dropped by a call: it has many parts.
+fn played(rt: &impl Abort, alloc: Global, acts: &[Act]) -> Result<Seen, AllocError> {
+    let mut stage = empty_stage(rt, alloc)?;
+    let seen = play_on(alloc, &mut stage, acts);
+    drop(stage);
+    seen
 }
 
 // The acts, and the moves behind them.
 type Case = (&'static [Act], &'static [Row]);
 
+// What some cases show, and the cases.
+type Titled = (&'static str, &'static [Case]);
+
 // Plays each case, and sees that the locks make its moves at the end.
-fn expect_all(rt: &(impl Abort + AllocGlobal), cases: &[Case]) -> Result<(), Fail> {
+fn expect_all(rt: &(impl Abort + AllocGlobal), (title, cases): Titled) -> Result<(), AllocError> {
     for (number, (acts, rows)) in cases.iter().enumerate() {
-        let seen = play_two(rt.alloc(), acts)?;
-        moves_are(rt, &seen, number, rows);
+        let seen = played(rt, rt.alloc(), acts)?;
+        moves_are(rt, &seen, (title, number), rows);
     }
     Ok(())
 }
@@ -270,11 +308,6 @@ const NOTHING_MOVES: &[Case] = &[
     // A lock stays where it is when nobody wants its part.
     (&[Want(1, 2, WRITER), Settle, Want(1, 2, "p")], &[]),
 ];
-
-#[test]
-fn what_does_not_count_moves_no_lock(rt: HostRuntime) -> Result<(), Fail> {
-    expect_all(&rt, NOTHING_MOVES)
-}
 
 // A lock goes to such a state by a gather that ends at once.
 const F_TO_FIRST: &[Row] = &[(2, Part::F, Some(FIRST)), (2, Part::F, None)];
@@ -317,11 +350,7 @@ const GOALS: &[Case] = &[
     (&[Want(1, 2, "pFw"), Want(2, 2, "pAs")], F_TO_MIX),
 ];
 
-#[test]
-fn a_lock_goes_to_what_is_wanted(rt: HostRuntime) -> Result<(), Fail> {
-    expect_all(&rt, GOALS)
-}
-
+// A gather stays open while somebody holds what its target does not let it hold.
 const WAITING: &[Case] = &[
     (
         &[
@@ -371,12 +400,7 @@ const WAITING: &[Case] = &[
     ),
 ];
 
-// A gather stays open while somebody holds what its target does not let it hold.
-#[test]
-fn a_gather_waits_for_what_is_held(rt: HostRuntime) -> Result<(), Fail> {
-    expect_all(&rt, WAITING)
-}
-
+// A holder that is stale wants nothing that counts, and still holds.
 const A_STALE_HOLDER: &[Case] = &[
     (
         &[
@@ -402,12 +426,7 @@ const A_STALE_HOLDER: &[Case] = &[
     ),
 ];
 
-// A holder that is stale wants nothing that counts, and still holds.
-#[test]
-fn a_gather_waits_for_a_stale_holder(rt: HostRuntime) -> Result<(), Fail> {
-    expect_all(&rt, A_STALE_HOLDER)
-}
-
+// From one client to another: what the first holds is outside the row of the second.
 const THE_CLIENT_BEFORE: &[Case] = &[(
     &[
         Want(1, 2, WRITER),
@@ -419,12 +438,7 @@ const THE_CLIENT_BEFORE: &[Case] = &[(
     &[(2, Part::F, Some(SECOND))],
 )];
 
-// From one client to another: what the first holds is outside the row of the second.
-#[test]
-fn a_gather_waits_for_the_client_before(rt: HostRuntime) -> Result<(), Fail> {
-    expect_all(&rt, THE_CLIENT_BEFORE)
-}
-
+// A gather ends where it was to end, though its goal is another by then; the next gather goes there.
 const A_GOAL_CHANGES: &[Case] = &[(
     &[
         Want(1, 2, WRITER),
@@ -443,12 +457,7 @@ const A_GOAL_CHANGES: &[Case] = &[(
     ],
 )];
 
-// A gather ends where it was to end, though its goal is another by then; the next gather goes there.
-#[test]
-fn a_goal_that_changes_in_a_gather_comes_after_it(rt: HostRuntime) -> Result<(), Fail> {
-    expect_all(&rt, A_GOAL_CHANGES)
-}
-
+// An end comes before a beginning, the lesser inode first, and of one inode the parts in their order.
 const IN_ORDER: &[Case] = &[
     (
         &[Want(1, 2, "pAsxFsxcrwb")],
@@ -531,11 +540,26 @@ const ENDS_IN_ORDER: &[Case] = &[
     ),
 ];
 
-// An end comes before a beginning, the lesser inode first, and of one inode the parts in their order.
+const MOVES: &[Titled] = &[
+    ("what does not count moves no lock", NOTHING_MOVES),
+    ("a lock goes to what is wanted", GOALS),
+    ("a gather waits for what is held", WAITING),
+    ("a gather waits for a stale holder", A_STALE_HOLDER),
+    ("a gather waits for the client before", THE_CLIENT_BEFORE),
+    (
+        "a goal that changes in a gather comes after it",
+        A_GOAL_CHANGES,
+    ),
+    ("moves come in their order", IN_ORDER),
+    ("ends come in their order", ENDS_IN_ORDER),
+];
+
 #[test]
-fn moves_come_in_their_order(rt: HostRuntime) -> Result<(), Fail> {
-    expect_all(&rt, IN_ORDER)?;
-    expect_all(&rt, ENDS_IN_ORDER)
+fn locks_move_to_what_is_wanted(rt: HostRuntime) -> Result<(), Fail> {
+    for titled in MOVES {
+        expect_all(&rt, *titled)?;
+    }
+    Ok(())
 }
 
 // The acts, what somebody wants of the file at the end, and the loner.
@@ -572,7 +596,7 @@ const WANTED: &[Wanted] = &[
 #[test]
 fn wants_count_as_far_as_they_are_permitted(rt: HostRuntime) -> Result<(), Fail> {
     for (number, case) in WANTED.iter().enumerate() {
-        let seen = play_two(rt.alloc(), case.0)?;
+        let seen = played(&rt, rt.alloc(), case.0)?;
         wants_are(&rt, &seen, number, *case);
     }
     Ok(())

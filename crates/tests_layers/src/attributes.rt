@@ -2,7 +2,7 @@
 
 use crate::tree_steps::Ask::*;
 use crate::tree_steps::Look::*;
-use crate::tree_steps::{Round, runs};
+use crate::tree_steps::{Case, Round, run_all};
 use capbits::Refusal;
 use inotree::Kind;
 use std::test::Fail;
@@ -34,11 +34,6 @@ const FIELDS: &[Round] = &[
     (&[(SetXattr(2, b"", b"2"), Err(Refusal::NameBad))], &[]),
 ];
 
-#[test]
-fn fields_and_attributes_are_set_one_by_one(rt: HostRuntime) -> Result<(), Fail> {
-    runs(&rt, FIELDS)
-}
-
 const KEPT: &[Round] = &[(
     &[
         (SetXattr(1, b"x", b"1"), Ok(0)),
@@ -54,7 +49,12 @@ const KEPT: &[Round] = &[(
     ],
 )];
 
+const CASES: &[Case] = &[
+    ("fields and attributes are set one by one", FIELDS),
+    ("what an inode keeps is found by name", KEPT),
+];
+
 #[test]
-fn what_an_inode_keeps_is_found_by_name(rt: HostRuntime) -> Result<(), Fail> {
-    runs(&rt, KEPT)
+fn inodes_keep_fields_attributes_and_snapshots(rt: HostRuntime) -> Result<(), Fail> {
+    Ok(run_all(&rt, CASES)?)
 }

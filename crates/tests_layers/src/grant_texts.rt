@@ -1,0 +1,354 @@
+//! Grant texts: their faults, the grants that they mean, and the paths and names in them.
+
+use crate::asserting::{made, same};
+use crate::texts::{Long, copy_of, grants_of, long_text, written};
+use capspec::{Flags4, FsName, Grant, Grants, SpecFault, SpecFaultKind, TreePath, read_grants};
+use std::alloc::Global;
+use std::process::Abort;
+
+// The first fault of a text, with its place.
+fn fault_in(alloc: Global, text: &str) -> Option<(SpecFaultKind, usize)> {
+    match read_grants(alloc, text.as_bytes()) {
+        Ok(_) => None,
+        Err(SpecFault { at, kind }) => Some((kind, at)),
+    }
+}
+
+const FAULTS: &[(&str, SpecFaultKind, usize)] = &[
+    ("", SpecFaultKind::Empty, 0),
+    ("   ", SpecFaultKind::Empty, 3),
+    ("allow rwsp", SpecFaultKind::BadFlags, 6),
+    ("allow rwf", SpecFaultKind::LeftOut, 6),
+    ("allow rw network 10.0.0.0/8", SpecFaultKind::LeftOut, 9),
+    ("allow rw path=\"/a", SpecFaultKind::OpenQuote, 9),
+    ("allow r,", SpecFaultKind::NotAllow, 8),
+    ("allow rw gids=1", SpecFaultKind::GidsWithoutUid, 9),
+    ("allow rw uid=1 uid=2", SpecFaultKind::Twice, 15),
+    ("allow rw uid=4294967296", SpecFaultKind::BadNumber, 9),
+    ("allow rw path=/a*", SpecFaultKind::BadPath, 9),
+    ("allow rw pa", SpecFaultKind::BadItem, 9),
+    ("allow rw path=", SpecFaultKind::BadPath, 9),
+    ("allow rw path=/a,", SpecFaultKind::NotAllow, 17),
+    ("allow rw path=/a, allow", SpecFaultKind::BadFlags, 23),
+    ("allo", SpecFaultKind::NotAllow, 0),
+    ("allow rw path=\"/a\"b", SpecFaultKind::BadItem, 9),
+    ("allow rw uid=1 gids=1,", SpecFaultKind::NotAllow, 22),
+    ("allow", SpecFaultKind::BadFlags, 5),
+    ("allow  ", SpecFaultKind::BadFlags, 7),
+    ("allow r, ", SpecFaultKind::NotAllow, 9),
+    ("allow rff", SpecFaultKind::BadFlags, 6),
+    ("allow path=\"a b\"", SpecFaultKind::BadFlags, 6),
+    ("allow rw fsname=* fsname=a", SpecFaultKind::Twice, 18),
+    (
+        "allow rw root_squash root_squashed",
+        SpecFaultKind::BadItem,
+        21,
+    ),
+    (
+        "allow rw gids=1 root_squash",
+        SpecFaultKind::GidsWithoutUid,
+        9,
+    ),
+    ("allow rw uid=1 gids=1,2x", SpecFaultKind::BadNumber, 15),
+    ("allow rw uid=1 gids=", SpecFaultKind::BadNumber, 15),
+    ("allow rw path='/a\"", SpecFaultKind::OpenQuote, 9),
+    ("allow rw path=\"\"", SpecFaultKind::BadPath, 9),
+    (",allow r", SpecFaultKind::NotAllow, 0),
+    ("allow rw uid=1 gids=1,2 ,3", SpecFaultKind::NotAllow, 25),
+    ("allow rw uid=1 uid=x", SpecFaultKind::Twice, 15),
+    (
+        "allow rw uid=1 gids=4294967296,1",
+        SpecFaultKind::BadNumber,
+        15,
+    ),
+    ("allow rw path=\"/a\u{7}\"x", SpecFaultKind::BadItem, 9),
+    ("allow rw root_squash=1", SpecFaultKind::BadItem, 9),
+    ("allowr r", SpecFaultKind::NotAllow, 0),
+    ("allow rw gids=1 uid=x", SpecFaultKind::BadNumber, 16),
+    (
+        "allow rw uid=1 gids=0,1,2,3,4,5,6,7,8,9,10,11,12,13,14,15,16x",
+        SpecFaultKind::BadNumber,
+        15,
+    ),
+    ("allow, allow r", SpecFaultKind::BadFlags, 5),
+];
+
+#[test]
+fn each_fault_has_its_place(rt: HostRuntime) {
+    for (text, kind, at) in FAULTS {
+        let found = fault_in(rt.alloc(), text);
+        same(&rt, found, Some((*kind, *at)), *text);
+    }
+}
+
+// The head and the part of long texts, how many parts the first of them has, and how many are one too many for the
+// last, their tail, and the fault of each.
+type Longs = (
+    &'static str,
+    &'static str,
+    usize,
+    usize,
+    &'static str,
+    Option<(SpecFaultKind, usize)>,
+);
+
+// Sees the first fault of a long text.
+fn long_text_has(
+    rt: &(impl Abort + AllocGlobal),
+    long: Long,
+    fault: Option<(SpecFaultKind, usize)>,
+) {
+    let text = long_text(rt, long);
+    let found = fault_in(rt.alloc(), text.as_str());
+    same(rt, found, fault, long);
+}
+
+fn long_texts_have(rt: &(impl Abort + AllocGlobal), rows: &[Longs]) {
+    for row in rows {
+        let (head, part, first, end, tail, fault) = *row;
+        for times in first..end {
+            long_text_has(rt, (head, part, times, tail), fault);
+        }
+    }
+}
+
+const TOO_MANY_GRANTS: Option<(SpecFaultKind, usize)> = Some((SpecFaultKind::TooMany, 128));
+
+const GRANTS: &[Longs] = &[
+    ("", "allow r,", 16, 17, "", TOO_MANY_GRANTS),
+    ("", "allow r,", 16, 17, "allow r", TOO_MANY_GRANTS),
+];
+
+#[test]
+fn sixteen_grants_are_the_most(rt: HostRuntime) {
+    long_texts_have(&rt, GRANTS);
+}
+
+const TOO_MANY_GIDS: Option<(SpecFaultKind, usize)> = Some((SpecFaultKind::TooMany, 14));
+
+const GIDS: &[Longs] = &[
+    ("allow r uid=1 gids=0", ",1", 0, 16, "", None),
+    ("allow r uid=1 gids=0", ",1", 16, 17, "", TOO_MANY_GIDS),
+];
+
+#[test]
+fn sixteen_gids_are_the_most(rt: HostRuntime) {
+    long_texts_have(&rt, GIDS);
+}
+
+const BAD_PATH: Option<(SpecFaultKind, usize)> = Some((SpecFaultKind::BadPath, 8));
+
+const NAMES: &[Longs] = &[
+    ("allow r path=", "/a//b", 0, 1, "", BAD_PATH),
+    ("allow r path=", "/a//b", 1, 17, "", None),
+    ("allow r path=", "/a//b", 16, 17, "/c", BAD_PATH),
+];
+
+#[test]
+fn a_path_has_at_most_32_names(rt: HostRuntime) {
+    long_texts_have(&rt, NAMES);
+}
+
+const BYTES: &[Longs] = &[
+    ("allow r path=/", "n", 255, 256, "", None),
+    ("allow r path=/", "n", 256, 257, "", BAD_PATH),
+];
+
+#[test]
+fn a_name_has_at_most_255_bytes(rt: HostRuntime) {
+    long_texts_have(&rt, BYTES);
+}
+
+// Small readers of grants: what a call promises stays behind in them.
+
+fn count(grants: &Grants) -> usize {
+    grants.len()
+}
+
+// What a grant has besides its path: its flags, its file system, its uid, its gids, and whether it squashes root.
+type Fields<'a> = (Flags4, Option<&'a [u8]>, Option<u32>, &'a [u32], bool);
+
+fn fields(grant: &Grant) -> Fields<'_> {
+    (
+        grant.flags,
+        grant.fsname.as_ref().map(FsName::as_bytes),
+        grant.uid,
+        grant.gids.as_slice(),
+        grant.root_squash,
+    )
+}
+
+fn fields_of(grants: &Grants, place: usize) -> Option<Fields<'_>> {
+    let grant = grants.as_slice().get(place)?;
+    Some(fields(grant))
+}
+
+fn leads_to(grants: &Grants, place: usize, names: &[&[u8]]) -> Option<bool> {
+    let grant = grants.get(place)?;
+    Some(grant.path.leads_to(names))
+}
+
+// The place of a grant, names, and whether these lead to its path or below it. None is said where no grant is.
+type Lead = (usize, &'static [&'static [u8]], Option<bool>);
+
+fn lead(rt: &impl Abort, grants: &Grants, rows: &[Lead]) {
+    for row in rows {
+        let (place, names, wanted) = *row;
+        same(rt, leads_to(grants, place, names), wanted, (place, names));
+    }
+}
+
+fn have_fields(rt: &impl Abort, grants: &Grants, rows: &[Fields]) {
+    for (place, row) in rows.iter().enumerate() {
+        same(rt, fields_of(grants, place), Some(*row), place);
+    }
+}
+
+// What the first grants have. Of the third only its path is looked at.
+const FIELDS: &[Fields] = &[
+    (Flags4::Rw, Some(b"cephfs"), Some(7), &[50, 51], false),
+    (Flags4::Rwps, None, None, &[], true),
+];
+
+const LEADS: &[Lead] = &[
+    (0, &[b"a", b"b", b"c"], Some(true)),
+    (0, &[b"a"], Some(false)),
+    (1, &[b"a b,c"], Some(true)),
+    (1, &[b"a b"], Some(false)),
+    (2, &[], Some(true)),
+    (3, &[], None),
+];
+
+#[test]
+fn grants_have_their_fields(rt: HostRuntime) {
+    let text =
+        " allow rw path=/a//b/ gids=50,0051 uid=7 fsname=cephfs;allow\tall path='a b,c' root_squash , allow r\n";
+    let grants = grants_of(&rt, text.as_bytes());
+    same(&rt, count(&grants), 3, "len");
+    lead(&rt, &grants, LEADS);
+    have_fields(&rt, &grants, FIELDS);
+}
+
+const LEADS_OF_A_PREFIX: &[Lead] = &[
+    (0, &[b"foo"], Some(true)),
+    (0, &[b"food"], Some(false)),
+    (0, &[b"foo", b"d"], Some(true)),
+    (0, &[b"d", b"foo"], Some(false)),
+    (0, &[], Some(false)),
+];
+
+#[test]
+fn a_prefix_is_one_of_names(rt: HostRuntime) {
+    let grants = grants_of(&rt, b"allow rw path=/foo");
+    lead(&rt, &grants, LEADS_OF_A_PREFIX);
+}
+
+fn path_of(rt: &(impl Abort + AllocGlobal), text: &str) -> TreePath {
+    made(rt, TreePath::from_text(rt.alloc(), text.as_bytes()), text)
+}
+
+fn path_of_two_names(rt: &(impl Abort + AllocGlobal)) -> TreePath {
+    made(rt, TreePath::of(rt.alloc(), TWO_NAMES), "two names")
+}
+
+const TWO_NAMES: &[&[u8]] = &[b"a", b"b c"];
+
+fn has_text(rt: &impl Abort, path: &TreePath, wanted: &str, place: &str) {
+    same(rt, path.as_bytes(), wanted.as_bytes(), place);
+}
+
+// Sees which path a text names.
+fn names_path(rt: &(impl Abort + AllocGlobal), text: &str, wanted: &str) {
+    let path = path_of(rt, text);
+    has_text(rt, &path, wanted, text);
+}
+
+// Texts, and the path that each names.
+const PATHS: &[(&str, &str)] = &[
+    ("", ""),
+    ("/", ""),
+    ("a", "/a"),
+    ("/a/b", "/a/b"),
+    ("/a/b/", "/a/b"),
+    ("/a//b", "/a/b"),
+    ("//a", "/a"),
+];
+
+#[test]
+fn a_path_is_one_text(rt: HostRuntime) {
+    for row in PATHS {
+        let (text, wanted) = *row;
+        names_path(&rt, text, wanted);
+    }
+    let path = path_of_two_names(&rt);
+    has_text(&rt, &path, "/a/b c", "two names");
+}
+
+fn is_name(bytes: &[u8]) -> bool {
+    FsName::read(bytes).is_some()
+}
+
+// Bytes, and whether they are the name of a file system.
+const FS_NAMES: &[(&[u8], bool)] = &[
+    (b"a.B_9-", true),
+    (&[b'a'; 64], true),
+    (b"", false),
+    (b"a b", false),
+    (b"a/b", false),
+    (b"*", false),
+    (&[b'a'; 65], false),
+];
+
+#[test]
+fn a_file_system_has_a_name(rt: HostRuntime) {
+    for row in FS_NAMES {
+        let (name, wanted) = *row;
+        same(&rt, is_name(name), wanted, name);
+    }
+}
+
+// Whether two grants at a place have equal file systems and gids, as these compare themselves.
+fn are_equal(grants: &Grants, others: &Grants, place: usize) -> Option<bool> {
+    let own = grants.get(place)?;
+    let other = others.get(place)?;
+    Some(own.fsname == other.fsname && own.gids == other.gids)
+}
+
+// Sees that grants have the fields of others, apart from the paths.
+fn all_same_fields(rt: &impl Abort, grants: &Grants, others: &Grants) {
+    same(rt, count(grants), count(others), "len");
+    for place in 0..count(others) {
+        let (own, other) = (fields_of(grants, place), fields_of(others, place));
+        same(rt, own, other, place);
+        same(rt, are_equal(grants, others, place), Some(true), place);
+    }
+}
+
+// A copy of the grants of a text, with their fields. It needs nothing of its source, which is gone.
+fn copied(rt: &(impl Abort + AllocGlobal), text: &str) -> Grants {
+    let source = grants_of(rt, text.as_bytes());
+    let copy = copy_of(rt, &source);
+    all_same_fields(rt, &copy, &source);
+    copy
+}
+
+const LEADS_OF_A_COPY: &[Lead] = &[
+    (0, &[b"a \"", b"b", b"c"], Some(true)),
+    (0, &[b"a \""], Some(false)),
+    (1, &[], Some(true)),
+];
+
+#[test]
+fn a_copy_equals_its_source(rt: HostRuntime) {
+    let text = "allow rws fsname=f path='a \"/b' uid=7 gids=50,51 root_squash, allow r";
+    let copy = copied(&rt, text);
+    same(&rt, count(&copy), 2, "len");
+    lead(&rt, &copy, LEADS_OF_A_COPY);
+    let form = written(&rt, &copy);
+    same(
+        &rt,
+        form.as_slice(),
+        b"allow rws fsname=f path='/a \"/b' uid=7 gids=50,51 root_squash, allow r".as_slice(),
+        "the text of the copy",
+    );
+}

@@ -1,0 +1,48 @@
+//! Tests of the public calls of the crates below the core: capabilities, grants, verdicts and the lock table, and the crates
+//! that keep state, which are the tree, the table of capabilities, sessions and locks.
+//!
+//! They stand in a crate of their own, since a crate with tests is proved twice.
+#![tactic(auto)]
+
+#[cfg(test)]
+mod asserting;
+#[cfg(test)]
+mod attributes;
+#[cfg(test)]
+mod caller;
+#[cfg(test)]
+mod cap_table;
+#[cfg(test)]
+mod caps;
+#[cfg(test)]
+mod grant_forms;
+#[cfg(test)]
+mod grant_texts;
+#[cfg(test)]
+mod limits;
+#[cfg(test)]
+mod lock_moves;
+#[cfg(test)]
+mod lock_rows;
+#[cfg(test)]
+mod lock_targets;
+#[cfg(test)]
+mod locks;
+#[cfg(test)]
+mod numbers;
+#[cfg(test)]
+mod queue;
+#[cfg(test)]
+mod sessions;
+#[cfg(test)]
+mod table_runs;
+#[cfg(test)]
+mod texts;
+#[cfg(test)]
+mod tree;
+#[cfg(test)]
+mod tree_steps;
+#[cfg(test)]
+mod triple_lists;
+#[cfg(test)]
+mod verdicts;

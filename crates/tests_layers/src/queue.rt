@@ -1,0 +1,119 @@
+//! The queue: who waits has a number, and no more wait than may.
+
+use crate::asserting::same;
+use crate::locks::made;
+use capbits::{ClientId, Ino, Part, Refusal, Ticket};
+use lockmachine::{Ask, Locks, MAX_WAITING, Move, Request};
+use std::alloc::{AllocError, Global};
+use std::process::Abort;
+use std::test::Fail;
+
+// What is done with the queue, with the answer.
+#[derive(Clone, Copy)]
+enum Step {
+    // A client asks for a part of an inode, where it may: the number under which its request waits.
+    Enqueue(u32, u64, Result<u64, Refusal>),
+    // The request with this number is served, if one waits under it: its number, its client and its inode.
+    Serve(u64, Option<(u64, u32, u64)>),
+}
+
+use Step::*;
+
+// A request is refused too where all numbers were given.
+fn enqueue(locks: &mut Locks, client: u32, ino: u64) -> Result<u64, Refusal> {
+    if let Some(refusal) = locks.enqueue_refusal() {
+        return Err(refusal);
+    }
+    if locks.last() == u64::MAX {
+        return Err(Refusal::Limit);
+    }
+    let ticket = locks.enqueue(ClientId(client), Ino(ino), Ask::Get(Part::F));
+    Ok(ticket.0)
+}
+
+fn handed(request: &Request) -> (u64, u32, u64) {
+    (request.ticket.0, request.client.0, request.ino.0)
+}
+
+fn serve(locks: &mut Locks, ticket: u64) -> Option<(u64, u32, u64)> {
+    let request = locks.apply_move(Move::Serve(Ticket(ticket)))?;
+    let answer = handed(&request);
+    drop(request);
+    Some(answer)
+}
+
+// A step, how many wait behind it, and the last number that was given.
+type Round = (Step, usize, u64);
+
+// What a case shows, whether as many wait before it as may, and its rounds.
+type Case = (&'static str, bool, &'static [Round]);
+
+// Where a test fails: the case, and the number of the round.
+type At = (&'static str, usize);
+
+fn play(rt: &impl Abort, locks: &mut Locks, at: At, (step, waiting, last): Round) {
+    match step {
+        Enqueue(client, ino, want) => same(rt, enqueue(locks, client, ino), want, at),
+        Serve(ticket, want) => same(rt, serve(locks, ticket), want, at),
+    }
+    same(rt, locks.waiting(), waiting, at);
+    same(rt, locks.last(), last, at);
+}
+
+// As many wait as may: the client with each number from 1 on asks for an inode of ten times that.
+fn fill(rt: &impl Abort, locks: &mut Locks) {
+    for number in 1..=1024u32 {
+        let ticket = u64::from(number);
+        same(rt, enqueue(locks, number, ticket * 10), Ok(ticket), number);
+    }
+}
+
+fn runs(rt: &impl Abort, alloc: Global, (title, is_full, rounds): Case) -> Result<(), AllocError> {
+    let mut locks = made(alloc)?;
+    if is_full {
+        fill(rt, &mut locks);
+    }
+    for (number, round) in rounds.iter().enumerate() {
+        play(rt, &mut locks, (title, number), *round);
+    }
+    Ok(())
+}
+
+const A_FULL_QUEUE: &[Round] = &[
+    (Enqueue(1, 2, Err(Refusal::Limit)), MAX_WAITING, 1024),
+    (Serve(1025, None), 1024, 1024),
+    (Serve(7, Some((7, 7, 70))), 1023, 1024),
+    (Serve(7, None), 1023, 1024),
+    (Enqueue(9, 2, Ok(1025)), 1024, 1025),
+    (Enqueue(9, 3, Err(Refusal::Limit)), 1024, 1025),
+    (Serve(1, Some((1, 1, 10))), 1023, 1025),
+    (Serve(1024, Some((1024, 1024, 10240))), 1022, 1025),
+    (Serve(1025, Some((1025, 9, 2))), 1021, 1025),
+    (Enqueue(9, 3, Ok(1026)), 1022, 1026),
+];
+
+const A_FEW: &[Round] = &[
+    (Serve(0, None), 0, 0),
+    (Serve(1, None), 0, 0),
+    (Enqueue(4, 2, Ok(1)), 1, 1),
+    (Enqueue(4, 2, Ok(2)), 2, 2),
+    (Enqueue(5, 3, Ok(3)), 3, 3),
+    (Serve(0, None), 3, 3),
+    (Serve(2, Some((2, 4, 2))), 2, 3),
+    (Serve(3, Some((3, 5, 3))), 1, 3),
+    (Serve(1, Some((1, 4, 2))), 0, 3),
+    (Enqueue(5, 3, Ok(4)), 1, 4),
+];
+
+const CASES: &[Case] = &[
+    ("no more than 1024 requests wait", true, A_FULL_QUEUE),
+    ("who waits is served by number", false, A_FEW),
+];
+
+#[test]
+fn requests_wait_under_numbers(rt: HostRuntime) -> Result<(), Fail> {
+    for case in CASES {
+        runs(&rt, rt.alloc(), *case)?;
+    }
+    Ok(())
+}

@@ -1,0 +1,34 @@
+//! Texts that are made of parts, and the grants that texts say.
+
+use crate::asserting::made;
+use capspec::{Grants, read_grants, write_grants};
+use std::alloc::{AllocError, Global};
+use std::process::Abort;
+
+/// A text that is `part`, so many times, between `head` and `tail`.
+pub type Long<'a> = (&'a str, &'a str, usize, &'a str);
+
+fn text_of(alloc: Global, (head, part, times, tail): Long) -> Result<String, AllocError> {
+    let parts = part.repeat(alloc, times)?;
+    format!(in alloc; "{head}{parts}{tail}")
+}
+
+/// The text of these parts.
+pub fn long_text(rt: &(impl Abort + AllocGlobal), long: Long) -> String {
+    made(rt, text_of(rt.alloc(), long), "a long text")
+}
+
+/// The grants of a text.
+pub fn grants_of(rt: &(impl Abort + AllocGlobal), text: &[u8]) -> Grants {
+    made(rt, read_grants(rt.alloc(), text), "a text of grants")
+}
+
+/// The written form of grants.
+pub fn written(rt: &(impl Abort + AllocGlobal), grants: &Grants) -> Vec<u8> {
+    made(rt, write_grants(rt.alloc(), grants), "the text of grants")
+}
+
+/// A copy of grants.
+pub fn copy_of(rt: &impl Abort, grants: &Grants) -> Grants {
+    made(rt, grants.copy(), "a copy of grants")
+}
