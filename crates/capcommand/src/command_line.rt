@@ -52,8 +52,20 @@ pub fn parse(alloc: Global, words: &[Vec<u8>]) -> Result<Ask, Error> {
     for word in words {
         texts.push(spell(alloc, word.as_slice())?)?;
     }
+    parse_texts(alloc, texts.as_slice())
+}
+
+fn parse_texts(alloc: Global, texts: &[String]) -> Result<Ask, Error> {
     let mut command = capd(alloc)?;
-    let matches = command.try_get_matches_from_mut(texts.as_slice())?;
+    parse_by(alloc, &mut command, texts)
+}
+
+fn parse_by<'a>(
+    alloc: Global,
+    command: &mut Command<'a>,
+    texts: &'a [String],
+) -> Result<Ask, Error> {
+    let matches = command.try_get_matches_from_mut(texts)?;
     match asked(alloc, &matches) {
         Ok(ask) => Ok(ask),
         Err(kind) => Err(command.error(kind, "a word is missing")?),
@@ -61,14 +73,22 @@ pub fn parse(alloc: Global, words: &[Vec<u8>]) -> Result<Ask, Error> {
 }
 
 fn capd<'a>(alloc: Global) -> Result<Command<'a>, AllocError> {
-    Command::new(alloc, CAPD)
+    let command = Command::new(alloc, CAPD)
         .no_binary_name(true)
-        .bin_name(CAPD)?
         .about("What CephFS clients may do, and why not")
         .subcommand_required(true)
-        .subcommand(explain(alloc)?)?
-        .subcommand(grants(alloc)?)?
-        .subcommand(run(alloc))
+        .bin_name(CAPD)?;
+    let command = with(command, explain(alloc))?;
+    let command = with(command, grants(alloc))?;
+    command.subcommand(run(alloc))
+}
+
+// The command with one subcommand more, where there was memory for that one.
+fn with<'a>(
+    command: Command<'a>,
+    more: Result<Command<'a>, AllocError>,
+) -> Result<Command<'a>, AllocError> {
+    command.subcommand(more?)
 }
 
 fn explain<'a>(alloc: Global) -> Result<Command<'a>, AllocError> {

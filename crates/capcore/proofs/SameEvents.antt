@@ -1,5 +1,5 @@
 -- Where no request finds no memory, a step has one end, and the events of a history say all that is in it.
-use Rattle.std.proofs.Common.{◌≡◌, ◌≢◌, ◌⊎◌, ◌≤◌, ◌+◌, ◌==◌, ℕ, zero, suc, Bool, true, false, not, cond, length, get_or, List, [], ◌∷◌, ◌++◌, Option, Some, None, refl, sym, ap, subst, ◌∙◌, inl, inr, All, Contains, append_assoc, arith}
+use Rattle.std.proofs.Common.{◌≡◌, ◌≢◌, ◌⊎◌, ◌≤◌, ◌+◌, ℕ, zero, suc, not, cond, length, get_or, List, [], ◌∷◌, ◌++◌, Option, Some, None, refl, sym, ap, subst, ◌∙◌, inl, inr, All, Contains, append_assoc, arith}
 use Rattle.std.specs.Prelude.{nat_le, unwrap_or, filter}
 use Rattle.std.specs.List.{find}
 use Rattle.std.specs.Cmp.{nat_eq_equiv}
@@ -16,7 +16,7 @@ use Rattle.lockmachine.specs.declared.request.Ask.{Ask}
 use Rattle.lockmachine.specs.declared.request.Ask.TheVariants.{Get, Alter, Unlink, Rmdir, Rename}
 use Rattle.lockmachine.specs.declared.request.Request.{Request}
 use Rattle.lockmachine.specs.Requests.{is_of_client, AreTicketsRising}
-use Rattle.lockmachine.specs.Locks.{LockMap, IsLockMap, next_request, request_at}
+use Rattle.lockmachine.specs.Locks.{IsLockMap, next_request, request_at}
 use Rattle.lockmachine.specs.Moves.{first_move, with_moved}
 use Rattle.lockmachine.specs.Scene.{Scene}
 use Rattle.lockmachine.proofs.Finding.{filter-contains}

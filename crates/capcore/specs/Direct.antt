@@ -1,4 +1,4 @@
--- What an event does and answers by itself, before any lock moves.
+-- What an event does by itself, before any lock moves; and what it answers and shows, some of it once all has moved.
 use Rattle.std.specs.Prelude.{◌≡◌, ℕ, ◌+◌, ◌==◌, Bool, true, false, List, [], ◌∷◌, map as each, filter, not, take, Option, Some, None, is_some, unwrap_or, if◌then◌else◌}
 use Rattle.std.specs.List.{find}
 use Rattle.std.specs.FinMap as map

@@ -4,7 +4,7 @@ use Rattle.lockmachine.specs.Scene.{Scene}
 use Rattle.capcore.specs.declared.outcome.Ended.{Ended}
 
 pub record State : Type 0 where
-  -- tree, sessions, entries and locks
+  -- the file system's name, tree, sessions, entries and locks
   pub scene : Scene
   -- the requests that ended and that no client was told of, in the order in which they ended
   pub messages : List Ended

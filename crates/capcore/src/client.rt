@@ -31,7 +31,7 @@ use sessiontab::Sessions;
 use std::alloc::{AllocError, Global};
 
 // What becomes of a client's session.
-#[derive(Clone, Copy, Debug)]
+#[derive(Clone, Copy)]
 pub(crate) enum Turn {
     // The client ends it.
     Close,
@@ -44,7 +44,7 @@ pub(crate) enum Turn {
 }
 
 // What the step takes, made before anything changes.
-#[derive(Debug, Drop)]
+#[derive(Drop)]
 struct Room {
     // The locks of each inode that the client has an entry on or waits for, but for the root's.
     others: States,

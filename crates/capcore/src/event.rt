@@ -3,6 +3,7 @@
 use capbits::{Caller, CapSet, ClientId, Ino, Mode, Part};
 use capspec::Grants;
 use lockmachine::{Bytes, Change};
+use std::fmt;
 
 /// What a client opens an inode for.
 #[derive(Clone, Copy, Debug, PartialEq, Eq)]
@@ -16,7 +17,7 @@ pub enum OpenMode {
 }
 
 /// Something that happens to the server: what a client asks for, or what is told of one.
-#[derive(Debug, Drop)]
+#[derive(Drop)]
 pub enum Event {
     /// A client opens a session.
     Session {
@@ -205,4 +206,11 @@ pub enum Event {
         /// How many it takes at most.
         max: u32,
     },
+}
+
+/// Tells nothing of the event: its one text is the line that says it.
+impl fmt::Debug for Event {
+    fn fmt<W: fmt::Write>(&self, f: &mut fmt::Formatter<W>) -> fmt::Result {
+        f.debug_struct("Event").finish_non_exhaustive()
+    }
 }

@@ -142,7 +142,7 @@ impl Messages {
 }
 
 // The requests that a step ends: once to be told to their clients, and once for the history.
-#[derive(Debug, Drop)]
+#[derive(Drop)]
 pub(crate) struct Endings {
     pub(crate) told: Messages,
     pub(crate) kept: Messages,

@@ -9,9 +9,10 @@ use capbits::{CapSet, Ino, Refusal, Ticket};
 use capgrant::{Access, Rules};
 use captable::Holders;
 use std::alloc::Global;
+use std::fmt;
 
 /// The answer to an event.
-#[derive(Debug, Drop)]
+#[derive(Drop)]
 pub enum Reply {
     /// It is done.
     Done,
@@ -45,8 +46,15 @@ pub enum Reply {
     OutOfMemory,
 }
 
+/// Tells nothing of the reply: its one text are the lines that answer it.
+impl fmt::Debug for Reply {
+    fn fmt<W: fmt::Write>(&self, f: &mut fmt::Formatter<W>) -> fmt::Result {
+        f.debug_struct("Reply").finish_non_exhaustive()
+    }
+}
+
 // What a step says: its reply, the same once more for the history, and the requests of earlier steps that it ended.
-#[derive(Debug, Drop)]
+#[derive(Drop)]
 pub(crate) struct Said {
     pub(crate) reply: Reply,
     pub(crate) kept: Reply,

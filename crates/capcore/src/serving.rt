@@ -32,7 +32,7 @@ use sessiontab::Sessions;
 use std::alloc::{AllocError, Global};
 
 // How a request ended, once for its client and once for the history.
-#[derive(Debug, Drop)]
+#[derive(Drop)]
 pub(crate) struct Served {
     pub(crate) outcome: Outcome,
     pub(crate) kept: Outcome,

@@ -1,5 +1,5 @@
 //! The core and its steps.
-ghost use Rattle.std.specs.Prelude.{◌≡◌, ◌↔◌, ◌+◌, ◌<◌, ◌^◌, [], length, Err, IsTrue, IfOk, OnOk, OnErr};
+ghost use Rattle.std.specs.Prelude.{◌≡◌, ◌↔◌, ◌+◌, ◌≤◌, ◌<◌, ◌^◌, ◌++◌, [], ◌∷◌, length, vec_len, vec_capacity, Err, IsTrue, IfOk, OnOk, OnErr};
 ghost use Rattle.capcore.specs.History.{HasNoStray, IsOpening, IsNext, IsTold, InItsRow, Replays, rows_of, AreNumbered};
 ghost use Rattle.capcore.specs.State.{State};
 ghost use Rattle.capcore.specs.Direct.{direct};
@@ -92,11 +92,7 @@ impl Core {
         ensures full { (result ≡ Err stop_kind.Full) ↔ (length self.old.rows ≡ self.old.max_rows) }
         ensures err { OnErr result (self.new ≡ self.old) }
     {
-        if self.rows.len() >= self.max_rows as usize {
-            return Err(Stop::Full);
-        }
-        self.rows.reserve(1)?;
-        let nth = next_number(&self.rows, pass);
+        let nth = make_room(&mut self.rows, self.max_rows, pass)?;
         let Said { reply, kept, ended } = self.world.step(&event)?;
         let row = Row {
             pass,
@@ -105,7 +101,7 @@ impl Core {
             reply: kept,
             ended,
         };
-        self.rows.push(row)?;
+        add_row(&mut self.rows, row);
         Ok(reply)
     }
 
@@ -145,6 +141,32 @@ impl Core {
     {
         self.rows.as_slice()
     }
+}
+
+// Makes room for one row more, where there may be one, and answers which number it has among those of its pass.
+fn make_room(rows: &mut Vec<Row>, max_rows: u32, pass: PassId) -> Result<u64, Stop>
+    requires numbered { AreNumbered rows.old.items }
+    requires most { length rows.old.items ≤ max_rows }
+    ensures items { rows.new.items ≡ rows.old.items }
+    ensures number { IfOk result (λ nth. nth ≡ rows_of pass rows.old.items + 1) }
+    ensures room { OnOk result ((length rows.old.items < max_rows) × (vec_len rows.new < vec_capacity rows.new)) }
+    ensures full { (result ≡ Err stop_kind.Full) ↔ (length rows.old.items ≡ max_rows) }
+{
+    if rows.len() >= max_rows as usize {
+        return Err(Stop::Full);
+    }
+    rows.reserve(1)?;
+    Ok(next_number(rows, pass))
+}
+
+// Adds a row for which there is room.
+fn add_row(rows: &mut Vec<Row>, row: Row)
+    requires room { vec_len rows.old < vec_capacity rows.old }
+    ensures { rows.new.items ≡ rows.old.items ++ row ∷ [] }
+{
+    let Ok(()) = rows.push(row) else {
+        unreachable!()
+    };
 }
 
 // The number of a pass's next row.

@@ -17,7 +17,7 @@ use lockmachine::Locks;
 use std::alloc::AllocError;
 
 // What is asked of a client's entry on an inode.
-#[derive(Clone, Copy, Debug)]
+#[derive(Clone, Copy)]
 pub(crate) enum Touch {
     // The client opens the inode.
     Open(OpenMode),

@@ -1,14 +1,16 @@
 //! The texts of events: the lines that say them.
 ghost use Rattle.std.specs.Prelude.{◌≡◌, ◌++◌, codes, IfOk, OnOk};
 ghost use Rattle.std.specs.Fmt.{decimal};
+ghost use Rattle.capbits.specs.Text.{text_of};
 ghost use Rattle.capexplain.specs.EventTexts.{arguments_text, change_text, event_text, grants_text, groups_text, named_text, numbered_text, setting_text};
+ghost use Rattle.capexplain.specs.PartTexts.{mode_text};
 ghost use Rattle.capexplain.specs.Words.{open_word, part_word};
 
 use crate::change_word::ChangeWord;
 use crate::command::Command;
 use crate::part_text::{print_bytes, print_mode};
 use crate::text::{print, print_caps};
-use capbits::{Caller, ClientId, Groups, Ino, Part};
+use capbits::{Caller, CapSet, ClientId, Groups, Ino, Mode, Part};
 use capcore::{Event, OpenMode};
 use capspec::{Grants, write_grants};
 use inotree::Setting;
@@ -47,8 +49,8 @@ fn print_arguments(text: &mut Vec<u8>, event: &Event) -> Result<(), AllocError>
         | Event::Stale { client }
         | Event::Renew { client }
         | Event::Evict { client }
-        | Event::Unblock { client } => print(text, format_args!(" {client}")),
-        Event::Recall { count } => print(text, format_args!(" {count}")),
+        | Event::Unblock { client } => print_client(text, *client),
+        Event::Recall { count } => print_count(text, *count),
         Event::Lookup { client, dir, name } => print_named(text, *client, *dir, name),
         Event::MakeSnapshot { client, ino, name } | Event::RemoveSnapshot { client, ino, name } => {
             print_named(text, *client, *ino, name)
@@ -64,24 +66,13 @@ fn print_arguments(text: &mut Vec<u8>, event: &Event) -> Result<(), AllocError>
             dir,
             name,
             mode,
-        } => {
-            print_named(text, *client, *dir, name)?;
-            print(text, " ")?;
-            print_mode(text, *mode)
-        }
-        Event::Open { client, ino, mode } => {
-            let word = open_word(*mode);
-            print(text, format_args!(" {client} {ino} {word}"))
-        }
+        } => print_new_inode(text, *client, *dir, name, *mode),
+        Event::Open { client, ino, mode } => print_word(text, *client, *ino, open_word(*mode)),
         Event::Want { client, ino, caps } | Event::Release { client, ino, caps } => {
-            print(text, format_args!(" {client} {ino} "))?;
-            print_caps(text, *caps)
+            print_wanted(text, *client, *ino, *caps)
         }
-        Event::Ack { client, ino, seq } => print(text, format_args!(" {client} {ino} {seq}")),
-        Event::Get { client, ino, part } => {
-            let word = part_word(*part);
-            print(text, format_args!(" {client} {ino} {word}"))
-        }
+        Event::Ack { client, ino, seq } => print_seq(text, *client, *ino, *seq),
+        Event::Get { client, ino, part } => print_word(text, *client, *ino, part_word(*part)),
         Event::Alter {
             client,
             ino,
@@ -91,24 +82,55 @@ fn print_arguments(text: &mut Vec<u8>, event: &Event) -> Result<(), AllocError>
             client,
             ino,
             change,
-        } => {
-            print(text, format_args!(" {client} {ino} "))?;
-            print_change(text, change)
-        }
+        } => print_changed(text, *client, *ino, change),
         Event::Unlink { client, ino } | Event::Rmdir { client, ino } => {
-            print(text, format_args!(" {client} {ino}"))
+            print_inode(text, *client, *ino)
         }
         Event::Rename {
             client,
             ino,
             dir,
             name,
-        } => {
-            print(text, format_args!(" {client} {ino} {dir} "))?;
-            print_name(text, name)
-        }
-        Event::Poll { client, max } => print(text, format_args!(" {client} {max}")),
+        } => print_new_place(text, *client, *ino, *dir, name),
+        Event::Poll { client, max } => print_limit(text, *client, *max),
     }
+}
+
+// ---- the numbers of a line
+
+// A client.
+fn print_client(text: &mut Vec<u8>, client: ClientId) -> Result<(), AllocError>
+    ensures { OnOk result (text.new.items ≡ text.old.items ++ (codes " " ++ decimal client.0)) }
+{
+    print(text, format_args!(" {client}"))
+}
+
+// How many entries are recalled.
+fn print_count(text: &mut Vec<u8>, count: u32) -> Result<(), AllocError>
+    ensures { OnOk result (text.new.items ≡ text.old.items ++ (codes " " ++ decimal count)) }
+{
+    print(text, format_args!(" {count}"))
+}
+
+// A client, and how many messages it is told at most.
+fn print_limit(text: &mut Vec<u8>, client: ClientId, max: u32) -> Result<(), AllocError>
+    ensures { OnOk result (text.new.items ≡ text.old.items ++ (codes " " ++ decimal client.0 ++ codes " " ++ decimal max)) }
+{
+    print(text, format_args!(" {client} {max}"))
+}
+
+// A client and an inode.
+fn print_inode(text: &mut Vec<u8>, client: ClientId, ino: Ino) -> Result<(), AllocError>
+    ensures { OnOk result (text.new.items ≡ text.old.items ++ (codes " " ++ decimal client.0 ++ codes " " ++ decimal ino.0)) }
+{
+    print(text, format_args!(" {client} {ino}"))
+}
+
+// A client, an inode and the number of a change.
+fn print_seq(text: &mut Vec<u8>, client: ClientId, ino: Ino, seq: u64) -> Result<(), AllocError>
+    ensures { OnOk result (text.new.items ≡ text.old.items ++ named_text client ino (decimal seq)) }
+{
+    print(text, format_args!(" {client} {ino} {seq}"))
 }
 
 // ---- a session
@@ -135,15 +157,12 @@ fn print_session(
 fn print_groups(text: &mut Vec<u8>, groups: &Groups) -> Result<(), AllocError>
     ensures { OnOk result (text.new.items ≡ text.old.items ++ groups_text groups.now) }
 {
-    let gids = groups.as_slice();
-    if gids.is_empty() {
+    let Some((first, more)) = groups.as_slice().split_first() else {
         return print(text, "-");
-    }
-    for (place, gid) in gids.iter().enumerate() {
-        if place > 0 {
-            print(text, ",")?;
-        }
-        print(text, *gid)?;
+    };
+    print(text, *first)?;
+    for gid in more {
+        print(text, format_args!(",{gid}"))?;
     }
     Ok(())
 }
@@ -160,7 +179,35 @@ fn print_grants(text: &mut Vec<u8>, grants: &Grants) -> Result<(), AllocError>
     Ok(())
 }
 
-// ---- names and changes
+// ---- words, names and changes
+
+// A client and an inode, with a space behind.
+fn print_entry(text: &mut Vec<u8>, client: ClientId, ino: Ino) -> Result<(), AllocError>
+    ensures { OnOk result (text.new.items ≡ text.old.items ++ (codes " " ++ decimal client.0 ++ codes " " ++ decimal ino.0 ++ codes " ")) }
+{
+    print(text, format_args!(" {client} {ino} "))
+}
+
+// A client, an inode and a word.
+fn print_word(text: &mut Vec<u8>, client: ClientId, ino: Ino, word: &str) -> Result<(), AllocError>
+    ensures { OnOk result (text.new.items ≡ text.old.items ++ named_text client ino word.now) }
+{
+    print_entry(text, client, ino)?;
+    print(text, word)
+}
+
+// A client, an inode and capabilities.
+fn print_wanted(
+    text: &mut Vec<u8>,
+    client: ClientId,
+    ino: Ino,
+    caps: CapSet,
+) -> Result<(), AllocError>
+    ensures { OnOk result (text.new.items ≡ text.old.items ++ named_text client ino (text_of caps)) }
+{
+    print_entry(text, client, ino)?;
+    print_caps(text, caps)
+}
 
 // A client, an inode and a name.
 fn print_named(
@@ -171,8 +218,51 @@ fn print_named(
 ) -> Result<(), AllocError>
     ensures { OnOk result (text.new.items ≡ text.old.items ++ named_text client ino name.now) }
 {
-    print(text, format_args!(" {client} {ino} "))?;
+    print_entry(text, client, ino)?;
     print_name(text, name)
+}
+
+// A client, a directory, a name in it and a mode.
+fn print_new_inode(
+    text: &mut Vec<u8>,
+    client: ClientId,
+    dir: Ino,
+    name: &Bytes,
+    mode: Mode,
+) -> Result<(), AllocError>
+    ensures { OnOk result (text.new.items ≡ text.old.items ++ (named_text client dir name.now ++ codes " " ++ mode_text mode)) }
+{
+    print_named(text, client, dir, name)?;
+    print(text, " ")?;
+    print_mode(text, mode)
+}
+
+// A client, an inode, a directory and a name in it.
+fn print_new_place(
+    text: &mut Vec<u8>,
+    client: ClientId,
+    ino: Ino,
+    dir: Ino,
+    name: &Bytes,
+) -> Result<(), AllocError>
+    ensures { OnOk result (text.new.items ≡ text.old.items
+        ++ (codes " " ++ decimal client.0 ++ codes " " ++ decimal ino.0 ++ codes " " ++ decimal dir.0 ++ codes " " ++ name.now)) }
+{
+    print(text, format_args!(" {client} {ino} {dir} "))?;
+    print_name(text, name)
+}
+
+// A client, an inode and a change.
+fn print_changed(
+    text: &mut Vec<u8>,
+    client: ClientId,
+    ino: Ino,
+    change: &Change,
+) -> Result<(), AllocError>
+    ensures { OnOk result (text.new.items ≡ text.old.items ++ named_text client ino (change_text change.now)) }
+{
+    print_entry(text, client, ino)?;
+    print_change(text, change)
 }
 
 // A name, as it is.

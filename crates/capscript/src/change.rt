@@ -15,20 +15,24 @@ use inotree::Setting;
 use lockmachine::{Bytes, Change};
 use std::alloc::Global;
 
+const KINDS: [ChangeWord; 7] = [
+    ChangeWord::Mode,
+    ChangeWord::Uid,
+    ChangeWord::Gid,
+    ChangeWord::SetXattr,
+    ChangeWord::RemoveXattr,
+    ChangeWord::Size,
+    ChangeWord::Time,
+];
+
 // The change that begins with a word.
 fn read_kind(word: &[u8]) -> Option<ChangeWord>
     ensures { result ≡ changes.change_kind word.now }
 {
-    match word {
-        b"chmod" => Some(ChangeWord::Mode),
-        b"chown" => Some(ChangeWord::Uid),
-        b"chgrp" => Some(ChangeWord::Gid),
-        b"setx" => Some(ChangeWord::SetXattr),
-        b"rmx" => Some(ChangeWord::RemoveXattr),
-        b"size" => Some(ChangeWord::Size),
-        b"times" => Some(ChangeWord::Time),
-        _ => None,
-    }
+    KINDS
+        .iter()
+        .copied()
+        .find(|kind| word == kind.word().as_bytes())
 }
 
 // Whether a change of this kind takes so many words.

@@ -59,7 +59,7 @@ pub enum ScriptFault {
 }
 
 // Why a line gave no event.
-#[derive(Clone, Copy, Debug, PartialEq, Eq)]
+#[derive(Clone, Copy)]
 pub(crate) enum Refused {
     // The line is wrong.
     Wrong(LineFault),

@@ -65,7 +65,7 @@ pub(crate) struct Places {
 }
 
 /// What is answered, as far as it counts here.
-#[derive(Clone, Copy, Debug, PartialEq, Eq)]
+#[derive(Clone, Copy, PartialEq, Eq)]
 pub(crate) enum Answer {
     /// It is done.
     Done,

@@ -2,7 +2,7 @@
 
 use crate::work::Work;
 use clap::error::ErrorKind;
-use clap::{Arg, ArgAction, Command, Error, value_parser};
+use clap::{Arg, ArgAction, ArgMatches, Command, Error, value_parser};
 use std::alloc::{AllocError, Global};
 
 const CAPBENCH: &str = "capbench";
@@ -36,7 +36,7 @@ with G of 1, 4 or 16, D of 1, 8 or 32, and T of 100, 1000, 10000 or 60000";
 const WRONG_WORK: &str = "there is no such WORK: --help lists them";
 
 /// A piece of work, and how many times it is done.
-#[derive(Clone, Copy, Debug, PartialEq, Eq)]
+#[derive(Clone, Copy)]
 pub struct Task {
     /// The work.
     pub work: Work,
@@ -48,12 +48,21 @@ pub struct Task {
 /// them, or it is the help that they ask for.
 pub fn parse(alloc: Global, words: &[String]) -> Result<Task, Error> {
     let mut command = capbench(alloc)?;
+    parse_by(&mut command, words)
+}
+
+fn parse_by<'a>(command: &mut Command<'a>, words: &'a [String]) -> Result<Task, Error> {
     let matches = command.try_get_matches_from_mut(words)?;
-    let work = matches.get_str(WORK).and_then(|word| Work::read(word));
-    match (work, matches.get_one::<u32>(TIMES)) {
-        (Some(work), Some(times)) => Ok(Task { work, times }),
-        _ => Err(command.error(ErrorKind::InvalidValue, WRONG_WORK)?),
+    match asked(&matches) {
+        Some(task) => Ok(task),
+        None => Err(command.error(ErrorKind::InvalidValue, WRONG_WORK)?),
     }
+}
+
+fn asked(matches: &ArgMatches<'_>) -> Option<Task> {
+    let work = Work::read(matches.get_str(WORK)?)?;
+    let times = matches.get_one::<u32>(TIMES)?;
+    Some(Task { work, times })
 }
 
 fn capbench<'a>(alloc: Global) -> Result<Command<'a>, AllocError> {

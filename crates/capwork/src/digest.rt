@@ -18,8 +18,8 @@ impl Write for Digest {
 }
 
 /// A hash of all that a value keeps, as its `Debug` tells it in lines: in one line a slab tells its room, and not what it
-/// keeps. Of a core its history is included. It takes no memory: where an event found none, the core can still be compared with
-/// what it was.
+/// keeps. Of a core's rows it has the passes, the numbers and the requests that ended, and not the events and the replies. It
+/// takes no memory: where an event found none, the core can still be compared with what it was.
 pub(crate) fn digest_of<T: Debug>(value: &T) -> u64 {
     let mut digest = Digest {
         hasher: DefaultHasher::new(),

@@ -98,8 +98,8 @@ const ENDING: &[(Asked, Answer)] = &[
     (Asked::Poll(OTHER), Answer::NoMessage),
 ];
 
-/// Has two clients share so many files, one after another, then wait for one more, and end their sessions. The sum is a hash
-/// of all that the core keeps in the end.
+/// Has two clients share so many files, one after another, then wait for one more, and end their sessions. The sum is the hash
+/// of the core in the end.
 pub(crate) fn retry(alloc: Global, core: &mut Core, times: u32) -> Result<Tally, Fault> {
     let mut tally = Tally::of(0);
     let at_root = Places {

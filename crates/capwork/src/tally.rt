@@ -1,7 +1,7 @@
 //! What a piece of work comes to.
 
 /// What a piece of work comes to.
-#[derive(Clone, Copy, Debug, PartialEq, Eq)]
+#[derive(Clone, Copy)]
 pub(crate) struct Tally {
     // The sum over its answers. It wraps past 64 bits.
     pub(crate) sum: u64,

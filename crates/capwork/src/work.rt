@@ -99,15 +99,22 @@ impl Work {
             }
             "lookup" => Some(Work::Lookup(TreeShape::read(shape)?)),
             "create" => Some(Work::Create(TreeShape::read(shape)?)),
-            "open" => Some(Work::Open(Size::read(shape)?)),
-            "revoke" => Some(Work::Revoke(Size::read(shape)?)),
-            "want" => Some(Work::Want(Size::read(shape)?)),
-            "release" => Some(Work::Release(Size::read(shape)?)),
-            "share" => Some(Work::Share(Size::read(shape)?)),
-            "poll" => Some(Work::Poll(Size::read(shape)?)),
-            "alter" => Some(Work::Alter(Size::read(shape)?)),
-            "rename" => Some(Work::Rename(Size::read(shape)?)),
-            "carry" => Some(Work::Carry(Size::read(shape)?)),
+            _ => Work::of_size(kind, Size::read(shape)?),
+        }
+    }
+
+    // The piece of work of this kind, beside or on so many inodes.
+    fn of_size(kind: &str, size: Size) -> Option<Work> {
+        match kind {
+            "open" => Some(Work::Open(size)),
+            "revoke" => Some(Work::Revoke(size)),
+            "want" => Some(Work::Want(size)),
+            "release" => Some(Work::Release(size)),
+            "share" => Some(Work::Share(size)),
+            "poll" => Some(Work::Poll(size)),
+            "alter" => Some(Work::Alter(size)),
+            "rename" => Some(Work::Rename(size)),
+            "carry" => Some(Work::Carry(size)),
             _ => None,
         }
     }

@@ -1,17 +1,24 @@
-use Rattle.std.proofs.Common.{arith, ap, ◌∙◌}
+use Rattle.std.proofs.Common.{ℕ, List, ◌++◌, arith, sym, ap, ◌∙◌, append_assoc}
 use Rattle.std.specs.Prelude.{codes}
 use Rattle.std.specs.Fmt.{decimal}
-use Rattle.capspec.proofs.Joining.{written_first, written_more}
+use Rattle.std.specs.List.{flat_map}
+use Rattle.std.proofs.lemmas.List.{append-nil, take_all}
+use Rattle.capexplain.specs.EventTexts.{groups_text}
 use Rattle.capexplain.proofs.event_text.print_groups.Goals as goal
-use Rattle.capexplain.proofs.event_text.print_groups.Goals.{then-place-gt0+in_ok-print, else-place-gt0}
 
-pub loop-place-preserved : goal.loop-place-preserved
-loop-place-preserved c =
+-- a group behind a comma
+abbrev further : ℕ → List ℕ
+further gid = codes "," ++ decimal gid
+
+pub loop-gid-init : goal.loop-gid-init
+loop-gid-init c = sym (append-nil _)
+
+pub returns : goal.returns
+returns c =
     let start = c.args.text.now.items in
-    let gids = c.as_slice-gids.result.now in
-    let k = c.loop-place.place in
-    elim c.if-place-gt0.branch [
-      | then-place-gt0+in_ok-print w ↦
-          written_more decimal (codes ",") start c.loop-place.text.items _ _ gids k _ (omega arith) (omega arith) c.loop-place.invariant (ap (λ t. t.items) w.text-is ∙ w.in_ok-print.ensures) c.in_ok-print-2.ensures
-      | else-place-gt0 w ↦ written_first decimal (codes ",") start _ _ gids k _ (omega arith) (omega arith) (ap (λ t. t.items) w.text-is ∙ c.loop-place.invariant) c.in_ok-print-2.ensures
-    ]
+    let more = c.in-Some.more.now in
+    c.loop-gid.invariant
+    ∙ ap (λ gids. c.print-2.new.text.items ++ flat_map further gids) (take_all c.loop-gid.gid-index more (omega arith))
+    ∙ ap (λ text. text ++ flat_map further more) c.in_ok-print.ensures
+    ∙ append_assoc start (decimal c.in-Some.first.now) (flat_map further more)
+    ∙ ap (λ gids. start ++ groups_text gids) (sym c.in-Some.ensures.cases.0 ∙ c.as_slice.ensures.value)

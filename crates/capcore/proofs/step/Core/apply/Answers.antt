@@ -1,4 +1,4 @@
-use Rattle.std.proofs.Common.{◌≡◌, ◌<◌, ◌+◌, ◌++◌, ◌∷◌, [], length, ap, sym, subst, ◌∙◌, arith}
+use Rattle.std.proofs.Common.{◌≡◌, ◌++◌, ◌∷◌, [], length, ap, sym, subst, ◌∙◌}
 use Rattle.std.specs.Prelude.{IsTrue}
 use Rattle.capcore.specs.State.{State}
 use Rattle.capcore.specs.declared.history.Row.{Row}
@@ -6,7 +6,7 @@ use Rattle.capcore.specs.declared.reply.Reply.{Reply}
 use Rattle.capcore.specs.Answered.{IsAnswered}
 use Rattle.capcore.specs.Direct.{direct}
 use Rattle.capcore.specs.Headline.{DeniedExactly, DeniesByName, ServedDenied, ServedByName, EachServing, ByMoves, AreBounded, IssuesExactly, is_stop}
-use Rattle.capcore.specs.History.{Told, told, InItsRow, Replays, rows_of}
+use Rattle.capcore.specs.History.{Told, told, InItsRow, Replays}
 use Rattle.capcore.specs.Sound.{IsSound}
 use Rattle.capcore.specs.Step.{Step}
 use Rattle.capcore.proofs.Apart.{held-apart}
@@ -15,41 +15,39 @@ use Rattle.capcore.proofs.Servings.{served-denied, served-by_name}
 use Rattle.capcore.proofs.Promised.{denied-exactly, denies-by_name, stopped-unchanged}
 use Rattle.capcore.proofs.Growing.{more-told, replays-more}
 use Rattle.capcore.proofs.step.Core.apply.Goals as goal
-use Rattle.capcore.proofs.step.Core.apply.Goals.{In_ok-push}
+use Rattle.capcore.proofs.step.Core.apply.Goals.{After-add_row}
 
 -- what the step says and leaves
-answered_of : (c : In_ok-push) → IsAnswered c.self.inside.world c.args.event c.in_ok-reply.field-0 c.step.new.self
+answered_of : (c : After-add_row) → IsAnswered c.self.inside.world c.args.event c.in_ok-reply.field-0 c.step.new.self
 answered_of c = c.in_ok-reply.ensures.answered
 
 -- the step, with what is answered and with what the row keeps of it
-step_of : (c : In_ok-push) → Step c.self.inside.world c.args.event c.in_ok-reply.field-0.reply c.in_ok-reply.field-0.ended c.step.new.self
+step_of : (c : After-add_row) → Step c.self.inside.world c.args.event c.in_ok-reply.field-0.reply c.in_ok-reply.field-0.ended c.step.new.self
 step_of c = let all = answered_of c in all.step
 
-kept_step : (c : In_ok-push) → Step c.self.inside.world c.args.event c.in_ok-reply.field-0.kept c.in_ok-reply.field-0.ended c.step.new.self
+kept_step : (c : After-add_row) → Step c.self.inside.world c.args.event c.in_ok-reply.field-0.kept c.in_ok-reply.field-0.ended c.step.new.self
 kept_step c =
     let all = answered_of c in
     subst (λ (answer : Reply). Step c.self.inside.world c.args.event answer c.in_ok-reply.field-0.ended c.step.new.self) (sym all.kept) all.step
 
 -- the world is sound after the step
-next : (c : In_ok-push) → IsSound c.step.new.self
+next : (c : After-add_row) → IsSound c.step.new.self
 next c = let all = answered_of c in all.sound
 
 -- its row, which comes last
-abbrev row_of : In_ok-push → Row
-row_of c = record { pass = c.args.pass; nth = c.next_number-nth.result; event = c.args.event; reply = c.in_ok-reply.field-0.kept; ended = c.in_ok-reply.field-0.ended }
+abbrev row_of : After-add_row → Row
+row_of c = record { pass = c.args.pass; nth = c.in_ok-nth.nth; event = c.args.event; reply = c.in_ok-reply.field-0.kept; ended = c.in_ok-reply.field-0.ended }
 
-added : (c : In_ok-push) → c.push.new.self.items ≡ c.self.inside.rows.items ++ row_of c ∷ []
-added c = c.in_ok-push.ensures.items ∙ ap (λ rows. rows ++ row_of c ∷ []) c.reserve.ensures.items
+added : (c : After-add_row) → c.add_row.new.rows.items ≡ c.self.inside.rows.items ++ row_of c ∷ []
+added c = c.add_row.ensures ∙ ap (λ rows. rows ++ row_of c ∷ []) c.make_room.ensures.items
 
 pub invariant_of-self-2 : goal.invariant_of-self-2
 invariant_of-self-2 c =
     let row : Row = row_of c in
     let step : Step c.self.inside.world row.event row.reply row.ended c.step.new.self = kept_step c in
-    let nth : row.nth ≡ rows_of row.pass c.self.inside.rows.items + 1 = c.next_number-nth.ensures ∙ ap (λ rows. rows_of c.args.pass rows + 1) (c.deref.ensures.value ∙ c.reserve.ensures.items) in
-    let less : length c.self.inside.rows.items < c.self.inside.max_rows = omega (arith, c.len.ensures, c.if-len-self.false) in
     let all = answered_of c in
-    rw (c.in_ok-push.ensures.items, c.reserve.ensures.items)
-    (more-told (told c.self.inside.world c.self.inside.rows.items c.self.inside.max_rows) row c.step.new.self c.self.invariant step nth less
+    rw (c.add_row.ensures, c.make_room.ensures.items)
+    (more-told (told c.self.inside.world c.self.inside.rows.items c.self.inside.max_rows) row c.step.new.self c.self.invariant step c.in_ok-nth.ensures.number c.in_ok-nth.ensures.room.0
     all.sound (all.given (length c.self.inside.rows.items) c.self.invariant.given))
 
 pub returns-clause-denied : goal.returns-clause-denied
@@ -64,7 +62,7 @@ returns-clause-named c =
 
 pub returns-clause-served_denied : goal.returns-clause-served_denied
 returns-clause-served_denied c =
-    subst (λ (t : Told). InItsRow t.rows c.push.new.self.items (λ ended. ByMoves (EachServing ServedDenied) t.state c.args.event c.in_ok-reply.field-0.reply ended c.step.new.self)) c.self.view_is (
+    subst (λ (t : Told). InItsRow t.rows c.add_row.new.rows.items (λ ended. ByMoves (EachServing ServedDenied) t.state c.args.event c.in_ok-reply.field-0.reply ended c.step.new.self)) c.self.view_is (
       row_of c,
       added c,
       by-moves (EachServing ServedDenied) c.self.inside.world c.args.event c.in_ok-reply.field-0.reply c.in_ok-reply.field-0.ended c.step.new.self (step_of c)
@@ -73,7 +71,7 @@ returns-clause-served_denied c =
 
 pub returns-clause-served_named : goal.returns-clause-served_named
 returns-clause-served_named c =
-    subst (λ (t : Told). InItsRow t.rows c.push.new.self.items (λ ended. ByMoves (EachServing ServedByName) t.state c.args.event c.in_ok-reply.field-0.reply ended c.step.new.self)) c.self.view_is (
+    subst (λ (t : Told). InItsRow t.rows c.add_row.new.rows.items (λ ended. ByMoves (EachServing ServedByName) t.state c.args.event c.in_ok-reply.field-0.reply ended c.step.new.self)) c.self.view_is (
       row_of c,
       added c,
       by-moves (EachServing ServedByName) c.self.inside.world c.args.event c.in_ok-reply.field-0.reply c.in_ok-reply.field-0.ended c.step.new.self (step_of c)
@@ -82,7 +80,7 @@ returns-clause-served_named c =
 
 pub returns-clause-bounded : goal.returns-clause-bounded
 returns-clause-bounded c =
-    subst (λ (t : Told). InItsRow t.rows c.push.new.self.items (λ ended. ByMoves AreBounded t.state c.args.event c.in_ok-reply.field-0.reply ended c.step.new.self)) c.self.view_is (
+    subst (λ (t : Told). InItsRow t.rows c.add_row.new.rows.items (λ ended. ByMoves AreBounded t.state c.args.event c.in_ok-reply.field-0.reply ended c.step.new.self)) c.self.view_is (
       row_of c,
       added c,
       by-moves AreBounded c.self.inside.world c.args.event c.in_ok-reply.field-0.reply c.in_ok-reply.field-0.ended c.step.new.self (step_of c)
@@ -110,8 +108,8 @@ pub returns-clause-legal : goal.returns-clause-legal
 returns-clause-legal c =
     let row : Row = row_of c in
     let step : Step c.self.inside.world row.event row.reply row.ended c.step.new.self = kept_step c in
-    subst (λ (t : Told). (first : State) → Replays first t.rows t.state → Replays first c.push.new.self.items c.step.new.self) c.self.view_is
-    (λ first past. rw (c.in_ok-push.ensures.items, c.reserve.ensures.items) (replays-more first c.self.inside.rows.items c.self.inside.world row c.step.new.self past step))
+    subst (λ (t : Told). (first : State) → Replays first t.rows t.state → Replays first c.add_row.new.rows.items c.step.new.self) c.self.view_is
+    (λ first past. rw (c.add_row.ensures, c.make_room.ensures.items) (replays-more first c.self.inside.rows.items c.self.inside.world row c.step.new.self past step))
 
 pub returns-clause-unchanged : goal.returns-clause-unchanged
 returns-clause-unchanged c =
