@@ -5,6 +5,7 @@ pub mod AtEnd
 pub mod Bounded
 pub mod Concluded
 pub mod Counting
+pub mod Determined
 pub mod Effects
 pub mod Finishing
 pub mod FirstLocks

@@ -17,7 +17,7 @@ use Rattle.capbits.specs.Sets.{and_parts}
 use Rattle.inotree.specs.declared.node.Node.{Node}
 use Rattle.locktable.specs.declared.states.LockState.{LockState}
 use Rattle.locktable.specs.declared.states.LockState.TheVariants.{Stable, Gather}
-use Rattle.lockmachine.specs.declared.moves.Move.TheVariants.{Begin, End, Serve, Settled}
+use Rattle.lockmachine.specs.declared.moves.Move.TheVariants.{Begin, End, Serve}
 use Rattle.lockmachine.specs.declared.request.Ask.{Ask}
 use Rattle.lockmachine.specs.declared.request.Ask.TheVariants.{Get, Alter, Unlink, Rmdir, Rename}
 use Rattle.lockmachine.specs.declared.request.Request.{Request}
@@ -38,6 +38,7 @@ use Rattle.capcore.specs.Direct.{awaited_as, outcome_reply, is_of_ticket}
 use Rattle.capcore.specs.Headline.{is_stop}
 use Rattle.capcore.specs.Serving.{judged_again, told_of, passed_as, outcome_unless, MayEndAs, As_judged, Without_memory}
 use Rattle.capcore.specs.Settle.{Made, Began, Gathered, Served, MakesAll, ended_in}
+use Rattle.capcore.proofs.Stopping.{no_moves}
 
 -- ---- how a request ends that nothing stops
 
@@ -230,13 +231,6 @@ module _ (old : Scene) (client : ClientId) (inode : Ino) (ask : Ask) (rest : IsA
         ap (λ b. is_stop (awaited_as q.ticket (cond b (Some (record { client = r.client; ticket = r.ticket; outcome = o })) (find (is_of_ticket q.ticket) (ended_in moves))))) number
         ∙ unstopped q.ticket (now locks) q o free (subst (λ (x : Request). MayEndAs (now locks) x o) itself may)
 
-  -- where no move applies, none is made
-  none-made : (s last : Scene) (moves : List Made) → first_move s ≡ Settled → MakesAll s moves last → NotStopped moves
-  none-made s last [] none made = refl
-  none-made s last (Began i p to ∷ moves) none (mid, (first, is), made) = let both : Begin i p to ≡ Settled = sym first ∙ none in absurd (cc)
-  none-made s last (Gathered i p ∷ moves) none (mid, (first, is), made) = let both : End i p ≡ Settled = sym first ∙ none in absurd (cc)
-  none-made s last (Served r o ∷ moves) none (mid, (first, found, may, is), made) = let both : Serve r.ticket ≡ Settled = sym first ∙ none in absurd (cc)
-
   module _ (order : IsLockMap (with_request old.locks client inode ask)) where
     abbrev waiting : LockMap
     waiting = with_request old.locks client inode ask
@@ -263,4 +257,5 @@ module _ (old : Scene) (client : ClientId) (inode : Ino) (ask : Ask) (rest : IsA
         by_lock None is quiet = not-stopped free quiet waiting moves last alone-first made
         by_lock (Some (Stable state)) is quiet = not-stopped free quiet.1 waiting moves last alone-first made
         by_lock (Some (Gather from to)) is quiet =
-            none-made (now waiting) last moves (settled (now waiting) (rests-on (subst (IsQuiet (now waiting) ino part) (sym is) quiet))) made
+            let none = no_moves (now waiting) moves last (settled (now waiting) (rests-on (subst (IsQuiet (now waiting) ino part) (sym is) quiet))) made in
+            subst NotStopped (sym none.0) refl

@@ -49,7 +49,7 @@ no_move old mid (Served q o) still made = differs (sym still ∙ made.0)
     differs : Settled ≡ Serve q.ticket → ⊥
     differs e = cc
 
-no_moves : (old : Scene) (moves : List Made) (new : Scene) → first_move old ≡ Settled → MakesAll old moves new → (moves ≡ []) × (new ≡ old)
+pub no_moves : (old : Scene) (moves : List Made) (new : Scene) → first_move old ≡ Settled → MakesAll old moves new → (moves ≡ []) × (new ≡ old)
 no_moves old [] new still made = (refl, made)
 no_moves old (m ∷ ms) new still made = absurd (no_move old made.0 m still made.1)
 

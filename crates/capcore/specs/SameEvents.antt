@@ -17,6 +17,14 @@ pub record FoundMemory (answer : Reply) (ended : List Ended) : Type 0 where
 abbrev pub AllFoundMemory : List Row → Type 0
 AllFoundMemory rows = All (λ row. FoundMemory row.reply row.ended) rows
 
--- which events were called, and by which passes
-abbrev pub calls : List Row → List (PassId × Event)
-calls rows = map (λ row. (row.pass, row.event)) rows
+-- the events
+abbrev pub events_of : List Row → List Event
+events_of rows = map (λ row. row.event) rows
+
+-- how each ended: its answer, and the requests of earlier rows that it ended
+abbrev pub ends_of : List Row → List (Reply × List Ended)
+ends_of rows = map (λ row. (row.reply, row.ended)) rows
+
+-- who called them
+abbrev pub passes_of : List Row → List PassId
+passes_of rows = map (λ row. row.pass) rows

@@ -27,9 +27,9 @@ ghost use Rattle.capcore.specs.State.{State};
 ghost use Rattle.capcore.specs.Direct.{with_scene};
 ghost use Rattle.capcore.specs.Leaving.{with_parts, LeavesEntries};
 ghost use Rattle.capcore.specs.Judge.{judged, stop_reply};
-ghost use Rattle.capcore.specs.Step.{Step};
-ghost use Rattle.capcore.specs.History.{HasNoStray, IsOpening, IsLegal};
-ghost use Rattle.capcore.specs.SameEvents.{FoundMemory, AllFoundMemory, calls};
+ghost use Rattle.capcore.specs.Step.{Step, StepBy};
+ghost use Rattle.capcore.specs.History.{HasNoStray, IsOpening, Replays, IsLegal};
+ghost use Rattle.capcore.specs.SameEvents.{FoundMemory, AllFoundMemory, events_of, ends_of, passes_of};
 ghost use Rattle.capcore.specs.Settle.{Made, MakesAll, Settles, ended_in};
 ghost use Rattle.capcore.specs.Finish.{finished};
 ghost use Rattle.capcore.specs.Headline.{EachServing, ServedDenied, ServedByName, NoneConflict};
@@ -120,6 +120,24 @@ pub fn a_settling_serves_at_most_who_waits()
         → length (ended_in moves) + length settled.locks.queue ≡ length first.locks.queue }
 {}
 
+/// A row says all of its step: two steps from one state that have the same event, the same answer and the same requests of
+/// earlier steps that they ended are made by the same moves, and lead to the same state.
+pub fn a_row_fixes_its_step()
+    ensures moves { (old new other : State) (e : Event) (answer : Reply) (ended : List Ended) (moves others : List Made)
+        → IsLockMap old.scene.locks → StepBy old e moves answer ended new → StepBy old e others answer ended other
+        → moves ≡ others }
+    ensures state { (old new other : State) (e : Event) (answer : Reply) (ended : List Ended) → IsLockMap old.scene.locks
+        → Step old e answer ended new → Step old e answer ended other → new ≡ other }
+{}
+
+/// So the rows of a history lead to one state alone, from its opening and from any state on the way.
+pub fn rows_fix_the_state()
+    ensures opening { (fs : List ℕ) (tree : Nodes) (first last end : State) (rows : List Row) → IsOpening fs tree first
+        → Replays first rows last → Replays first rows end → last ≡ end }
+    ensures on_the_way { (first last end : State) (rows : List Row) → IsLockMap first.scene.locks
+        → Replays first rows last → Replays first rows end → last ≡ end }
+{}
+
 /// An event has one step in which every request finds its memory: what it answers, which requests of earlier steps it ends and
 /// where it leads are the same in any other such step.
 pub fn a_step_that_finds_memory_has_one_end()
@@ -128,13 +146,17 @@ pub fn a_step_that_finds_memory_has_one_end()
         → (a ≡ b) × (xs ≡ ys) × (new ≡ other) }
 {}
 
-/// So where no request finds no memory, events alone say what is answered and where they lead: two legal histories from one
-/// opening with the same events, called by the same passes, have the same rows and lead to the same state.
+/// So where no request finds no memory, events alone say what is answered and where they lead: two histories from one opening
+/// with the same events have the same answers, end the same requests and lead to the same state, whoever called. Where the same
+/// passes called, their rows are the same.
 pub fn the_same_events_have_the_same_history()
-    ensures rows { (fs : List ℕ) (tree : Nodes) (first last end : State) (rows others : List Row) → IsOpening fs tree first
-        → IsLegal first rows last → IsLegal first others end → calls rows ≡ calls others
-        → AllFoundMemory rows → AllFoundMemory others → rows ≡ others }
+    ensures ends { (fs : List ℕ) (tree : Nodes) (first last end : State) (rows others : List Row) → IsOpening fs tree first
+        → Replays first rows last → Replays first others end → events_of rows ≡ events_of others
+        → AllFoundMemory rows → AllFoundMemory others → ends_of rows ≡ ends_of others }
     ensures state { (fs : List ℕ) (tree : Nodes) (first last end : State) (rows others : List Row) → IsOpening fs tree first
-        → IsLegal first rows last → IsLegal first others end → calls rows ≡ calls others
+        → Replays first rows last → Replays first others end → events_of rows ≡ events_of others
         → AllFoundMemory rows → AllFoundMemory others → last ≡ end }
+    ensures rows { (fs : List ℕ) (tree : Nodes) (first last end : State) (rows others : List Row) → IsOpening fs tree first
+        → IsLegal first rows last → IsLegal first others end → events_of rows ≡ events_of others
+        → passes_of rows ≡ passes_of others → AllFoundMemory rows → AllFoundMemory others → rows ≡ others }
 {}

@@ -1,4 +1,4 @@
-use Rattle.capcore.proofs.SameEvents.{step-once}
+use Rattle.capcore.proofs.Determined.{step-once}
 use Rattle.capcore.proofs.laws.a_step_that_finds_memory_has_one_end.Goals as goal
 
 pub returns : goal.returns

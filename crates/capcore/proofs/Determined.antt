@@ -1,0 +1,273 @@
+-- Two steps from one state with the same event are the same where the same requests find no memory: so where all find it, and so
+-- where their rows say the same.
+use Rattle.std.proofs.Common.{◌≡◌, ◌≢◌, ◌⊎◌, ◌↔◌, ◌≤◌, ℕ, zero, suc, not, cond, List, [], ◌∷◌, Option, Some, None, refl, sym, ap, subst, ◌∙◌, inl, inr, All, Contains, arith}
+use Rattle.std.specs.Prelude.{nat_le, unwrap_or, filter}
+use Rattle.std.specs.List.{find}
+use Rattle.std.specs.Cmp.{nat_eq_equiv}
+use Rattle.std.proofs.lemmas.Bool.{le-leb, ne_eqb}
+use Rattle.std.proofs.lemmas.List.{append_cancel_left}
+use Rattle.std.proofs.lemmas.Option.{same_Some}
+use Rattle.std.proofs.lemmas.List.Elements.{All-weaker, All-push, All-filter, All-contains, Contains-append_right}
+use Rattle.capbits.specs.declared.ids.ClientId.{ClientId}
+use Rattle.capbits.specs.declared.ids.Ino.{Ino}
+use Rattle.capbits.specs.declared.ids.Ticket.{Ticket}
+use Rattle.inotree.specs.Tree.{child}
+use Rattle.lockmachine.specs.declared.moves.Move.TheVariants.{Begin, End, Serve, Settled}
+use Rattle.lockmachine.specs.declared.request.Ask.{Ask}
+use Rattle.lockmachine.specs.declared.request.Ask.TheVariants.{Get, Alter, Unlink, Rmdir, Rename}
+use Rattle.lockmachine.specs.declared.request.Request.{Request}
+use Rattle.lockmachine.specs.Requests.{is_of_client}
+use Rattle.lockmachine.specs.Locks.{IsLockMap, next_request, request_at}
+use Rattle.lockmachine.specs.Moves.{first_move, with_moved}
+use Rattle.lockmachine.specs.Scene.{Scene}
+use Rattle.lockmachine.proofs.Finding.{contains-filter, filter-contains}
+use Rattle.capcore.specs.declared.event.Event.{Event}
+use Rattle.capcore.specs.declared.event.Event.TheVariants as event
+use Rattle.capcore.specs.declared.outcome.Ended.{Ended}
+use Rattle.capcore.specs.declared.outcome.Outcome.{Outcome}
+use Rattle.capcore.specs.declared.outcome.Outcome.TheVariants as outcome
+use Rattle.capcore.specs.declared.reply.Reply.{Reply}
+use Rattle.capcore.specs.declared.reply.Reply.TheVariants as reply
+use Rattle.capcore.specs.declared.stopped.Stopped.{Stopped}
+use Rattle.capcore.specs.Direct.{Direct, Answer, Says, Shows, Gives, Awaits, direct, effect, effect_unless, asks, found, reply_of, shown, awaited_as, outcome_reply, is_of_ticket}
+use Rattle.capcore.specs.Finish.{finished}
+use Rattle.capcore.specs.Headline.{move_of}
+use Rattle.capcore.specs.Judge.{judged}
+use Rattle.capcore.specs.SameEvents.{FoundMemory}
+use Rattle.capcore.specs.Serving.{MayEndAs, As_judged, Without_memory, served}
+use Rattle.capcore.specs.Settle.{Made, Began, Gathered, Served, Makes, MakesAll, ended_in}
+use Rattle.capcore.specs.State.{State}
+use Rattle.capcore.specs.Step.{Step, StepBy, earlier, state_after, all_ended}
+use Rattle.capcore.specs.Untold.{HaveOwnNumbers}
+use Rattle.capcore.proofs.Bounded.{direct-order}
+use Rattle.capcore.proofs.EndedIn.{own-numbers}
+use Rattle.capcore.proofs.Moved.{Waited, ended-waited, moved-all}
+use Rattle.capcore.proofs.Stopping.{no_moves}
+use Rattle.capcore.proofs.Taking.{own-head, own-tail}
+
+-- ---- moves
+
+-- a request that ended in both found no memory in both, or in neither
+abbrev Agree : List Ended → List Ended → Type 0
+Agree ms ns = (m n : Ended) → Contains ms m → Contains ns n → m.ticket ≡ n.ticket → (m.outcome ≡ outcome.OutOfMemory) ↔ (n.outcome ≡ outcome.OutOfMemory)
+
+abbrev end_of : Request → Outcome → Ended
+end_of q o = record { client = q.client; ticket = q.ticket; outcome = o }
+
+-- who finds memory ends as it is judged, and who finds none in one way
+ends-once : (s : Scene) (q : Request) (o x : Outcome) → MayEndAs s q o → MayEndAs s q x → (o ≡ outcome.OutOfMemory) ↔ (x ≡ outcome.OutOfMemory) → o ≡ x
+ends-once s q o x (As_judged) (As_judged) alike = refl
+ends-once s q o x (As_judged) (Without_memory nothing takes) alike = alike.1 refl
+ends-once s q o x (Without_memory nothing takes) (As_judged) alike = sym (alike.0 refl)
+ends-once s q o x (Without_memory nothing takes) (Without_memory nothing' takes') alike = refl
+
+made-first : (s : Scene) (m : Made) (t : Scene) → Makes s m t → first_move s ≡ move_of m
+made-first s (Began i p to) t made = made.0
+made-first s (Gathered i p) t made = made.0
+made-first s (Served q o) t made = made.0
+
+-- there is one move that may be made
+made-once : (s : Scene) (m n : Made) (ms ns : List Made) (t u : Scene) → Makes s m t → Makes s n u → Agree (ended_in (m ∷ ms)) (ended_in (n ∷ ns)) → (m ≡ n) × (t ≡ u)
+made-once s (Began i p to) (Began j r so) ms ns t u (first, is) (other, at) agree =
+    let same : Begin i p to ≡ Begin j r so = sym first ∙ other in ((cc), is ∙ ap (with_moved s) same ∙ sym at)
+made-once s (Gathered i p) (Gathered j r) ms ns t u (first, is) (other, at) agree =
+    let same : End i p ≡ End j r = sym first ∙ other in ((cc), is ∙ ap (with_moved s) same ∙ sym at)
+made-once s (Served q o) (Served r x) ms ns t u (first, waits, may, is) (other, wait, might, at) agree =
+    let move : Serve q.ticket ≡ Serve r.ticket = sym first ∙ other in
+    let ticket : q.ticket ≡ r.ticket = cc in
+    let itself : q ≡ r = same_Some q r (sym waits ∙ ap (λ (t : Ticket). request_at s.locks t.0) ticket ∙ wait) in
+    let alike = agree (end_of q o) (end_of r x) (0, omega arith, refl) (0, omega arith, refl) ticket in
+    let end : o ≡ x = ends-once s r o x (subst (λ (y : Request). MayEndAs s y o) itself may) might alike in
+    ((λ i. Served (itself i) (end i)), is ∙ (λ i. served s (itself i) (end i)) ∙ sym at)
+made-once s m n ms ns t u one other agree = (let same : move_of m ≡ move_of n = sym (made-first s m t one) ∙ made-first s n u other in absurd (cc))
+
+among-behind : (m : Made) (ms : List Made) (e : Ended) → Contains (ended_in ms) e → Contains (ended_in (m ∷ ms)) e
+among-behind (Began i p to) ms e inside = inside
+among-behind (Gathered i p) ms e inside = inside
+among-behind (Served q o) ms e inside = Contains-append_right (end_of q o ∷ []) (ended_in ms) e inside
+
+-- so one list of moves settles
+settled-once : (s : Scene) (ms ns : List Made) (t u : Scene) → MakesAll s ms t → first_move t ≡ Settled → MakesAll s ns u → first_move u ≡ Settled → Agree (ended_in ms) (ended_in ns) → (ms ≡ ns) × (t ≡ u)
+settled-once s [] ns t u is rests made rest agree = (let none = no_moves s ns u (ap first_move (sym is) ∙ rests) made in (sym none.0, is ∙ sym none.1))
+settled-once s (m ∷ ms) [] t u made rests at rest agree = (let none = no_moves s (m ∷ ms) t (ap first_move (sym at) ∙ rest) made in (none.0, none.1 ∙ sym at))
+settled-once s (m ∷ ms) (n ∷ ns) t u (mid, one, more) rests (mid', other, more') rest agree =
+    let head = made-once s m n ms ns mid mid' one other agree in
+    let tail =
+    settled-once mid' ms ns t u (subst (λ (x : Scene). MakesAll x ms t) head.1 more) rests more' rest
+    (λ x y inside inside'. agree x y (among-behind m ms x inside) (among-behind n ns y inside')) in
+    ((λ i. head.0 i ∷ tail.0 i), tail.1)
+
+-- ---- the request of the event itself
+
+-- it was numbered before, or the step answers it
+abbrev Fits : State → Direct → Request → Type 0
+Fits old d q = (q.ticket.0 ≤ old.scene.locks.last) ⊎ (d.answer ≡ Awaits q.ticket)
+
+module _ (old : State) (order : IsLockMap old.scene.locks) where
+  all-fit : (d : Direct) → All (Fits old d) old.scene.locks.queue
+  all-fit d = All-weaker (λ (q : Request). (1 ≤ q.ticket.0) × (q.ticket.0 ≤ old.scene.locks.last)) (Fits old d) (λ q given. inl given.1) old.scene.locks.queue order.given
+
+  found-fits : (o : Option ℕ) → All (Fits old (found old o)) (found old o).state.scene.locks.queue
+  found-fits None = all-fit (found old None)
+  found-fits (Some ino) = all-fit (found old (Some ino))
+
+  left-fits : (d : Direct) (client : ClientId) → All (Fits old d) (filter (λ q. not (is_of_client client q)) old.scene.locks.queue)
+  left-fits d client = All-filter (λ q. not (is_of_client client q)) (Fits old d) old.scene.locks.queue (all-fit d)
+
+  asked-fits : (client : ClientId) (ino : Ino) (ask : Ask) → All (Fits old (asks old client ino ask)) (asks old client ino ask).state.scene.locks.queue
+  asked-fits client ino ask =
+      All-push (Fits old (asks old client ino ask)) old.scene.locks.queue (next_request old.scene.locks client ino ask) (all-fit (asks old client ino ask)) (inr refl)
+
+  effect-fits : (e : Event) → All (Fits old (effect old e)) (effect old e).state.scene.locks.queue
+  effect-fits (event.Session client caller grants) = all-fit (effect old (event.Session client caller grants))
+  effect-fits (event.CloseSession client) = left-fits (effect old (event.CloseSession client)) client
+  effect-fits (event.Stale client) = all-fit (effect old (event.Stale client))
+  effect-fits (event.Renew client) = all-fit (effect old (event.Renew client))
+  effect-fits (event.Evict client) = left-fits (effect old (event.Evict client)) client
+  effect-fits (event.Unblock client) = all-fit (effect old (event.Unblock client))
+  effect-fits (event.Recall count) = all-fit (effect old (event.Recall count))
+  effect-fits (event.Lookup client dir name) = found-fits (child old.scene.tree.nodes dir.0 name)
+  effect-fits (event.Create client dir name mode) = all-fit (effect old (event.Create client dir name mode))
+  effect-fits (event.Mkdir client dir name mode) = all-fit (effect old (event.Mkdir client dir name mode))
+  effect-fits (event.MakeSnapshot client ino name) = all-fit (effect old (event.MakeSnapshot client ino name))
+  effect-fits (event.RemoveSnapshot client ino name) = all-fit (effect old (event.RemoveSnapshot client ino name))
+  effect-fits (event.Open client ino mode) = all-fit (effect old (event.Open client ino mode))
+  effect-fits (event.Want client ino caps) = all-fit (effect old (event.Want client ino caps))
+  effect-fits (event.Ack client ino seq) = all-fit (effect old (event.Ack client ino seq))
+  effect-fits (event.Release client ino caps) = all-fit (effect old (event.Release client ino caps))
+  effect-fits (event.Get client ino part) = asked-fits client ino (Get part)
+  effect-fits (event.Alter client ino change) = asked-fits client ino (Alter change)
+  effect-fits (event.Unlink client ino) = asked-fits client ino Unlink
+  effect-fits (event.Rmdir client ino) = asked-fits client ino Rmdir
+  effect-fits (event.Rename client ino dir name) = asked-fits client ino (Rename dir name)
+  effect-fits (event.Flush client ino change) = all-fit (effect old (event.Flush client ino change))
+  effect-fits (event.Poll client max) = all-fit (effect old (event.Poll client max))
+
+  direct-fits : (e : Event) → All (Fits old (direct old e)) (direct old e).state.scene.locks.queue
+  direct-fits e = by_stop (judged old.scene e)
+    where
+      by_stop : (o : Option Stopped) → All (Fits old (effect_unless old e o)) (effect_unless old e o).state.scene.locks.queue
+      by_stop None = effect-fits e
+      by_stop (Some stopped) = all-fit (effect_unless old e (Some stopped))
+
+-- a request that ended is found by its number
+found-own : (m : Ended) (ms : List Ended) → HaveOwnNumbers ms → Contains ms m → find (is_of_ticket m.ticket) ms ≡ Some m
+found-own m [] differ (k, room, at) = absurd (omega arith)
+found-own m (x ∷ xs) differ (zero, room, at) =
+    let e : x ≡ m = at in
+    rw e (ap (λ b. cond b (Some m) (find (is_of_ticket m.ticket) xs)) (nat_eq_equiv.refl m.ticket.0))
+found-own m (x ∷ xs) differ (suc k, room, at) =
+    let inside : Contains xs m = (k, omega arith, at) in
+    let other = All-contains (λ (y : Ended). y.ticket.0 ≢ x.ticket.0) xs m (own-head x xs differ) inside in
+    ap (λ b. cond b (Some x) (find (is_of_ticket m.ticket) xs)) (ne_eqb x.ticket.0 m.ticket.0 (λ same. other (sym same))) ∙ found-own m xs (own-tail x xs differ) inside
+
+-- so two with the same number are one
+own-one : (m n : Ended) (ms : List Ended) → HaveOwnNumbers ms → Contains ms m → Contains ms n → m.ticket ≡ n.ticket → m ≡ n
+own-one m n ms differ inside inside' same =
+    same_Some m n (sym (found-own m ms differ inside) ∙ ap (λ (t : Ticket). find (is_of_ticket t) ms) same ∙ found-own n ms differ inside')
+
+-- one that is answered as out of memory ended so
+short-answer : (t : Ticket) (o : Outcome) → unwrap_or (outcome_reply o) (reply.Waiting t) ≡ reply.OutOfMemory → o ≡ outcome.OutOfMemory
+short-answer t outcome.OutOfMemory is = refl
+short-answer t o is = absurd (cc)
+
+-- ---- the step
+
+module _ (old : State) (e : Event) (order : IsLockMap old.scene.locks) where
+  abbrev d : Direct
+  d = direct old e
+
+  -- those that the moves ended and that the row names
+  abbrev named : List Made → List Ended
+  named moves = earlier old.scene.locks.last (ended_in moves)
+
+  module _ (moves : List Made) (answer : Reply) (dead : List Ended) (new : State) (by : StepBy old e moves answer dead new) where
+    -- the row names each request that the moves ended, or it is the event's own
+    told-where : (m : Ended) → Contains (ended_in moves) m → Contains (named moves) m ⊎ (d.answer ≡ Awaits m.ticket)
+    told-where m inside =
+        let queue = d.state.scene.locks.queue in
+        let waits = All-contains (Waited queue) (ended_in moves) m (ended-waited d.state.scene moves by.settled by.settles.made) inside in
+        elim (All-contains (Fits old d) queue waits.request (direct-fits old order e) waits.inside) as (λ _. Contains (named moves) m ⊎ (d.answer ≡ Awaits m.ticket)) [
+          | inl less ↦ inl
+              (filter-contains (λ (x : Ended). nat_le x.ticket.0 old.scene.locks.last) (ended_in moves) m inside
+              (le-leb m.ticket.0 old.scene.locks.last (subst (λ (t : Ticket). t.0 ≤ old.scene.locks.last) (sym waits.ticket) less)))
+          | inr awaits ↦ inr (awaits ∙ ap Awaits (sym waits.ticket))
+        ]
+
+    have-own : HaveOwnNumbers (ended_in moves)
+    have-own = own-numbers d.state.scene moves by.settled by.settles.made
+
+    -- and then the answer is how it ended
+    told-as : (m : Ended) → Contains (ended_in moves) m → d.answer ≡ Awaits m.ticket → answer ≡ awaited_as m.ticket (Some m)
+    told-as m inside awaits =
+        by.answer_is ∙ ap (reply_of (state_after old d moves by.settled) (ended_in moves)) awaits ∙ ap (awaited_as m.ticket) (found-own m (ended_in moves) have-own inside)
+
+    -- where the answer and the row say that memory was found, each that was served found it
+    all-found : FoundMemory answer dead → (m : Ended) → Contains (ended_in moves) m → m.outcome ≢ outcome.OutOfMemory
+    all-found finds m inside =
+        elim (told-where m inside) as (λ _. m.outcome ≢ outcome.OutOfMemory) [
+          | inl kept ↦ All-contains (λ (x : Ended). x.outcome ≢ outcome.OutOfMemory) dead m finds.each
+              (subst (λ (xs : List Ended). Contains xs m) (sym by.ended_is) (Contains-append_right d.dropped (named moves) m kept))
+          | inr awaits ↦ λ bad. finds.answered (told-as m inside awaits ∙ ap (λ (o : Outcome). unwrap_or (outcome_reply o) (reply.Waiting m.ticket)) bad)
+        ]
+
+  -- what found no memory in a step found none in one with the same row
+  short-too : (moves others : List Made) (answer : Reply) (dead : List Ended) (new other : State) → StepBy old e moves answer dead new → StepBy old e others answer dead other
+      → (m n : Ended) → Contains (ended_in moves) m → Contains (ended_in others) n → m.ticket ≡ n.ticket → m.outcome ≡ outcome.OutOfMemory → n.outcome ≡ outcome.OutOfMemory
+  short-too moves others answer dead new other by by' m n inside inside' same bad =
+      elim (told-where moves answer dead new by m inside) as (λ _. n.outcome ≡ outcome.OutOfMemory) [
+        | inl kept ↦ (let alike : named moves ≡ named others = append_cancel_left d.dropped (named moves) (named others) (sym by.ended_is ∙ by'.ended_is) in
+            let there : Contains (ended_in others) m =
+            contains-filter (λ (x : Ended). nat_le x.ticket.0 old.scene.locks.last) (ended_in others) m (subst (λ (xs : List Ended). Contains xs m) alike kept) in
+            ap (λ (x : Ended). x.outcome) (sym (own-one m n (ended_in others) (have-own others answer dead other by') there inside' same)) ∙ bad)
+        | inr awaits ↦ short-answer n.ticket n.outcome
+            (sym (told-as others answer dead other by' n inside' (awaits ∙ ap Awaits same))
+            ∙ told-as moves answer dead new by m inside awaits
+            ∙ ap (λ (o : Outcome). unwrap_or (outcome_reply o) (reply.Waiting m.ticket)) bad)
+      ]
+
+  -- so a step has the same moves and the same end
+  same-step : (moves others : List Made) (a b : Reply) (xs ys : List Ended) (new other : State) → StepBy old e moves a xs new → StepBy old e others b ys other → Agree (ended_in moves) (ended_in others)
+      → (moves ≡ others) × (a ≡ b) × (xs ≡ ys) × (new ≡ other)
+  same-step moves others a b xs ys new other by by' agree =
+      let once =
+      settled-once d.state.scene moves others by.settled by'.settled by.settles.made by.settles.settled by'.settles.made by'.settles.settled agree in
+      let ms : moves ≡ others = once.0 in
+      let ends : by.settled ≡ by'.settled = once.1 in (
+        ms,
+        by.answer_is ∙ (λ i. reply_of (state_after old d (ms i) (ends i)) (ended_in (ms i)) d.answer) ∙ sym by'.answer_is,
+        by.ended_is ∙ ap (all_ended old d) ms ∙ sym by'.ended_is,
+        by.new_is ∙ (λ i. shown d.answer (state_after old d (ms i) (ends i))) ∙ sym by'.new_is,
+      )
+
+  -- where all find memory, it has one answer, ends the same requests and leads to the same state
+  pub step-once : (a b : Reply) (xs ys : List Ended) (new other : State) → Step old e a xs new → Step old e b ys other → FoundMemory a xs → FoundMemory b ys → (a ≡ b) × (xs ≡ ys) × (new ≡ other)
+  step-once a b xs ys new other (moves, by) (others, by') finds again =
+      let same =
+      same-step moves others a b xs ys new other by by'
+      (λ m n inside inside' number. (λ bad. absurd (all-found moves a xs new by finds m inside bad), λ bad. absurd (all-found others b ys other by' again n inside' bad))) in
+      (same.1, same.2, same.3)
+
+  -- and where its row says the same, it has the same moves
+  pub row-once : (moves others : List Made) (answer : Reply) (dead : List Ended) (new other : State) → StepBy old e moves answer dead new → StepBy old e others answer dead other → (moves ≡ others) × (new ≡ other)
+  row-once moves others answer dead new other by by' =
+      let same =
+      same-step moves others answer answer dead dead new other by by'
+      (λ m n inside inside' number. (
+        short-too moves others answer dead new other by by' m n inside inside' number,
+        short-too others moves answer dead other new by' by n m inside' inside (sym number),
+      )) in
+      (same.0, same.3)
+
+  shown-order : (a : Answer) (last : State) → IsLockMap last.scene.locks → IsLockMap (shown a last).scene.locks
+  shown-order (Says answer) last kept = kept
+  shown-order (Shows k) last kept = kept
+  shown-order (Gives client max) last kept = kept
+  shown-order (Awaits ticket) last kept = kept
+
+  -- and leaves the requests in order
+  pub step-order : (a : Reply) (xs : List Ended) (new : State) → Step old e a xs new → IsLockMap new.scene.locks
+  step-order a xs new (moves, by) =
+      let moved = (moved-all d.state.scene moves by.settled by.settles.made).order (direct-order old e order) in
+      let kept : IsLockMap (finished old.scene d.state.scene by.settled).locks = record { rising = moved.rising; given = moved.given; room = moved.room } in
+      subst (λ (s : State). IsLockMap s.scene.locks) (sym by.new_is) (shown-order d.answer (state_after old d moves by.settled) kept)
