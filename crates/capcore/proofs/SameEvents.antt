@@ -24,18 +24,18 @@ rows-once first last end (r ∷ rs) order (mid, (moves, by), rest) (mid', (other
     rows-once mid' last end rs (step-order first r.event order r.reply r.ended mid' (others, by')) (subst (λ (s : State). Replays s rs last) same rest) rest'
 
 -- where all find memory, rows with the same events have the same ends, and lead to the same state
-pub ends-once : (first last end : State) (rows others : List Row) → IsLockMap first.scene.locks → Replays first rows last → Replays first others end → events_of rows ≡ events_of others
+pub same-ends : (first last end : State) (rows others : List Row) → IsLockMap first.scene.locks → Replays first rows last → Replays first others end → events_of rows ≡ events_of others
     → AllFoundMemory rows → AllFoundMemory others → (ends_of rows ≡ ends_of others) × (last ≡ end)
-ends-once first last end [] [] order is at same finds again = (refl, is ∙ sym at)
-ends-once first last end [] (q ∷ qs) order is at same finds again = absurd (cc)
-ends-once first last end (r ∷ rs) [] order is at same finds again = absurd (cc)
-ends-once first last end (r ∷ rs) (q ∷ qs) order (mid, step, rest) (mid', step', rest') same finds again =
+same-ends first last end [] [] order is at same finds again = (refl, is ∙ sym at)
+same-ends first last end [] (q ∷ qs) order is at same finds again = absurd (cc)
+same-ends first last end (r ∷ rs) [] order is at same finds again = absurd (cc)
+same-ends first last end (r ∷ rs) (q ∷ qs) order (mid, step, rest) (mid', step', rest') same finds again =
     let event : r.event ≡ q.event = cc in
     let behind : events_of rs ≡ events_of qs = cc in
     let found = λ (row : Row). FoundMemory row.reply row.ended in
     let once = step-once first q.event order r.reply q.reply r.ended q.ended mid mid' (subst (λ (e : Event). Step first e r.reply r.ended mid) event step) step' (All-head found r rs finds) (All-head found q qs again) in
     let more =
-    ends-once mid' last end rs qs (step-order first q.event order q.reply q.ended mid' step') (subst (λ (s : State). Replays s rs last) once.2 rest) rest' behind
+    same-ends mid' last end rs qs (step-order first q.event order q.reply q.ended mid' step') (subst (λ (s : State). Replays s rs last) once.2 rest) rest' behind
     (All-tail found r rs finds) (All-tail found q qs again) in
     ((λ i. (once.0 i, once.1 i) ∷ more.0 i), more.1)
 
