@@ -3,7 +3,7 @@ ghost use Rattle.std.specs.Prelude.{◌≡◌, ◌↔◌, ◌<◌, ◌≤◌, Er
 ghost use Rattle.capwork.specs.declared.fault.Fault.TheVariants as faults;
 
 use crate::fault::Fault;
-use crate::inodes::{Asking, CLIENT, PASS, ask, build, inode_at, open_session, spread};
+use crate::inodes::{Asking, CLIENT, ask, ask_core, build, inode_at, open_session, spread};
 use crate::work::{Layout, Size, TreeShape};
 use capbits::{Cap, CapSet, ClientId, Ino};
 use capcore::{Core, Event, Message, OpenMode, Reply};
@@ -225,7 +225,7 @@ fn release(client: ClientId, ino: Ino, caps: CapSet) -> Event {
 
 // The number of the last change of what the core shows.
 pub(crate) fn shown(core: &mut Core, event: Event) -> Result<u64, Fault> {
-    match core.apply(PASS, event)? {
+    match ask_core(core, event)? {
         Reply::Opened { seq, .. } => Ok(seq),
         _ => Err(Fault::Refused),
     }
@@ -233,7 +233,7 @@ pub(crate) fn shown(core: &mut Core, event: Event) -> Result<u64, Fault> {
 
 // Has an event done that is answered by nothing else.
 pub(crate) fn done(core: &mut Core, event: Event) -> Result<(), Fault> {
-    match core.apply(PASS, event)? {
+    match ask_core(core, event)? {
         Reply::Done => Ok(()),
         _ => Err(Fault::Refused),
     }
@@ -248,7 +248,7 @@ fn polling(client: ClientId) -> Event {
 
 // How many messages a client is given.
 fn messages_given(core: &mut Core, client: ClientId) -> Result<u64, Fault> {
-    match core.apply(PASS, polling(client))? {
+    match ask_core(core, polling(client))? {
         Reply::Messages(list) => Ok(list.as_slice().len() as u64),
         _ => Err(Fault::Refused),
     }
@@ -256,7 +256,7 @@ fn messages_given(core: &mut Core, client: ClientId) -> Result<u64, Fault> {
 
 // The number of the one change that a client is told of.
 fn change_told(core: &mut Core, client: ClientId) -> Result<u64, Fault> {
-    match core.apply(PASS, polling(client))? {
+    match ask_core(core, polling(client))? {
         Reply::Messages(list) => seq_of(list.as_slice()),
         _ => Err(Fault::Refused),
     }

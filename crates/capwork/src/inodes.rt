@@ -4,7 +4,7 @@ ghost use Rattle.std.specs.Prelude.{◌↔◌, ◌+◌, ◌<◌, ◌≤◌, IsTr
 use crate::fault::Fault;
 use crate::work::{Layout, TreeShape};
 use capbits::{Caller, ClientId, Groups, Ino, Mode, PassId};
-use capcore::{Core, Event, Reply};
+use capcore::{Core, Event, Reply, Stop};
 use capspec::read_grants;
 use inotree::{MAX_INODES, ROOT};
 use lockmachine::Bytes;
@@ -12,7 +12,7 @@ use std::alloc::Global;
 
 pub(crate) const CLIENT: ClientId = ClientId(1);
 
-pub(crate) const PASS: PassId = PassId(1);
+const PASS: PassId = PassId(1);
 
 pub(crate) const USER: u32 = 1000;
 
@@ -170,9 +170,14 @@ pub(crate) fn mode_of(bits: u16) -> Result<Mode, Fault> {
     Mode::new(bits).ok_or(Fault::Refused)
 }
 
+/// Asks the core. No other function does: what the core promises of an answer is dear to carry along, and stays behind here.
+pub(crate) fn ask_core(core: &mut Core, event: Event) -> Result<Reply, Stop> {
+    core.apply(PASS, event)
+}
+
 // The number of the inode that the core answers with.
 pub(crate) fn answer(core: &mut Core, event: Event) -> Result<u64, Fault> {
-    match core.apply(PASS, event)? {
+    match ask_core(core, event)? {
         Reply::Ino(ino) => Ok(ino.0),
         _ => Err(Fault::Refused),
     }
@@ -180,7 +185,7 @@ pub(crate) fn answer(core: &mut Core, event: Event) -> Result<u64, Fault> {
 
 // Gives a client a session in which it may do all.
 pub(crate) fn open_session(alloc: Global, core: &mut Core, client: ClientId) -> Result<(), Fault> {
-    let _done = core.apply(PASS, session_of(alloc, client)?)?;
+    let _done = ask_core(core, session_of(alloc, client)?)?;
     Ok(())
 }
 

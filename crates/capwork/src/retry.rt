@@ -4,7 +4,7 @@
 use crate::asked::{Answer, Asked, Places, event, read_reply};
 use crate::digest::digest_of;
 use crate::fault::Fault;
-use crate::inodes::{CLIENT, PASS};
+use crate::inodes::{CLIENT, ask_core};
 use crate::tally::Tally;
 use capbits::{Cap, ClientId, Ino, Part};
 use capcore::{Core, OpenMode, Reply, Stop};
@@ -202,7 +202,7 @@ fn answer_once(
     tally: &mut Tally,
 ) -> Result<Answer, Fault> {
     let before = digest_of(core);
-    match core.apply(PASS, event(alloc, places, asked)?) {
+    match ask_core(core, event(alloc, places, asked)?) {
         Ok(reply) => return Ok(answer_of(reply)),
         Err(Stop::NoMemory) => (),
         Err(stop) => return Err(Fault::Stopped(stop)),
@@ -211,7 +211,7 @@ fn answer_once(
         return Err(Fault::Changed);
     }
     tally.stops = tally.stops.wrapping_add(1);
-    let reply = core.apply(PASS, event(alloc, places, asked)?)?;
+    let reply = ask_core(core, event(alloc, places, asked)?)?;
     Ok(answer_of(reply))
 }
 
