@@ -1,5 +1,5 @@
 -- What a command writes, and why it stops before its end.
-use Rattle.std.specs.Prelude.{◌≡◌, ◌↔◌, ◌⊎◌, ⊤, ℕ, Bool, List, ◌++◌, Option, Result, Err, IfSome, IsTrue, codes}
+use Rattle.std.specs.Prelude.{◌≡◌, ◌↔◌, ◌⊎◌, ◌<◌, ◌≤◌, ⊤, ℕ, Bool, List, [], length, ◌++◌, Option, Result, Err, IfSome, IsTrue, codes}
 use Rattle.std.specs.Io.KnownBytes.{Appends, Keeps}
 use Rattle.capspec.specs.Grants.{Reads}
 use Rattle.capspec.specs.Written.{written}
@@ -10,7 +10,7 @@ use Rattle.capquestion.specs.Fault.{IsFaultOfText}
 use Rattle.capquestion.specs.Question.{AsksFor, IsFaultIn, answer_text}
 use Rattle.capscript.specs.declared.fault.ScriptFault.{ScriptFault}
 use Rattle.capscript.specs.declared.fault.ScriptFault.TheVariants as stops
-use Rattle.capscript.specs.Lines.{lines}
+use Rattle.capscript.specs.Lines.{lines, longest_script}
 use Rattle.capscript.specs.Transcript.{Ran, IsTranscript}
 use Rattle.capcommand.specs.declared.command_line.Ask.{Ask}
 use Rattle.capcommand.specs.declared.command_line.Ask.TheVariants as asks
@@ -22,19 +22,23 @@ use Rattle.capcommand.specs.Fault.{Tells}
 abbrev pub Answers : Ask → Option (List ℕ) → Option (List ℕ) → Option (List ℕ) → Type 0
 Answers (asks.Explain values) input old new = (asked : Question) × AsksFor values asked × Appends old new (answer_text asked ++ codes "\n")
 Answers (asks.Grants text) input old new = (grants : List Grant) × Reads text.items grants × Appends old new (written grants ++ codes "\n")
-Answers asks.Run input old new = IfSome input (λ script. (text : List ℕ) × IsTranscript (lines script) text × Appends old new text)
+Answers asks.Run input old new = IfSome input (λ script. (length script ≤ longest_script) × ((text : List ℕ) × IsTranscript (lines script) text × Appends old new text))
 
 -- a write failed, or the fault is one of which this holds, and nothing was written
 abbrev pub StopsBefore : (QuestionFault → Type 0) → Fault → Bool → Option (List ℕ) → Option (List ℕ) → Type 0
 StopsBefore P fault failed old new = ((fault ≡ WriteFailed) × IsTrue failed) ⊎ (Tells P fault × Keeps old new)
 
--- the run stopped so, and this was written: a script that was read to its end is told apart
-pub record RunStops (stop : ScriptFault) (input : Option (List ℕ)) (ended failed : Bool) (old new : Option (List ℕ)) : Type 0 where
+-- The run stopped so, and this was written. A script that was read to its end is told apart. A read or a write that failed is told; a
+-- failed read is told of nothing else but a script that is too long, and then nothing was written.
+pub record RunStops (stop : ScriptFault) (input : Option (List ℕ)) (ended unread unwritten : Bool) (old new : Option (List ℕ)) : Type 0 where
   pub ran : IfSome input (λ script. (text : List ℕ) × Ran {T = ⊤} script ended (Err stop) text × Appends old new text)
-  pub written : (stop ≡ stops.WriteFault) ↔ IsTrue failed
+  pub read_told : IsTrue unread → stop ≡ stops.ReadFault
+  pub read : stop ≡ stops.ReadFault → (IsTrue unread ⊎ IfSome input (λ script. longest_script < length script)) × Appends old new []
+  pub long : IfSome input (λ script. longest_script < length script → ((stop ≡ stops.ReadFault) ⊎ (stop ≡ stops.NoMemory)) × Appends old new [])
+  pub written : (stop ≡ stops.WriteFault) ↔ IsTrue unwritten
 
--- why there is no whole answer, by whether the input was read to its end and whether a write failed
-abbrev pub Stops : Ask → Fault → Option (List ℕ) → Bool → Bool → Option (List ℕ) → Option (List ℕ) → Type 0
-Stops (asks.Explain values) fault input ended failed old new = StopsBefore (IsFaultIn values) fault failed old new
-Stops (asks.Grants text) fault input ended failed old new = StopsBefore (IsFaultOfText text.items) fault failed old new
-Stops asks.Run fault input ended failed old new = (stop : ScriptFault) × (fault ≡ Script stop) × RunStops stop input ended failed old new
+-- why there is no whole answer, by whether the input was read to its end, whether a read failed and whether a write did
+abbrev pub Stops : Ask → Fault → Option (List ℕ) → Bool → Bool → Bool → Option (List ℕ) → Option (List ℕ) → Type 0
+Stops (asks.Explain values) fault input ended unread unwritten old new = StopsBefore (IsFaultIn values) fault unwritten old new
+Stops (asks.Grants text) fault input ended unread unwritten old new = StopsBefore (IsFaultOfText text.items) fault unwritten old new
+Stops asks.Run fault input ended unread unwritten old new = (stop : ScriptFault) × (fault ≡ Script stop) × RunStops stop input ended unread unwritten old new

@@ -1,5 +1,5 @@
 //! The commands of the program, over streams that the caller passes.
-ghost use Rattle.std.specs.Prelude.{◌≡◌, ◌≤◌, ◌⊎◌, ◌++◌, ℕ, List, codes, OnOk, IfErr, IfSome, IsTrue, IsFalse};
+ghost use Rattle.std.specs.Prelude.{◌≡◌, ◌≤◌, ◌⊎◌, ◌++◌, ℕ, List, length, codes, OnOk, IfErr, IfSome, IsTrue, IsFalse};
 ghost use Rattle.std.specs.Io.KnownBytes.{Appends, Keeps};
 ghost use Rattle.capspec.specs.Grants.{Reads};
 ghost use Rattle.capspec.specs.Written.{written};
@@ -8,7 +8,7 @@ ghost use Rattle.capquestion.specs.declared.question.Question.{Question as Asked
 ghost use Rattle.capquestion.specs.Fault.{IsFaultOfText};
 ghost use Rattle.capquestion.specs.Question.{AsksFor, IsFaultIn, answer_text};
 ghost use Rattle.capscript.specs.declared.fault.ScriptFault.{ScriptFault as AScriptFault};
-ghost use Rattle.capscript.specs.Lines.{lines};
+ghost use Rattle.capscript.specs.Lines.{lines, longest_script};
 ghost use Rattle.capscript.specs.Transcript.{IsTranscript};
 ghost use Rattle.capscript.specs.Watched.{inner_of, has_failed, has_ended};
 ghost use Rattle.capcommand.specs.declared.fault.Fault.{Fault as AFault};
@@ -56,8 +56,8 @@ pub fn dispatch<E: AllocGlobal, R: Read, W: Write, F: Write>(
     carry_out(rt.alloc(), &ask, &mut reader, &mut writer, faults)
 }
 
-/// Does what is asked, and returns the status: `DONE` where all of the answer was written, and nothing to `faults`; else
-/// `FAILED`. Neither stream was read or written to yet.
+/// Does what is asked, and returns the status: `DONE` where all of the answer was written, no stream failed, and nothing was
+/// written to `faults`; else `FAILED`. Neither stream was read or written to yet.
 pub fn carry_out<R: Read, W: Write, F: Write>(
     alloc: Global,
     ask: &Ask,
@@ -68,11 +68,11 @@ pub fn carry_out<R: Read, W: Write, F: Write>(
     requires reader_clear { IsFalse (has_failed reader.old) }
     requires reader_unended { IsFalse (has_ended reader.old) }
     requires writer_clear { IsFalse (has_failed writer.old) }
-    ensures { ((result ≡ DONE) × IsFalse (has_failed writer.new) × Keeps (F.contents faults.old) (F.contents faults.new)
+    ensures { ((result ≡ DONE) × IsFalse (has_failed reader.new) × IsFalse (has_failed writer.new) × Keeps (F.contents faults.old) (F.contents faults.new)
         × Answers ask.now (R.remaining (inner_of reader.old))
         (W.contents (inner_of writer.old)) (W.contents (inner_of writer.new)))
         ⊎ ((result ≡ FAILED) × ((fault : AFault)
-        × Stops ask.now fault (R.remaining (inner_of reader.old)) (has_ended reader.new) (has_failed writer.new)
+        × Stops ask.now fault (R.remaining (inner_of reader.old)) (has_ended reader.new) (has_failed reader.new) (has_failed writer.new)
         (W.contents (inner_of writer.old)) (W.contents (inner_of writer.new)))) }
 {
     match answer(alloc, ask, reader, writer) {
@@ -91,11 +91,11 @@ fn answer<R: Read, W: Write>(
     requires reader_clear { IsFalse (has_failed reader.old) }
     requires reader_unended { IsFalse (has_ended reader.old) }
     requires writer_clear { IsFalse (has_failed writer.old) }
-    ensures ok { OnOk result (IsFalse (has_failed writer.new)
+    ensures ok { OnOk result (IsFalse (has_failed reader.new) × IsFalse (has_failed writer.new)
         × Answers ask.now (R.remaining (inner_of reader.old))
         (W.contents (inner_of writer.old)) (W.contents (inner_of writer.new))) }
     ensures err { IfErr result (λ fault.
-        Stops ask.now fault (R.remaining (inner_of reader.old)) (has_ended reader.new) (has_failed writer.new)
+        Stops ask.now fault (R.remaining (inner_of reader.old)) (has_ended reader.new) (has_failed reader.new) (has_failed writer.new)
         (W.contents (inner_of writer.old)) (W.contents (inner_of writer.new))) }
 {
     match ask {
@@ -143,12 +143,13 @@ fn run_script<R: Read, W: Write>(
     requires reader_clear { IsFalse (has_failed reader.old) }
     requires reader_unended { IsFalse (has_ended reader.old) }
     requires writer_clear { IsFalse (has_failed writer.old) }
-    ensures ok { OnOk result (IsFalse (has_failed writer.new)) }
+    ensures ok { OnOk result (IsFalse (has_failed reader.new) × IsFalse (has_failed writer.new)) }
+    ensures short { OnOk result (IfSome (R.remaining (inner_of reader.old)) (λ script. length script ≤ longest_script)) }
     ensures ran { OnOk result (IfSome (R.remaining (inner_of reader.old)) (λ script. (text : List ℕ)
         × IsTranscript (lines script) text
         × Appends (W.contents (inner_of writer.old)) (W.contents (inner_of writer.new)) text)) }
     ensures stops { IfErr result (λ fault. (stop : AScriptFault) × (fault ≡ faults.Script stop)
-        × RunStops stop (R.remaining (inner_of reader.old)) (has_ended reader.new) (has_failed writer.new)
+        × RunStops stop (R.remaining (inner_of reader.old)) (has_ended reader.new) (has_failed reader.new) (has_failed writer.new)
         (W.contents (inner_of writer.old)) (W.contents (inner_of writer.new))) }
 {
     match run(alloc, reader, writer) {
