@@ -35,9 +35,6 @@ rising-head q qs rising = λ k d room. rising 0 (suc k) d (omega arith) (omega a
 rising-tail : (q : Request) (qs : List Request) → AreTicketsRising (q ∷ qs) → AreTicketsRising qs
 rising-tail q qs rising = λ i j d less room. rising (suc i) (suc j) d (omega arith) (omega arith)
 
-not_numbered : (q r : Request) → q.ticket.0 < r.ticket.0 → is_numbered q.ticket.0 r ≡ false
-not_numbered q r less = ne_eqb r.ticket.0 q.ticket.0 (λ same. absurd (omega arith))
-
 not_numbered' : (q r : Request) → q.ticket.0 < r.ticket.0 → is_numbered r.ticket.0 q ≡ false
 not_numbered' q r less = ne_eqb q.ticket.0 r.ticket.0 (λ same. absurd (omega arith))
 
