@@ -1,5 +1,5 @@
 -- What different clients hold of one inode has no conflict, where it is in place.
-use Rattle.std.proofs.Common.{◌≡◌, ◌≢◌, Bool, true, false, cond, ◌||◌, ◌&&◌, ◌==◌, Option, Some, None, List, [], ◌∷◌, refl, sym, ap, subst, ◌∙◌, true≢false}
+use Rattle.std.proofs.Common.{◌≡◌, ◌≢◌, Bool, true, false, ◌||◌, ◌&&◌, ◌==◌, Option, Some, None, refl, sym, ap, subst, ◌∙◌, true≢false}
 use Rattle.std.specs.Prelude.{IsTrue}
 use Rattle.std.specs.List.{find, list_any}
 use Rattle.std.specs.Option.{option_map_or}
@@ -20,6 +20,7 @@ use Rattle.locktable.specs.Conflicts.{conflict, barred_by, rows_apart}
 use Rattle.captable.specs.declared.entry.EntryRow.{EntryRow}
 use Rattle.captable.specs.declared.entry.Holder.{Holder}
 use Rattle.captable.specs.Table.{same, is_row_of}
+use Rattle.captable.proofs.Searches.{find_passes}
 use Rattle.lockmachine.specs.Locks.{lock_at}
 use Rattle.lockmachine.specs.Scene.{Scene}
 use Rattle.lockmachine.specs.Moves.{present_state}
@@ -74,13 +75,6 @@ in_row_of s row c part placed found held cov =
 
 -- ---- the entries that two holders have
 
-passes : {T : Type 0} (p : T → Bool) (xs : List T) (x : T) → find p xs ≡ Some x → p x ≡ true
-passes p [] x found = absurd (cc)
-passes p (y ∷ ys) x found = elim (p y) as (λ b. p y ≡ b → cond b (Some y) (find p ys) ≡ Some x → p x ≡ true) [
-  | true ↦ λ py found. (let e : y ≡ x = cc in rw (← e) py)
-  | false ↦ λ py found. passes p ys x found
-] refl found
-
 same_holder : (a b : Holder) → same a b ≡ true → a ≡ b
 same_holder a b e =
     let both = and_parts (a.client.0 == b.client.0) (a.ino.0 == b.ino.0) e in
@@ -98,7 +92,7 @@ record HeldBy (s : Scene) (k : Holder) (c : Cap) : Type 0 where
 held_by : (s : Scene) (k : Holder) (c : Cap) (o : Option EntryRow) → find (is_row_of k) s.table.rows ≡ o → IsTrue (option_map_or (λ row. has row.entry.held c) o false) → HeldBy s k c
 held_by s k c None found held = absurd (true≢false (sym held))
 held_by s k c (Some row) found held =
-    let is = same_holder k row.holder (passes (is_row_of k) s.table.rows row found) in
+    let is = same_holder k row.holder (find_passes (is_row_of k) s.table.rows row found) in
     record { row = row; is = is; found = subst (λ (h : Holder). find (is_row_of h) s.table.rows ≡ Some row) is found; held = held }
 
 pub held-apart : (s : State) → IsSound s → NoneConflict s.scene

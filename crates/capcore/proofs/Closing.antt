@@ -112,9 +112,6 @@ module _ (old : State) (e : Event) (k : Holder) (about : touched_by e ≡ Some k
   touches : Touches from old (with_scene old first)
   touches = touches-one k.ino.0 old first sound (subst (TouchesOne k.ino.0 old) (sym is) (event-touches old e k sound table about passed))
 
-  pub first-table : IsTable first.table
-  first-table = subst (λ (s : Scene). IsTable s.table) (sym is) (event-table old e k table about passed)
-
   gives : GivesOne old e
   gives count given = event-below count old e k given about
 

@@ -1,5 +1,5 @@
 -- What each event by itself comes to, from what the calls below answered.
-use Rattle.std.proofs.Common.{◌≡◌, ℕ, ◌+◌, List, [], ◌∷◌, ◌++◌, Some, None, refl, ap, ◌∙◌}
+use Rattle.std.proofs.Common.{◌≡◌, ℕ, ◌+◌, List, [], ◌∷◌, Some, None, refl, ap, ◌∙◌}
 use Rattle.std.specs.Option.{option_map}
 use Rattle.std.specs.FinMap as map
 use Rattle.capbits.specs.declared.ids.ClientId.{ClientId}
@@ -7,15 +7,10 @@ use Rattle.capbits.specs.declared.ids.Ino.{Ino}
 use Rattle.capbits.specs.declared.mode.Mode.{Mode}
 use Rattle.capbits.specs.declared.refusal.Refusal.{Refusal}
 use Rattle.capbits.specs.Refusal.{Test, first_failing}
-use Rattle.capbits.proofs.Tests.{passed-both, pass-both}
 use Rattle.capgrant.specs.declared.access.Access.TheVariants.{Write, Snapshot}
 use Rattle.inotree.specs.declared.node.Kind.{Kind}
 use Rattle.inotree.specs.declared.node.Kind.TheVariants.{Directory, File}
-use Rattle.inotree.specs.Calls.{changed}
-use Rattle.inotree.specs.Tests.{inode_tests, new_inode_tests, new_snapshot_tests, old_snapshot_tests, create_tests, snap_add_tests, snap_remove_tests}
-use Rattle.inotree.specs.Inodes.{with_snapshot, without_snapshot}
-use Rattle.sessiontab.specs.Tests.{session_tests}
-use Rattle.lockmachine.specs.Scene.{Scene}
+use Rattle.inotree.specs.Tests.{new_inode_tests, new_snapshot_tests, old_snapshot_tests}
 use Rattle.capcore.specs.declared.event.Event.{Event}
 use Rattle.capcore.specs.declared.event.Event.TheVariants as event
 use Rattle.capcore.specs.declared.reply.Reply.TheVariants as reply
@@ -24,8 +19,8 @@ use Rattle.capcore.specs.declared.stopped.Stopped.TheVariants.{ByTest}
 use Rattle.capcore.specs.State.{State}
 use Rattle.capcore.specs.Judge.{stop, stop_reply, judged, asked_tests}
 use Rattle.capcore.specs.Needs.{Need, need}
-use Rattle.capcore.specs.Direct.{Says, IsDirect, with_tree, with_birth, owned_by, made_event}
-use Rattle.capcore.proofs.Judging.{stopped, passed, no_test, direct-stopped, direct-passed}
+use Rattle.capcore.specs.Direct.{Says, IsDirect, with_birth, owned_by, made_event}
+use Rattle.capcore.proofs.Judging.{stopped, passed, direct-stopped, direct-passed}
 
 -- the tests behind policy, where what stands before them stops nothing
 module _ (old : State) (e : Event) (tests more : List Test) (needed : List Need) (splits : judged old.scene e ≡ stop old.scene tests needed more) (free : stop old.scene tests needed [] ≡ None) where
@@ -38,40 +33,14 @@ module _ (old : State) (e : Event) (tests more : List Test) (needed : List Need)
   nothing : first_failing more ≡ None → judged old.scene e ≡ None
   nothing none = rest ∙ ap (option_map ByTest) none
 
--- and so the tests of the call that makes the change were passed
-call_passed : (s : Scene) (client : ClientId) (ino : ℕ) (needed : List Need) (more : List Test) → stop s (asked_tests s client ino) needed [] ≡ None → first_failing more ≡ None → first_failing (inode_tests s.tree ino ++ more) ≡ None
-call_passed s client ino needed more free none =
-    pass-both (inode_tests s.tree ino) more (passed-both (session_tests s.sessions client.0) (inode_tests s.tree ino) (no_test s (asked_tests s client ino) needed [] free)).1 none
-
 module _ (old : State) (client : ClientId) (ino : Ino) (name : List ℕ) (free : stop old.scene (asked_tests old.scene client ino.0) (need client ino.0 Snapshot ∷ []) [] ≡ None) where
-  pub snapshot-passed : first_failing (new_snapshot_tests old.scene.tree ino.0 name) ≡ None → first_failing (snap_add_tests old.scene.tree ino.0 name) ≡ None
-  snapshot-passed none = call_passed old.scene client ino.0 (need client ino.0 Snapshot ∷ []) (new_snapshot_tests old.scene.tree ino.0 name) free none
-
-  pub snapshot-made : first_failing (new_snapshot_tests old.scene.tree ino.0 name) ≡ None →
-      IsDirect old (event.MakeSnapshot client ino name) reply.Done (with_tree old (changed (with_snapshot name) old.scene.tree ino.0))
-  snapshot-made none =
-      direct-passed old (event.MakeSnapshot client ino name) reply.Done refl
-      (nothing old (event.MakeSnapshot client ino name) (asked_tests old.scene client ino.0) (new_snapshot_tests old.scene.tree ino.0 name) (need client ino.0 Snapshot ∷ []) refl free none)
-
   pub snapshot-refused : (r : Refusal) → first_failing (new_snapshot_tests old.scene.tree ino.0 name) ≡ Some r → IsDirect old (event.MakeSnapshot client ino name) (reply.Refused r) old
   snapshot-refused r is = refused old (event.MakeSnapshot client ino name) (asked_tests old.scene client ino.0) (new_snapshot_tests old.scene.tree ino.0 name) (need client ino.0 Snapshot ∷ []) refl free r is
-
-  pub removal-passed : first_failing (old_snapshot_tests old.scene.tree ino.0 name) ≡ None → first_failing (snap_remove_tests old.scene.tree ino.0 name) ≡ None
-  removal-passed none = call_passed old.scene client ino.0 (need client ino.0 Snapshot ∷ []) (old_snapshot_tests old.scene.tree ino.0 name) free none
-
-  pub snapshot-removed : first_failing (old_snapshot_tests old.scene.tree ino.0 name) ≡ None →
-      IsDirect old (event.RemoveSnapshot client ino name) reply.Done (with_tree old (changed (without_snapshot name) old.scene.tree ino.0))
-  snapshot-removed none =
-      direct-passed old (event.RemoveSnapshot client ino name) reply.Done refl
-      (nothing old (event.RemoveSnapshot client ino name) (asked_tests old.scene client ino.0) (old_snapshot_tests old.scene.tree ino.0 name) (need client ino.0 Snapshot ∷ []) refl free none)
 
   pub snapshot-kept : (r : Refusal) → first_failing (old_snapshot_tests old.scene.tree ino.0 name) ≡ Some r → IsDirect old (event.RemoveSnapshot client ino name) (reply.Refused r) old
   snapshot-kept r is = refused old (event.RemoveSnapshot client ino name) (asked_tests old.scene client ino.0) (old_snapshot_tests old.scene.tree ino.0 name) (need client ino.0 Snapshot ∷ []) refl free r is
 
 module _ (old : State) (client : ClientId) (dir : Ino) (name : List ℕ) (mode : Mode) (free : stop old.scene (asked_tests old.scene client dir.0) (need client dir.0 Write ∷ []) [] ≡ None) where
-  pub birth-passed : first_failing (new_inode_tests old.scene.tree dir.0 name) ≡ None → first_failing (create_tests old.scene.tree dir.0 name) ≡ None
-  birth-passed none = call_passed old.scene client dir.0 (need client dir.0 Write ∷ []) (new_inode_tests old.scene.tree dir.0 name) free none
-
   pub birth-refused : (kind : Kind) (r : Refusal) → first_failing (new_inode_tests old.scene.tree dir.0 name) ≡ Some r → IsDirect old (made_event kind client dir name mode) (reply.Refused r) old
   birth-refused File r is = refused old (event.Create client dir name mode) (asked_tests old.scene client dir.0) (new_inode_tests old.scene.tree dir.0 name) (need client dir.0 Write ∷ []) refl free r is
   birth-refused Directory r is = refused old (event.Mkdir client dir name mode) (asked_tests old.scene client dir.0) (new_inode_tests old.scene.tree dir.0 name) (need client dir.0 Write ∷ []) refl free r is

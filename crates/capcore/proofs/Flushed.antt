@@ -6,7 +6,7 @@ use Rattle.capbits.specs.Refusal.{first_failing}
 use Rattle.capbits.specs.Sets.{caps_in}
 use Rattle.capbits.proofs.Tests.{passed-both}
 use Rattle.inotree.specs.Tests.{inode_tests}
-use Rattle.inotree.specs.Tree.{Nodes, IsTree, place}
+use Rattle.inotree.specs.Tree.{Nodes, place}
 use Rattle.inotree.proofs.OneInode.{known-changed, place-other}
 use Rattle.sessiontab.specs.Tests.{session_tests}
 use Rattle.captable.specs.declared.entry.Holder.{Holder}
@@ -30,7 +30,7 @@ use Rattle.capcore.specs.Served.{change_call_tests}
 use Rattle.capcore.specs.Sound.{IsSound, AreGiven}
 use Rattle.capcore.specs.Touching.{IsTouchedEntry, TouchesOne}
 use Rattle.capcore.proofs.Again.{change-passed}
-use Rattle.capcore.proofs.OneChange.{by_change, alike_change, sound_change}
+use Rattle.capcore.proofs.OneChange.{by_change, alike_change}
 use Rattle.capcore.proofs.Touched.{all-left, before-passed, after-passed, AreBelow}
 
 known_change : (tree : Nodes) (ino : ℕ) (change : Change) (other : ℕ) → map.contains_key (tree_changed tree ino change).nodes other ≡ map.contains_key tree.nodes other
@@ -82,11 +82,6 @@ flush-calls s k change free =
     change-passed s k.ino.0 change
     (passed-both (session_tests s.sessions k.client.0) (inode_tests s.tree k.ino.0) (before-passed s (event.Flush k.client k.ino change) free)).1
     (flush_passed s k change free)
-
--- the tree stays one
-pub flush-tree : (old : State) (k : Holder) (change : Change) → IsTree old.scene.tree → judged old.scene (event.Flush k.client k.ino change) ≡ None
-    → IsTree (with_flush old k change).scene.tree
-flush-tree old k change tree free = sound_change old.scene k.ino.0 change tree (flush_passed old.scene k change free)
 
 -- the change is all that it comes to by itself
 pub flush-direct : (old : State) (k : Holder) (change : Change) → judged old.scene (event.Flush k.client k.ino change) ≡ None

@@ -3,6 +3,7 @@ pub mod Among
 pub mod Apart
 pub mod AtEnd
 pub mod Bounded
+pub mod OtherLocks
 pub mod Concluded
 pub mod Counting
 pub mod Determined

@@ -1,19 +1,14 @@
 -- What moves leave as it is: the entries, which inodes are there and which have locks, the last number, and the rows in which what
 -- is held lies. Who waits then, waited before.
-use Rattle.std.proofs.Common.{◌≡◌, ℕ, zero, suc, Bool, true, false, not, cond, Option, Some, None, is_some, List, [], ◌∷◌, ◌++◌, refl, sym, ap, subst, ◌∙◌, Contains, arith, true≢false}
-use Rattle.std.specs.Prelude.{All, filter}
-use Rattle.std.specs.List.{find}
+use Rattle.std.proofs.Common.{◌≡◌, ℕ, Bool, not, Option, Some, None, is_some, List, [], ◌∷◌, ◌++◌, refl, sym, ap, subst, ◌∙◌, Contains, true≢false}
+use Rattle.std.specs.Prelude.{All}
 use Rattle.std.specs.Option.{option_map}
 use Rattle.std.specs.FinMap as map
-use Rattle.std.proofs.lemmas.List.Elements.{All-contains, All-contains_itself, All-cons, All-filter, All-nil, All-weaker}
+use Rattle.std.proofs.lemmas.List.Elements.{All-contains, All-contains_itself, All-cons, All-nil, All-weaker}
 use Rattle.capbits.specs.declared.cap.Part.{Part}
 use Rattle.capbits.specs.declared.cap.Part.TheVariants.{A}
-use Rattle.inotree.specs.declared.node.Node.{Node}
-use Rattle.inotree.specs.Inodes.{with_setting, with_attribute, without_attribute, with_site}
-use Rattle.inotree.specs.declared.node.Site.TheVariants.{Under, Stray}
 use Rattle.inotree.specs.Tree.{Nodes}
-use Rattle.inotree.specs.Calls.{changed}
-use Rattle.inotree.proofs.Elsewhere.{field-changed}
+use Rattle.inotree.proofs.OneInode.{known-changed}
 use Rattle.locktable.specs.declared.states.LockState.{LockState}
 use Rattle.locktable.specs.declared.states.LockState.TheVariants.{Stable, Gather}
 use Rattle.captable.specs.declared.entry.EntryRow.{EntryRow}
@@ -21,9 +16,6 @@ use Rattle.captable.specs.Table.{Table}
 use Rattle.lockmachine.specs.declared.moves.Move.{Move}
 use Rattle.lockmachine.specs.declared.moves.Move.TheVariants.{Begin, End, Serve, Settled}
 use Rattle.lockmachine.specs.declared.request.Ask.{Ask}
-use Rattle.lockmachine.specs.declared.request.Ask.TheVariants.{Get, Alter, Unlink, Rmdir, Rename}
-use Rattle.lockmachine.specs.declared.request.Change.{Change}
-use Rattle.lockmachine.specs.declared.request.Change.TheVariants.{Set, SetXattr, RemoveXattr}
 use Rattle.lockmachine.specs.declared.request.Request.{Request}
 use Rattle.lockmachine.specs.Inodes.{lock_in}
 use Rattle.lockmachine.specs.Requests.{is_numbered, first_for, is_for}
@@ -32,6 +24,7 @@ use Rattle.lockmachine.specs.Scene.{Scene}
 use Rattle.lockmachine.specs.Moves.{LockPlace, present_state, coming_state, first_move, moved, with_moved}
 use Rattle.lockmachine.specs.Runs.{Runs}
 use Rattle.lockmachine.specs.Rows.{IsInRow}
+use Rattle.lockmachine.proofs.Finding.{contains-filter, fails_at, find_none}
 use Rattle.lockmachine.proofs.InRows.{one_keeps}
 use Rattle.lockmachine.proofs.Moving.{with_lock-each}
 use Rattle.lockmachine.proofs.Queue.{moved-kept}
@@ -39,9 +32,9 @@ use Rattle.capcore.specs.declared.outcome.Outcome.{Outcome}
 use Rattle.capcore.specs.declared.outcome.Outcome.TheVariants as outcome
 use Rattle.capcore.specs.declared.outcome.Ended.{Ended}
 use Rattle.capcore.specs.Serving.{tree_with, tree_after, served}
-use Rattle.capcore.specs.Asks.{tree_changed}
 use Rattle.capcore.specs.Settle.{Made, Began, Gathered, Served, Makes, MakesAll, ended_in}
 use Rattle.capcore.proofs.Leaving.{found-contains}
+use Rattle.capcore.proofs.OneChange.{by_ask}
 
 pub record IsMoved (first now : Scene) : Type 0 where
   pub table : now.table ≡ first.table
@@ -114,32 +107,15 @@ no_lock-moved first now is ino part none =
 
 -- ---- who waits
 
-fails : {T : Type 0} (p : T → Bool) (xs : List T) (x : T) → find p xs ≡ None → Contains xs x → p x ≡ false
-fails p [] x none (k, room, is) = absurd (omega arith)
-fails p (y ∷ ys) x none (zero, room, is) =
-    let e : y ≡ x = is in
-    ap p (sym e) ∙ (elim (p y) as (λ b. cond b (Some y) (find p ys) ≡ None → b ≡ false) [ true ↦ λ none. absurd (cc) | false ↦ λ none. refl ] none)
-fails p (y ∷ ys) x none (suc k, room, is) =
-    fails p ys x (elim (p y) as (λ b. cond b (Some y) (find p ys) ≡ None → find p ys ≡ None) [ true ↦ λ none. absurd (cc) | false ↦ λ none. none ] none) (k, omega arith, is)
-
-finds_none : {T : Type 0} (p : T → Bool) (xs : List T) → ((x : T) → Contains xs x → p x ≡ false) → find p xs ≡ None
-finds_none p [] each = refl
-finds_none p (x ∷ xs) each =
-    ap (λ b. cond b (Some x) (find p xs)) (each x (0, omega arith, refl))
-    ∙ finds_none p xs (λ y inside. each y (suc inside.0, omega (arith, inside.1), inside.2))
-
 -- where nobody waited for a lock, nobody waits for it
 pub nobody-moved : (first now : Scene) → IsMoved first now → (ino : ℕ) (part : Part) → first_for first.locks.queue ino part ≡ None → first_for now.locks.queue ino part ≡ None
 nobody-moved first now is ino part none =
-    finds_none (is_for ino part) now.locks.queue (λ q inside. fails (is_for ino part) first.locks.queue q none (is.queue q inside))
-
-pub among-filter : {T : Type 0} (p : T → Bool) (xs : List T) (x : T) → Contains (filter p xs) x → Contains xs x
-among-filter p xs x inside = All-contains (Contains xs) (filter p xs) x (All-filter p (Contains xs) xs (All-contains_itself xs)) inside
+    find_none (is_for ino part) now.locks.queue (λ q inside. fails_at (is_for ino part) first.locks.queue none q (is.queue q inside))
 
 queue-moved : (locks : LockMap) (step : Move) (q : Request) → Contains (moved locks step).queue q → Contains locks.queue q
 queue-moved locks (Begin ino part to) q inside = inside
 queue-moved locks (End ino part) q inside = inside
-queue-moved locks (Serve ticket) q inside = among-filter (λ r. not (is_numbered ticket.0 r)) locks.queue q inside
+queue-moved locks (Serve ticket) q inside = contains-filter (λ r. not (is_numbered ticket.0 r)) locks.queue q inside
 queue-moved locks Settled q inside = inside
 
 -- what all who waited have, all who wait have
@@ -149,27 +125,8 @@ all-waiting P first now is all =
 
 -- ---- which inodes are there
 
--- what each node has alike
-abbrev alike : Node → Unit {0}
-alike node = tt
-
-nodes-changed : (tree : Nodes) (ino : ℕ) (f : Node → Node) (q : ℕ) → map.contains_key (changed f tree ino).nodes q ≡ map.contains_key tree.nodes q
-nodes-changed tree ino f q =
-    sym (some-mapped alike (map.get (changed f tree ino).nodes q))
-    ∙ ap is_some (field-changed f alike (λ x. refl) tree.nodes ino q)
-    ∙ some-mapped alike (map.get tree.nodes q)
-
-nodes-change : (tree : Nodes) (ino : ℕ) (change : Change) (q : ℕ) → map.contains_key (tree_changed tree ino change).nodes q ≡ map.contains_key tree.nodes q
-nodes-change tree ino (Set setting) q = nodes-changed tree ino (with_setting setting) q
-nodes-change tree ino (SetXattr name value) q = nodes-changed tree ino (with_attribute name value) q
-nodes-change tree ino (RemoveXattr name) q = nodes-changed tree ino (without_attribute name) q
-
 nodes-with : (tree : Nodes) (ino : ℕ) (ask : Ask) (q : ℕ) → map.contains_key (tree_with tree ino ask).nodes q ≡ map.contains_key tree.nodes q
-nodes-with tree ino (Get part) q = refl
-nodes-with tree ino (Alter change) q = nodes-change tree ino change q
-nodes-with tree ino Unlink q = nodes-changed tree ino (with_site Stray) q
-nodes-with tree ino Rmdir q = nodes-changed tree ino (with_site Stray) q
-nodes-with tree ino (Rename dir name) q = nodes-changed tree ino (with_site (Under (record { 0 = dir.0 }) name)) q
+nodes-with tree ino ask q = by_ask tree ino (λ t. map.contains_key t.nodes q ≡ map.contains_key tree.nodes q) refl (λ f. known-changed tree f ino q) ask
 
 nodes-after : (tree : Nodes) (r : Request) (o : Outcome) (q : ℕ) → map.contains_key (tree_after tree r o).nodes q ≡ map.contains_key tree.nodes q
 nodes-after tree r outcome.Done q = nodes-with tree r.ino.0 r.ask q

@@ -1,7 +1,6 @@
 -- An event about one inode that is there, by itself: what is asked of an entry, what waits for a lock, or a flush.
 use Rattle.std.proofs.Common.{◌≡◌, ℕ, Option, Some, None, refl, sym, ap, subst, ◌∙◌, arith}
 use Rattle.std.proofs.lemmas.Option.{none-some}
-use Rattle.inotree.specs.Tree.{IsTree}
 use Rattle.captable.specs.declared.entry.Holder.{Holder}
 use Rattle.captable.specs.Table.{IsTable, holder}
 use Rattle.lockmachine.specs.declared.request.Ask.{Ask}
@@ -20,8 +19,8 @@ use Rattle.capcore.specs.Touch.{touch_event}
 use Rattle.capcore.specs.Touching.{touched_by, asks_for, TouchesOne}
 use Rattle.capcore.specs.Sound.{IsSound, AreGiven}
 use Rattle.capcore.proofs.Asked.{asking, asking-stop, asking-direct, asking-touches, below-of_ask, order-of_ask}
-use Rattle.capcore.proofs.Flushed.{flush-touches, flush-table, flush-tree, below-of_flush}
-use Rattle.capcore.proofs.Touched.{touches-touched, table-of_touch, below-of_touch, keeps-of_touch, tree-of_touch, locks-of_touch, AreBelow, Keeps}
+use Rattle.capcore.proofs.Flushed.{flush-touches, flush-table, below-of_flush}
+use Rattle.capcore.proofs.Touched.{touches-touched, table-of_touch, below-of_touch, keeps-of_touch, locks-of_touch, AreBelow, Keeps}
 
 -- ---- what is asked
 
@@ -90,16 +89,6 @@ module _ (old : State) (e : Event) (k : Holder) where
   order-by (Flushes change is) order free =
       by_effect (λ d. IsLockMap d.state.scene.locks) free (subst (λ (e : Event). IsLockMap (effect old e).state.scene.locks) (sym is) order)
 
-  tree-by : IsOfInode k e → IsTree old.scene.tree → judged old.scene e ≡ None → IsTree (direct old e).state.scene.tree
-  tree-by (Touches_entry touch is) tree free =
-      by_effect (λ d. IsTree d.state.scene.tree) free
-      (subst (λ (e : Event). IsTree (effect old e).state.scene.tree) (sym is) (subst IsTree (sym (tree-of_touch old k touch)) tree))
-  tree-by (Waits_for ask is) tree free = subst (λ (d : Direct). IsTree d.state.scene.tree) (sym (asking-direct old e k ask is free)) tree
-  tree-by (Flushes change is) tree free =
-      by_effect (λ d. IsTree d.state.scene.tree) free
-      (subst (λ (e : Event). IsTree (effect old e).state.scene.tree) (sym is)
-      (flush-tree old k change tree (subst (λ (e : Event). judged old.scene e ≡ None) is free)))
-
   -- ---- whatever stops it
 
   below-by : (count : ℕ) → AreGiven count old → IsOfInode k e → AreBelow count (effect old e).state
@@ -131,9 +120,6 @@ event-table old e k table is = table-by old e k (asked_by e k is) table
 
 pub event-order : (old : State) (e : Event) (k : Holder) → IsLockMap old.scene.locks → touched_by e ≡ Some k → judged old.scene e ≡ None → IsLockMap (direct old e).state.scene.locks
 event-order old e k order is = order-by old e k (asked_by e k is) order
-
-pub event-tree : (old : State) (e : Event) (k : Holder) → IsTree old.scene.tree → touched_by e ≡ Some k → judged old.scene e ≡ None → IsTree (direct old e).state.scene.tree
-event-tree old e k tree is = tree-by old e k (asked_by e k is) tree
 
 pub event-below : (count : ℕ) (old : State) (e : Event) (k : Holder) → AreGiven count old → touched_by e ≡ Some k → AreBelow count (direct old e).state
 event-below count old e k given is = below_unless old e k count given (asked_by e k is) (judged old.scene e)

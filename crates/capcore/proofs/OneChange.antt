@@ -19,6 +19,7 @@ use Rattle.lockmachine.specs.declared.request.Ask.{Ask}
 use Rattle.lockmachine.specs.declared.request.Ask.TheVariants.{Get, Alter, Unlink, Rmdir, Rename}
 use Rattle.lockmachine.specs.declared.request.Request.{Request}
 use Rattle.lockmachine.specs.Scene.{Scene}
+use Rattle.lockmachine.proofs.PolicyElsewhere.{alike-itself}
 use Rattle.capcore.specs.declared.outcome.Outcome.{Outcome}
 use Rattle.capcore.specs.Serving.{MayEndAs, tree_after, tree_with}
 use Rattle.capcore.specs.Asks.{ask_before, ask_needs, ask_after, change_tests, tree_changed}
@@ -59,9 +60,6 @@ module _ (s : Scene) (q : Request) (o : Outcome) (ends : MayEndAs s q o) where
 
 -- ---- by what is asked for
 
-same_alike : (tree : Nodes) (ino : ℕ) → IsAlike tree tree ino
-same_alike tree ino = record { path = refl; attr = refl }
-
 pub alike_change : (tree : Nodes) (ino other : ℕ) (change : Change) → (other ≡ ino → ⊥) → IsAlike tree (tree_changed tree ino change) other
 alike_change tree ino other (Set setting) off = alike-but (with_setting setting) (setting_site setting) tree ino other off
 alike_change tree ino other (SetXattr name value) off = alike-changed tree (with_attribute name value) ino (λ n. refl) (λ n. refl) other
@@ -70,7 +68,7 @@ alike_change tree ino other (RemoveXattr name) off = alike-changed tree (without
 -- what is not below the inode, where that moves
 alike_ask : (s : Scene) (ino other : ℕ) (ask : Ask) → IsTree s.tree → first_failing (ask_after s ino ask) ≡ None → (other ≡ ino → ⊥)
     → (is_rename ask ≡ true → is_within s.tree.nodes other ino ≡ false) → IsAlike s.tree (tree_with s.tree ino ask) other
-alike_ask s ino other (Get part) sound passed off below = same_alike s.tree other
+alike_ask s ino other (Get part) sound passed off below = alike-itself s.tree other
 alike_ask s ino other (Alter change) sound passed off below = alike_change s.tree ino other change off
 alike_ask s ino other Unlink sound passed off below = alike-unlinked s.tree ino other (childless-file s.tree ino sound passed) off
 alike_ask s ino other Rmdir sound passed off below = alike-unlinked s.tree ino other (childless-empty s.tree ino passed) off
@@ -94,7 +92,7 @@ sound_ask s ino (Rename dir name) sound one more =
 pub alike-apart : (s : Scene) (q : Request) (o : Outcome) (ino : ℕ) → IsTree s.tree → MayEndAs s q o → ino ≢ q.ino.0
     → (is_rename q.ask ≡ true → is_within s.tree.nodes ino q.ino.0 ≡ false) → IsAlike s.tree (tree_after s.tree q o) ino
 alike-apart s q o ino sound ends off below = elim (leaves-or-makes s q o ends) [
-  | inl left ↦ subst (λ (t : Nodes). IsAlike s.tree t ino) left (same_alike s.tree ino)
+  | inl left ↦ subst (λ (t : Nodes). IsAlike s.tree t ino) left (alike-itself s.tree ino)
   | inr made ↦
       let passed = passed-all s (ask_before s q.ino.0 q.ask) (ask_needs s q.client q.ino.0 q.ask) (ask_after s q.ino.0 q.ask) made.0 in
       subst (λ (t : Nodes). IsAlike s.tree t ino) made.1 (alike_ask s q.ino.0 ino q.ask sound passed.1 off below)

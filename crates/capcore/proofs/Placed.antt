@@ -65,7 +65,7 @@ module _ (s : Scene) (row : EntryRow) (inside : Contains s.table.rows row) (part
   placed in_row = by_lock (lock_at s.locks row.holder.ino.0 part) refl in_row
 
 -- and what is in place is in its row
-pub in_row : (s : Scene) (row : EntryRow) (part : Part) (o : Option LockState) → IsInPlace s row part o → IsInRowOf row part o
-in_row s row part None place = place
-in_row s row part (Some (Stable state)) place = place
-in_row s row part (Some (Gather from to)) place = place.0
+pub placed-in_row : (s : Scene) (row : EntryRow) (part : Part) (o : Option LockState) → IsInPlace s row part o → IsInRowOf row part o
+placed-in_row s row part None place = place
+placed-in_row s row part (Some (Stable state)) place = place
+placed-in_row s row part (Some (Gather from to)) place = place.0

@@ -1,5 +1,5 @@
 -- The messages that a walk over a client's entries lists, and what giving them leaves.
-use Rattle.std.proofs.Common.{◌≡◌, ◌≤◌, ◌<◌, ℕ, zero, suc, Bool, true, false, cond, ◌&&◌, ◌||◌, List, [], ◌∷◌, ◌++◌, length, take, filter, map, refl, sym, ap, subst, ◌∙◌, append_assoc, append-nil, arith}
+use Rattle.std.proofs.Common.{◌≡◌, ◌≤◌, ℕ, zero, suc, Bool, true, false, cond, ◌&&◌, ◌||◌, List, [], ◌∷◌, ◌++◌, length, take, filter, map, refl, sym, ap, subst, ◌∙◌, append_assoc, append-nil, arith}
 use Rattle.std.specs.Prelude.{◌==◌, nat_lt}
 use Rattle.std.specs.List.{list_any, flat_map, IsDistinct}
 use Rattle.std.specs.Cmp.{nat_eq_equiv}
@@ -20,7 +20,7 @@ use Rattle.capcore.specs.declared.outcome.Ended.{Ended}
 use Rattle.capcore.specs.declared.outcome.Message.{Message}
 use Rattle.capcore.specs.declared.outcome.Message.TheVariants as message
 use Rattle.capcore.specs.State.{State}
-use Rattle.capcore.specs.Messages.{caps_messages, recall_messages, first_messages, end_message, end_messages, is_to, after_messages, is_caps_of, is_recall_of, told_if, unasked_if}
+use Rattle.capcore.specs.Messages.{caps_messages, recall_messages, first_messages, end_messages, after_messages, is_caps_of, is_recall_of, told_if, unasked_if}
 use Rattle.capcore.proofs.Telling.{map_alike}
 
 -- ---- the first of a list
@@ -44,9 +44,6 @@ due_of s rows = flat_map (λ row. caps_messages s row ++ recall_messages row) ro
 -- what is listed so far, and what the entries that are left add to it: the requests that ended come first
 pub record IsListed (max : ℕ) (s : Scene) (first : List Message) (rows : List EntryRow) (listed : List Message) (left : List EntryRow) : Type 0 where
   pub is : take max (listed ++ due_of s left) ≡ take max (first ++ due_of s rows)
-
-pub listed-none : (max : ℕ) (s : Scene) (first : List Message) (rows : List EntryRow) (listed : List Message) → listed ≡ take max first → IsListed max s first rows listed rows
-listed-none max s first rows listed is = record { is = ap (λ xs. take max (xs ++ due_of s rows)) is ∙ take-take_append max first (due_of s rows) }
 
 -- one entry more
 pub listed-more : (max : ℕ) (s : Scene) (first : List Message) (rows left : List EntryRow) (listed more : List Message) (row : EntryRow)
@@ -98,43 +95,6 @@ pub listed-first : (s : State) (client : ClientId) (max : ℕ) (t : Table) (ende
     → listed ≡ take max (end_messages client ended ++ due_of s.scene rows) → listed ≡ first_messages s client max
 listed-first s client max t ended rows listed of table messages is =
     is ∙ ap (λ ms. take max (end_messages client ended ++ ms)) (sym (due-rows s.scene rows) ∙ ap (due_of s.scene) of ∙ due-rows s.scene (filter (is_of_client client) t.rows)) ∙ sym (first-due s client max t ended table messages)
-
--- ---- the requests that ended
-
-take_none : {X : Type 0} (max : ℕ) → ◌≡◌ {A = List X} (take max []) []
-take_none zero = refl
-take_none (suc n) = refl
-
--- the first of a list and one more, where there is room for it
-pub first-pushed : {X : Type 0} (max : ℕ) (xs : List X) (x : X) → length (take max xs) < max → take max xs ++ x ∷ [] ≡ take max (xs ++ x ∷ [])
-first-pushed zero xs x room = absurd (omega (arith, room))
-first-pushed (suc n) [] x room = ap (λ zs. x ∷ zs) (sym (take_none n))
-first-pushed (suc n) (y ∷ ys) x room = ap (λ zs. y ∷ zs) (first-pushed n ys x (omega (arith, room)))
-
--- and where there is none
-pub first-full : {X : Type 0} (max : ℕ) (xs : List X) (x : X) → max ≤ length (take max xs) → take max xs ≡ take max (xs ++ x ∷ [])
-first-full zero xs x full = refl
-first-full (suc n) [] x full = absurd (omega (arith, full))
-first-full (suc n) (y ∷ ys) x full = ap (λ zs. y ∷ zs) (first-full n ys x (omega (arith, full)))
-
--- the messages of one request more
-pub ended-own : (client : ClientId) (ended : List Ended) (m : Ended) → is_to client m ≡ true → end_messages client (ended ++ m ∷ []) ≡ end_messages client ended ++ end_message m ∷ []
-ended-own client [] m own = ap (λ b. map end_message (cond b (m ∷ []) [])) own
-ended-own client (e ∷ es) m own = by_head (ended-own client es m own) (is_to client e)
-  where
-    by_head : end_messages client (es ++ m ∷ []) ≡ end_messages client es ++ end_message m ∷ [] → (b : Bool)
-        → map end_message (cond b (e ∷ filter (is_to client) (es ++ m ∷ [])) (filter (is_to client) (es ++ m ∷ []))) ≡ map end_message (cond b (e ∷ filter (is_to client) es) (filter (is_to client) es)) ++ end_message m ∷ []
-    by_head rest true = ap (λ zs. end_message e ∷ zs) rest
-    by_head rest false = rest
-
-pub ended-other : (client : ClientId) (ended : List Ended) (m : Ended) → is_to client m ≡ false → end_messages client (ended ++ m ∷ []) ≡ end_messages client ended
-ended-other client [] m other = ap (λ b. map end_message (cond b (m ∷ []) [])) other
-ended-other client (e ∷ es) m other = by_head (ended-other client es m other) (is_to client e)
-  where
-    by_head : end_messages client (es ++ m ∷ []) ≡ end_messages client es → (b : Bool)
-        → map end_message (cond b (e ∷ filter (is_to client) (es ++ m ∷ [])) (filter (is_to client) (es ++ m ∷ []))) ≡ map end_message (cond b (e ∷ filter (is_to client) es) (filter (is_to client) es))
-    by_head rest true = ap (λ zs. end_message e ∷ zs) rest
-    by_head rest false = rest
 
 -- ---- what giving them leaves
 

@@ -21,6 +21,7 @@ use Rattle.lockmachine.specs.Scene.{Scene}
 use Rattle.lockmachine.specs.Moves.{may_begin, may_begin_in, first_move, IsQuietOutside}
 use Rattle.lockmachine.specs.Turns.{NothingEnds, WaitAt}
 use Rattle.lockmachine.proofs.Exact.{ends_not, begins_not}
+use Rattle.lockmachine.proofs.Finding.{contains-filter}
 use Rattle.lockmachine.proofs.PolicyElsewhere.{alike-itself}
 use Rattle.lockmachine.proofs.SameBut.{begin-alike, first-moved}
 use Rattle.lockmachine.proofs.Turns.{served-ends, ends-turn}
@@ -33,7 +34,7 @@ use Rattle.capcore.specs.Settle.{Made, Served, Makes, MakesAll, ended_by, ended_
 use Rattle.capcore.specs.Sweep.{AreStill, IsSwept, IsTurnOfLeast, Keeps, Covers, Reaches}
 use Rattle.capcore.specs.Touching.{IsSameOff}
 use Rattle.capcore.proofs.Among.{untouched, not-touched, more-touched}
-use Rattle.capcore.proofs.Moved.{makes-append, among-filter}
+use Rattle.capcore.proofs.Moved.{makes-append}
 use Rattle.capcore.proofs.OneChange.{alike-apart, place-after}
 use Rattle.capcore.proofs.Served.{one-less}
 use Rattle.capcore.proofs.SameOff.{off-refl, off-trans, off-wider}
@@ -264,7 +265,7 @@ module _ (ino : ℕ) (from : ℕ → Bool) (touched : StateMap) (first now : Sce
       begin_same un (row ∷ rows) is part =
           let found : Contains (entries_on now.table (record { 0 = other })) row = subst (λ (rs : List EntryRow). Contains rs row) (sym is) (0, omega arith, refl) in
           let there : row.holder.ino.0 ≡ other = eqb-true row.holder.ino.0 other (All-contains (λ (r : EntryRow). is_of_inode (record { 0 = other }) r ≡ true) (entries_on now.table (record { 0 = other })) row (filter_passes (is_of_inode (record { 0 = other })) now.table.rows) found) in
-          alike_begin (subst (IsAlike now.tree after.tree) there (row_alike row (among-filter (is_of_inode (record { 0 = other })) now.table.rows row found) (ap (is_touched ino kept) there ∙ un))) part
+          alike_begin (subst (IsAlike now.tree after.tree) there (row_alike row (contains-filter (is_of_inode (record { 0 = other })) now.table.rows row found) (ap (is_touched ino kept) there ∙ un))) part
 
     still_after : AreStill (is_touched ino kept) after
     still_after = record {

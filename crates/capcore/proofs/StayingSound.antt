@@ -42,7 +42,7 @@ use Rattle.capcore.specs.Touching.{IsTouchedEntry, Touches, SettlesAt, finished_
 use Rattle.capcore.proofs.EndsThere.{any-map, off_due, same-end}
 use Rattle.capcore.proofs.IssuedRows.{ended_row, want-ended, told-ended, revoked-ended, seq-ended, effective-ended, holds-due, holds-pin, in_row-ended}
 use Rattle.capcore.proofs.IssuedRest.{on_it, last_row, issued_at, by_place, of_inode-last, rest-issued}
-use Rattle.capcore.proofs.Placed.{in_row}
+use Rattle.capcore.proofs.Placed.{placed-in_row}
 use Rattle.capcore.proofs.Forgotten.{all_rows, IsSoundBut, sound-forgotten}
 use Rattle.capcore.proofs.Moved.{IsMoved, moved-all, no_lock-moved, nobody-moved, all-waiting, Waited, ended-waited}
 use Rattle.capcore.proofs.SameOff.{not-among, row_elsewhere, any_elsewhere, IsSameFrom, from-first}
@@ -148,7 +148,7 @@ module _ (at from : ℕ → Bool) (old touched : State) (settled : Scene) where
           on_inode = was.on_inode;
           wants_pin = was.wants_pin;
           holds_pin = was.holds_pin;
-          in_row = λ part. in_row old.scene row part (lock_at old.scene.locks row.holder.ino.0 part) (sound.in_place row part (old_found row inside off));
+          in_row = λ part. placed-in_row old.scene row part (lock_at old.scene.locks row.holder.ino.0 part) (sound.in_place row part (old_found row inside off));
           told = was.told;
           revoked = was.revoked;
         }

@@ -21,7 +21,7 @@ use Rattle.lockmachine.specs.Locks.{LockMap, lock_at}
 use Rattle.lockmachine.specs.Scene.{Scene, wanted_in_all}
 use Rattle.lockmachine.specs.Moves.{may_end_by, may_end_in, may_begin_in, first_move}
 use Rattle.lockmachine.specs.declared.moves.Move.TheVariants.{Settled}
-use Rattle.lockmachine.specs.Runs.{MoveLittle, EndLittle, ChangesLocksOf}
+use Rattle.lockmachine.specs.Runs.{MoveLittle, ChangesLocksOf}
 use Rattle.lockmachine.specs.Turns.{IsTurnOf, IsDoneAt, WaitAt}
 use Rattle.lockmachine.proofs.Turns.{turn-passes, turn-rests}
 use Rattle.lockmachine.proofs.Finding.{by_number}
@@ -114,10 +114,6 @@ ends-passed at t first old new here elsewhere same lower changes done other part
     ap (may_end_in t (other, part)) (changes.others other part off) ∙ lower other part below))
     (λ is. subst (λ i. may_end_by t new (i, part) ≡ false) (sym is) (done part))
     (λ behind. (let off = above behind in ap (λ (locks : Option InodeLocks). may_end_in t (other, part) (option_map (lock_in part) locks)) (same other off) ∙ elsewhere other part off))
-
--- where gathers end, that is some moves between two servings
-pub ends-little : (old new : Scene) → EndLittle old new → MoveLittle old new
-ends-little old new (steps, ends, few, runs) = (steps, few, runs)
 
 -- ---- turns
 

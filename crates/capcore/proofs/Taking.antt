@@ -7,8 +7,9 @@ use Rattle.std.proofs.lemmas.Bool.{ne_eqb, eqb-true}
 use Rattle.std.proofs.lemmas.List.Folds.{find_at}
 use Rattle.std.proofs.lemmas.Option.{slice_get-get_or}
 use Rattle.std.proofs.lemmas.List.Elements.{All-head, All-tail}
+use Rattle.captable.proofs.Searches.{find_passes}
 use Rattle.lockmachine.proofs.Positions.{at_position}
-use Rattle.lockmachine.proofs.Rest.{not_found, passes}
+use Rattle.lockmachine.proofs.Rest.{not_found}
 use Rattle.capbits.specs.declared.ids.Ticket.{Ticket}
 use Rattle.capcore.specs.declared.outcome.Ended.{Ended}
 use Rattle.capcore.specs.Direct.{is_of_ticket}
@@ -54,5 +55,5 @@ taken ms t i own differ at is =
     let place = at_position (is_of_ticket t) ms i at in
     let room : i < length ms = rw place.0 place.1 in
     let found : find (is_of_ticket t) ms ≡ Some own = find_at (is_of_ticket t) ms ∙ ap (slice_get ms) (sym place.0) ∙ slice_get-get_or ms i own room ∙ ap Some (sym is) in
-    let number : own.ticket.0 ≡ t.0 = eqb-true own.ticket.0 t.0 (passes (is_of_ticket t) ms own found) in
+    let number : own.ticket.0 ≡ t.0 = eqb-true own.ticket.0 t.0 (find_passes (is_of_ticket t) ms own found) in
     (found, removed ms differ i own room (sym is) ∙ ap (λ n. filter (λ (m : Ended). not (m.ticket.0 == n)) ms) number)

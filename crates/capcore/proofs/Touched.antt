@@ -61,9 +61,9 @@ use Rattle.capcore.specs.Needs.{Need}
 use Rattle.capcore.specs.Direct.{Direct, direct, effect, effect_unless, opening_wants, with_entry, with_table}
 use Rattle.capcore.specs.Touch.{touch_event, touch_tests, touched_table}
 use Rattle.capcore.specs.Touching.{IsTouchedEntry, TouchesOne}
-use Rattle.capcore.specs.Headline.{IsInPlace}
 use Rattle.capcore.specs.Sound.{IsSound, IsSoundEntry, AreGiven}
 use Rattle.capcore.proofs.Judging.{no_test}
+use Rattle.capcore.proofs.Placed.{placed-in_row}
 
 -- ---- the tests of an event that nothing stops
 
@@ -290,11 +290,6 @@ kept-left s new row sessions states known is = record {
 kept-touched : (s : Scene) (t : Table) (row : EntryRow) → IsKeptEntry s row → IsTouchedEntry (record s { table = t }) row
 kept-touched s t row is = kept-left s (record s { table = t }) row refl refl (λ ino. refl) is
 
-placed-in_row : (s : Scene) (row : EntryRow) (part : Part) (o : Option LockState) → IsInPlace s row part o → IsInRowOf row part o
-placed-in_row s row part None place = place
-placed-in_row s row part (Some (Stable state)) place = place
-placed-in_row s row part (Some (Gather from to)) place = place.0
-
 -- and every state keeps it
 pub sound-kept : (old : State) → IsSound old → IsTable old.scene.table → All (IsKeptEntry old.scene) old.scene.table.rows
 sound-kept old sound table =
@@ -497,9 +492,6 @@ keeps-of_touch old k (Open mode) = (refl, refl)
 keeps-of_touch old k (Want caps) = (refl, refl)
 keeps-of_touch old k (Ack seq) = (refl, refl)
 keeps-of_touch old k (Release caps) = (refl, refl)
-
-pub tree-of_touch : (old : State) (k : Holder) (touch : Touch) → (effect old (touch_event k.client k.ino touch)).state.scene.tree ≡ old.scene.tree
-tree-of_touch old k touch = ap (λ (s : State). s.scene.tree) (effect-touched old k.client k.ino touch)
 
 pub locks-of_touch : (old : State) (k : Holder) (touch : Touch) → (effect old (touch_event k.client k.ino touch)).state.scene.locks ≡ old.scene.locks
 locks-of_touch old k touch = ap (λ (s : State). s.scene.locks) (effect-touched old k.client k.ino touch)

@@ -127,9 +127,6 @@ module _ (old : State) (client : ClientId) (turn : Turn) (passed : judged old.sc
   pub turn-quiet : IsQuietOutside from touched.scene
   turn-quiet = let t = touches in rest-outside from old.scene touched.scene sound.at_rest t.same
 
-  pub turn-before : (other : ℕ) → map.contains_key others other ≡ true → map.get others other ≡ map.get touched.scene.locks.states other
-  turn-before other kept = let t = touches in reaches.before other kept ∙ ap (λ (m : StateMap). map.get m other) (sym t.states)
-
   pub turn-locked : All (λ row. IsTrue (map.contains_key touched.scene.locks.states row.holder.ino.0)) touched.scene.table.rows
   turn-locked = touches-locked from old touched sound touches
 

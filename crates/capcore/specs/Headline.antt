@@ -1,7 +1,7 @@
 -- What the core promises of every step, in the words of its users.
-use Rattle.std.specs.Prelude.{◌≡◌, ◌==◌, ◌≤◌, ◌↔◌, Bool, true, false, ◌||◌, IsTrue, IsFalse}
+use Rattle.std.specs.Prelude.{◌≡◌, ◌==◌, ◌≤◌, ◌↔◌, ℕ, Bool, true, false, ◌||◌, ◌&&◌, IsTrue, IsFalse}
 use Rattle.std.specs.Prelude.{List, [], ◌∷◌, ◌++◌, length, map, Option, Some, None}
-use Rattle.std.specs.List.{find}
+use Rattle.std.specs.List.{find, list_any}
 use Rattle.std.specs.Option.{option_map_or}
 use Rattle.capbits.specs.declared.cap.Cap.{Cap}
 use Rattle.capbits.specs.declared.cap.Part.{Part}
@@ -17,9 +17,10 @@ use Rattle.locktable.specs.Rows.{row_of}
 use Rattle.captable.specs.declared.entry.Holder.{Holder}
 use Rattle.captable.specs.declared.entry.EntryRow.{EntryRow}
 use Rattle.captable.specs.Table.{is_row_of}
-use Rattle.lockmachine.specs.Locks.{lock_at}
+use Rattle.lockmachine.specs.Locks.{LockMap, lock_at}
 use Rattle.lockmachine.specs.Policy.{failures}
 use Rattle.lockmachine.specs.declared.request.Request.{Request}
+use Rattle.lockmachine.specs.Requests.{same_part}
 use Rattle.lockmachine.specs.Scene.{Scene, against}
 use Rattle.lockmachine.specs.Moves.{is_open}
 use Rattle.lockmachine.specs.Runs.{AreFew}
@@ -116,6 +117,18 @@ pub record AreBounded (first : Scene) (moves : List Made) : Type 0 where
   pub served : length (ended_in moves) ≤ length first.locks.queue
   pub between : (before_it some behind_it : List Made) → moves ≡ before_it ++ (some ++ behind_it) → ended_in some ≡ [] → AreFew (map move_of some)
 
+-- the move begins or ends a gather of this lock
+abbrev pub is_of_lock_at : ℕ → Part → Made → Bool
+is_of_lock_at ino part (Began i p to) = (ino == i.0) && same_part part p
+is_of_lock_at ino part (Gathered i p) = (ino == i.0) && same_part part p
+is_of_lock_at ino part (Served q o) = false
+
+-- each lock that is there at the end, and that none of the moves begins or ends a gather of, is as it was right after the event
+abbrev pub OtherLocksStay : LockMap → Scene → List Made → Type 0
+OtherLocksStay last first moves =
+    (ino : ℕ) (part : Part) (lock : LockState) → IsFalse (list_any (is_of_lock_at ino part) moves) →
+    lock_at last ino part ≡ Some lock → lock_at first.locks ino part ≡ Some lock
+
 -- ---- caps
 
 -- the client holds the capability on the inode
@@ -134,8 +147,8 @@ IssuesExactly first last = (k : Holder) (cap : Cap) → holds last k cap ≡ (ho
 abbrev pub IsInRow : EntryRow → Part → LockGoal → Type 0
 IsInRow row part state = IsSubset (of_part part row.entry.held) (row_of part state row.holder.client)
 
--- what it holds of the part outside the row of this state is being revoked, and keeps a gather to this state open: so it is
--- by what revoking and an open gather are, of each entry of the table
+-- what it holds of the part outside the row of this state is being revoked, and keeps a gather to this state open. It says what
+-- revoking and an open gather come to: it follows from these two words alone, and what a step could break is the row
 abbrev pub IsTakenBack : Scene → EntryRow → Part → LockGoal → Type 0
 IsTakenBack s row part to =
     (cap : Cap) → IsTrue (has (of_part part row.entry.held) cap) → IsFalse (has (row_of part to row.holder.client) cap) →

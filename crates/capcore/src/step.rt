@@ -4,7 +4,7 @@ ghost use Rattle.capcore.specs.History.{HasNoStray, IsOpening, IsNext, IsTold, I
 ghost use Rattle.capcore.specs.State.{State};
 ghost use Rattle.capcore.specs.Direct.{direct};
 ghost use Rattle.capcore.specs.Sound.{IsSound};
-ghost use Rattle.capcore.specs.Headline.{DeniedExactly, DeniesByName, ServedDenied, ServedByName, EachServing, ByMoves, AreBounded};
+ghost use Rattle.capcore.specs.Headline.{DeniedExactly, DeniesByName, ServedDenied, ServedByName, EachServing, ByMoves, AreBounded, OtherLocksStay};
 ghost use Rattle.capcore.specs.Headline.{IssuesExactly, AreInPlace, NoneConflict, is_stop};
 ghost use Rattle.sessiontab.specs.Calls.{status_of};
 ghost use Rattle.captable.specs.Table.{holder, entry_at};
@@ -77,6 +77,9 @@ impl Core {
             (λ ended. ByMoves (EachServing ServedByName) self.old.state event answer ended self.new.state)) }
         ensures bounded { IfOk result (λ answer. InItsRow self.old.rows self.new.rows
             (λ ended. ByMoves AreBounded self.old.state event answer ended self.new.state)) }
+        // Locks change by these moves alone.
+        ensures other_locks { IfOk result (λ answer. InItsRow self.old.rows self.new.rows
+            (λ ended. ByMoves (OtherLocksStay self.new.state.scene.locks) self.old.state event answer ended self.new.state)) }
         // What is issued is what is wanted, permitted and allowed; and no two clients hold what may not be held together.
         ensures issued { OnOk result (IssuesExactly (direct self.old.state event).state.scene self.new.state.scene) }
         ensures in_place { OnOk result (AreInPlace self.new.state.scene) }

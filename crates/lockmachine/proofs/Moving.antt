@@ -10,6 +10,7 @@ use Rattle.capbits.specs.declared.cap.Part.TheVariants.{A, L, X, F}
 use Rattle.capbits.specs.Sets.{and_parts}
 use Rattle.inotree.proofs.Maps.{insert-here, insert-other}
 use Rattle.locktable.specs.declared.states.LockState.{LockState}
+use Rattle.captable.proofs.Searches.{find_passes}
 use Rattle.lockmachine.specs.declared.states.InodeLocks.{InodeLocks}
 use Rattle.lockmachine.specs.declared.request.Request.{Request}
 use Rattle.lockmachine.specs.declared.moves.Move.{Move}
@@ -19,7 +20,7 @@ use Rattle.lockmachine.specs.Requests.{same_part}
 use Rattle.lockmachine.specs.Locks.{LockMap, lock_at, with_lock}
 use Rattle.lockmachine.specs.Scene.{Scene, target}
 use Rattle.lockmachine.specs.Moves.{LockPlace, places, may_end, may_begin, may_serve, present_state, begin_or_rest, serve_or_begin, end_or_serve, first_move}
-use Rattle.lockmachine.proofs.Rest.{same_part_is, passes}
+use Rattle.lockmachine.proofs.Rest.{same_part_is}
 
 -- ---- what the first move is
 
@@ -32,7 +33,7 @@ IsMove s Settled = Unit {0}
 module _ (s : Scene) where
   by_begin : (o : Option LockPlace) → find (may_begin s) (places s.locks) ≡ o → IsMove s (begin_or_rest s o)
   by_begin None found = tt
-  by_begin (Some at) found = (passes (may_begin s) (places s.locks) at found, refl)
+  by_begin (Some at) found = (find_passes (may_begin s) (places s.locks) at found, refl)
 
   by_serve : (o : Option Request) → find (may_serve s.locks) s.locks.queue ≡ o → IsMove s (serve_or_begin s o)
   by_serve None found = by_begin (find (may_begin s) (places s.locks)) refl
@@ -40,7 +41,7 @@ module _ (s : Scene) where
 
   by_end : (o : Option LockPlace) → find (may_end s) (places s.locks) ≡ o → IsMove s (end_or_serve s o)
   by_end None found = by_serve (find (may_serve s.locks) s.locks.queue) refl
-  by_end (Some at) found = passes (may_end s) (places s.locks) at found
+  by_end (Some at) found = find_passes (may_end s) (places s.locks) at found
 
   pub first_is : IsMove s (first_move s)
   unfolding first_move

@@ -11,6 +11,7 @@ use Rattle.std.proofs.lemmas.List.Folds.{find-append}
 use Rattle.capbits.specs.declared.cap.Part.{Part}
 use Rattle.capbits.specs.declared.cap.Part.TheVariants.{A, L, X, F}
 use Rattle.capbits.specs.declared.ids.Ticket.{Ticket}
+use Rattle.captable.proofs.Searches.{find_passes}
 use Rattle.lockmachine.specs.declared.request.Request.{Request}
 use Rattle.lockmachine.specs.declared.states.InodeLocks.{InodeLocks}
 use Rattle.lockmachine.specs.declared.moves.Move.TheVariants.{End, Serve, Settled}
@@ -20,7 +21,7 @@ use Rattle.lockmachine.specs.Scene.{Scene, wanted_in_all}
 use Rattle.lockmachine.specs.Moves.{LockPlace, parts, places_of, places, may_end, may_end_in, may_serve, may_begin, may_begin_in, beginning, begin_or_rest, serve_or_begin, end_or_serve, first_move}
 use Rattle.lockmachine.specs.Turns.{IsTurnOf, IsNextAt}
 use Rattle.lockmachine.proofs.Finding.{fails_at, no_part}
-use Rattle.lockmachine.proofs.Rest.{same_key, passes}
+use Rattle.lockmachine.proofs.Rest.{same_key}
 
 -- ---- one inode after another
 
@@ -171,7 +172,7 @@ module _ (s : Scene) (ino : ℕ) (turn : IsTurnOf s ino) where
 
   begins_at : (part : Part) → find (λ part. may_begin s (ino, part)) parts ≡ Some part → find (may_begin s) (places s.locks) ≡ Some (ino, part)
   begins_at part found =
-      let may = passes (λ part. may_begin s (ino, part)) parts part found in
+      let may = find_passes (λ part. may_begin s (ino, part)) parts part found in
       first_found (may_begin s) ino turn.begins (ino, part)
       (find-each (may_begin s) (λ (part : Part). (ino, part)) parts ∙ ap (option_map (λ part. (ino, part))) found) s.locks
       (ap is_some refl ∙ has_locks part may (map.get s.locks.states ino) refl)

@@ -12,16 +12,15 @@ use Rattle.capspec.specs.declared.grant.Grant.{Grant}
 use Rattle.capgrant.specs.declared.access.Attr.{Attr}
 use Rattle.inotree.specs.declared.node.Kind.{Kind}
 use Rattle.inotree.specs.declared.node.Node.{Node}
-use Rattle.inotree.specs.declared.node.Place.TheVariants.{Gone}
-use Rattle.inotree.specs.Tree.{Nodes, IsTree, place, path_of}
-use Rattle.inotree.specs.Calls.{with_new, changed, forgotten}
+use Rattle.inotree.specs.Tree.{Nodes, IsTree, path_of}
+use Rattle.inotree.specs.Calls.{with_new, changed}
 use Rattle.inotree.specs.Alike.{IsAlike}
-use Rattle.inotree.proofs.Elsewhere.{alike-new, alike-changed, alike-forgotten, not_next}
+use Rattle.inotree.proofs.Elsewhere.{alike-new, alike-changed, not_next}
 use Rattle.sessiontab.specs.declared.session.Session.{Session}
 use Rattle.sessiontab.specs.Table.{SessionTable}
 use Rattle.sessiontab.specs.Calls.{has_session, with_session}
 use Rattle.sessiontab.specs.Tests.{new_session_tests}
-use Rattle.sessiontab.proofs.Elsewhere.{session-other, session-kept}
+use Rattle.sessiontab.proofs.Elsewhere.{session-kept}
 use Rattle.captable.specs.declared.entry.Holder.{Holder}
 use Rattle.captable.specs.declared.entry.EntryRow.{EntryRow}
 use Rattle.captable.specs.Calls.{is_of_inode}
@@ -69,55 +68,25 @@ pub wants-kept : (s : Scene) (new : Nodes) (after : SessionTable) (ino : ℕ) �
 wants-kept s new after ino all =
     each_same (want_of s.fs s.tree s.sessions) (want_of s.fs new after) (is_of_inode (record { 0 = ino })) s.table.rows (λ k d lt i. ((slice_index_or s.table.rows k d).holder.client, all k d lt i))
 
--- ---- a new inode, of which the holder's is none
+-- ---- a new inode, of which the row's is none
 
-module _ (fs : List ℕ) (tree : Nodes) (sessions : SessionTable) (sound : IsTree tree) where
-  module _ (kind : Kind) (dir : ℕ) (name : List ℕ) (attr : Attr) where
-    pub permitted-new : (k : Holder) → map.contains_key tree.nodes k.ino.0 ≡ true → permitted fs (with_new tree kind dir name attr) sessions k ≡ permitted fs tree sessions k
-    permitted-new k there =
-        permitted-kept fs tree (with_new tree kind dir name attr) sessions sessions k (alike-new tree kind dir name attr k.ino.0 sound (not_next tree k.ino.0 sound there)) refl
-
-    pub want-new : (row : EntryRow) → map.contains_key tree.nodes row.holder.ino.0 ≡ true → effective_want fs (with_new tree kind dir name attr) sessions row ≡ effective_want fs tree sessions row
-    want-new row there =
-        want-kept fs tree (with_new tree kind dir name attr) sessions sessions row (alike-new tree kind dir name attr row.holder.ino.0 sound (not_next tree row.holder.ino.0 sound there)) refl
-
-  -- a stray is forgotten, and the holder's inode is another
-  module _ (stray : ℕ) (gone : place tree.nodes stray ≡ Gone) where
-    pub permitted-forgotten : (k : Holder) → (k.ino.0 ≡ stray → ⊥) → permitted fs (forgotten tree stray) sessions k ≡ permitted fs tree sessions k
-    permitted-forgotten k off = permitted-kept fs tree (forgotten tree stray) sessions sessions k (alike-forgotten tree stray k.ino.0 sound gone off) refl
-
-    pub want-forgotten : (row : EntryRow) → (row.holder.ino.0 ≡ stray → ⊥) → effective_want fs (forgotten tree stray) sessions row ≡ effective_want fs tree sessions row
-    want-forgotten row off = want-kept fs tree (forgotten tree stray) sessions sessions row (alike-forgotten tree stray row.holder.ino.0 sound gone off) refl
+pub want-new : (fs : List ℕ) (tree : Nodes) (sessions : SessionTable) → IsTree tree → (kind : Kind) (dir : ℕ) (name : List ℕ) (attr : Attr) (row : EntryRow)
+    → map.contains_key tree.nodes row.holder.ino.0 ≡ true → effective_want fs (with_new tree kind dir name attr) sessions row ≡ effective_want fs tree sessions row
+want-new fs tree sessions sound kind dir name attr row there =
+    want-kept fs tree (with_new tree kind dir name attr) sessions sessions row (alike-new tree kind dir name attr row.holder.ino.0 sound (not_next tree row.holder.ino.0 sound there)) refl
 
 -- ---- a change of an inode that policy does not read, as of a snapshot
 
 module _ (fs : List ℕ) (tree : Nodes) (sessions : SessionTable) (f : Node → Node) (ino : ℕ) (site : (n : Node) → (f n).site ≡ n.site) (attr : (n : Node) → (f n).attr ≡ n.attr) where
-  pub permitted-changed : (k : Holder) → permitted fs (changed f tree ino) sessions k ≡ permitted fs tree sessions k
-  permitted-changed k = permitted-kept fs tree (changed f tree ino) sessions sessions k (alike-changed tree f ino site attr k.ino.0) refl
-
   pub want-changed : (row : EntryRow) → effective_want fs (changed f tree ino) sessions row ≡ effective_want fs tree sessions row
   want-changed row = want-kept fs tree (changed f tree ino) sessions sessions row (alike-changed tree f ino site attr row.holder.ino.0) refl
 
--- ---- a new session, where the holder's client has one
+-- ---- a new session, where the row's client has one
 
 pub alike-itself : (tree : Nodes) (ino : ℕ) → IsAlike tree tree ino
 alike-itself tree ino = record { path = refl; attr = refl }
 
-module _ (fs : List ℕ) (tree : Nodes) (sessions : SessionTable) (client : ℕ) (caller : Caller) (grants : List Grant) where
-  module _ (passed : first_failing (new_session_tests sessions client) ≡ None) where
-    pub permitted-session : (k : Holder) → has_session sessions k.client.0 ≡ true → permitted fs tree (with_session sessions client caller grants) k ≡ permitted fs tree sessions k
-    permitted-session k there =
-        permitted-kept fs tree tree sessions (with_session sessions client caller grants) k (alike-itself tree k.ino.0) (session-kept sessions client caller grants k.client.0 passed there)
-
-    pub want-session : (row : EntryRow) → has_session sessions row.holder.client.0 ≡ true → effective_want fs tree (with_session sessions client caller grants) row ≡ effective_want fs tree sessions row
-    want-session row there =
-        want-kept fs tree tree sessions (with_session sessions client caller grants) row (alike-itself tree row.holder.ino.0) (session-kept sessions client caller grants row.holder.client.0 passed there)
-
-  -- and where it is another
-  pub permitted-another : (k : Holder) → (k.client.0 ≡ client → ⊥) → permitted fs tree (with_session sessions client caller grants) k ≡ permitted fs tree sessions k
-  permitted-another k off =
-      permitted-kept fs tree tree sessions (with_session sessions client caller grants) k (alike-itself tree k.ino.0) (session-other sessions client caller grants k.client.0 off)
-
-  pub want-another : (row : EntryRow) → (row.holder.client.0 ≡ client → ⊥) → effective_want fs tree (with_session sessions client caller grants) row ≡ effective_want fs tree sessions row
-  want-another row off =
-      want-kept fs tree tree sessions (with_session sessions client caller grants) row (alike-itself tree row.holder.ino.0) (session-other sessions client caller grants row.holder.client.0 off)
+module _ (fs : List ℕ) (tree : Nodes) (sessions : SessionTable) (client : ℕ) (caller : Caller) (grants : List Grant) (passed : first_failing (new_session_tests sessions client) ≡ None) where
+  pub want-session : (row : EntryRow) → has_session sessions row.holder.client.0 ≡ true → effective_want fs tree (with_session sessions client caller grants) row ≡ effective_want fs tree sessions row
+  want-session row there =
+      want-kept fs tree tree sessions (with_session sessions client caller grants) row (alike-itself tree row.holder.ino.0) (session-kept sessions client caller grants row.holder.client.0 passed there)

@@ -16,6 +16,7 @@ use Rattle.lockmachine.proofs.Positions.{at_position}
 use Rattle.capbits.specs.declared.ids.ClientId.{ClientId}
 use Rattle.capbits.specs.declared.ids.Ino.{Ino}
 use Rattle.capbits.specs.declared.ids.Ticket.{Ticket}
+use Rattle.captable.proofs.Searches.{find_passes}
 use Rattle.lockmachine.specs.declared.request.Ask.{Ask}
 use Rattle.lockmachine.specs.declared.request.Request.{Request}
 use Rattle.lockmachine.specs.declared.moves.Move.{Move}
@@ -24,7 +25,7 @@ use Rattle.lockmachine.specs.Requests.{is_numbered, is_of_client, AreTicketsRisi
 use Rattle.lockmachine.specs.Locks.{LockMap, IsLockMap, TakesOnly, request_at, next_request, with_request, without_request, requests_of, without_requests_of, TakesOldest}
 use Rattle.lockmachine.specs.Scene.{Scene}
 use Rattle.lockmachine.specs.Moves.{LockPlace, places, may_end, may_serve, begin_or_rest, serve_or_begin, end_or_serve, first_move, moved, IsFirstServed}
-use Rattle.lockmachine.proofs.Rest.{not_found, passes}
+use Rattle.lockmachine.proofs.Rest.{not_found}
 
 -- ---- a queue whose numbers rise
 
@@ -34,9 +35,6 @@ rising-head q qs rising = λ k d room. rising 0 (suc k) d (omega arith) (omega a
 
 rising-tail : (q : Request) (qs : List Request) → AreTicketsRising (q ∷ qs) → AreTicketsRising qs
 rising-tail q qs rising = λ i j d less room. rising (suc i) (suc j) d (omega arith) (omega arith)
-
-not_numbered : (q r : Request) → q.ticket.0 < r.ticket.0 → is_numbered q.ticket.0 r ≡ false
-not_numbered q r less = ne_eqb r.ticket.0 q.ticket.0 (λ same. absurd (omega arith))
 
 not_numbered' : (q r : Request) → q.ticket.0 < r.ticket.0 → is_numbered r.ticket.0 q ≡ false
 not_numbered' q r less = ne_eqb q.ticket.0 r.ticket.0 (λ same. absurd (omega arith))
@@ -100,7 +98,7 @@ taken qs ticket i q rising at is =
     let place = at_position (is_numbered ticket) qs i at in
     let room : i < length qs = rw place.0 place.1 in
     let found : find (is_numbered ticket) qs ≡ Some q = find_at (is_numbered ticket) qs ∙ ap (slice_get qs) (sym place.0) ∙ slice_get-get_or qs i q room ∙ ap Some (sym is) in
-    let number : q.ticket.0 ≡ ticket = eqb-true q.ticket.0 ticket (passes (is_numbered ticket) qs q found) in
+    let number : q.ticket.0 ≡ ticket = eqb-true q.ticket.0 ticket (find_passes (is_numbered ticket) qs q found) in
     (found, removed qs q rising (i, room, sym is) ∙ ap (λ n. filter (λ r. not (is_numbered n r)) qs) number)
 
 -- where it finds none, all are left

@@ -26,7 +26,6 @@ use Rattle.lockmachine.specs.Inodes.{lock_in}
 use Rattle.lockmachine.specs.Locks.{lock_at}
 use Rattle.lockmachine.specs.Scene.{Scene, target, loner, wanted}
 use Rattle.lockmachine.specs.Moves.{LockPlace, same_state, is_open, places_of, places, may_end, may_begin, may_serve, is_served_in, begin_or_rest, serve_or_begin, end_or_serve, first_move, IsQuiet, IsAtRest, WaitAtLocks}
-use Rattle.lockmachine.proofs.Idle.{find_nothing}
 
 -- ---- what is known where no move applies
 
@@ -72,10 +71,6 @@ found_not p r (y ∷ ys) x found none =
       | true ↦ λ py found. (let e : y ≡ x = cc in (rw (← e) py, rw (← e) n.0))
       | false ↦ λ py found. found_not p r ys x found n.1
     ] refl found
-
--- what is found passes
-pub passes : {T : Type 0} (p : T → Bool) (xs : List T) (x : T) → find p xs ≡ Some x → p x ≡ true
-passes p xs x found = (found_not p (λ y. false) xs x found (find_nothing (λ y. false) (λ y. refl) xs)).0
 
 pub same_key : (ino x : ℕ) → eq_by_cmp nat_cmp ino x ≡ true → x ≡ ino
 same_key ino x e = sym (eqb-true ino x (sym (unsigned_tied ino x) ∙ e))

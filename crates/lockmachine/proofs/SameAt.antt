@@ -1,4 +1,4 @@
--- What is the same at one inode: what is wanted of it, which moves apply there, and who is held up there.
+-- What is the same at one inode: what is wanted of it, which moves apply there, and what is quiet there.
 use Rattle.std.proofs.Common.{◌≡◌, ℕ, Bool, true, false, cond, not, Option, Some, None, List, [], ◌∷◌, zero, suc, filter, map as each, refl, sym, ap, subst, ◌∙◌, Contains, arith}
 use Rattle.std.specs.List.{list_any}
 use Rattle.std.specs.FinMap as map
@@ -13,14 +13,12 @@ use Rattle.locktable.specs.Targets.{target_of}
 use Rattle.sessiontab.specs.Table.{SessionTable}
 use Rattle.captable.specs.declared.entry.EntryRow.{EntryRow}
 use Rattle.captable.specs.Calls.{is_of_inode, entries_on}
-use Rattle.lockmachine.specs.declared.request.Request.{Request}
-use Rattle.lockmachine.specs.Requests.{part_of_ask, first_for, head_of}
+use Rattle.lockmachine.specs.Requests.{first_for, head_of}
 use Rattle.lockmachine.specs.Locks.{lock_at}
 use Rattle.lockmachine.specs.Wants.{Want, want_of, in_all}
 use Rattle.lockmachine.specs.Scene.{Scene, wants, wanted, loner, wanted_in_all, target, target_by, outside}
 use Rattle.lockmachine.specs.Moves.{same_state, may_end, may_end_in, may_begin, may_begin_in, IsQuiet}
 use Rattle.lockmachine.specs.Elsewhere.{IsSameOutside, IsSameAt}
-use Rattle.lockmachine.specs.Turns.{IsHeldUp}
 use Rattle.lockmachine.proofs.PolicyElsewhere.{want-kept}
 
 -- of one inode the entries, their clients' sessions, the locks and who waits first for each are as they were, and so are its path,
@@ -114,12 +112,3 @@ module _ (ino : ℕ) (old new : Scene) (same : IsSameThere ino old new) where
 
   pub quiet-there : (part : Part) → IsQuiet old ino part (lock_at old.locks ino part) → IsQuiet new ino part (lock_at new.locks ino part)
   quiet-there part quiet = subst (IsQuiet new ino part) (sym (same.locks part)) (quiet_in part (lock_at old.locks ino part) quiet)
-
--- who is held up at the inode, is so still
-pub held-there : (old new : Scene) (q : Request) → IsSameThere q.ino.0 old new → IsHeldUp old q → IsHeldUp new q
-held-there old new q same held = record {
-  from = held.from;
-  to = held.to;
-  gathers = same.locks (part_of_ask q.ask) ∙ held.gathers;
-  is_held = open_same q.ino.0 old new same (part_of_ask q.ask) held.to ∙ held.is_held;
-}

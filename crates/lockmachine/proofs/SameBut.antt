@@ -1,42 +1,28 @@
 -- Scenes that are the same but at one inode, or the same at one: what leaves them so, and what follows of their locks.
-use Rattle.std.proofs.Common.{◌≡◌, ◌≢◌, ℕ, Bool, false, cond, ◌==◌, Some, List, [], ◌∷◌, ◌++◌, refl, sym, ap, ◌∙◌, Contains}
+use Rattle.std.proofs.Common.{◌≡◌, ◌≢◌, ℕ, Bool, false, cond, Some, List, [], ◌∷◌, ◌++◌, refl, sym, ap, ◌∙◌, Contains}
 use Rattle.std.specs.List.{find}
 use Rattle.std.proofs.lemmas.List.{append-nil}
 use Rattle.capbits.specs.declared.cap.Part.{Part}
 use Rattle.capbits.specs.declared.ids.ClientId.{ClientId}
 use Rattle.capbits.specs.declared.ids.Ino.{Ino}
-use Rattle.capbits.specs.declared.ids.Ticket.{Ticket}
 use Rattle.inotree.specs.Tree.{Nodes, place}
 use Rattle.inotree.specs.Alike.{IsAlike}
 use Rattle.captable.specs.Table.{Table}
 use Rattle.captable.specs.Calls.{entries_on}
 use Rattle.lockmachine.specs.declared.request.Ask.{Ask}
 use Rattle.lockmachine.specs.declared.request.Request.{Request}
-use Rattle.lockmachine.specs.declared.moves.Move.TheVariants.{Serve}
 use Rattle.lockmachine.specs.Requests.{is_for, first_for}
-use Rattle.lockmachine.specs.Locks.{LockMap, IsLockMap, request_at, next_request, with_request, without_request}
+use Rattle.lockmachine.specs.Locks.{LockMap, IsLockMap, next_request, with_request, without_request}
 use Rattle.lockmachine.specs.Scene.{Scene}
-use Rattle.lockmachine.specs.Moves.{may_end, may_begin, first_move, IsAtRest, IsQuietBut}
+use Rattle.lockmachine.specs.Moves.{may_end, may_begin}
 use Rattle.lockmachine.specs.Runs.{ChangesLocksOf}
 use Rattle.lockmachine.specs.Elsewhere.{IsSameBut, IsSameAt}
 use Rattle.lockmachine.proofs.PolicyElsewhere.{alike-itself}
 use Rattle.lockmachine.proofs.Queue.{taken_alone}
 use Rattle.lockmachine.proofs.SameAt.{same-there, begin-there, end-there}
-use Rattle.lockmachine.proofs.SameOutside.{not_for, alike-trans, outside-one, quiet-outside, rest-outside, quiet-one, quiet-but}
-use Rattle.lockmachine.proofs.Waiting.{quiet-waits-at, served-one}
+use Rattle.lockmachine.proofs.SameOutside.{not_for, alike-trans}
 
 -- ---- one after another
-
-pub same-refl : (ino : ℕ) (s : Scene) → IsSameBut ino s s
-same-refl ino s = record {
-  fs = refl;
-  sessions = refl;
-  entries = λ other off. refl;
-  locks = λ other part off. refl;
-  waiting = λ other part off. refl;
-  places = λ other off. refl;
-  alike = λ other off. alike-itself s.tree other;
-}
 
 pub same-trans : (ino : ℕ) (a b c : Scene) → IsSameBut ino a b → IsSameBut ino b c → IsSameBut ino a c
 same-trans ino a b c first then = record {
@@ -112,31 +98,6 @@ first-moved locks q is inside other part off =
     ap (find (is_for other part)) alone.queue_is
     ∙ sym (ap (find (is_for other part)) alone.queue_was ∙ find_without (is_for other part) alone.earlier q alone.later (not_for q other part off))
 
-pub same-moved : (s : Scene) (q : Request) → IsLockMap s.locks → Contains s.locks.queue q → IsSameBut q.ino.0 s (record s { locks = without_request s.locks q.ticket.0 })
-same-moved s q is inside = record {
-  fs = refl;
-  sessions = refl;
-  entries = λ other off. refl;
-  locks = λ other part off. refl;
-  waiting = first-moved s.locks q is inside;
-  places = λ other off. refl;
-  alike = λ other off. alike-itself s.tree other;
-}
-
-pub same-served : (s : Scene) (q : Request) (tree : Nodes) → IsLockMap s.locks → Contains s.locks.queue q
-    → ((other : ℕ) → other ≢ q.ino.0 → place tree.nodes other ≡ place s.tree.nodes other)
-    → ((other : ℕ) → other ≢ q.ino.0 → IsAlike s.tree tree other)
-    → IsSameBut q.ino.0 s (record s { tree = tree; locks = without_request s.locks q.ticket.0 })
-same-served s q tree is inside places alike = record {
-  fs = refl;
-  sessions = refl;
-  entries = λ other off. refl;
-  locks = λ other part off. refl;
-  waiting = first-moved s.locks q is inside;
-  places = places;
-  alike = alike;
-}
-
 -- ---- which moves apply elsewhere
 
 -- what is the same but at one inode, is the same at each other
@@ -156,17 +117,3 @@ begin-alike ino old new same = begin-there ino old new (same-there ino old new s
 
 pub end-alike : (ino : ℕ) (old new : Scene) → IsSameAt ino old new → (part : Part) → may_end new (ino, part) ≡ may_end old (ino, part)
 end-alike ino old new same = end-there ino old new (same-there ino old new same)
-
--- ---- what is quiet stays quiet elsewhere
-
-pub quiet-kept : (ino : ℕ) (old new : Scene) → IsQuietBut old ino → IsSameBut ino old new → IsQuietBut new ino
-quiet-kept ino old new quiet same = quiet-but new ino (quiet-outside (λ other. other == ino) old new (quiet-one old ino quiet) (outside-one ino old new same))
-
-pub quiet-rest : (ino : ℕ) (old new : Scene) → IsAtRest old → IsSameBut ino old new → IsQuietBut new ino
-quiet-rest ino old new rest same = quiet-but new ino (rest-outside (λ other. other == ino) old new rest (outside-one ino old new same))
-
--- ---- who is served
-
-pub serves-here : (s : Scene) (ino : ℕ) (ticket : Ticket) → IsLockMap s.locks → IsQuietBut s ino → first_move s ≡ Serve ticket
-    → (q : Request) × (request_at s.locks ticket.0 ≡ Some q) × Contains s.locks.queue q × (q.ino.0 ≡ ino) × (q.ticket ≡ ticket)
-serves-here s ino ticket is quiet = served-one s ino ticket is (quiet-waits-at (λ other. other == ino) s (quiet-one s ino quiet))

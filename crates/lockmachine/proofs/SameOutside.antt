@@ -15,12 +15,11 @@ use Rattle.lockmachine.specs.declared.request.Request.{Request}
 use Rattle.lockmachine.specs.Requests.{same_part, part_of_ask, is_for, is_of_client}
 use Rattle.lockmachine.specs.Locks.{without_requests_of}
 use Rattle.lockmachine.specs.Scene.{Scene}
-use Rattle.lockmachine.specs.Moves.{may_end, may_begin, IsAtRest, IsQuietBut, IsQuietOutside}
+use Rattle.lockmachine.specs.Moves.{IsAtRest, IsQuietOutside}
 use Rattle.lockmachine.specs.Elsewhere.{IsSameBut, IsSameOutside}
-use Rattle.lockmachine.specs.Turns.{IsHeldUp}
 use Rattle.lockmachine.proofs.Finding.{contains-filter, filter-contains}
 use Rattle.lockmachine.proofs.PolicyElsewhere.{alike-itself}
-use Rattle.lockmachine.proofs.SameAt.{outside-there, begin-there, end-there, quiet-there, held-there}
+use Rattle.lockmachine.proofs.SameAt.{outside-there, quiet-there}
 
 -- ---- what leaves them so
 
@@ -45,18 +44,6 @@ outside-one ino old new same = record {
   waiting = λ other part off. same.waiting other part (eqb-false other ino off);
   places = λ other off. same.places other (eqb-false other ino off);
   alike = λ other off. same.alike other (eqb-false other ino off);
-}
-
--- and so outside of more
-pub outside-wider : (at wider : ℕ → Bool) (old new : Scene) → ((q : ℕ) → wider q ≡ false → at q ≡ false) → IsSameOutside at old new → IsSameOutside wider old new
-outside-wider at wider old new more same = record {
-  fs = same.fs;
-  sessions = λ row inside off. same.sessions row inside (more row.holder.ino.0 off);
-  entries = λ other off. same.entries other (more other.0 off);
-  locks = λ other part off. same.locks other part (more other off);
-  waiting = λ other part off. same.waiting other part (more other off);
-  places = λ other off. same.places other (more other off);
-  alike = λ other off. same.alike other (more other off);
 }
 
 -- one tree is like another, and that like a third
@@ -110,17 +97,6 @@ outside-dropped at s client waited = record {
   alike = λ other off. alike-itself s.tree other;
 }
 
--- ---- the same moves apply there, and who is held up stays so
-
-pub end-outside : (at : ℕ → Bool) (old new : Scene) → IsSameOutside at old new → (other : ℕ) (part : Part) → at other ≡ false → may_end new (other, part) ≡ may_end old (other, part)
-end-outside at old new same other part off = end-there other old new (outside-there at old new same other off) part
-
-pub begin-outside : (at : ℕ → Bool) (old new : Scene) → IsSameOutside at old new → (other : ℕ) (part : Part) → at other ≡ false → may_begin new (other, part) ≡ may_begin old (other, part)
-begin-outside at old new same other part off = begin-there other old new (outside-there at old new same other off) part
-
-pub held-outside : (at : ℕ → Bool) (old new : Scene) → IsSameOutside at old new → (q : Request) → at q.ino.0 ≡ false → IsHeldUp old q → IsHeldUp new q
-held-outside at old new same q off = held-there old new q (outside-there at old new same q.ino.0 off)
-
 -- ---- what is quiet stays quiet there
 
 pub quiet-outside : (at : ℕ → Bool) (old new : Scene) → IsQuietOutside at old → IsSameOutside at old new → IsQuietOutside at new
@@ -130,10 +106,3 @@ quiet-outside at old new quiet same = record {
 
 pub rest-outside : (at : ℕ → Bool) (old new : Scene) → IsAtRest old → IsSameOutside at old new → IsQuietOutside at new
 rest-outside at old new rest same = quiet-outside at old new (record { each_other = λ other part off. rest.each other part }) same
-
--- quiet but at one inode is quiet outside of it alone
-pub quiet-one : (s : Scene) (ino : ℕ) → IsQuietBut s ino → IsQuietOutside (λ other. other == ino) s
-quiet-one s ino quiet = record { each_other = λ other part off. quiet.each_other other part (eqb-false other ino off) }
-
-pub quiet-but : (s : Scene) (ino : ℕ) → IsQuietOutside (λ other. other == ino) s → IsQuietBut s ino
-quiet-but s ino quiet = record { each_other = λ other part off. quiet.each_other other part (ne_eqb other ino off) }

@@ -1,12 +1,10 @@
 -- Who waits outside of some inodes is held up by a gather that is open, and stays so.
-use Rattle.std.proofs.Common.{◌≡◌, ◌≢◌, ℕ, Bool, true, false, not, ◌&&◌, ◌==◌, Option, Some, None, List, [], ◌∷◌, filter, refl, sym, ap, subst, ◌∙◌, Contains, true≢false}
+use Rattle.std.proofs.Common.{◌≡◌, ◌≢◌, ℕ, Bool, true, false, not, ◌&&◌, Option, Some, None, List, [], ◌∷◌, filter, refl, sym, ap, subst, ◌∙◌, Contains, true≢false}
 use Rattle.std.specs.Prelude.{IsTrue}
 use Rattle.std.specs.Cmp.{nat_eq_equiv}
 use Rattle.std.specs.List.{find}
 use Rattle.std.specs.Option.{option_map_or}
-use Rattle.std.proofs.lemmas.Bool.{eqb-true}
 use Rattle.capbits.specs.declared.cap.Part.{Part}
-use Rattle.capbits.specs.declared.ids.ClientId.{ClientId}
 use Rattle.capbits.specs.declared.ids.Ticket.{Ticket}
 use Rattle.inotree.specs.Tree.{Nodes}
 use Rattle.locktable.specs.declared.states.State.{State}
@@ -15,11 +13,11 @@ use Rattle.locktable.specs.declared.states.LockState.TheVariants.{Stable, Gather
 use Rattle.lockmachine.specs.declared.request.Request.{Request}
 use Rattle.lockmachine.specs.declared.moves.Move.{Move}
 use Rattle.lockmachine.specs.declared.moves.Move.TheVariants.{Begin, End, Serve, Settled}
-use Rattle.lockmachine.specs.Requests.{same_part, part_of_ask, head_of_ask, is_for, first_for, is_numbered, is_of_client}
-use Rattle.lockmachine.specs.Locks.{LockMap, IsLockMap, lock_at, request_at, without_request, without_requests_of}
+use Rattle.lockmachine.specs.Requests.{same_part, part_of_ask, head_of_ask, is_for, first_for, is_numbered}
+use Rattle.lockmachine.specs.Locks.{LockMap, IsLockMap, lock_at, request_at, without_request}
 use Rattle.lockmachine.specs.Scene.{Scene, wanted_in_all}
 use Rattle.lockmachine.specs.Moves.{LockPlace, is_open, may_end_in, may_begin_in, may_serve, is_served_in, present_state, coming_state, first_move, moved, with_moved, IsQuiet, IsQuietOutside}
-use Rattle.lockmachine.specs.Runs.{is_of_lock, Runs, MoveLittle}
+use Rattle.lockmachine.specs.Runs.{is_of_lock, Runs}
 use Rattle.lockmachine.specs.Turns.{IsHeldUp, WaitAt}
 use Rattle.lockmachine.proofs.Finding.{fails_at, contains-filter}
 use Rattle.lockmachine.proofs.Moving.{IsMove, first_is, with_lock-each}
@@ -110,9 +108,6 @@ waits-kept-at at old (step ∷ steps) new (first, of_lock, rest) wait =
     (let was : Contains old.locks.queue q = subst (λ (qs : List Request). Contains qs q) (queue-moved old.locks step of_lock).0 inside in
     held-moved old step (subst (IsMove old) first (first_is old)) of_lock q (wait q was off)))
 
-pub waits-little-at : (at : ℕ → Bool) (old new : Scene) → MoveLittle old new → WaitAt at old → WaitAt at new
-waits-little-at at old new (steps, few, runs) = waits-kept-at at old steps new runs
-
 -- ---- so do requests that are taken out
 
 waits-fewer : (at : ℕ → Bool) (s : Scene) (tree : Nodes) (p : Request → Bool) → WaitAt at s → WaitAt at (record s { tree = tree; locks = record s.locks { queue = filter p s.locks.queue } })
@@ -122,9 +117,6 @@ waits-fewer at s tree p wait q inside off =
 
 pub waits-less-at : (at : ℕ → Bool) (s : Scene) (tree : Nodes) (ticket : ℕ) → WaitAt at s → WaitAt at (record s { tree = tree; locks = without_request s.locks ticket })
 waits-less-at at s tree ticket = waits-fewer at s tree (λ q. not (is_numbered ticket q))
-
-pub waits-dropped-at : (at : ℕ → Bool) (s : Scene) (tree : Nodes) (client : ClientId) → WaitAt at s → WaitAt at (record s { tree = tree; locks = without_requests_of s.locks client })
-waits-dropped-at at s tree client = waits-fewer at s tree (λ q. not (is_of_client client q))
 
 -- ---- who is served
 
@@ -143,10 +135,3 @@ served-at at s ticket is wait move =
     let first = served.2 in
     let found = subst (λ (t : Ticket). request_at s.locks t.0 ≡ Some q) served.1 (found_by_number s.locks q is first.waits) in
     (q, found, first.waits, may-at at s q wait first.waits first.may, served.1)
-
--- where the others are those but one
-pub served-one : (s : Scene) (ino : ℕ) (ticket : Ticket) → IsLockMap s.locks → WaitAt (λ other. other == ino) s → first_move s ≡ Serve ticket
-    → (q : Request) × (request_at s.locks ticket.0 ≡ Some q) × Contains s.locks.queue q × (q.ino.0 ≡ ino) × (q.ticket ≡ ticket)
-served-one s ino ticket is wait move =
-    let served = served-at (λ other. other == ino) s ticket is wait move in
-    (served.0, served.1, served.2, eqb-true served.0.ino.0 ino served.3, served.4)

@@ -1,5 +1,5 @@
 -- Which move comes next, what each does to the locks, and when they are at rest.
-use Rattle.std.specs.Prelude.{◌≡◌, ◌≢◌, ◌≤◌, ℕ, Bool, true, false, ◌&&◌, not, ◌==◌, IsTrue}
+use Rattle.std.specs.Prelude.{◌≡◌, ◌≤◌, ℕ, Bool, true, false, ◌&&◌, not, ◌==◌, IsTrue}
 use Rattle.std.specs.Prelude.{List, [], ◌∷◌, Option, Some, None, Contains, map as each}
 use Rattle.std.specs.List.{find, list_any, flat_map}
 use Rattle.std.specs.Option.{option_map_or}
@@ -184,10 +184,6 @@ pub record IsAtRest (s : Scene) : Type 0 where
 -- who waits, waits for a lock that is there
 abbrev pub WaitAtLocks : Scene → Type 0
 WaitAtLocks s = (ino : ℕ) (part : Part) → lock_at s.locks ino part ≡ None → first_for s.locks.queue ino part ≡ None
-
--- each lock of another inode is quiet
-pub record IsQuietBut (s : Scene) (ino : ℕ) : Type 0 where
-  pub each_other : (other : ℕ) (part : Part) → other ≢ ino → IsQuiet s other part (lock_at s.locks other part)
 
 -- each lock of an inode that is not among these is quiet
 pub record IsQuietOutside (at : ℕ → Bool) (s : Scene) : Type 0 where

@@ -50,10 +50,6 @@ pub record IsHeldUp (s : Scene) (q : Request) : Type 0 where
   pub gathers : lock_at s.locks q.ino.0 (part_of_ask q.ask) ≡ Some (Gather from to)
   pub is_held : is_open s q.ino.0 (part_of_ask q.ask) to ≡ true
 
--- who waits at another inode, is held up
-abbrev pub WaitHere : Scene → ℕ → Type 0
-WaitHere s ino = (q : Request) → Contains s.locks.queue q → q.ino.0 ≢ ino → IsHeldUp s q
-
 -- who waits at an inode that is not among these, is held up
 abbrev pub WaitAt : (ℕ → Bool) → Scene → Type 0
 WaitAt at s = (q : Request) → Contains s.locks.queue q → at q.ino.0 ≡ false → IsHeldUp s q

@@ -6,9 +6,10 @@ use Rattle.sessiontab.specs.Table.{SessionTable}
 use Rattle.lockmachine.specs.Moves.{may_end_by}
 use Rattle.lockmachine.specs.Scene.{scene}
 use Rattle.lockmachine.specs.Turns.{WaitAt}
+use Rattle.lockmachine.proofs.Ending.{ends-little}
 use Rattle.capcore.specs.Serves.{is_touched}
 use Rattle.capcore.specs.Sweep.{IsSwept, IsNextOf}
-use Rattle.capcore.proofs.Sweeping.{fewer_behind, swept-begins, swept-on, ends-little, ends-passed, same-elsewhere}
+use Rattle.capcore.proofs.Sweeping.{fewer_behind, swept-begins, swept-on, ends-passed, same-elsewhere}
 use Rattle.capcore.proofs.settle.end_gathers.Goals as goal
 use Rattle.capcore.proofs.settle.end_gathers.Goals.{After-end_gathers_at}
 

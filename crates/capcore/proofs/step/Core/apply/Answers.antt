@@ -5,12 +5,13 @@ use Rattle.capcore.specs.declared.history.Row.{Row}
 use Rattle.capcore.specs.declared.reply.Reply.{Reply}
 use Rattle.capcore.specs.Answered.{IsAnswered}
 use Rattle.capcore.specs.Direct.{direct}
-use Rattle.capcore.specs.Headline.{DeniedExactly, DeniesByName, ServedDenied, ServedByName, EachServing, ByMoves, AreBounded, IssuesExactly, is_stop}
+use Rattle.capcore.specs.Headline.{DeniedExactly, DeniesByName, ServedDenied, ServedByName, EachServing, ByMoves, AreBounded, OtherLocksStay, IssuesExactly, is_stop}
 use Rattle.capcore.specs.History.{Told, told, InItsRow, Replays}
 use Rattle.capcore.specs.Sound.{IsSound}
 use Rattle.capcore.specs.Step.{Step}
 use Rattle.capcore.proofs.Apart.{held-apart}
 use Rattle.capcore.proofs.Bounded.{direct-order, moves-bounded, by-moves}
+use Rattle.capcore.proofs.OtherLocks.{other-locks}
 use Rattle.capcore.proofs.Servings.{served-denied, served-by_name}
 use Rattle.capcore.proofs.Promised.{denied-exactly, denies-by_name, stopped-unchanged}
 use Rattle.capcore.proofs.Growing.{more-told, replays-more}
@@ -85,6 +86,14 @@ returns-clause-bounded c =
       added c,
       by-moves AreBounded c.self.inside.world c.args.event c.in_ok-reply.field-0.reply c.in_ok-reply.field-0.ended c.step.new.self (step_of c)
           (λ moves last made. moves-bounded (direct c.self.inside.world c.args.event).state.scene moves last (direct-order c.self.inside.world c.args.event c.in_ok-reply.ensures.locks) made),
+    )
+
+pub returns-clause-other_locks : goal.returns-clause-other_locks
+returns-clause-other_locks c =
+    subst (λ (t : Told). InItsRow t.rows c.add_row.new.rows.items (λ ended. ByMoves (OtherLocksStay c.step.new.self.scene.locks) t.state c.args.event c.in_ok-reply.field-0.reply ended c.step.new.self)) c.self.view_is (
+      row_of c,
+      added c,
+      other-locks c.self.inside.world c.args.event c.in_ok-reply.field-0.reply c.in_ok-reply.field-0.ended c.step.new.self (step_of c),
     )
 
 pub returns-clause-issued : goal.returns-clause-issued

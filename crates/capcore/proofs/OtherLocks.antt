@@ -1,0 +1,84 @@
+-- Locks change by the moves of a step alone: each other lock that is there at its end is as it was right after the event.
+use Rattle.std.proofs.Common.{◌≡◌, ℕ, Bool, true, false, ◌||◌, Some, List, [], ◌∷◌, refl, sym, ap, ◌∙◌, true≢false}
+use Rattle.std.specs.List.{list_any}
+use Rattle.std.specs.Option.{option_map}
+use Rattle.std.specs.FinMap as map
+use Rattle.capbits.specs.declared.cap.Part.{Part}
+use Rattle.locktable.specs.declared.states.LockState.{LockState}
+use Rattle.locktable.specs.declared.states.LockState.TheVariants.{Stable, Gather}
+use Rattle.lockmachine.specs.Inodes.{lock_in}
+use Rattle.lockmachine.specs.Locks.{LockMap, lock_at, with_lock}
+use Rattle.lockmachine.specs.Moves.{LockPlace, present_state, coming_state}
+use Rattle.lockmachine.specs.Scene.{Scene}
+use Rattle.lockmachine.proofs.Moving.{is_at, with_lock-each}
+use Rattle.capcore.specs.declared.event.Event.{Event}
+use Rattle.capcore.specs.declared.outcome.Ended.{Ended}
+use Rattle.capcore.specs.declared.reply.Reply.{Reply}
+use Rattle.capcore.specs.Direct.{Answer, Says, Shows, Gives, Awaits, direct, shown}
+use Rattle.capcore.specs.Finish.{is_kept, issue}
+use Rattle.capcore.specs.Headline.{ByMoves, OtherLocksStay, is_of_lock_at}
+use Rattle.capcore.specs.Settle.{Made, Began, Gathered, Served, Makes, MakesAll}
+use Rattle.capcore.specs.State.{State}
+use Rattle.capcore.specs.Step.{Step, state_after}
+use Rattle.capcore.proofs.Strays.{retained-here, retained-gone}
+
+-- ---- the moves
+
+-- a lock in another state leaves each other lock
+other_lock : (locks : LockMap) (ino : ℕ) (part : Part) (lock : LockState) (at : LockPlace) → is_at ino part at ≡ false
+    → lock_at (with_lock locks ino part lock) at.0 at.1 ≡ lock_at locks at.0 at.1
+other_lock locks ino part lock =
+    with_lock-each locks ino part lock (λ b (at : LockPlace) o. b ≡ false → o ≡ lock_at locks at.0 at.1) (λ off. absurd (true≢false off)) (λ at off. refl)
+
+one_stays : (s t : Scene) (m : Made) (ino : ℕ) (part : Part) → Makes s m t → is_of_lock_at ino part m ≡ false → lock_at t.locks ino part ≡ lock_at s.locks ino part
+one_stays s t (Began i p to) ino part (first, is) off =
+    ap (λ (s : Scene). lock_at s.locks ino part) is
+    ∙ other_lock s.locks i.0 p (Gather (present_state (lock_at s.locks i.0 p)) to) (ino, part) off
+one_stays s t (Gathered i p) ino part (first, is) off =
+    ap (λ (s : Scene). lock_at s.locks ino part) is
+    ∙ other_lock s.locks i.0 p (Stable (coming_state (lock_at s.locks i.0 p))) (ino, part) off
+one_stays s t (Served q o) ino part (first, found, may, is) off = ap (λ (s : Scene). lock_at s.locks ino part) is
+
+-- neither is true where one of two is not
+neither : (a b : Bool) → (a || b) ≡ false → (a ≡ false) × (b ≡ false)
+neither true b is = absurd (true≢false is)
+neither false b is = (refl, is)
+
+all_stay : (s : Scene) (moves : List Made) (t : Scene) (ino : ℕ) (part : Part) → MakesAll s moves t → list_any (is_of_lock_at ino part) moves ≡ false
+    → lock_at t.locks ino part ≡ lock_at s.locks ino part
+all_stay s [] t ino part is off = ap (λ (s : Scene). lock_at s.locks ino part) is
+all_stay s (m ∷ moves) t ino part (mid, one, made) off =
+    let each = neither (is_of_lock_at ino part m) (list_any (is_of_lock_at ino part) moves) off in
+    all_stay mid moves t ino part made each.1 ∙ one_stays s mid m ino part one each.0
+
+-- ---- the end of the step
+
+-- what a client is told leaves the locks
+shown_locks : (a : Answer) (s : State) → (shown a s).scene.locks ≡ s.scene.locks
+shown_locks (Says reply) s = refl
+shown_locks (Shows k) s = refl
+shown_locks (Gives client max) s = refl
+shown_locks (Awaits ticket) s = refl
+
+-- a lock that is there at the end was so once the locks had settled
+lock_before : (s : Scene) (kept : ℕ → Bool) (ino : ℕ) (part : Part) (lock : LockState)
+    → option_map (lock_in part) (map.get (map.retain_keys s.locks.states kept) ino) ≡ Some lock → lock_at s.locks ino part ≡ Some lock
+lock_before s kept ino part lock there = elim (kept ino) as (λ b. kept ino ≡ b → lock_at s.locks ino part ≡ Some lock) [
+  | true ↦ λ e. sym (ap (option_map (lock_in part)) (retained-here s.locks.states kept ino e)) ∙ there
+  | false ↦ λ e. (let gone = ap (option_map (lock_in part)) (retained-gone s.locks.states kept ino e) in cc)
+] refl
+
+-- locks change by the moves of the step alone
+pub other-locks : (old : State) (e : Event) (answer : Reply) (ended : List Ended) (new : State) → Step old e answer ended new
+    → ByMoves (OtherLocksStay new.scene.locks) old e answer ended new
+other-locks old e answer ended new (moves, by) = (
+  moves,
+  by,
+  λ ino part lock off there.
+      let settles = by.settles in
+      let last = state_after old (direct old e) moves by.settled in
+      let at_end : lock_at last.scene.locks ino part ≡ Some lock =
+      sym (ap (λ (s : State). lock_at s.scene.locks ino part) by.new_is ∙ ap (λ (locks : LockMap). lock_at locks ino part) (shown_locks (direct old e).answer last)) ∙ there in
+      sym (all_stay (direct old e).state.scene moves by.settled ino part settles.made off)
+      ∙ lock_before by.settled (is_kept (issue by.settled)) ino part lock at_end,
+)
