@@ -5,10 +5,6 @@ use Rattle.std.specs.FinMap as map
 use Rattle.std.specs.FinSet as set
 use Rattle.capbits.specs.declared.refusal.Refusal.TheVariants as refusal
 use Rattle.capbits.specs.Refusal.{Test, refused_if}
-use Rattle.inotree.specs.declared.attributes.TheConstants.{MAX_ATTRIBUTES, MAX_VALUE}
-use Rattle.inotree.specs.declared.names.TheConstants.{MAX_NAMES}
-use Rattle.inotree.specs.declared.snapshots.TheConstants.{MAX_SNAPSHOTS}
-use Rattle.inotree.specs.declared.tree.TheConstants.{MAX_INODES}
 use Rattle.inotree.specs.declared.node.Node.{Node}
 use Rattle.inotree.specs.declared.node.Site.{Site}
 use Rattle.inotree.specs.declared.node.Site.TheVariants.{Root, Under, Stray}
@@ -82,8 +78,8 @@ name_tests tree dir name = refused_if (is_bad_name name) refusal.NameBad ∷ ref
 -- there may be one more inode, one name below the directory
 abbrev pub room_tests : Nodes → ℕ → List Test
 room_tests tree dir =
-    refused_if (nat_le MAX_NAMES (depth tree.nodes dir)) refusal.TooDeep
-    ∷ refused_if (nat_le MAX_INODES (map.len tree.nodes) || (tree.last == 18446744073709551615)) refusal.Limit
+    refused_if (nat_le 32 (depth tree.nodes dir)) refusal.TooDeep
+    ∷ refused_if (nat_le 65536 (map.len tree.nodes) || (tree.last == 18446744073709551615)) refusal.Limit
     ∷ []
 
 -- the directory may have a new inode under the name
@@ -94,7 +90,7 @@ new_inode_tests tree dir name = directory_test tree dir ∷ name_tests tree dir 
 abbrev pub move_tests : Nodes → ℕ → ℕ → List Test
 move_tests tree ino dir =
     refused_if (is_within tree.nodes dir ino) refusal.Loop
-    ∷ refused_if (reaches (MAX_NAMES - depth tree.nodes dir) tree.nodes ino) refusal.TooDeep
+    ∷ refused_if (reaches (32 - depth tree.nodes dir) tree.nodes ino) refusal.TooDeep
     ∷ []
 
 -- the inode may stand in the directory, under the name
@@ -109,7 +105,7 @@ new_snapshot_tests tree ino name =
     directory_test tree ino
     ∷ refused_if (is_bad_name name) refusal.NameBad
     ∷ refused_if (test_at (λ n. set.contains n.snapshots name) tree ino) refusal.Exists
-    ∷ refused_if (test_at (λ n. nat_le MAX_SNAPSHOTS (set.len n.snapshots)) tree ino) refusal.Limit
+    ∷ refused_if (test_at (λ n. nat_le 64 (set.len n.snapshots)) tree ino) refusal.Limit
     ∷ []
 
 -- the directory has a snapshot of this name
@@ -128,7 +124,7 @@ setting_tests tree ino (Time time) = []
 abbrev pub new_attribute_tests : Nodes → ℕ → List ℕ → List ℕ → List Test
 new_attribute_tests tree ino name value =
     refused_if (is_bad_attribute name) refusal.NameBad
-    ∷ refused_if (nat_lt MAX_VALUE (length value) || test_at (λ n. not (map.contains_key n.attributes name) && nat_le MAX_ATTRIBUTES (map.len n.attributes)) tree ino) refusal.Limit
+    ∷ refused_if (nat_lt 4096 (length value) || test_at (λ n. not (map.contains_key n.attributes name) && nat_le 64 (map.len n.attributes)) tree ino) refusal.Limit
     ∷ []
 
 -- the inode has the attribute

@@ -7,7 +7,6 @@ use Rattle.std.specs.FinSet as set
 use Rattle.std.specs.FinSet.{FinSet}
 use Rattle.std.specs.Option.{option_map_or}
 use Rattle.std.specs.Ordering.{nat_cmp, eq_by_cmp}
-use Rattle.sessiontab.specs.declared.table.TheConstants.{MAX_SESSIONS, MAX_BLOCKED}
 use Rattle.sessiontab.specs.declared.session.Session.{Session}
 use Rattle.sessiontab.specs.Connected.{SessionMap, change_session}
 use Rattle.sessiontab.specs.Table.{SessionTable, IsSound}
@@ -40,19 +39,19 @@ none_or false o e = e
 -- nobody is connected or blocked
 pub sound-empty : IsSound (record { sessions = map.empty; blocked = set.empty })
 sound-empty = record {
-  sessions = subst (λ n. n ≤ MAX_SESSIONS) (sym (map.len-empty nat_cmp Session)) (omega arith);
-  blocked = subst (λ n. n ≤ MAX_BLOCKED) (sym (set.len-empty nat_cmp)) (omega arith);
+  sessions = subst (λ n. n ≤ 64) (sym (map.len-empty nat_cmp Session)) (omega arith);
+  blocked = subst (λ n. n ≤ 1024) (sym (set.len-empty nat_cmp)) (omega arith);
   apart = λ q _. map.get-empty nat_cmp q;
 }
 
 module _ (m : SessionMap) (b : FinSet nat_cmp) (k : ℕ) (was : IsSound (record { sessions = m; blocked = b })) where
-  len_without : map.len (map.remove m k) ≤ MAX_SESSIONS
-  len_without = subst (λ n. n ≤ MAX_SESSIONS) (sym (map.len-remove nat_cmp_total m k)) (one_less (map.contains_key m k) (map.len m) MAX_SESSIONS was.sessions)
+  len_without : map.len (map.remove m k) ≤ 64
+  len_without = subst (λ n. n ≤ 64) (sym (map.len-remove nat_cmp_total m k)) (one_less (map.contains_key m k) (map.len m) 64 was.sessions)
 
   -- the client that is connected isn't blocked
-  pub sound-insert : (s : Session) → set.contains b k ≡ false → map.len m < MAX_SESSIONS → IsSound (record { sessions = map.insert m k s; blocked = b })
+  pub sound-insert : (s : Session) → set.contains b k ≡ false → map.len m < 64 → IsSound (record { sessions = map.insert m k s; blocked = b })
   sound-insert s out room = record {
-    sessions = subst (λ n. n ≤ MAX_SESSIONS) (sym (map.len-insert nat_cmp_total m k s)) (one_more (map.contains_key m k) (map.len m) MAX_SESSIONS room);
+    sessions = subst (λ n. n ≤ 64) (sym (map.len-insert nat_cmp_total m k s)) (one_more (map.contains_key m k) (map.len m) 64 room);
     blocked = was.blocked;
     apart = λ q blocked. map.get-insert nat_cmp_total m k s q ∙ (elim (eq_by_cmp nat_cmp q k) as (λ e. eq_by_cmp nat_cmp q k ≡ e → cond e (Some s) (map.get m q) ≡ None) [
       | true ↦ λ e. let there : set.contains b k ≡ true = subst (λ x. set.contains b x ≡ true) (same_key q k e) blocked in cc
@@ -74,7 +73,7 @@ module _ (m : SessionMap) (b : FinSet nat_cmp) (k : ℕ) (was : IsSound (record 
       elim (map.get m k) as (λ o. map.get m k ≡ o → IsSound (record { sessions = option_map_or (λ s. map.insert m k (f s)) o m; blocked = b })) [
         | None ↦ λ _. was
         | Some s ↦ λ e. record {
-          sessions = subst (λ n. n ≤ MAX_SESSIONS) (sym (map.len-insert nat_cmp_total m k (f s))) (as_many (map.contains_key m k) (map.len m) MAX_SESSIONS (ap is_some e) was.sessions);
+          sessions = subst (λ n. n ≤ 64) (sym (map.len-insert nat_cmp_total m k (f s))) (as_many (map.contains_key m k) (map.len m) 64 (ap is_some e) was.sessions);
           blocked = was.blocked;
           apart = λ q blocked. map.get-insert nat_cmp_total m k (f s) q ∙ (elim (eq_by_cmp nat_cmp q k) as (λ t. eq_by_cmp nat_cmp q k ≡ t → cond t (Some (f s)) (map.get m q) ≡ None) [
             | true ↦ λ t. let here : map.get m k ≡ None = subst (λ x. map.get m x ≡ None) (same_key q k t) (was.apart q blocked) in cc
@@ -84,10 +83,10 @@ module _ (m : SessionMap) (b : FinSet nat_cmp) (k : ℕ) (was : IsSound (record 
       ] refl
 
   -- a session ends, and its client is blocked
-  pub sound-evict : set.len b < MAX_BLOCKED → IsSound (record { sessions = map.remove m k; blocked = set.insert b k })
+  pub sound-evict : set.len b < 1024 → IsSound (record { sessions = map.remove m k; blocked = set.insert b k })
   sound-evict room = record {
     sessions = len_without;
-    blocked = subst (λ n. n ≤ MAX_BLOCKED) (sym (set.len-insert nat_cmp_total b k)) (one_more (set.contains b k) (set.len b) MAX_BLOCKED room);
+    blocked = subst (λ n. n ≤ 1024) (sym (set.len-insert nat_cmp_total b k)) (one_more (set.contains b k) (set.len b) 1024 room);
     apart = λ q blocked. map.get-remove nat_cmp_total m k q ∙ (elim (eq_by_cmp nat_cmp q k) as (λ e. (e || set.contains b q) ≡ true → cond e None (map.get m q) ≡ None) [
       | true ↦ λ _. refl
       | false ↦ λ there. was.apart q there
@@ -98,7 +97,7 @@ module _ (m : SessionMap) (b : FinSet nat_cmp) (k : ℕ) (was : IsSound (record 
   pub sound-unblock : IsSound (record { sessions = m; blocked = set.remove b k })
   sound-unblock = record {
     sessions = was.sessions;
-    blocked = subst (λ n. n ≤ MAX_BLOCKED) (sym (set.len-remove nat_cmp_total b k)) (one_less (set.contains b k) (set.len b) MAX_BLOCKED was.blocked);
+    blocked = subst (λ n. n ≤ 1024) (sym (set.len-remove nat_cmp_total b k)) (one_less (set.contains b k) (set.len b) 1024 was.blocked);
     apart = λ q blocked. was.apart q (elim (eq_by_cmp nat_cmp q k) as (λ e. (not e && set.contains b q) ≡ true → set.contains b q ≡ true) [
       | true ↦ λ none. cc
       | false ↦ λ there. there
@@ -115,19 +114,19 @@ not_connected table client passed =
     (passed-if (has_session table client) SessionOpen _ blocked.1).0
 
 -- the client is not blocked, and there is room
-pub may_open : (table : SessionTable) (client : ℕ) → first_failing (new_session_tests table client) ≡ None → (set.contains table.blocked client ≡ false) × (map.len table.sessions < MAX_SESSIONS)
+pub may_open : (table : SessionTable) (client : ℕ) → first_failing (new_session_tests table client) ≡ None → (set.contains table.blocked client ≡ false) × (map.len table.sessions < 64)
 may_open table client passed =
     let blocked = passed-if (set.contains table.blocked client) Blocklisted _ passed in
     let connected = passed-if (has_session table client) SessionOpen _ blocked.1 in
-    let full = passed-if (nat_le MAX_SESSIONS (map.len table.sessions)) Limit None connected.1 in
-    (blocked.0, below (map.len table.sessions) MAX_SESSIONS full.0)
+    let full = passed-if (nat_le 64 (map.len table.sessions)) Limit None connected.1 in
+    (blocked.0, below (map.len table.sessions) 64 full.0)
 
 -- where no test of an eviction fails, the blocklist has room
-pub may_evict : (table : SessionTable) (client : ℕ) → first_failing (evict_tests table client) ≡ None → set.len table.blocked < MAX_BLOCKED
+pub may_evict : (table : SessionTable) (client : ℕ) → first_failing (evict_tests table client) ≡ None → set.len table.blocked < 1024
 may_evict table client passed =
     let connected = passed-if (not (has_session table client)) NoSession _ passed in
-    let full = passed-if (nat_le MAX_BLOCKED (set.len table.blocked)) Limit None connected.1 in
-    below (set.len table.blocked) MAX_BLOCKED full.0
+    let full = passed-if (nat_le 1024 (set.len table.blocked)) Limit None connected.1 in
+    below (set.len table.blocked) 1024 full.0
 
 -- from what a call says of its Ok and of its Err
 pub kept_if : {T E P Q R : Type 0} (r : Result T E) → OnOk r P → OnErr r Q → (P → R) → (Q → R) → R

@@ -5,7 +5,6 @@ use Rattle.std.specs.Ordering.{nat_cmp}
 use Rattle.std.specs.FinMap as map
 use Rattle.std.specs.FinSet as set
 use Rattle.std.specs.FinSet.{FinSet}
-use Rattle.sessiontab.specs.declared.table.TheConstants.{MAX_SESSIONS, MAX_BLOCKED}
 use Rattle.sessiontab.specs.Connected.{SessionMap, session_map_code}
 
 -- the session of each client that is connected, and the clients that were thrown out
@@ -20,6 +19,6 @@ table_code =
 
 -- the limits hold, and no client that was thrown out is connected
 pub record IsSound (table : SessionTable) : Type 0 where
-  pub sessions : map.len table.sessions ≤ MAX_SESSIONS
-  pub blocked : set.len table.blocked ≤ MAX_BLOCKED
+  pub sessions : map.len table.sessions ≤ 64
+  pub blocked : set.len table.blocked ≤ 1024
   pub apart : (client : ℕ) → IsTrue (set.contains table.blocked client) → map.get table.sessions client ≡ None

@@ -4,7 +4,6 @@ use Rattle.std.specs.FinMap as map
 use Rattle.std.specs.FinSet as set
 use Rattle.capbits.specs.declared.refusal.Refusal.TheVariants as refusal
 use Rattle.capbits.specs.Refusal.{Test, refused_if}
-use Rattle.sessiontab.specs.declared.table.TheConstants.{MAX_SESSIONS, MAX_BLOCKED}
 use Rattle.sessiontab.specs.declared.session.Status.{Status}
 use Rattle.sessiontab.specs.declared.session.Status.TheVariants.{Open, Stale}
 use Rattle.sessiontab.specs.Table.{SessionTable}
@@ -41,12 +40,12 @@ abbrev pub new_session_tests : SessionTable → ℕ → List Test
 new_session_tests table client =
     refused_if (set.contains table.blocked client) refusal.Blocklisted
     ∷ refused_if (has_session table client) refusal.SessionOpen
-    ∷ refused_if (nat_le MAX_SESSIONS (map.len table.sessions)) refusal.Limit
+    ∷ refused_if (nat_le 64 (map.len table.sessions)) refusal.Limit
     ∷ []
 
 -- the client has a session, and may be thrown out
 abbrev pub evict_tests : SessionTable → ℕ → List Test
-evict_tests table client = connected_test table client ∷ refused_if (nat_le MAX_BLOCKED (set.len table.blocked)) refusal.Limit ∷ []
+evict_tests table client = connected_test table client ∷ refused_if (nat_le 1024 (set.len table.blocked)) refusal.Limit ∷ []
 
 -- the client is on the blocklist
 abbrev pub blocked_test : SessionTable → ℕ → Test
