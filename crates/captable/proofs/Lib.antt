@@ -10,6 +10,7 @@ pub mod Numbers
 pub mod OneByOne
 pub mod Opening
 pub mod Orders
+pub mod Placed
 pub mod Quiet
 pub mod QuietKeys
 pub mod Reading

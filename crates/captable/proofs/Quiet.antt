@@ -22,11 +22,11 @@ use Rattle.captable.proofs.QuietKeys.{quiet-next, quiet-fewer, quiet-lowered, qu
 abbrev due_of : Option (Node Slot) → Bool
 due_of o = option_map_or (λ (node : Node Slot). is_due_entry node.value.entry) o false
 
-clients-same : (a b : ClientId) → same_client a b ≡ true → a ≡ b
+pub clients-same : (a b : ClientId) → same_client a b ≡ true → a ≡ b
 clients-same a b e = λ i. record { 0 = eqb-true a.0 b.0 e i }
 
 -- a node of one client is in the list of no other
-elsewhere : (t : Lists Slot) → IsLists t → (key : ℕ) (n : Node Slot) → node_at t key ≡ Some n → (client q : ClientId) → n.client ≡ client → same_client client q ≡ false → is_among (keys t (OfClient q)) key ≡ true → ⊥
+pub elsewhere : (t : Lists Slot) → IsLists t → (key : ℕ) (n : Node Slot) → node_at t key ≡ Some n → (client q : ClientId) → n.client ≡ client → same_client client q ≡ false → is_among (keys t (OfClient q)) key ≡ true → ⊥
 elsewhere t sound key n there client q of other listed =
     let own : same_client n.client q ≡ true = of-list t sound (OfClient q) key n there listed in
     let same : same_client client q ≡ true = ap (λ c. same_client c q) (sym of) ∙ own in
@@ -37,25 +37,18 @@ changed-place : (f : Option ℕ → Option ℕ) (o : Option (Option ℕ)) (place
 changed-place f None place e = absurd (cc)
 changed-place f (Some was) place e = (was, refl, let is : f was ≡ place = cc in is)
 
-module _ {S : Type 0} (places places' : HashMap ClientId (Option ℕ) S) where
-  -- ---- other places
+-- ---- another place
 
-  pub quiet-forgotten : (t : Lists Slot) (client : ClientId) → ((q : ClientId) → get same_client places' q ≡ cond (same_client client q) None (get same_client places q)) → AreQuiet t places → AreQuiet t places'
-  quiet-forgotten t client updates all q place e = by_test (same_client client q) (sym (updates q) ∙ e)
-    where
-      by_test : (b : Bool) → cond b None (get same_client places q) ≡ Some place → IsQuiet t q place
-      by_test true e = absurd (cc)
-      by_test false e = all q place e
-
-  pub quiet-put : (t : Lists Slot) (client : ClientId) (at : Option ℕ) → ((q : ClientId) → get same_client places' q ≡ cond (same_client client q) (Some at) (get same_client places q)) → IsQuiet t client at → AreQuiet t places → AreQuiet t places'
-  quiet-put t client at updates own all q place e = by_test (same_client client q) refl (sym (updates q) ∙ e)
-    where
-      by_test : (b : Bool) → same_client client q ≡ b → cond b (Some at) (get same_client places q) ≡ Some place → IsQuiet t q place
-      by_test true same e = let is : at ≡ place = cc in subst (IsQuiet t q) is (subst (λ c. IsQuiet t c at) (clients-same client q same) own)
-      by_test false other e = all q place e
-
-  pub quiet-alike : (t : Lists Slot) → ((q : ClientId) → get same_client places' q ≡ get same_client places q) → AreQuiet t places → AreQuiet t places'
-  quiet-alike t alike all q place e = all q place (sym (alike q) ∙ e)
+-- one client has another place, which is quiet
+pub quiet-put : {S : Type 0} (places places' : HashMap ClientId (Option ℕ) S) (t : Lists Slot) (client : ClientId) (at : Option ℕ)
+    → ((q : ClientId) → get same_client places' q ≡ cond (same_client client q) (option_map (λ _. at) (get same_client places q)) (get same_client places q)) → IsQuiet t client at → AreQuiet t places → AreQuiet t places'
+quiet-put places places' t client at updates own all q place e = by_test (same_client client q) refl (sym (updates q) ∙ e)
+  where
+    by_test : (b : Bool) → same_client client q ≡ b → cond b (option_map (λ _. at) (get same_client places q)) (get same_client places q) ≡ Some place → IsQuiet t q place
+    by_test true same e =
+        let is : at ≡ place = (changed-place (λ _. at) (get same_client places q) place e).2 in
+        subst (IsQuiet t q) is (subst (λ c. IsQuiet t c at) (clients-same client q same) own)
+    by_test false other e = all q place e
 
 -- ---- another entry
 

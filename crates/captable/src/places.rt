@@ -1,9 +1,10 @@
-//! Places in the lists of clients, before which no entry is due. Of a client without one nothing is known.
-ghost use Rattle.std.specs.Prelude.{◌≡◌, true, IfSome, if◌then◌else◌};
+//! Places in the lists of clients, before which no entry is due. Each client with an entry has one.
+ghost use Rattle.std.specs.Prelude.{◌≡◌, ◌<◌, true, IfSome, is_some, slice_get, if◌then◌else◌};
 ghost use Rattle.std.specs.Option.{option_map};
-ghost use Rattle.std.specs.HashMap.{get};
+ghost use Rattle.std.specs.HashMap.{get, spare};
+ghost use Rattle.cap_arena.specs.Lists.{OfClient, keys};
 ghost use Rattle.captable.specs.Places as words;
-ghost use Rattle.captable.specs.Places.{same_client, AreQuiet, IsQuiet};
+ghost use Rattle.captable.specs.Places.{same_client, AreQuiet, ArePlaced, IsQuiet};
 
 use crate::entry::Slot;
 use cap_arena::TripleLists;
@@ -38,6 +39,21 @@ fn lowered(lists: &TripleLists<Slot>, key: usize, place: Option<usize>) -> Optio
         Some(key)
     } else {
         place
+    }
+}
+
+// A client that makes its first entry, which is not due, gets a place, the end of its list. There has to be room for it.
+pub(crate) fn begin_place(places: &mut HashMap<ClientId, Option<usize>>, client: ClientId)
+    requires { 0 < spare places.old }
+    ensures { (q : ClientId) → get same_client places.new q
+        ≡ (if same_client client q then words.begun (get same_client places.old q) else get same_client places.old q) }
+{
+    if places.contains_key(&client) {
+        return;
+    }
+    match places.insert(client, None) {
+        Ok(_none) => {}
+        Err(_) => unreachable!(),
     }
 }
 
@@ -81,18 +97,34 @@ pub(crate) fn move_place(
     }
 }
 
-// The place that is kept of the client, or the first one of its list.
+// A client whose last node went has no place any more.
+pub(crate) fn end_place(
+    places: &mut HashMap<ClientId, Option<usize>>,
+    lists: &TripleLists<Slot>,
+    client: ClientId,
+)
+    ensures { (q : ClientId) → get same_client places.new q
+        ≡ (if same_client client q then words.left (slice_get (keys lists.now (OfClient client)) 0) (get same_client places.old q) else get same_client places.old q) }
+{
+    if lists.first_of_client(client).is_none() {
+        let _place = places.remove(&client);
+    }
+}
+
+// The client's place; the end, where it has no entry.
 pub(crate) fn quiet_place(
     places: &HashMap<ClientId, Option<usize>>,
     lists: &TripleLists<Slot>,
     client: ClientId,
 ) -> Option<usize>
-    requires { AreQuiet lists.now places.now }
-    ensures { IsQuiet lists.now client result }
+    requires quiet { AreQuiet lists.now places.now }
+    requires placed { ArePlaced lists.now places.now }
+    ensures kept { result ≡ words.place_of (get same_client places.now client) }
+    ensures quiet { IsQuiet lists.now client result }
 {
     match places.get(&client) {
         Some(place) => *place,
-        None => lists.first_of_client(client),
+        None => None,
     }
 }
 
@@ -107,11 +139,7 @@ fn is_due_at(lists: &TripleLists<Slot>, key: usize) -> bool
 }
 
 // The first place from this one on whose entry is due; the end, if there is none.
-pub(crate) fn first_due(
-    lists: &TripleLists<Slot>,
-    client: ClientId,
-    from: Option<usize>,
-) -> Option<usize>
+fn first_due(lists: &TripleLists<Slot>, client: ClientId, from: Option<usize>) -> Option<usize>
     requires { IsQuiet lists.now client from }
     ensures quiet { IsQuiet lists.now client result }
     ensures due { IfSome result (λ key. words.is_due_at lists.now key ≡ true) }
@@ -124,4 +152,31 @@ pub(crate) fn first_due(
         place = lists.next_of_client(key);
     }
     place
+}
+
+// The client has this place in place of its own, where it has one.
+fn set_place(places: &mut HashMap<ClientId, Option<usize>>, client: ClientId, place: Option<usize>)
+    ensures { (q : ClientId) → get same_client places.new q
+        ≡ (if same_client client q then option_map (λ _. place) (get same_client places.old q) else get same_client places.old q) }
+{
+    if let Some(old) = places.get_mut(&client) {
+        *old = place;
+    }
+}
+
+// The client's place moves on over entries that are not due, to the first one that is.
+pub(crate) fn skip_place(
+    places: &mut HashMap<ClientId, Option<usize>>,
+    lists: &TripleLists<Slot>,
+    client: ClientId,
+)
+    requires { AreQuiet lists.now places.old }
+    ensures quiet { AreQuiet lists.now places.new }
+    ensures due { IfSome (words.place_of (get same_client places.new client)) (λ key. words.is_due_at lists.now key ≡ true) }
+    ensures others { (q : ClientId) → is_some (get same_client places.new q) ≡ is_some (get same_client places.old q) }
+{
+    if let Some(place) = places.get(&client) {
+        let first = first_due(lists, client, *place);
+        set_place(places, client, first);
+    }
 }

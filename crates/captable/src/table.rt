@@ -4,7 +4,7 @@ ghost use Rattle.std.specs.Prelude.{◌≡◌, ◌<◌, ◌^◌, ◌-◌, [], �
 use crate::entry::{Entry, Holder, Slot};
 use crate::holders::Holders;
 use crate::nodes::{add_node, holder_at, remove_node, set_entry, touch_node};
-use crate::places::{first_due, lower_place, move_place, quiet_place};
+use crate::places::{begin_place, end_place, lower_place, move_place, quiet_place, skip_place};
 use crate::walk::Walk;
 use cap_arena::{MAX_NODES, TripleLists};
 use capbits::{Cap, CapSet, ClientId, Ino, Refusal};
@@ -26,7 +26,7 @@ pub struct CapTable {
     lists: TripleLists<Slot>,
     // The key of each holder's node.
     keys: HashMap<Holder, usize>,
-    // Of some clients, a place in the list of its nodes, before which no entry is due.
+    // Of each client with an entry, a place in the list of its nodes, before which no entry is due.
     quiet: HashMap<ClientId, Option<usize>>,
     // How many entries were made so far.
     made: u64,
@@ -37,7 +37,7 @@ impl Model for CapTable {
     ghost use Rattle.captable.specs.Codes.{table_code};
     ghost use Rattle.captable.specs.Nodes.{table_of};
     ghost use Rattle.captable.specs.Kept.{Kept};
-    ghost use Rattle.captable.specs.Places.{AreQuiet};
+    ghost use Rattle.captable.specs.Places.{AreQuiet, ArePlaced};
 
     ghost Value = { Table };
 
@@ -45,10 +45,10 @@ impl Model for CapTable {
 
     ghost view = { λ t. table_of t.lists t.made };
 
-    ghost invariant = { λ t. Kept t.lists t.keys t.made × AreQuiet t.lists t.quiet };
+    ghost invariant = { λ t. Kept t.lists t.keys t.made × AreQuiet t.lists t.quiet × ArePlaced t.lists t.quiet };
 }
 
-// All but the places: they are no part of what the table keeps, and where memory was wanting there are fewer.
+// All but the places: they are no part of what the table keeps, but for how far polls have come.
 impl fmt::Debug for CapTable {
     fn fmt<W: fmt::Write>(&self, f: &mut fmt::Formatter<W>) -> fmt::Result {
         f.debug_struct("CapTable")
@@ -176,8 +176,9 @@ impl CapTable {
         ensures err { OnErr result (self.new ≡ self.old) }
     {
         let holder = Holder { client, ino };
-        // Room for the key comes first, since a node that was added stays.
+        // Room for the key and for the client's place comes first, since a node that was added stays.
         self.keys.reserve(1)?;
+        self.quiet.reserve(1)?;
         let entry = Entry::new();
         let number = self.made;
         let slot = Slot { entry, number };
@@ -186,6 +187,7 @@ impl CapTable {
             Ok(_none) => {}
             Err(_) => unreachable!(),
         }
+        begin_place(&mut self.quiet, client);
         self.made += 1;
         Ok(())
     }
@@ -312,6 +314,7 @@ impl CapTable {
             let next = self.lists.next_of_client(key);
             remove_node::<Brand>(&mut self.lists, key, Blank::new(1));
             move_place(&mut self.quiet, holder.client, key, next);
+            end_place(&mut self.quiet, &self.lists, holder.client);
         }
     }
 
@@ -324,18 +327,10 @@ impl CapTable {
         holder_at(&self.lists, key)
     }
 
-    // Keeps no place of the client.
-    fn forget(&mut self, client: ClientId)
-        ensures { self.new ≡ self.old }
-    {
-        let _place = self.quiet.remove(&client);
-    }
-
     /// All entries of the client go, from both orders.
     pub fn drop_client(&mut self, client: ClientId)
         ensures { self.new ≡ without_client self.old client }
     {
-        self.forget(client);
         'entries: while let Some(first) = self.first_of(client) {
             self.remove(first);
         }
@@ -360,16 +355,11 @@ impl CapTable {
     }
 
     /// Walks over those of the client's entries that are not due, up to the first that is, so that `due_of` begins there.
-    /// For want of memory it may begin before.
+    /// It takes no memory: the client has its place since it has an entry.
     pub fn skip_quiet(&mut self, client: ClientId)
         ensures { self.new ≡ self.old }
     {
-        let from = quiet_place(&self.quiet, &self.lists, client);
-        let place = first_due(&self.lists, client, from);
-        match self.quiet.insert(client, place) {
-            Ok(_old) => {}
-            Err(_pair) => {}
-        }
+        skip_place(&mut self.quiet, &self.lists, client);
     }
 
     /// The entries on the inode, in the order of making.

@@ -10,6 +10,6 @@ returns-clause-due c =
     let t = c.self.inside.lists in
     let client = c.args.client in
     ap (filter is_due) c.from_place.ensures
-    ∙ rows-due t (keys t (OfClient client)) c.quiet_place-at.result (c.self.invariant.0.sound.lists (OfClient client)).once c.quiet_place-at.ensures
+    ∙ rows-due t (keys t (OfClient client)) c.quiet_place-at.result (c.self.invariant.0.sound.lists (OfClient client)).once c.quiet_place-at.ensures.quiet
     ∙ ap (filter is_due) (c.self.invariant.0.clients client)
     ∙ ap (λ (u : Table). filter is_due (filter (is_of_client client) u.rows)) c.self.view_is

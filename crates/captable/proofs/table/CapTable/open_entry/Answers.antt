@@ -7,7 +7,8 @@ use Rattle.captable.specs.Table.{holder, same, entry_at}
 use Rattle.captable.specs.Calls.{opened, is_due_entry}
 use Rattle.captable.specs.Tests.{open_tests}
 use Rattle.captable.specs.Kept.{Kept}
-use Rattle.captable.specs.Places.{AreQuiet}
+use Rattle.captable.specs.Places.{AreQuiet, ArePlaced}
+use Rattle.captable.proofs.Placed.{quiet-same, placed-same, quiet-begun, placed-begun}
 use Rattle.captable.proofs.Quiet.{quiet-added}
 use Rattle.captable.proofs.Reading.{refused-alike, Kept-keys}
 use Rattle.captable.proofs.Opening.{Kept-more, table-more}
@@ -17,20 +18,43 @@ pub add_node-requires-clause-passed : goal.add_node-requires-clause-passed
 add_node-requires-clause-passed c =
     refused-alike c.self.inside.lists c.self.inside.keys c.self.inside.made c.self.invariant.0 ∙ ap (λ t. first_failing (open_tests t)) c.self.view_is ∙ c.requires.passed
 
+pub invariant_of-self-in_err-reserve-2 : goal.invariant_of-self-in_err-reserve-2
+invariant_of-self-in_err-reserve-2 c =
+    let t = c.self.inside.lists in
+    let same = c.in_err-reserve-2.ensures.entries.2 in (
+      Kept-keys t c.self.inside.keys c.self.inside.made c.self.invariant.0 c.reserve.new.self c.in_ok-reserve.ensures.entries.2,
+      quiet-same t c.self.inside.quiet c.reserve-2.new.self same c.self.invariant.1,
+      placed-same t c.self.inside.quiet c.reserve-2.new.self same c.self.invariant.2,
+    )
+
 pub invariant_of-self-in_err-key : goal.invariant_of-self-in_err-key
 invariant_of-self-in_err-key c =
-    subst (λ t. Kept t c.reserve.new.self c.self.inside.made × AreQuiet t c.self.inside.quiet) (sym c.in_err-key.ensures.err)
-    (Kept-keys c.self.inside.lists c.self.inside.keys c.self.inside.made c.self.invariant.0 c.reserve.new.self c.in_ok-reserve.ensures.entries.2, c.self.invariant.1)
+    let t = c.self.inside.lists in
+    let same = c.in_ok-reserve-2.ensures.entries.2 in
+    subst (λ t. Kept t c.reserve.new.self c.self.inside.made × AreQuiet t c.reserve-2.new.self × ArePlaced t c.reserve-2.new.self) (sym c.in_err-key.ensures.err) (
+      Kept-keys t c.self.inside.keys c.self.inside.made c.self.invariant.0 c.reserve.new.self c.in_ok-reserve.ensures.entries.2,
+      quiet-same t c.self.inside.quiet c.reserve-2.new.self same c.self.invariant.1,
+      placed-same t c.self.inside.quiet c.reserve-2.new.self same c.self.invariant.2,
+    )
 
 pub invariant_of-self-2 : goal.invariant_of-self-2
 invariant_of-self-2 c =
+    let t = c.self.inside.lists in
+    let t' = c.add_node.new.lists in
+    let key = c.in_ok-key.key in
     let h = holder c.args.client c.args.ino in
     let x : Node Slot = record { client = c.args.client; ino = c.args.ino; value = record { entry = c.new-entry.result; number = c.self.inside.made } } in
-    let updates = λ (q : Holder). c.in-Ok.ensures.updates.0 q ∙ ap (λ o. cond (same h q) (Some c.in_ok-key.key) o) (c.in_ok-reserve.ensures.entries.2 q) in (
-      Kept-more c.self.inside.lists c.add_node.new.lists c.self.inside.keys c.insert.new.self c.self.inside.made c.in_ok-key.key x c.self.invariant.0 c.in_ok-key.ensures.ok
+    let updates = λ (q : Holder). c.in-Ok.ensures.updates.0 q ∙ ap (λ o. cond (same h q) (Some key) o) (c.in_ok-reserve.ensures.entries.2 q) in
+    let room = c.reserve-2.new.self in
+    let places = c.begin_place.new.places in
+    let alike = c.in_ok-reserve-2.ensures.entries.2 in
+    let quiet : AreQuiet t room = quiet-same t c.self.inside.quiet room alike c.self.invariant.1 in
+    let placed : ArePlaced t room = placed-same t c.self.inside.quiet room alike c.self.invariant.2 in (
+      Kept-more t t' c.self.inside.keys c.insert.new.self c.self.inside.made key x c.self.invariant.0 c.in_ok-key.ensures.ok
           c.new-entry.ensures refl (ap (λ t. entry_at t h) c.self.view_is ∙ c.requires.new) updates c.add_node.ensures.sound
           (ap (λ t. first_failing (open_tests t)) c.self.view_is ∙ c.requires.passed),
-      quiet-added c.self.inside.lists c.add_node.new.lists c.in_ok-key.key x c.in_ok-key.ensures.ok (ap is_due_entry c.new-entry.ensures) c.self.inside.quiet c.self.invariant.1,
+      quiet-added t t' key x c.in_ok-key.ensures.ok (ap is_due_entry c.new-entry.ensures) places (quiet-begun t c.args.client room places c.begin_place.ensures placed quiet),
+      placed-begun t c.args.client room places c.begin_place.ensures t' key x c.in_ok-key.ensures.ok refl placed,
     )
 
 pub returns-clause-ok : goal.returns-clause-ok

@@ -1,12 +1,15 @@
-use Rattle.std.proofs.Common.{◌≡◌, Some, None, ◌∙◌, sym, ap}
+use Rattle.std.proofs.Common.{◌≡◌, Some, None, ◌∙◌, sym, ap, refl}
 use Rattle.std.specs.HashMap.{get}
+use Rattle.cap_arena.specs.Lists.{OfClient}
 use Rattle.captable.specs.declared.entry.Holder.{Holder}
 use Rattle.captable.specs.Table.{same, entry_at}
 use Rattle.captable.specs.Nodes.{SetsEntry}
 use Rattle.captable.specs.Calls.{changed}
 use Rattle.captable.specs.Kept.{Kept}
+use Rattle.captable.specs.Places.{lowered}
 use Rattle.captable.proofs.Changes.{none_found}
 use Rattle.captable.proofs.Keeping.{held}
+use Rattle.captable.proofs.Placed.{placed-set, placed-alike}
 use Rattle.captable.proofs.Quiet.{quiet-set, quiet-due}
 use Rattle.captable.proofs.Reading.{entry-none, node-there}
 use Rattle.captable.proofs.Setting.{Kept-put, table-put}
@@ -26,6 +29,7 @@ invariant_of-self c =
       kept,
       quiet-due t c.set_entry.new.lists key c.args.entry sets c.self.inside.quiet c.self.invariant.1 c.self.invariant.0.sound kept.ordered
           h.client o.0 o.1.there (ap (λ (q : Holder). q.client) o.2) c.lower_place.new.places c.lower_place.ensures,
+      placed-set t c.set_entry.new.lists key c.args.entry sets h.client (lowered c.set_entry.new.lists key) c.self.inside.quiet c.lower_place.new.places c.lower_place.ensures c.self.invariant.2,
     )
 
 pub invariant_of-self-else-is_due : goal.invariant_of-self-else-is_due
@@ -39,6 +43,7 @@ invariant_of-self-else-is_due c =
     let sets : SetsEntry t c.set_entry.new.lists key c.args.entry = c.set_entry.ensures.there (node-there t hs made c.self.invariant.0 h key found) in (
       Kept-put t c.set_entry.new.lists hs made h key c.args.entry c.self.invariant.0 found sets c.set_entry.ensures.sound,
       quiet-set t c.set_entry.new.lists key c.args.entry sets c.self.inside.quiet c.self.invariant.1 (sym c.is_due.ensures ∙ c.if-is_due.false),
+      placed-alike t c.set_entry.new.lists c.self.inside.quiet c.self.inside.quiet (λ q. sets.lists (OfClient q)) (λ q. refl) c.self.invariant.2,
     )
 
 pub returns-then-is_due : goal.returns-then-is_due

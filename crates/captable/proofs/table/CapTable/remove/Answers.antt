@@ -1,4 +1,4 @@
-use Rattle.std.proofs.Common.{◌≡◌, true, Some, None, ◌∙◌, sym, ap, subst}
+use Rattle.std.proofs.Common.{◌≡◌, true, Some, None, ◌∙◌, sym, ap, subst, refl, slice_get}
 use Rattle.std.specs.HashMap.{get}
 use Rattle.std.proofs.lemmas.Bool.{eq-eqb}
 use Rattle.capbits.specs.declared.ids.ClientId.{ClientId}
@@ -7,9 +7,11 @@ use Rattle.cap_arena.specs.Lists.{OfClient, keys}
 use Rattle.captable.specs.declared.entry.Holder.{Holder}
 use Rattle.captable.specs.Table.{IsTable, same, entry_at}
 use Rattle.captable.specs.Calls.{without}
+use Rattle.captable.specs.Places.{AreQuiet, moved_on}
 use Rattle.captable.proofs.Absent.{without-none}
 use Rattle.captable.proofs.Reading.{entry-none, node-there}
 use Rattle.captable.proofs.Keeping.{held, is_in}
+use Rattle.captable.proofs.Placed.{quiet-ended, placed-removed}
 use Rattle.captable.proofs.Quiet.{quiet-removed}
 use Rattle.captable.proofs.WalkOn.{next-of-client}
 use Rattle.captable.proofs.Removing.{Kept-left, table-left}
@@ -25,12 +27,19 @@ invariant_of-self c =
     let o = held t c.self.inside.keys c.self.invariant.0.keyed c.args.holder c.in-Some.key found in
     let of : o.0.client ≡ c.args.holder.client = ap (λ (h : Holder). h.client) o.2 in
     let listed : is_among (keys t (OfClient c.args.holder.client)) c.in-Some.key ≡ true =
-    is_in t c.self.invariant.0.sound (OfClient c.args.holder.client) c.in-Some.key o.0 o.1.there (eq-eqb o.0.client.0 c.args.holder.client.0 (ap (λ (q : ClientId). q.0) of)) in (
+    is_in t c.self.invariant.0.sound (OfClient c.args.holder.client) c.in-Some.key o.0 o.1.there (eq-eqb o.0.client.0 c.args.holder.client.0 (ap (λ (q : ClientId). q.0) of)) in
+    let client = c.args.holder.client in
+    let left = c.remove_node.new.lists in
+    let moved : AreQuiet left c.move_place.new.places =
+    quiet-removed t left c.in-Some.key c.remove_node.ensures.removed c.self.invariant.0.sound client o.0 o.1.there of
+    c.next_of_client-next.result (c.next_of_client-next.ensures.next ∙ next-of-client t c.self.invariant.0.sound client c.in-Some.key o.0 o.1.there listed)
+    c.self.inside.quiet c.move_place.new.places c.move_place.ensures c.self.invariant.1 in
+    let first = slice_get (keys left (OfClient client)) 0 in (
       Kept-left t c.remove_node.new.lists c.self.inside.keys c.remove.new.self c.self.inside.made c.args.holder c.in-Some.key c.self.invariant.0
           found c.remove_node.ensures.removed c.remove.ensures.updates.0 c.remove_node.ensures.sound,
-      quiet-removed t c.remove_node.new.lists c.in-Some.key c.remove_node.ensures.removed c.self.invariant.0.sound c.args.holder.client o.0 o.1.there of
-          c.next_of_client-next.result (c.next_of_client-next.ensures.next ∙ next-of-client t c.self.invariant.0.sound c.args.holder.client c.in-Some.key o.0 o.1.there listed)
-          c.self.inside.quiet c.move_place.new.places c.move_place.ensures c.self.invariant.1,
+      quiet-ended left client first c.move_place.new.places c.end_place.new.places c.end_place.ensures moved,
+      placed-removed left client first c.move_place.new.places c.end_place.new.places c.end_place.ensures t c.in-Some.key c.remove_node.ensures.removed c.self.invariant.0.sound o.0 o.1.there of refl
+          (moved_on c.in-Some.key c.next_of_client-next.result) c.self.inside.quiet c.move_place.ensures c.self.invariant.2,
     )
 
 pub returns-in-Some : goal.returns-in-Some

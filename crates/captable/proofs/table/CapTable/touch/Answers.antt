@@ -4,6 +4,7 @@ use Rattle.captable.specs.Table.{IsTable, holder, same, entry_at}
 use Rattle.captable.specs.Calls.{touched}
 use Rattle.captable.proofs.Absent.{touched-none}
 use Rattle.captable.proofs.Reading.{entry-none, node-there}
+use Rattle.captable.proofs.Placed.{placed-touched}
 use Rattle.captable.proofs.Quiet.{quiet-touched}
 use Rattle.captable.proofs.Touching.{Kept-touched, table-moved}
 use Rattle.captable.proofs.table.CapTable.touch.Goals as goal
@@ -17,6 +18,7 @@ invariant_of-self c = (
   Kept-touched c.self.inside.lists c.touch_node.new.lists c.self.inside.keys c.self.inside.made (holder c.args.client c.args.ino) c.in-Some.key.now c.self.invariant.0
       (sym c.in-Some.ensures.value) c.touch_node.ensures.touched c.touch_node.ensures.sound,
   quiet-touched c.self.inside.lists c.touch_node.new.lists c.in-Some.key.now c.touch_node.ensures.touched c.self.inside.quiet c.self.invariant.1,
+  placed-touched c.self.inside.lists c.touch_node.new.lists c.in-Some.key.now c.touch_node.ensures.touched c.self.inside.quiet c.self.invariant.2,
 )
 
 pub returns-in-Some : goal.returns-in-Some

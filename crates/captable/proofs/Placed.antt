@@ -1,0 +1,137 @@
+-- Who has a place, after a change of the nodes or of the places.
+use Rattle.std.proofs.Common.{◌≡◌, ℕ, Bool, true, false, not, cond, ◌||◌, Option, Some, None, List, [], ◌∷◌, ◌++◌, refl, sym, ap, subst, ◌∙◌, nat_eq, slice_get, is_some}
+use Rattle.std.specs.Option.{option_map}
+use Rattle.std.specs.HashMap.{HashMap, get}
+use Rattle.std.specs.Map.{lookup}
+use Rattle.capbits.specs.declared.ids.ClientId.{ClientId}
+use Rattle.cap_arena.specs.declared.nodes.Node.{Node}
+use Rattle.cap_arena.specs.Walks.{is_among}
+use Rattle.cap_arena.specs.Calls.{Adds, Removes, Touches, keys_without}
+use Rattle.cap_arena.specs.Lists.{Lists, OfClient, belongs, node_at, keys, empty, IsLists}
+use Rattle.captable.specs.declared.entry.Entry.{Entry}
+use Rattle.captable.specs.declared.entry.Slot.{Slot}
+use Rattle.captable.specs.Nodes.{SetsEntry}
+use Rattle.captable.specs.Places.{same_client, is_due_at, IsQuietIn, IsQuiet, AreQuiet, ArePlaced, begun, left}
+use Rattle.captable.proofs.NodesAt.{rest_in}
+use Rattle.captable.proofs.Keeping.{is_in}
+use Rattle.captable.proofs.Quiet.{clients-same, elsewhere}
+
+-- whether a list has a first key
+abbrev has_first : List ℕ → Bool
+has_first ks = is_some (slice_get ks 0)
+
+-- a place that changed is one still
+pub still : (f : Option ℕ → Option ℕ) (b : Bool) (o : Option (Option ℕ)) → is_some (cond b (option_map f o) o) ≡ is_some o
+still f true None = refl
+still f true (Some place) = refl
+still f false o = refl
+
+has-first : (ks : List ℕ) (key : ℕ) → is_among ks key ≡ true → has_first ks ≡ true
+has-first [] key there = absurd (cc)
+has-first (k ∷ ks) key there = refl
+
+has-more : (ks : List ℕ) (key : ℕ) → has_first (ks ++ key ∷ []) ≡ true
+has-more [] key = refl
+has-more (k ∷ ks) key = refl
+
+-- the end is quiet where there is no key
+pub quiet-end : (ks : List ℕ) (due : ℕ → Bool) → false ≡ has_first ks → IsQuietIn ks due None
+quiet-end [] due first = record { placed = tt; later = λ key there is. there }
+quiet-end (k ∷ ks) due first = absurd (cc)
+
+-- a key that is not among them takes nothing away
+without-other : (ks : List ℕ) (key : ℕ) → (is_among ks key ≡ true → ⊥) → keys_without ks key ≡ ks
+without-other [] key none = refl
+without-other (k ∷ ks) key none = by_test (nat_eq key k) refl (without-other ks key (λ there. none (rest_in k ks key there)))
+  where
+    by_test : (b : Bool) → nat_eq key k ≡ b → keys_without ks key ≡ ks → cond (not b) (k ∷ keys_without ks key) (keys_without ks key) ≡ k ∷ ks
+    by_test true e rest = absurd (none (ap (λ b. b || is_among ks key) e))
+    by_test false e rest = ap (λ js. k ∷ js) rest
+
+-- ---- the same lists
+
+pub placed-alike : {S : Type 0} (t t' : Lists Slot) (places places' : HashMap ClientId (Option ℕ) S) → ((q : ClientId) → keys t' (OfClient q) ≡ keys t (OfClient q))
+    → ((q : ClientId) → is_some (get same_client places' q) ≡ is_some (get same_client places q)) → ArePlaced t places → ArePlaced t' places'
+placed-alike t t' places places' lists alike all q = alike q ∙ all q ∙ ap has_first (sym (lists q))
+
+pub placed-set : {S : Type 0} (t t' : Lists Slot) (key : ℕ) (x : Entry) → SetsEntry t t' key x → (client : ClientId) (f : Option ℕ → Option ℕ) (places places' : HashMap ClientId (Option ℕ) S)
+    → ((q : ClientId) → get same_client places' q ≡ cond (same_client client q) (option_map f (get same_client places q)) (get same_client places q)) → ArePlaced t places → ArePlaced t' places'
+placed-set t t' key x sets client f places places' updates all =
+    placed-alike t t' places places' (λ q. sets.lists (OfClient q)) (λ q. ap is_some (updates q) ∙ still f (same_client client q) (get same_client places q)) all
+
+pub placed-touched : {S : Type 0} (t t' : Lists Slot) (key : ℕ) → Touches t t' key → (places : HashMap ClientId (Option ℕ) S) → ArePlaced t places → ArePlaced t' places
+placed-touched t t' key touches places all = placed-alike t t' places places (λ q. touches.clients q) (λ q. refl) all
+
+pub ArePlaced-empty : {S : Type 0} (t : Lists Slot) (places : HashMap ClientId (Option ℕ) S) → t ≡ empty → places.entries ≡ [] → ArePlaced t places
+ArePlaced-empty t places nodes none client =
+    ap (λ es. is_some (lookup (same_client client) es)) none ∙ ap (λ (t : Lists Slot). has_first (keys t (OfClient client))) (sym nodes)
+
+-- ---- the same places, as behind a reserve
+
+module _ {S : Type 0} (t : Lists Slot) (places places' : HashMap ClientId (Option ℕ) S) (same : (q : ClientId) → get same_client places' q ≡ get same_client places q) where
+  pub quiet-same : AreQuiet t places → AreQuiet t places'
+  quiet-same all q place e = all q place (sym (same q) ∙ e)
+
+  pub placed-same : ArePlaced t places → ArePlaced t places'
+  placed-same all q = ap is_some (same q) ∙ all q
+
+-- ---- one node more
+
+module _ {S : Type 0} (t : Lists Slot) (client : ClientId) (places places' : HashMap ClientId (Option ℕ) S)
+    (updates : (q : ClientId) → get same_client places' q ≡ cond (same_client client q) (begun (get same_client places q)) (get same_client places q)) where
+  -- whose client's place is quiet: it is the one that it had, or the end of an empty list
+  pub quiet-begun : ArePlaced t places → AreQuiet t places → AreQuiet t places'
+  quiet-begun placed all q place e = by_test (same_client client q) (sym (updates q) ∙ e)
+    where
+      own : (o : Option (Option ℕ)) → get same_client places q ≡ o → begun o ≡ Some place → IsQuiet t q place
+      own None was e = let is : None ≡ place = cc in subst (IsQuiet t q) is (quiet-end (keys t (OfClient q)) (is_due_at t) (sym (ap is_some was) ∙ placed q))
+      own (Some p) was e = all q place (was ∙ e)
+
+      by_test : (b : Bool) → cond b (begun (get same_client places q)) (get same_client places q) ≡ Some place → IsQuiet t q place
+      by_test true e = own (get same_client places q) refl e
+      by_test false e = all q place e
+
+  pub placed-begun : (t' : Lists Slot) (key : ℕ) (x : Node Slot) → Adds t t' key x → x.client ≡ client → ArePlaced t places → ArePlaced t' places'
+  placed-begun t' key x adds of all q =
+      ap is_some (updates q) ∙ by_test (same_client client q) ∙ ap has_first (sym (adds.lists (OfClient q) ∙ ap (λ c. cond (same_client c q) (keys t (OfClient q) ++ key ∷ []) (keys t (OfClient q))) of))
+    where
+      one : (o : Option (Option ℕ)) → is_some (begun o) ≡ true
+      one None = refl
+      one (Some p) = refl
+
+      by_test : (b : Bool) → is_some (cond b (begun (get same_client places q)) (get same_client places q)) ≡ has_first (cond b (keys t (OfClient q) ++ key ∷ []) (keys t (OfClient q)))
+      by_test true = one (get same_client places q) ∙ sym (has-more (keys t (OfClient q)) key)
+      by_test false = all q
+
+-- ---- one node less
+
+module _ {S : Type 0} (t : Lists Slot) (client : ClientId) (first : Option ℕ) (moved places' : HashMap ClientId (Option ℕ) S)
+    (ends : (q : ClientId) → get same_client places' q ≡ cond (same_client client q) (left first (get same_client moved q)) (get same_client moved q)) where
+  -- the places that are left are as they were
+  pub quiet-ended : AreQuiet t moved → AreQuiet t places'
+  quiet-ended all q place e = by_test (same_client client q) first (sym (ends q) ∙ e)
+    where
+      by_test : (b : Bool) (o : Option ℕ) → cond b (left o (get same_client moved q)) (get same_client moved q) ≡ Some place → IsQuiet t q place
+      by_test true None e = absurd (cc)
+      by_test true (Some k) e = all q place e
+      by_test false o e = all q place e
+
+  pub placed-removed : (was : Lists Slot) (key : ℕ) → Removes was t key → IsLists was → (n : Node Slot) → node_at was key ≡ Some n → n.client ≡ client → first ≡ slice_get (keys t (OfClient client)) 0
+      → (f : Option ℕ → Option ℕ) (places : HashMap ClientId (Option ℕ) S) → ((q : ClientId) → get same_client moved q ≡ cond (same_client client q) (option_map f (get same_client places q)) (get same_client places q))
+      → ArePlaced was places → ArePlaced t places'
+  placed-removed was key removes sound n there of first_is f places moves all q = ap is_some (ends q) ∙ by_test (same_client client q) refl
+    where
+      had : is_some (get same_client moved q) ≡ has_first (keys was (OfClient q))
+      had = ap is_some (moves q) ∙ still f (same_client client q) (get same_client places q) ∙ all q
+
+      own : (o : Option ℕ) → is_some (get same_client moved q) ≡ true → is_some (left o (get same_client moved q)) ≡ is_some o
+      own None has = refl
+      own (Some k) has = has
+
+      by_test : (b : Bool) → same_client client q ≡ b → is_some (cond b (left first (get same_client moved q)) (get same_client moved q)) ≡ has_first (keys t (OfClient q))
+      by_test true same =
+          let mine : belongs (OfClient q) n ≡ true = ap (λ c. same_client c q) of ∙ same in
+          let has : is_some (get same_client moved q) ≡ true = had ∙ has-first (keys was (OfClient q)) key (is_in was sound (OfClient q) key n there mine) in
+          own first has ∙ ap is_some first_is ∙ ap (λ c. has_first (keys t (OfClient c))) (clients-same client q same)
+      by_test false other =
+          had ∙ ap has_first (sym (removes.lists (OfClient q) ∙ without-other (keys was (OfClient q)) key (λ listed. elsewhere was sound key n there client q of other listed)))
