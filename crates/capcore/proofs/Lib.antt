@@ -61,3 +61,5 @@ pub mod Turned
 pub mod TurnStep
 pub mod Dropped
 pub mod Reaching
+pub mod ShownSteps
+pub mod ShownWords

@@ -25,6 +25,7 @@ mod reply;
 mod serving;
 mod serving_laws;
 mod settle;
+mod shown_laws;
 mod start;
 mod staying;
 mod step;
