@@ -63,3 +63,4 @@ pub mod Dropped
 pub mod Reaching
 pub mod ShownSteps
 pub mod ShownWords
+pub mod HeldOn

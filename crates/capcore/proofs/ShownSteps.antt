@@ -16,10 +16,10 @@ use Rattle.captable.specs.declared.entry.Entry.{Entry}
 use Rattle.captable.specs.declared.entry.EntryRow.{EntryRow}
 use Rattle.captable.specs.declared.entry.Holder.{Holder}
 use Rattle.captable.specs.Table.{Table, IsTable, holder, same, is_row_of, is_among, entry_of, entry_at}
-use Rattle.captable.specs.Calls.{opened, changed, wanting, issued, taken, given_back, released, touched, told, recalled, renumbered, with_asked, without_client, is_of_client}
-use Rattle.captable.specs.Many.{changed_where, remade}
+use Rattle.captable.specs.Calls.{opened, changed, issued, taken, given_back, released, touched, told, recalled, renumbered, with_asked, without_client, is_of_client}
+use Rattle.captable.specs.Many.{remade}
 use Rattle.captable.specs.Shown.{IsShown}
-use Rattle.captable.proofs.ByHolder.{entry_at-changed, entry_at-changed_other, entry_at-opened_other, entry_at-without, entry_at-without_other, entry_at-without_client, entry_at-without_client_other, entry_at-released_pin, entry_at-released, entry_at-released_other, entry_at-recalled, entry_at-recalled_other, row_found}
+use Rattle.captable.proofs.ByHolder.{entry_at-changed, entry_at-changed_other, entry_at-opened_other, entry_at-without_client, entry_at-without_client_other, entry_at-released_pin, entry_at-released, entry_at-released_other, entry_at-recalled, entry_at-recalled_other, row_found}
 use Rattle.captable.proofs.Searches.{find_passes, find-map}
 use Rattle.captable.proofs.Shown.{shown-numbered, shown-less, shown-told}
 use Rattle.captable.proofs.Tables.{same_equiv, same-is}
@@ -39,14 +39,14 @@ use Rattle.capcore.specs.declared.reply.Reply.TheVariants as reply
 use Rattle.capcore.specs.declared.stopped.Stopped.{Stopped}
 use Rattle.capcore.specs.declared.stopped.Stopped.TheVariants.{ByPolicy, ByTest}
 use Rattle.capcore.specs.State.{State}
-use Rattle.capcore.specs.Direct.{Direct, Shows, Gives, direct, effect, effect_unless, with_entry, with_opening, with_wanted, opening_wants, reply_of, shown, found, opened_as}
-use Rattle.capcore.specs.Finish.{due, issue_row, issue, forget, told_before, number_row, finished}
+use Rattle.capcore.specs.Direct.{Direct, Shows, Gives, direct, effect, effect_unless, with_entry, with_opening, with_wanted, reply_of, shown, found, opened_as}
+use Rattle.capcore.specs.Finish.{due, issue_row, issue, forget, told_before, number_row}
 use Rattle.capcore.specs.Judge.{judged, stop_reply, revoked_of}
-use Rattle.capcore.specs.Messages.{first_messages, messages_to, with_given, after_messages, caps_messages, recall_messages, end_message, end_messages, is_caps_of, is_recall_of, is_to, told_if, unasked_if}
+use Rattle.capcore.specs.Messages.{first_messages, messages_to, after_messages, caps_messages, recall_messages, end_message, end_messages, is_caps_of, is_recall_of, is_to, told_if, unasked_if}
 use Rattle.capcore.specs.Settle.{Made, Settles, ended_in}
 use Rattle.capcore.specs.Shown.{AreShown, shown_by, shown_of, shown_opened, shown_less, shown_given, shown_in}
 use Rattle.capcore.specs.Sound.{IsSound, IsSoundEntry}
-use Rattle.capcore.specs.Step.{Step, StepBy, state_after}
+use Rattle.capcore.specs.Step.{Step, state_after}
 use Rattle.capcore.proofs.Finishing.{sound-finished}
 use Rattle.capcore.proofs.Leaving.{found-contains}
 use Rattle.capcore.proofs.Moved.{moved-all}
@@ -122,10 +122,10 @@ entry_found t k e is = by_row (find (is_row_of k) t.rows) refl is
         let has_it : row.entry ≡ e = cc in
         λ i. Some (record { holder = sym of i; entry = has_it i })
 
-apart-of : (k j : Holder) → same k j ≡ false → k ≢ j
+pub apart-of : (k j : Holder) → same k j ≡ false → k ≢ j
 apart-of k j off is = true≢false (sym (same_equiv.refl k) ∙ ap (same k) is ∙ off)
 
-apart_client : (a b : ClientId) → (a.0 == b.0) ≡ false → a ≢ b
+pub apart_client : (a b : ClientId) → (a.0 == b.0) ≡ false → a ≢ b
 apart_client a b off is = true≢false (sym (eq-eqb a.0 b.0 (ap (λ (c : ClientId). c.0) is)) ∙ off)
 
 held-renumbered : (before after : Caps) (e : Entry) → (renumbered before after e).held ≡ e.held
@@ -134,6 +134,11 @@ held-renumbered before after e =
       | true ↦ refl
       | false ↦ elim (not (is_empty (minus after before))) as (λ more. (cond more (record e { seq = e.seq + 1 }) e).held ≡ e.held) [ true ↦ refl | false ↦ refl ]
     ]
+
+-- what an opening leaves of all others
+pub entry_at-entry_other : (t : Table) (j k : Holder) → k ≢ j → entry_at (with_entry t j) k ≡ entry_at t k
+entry_at-entry_other t j k apart =
+    elim (is_some (entry_at t j)) as (λ b. entry_at (cond b t (opened t j)) k ≡ entry_at t k) [ true ↦ refl | false ↦ entry_at-opened_other t j k apart ]
 
 -- ---- messages that show an inode
 
@@ -223,17 +228,13 @@ module _ (old : State) (sound : IsSound old) (table : IsTable old.scene.table) (
           absurd (cc)
 
   -- what an opening or a want leaves of all others
-  entry_at-entry_other : (j k : Holder) → k ≢ j → entry_at (with_entry t j) k ≡ entry_at t k
-  entry_at-entry_other j k apart =
-      elim (is_some (entry_at t j)) as (λ b. entry_at (cond b t (opened t j)) k ≡ entry_at t k) [ true ↦ refl | false ↦ entry_at-opened_other t j k apart ]
-
   abbrev LeftBut : Table → Holder → Type 0
   LeftBut first j = (k : Holder) (f : Entry) → same k j ≡ false → entry_at first k ≡ Some f → IsKnown old.scene k (before k) f
 
   left-opened : (j : Holder) (mode : OpenMode) → LeftBut (with_opening t j mode) j
   left-opened j mode k f off there =
       let apart = apart-of k j off in
-      known-old k f (sym (entry_at-changed_other (with_entry t j) j k _ apart ∙ entry_at-entry_other j k apart) ∙ there)
+      known-old k f (sym (entry_at-changed_other (with_entry t j) j k _ apart ∙ entry_at-entry_other t j k apart) ∙ there)
 
   left-wanted : (j : Holder) (caps : Caps) → LeftBut (with_wanted t j caps) j
   left-wanted j caps k f off there = known-old k f (sym (entry_at-changed_other t j k _ (apart-of k j off)) ∙ there)

@@ -1,31 +1,28 @@
 -- What numbers say of what was shown, in the words of users.
-use Rattle.std.proofs.Common.{◌≡◌, ◌≤◌, ℕ, nat_lt, Bool, true, false, cond, not, ◌&&◌, Contains, List, [], ◌∷◌, Option, Some, None, refl, sym, ap, subst, ◌∙◌, true≢false, arith}
+use Rattle.std.proofs.Common.{◌≡◌, ◌≤◌, ℕ, nat_lt, Bool, true, false, not, ◌&&◌, Contains, List, Option, Some, None, refl, sym, ap, subst, ◌∙◌, true≢false, arith}
 use Rattle.std.proofs.lemmas.Bool.{ltb-false}
 use Rattle.std.proofs.lemmas.List.Elements.{All-contains}
 use Rattle.std.specs.List.{find}
 use Rattle.std.specs.Option.{option_map, option_map_or}
 use Rattle.capbits.specs.declared.cap.Cap.{Cap}
-use Rattle.capbits.specs.declared.cap.Cap.TheVariants.{P}
 use Rattle.capbits.specs.declared.ids.ClientId.{ClientId}
 use Rattle.capbits.specs.declared.ids.Ino.{Ino}
 use Rattle.capbits.specs.declared.refusal.Refusal.TheVariants as refusal
 use Rattle.capbits.specs.Caps.{Caps, has}
-use Rattle.capbits.specs.Sets.{minus, has-minus, and_parts}
-use Rattle.capbits.specs.Refusal.{first_failing}
+use Rattle.capbits.specs.Sets.{has-minus}
 use Rattle.capbits.proofs.Tests.{passed-if}
 use Rattle.captable.specs.declared.entry.Entry.{Entry}
 use Rattle.captable.specs.declared.entry.EntryRow.{EntryRow}
 use Rattle.captable.specs.declared.entry.Holder.{Holder}
 use Rattle.captable.specs.Table.{Table, holder, is_row_of, entry_of, entry_at}
 use Rattle.captable.specs.Calls.{taken, changed}
-use Rattle.captable.specs.Tests.{ack_tests, last_revocation}
+use Rattle.captable.specs.Tests.{last_revocation}
 use Rattle.captable.proofs.ByHolder.{entry_at-changed}
-use Rattle.lockmachine.specs.Scene.{Scene, against, told_set}
+use Rattle.lockmachine.specs.Scene.{Scene, against}
 use Rattle.lockmachine.specs.Told.{is_taken}
 use Rattle.lockmachine.proofs.Told.{has-against, has-told}
 use Rattle.capcore.specs.declared.event.Event.{Event}
 use Rattle.capcore.specs.declared.event.Event.TheVariants as event
-use Rattle.capcore.specs.declared.reply.Reply.{Reply}
 use Rattle.capcore.specs.declared.stopped.Stopped.{Stopped}
 use Rattle.capcore.specs.declared.touch.Touch.TheVariants.{Ack}
 use Rattle.capcore.specs.Direct.{Direct, direct, effect_unless}
@@ -52,14 +49,14 @@ shows-told rows s sound was k e there none_due =
 
 -- ---- an acknowledgement
 
-holds-entry : (s : Scene) (k : Holder) (cap : Cap) → holds s k cap ≡ true → (e : Entry) × (entry_at s.table k ≡ Some e) × (has e.held cap ≡ true)
+pub holds-entry : (s : Scene) (k : Holder) (cap : Cap) → holds s k cap ≡ true → (e : Entry) × (entry_at s.table k ≡ Some e) × (has e.held cap ≡ true)
 holds-entry s k cap held = by_row (find (is_row_of k) s.table.rows) refl held
   where
     by_row : (o : Option EntryRow) → find (is_row_of k) s.table.rows ≡ o → option_map_or (λ row. has row.entry.held cap) o false ≡ true → (e : Entry) × (entry_at s.table k ≡ Some e) × (has e.held cap ≡ true)
     by_row None found none = absurd (true≢false (sym none))
     by_row (Some row) found it = (row.entry, ap entry_of found, it)
 
-holds-found : (s : Scene) (k : Holder) (cap : Cap) (e : Entry) → entry_at s.table k ≡ Some e → holds s k cap ≡ has e.held cap
+pub holds-found : (s : Scene) (k : Holder) (cap : Cap) (e : Entry) → entry_at s.table k ≡ Some e → holds s k cap ≡ has e.held cap
 holds-found s k cap e there = ap (λ o. option_map_or (λ (row : EntryRow). has row.entry.held cap) o false) (entry_found s.table k e there)
 
 not_shown : (s h t : Bool) → (s ≡ true → (h && not t) ≡ true) → (h && t) ≡ true → s ≡ false
@@ -71,7 +68,7 @@ not_shown true h t inside taken = absurd (apart h t (inside refl) taken)
     apart true false a b = true≢false (sym b)
     apart false t a b = true≢false (sym a)
 
-gone_is : (h g : Bool) → h ≡ true → (h && not g) ≡ false → g ≡ true
+pub gone_is : (h g : Bool) → h ≡ true → (h && not g) ≡ false → g ≡ true
 gone_is true true held out = refl
 gone_is true false held out = sym out
 gone_is false g held out = absurd (true≢false (sym held))
@@ -131,27 +128,27 @@ module _ (rows : List Row) (old : State) (sound : IsSound old) (was : AreShown r
           absurd (true≢false (sym held ∙ sym same ∙ gone))
       by_judged None free = let found = holds-entry old.scene k cap held in taken_unshown found.0 found.1 free cap found.2 gone
 
-pub all-takes_unshown : (rows : List Row) (old : State) (e : Event) (answer : Reply) → IsSound old → AreShown rows old.scene → TakesUnshown rows old.scene e (direct old e).state.scene answer
-all-takes_unshown rows old (event.Ack client ino seq) answer sound was = λ done cap held gone. takes-unshown rows old sound was client ino seq cap held gone
-all-takes_unshown rows old (event.Session client caller grants) answer sound was = tt
-all-takes_unshown rows old (event.CloseSession client) answer sound was = tt
-all-takes_unshown rows old (event.Stale client) answer sound was = tt
-all-takes_unshown rows old (event.Renew client) answer sound was = tt
-all-takes_unshown rows old (event.Evict client) answer sound was = tt
-all-takes_unshown rows old (event.Unblock client) answer sound was = tt
-all-takes_unshown rows old (event.Recall count) answer sound was = tt
-all-takes_unshown rows old (event.Lookup client dir name) answer sound was = tt
-all-takes_unshown rows old (event.Create client dir name mode) answer sound was = tt
-all-takes_unshown rows old (event.Mkdir client dir name mode) answer sound was = tt
-all-takes_unshown rows old (event.MakeSnapshot client ino name) answer sound was = tt
-all-takes_unshown rows old (event.RemoveSnapshot client ino name) answer sound was = tt
-all-takes_unshown rows old (event.Open client ino mode) answer sound was = tt
-all-takes_unshown rows old (event.Want client ino caps) answer sound was = tt
-all-takes_unshown rows old (event.Release client ino caps) answer sound was = tt
-all-takes_unshown rows old (event.Get client ino part) answer sound was = tt
-all-takes_unshown rows old (event.Alter client ino change) answer sound was = tt
-all-takes_unshown rows old (event.Unlink client ino) answer sound was = tt
-all-takes_unshown rows old (event.Rmdir client ino) answer sound was = tt
-all-takes_unshown rows old (event.Rename client ino dir name) answer sound was = tt
-all-takes_unshown rows old (event.Flush client ino change) answer sound was = tt
-all-takes_unshown rows old (event.Poll client max) answer sound was = tt
+pub all-takes_unshown : (rows : List Row) (old : State) (e : Event) → IsSound old → AreShown rows old.scene → TakesUnshown rows old.scene e (direct old e).state.scene
+all-takes_unshown rows old (event.Ack client ino seq) sound was = λ cap held gone. takes-unshown rows old sound was client ino seq cap held gone
+all-takes_unshown rows old (event.Session client caller grants) sound was = tt
+all-takes_unshown rows old (event.CloseSession client) sound was = tt
+all-takes_unshown rows old (event.Stale client) sound was = tt
+all-takes_unshown rows old (event.Renew client) sound was = tt
+all-takes_unshown rows old (event.Evict client) sound was = tt
+all-takes_unshown rows old (event.Unblock client) sound was = tt
+all-takes_unshown rows old (event.Recall count) sound was = tt
+all-takes_unshown rows old (event.Lookup client dir name) sound was = tt
+all-takes_unshown rows old (event.Create client dir name mode) sound was = tt
+all-takes_unshown rows old (event.Mkdir client dir name mode) sound was = tt
+all-takes_unshown rows old (event.MakeSnapshot client ino name) sound was = tt
+all-takes_unshown rows old (event.RemoveSnapshot client ino name) sound was = tt
+all-takes_unshown rows old (event.Open client ino mode) sound was = tt
+all-takes_unshown rows old (event.Want client ino caps) sound was = tt
+all-takes_unshown rows old (event.Release client ino caps) sound was = tt
+all-takes_unshown rows old (event.Get client ino part) sound was = tt
+all-takes_unshown rows old (event.Alter client ino change) sound was = tt
+all-takes_unshown rows old (event.Unlink client ino) sound was = tt
+all-takes_unshown rows old (event.Rmdir client ino) sound was = tt
+all-takes_unshown rows old (event.Rename client ino dir name) sound was = tt
+all-takes_unshown rows old (event.Flush client ino change) sound was = tt
+all-takes_unshown rows old (event.Poll client max) sound was = tt
