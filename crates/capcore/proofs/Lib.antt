@@ -62,3 +62,6 @@ pub mod Turned
 pub mod TurnStep
 pub mod Dropped
 pub mod Reaching
+pub mod ShownSteps
+pub mod ShownWords
+pub mod HeldOn

@@ -23,3 +23,4 @@ pub mod Answered
 pub mod Serves
 pub mod Sweep
 pub mod SameEvents
+pub mod Shown

@@ -24,6 +24,7 @@ mod reply;
 mod serving;
 mod serving_laws;
 mod settle;
+mod shown_laws;
 mod start;
 mod step;
 mod stopped;

@@ -18,6 +18,7 @@ pub mod Recalling
 pub mod Removing
 pub mod Searches
 pub mod Setting
+pub mod Shown
 pub mod Tables
 pub mod Touching
 pub mod WalkOn

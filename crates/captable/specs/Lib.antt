@@ -5,5 +5,6 @@ pub mod Kept
 pub mod Many
 pub mod Nodes
 pub mod Places
+pub mod Shown
 pub mod Tests
 pub mod Walks

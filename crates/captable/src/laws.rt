@@ -1,18 +1,21 @@
 //! Laws of the table: what each change of it leaves, holder by holder and inode by inode. No program needs to call them.
 
-ghost use Rattle.std.specs.Prelude.{◌≡◌, ◌≢◌, ℕ, true, List, Some, None, IsTrue, IsFalse, Contains, map, take, filter, not};
+ghost use Rattle.std.specs.Prelude.{◌≡◌, ◌≢◌, ◌≤◌, ℕ, true, List, Some, None, IsTrue, IsFalse, Contains, map, take, filter, not};
 ghost use Rattle.std.specs.List.{find, fold, IsDistinct};
 ghost use Rattle.std.specs.Option.{option_map};
 ghost use Rattle.capbits.specs.declared.cap.Cap.TheVariants.{P};
 ghost use Rattle.capbits.specs.declared.ids.ClientId.{ClientId};
 ghost use Rattle.capbits.specs.declared.ids.Ino.{Ino};
 ghost use Rattle.capbits.specs.Caps.{Caps, has};
+ghost use Rattle.capbits.specs.Sets.{minus};
 ghost use Rattle.capbits.specs.Refusal.{first_failing};
 ghost use Rattle.captable.specs.declared.entry.Holder.{Holder};
 ghost use Rattle.captable.specs.declared.entry.Entry.{Entry};
 ghost use Rattle.captable.specs.declared.entry.EntryRow.{EntryRow};
 ghost use Rattle.captable.specs.Table.{Table, IsTable, same, is_row_of, entry_at, is_among, holders_of_rows};
 ghost use Rattle.captable.specs.Calls.{new_entry, opened, changed, given_back, with_asked, released, without, without_client, touched, asked_row, recalled, is_of_client, is_of_inode, entries_on};
+ghost use Rattle.captable.specs.Calls.{told, renumbered};
+ghost use Rattle.captable.specs.Shown.{IsShown};
 ghost use Rattle.captable.specs.Tests.{open_tests};
 ghost use Rattle.captable.specs.Many.{changed_by, changed_where, remade};
 
@@ -107,4 +110,14 @@ pub fn a_table_stays_a_table()
     ensures touched { (t : Table) (k : Holder) → IsTable t → IsTable (touched t k) }
     ensures recalled { (t : Table) (n : ℕ) → IsTable t → IsTable (recalled t n) }
     ensures released { (t : Table) (k : Holder) (caps : Caps) → IsTable t → IsTable (released t k caps) }
+{}
+
+/// Where a client was shown what an entry's numbers say, it was so after a step that made of what it is to know another set, by
+/// the number that the entry has then; after a release, by what was left of both; and once it was told.
+pub fn numbers_say_what_was_shown()
+    ensures numbered { (shown before after : Caps) (e : Entry) → e.told_seq ≤ e.seq → IsShown shown before e
+        → IsShown shown after (renumbered before after e) }
+    ensures less { (shown told caps : Caps) (e f : Entry) → f.seq ≡ e.seq → f.revoke_seq ≡ e.revoke_seq
+        → f.told_seq ≡ e.told_seq → IsShown shown told e → IsShown (minus shown caps) (minus told caps) f }
+    ensures told { (now : Caps) (e : Entry) → IsShown now now (told e) }
 {}

@@ -17,4 +17,5 @@ pub mod SameAt
 pub mod SameOutside
 pub mod Waiting
 pub mod SameBut
+pub mod Told
 pub mod Turns

@@ -5,6 +5,7 @@ pub mod Codes
 pub mod Policy
 pub mod Wants
 pub mod Scene
+pub mod Told
 pub mod Moves
 pub mod Runs
 pub mod Rows

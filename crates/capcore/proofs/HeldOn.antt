@@ -1,0 +1,182 @@
+-- What was held is held on, but for what the event may take.
+use Rattle.std.proofs.Common.{◌≡◌, ◌≢◌, ℕ, ◌==◌, Bool, true, false, cond, ◌&&◌, ◌||◌, Option, Some, None, is_some, take, refl, sym, ap, subst, ◌∙◌, true≢false}
+use Rattle.std.specs.Option.{option_map}
+use Rattle.capbits.specs.declared.cap.Cap.{Cap}
+use Rattle.capbits.specs.declared.cap.Cap.TheVariants.{P}
+use Rattle.capbits.specs.declared.ids.ClientId.{ClientId}
+use Rattle.capbits.specs.Caps.{Caps, has}
+use Rattle.capbits.specs.Sets.{has-minus}
+use Rattle.inotree.specs.Tree.{child}
+use Rattle.captable.specs.declared.entry.Entry.{Entry}
+use Rattle.captable.specs.declared.entry.Holder.{Holder}
+use Rattle.captable.specs.Table.{Table, holder, same, is_among, entry_at}
+use Rattle.captable.specs.Calls.{opened, changed, taken, given_back, released, recalled, with_asked, without_client}
+use Rattle.captable.proofs.ByHolder.{entry_at-changed, entry_at-changed_other, entry_at-without_client_other, entry_at-released, entry_at-released_other, entry_at-recalled, entry_at-recalled_other}
+use Rattle.captable.proofs.Tables.{same-is}
+use Rattle.lockmachine.specs.Scene.{Scene}
+use Rattle.capcore.specs.declared.event.Event.{Event}
+use Rattle.capcore.specs.declared.event.Event.TheVariants as event
+use Rattle.capcore.specs.declared.event.OpenMode.{OpenMode}
+use Rattle.capcore.specs.declared.stopped.Stopped.{Stopped}
+use Rattle.capcore.specs.State.{State}
+use Rattle.capcore.specs.Direct.{Direct, direct, effect, effect_unless, found, with_entry, with_opening}
+use Rattle.capcore.specs.Headline.{holds, is_due, IssuesExactly}
+use Rattle.capcore.specs.Judge.{judged, revoked_of}
+use Rattle.capcore.specs.Shown.{may_take, TakesOnlySo}
+use Rattle.capcore.proofs.ShownSteps.{apart-of, apart_client, entry_at-entry_other}
+use Rattle.capcore.proofs.ShownWords.{holds-entry, holds-found, gone_is}
+
+-- the holder has an entry that holds as much
+abbrev HoldsOn : Table → Holder → Caps → Type 0
+HoldsOn table k held = (f : Entry) × (entry_at table k ≡ Some f) × (f.held ≡ held)
+
+-- so each entry does
+abbrev KeepsAt : Table → Table → Holder → Type 0
+KeepsAt before after k = (e : Entry) → entry_at before k ≡ Some e → HoldsOn after k e.held
+
+same-keeps : (before after : Table) (k : Holder) → entry_at after k ≡ entry_at before k → KeepsAt before after k
+same-keeps before after k is e there = (e, is ∙ there, refl)
+
+changed-keeps : (t : Table) (j k : Holder) (g : Entry → Entry) → ((e : Entry) → (g e).held ≡ e.held) → KeepsAt t (changed t j g) k
+changed-keeps t j k g held e there = by_same (same k j) refl
+  where
+    by_same : (b : Bool) → same k j ≡ b → HoldsOn (changed t j g) k e.held
+    by_same false off = (e, entry_at-changed_other t j k g (apart-of k j off) ∙ there, refl)
+    by_same true on =
+        let is : k ≡ j = same-is k j on in
+        (g e, ap (entry_at (changed t j g)) is ∙ entry_at-changed t j g ∙ ap (option_map g) (ap (entry_at t) (sym is) ∙ there), held e)
+
+-- an opening makes no other entry than was there
+entry-kept : (t : Table) (j k : Holder) (e : Entry) → entry_at t k ≡ Some e → entry_at (with_entry t j) k ≡ Some e
+entry-kept t j k e there = by_same (same k j) refl
+  where
+    by_same : (b : Bool) → same k j ≡ b → entry_at (with_entry t j) k ≡ Some e
+    by_same false off = entry_at-entry_other t j k (apart-of k j off) ∙ there
+    by_same true on =
+        let is : k ≡ j = same-is k j on in
+        ap (λ (o : Option Entry). entry_at (cond (is_some o) t (opened t j)) k) (ap (entry_at t) (sym is) ∙ there) ∙ there
+
+recalled-keeps : (t : Table) (n : ℕ) (k : Holder) → KeepsAt t (recalled t n) k
+recalled-keeps t n k e there = by_test (is_among (take n t.recall) k) refl
+  where
+    by_test : (b : Bool) → is_among (take n t.recall) k ≡ b → HoldsOn (recalled t n) k e.held
+    by_test false off = (e, entry_at-recalled_other t n k off ∙ there, refl)
+    by_test true on = (with_asked true e, entry_at-recalled t n k on ∙ ap (option_map (with_asked true)) there, refl)
+
+-- ---- by event
+
+module _ (old : State) (k : Holder) (cap : Cap) (held : holds old.scene k cap ≡ true) where
+  abbrev t : Table
+  t = old.scene.table
+
+  -- what went, the event may have taken
+  abbrev Takes : Event → Scene → Type 0
+  Takes e first = holds first k cap ≡ false → may_take e k cap ≡ true
+
+  -- what an entry holds on, did not go
+  no_loss : (first : Scene) → KeepsAt t first.table k → holds first k cap ≡ false → ⊥
+  no_loss first keeps gone =
+      let found_it = holds-entry old.scene k cap held in
+      let left = keeps found_it.0 found_it.1 in
+      true≢false (sym found_it.2 ∙ ap (λ (caps : Caps). has caps cap) (sym left.2) ∙ sym (holds-found first k cap left.0 left.1) ∙ gone)
+
+  takes-nothing : (e : Event) (first : Scene) → KeepsAt t first.table k → Takes e first
+  takes-nothing e first keeps gone = absurd (no_loss first keeps gone)
+
+  client-gone : (client : ClientId) (first : Scene) → first.table ≡ without_client t client → holds first k cap ≡ false → (k.client.0 == client.0) ≡ true
+  client-gone client first left gone = by_test (k.client.0 == client.0) refl
+    where
+      by_test : (b : Bool) → (k.client.0 == client.0) ≡ b → (k.client.0 == client.0) ≡ true
+      by_test true on = on
+      by_test false off =
+          absurd (no_loss first (same-keeps t first.table k (ap (λ (u : Table). entry_at u k) left ∙ entry_at-without_client_other t client k (apart_client k.client client off))) gone)
+
+  opened-keeps : (j : Holder) (mode : OpenMode) → KeepsAt t (with_opening t j mode) k
+  opened-keeps j mode e there = changed-keeps (with_entry t j) j k _ (λ f. refl) e (entry-kept t j k e there)
+
+  acked-own : (j : Holder) (first : Scene) → first.table ≡ changed t j (taken (revoked_of old.scene j)) → holds first k cap ≡ false → same k j ≡ true
+  acked-own j first left gone = by_same (same k j) refl
+    where
+      by_same : (b : Bool) → same k j ≡ b → same k j ≡ true
+      by_same true on = on
+      by_same false off =
+          absurd (no_loss first (same-keeps t first.table k (ap (λ (u : Table). entry_at u k) left ∙ entry_at-changed_other t j k (taken (revoked_of old.scene j)) (apart-of k j off))) gone)
+
+  -- with the pin all that was held was given back
+  given-own : (j : Holder) (caps : Caps) (first : Scene) → first.table ≡ released t j caps → k ≡ j → holds first k cap ≡ false → (has caps P || has caps cap) ≡ true
+  given-own j caps first left is gone = by_pin (has caps P) refl
+    where
+      by_pin : (b : Bool) → has caps P ≡ b → (b || has caps cap) ≡ true
+      by_pin true pin = refl
+      by_pin false no_pin =
+          let found_it = holds-entry old.scene k cap held in
+          let e : Entry = found_it.0 in
+          let now : entry_at first.table k ≡ Some (given_back caps e) =
+          ap (λ (u : Table). entry_at u k) left ∙ ap (entry_at (released t j caps)) is ∙ entry_at-released t j caps no_pin ∙ ap (option_map (given_back caps)) (ap (entry_at t) (sym is) ∙ found_it.1) in
+          gone_is (has e.held cap) (has caps cap) found_it.2 (sym (holds-found first k cap (given_back caps e) now ∙ has-minus e.held caps cap) ∙ gone)
+
+  released-own : (j : Holder) (caps : Caps) (first : Scene) → first.table ≡ released t j caps → holds first k cap ≡ false → (same k j && (has caps P || has caps cap)) ≡ true
+  released-own j caps first left gone = by_same (same k j) refl
+    where
+      by_same : (b : Bool) → same k j ≡ b → (b && (has caps P || has caps cap)) ≡ true
+      by_same true on = given-own j caps first left (same-is k j on) gone
+      by_same false off = absurd (no_loss first (same-keeps t first.table k (ap (λ (u : Table). entry_at u k) left ∙ entry_at-released_other t j k caps (apart-of k j off))) gone)
+
+  abbrev same_table : (first : Scene) → entry_at first.table k ≡ entry_at t k → KeepsAt t first.table k
+  same_table first is = same-keeps t first.table k is
+
+  looked_up : (e : Event) (o : Option ℕ) → Takes e (found old o).state.scene
+  looked_up e None = takes-nothing e old.scene (same_table old.scene refl)
+  looked_up e (Some ino) = takes-nothing e old.scene (same_table old.scene refl)
+
+  -- the scene that the event leads to by itself
+  abbrev first_of : Event → Scene
+  first_of e = (effect old e).state.scene
+
+  abbrev keeps_all : (e : Event) → entry_at (first_of e).table k ≡ entry_at t k → Takes e (first_of e)
+  keeps_all e is = takes-nothing e (first_of e) (same_table (first_of e) is)
+
+  by_event : (e : Event) → Takes e (first_of e)
+  by_event (event.Session client caller grants) = keeps_all (event.Session client caller grants) refl
+  by_event (event.CloseSession client) = client-gone client (first_of (event.CloseSession client)) refl
+  by_event (event.Stale client) = keeps_all (event.Stale client) refl
+  by_event (event.Renew client) = keeps_all (event.Renew client) refl
+  by_event (event.Evict client) = client-gone client (first_of (event.Evict client)) refl
+  by_event (event.Unblock client) = keeps_all (event.Unblock client) refl
+  by_event (event.Recall count) = takes-nothing (event.Recall count) (first_of (event.Recall count)) (recalled-keeps t count k)
+  by_event (event.Lookup client dir name) = looked_up (event.Lookup client dir name) (child old.scene.tree.nodes dir.0 name)
+  by_event (event.Create client dir name mode) = keeps_all (event.Create client dir name mode) refl
+  by_event (event.Mkdir client dir name mode) = keeps_all (event.Mkdir client dir name mode) refl
+  by_event (event.MakeSnapshot client ino name) = keeps_all (event.MakeSnapshot client ino name) refl
+  by_event (event.RemoveSnapshot client ino name) = keeps_all (event.RemoveSnapshot client ino name) refl
+  by_event (event.Open client ino mode) = takes-nothing (event.Open client ino mode) (first_of (event.Open client ino mode)) (opened-keeps (holder client ino) mode)
+  by_event (event.Want client ino caps) =
+      takes-nothing (event.Want client ino caps) (first_of (event.Want client ino caps)) (changed-keeps t (holder client ino) k _ (λ f. refl))
+  by_event (event.Ack client ino seq) = acked-own (holder client ino) (first_of (event.Ack client ino seq)) refl
+  by_event (event.Release client ino caps) = released-own (holder client ino) caps (first_of (event.Release client ino caps)) refl
+  by_event (event.Get client ino part) = keeps_all (event.Get client ino part) refl
+  by_event (event.Alter client ino change) = keeps_all (event.Alter client ino change) refl
+  by_event (event.Unlink client ino) = keeps_all (event.Unlink client ino) refl
+  by_event (event.Rmdir client ino) = keeps_all (event.Rmdir client ino) refl
+  by_event (event.Rename client ino dir name) = keeps_all (event.Rename client ino dir name) refl
+  by_event (event.Flush client ino change) = keeps_all (event.Flush client ino change) refl
+  by_event (event.Poll client max) = keeps_all (event.Poll client max) refl
+
+-- ---- a step
+
+not_either : (a b : Bool) → (a || b) ≡ false → a ≡ false
+not_either false b none = refl
+not_either true b none = none
+
+-- where a step issues exactly what it must, nothing else goes
+pub takes-only_so : (old : State) (e : Event) (new : Scene) → IssuesExactly (direct old e).state.scene new → TakesOnlySo old.scene e new
+takes-only_so old e new issued k cap held gone = by_judged (judged old.scene e) refl
+  where
+    gone_first : holds (direct old e).state.scene k cap ≡ false
+    gone_first = not_either (holds (direct old e).state.scene k cap) (is_due new k cap) (sym (issued k cap) ∙ gone)
+
+    by_judged : (o : Option Stopped) → judged old.scene e ≡ o → may_take e k cap ≡ true
+    by_judged (Some x) is =
+        let same_held : holds (direct old e).state.scene k cap ≡ holds old.scene k cap = ap (λ (d : Direct). holds d.state.scene k cap) (ap (effect_unless old e) is) in
+        absurd (true≢false (sym held ∙ sym same_held ∙ gone_first))
+    by_judged None free = by_event old k cap held e (subst (λ (d : Direct). holds d.state.scene k cap ≡ false) (ap (effect_unless old e) free) gone_first)

@@ -1,0 +1,154 @@
+-- What numbers say of what was shown, in the words of users.
+use Rattle.std.proofs.Common.{◌≡◌, ◌≤◌, ℕ, nat_lt, Bool, true, false, not, ◌&&◌, Contains, List, Option, Some, None, refl, sym, ap, subst, ◌∙◌, true≢false, arith}
+use Rattle.std.proofs.lemmas.Bool.{ltb-false}
+use Rattle.std.proofs.lemmas.List.Elements.{All-contains}
+use Rattle.std.specs.List.{find}
+use Rattle.std.specs.Option.{option_map, option_map_or}
+use Rattle.capbits.specs.declared.cap.Cap.{Cap}
+use Rattle.capbits.specs.declared.ids.ClientId.{ClientId}
+use Rattle.capbits.specs.declared.ids.Ino.{Ino}
+use Rattle.capbits.specs.declared.refusal.Refusal.TheVariants as refusal
+use Rattle.capbits.specs.Caps.{Caps, has}
+use Rattle.capbits.specs.Sets.{has-minus}
+use Rattle.capbits.proofs.Tests.{passed-if}
+use Rattle.captable.specs.declared.entry.Entry.{Entry}
+use Rattle.captable.specs.declared.entry.EntryRow.{EntryRow}
+use Rattle.captable.specs.declared.entry.Holder.{Holder}
+use Rattle.captable.specs.Table.{Table, holder, is_row_of, entry_of, entry_at}
+use Rattle.captable.specs.Calls.{taken, changed}
+use Rattle.captable.specs.Tests.{last_revocation}
+use Rattle.captable.proofs.ByHolder.{entry_at-changed}
+use Rattle.lockmachine.specs.Scene.{Scene, against}
+use Rattle.lockmachine.specs.Told.{is_taken}
+use Rattle.lockmachine.proofs.Told.{has-against, has-told}
+use Rattle.capcore.specs.declared.event.Event.{Event}
+use Rattle.capcore.specs.declared.event.Event.TheVariants as event
+use Rattle.capcore.specs.declared.stopped.Stopped.{Stopped}
+use Rattle.capcore.specs.declared.touch.Touch.TheVariants.{Ack}
+use Rattle.capcore.specs.Direct.{Direct, direct, effect_unless}
+use Rattle.capcore.specs.Headline.{holds}
+use Rattle.capcore.specs.Judge.{judged, revoked_of}
+use Rattle.capcore.specs.declared.history.Row.{Row}
+use Rattle.capcore.specs.State.{State}
+use Rattle.capcore.specs.Shown.{AreShown, ShowsWhatIsTold, TakesUnshown, shown_of}
+use Rattle.capcore.specs.Sound.{IsSound, IsSoundEntry}
+use Rattle.capcore.proofs.Leaving.{found-contains}
+use Rattle.capcore.proofs.Revoking.{revoked-found}
+use Rattle.capcore.proofs.ShownSteps.{at, entry_found}
+use Rattle.capcore.proofs.Touched.{touched-tests}
+
+pub shows-told : (rows : List Row) (s : State) → IsSound s → AreShown rows s.scene → ShowsWhatIsTold rows s.scene
+shows-told rows s sound was k e there none_due =
+    let row : EntryRow = record { holder = k; entry = e } in
+    let inside : Contains s.scene.table.rows row = found-contains (is_row_of k) s.scene.table.rows row (entry_found s.scene.table k e there) in
+    let entry = All-contains (IsSoundEntry s.scene) s.scene.table.rows row sound.entries inside in
+    let below : e.told_seq ≤ e.seq = entry.told in
+    let above : e.seq ≤ e.told_seq = ltb-false e.told_seq e.seq none_due in
+    let is = was k e there in
+    is.current (omega (arith, below, above))
+
+-- ---- an acknowledgement
+
+pub holds-entry : (s : Scene) (k : Holder) (cap : Cap) → holds s k cap ≡ true → (e : Entry) × (entry_at s.table k ≡ Some e) × (has e.held cap ≡ true)
+holds-entry s k cap held = by_row (find (is_row_of k) s.table.rows) refl held
+  where
+    by_row : (o : Option EntryRow) → find (is_row_of k) s.table.rows ≡ o → option_map_or (λ row. has row.entry.held cap) o false ≡ true → (e : Entry) × (entry_at s.table k ≡ Some e) × (has e.held cap ≡ true)
+    by_row None found none = absurd (true≢false (sym none))
+    by_row (Some row) found it = (row.entry, ap entry_of found, it)
+
+pub holds-found : (s : Scene) (k : Holder) (cap : Cap) (e : Entry) → entry_at s.table k ≡ Some e → holds s k cap ≡ has e.held cap
+holds-found s k cap e there = ap (λ o. option_map_or (λ (row : EntryRow). has row.entry.held cap) o false) (entry_found s.table k e there)
+
+not_shown : (s h t : Bool) → (s ≡ true → (h && not t) ≡ true) → (h && t) ≡ true → s ≡ false
+not_shown false h t inside taken = refl
+not_shown true h t inside taken = absurd (apart h t (inside refl) taken)
+  where
+    apart : (h t : Bool) → (h && not t) ≡ true → (h && t) ≡ true → ⊥
+    apart true true a b = true≢false (sym a)
+    apart true false a b = true≢false (sym b)
+    apart false t a b = true≢false (sym a)
+
+pub gone_is : (h g : Bool) → h ≡ true → (h && not g) ≡ false → g ≡ true
+gone_is true true held out = refl
+gone_is true false held out = sym out
+gone_is false g held out = absurd (true≢false (sym held))
+
+module _ (rows : List Row) (old : State) (sound : IsSound old) (was : AreShown rows old.scene) (client : ClientId) (ino : Ino) (seq : ℕ) where
+  abbrev k : Holder
+  k = holder client ino
+
+  abbrev t : Table
+  t = old.scene.table
+
+  abbrev ack : Event
+  ack = event.Ack client ino seq
+
+  module _ (e : Entry) (there : entry_at t k ≡ Some e) (free : judged old.scene ack ≡ None) where
+    all_of : revoked_of old.scene k ≡ against old.scene (at k e)
+    all_of = revoked-found old.scene k e there
+
+    -- the number is that of the last revocation at least, and the client was told of it
+    was_told : e.revoke_seq ≤ e.told_seq
+    was_told =
+        let tests = touched-tests old.scene client ino (Ack seq) free in
+        let one = passed-if _ refusal.NoEntry _ tests in
+        let two = passed-if _ refusal.NothingToAck _ one.1 in
+        let three = passed-if _ refusal.BadSeq _ two.1 in
+        let four = passed-if _ (refusal.OldSeq (last_revocation t k)) _ three.1 in
+        let above : seq ≤ e.told_seq = ltb-false e.told_seq seq (ap (λ (o : Option Entry). option_map_or (λ x. nat_lt x.told_seq seq) o false) (sym there) ∙ three.0) in
+        let below : e.revoke_seq ≤ seq = ltb-false seq e.revoke_seq (ap (λ (o : Option Entry). nat_lt seq (option_map_or (λ x. x.revoke_seq) o 0)) (sym there) ∙ four.0) in
+        omega (arith, above, below)
+
+    -- what is held no more was being revoked
+    revoked_is : (cap : Cap) → has e.held cap ≡ true → holds (direct old ack).state.scene k cap ≡ false → has (against old.scene (at k e)) cap ≡ true
+    revoked_is cap held gone =
+        now (subst (λ (d : Direct). holds d.state.scene k cap ≡ false) (ap (effect_unless old ack) free) gone)
+      where
+        now : holds (record old.scene { table = changed t k (taken (revoked_of old.scene k)) }) k cap ≡ false → has (against old.scene (at k e)) cap ≡ true
+        now out =
+            let there_now : entry_at (changed t k (taken (revoked_of old.scene k))) k ≡ Some (taken (revoked_of old.scene k) e) =
+            entry_at-changed t k (taken (revoked_of old.scene k)) ∙ ap (option_map (taken (revoked_of old.scene k))) there in
+            let less : (has e.held cap && not (has (revoked_of old.scene k) cap)) ≡ false =
+            sym (holds-found (record old.scene { table = changed t k (taken (revoked_of old.scene k)) }) k cap (taken (revoked_of old.scene k) e) there_now ∙ has-minus e.held (revoked_of old.scene k) cap) ∙ out in
+            ap (λ (caps : Caps). has caps cap) (sym all_of) ∙ gone_is (has e.held cap) (has (revoked_of old.scene k) cap) held less
+
+    taken_unshown : (cap : Cap) → has e.held cap ≡ true → holds (direct old ack).state.scene k cap ≡ false → has (shown_of k rows) cap ≡ false
+    taken_unshown cap held gone =
+        let is = was k e there in
+        not_shown (has (shown_of k rows) cap) (has e.held cap) (is_taken old.scene k cap)
+        (λ h. sym (has-told old.scene (at k e) cap) ∙ is.none_lost was_told cap h)
+        (sym (has-against old.scene (at k e) cap) ∙ revoked_is cap held gone)
+
+  takes-unshown : (cap : Cap) → holds old.scene k cap ≡ true → holds (direct old ack).state.scene k cap ≡ false → has (shown_of k rows) cap ≡ false
+  takes-unshown cap held gone = by_judged (judged old.scene ack) refl
+    where
+      by_judged : (o : Option Stopped) → judged old.scene ack ≡ o → has (shown_of k rows) cap ≡ false
+      by_judged (Some x) is =
+          let same : holds (direct old ack).state.scene k cap ≡ holds old.scene k cap = ap (λ (d : Direct). holds d.state.scene k cap) (ap (effect_unless old ack) is) in
+          absurd (true≢false (sym held ∙ sym same ∙ gone))
+      by_judged None free = let found = holds-entry old.scene k cap held in taken_unshown found.0 found.1 free cap found.2 gone
+
+pub all-takes_unshown : (rows : List Row) (old : State) (e : Event) → IsSound old → AreShown rows old.scene → TakesUnshown rows old.scene e (direct old e).state.scene
+all-takes_unshown rows old (event.Ack client ino seq) sound was = λ cap held gone. takes-unshown rows old sound was client ino seq cap held gone
+all-takes_unshown rows old (event.Session client caller grants) sound was = tt
+all-takes_unshown rows old (event.CloseSession client) sound was = tt
+all-takes_unshown rows old (event.Stale client) sound was = tt
+all-takes_unshown rows old (event.Renew client) sound was = tt
+all-takes_unshown rows old (event.Evict client) sound was = tt
+all-takes_unshown rows old (event.Unblock client) sound was = tt
+all-takes_unshown rows old (event.Recall count) sound was = tt
+all-takes_unshown rows old (event.Lookup client dir name) sound was = tt
+all-takes_unshown rows old (event.Create client dir name mode) sound was = tt
+all-takes_unshown rows old (event.Mkdir client dir name mode) sound was = tt
+all-takes_unshown rows old (event.MakeSnapshot client ino name) sound was = tt
+all-takes_unshown rows old (event.RemoveSnapshot client ino name) sound was = tt
+all-takes_unshown rows old (event.Open client ino mode) sound was = tt
+all-takes_unshown rows old (event.Want client ino caps) sound was = tt
+all-takes_unshown rows old (event.Release client ino caps) sound was = tt
+all-takes_unshown rows old (event.Get client ino part) sound was = tt
+all-takes_unshown rows old (event.Alter client ino change) sound was = tt
+all-takes_unshown rows old (event.Unlink client ino) sound was = tt
+all-takes_unshown rows old (event.Rmdir client ino) sound was = tt
+all-takes_unshown rows old (event.Rename client ino dir name) sound was = tt
+all-takes_unshown rows old (event.Flush client ino change) sound was = tt
+all-takes_unshown rows old (event.Poll client max) sound was = tt
