@@ -1,0 +1,25 @@
+//! What a call answers, and where it pauses.
+
+use capcore::Reply;
+use std::sync::Wait;
+
+/// Where a call pauses, behind its event and while it still holds the lock. A test waits here for another thread.
+pub trait Gate: Drop {
+    /// Returns when the call may go on.
+    fn pause<R: Wait>(&self, rt: &R);
+}
+
+/// Returns at once.
+#[derive(Drop)]
+pub struct NoGate;
+
+impl Gate for NoGate {
+    fn pause<R: Wait>(&self, _rt: &R) {}
+}
+
+/// What a call answers.
+#[derive(Drop)]
+pub struct Answer {
+    /// What the core answered to the event.
+    pub reply: Reply,
+}
