@@ -623,8 +623,8 @@ const A_MESSAGE: &[Round] = &[
 ];
 
 const DUE: &[Round] = &[
-    // Nothing is known before the first walk.
-    (ONE_CLIENT, &[DueOf(1, &[(1, 2), (1, 3), (1, 4)])]),
+    // A new entry is not due.
+    (ONE_CLIENT, &[DueOf(1, &[])]),
     (&[SkipQuiet(1)], &[DueOf(1, &[])]),
     (&[Mark(1, 3)], &[DueOf(1, &[(1, 3), (1, 4)])]),
     (&[Mark(1, 4)], &[DueOf(1, &[(1, 3), (1, 4)])]),
@@ -647,7 +647,8 @@ const DUE: &[Round] = &[
         &[Open(1, 2), Open(2, 3), DropClient(2)],
         &[DueOf(1, &[(1, 3), (1, 4), (1, 2)]), DueOf(2, &[])],
     ),
-    (&[DropClient(1), Open(1, 4)], &[DueOf(1, &[(1, 4)])]),
+    (&[DropClient(1), Open(1, 4), Open(1, 2)], &[DueOf(1, &[])]),
+    (&[Mark(1, 2)], &[DueOf(1, &[(1, 2)])]),
 ];
 
 const ALL_ENTRIES: &[Round] = &[

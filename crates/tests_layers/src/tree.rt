@@ -5,7 +5,7 @@ use crate::tree_steps::Ask::*;
 use crate::tree_steps::Look::*;
 use crate::tree_steps::{Case, Round, made, run_all, runs_on};
 use capbits::Refusal;
-use inotree::{Place, Tree};
+use inotree::{Kind, Place, Tree};
 use std::alloc::{AllocError, Global};
 use std::process::Abort;
 use std::test::Fail;
@@ -159,28 +159,60 @@ fn a_refusal_prints_as_its_name(rt: HostRuntime) -> Result<(), Fail> {
     Ok(())
 }
 
-// What has an attribute and a snapshot.
+// A file of which each field is set, with an attribute, in a directory with a snapshot, beside a stray.
 const KEPT: &[Round] = &[(
     &[
         (Mkdir(1, b"d"), Ok(2)),
         (Create(2, b"f"), Ok(3)),
+        (Create(1, b"g"), Ok(4)),
+        (Unlink(4), Ok(0)),
+        (SetMode(3, 0o640), Ok(0)),
+        (SetUid(3, 5), Ok(0)),
+        (SetGid(3, 6), Ok(0)),
+        (SetSize(3, 7), Ok(0)),
+        (SetTime(3, 8), Ok(0)),
         (SetXattr(3, b"x", b"1"), Ok(0)),
         (SnapAdd(2, b"s"), Ok(0)),
     ],
     &[],
 )];
 
-const SOURCE: &[Round] = &[(&[(Unlink(3), Ok(0))], &[])];
+// All of it changes in the source.
+const SOURCE: &[Round] = &[(
+    &[
+        (SetMode(3, 0o777), Ok(0)),
+        (SetUid(3, 15), Ok(0)),
+        (SetGid(3, 16), Ok(0)),
+        (SetSize(3, 17), Ok(0)),
+        (SetTime(3, 18), Ok(0)),
+        (RemoveXattr(3, b"x"), Ok(0)),
+        (SnapRemove(2, b"s"), Ok(0)),
+        (Create(1, b"h"), Ok(5)),
+        (Unlink(3), Ok(0)),
+    ],
+    &[],
+)];
 
 const COPY: &[Round] = &[
     (
         &[],
-        &[Resolved(&[b"d", b"f"], 3), FirstAttribute(3, b"x", b"1")],
+        &[
+            Resolved(&[b"d", b"f"], 3),
+            Path(3, &[b"d", b"f"]),
+            At(4, Place::Gone),
+            Owner(3, (5, 6, 0o640)),
+            Data(3, (Kind::File, 7, 8)),
+            AttributeCount(3, 1),
+            FirstAttribute(3, b"x", b"1"),
+            SnapshotCount(2, 1),
+            FirstSnapshot(2, b"s"),
+            Last(4),
+        ],
     ),
     (
         &[
             (SnapAdd(2, b"s"), Err(Refusal::Exists)),
-            (Create(1, b"f"), Ok(4)),
+            (Create(1, b"f"), Ok(5)),
         ],
         &[],
     ),

@@ -249,10 +249,8 @@ const KEPT: &[Round] = &[
 ];
 
 const ALL_NODES: &[Round] = &[
-    (&[Fill], &[AddRefusal(Some(Refusal::Limit))]),
-    // One more is not added.
     (
-        &[Add(64, 2_000)],
+        &[Fill],
         &[
             AddRefusal(Some(Refusal::Limit)),
             Finds(FirstOfIno(2_000), None),
