@@ -35,7 +35,7 @@ module _ (tree : Nodes) (ino : ℕ) (P : Nodes → Type 0) (same : P tree) (each
   by_change (SetXattr name value) = each (with_attribute name value)
   by_change (RemoveXattr name) = each (without_attribute name)
 
-  by_ask : (ask : Ask) → P (tree_with tree ino ask)
+  pub by_ask : (ask : Ask) → P (tree_with tree ino ask)
   by_ask (Get part) = same
   by_ask (Alter change) = by_change change
   by_ask Unlink = each (with_site Stray)

@@ -66,11 +66,3 @@ permitted_to fs (Some s) = permitted_of (question_of fs s) s.grants
 -- what the grants permit the client to hold
 abbrev pub permitted : List ℕ → Nodes → SessionTable → Holder → Caps
 permitted fs tree sessions k = permitted_to fs (subject tree sessions k)
-
-abbrev pub is_open_status : Status → Bool
-is_open_status Open = true
-is_open_status Stale = false
-
-abbrev pub is_open_session : Option Session → Bool
-is_open_session None = false
-is_open_session (Some session) = is_open_status session.status

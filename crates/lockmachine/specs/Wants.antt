@@ -8,6 +8,8 @@ use Rattle.capbits.specs.declared.ids.Ino.{Ino}
 use Rattle.capbits.specs.Caps.{Caps}
 use Rattle.capbits.specs.Sets.{no_caps, caps_in, is_empty, union, meet, minus}
 use Rattle.sessiontab.specs.Table.{SessionTable}
+use Rattle.sessiontab.specs.Calls.{status_of}
+use Rattle.sessiontab.specs.Tests.{is_open}
 use Rattle.inotree.specs.Tree.{Nodes}
 use Rattle.captable.specs.declared.entry.EntryRow.{EntryRow}
 use Rattle.captable.specs.Table.{Table}
@@ -15,12 +17,12 @@ use Rattle.captable.specs.Calls.{entries_on}
 use Rattle.lockmachine.specs.declared.wants.Wants.{Wants}
 use Rattle.lockmachine.specs.declared.wants.Wanting.{Wanting}
 use Rattle.lockmachine.specs.declared.wants.Wanting.TheVariants.{Nobody, One, Several}
-use Rattle.lockmachine.specs.Policy.{permitted, is_open_session}
+use Rattle.lockmachine.specs.Policy.{permitted}
 
 -- what the entry's client wants and is permitted, if its session is open
 abbrev pub effective_want : List ℕ → Nodes → SessionTable → EntryRow → Caps
 effective_want fs tree sessions row =
-    if is_open_session (map.get sessions.sessions row.holder.client.0)
+    if is_open (status_of sessions row.holder.client.0)
     then meet row.entry.want (permitted fs tree sessions row.holder)
     else no_caps
 
