@@ -1,7 +1,6 @@
 -- What the end of a step makes of an entry on an inode that it touched: it gains what is due, which its locks allow, and its number may rise.
 use Rattle.std.proofs.Common.{◌≡◌, ◌≤◌, ℕ, ◌+◌, Bool, true, false, not, cond, ◌&&◌, ◌||◌, Option, Some, None, List, [], ◌∷◌, refl, sym, ap, subst, ◌∙◌, true≢false, ◌⊎◌, inl, inr, arith}
 use Rattle.std.specs.Prelude.{if◌then◌else◌}
-use Rattle.std.specs.FinMap as map
 use Rattle.capbits.specs.declared.cap.Cap.{Cap}
 use Rattle.capbits.specs.declared.cap.Cap.TheVariants.{P}
 use Rattle.capbits.specs.declared.cap.Part.{Part}
@@ -11,6 +10,8 @@ use Rattle.capbits.specs.Sets.{no_caps, is_empty, union, meet, minus, of_part, c
 use Rattle.capbits.proofs.Covering.{one_part, same_cap-pin}
 use Rattle.inotree.specs.Tree.{Nodes}
 use Rattle.sessiontab.specs.Table.{SessionTable}
+use Rattle.sessiontab.specs.Calls.{status_of}
+use Rattle.sessiontab.specs.Tests.{is_open}
 use Rattle.locktable.specs.declared.states.State.{State}
 use Rattle.locktable.specs.declared.states.LockState.{LockState}
 use Rattle.locktable.specs.declared.states.LockState.TheVariants.{Stable, Gather}
@@ -20,7 +21,7 @@ use Rattle.captable.specs.declared.entry.EntryRow.{EntryRow}
 use Rattle.captable.specs.Calls.{renumbered}
 use Rattle.captable.specs.Many.{remade}
 use Rattle.lockmachine.specs.Locks.{lock_at}
-use Rattle.lockmachine.specs.Policy.{permitted, is_open_session}
+use Rattle.lockmachine.specs.Policy.{permitted}
 use Rattle.lockmachine.specs.Wants.{effective_want}
 use Rattle.lockmachine.specs.Scene.{Scene, outside, told_set}
 use Rattle.lockmachine.specs.Rows.{IsInRowOf, IsInRow}
@@ -118,7 +119,7 @@ module _ (old s : Scene) (row : EntryRow) where
 
   pub effective-ended : (fs : List ℕ) (tree : Nodes) (sessions : SessionTable) → effective_want fs tree sessions (ended_row old s row) ≡ effective_want fs tree sessions row
   effective-ended fs tree sessions =
-      ap (λ (want : Caps). if is_open_session (map.get sessions.sessions row.holder.client.0) then meet want (permitted fs tree sessions row.holder) else no_caps) want-ended
+      ap (λ (want : Caps). if is_open (status_of sessions row.holder.client.0) then meet want (permitted fs tree sessions row.holder) else no_caps) want-ended
 
   -- ---- what it holds
 

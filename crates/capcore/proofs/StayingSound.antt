@@ -14,7 +14,8 @@ use Rattle.capbits.specs.Sets.{no_caps, meet, has-none, has-meet, IsSubset}
 use Rattle.inotree.specs.declared.node.Place.TheVariants.{Gone}
 use Rattle.inotree.specs.Tree.{Nodes, IsTree, place}
 use Rattle.sessiontab.specs.Table.{SessionTable}
-use Rattle.sessiontab.specs.Calls.{has_session}
+use Rattle.sessiontab.specs.Calls.{has_session, status_of}
+use Rattle.sessiontab.specs.Tests.{is_open}
 use Rattle.captable.specs.declared.entry.EntryRow.{EntryRow}
 use Rattle.captable.specs.declared.entry.Holder.{Holder}
 use Rattle.captable.specs.Table.{Table, IsTable, is_row_of}
@@ -25,7 +26,7 @@ use Rattle.captable.proofs.Tables.{same-is}
 use Rattle.lockmachine.specs.declared.moves.Move.TheVariants.{Settled}
 use Rattle.lockmachine.specs.Inodes.{StateMap, lock_in}
 use Rattle.lockmachine.specs.Locks.{lock_at}
-use Rattle.lockmachine.specs.Policy.{subject, permitted, is_open_session}
+use Rattle.lockmachine.specs.Policy.{subject, permitted}
 use Rattle.lockmachine.specs.Requests.{first_for}
 use Rattle.lockmachine.specs.Scene.{Scene}
 use Rattle.lockmachine.specs.Moves.{first_move, IsQuiet, IsAtRest, WaitAtLocks}
@@ -52,8 +53,8 @@ use Rattle.capcore.proofs.Touched.{permitted-pin, IsKeptEntry, kept-left}
 
 -- where a session is open, whoever wants the pin effectively wants it, on each tree
 wants_pin : (fs : List ℕ) (tree : Nodes) (sessions : SessionTable) (row : EntryRow)
-    → has (effective_want fs tree sessions row) P ≡ (is_open_session (map.get sessions.sessions row.holder.client.0) && has row.entry.want P)
-wants_pin fs tree sessions row = by_session (is_open_session (map.get sessions.sessions row.holder.client.0))
+    → has (effective_want fs tree sessions row) P ≡ (is_open (status_of sessions row.holder.client.0) && has row.entry.want P)
+wants_pin fs tree sessions row = by_session (is_open (status_of sessions row.holder.client.0))
   where
     always : (b : Bool) → (b && true) ≡ b
     always true = refl
@@ -182,7 +183,7 @@ module _ (at from : ℕ → Bool) (old touched : State) (settled : Scene) where
         let moved = g.moved in
         ap (λ b. has row.entry.held P || b)
         (wants_pin settled.fs settled.tree settled.sessions row
-        ∙ ap (λ (t : SessionTable). is_open_session (map.get t.sessions row.holder.client.0) && has row.entry.want P) moved.sessions
+        ∙ ap (λ (t : SessionTable). is_open (status_of t row.holder.client.0) && has row.entry.want P) moved.sessions
         ∙ sym (wants_pin first.fs first.tree first.sessions row))
         ∙ is
 

@@ -27,7 +27,7 @@ use Rattle.sessiontab.specs.declared.session.Status.{Status}
 use Rattle.sessiontab.specs.declared.session.Status.TheVariants as status
 use Rattle.sessiontab.specs.Table.{SessionTable}
 use Rattle.sessiontab.specs.Calls.{has_session, status_of}
-use Rattle.sessiontab.specs.Tests.{is_stale, session_tests}
+use Rattle.sessiontab.specs.Tests.{is_open, is_stale, session_tests}
 use Rattle.locktable.specs.declared.states.LockState.{LockState}
 use Rattle.locktable.specs.declared.states.LockState.TheVariants.{Stable, Gather}
 use Rattle.locktable.specs.Rows.{row_of}
@@ -43,7 +43,7 @@ use Rattle.captable.proofs.ByHolder.{row_found}
 use Rattle.captable.proofs.ByInode.{entries_on-changed, entries_on-opened, entries_on-released}
 use Rattle.lockmachine.specs.Inodes.{StateMap, lock_in}
 use Rattle.lockmachine.specs.Locks.{lock_at}
-use Rattle.lockmachine.specs.Policy.{Subject, subject, is_open_status, is_open_session, permitted, permitted_to}
+use Rattle.lockmachine.specs.Policy.{Subject, subject, permitted, permitted_to}
 use Rattle.lockmachine.specs.Rows.{IsInRowOf, IsInRow}
 use Rattle.lockmachine.specs.Scene.{Scene, against, against_lock}
 use Rattle.lockmachine.specs.Moves.{present_state, IsQuiet}
@@ -362,11 +362,11 @@ not_false : (b : Bool) → not b ≡ false → b ≡ true
 not_false true is = refl
 not_false false is = sym is
 
-open_session : (o : Option Session) → is_some o ≡ true → is_stale (option_map (λ session. session.status) o) ≡ false → is_open_session o ≡ true
+open_session : (o : Option Session) → is_some o ≡ true → is_stale (option_map (λ session. session.status) o) ≡ false → is_open (option_map (λ session. session.status) o) ≡ true
 open_session None has not_stale = has
 open_session (Some session) has not_stale = by_status session.status not_stale
   where
-    by_status : (st : Status) → is_stale (Some st) ≡ false → is_open_status st ≡ true
+    by_status : (st : Status) → is_stale (Some st) ≡ false → is_open (Some st) ≡ true
     by_status status.Open fresh = refl
     by_status status.Stale fresh = sym fresh
 
@@ -381,7 +381,7 @@ module _ (s : Scene) (client : ClientId) (ino : Ino) (asked : first_failing (ask
   pub asked-session : has_session s.sessions client.0 ≡ true
   asked-session = not_false (has_session s.sessions client.0) (passed-if _ refusal.NoSession _ both.0).0
 
-  asked-open : is_open_session (map.get s.sessions.sessions client.0) ≡ true
+  asked-open : is_open (status_of s.sessions client.0) ≡ true
   asked-open =
       open_session (map.get s.sessions.sessions client.0) asked-session
       (passed-if (is_stale (status_of s.sessions client.0)) refusal.SessionStale None (passed-if (not (has_session s.sessions client.0)) refusal.NoSession _ both.0).1).0

@@ -18,13 +18,13 @@ use Rattle.inotree.specs.Alike.{IsAlike}
 use Rattle.inotree.proofs.Elsewhere.{alike-new, alike-changed, not_next}
 use Rattle.sessiontab.specs.declared.session.Session.{Session}
 use Rattle.sessiontab.specs.Table.{SessionTable}
-use Rattle.sessiontab.specs.Calls.{has_session, with_session}
-use Rattle.sessiontab.specs.Tests.{new_session_tests}
+use Rattle.sessiontab.specs.Calls.{has_session, status_of, with_session}
+use Rattle.sessiontab.specs.Tests.{is_open, new_session_tests}
 use Rattle.sessiontab.proofs.Elsewhere.{session-kept}
 use Rattle.captable.specs.declared.entry.Holder.{Holder}
 use Rattle.captable.specs.declared.entry.EntryRow.{EntryRow}
 use Rattle.captable.specs.Calls.{is_of_inode}
-use Rattle.lockmachine.specs.Policy.{Subject, subject_of, permitted_to, permitted, is_open_session}
+use Rattle.lockmachine.specs.Policy.{Subject, subject_of, permitted_to, permitted}
 use Rattle.lockmachine.specs.Wants.{effective_want, want_of}
 use Rattle.lockmachine.specs.Scene.{Scene, wants}
 
@@ -49,8 +49,8 @@ module _ (fs : List ℕ) (old new : Nodes) (before after : SessionTable) where
 
   pub want-kept : (row : EntryRow) → IsAlike old new row.holder.ino.0 → map.get after.sessions row.holder.client.0 ≡ map.get before.sessions row.holder.client.0 → effective_want fs new after row ≡ effective_want fs old before row
   want-kept row alike session =
-      ap (λ o. if is_open_session o then meet row.entry.want (permitted fs new after row.holder) else no_caps) session
-      ∙ ap (λ (caps : Caps). if is_open_session (map.get before.sessions row.holder.client.0) then meet row.entry.want caps else no_caps) (permitted-kept row.holder alike session)
+      ap (λ (o : Option Session). if is_open (option_map (λ s. s.status) o) then meet row.entry.want (permitted fs new after row.holder) else no_caps) session
+      ∙ ap (λ (caps : Caps). if is_open (status_of before row.holder.client.0) then meet row.entry.want caps else no_caps) (permitted-kept row.holder alike session)
 
 -- ---- all wants on an inode
 

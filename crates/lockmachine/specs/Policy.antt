@@ -1,5 +1,5 @@
 -- What the grants of a client say of an inode, on a tree and with the sessions of one moment.
-use Rattle.std.specs.Prelude.{ℕ, Bool, true, false, List, [], ◌∷◌, Option, Some, None}
+use Rattle.std.specs.Prelude.{ℕ, Bool, false, List, [], ◌∷◌, Option, Some, None}
 use Rattle.std.specs.FinMap as map
 use Rattle.capbits.specs.declared.caller.Caller.{Caller}
 use Rattle.capbits.specs.declared.cap.Cap.TheVariants.{P}
@@ -13,8 +13,6 @@ use Rattle.capgrant.specs.Question.{Question}
 use Rattle.capgrant.specs.Verdict.{granted, first_failures}
 use Rattle.capgrant.specs.Permitted.{permitted_of}
 use Rattle.sessiontab.specs.declared.session.Session.{Session}
-use Rattle.sessiontab.specs.declared.session.Status.{Status}
-use Rattle.sessiontab.specs.declared.session.Status.TheVariants.{Open, Stale}
 use Rattle.sessiontab.specs.Table.{SessionTable}
 use Rattle.inotree.specs.declared.node.Node.{Node}
 use Rattle.inotree.specs.Tree.{Nodes, path_of}
