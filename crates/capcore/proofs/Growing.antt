@@ -1,12 +1,14 @@
 -- A legal history goes on by one row.
-use Rattle.std.proofs.Common.{◌≡◌, ℕ, ◌+◌, ◌<◌, ◌≤◌, List, [], ◌∷◌, ◌++◌, length, refl, sym, subst, arith}
+use Rattle.std.proofs.Common.{◌≡◌, ℕ, ◌+◌, ◌<◌, ◌≤◌, List, [], ◌∷◌, ◌++◌, length, Some, None, refl, sym, ap, subst, ◌∙◌, arith}
 use Rattle.inotree.specs.Tree.{Nodes}
+use Rattle.captable.specs.Table.{IsTable, entry_at}
 use Rattle.capcore.specs.declared.history.Row.{Row}
 use Rattle.capcore.specs.State.{State}
 use Rattle.capcore.specs.Step.{Step}
 use Rattle.capcore.specs.Sound.{IsSound, AreGiven}
 use Rattle.capcore.specs.History.{Told, told, IsTold, IsOpening, HasNoStray, Replays, rows_of}
 use Rattle.capcore.proofs.Numbered.{numbered-nil, numbered-snoc}
+use Rattle.capcore.proofs.ShownSteps.{step-shown}
 use Rattle.capcore.proofs.Sounding.{opening-sound, opening-given}
 
 pub replays-more : (first : State) (rows : List Row) (old : State) (row : Row) (new : State) → Replays first rows old → Step old row.event row.reply row.ended new → Replays first (rows ++ row ∷ []) new
@@ -29,15 +31,16 @@ first-told fs tree s max_rows none is = record {
   room = omega (arith);
   sound = opening-sound fs tree s none is;
   given = opening-given fs tree s is;
+  shown = λ k e there. let none : None ≡ Some e = ap (λ t. entry_at t k) (sym is.table_is) ∙ there in absurd (cc);
 }
 
 pub given-more : (rows : List Row) (row : Row) (new : State) → AreGiven (length rows + 1) new → AreGiven (length (rows ++ row ∷ [])) new
 given-more rows row new = subst (λ n. AreGiven n new) (sym (length-more rows row))
 
 -- one step more, with its row, to a state that is sound
-pub more-told : (t : Told) (row : Row) (new : State) → IsTold t → Step t.state row.event row.reply row.ended new → row.nth ≡ rows_of row.pass t.rows + 1 → length t.rows < t.max_rows → IsSound new → AreGiven (length t.rows + 1) new →
+pub more-told : (t : Told) (row : Row) (new : State) → IsTold t → Step t.state row.event row.reply row.ended new → row.nth ≡ rows_of row.pass t.rows + 1 → length t.rows < t.max_rows → IsTable t.state.scene.table → IsSound new → AreGiven (length t.rows + 1) new →
     IsTold (told new (t.rows ++ row ∷ []) t.max_rows)
-more-told t row new is step nth less sound given = record {
+more-told t row new is step nth less table sound given = record {
   fs = is.fs;
   tree = is.tree;
   no_strays = is.no_strays;
@@ -50,4 +53,5 @@ more-told t row new is step nth less sound given = record {
   room = subst (λ n. n ≤ t.max_rows) (sym (length-more t.rows row)) (omega (arith, less));
   sound = sound;
   given = given-more t.rows row new given;
+  shown = step-shown t.state new t.rows row is.sound table is.shown step;
 }

@@ -16,6 +16,7 @@ use Rattle.capcore.specs.declared.reply.Reply.{Reply}
 use Rattle.capcore.specs.State.{State}
 use Rattle.capcore.specs.Step.{Step}
 use Rattle.capcore.specs.Sound.{IsSound, AreGiven}
+use Rattle.capcore.specs.Shown.{AreShown}
 
 -- a state, the history that led to it, and how many rows it may have
 pub record Told : Type 0 where
@@ -82,8 +83,8 @@ InItsRow old new Fact = (row : Row) × (new ≡ old ++ row ∷ []) × Fact row.e
 
 -- ---- what every core keeps
 
--- the history is legal, led here from some opening state and is not longer than it may be; and the state is sound, with the
--- numbers that so many rows can give
+-- the history is legal, led here from some opening state and is not longer than it may be; the state is sound, with the
+-- numbers that so many rows can give; and the numbers of each entry say what its client was last shown
 pub record IsTold (t : Told) : Type 0 where
   pub fs : List ℕ
   pub tree : Nodes
@@ -94,3 +95,4 @@ pub record IsTold (t : Told) : Type 0 where
   pub room : length t.rows ≤ t.max_rows
   pub sound : IsSound t.state
   pub given : AreGiven (length t.rows) t.state
+  pub shown : AreShown t.rows t.state.scene

@@ -6,6 +6,7 @@ ghost use Rattle.capcore.specs.Direct.{direct};
 ghost use Rattle.capcore.specs.Sound.{IsSound};
 ghost use Rattle.capcore.specs.Headline.{DeniedExactly, DeniesByName, ServedDenied, ServedByName, EachServing, ByMoves, AreBounded, OtherLocksStay};
 ghost use Rattle.capcore.specs.Headline.{IssuesExactly, AreInPlace, NoneConflict, is_stop};
+ghost use Rattle.capcore.specs.Shown.{ShowsWhatIsTold, TakesUnshown, TakesOnlySo};
 ghost use Rattle.sessiontab.specs.Calls.{status_of};
 ghost use Rattle.captable.specs.Table.{holder, entry_at};
 ghost use Rattle.lockmachine.specs.Locks.{lock_at};
@@ -84,6 +85,12 @@ impl Core {
         ensures issued { OnOk result (IssuesExactly (direct self.old.state event).state.scene self.new.state.scene) }
         ensures in_place { OnOk result (AreInPlace self.new.state.scene) }
         ensures apart { OnOk result (NoneConflict self.new.state.scene) }
+        // Where no message is due for an entry, its client was last shown just what it is to know. What an acknowledgement takes was
+        // missing from what was shown; and nothing else takes what is held, but a release and the end of a session.
+        ensures shown { OnOk result (ShowsWhatIsTold self.new.rows self.new.state.scene) }
+        ensures unshown { OnOk result (TakesUnshown self.old.rows self.old.state.scene event
+            (direct self.old.state event).state.scene) }
+        ensures only_so { OnOk result (TakesOnlySo self.old.state.scene event self.new.state.scene) }
         // All that the state speaks of is there, and nothing is left to do.
         ensures sound { OnOk result (IsSound self.new.state) }
         // Locks are at rest, and a denial or a refusal changes nothing but the history.

@@ -7,6 +7,7 @@ use Rattle.capcore.specs.Answered.{IsAnswered}
 use Rattle.capcore.specs.Direct.{direct}
 use Rattle.capcore.specs.Headline.{DeniedExactly, DeniesByName, ServedDenied, ServedByName, EachServing, ByMoves, AreBounded, OtherLocksStay, IssuesExactly, is_stop}
 use Rattle.capcore.specs.History.{Told, told, InItsRow, Replays}
+use Rattle.capcore.specs.Shown.{TakesUnshown, TakesOnlySo}
 use Rattle.capcore.specs.Sound.{IsSound}
 use Rattle.capcore.specs.Step.{Step}
 use Rattle.capcore.proofs.Apart.{held-apart}
@@ -15,6 +16,9 @@ use Rattle.capcore.proofs.OtherLocks.{other-locks}
 use Rattle.capcore.proofs.Servings.{served-denied, served-by_name}
 use Rattle.capcore.proofs.Promised.{denied-exactly, denies-by_name, stopped-unchanged}
 use Rattle.capcore.proofs.Growing.{more-told, replays-more}
+use Rattle.capcore.proofs.HeldOn.{takes-only_so}
+use Rattle.capcore.proofs.ShownSteps.{step-shown}
+use Rattle.capcore.proofs.ShownWords.{shows-told, all-takes_unshown}
 use Rattle.capcore.proofs.step.Core.apply.Goals as goal
 use Rattle.capcore.proofs.step.Core.apply.Goals.{After-add_row}
 
@@ -49,7 +53,7 @@ invariant_of-self-2 c =
     let all = answered_of c in
     rw (c.add_row.ensures, c.make_room.ensures.items)
     (more-told (told c.self.inside.world c.self.inside.rows.items c.self.inside.max_rows) row c.step.new.self c.self.invariant step c.in_ok-nth.ensures.number c.in_ok-nth.ensures.room.0
-    all.sound (all.given (length c.self.inside.rows.items) c.self.invariant.given))
+    c.in_ok-reply.ensures.table all.sound (all.given (length c.self.inside.rows.items) c.self.invariant.given))
 
 pub returns-clause-denied : goal.returns-clause-denied
 returns-clause-denied c =
@@ -124,3 +128,21 @@ pub returns-clause-unchanged : goal.returns-clause-unchanged
 returns-clause-unchanged c =
     subst (λ (t : Told). IsTrue (is_stop c.in_ok-reply.field-0.reply) → c.step.new.self ≡ t.state) c.self.view_is
     (stopped-unchanged c.self.inside.world c.args.event c.in_ok-reply.field-0.reply c.in_ok-reply.field-0.ended c.step.new.self (step_of c) c.self.invariant.sound c.in_ok-reply.ensures.locks c.in_ok-reply.ensures.table)
+
+pub returns-clause-shown : goal.returns-clause-shown
+returns-clause-shown c =
+    let row : Row = row_of c in
+    rw (c.add_row.ensures, c.make_room.ensures.items)
+    (shows-told (c.self.inside.rows.items ++ row ∷ []) c.step.new.self (next c)
+    (step-shown c.self.inside.world c.step.new.self c.self.inside.rows.items row c.self.invariant.sound c.in_ok-reply.ensures.table c.self.invariant.shown (kept_step c)))
+
+pub returns-clause-unshown : goal.returns-clause-unshown
+returns-clause-unshown c =
+    subst (λ (t : Told). TakesUnshown t.rows t.state.scene c.args.event (direct t.state c.args.event).state.scene) c.self.view_is
+    (all-takes_unshown c.self.inside.rows.items c.self.inside.world c.args.event c.self.invariant.sound c.self.invariant.shown)
+
+pub returns-clause-only_so : goal.returns-clause-only_so
+returns-clause-only_so c =
+    let all = answered_of c in
+    subst (λ (t : Told). TakesOnlySo t.state.scene c.args.event c.step.new.self.scene) c.self.view_is
+    (takes-only_so c.self.inside.world c.args.event c.step.new.self.scene all.issued)
