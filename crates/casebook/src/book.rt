@@ -8,9 +8,10 @@ use std::alloc::Global;
 #[derive(Clone, Copy, Debug)]
 pub struct Talk<'a> {
     pub name: &'a [u8],
-    /// The number of the line that names it. Its own lines stand behind that.
+    /// The number of the line that names it, which is the place of the first line behind that.
     pub head: usize,
-    end: usize,
+    /// The place behind its last line.
+    pub end: usize,
     before: Option<usize>,
     asks: bool,
 }
@@ -60,9 +61,9 @@ impl<'a> Book<'a> {
         Ok(chain)
     }
 
-    /// The lines of a talk that are its own, behind the one with its name.
-    pub fn lines_of(&self, talk: Talk<'a>) -> &[Line<'a>] {
-        self.lines.get(talk.head..talk.end).unwrap_or(&[])
+    /// The line at a place, from 0 on.
+    pub fn line(&self, place: usize) -> Option<Line<'a>> {
+        self.lines.get(place).copied()
     }
 
     // One line more.

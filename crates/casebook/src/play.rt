@@ -112,17 +112,16 @@ pub fn play_text(
 }
 
 // The runs of a talk, the one by which it begins first.
-fn runs_of(alloc: Global, book: &Book<'_>, talk: Talk<'_>) -> Result<Vec<Run>, Place> {
+fn runs_of<'a>(alloc: Global, book: &Book<'a>, talk: Talk<'a>) -> Result<Vec<Run>, Place> {
     let mut runs = Vec::new(alloc);
     let chain = book
         .chain(alloc, talk)
         .map_err(|fault| fault.at(talk.head))?;
     for talk in chain.as_slice() {
-        let mut number = talk.head;
-        for line in book.lines_of(*talk) {
-            number = number.saturating_add(1);
-            if let Err(fault) = take_line(alloc, &mut runs, *line) {
-                return Err(fault.at(number));
+        for place in talk.head..talk.end {
+            let line = book.line(place).unwrap_or(Line::Remark);
+            if let Err(fault) = take_line(alloc, &mut runs, line) {
+                return Err(fault.at(place.saturating_add(1)));
             }
         }
     }
