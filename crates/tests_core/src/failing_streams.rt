@@ -1,12 +1,11 @@
 //! Readers and writers that fail: what their flags tell, and what a run over them leaves.
 
-use crate::asserting::{holds, same};
+use crate::asserting::same;
 use crate::runs::{SNAPSHOTS, SNAPSHOTS_ANSWERED};
 use capscript::{ScriptFault, Watched, run};
 use std::alloc::Global;
 use std::io;
 use std::io::{ErrorKind, Read, Write};
-use std::test::Fail;
 
 // Reads a byte and then fails, over and over. Writes at most a byte of each text, and fails where it is a line feed.
 #[derive(Drop)]

@@ -11,17 +11,11 @@ mod asserting;
 #[cfg(test)]
 mod attributes;
 #[cfg(test)]
-mod entry_refusals;
-#[cfg(test)]
 mod failing_streams;
-#[cfg(test)]
-mod flushes;
 #[cfg(test)]
 mod gathers;
 #[cfg(test)]
 mod histories;
-#[cfg(test)]
-mod judged_again;
 #[cfg(test)]
 mod lines;
 #[cfg(test)]
@@ -31,23 +25,11 @@ mod moved_entries;
 #[cfg(test)]
 mod recalls;
 #[cfg(test)]
-mod removals;
-#[cfg(test)]
-mod renames;
-#[cfg(test)]
-mod renames_served;
-#[cfg(test)]
 mod replies;
-#[cfg(test)]
-mod request_refusals;
 #[cfg(test)]
 mod runs;
 #[cfg(test)]
 mod sessions_end;
-#[cfg(test)]
-mod sharing;
-#[cfg(test)]
-mod stale_sessions;
 #[cfg(test)]
 mod steps;
 #[cfg(test)]

@@ -20,37 +20,6 @@ pub fn transcript(rt: &impl AllocGlobal, script: &[u8]) -> Result<Vec<u8>, Fail>
     Ok(text)
 }
 
-/// Two clients, one of which may write below `/a` alone.
-const TWO_CLIENTS: &str = "session 1 10 10 - allow rw path=/a
-mkdir 1 1 a 0755
-create 1 9 f 0644
-session 2 20 20 - allow rw
-mkdir 2 1 a 0755
-create 1 2 f 0644
-lookup 1 2 f
-mksnap 1 2 s
-create 1 2 f 0644
-create 1 3 g 0644
-create 1 2  0644
-lookup 3 1 a
-session 2 20 20 - none
-";
-
-const TWO_CLIENTS_ANSWERED: &str = "done
-denied write 1:4
-refused NoIno
-done
-ino 2
-ino 3
-ino 3
-denied snapshot 1:8
-refused Exists
-refused NotDir
-refused NameBad
-refused NoSession
-refused SessionOpen
-";
-
 /// Snapshots, and a client without grants. The last line has no line feed.
 pub const SNAPSHOTS: &str = "# snapshots
 
@@ -77,42 +46,6 @@ denied read -
 ino 2
 refused NoEnt
 ";
-
-const TRANSCRIPTS: &[(&str, &str)] = &[
-    ("", ""),
-    ("\n", ""),
-    ("# nothing", ""),
-    (TWO_CLIENTS, TWO_CLIENTS_ANSWERED),
-    (SNAPSHOTS, SNAPSHOTS_ANSWERED),
-    (
-        "session 1 10 10 - allow rw\nlookup 1 x f\n",
-        "done\n=line 2: Number",
-    ),
-    (
-        "session 1 10 10 - allow rw\nopen 1 x r\n",
-        "done\n=line 2: Number",
-    ),
-    ("session 1 10 10 - allow", "=line 1: Grants BadFlags at 5"),
-    ("lookup 1  f", "=line 1: Number"),
-    ("\n#\nfly\nlookup 1 1 f", "=line 3: Command"),
-    (
-        "session 1 0 0 - allow rw uid=0\nlookup 1 1 a\ncreate 1 1 a 0600\n",
-        "done\nrefused NoEnt\nino 2\n",
-    ),
-    (
-        "session 1 9 9 - allow rw uid=9\ncreate 1 1 a 0600\n",
-        "done\ndenied write 1:11\n",
-    ),
-];
-
-#[test]
-fn scripts_have_transcripts(rt: HostRuntime) -> Result<(), Fail> {
-    for (script, wanted) in TRANSCRIPTS {
-        let text = transcript(&rt, script.as_bytes())?;
-        same(&rt, text.as_slice(), wanted.as_bytes(), *script);
-    }
-    Ok(())
-}
 
 #[test]
 fn long_lines_stop_a_script(rt: HostRuntime) -> Result<(), Fail> {

@@ -59,12 +59,3 @@ fn push_line(text: &mut Vec<u8>, line: &str) -> Result<(), AllocError> {
     text.push(b'\n')?;
     Ok(())
 }
-
-/// Plays the parts of a talk, one after the other, as one script to a fresh server, and compares what it writes.
-pub fn talks(rt: &(impl AllocGlobal + Abort), parts: &[&[Said]]) -> Result<(), Fail> {
-    let mut talk = Talk::new(rt.alloc());
-    for part in parts {
-        talk.follows(part)?;
-    }
-    talk.compare(rt)
-}
