@@ -16,8 +16,8 @@ pub const MAX_SCRIPT: usize = 16777216;
 // How many bytes are read at once.
 const CHUNK: usize = 4096;
 
-// Reads all there is, but no byte behind the first one too many.
-pub(crate) fn read_script<R: Read>(
+/// Reads all there is, but no byte behind the first one too many.
+pub fn read_script<R: Read>(
     alloc: Global,
     reader: &mut Watched<R>,
 ) -> Result<Vec<u8>, ScriptFault>
@@ -62,8 +62,8 @@ pub(crate) fn read_script<R: Read>(
     Err(ScriptFault::ReadFault)
 }
 
-// Writes all of a text. Where the writer fails, it took a front of the text.
-pub(crate) fn write_text<W: Write>(writer: &mut Watched<W>, text: &[u8]) -> Result<(), ScriptFault>
+/// Writes all of a text. Where the writer fails, it took a front of the text.
+pub fn write_text<W: Write>(writer: &mut Watched<W>, text: &[u8]) -> Result<(), ScriptFault>
     requires { IsFalse (has_failed writer.old) }
     ensures ok { OnOk result (
         Appends (W.contents (inner_of writer.old)) (W.contents (inner_of writer.new)) text.now) }

@@ -17,7 +17,8 @@ mod watched;
 mod words;
 
 pub use fault::{LineFault, ScriptFault};
-pub use input::MAX_SCRIPT;
+pub use input::{MAX_SCRIPT, read_script, write_text};
 pub use line::{MAX_LINE, read_line};
-pub use running::run;
+pub use running::{file_system, run, split_line};
 pub use watched::Watched;
+pub use words::split_at_space;

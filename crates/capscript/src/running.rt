@@ -2,7 +2,7 @@
 ghost use Rattle.std.specs.Prelude.{◌≡◌, ◌≢◌, ◌⊎◌, ◌↔◌, ◌<◌, ◌≤◌, ◌+◌, ◌++◌, ℕ, List, [], length, IsTrue, IsFalse, IfOk, IfErr, IfSome, MatchOption, OnOk, OnErr, Err, ◌∷◌};
 ghost use Rattle.std.specs.Io.KnownBytes.{Keeps, Appends, Consumes};
 ghost use Rattle.inotree.specs.Calls.{first_tree};
-ghost use Rattle.capcore.specs.History.{IsOpening};
+ghost use Rattle.capcore.specs.History.{HasNoStray, IsOpening};
 ghost use Rattle.capscript.specs.declared.fault.ScriptFault.TheVariants as stops;
 ghost use Rattle.capscript.specs.Lines.{lines, longest_script};
 ghost use Rattle.capscript.specs.Transcript.{Ran, Answered, Answers, AnswersLine, StopsIn, fs_name, root_attr};
@@ -18,7 +18,7 @@ use capexplain::reply_lines;
 use capgrant::Attr;
 use capspec::FsName;
 use inotree::Tree;
-use std::alloc::Global;
+use std::alloc::{AllocError, Global};
 use std::io::{Read, Write};
 
 /// The name of the file system that a script runs on.
@@ -100,6 +100,21 @@ fn open_core(alloc: Global) -> Result<Core, ScriptFault>
     ensures room { IfOk result (λ core. core.max_rows ≡ u32.MAX) }
     ensures err { OnErr result (result ≡ Err stops.NoMemory) }
 {
+    let Ok((fs, tree)) = file_system(alloc) else {
+        return Err(ScriptFault::NoMemory);
+    };
+    match Core::new(alloc, fs, tree, u32::MAX) {
+        Ok(core) => Ok(core),
+        Err(_) => Err(ScriptFault::NoMemory),
+    }
+}
+
+/// The file system that a script runs on: its name, and a tree that is a root alone.
+pub fn file_system(alloc: Global) -> Result<(FsName, Tree), AllocError>
+    ensures name { IfOk result (λ system. system.0 ≡ fs_name) }
+    ensures tree { IfOk result (λ system. system.1 ≡ first_tree root_attr) }
+    ensures strays { IfOk result (λ system. HasNoStray system.1) }
+{
     let (Some(fs), Some(mode)) = (FsName::read(FS_NAME), Mode::new(ROOT_MODE)) else {
         unreachable!()
     };
@@ -108,13 +123,8 @@ fn open_core(alloc: Global) -> Result<Core, ScriptFault>
         gid: 0,
         mode,
     };
-    let Ok(tree) = Tree::new(alloc, attr) else {
-        return Err(ScriptFault::NoMemory);
-    };
-    match Core::new(alloc, fs, tree, u32::MAX) {
-        Ok(core) => Ok(core),
-        Err(_) => Err(ScriptFault::NoMemory),
-    }
+    let tree = Tree::new(alloc, attr)?;
+    Ok((fs, tree))
 }
 
 // Answers the events of the lines, up to the end or to the first line that has a fault.
@@ -145,8 +155,8 @@ fn answer_lines<W: Write>(
     answer_line(alloc, core, number, rest, writer)
 }
 
-// The line before the first line feed and what stands behind it, if there is one.
-fn split_line(script: &[u8]) -> Option<(&[u8], &[u8])>
+/// The line before the first line feed and what stands behind it, if there is one.
+pub fn split_line(script: &[u8]) -> Option<(&[u8], &[u8])>
     ensures lines { MatchOption result
         (lines script.now ≡ script.now ∷ [])
         (λ cut. lines script.now ≡ cut.0.now ∷ lines cut.1.now) }

@@ -26,8 +26,8 @@ pub(crate) fn split_words(text: &[u8]) -> ArrayVec<&[u8], MAX_PARTS>
     parts
 }
 
-// The word before the first space and what stands behind the space, if there is one.
-fn split_at_space(text: &[u8]) -> Option<(&[u8], &[u8])>
+/// The word before the first space and what stands behind the space, if there is one.
+pub fn split_at_space(text: &[u8]) -> Option<(&[u8], &[u8])>
     ensures { MatchOption result
         (words text.now ≡ text.now ∷ [])
         (λ cut. words text.now ≡ cut.0.now ∷ words cut.1.now) }
