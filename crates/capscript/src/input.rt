@@ -17,10 +17,7 @@ pub const MAX_SCRIPT: usize = 16777216;
 const CHUNK: usize = 4096;
 
 /// Reads all there is, but no byte behind the first one too many.
-pub fn read_script<R: Read>(
-    alloc: Global,
-    reader: &mut Watched<R>,
-) -> Result<Vec<u8>, ScriptFault>
+pub fn read_script<R: Read>(alloc: Global, reader: &mut Watched<R>) -> Result<Vec<u8>, ScriptFault>
     requires clear { IsFalse (has_failed reader.old) }
     requires unended { IsFalse (has_ended reader.old) }
     ensures ok { IfOk result (λ script.
