@@ -5,3 +5,4 @@ pub mod SetNumbers
 pub mod Text
 pub mod Caller
 pub mod Refusal
+pub mod Maps

@@ -25,8 +25,8 @@ use Rattle.captable.specs.Calls.{is_of_inode}
 use Rattle.lockmachine.specs.Inodes.{StateMap, lock_in, in_sync}
 use Rattle.lockmachine.specs.Locks.{lock_at}
 use Rattle.lockmachine.specs.Requests.{first_for, head_of}
-use Rattle.lockmachine.specs.Wants.{effective_want, want_of, loner_of, union_of, in_all}
-use Rattle.lockmachine.specs.Scene.{Scene, rows_on, loner, wanted, target_by, against}
+use Rattle.lockmachine.specs.Wants.{effective_want, want_of, loner_of, union_of}
+use Rattle.lockmachine.specs.Scene.{Scene, rows_on, loner, wanted, against}
 use Rattle.lockmachine.specs.Moves.{IsQuiet}
 use Rattle.lockmachine.proofs.PolicyElsewhere.{wants-kept}
 use Rattle.capcore.specs.State.{State}
@@ -37,6 +37,7 @@ use Rattle.capcore.specs.Headline.{IsInPlace}
 use Rattle.capcore.specs.Sound.{IsSoundEntry, IsSound}
 use Rattle.capcore.specs.Leaving.{with_parts, LeavesEntries}
 use Rattle.capcore.proofs.Finishing.{same-finished}
+use Rattle.capcore.proofs.StillQuiet.{still_quiet}
 
 -- ---- lists of rows
 
@@ -128,12 +129,6 @@ module _ (s : State) (sound : IsSound s) (tree : Nodes) (sessions : SessionTable
 
   -- ---- locks
 
-  quiet_kept : (ino : ℕ) (part : Part) (o : Option LockState) → IsQuiet s.scene ino part o → IsQuiet new ino part o
-  quiet_kept ino part None quiet = quiet
-  quiet_kept ino part (Some (Stable state)) quiet =
-      (ap (λ each. target_by s.scene.locks.queue (in_all each) ino part state) (wants-kept s.scene tree sessions ino leaves.wants) ∙ quiet.0, quiet.1)
-  quiet_kept ino part (Some (Gather from to)) quiet = quiet
-
   quiet_new : (ino : ℕ) (part : Part) → map.contains_key s.scene.tree.nodes ino ≡ false → (o : Option Node) → IsQuiet new ino part (option_map (lock_in part) (option_map (λ node. in_sync) o))
   quiet_new ino part out None = nobody_waits s sound ino part out
   quiet_new ino part out (Some node) = subst (λ lock. IsQuiet new ino part (Some lock)) (sym (each_in_sync part)) (stays, nobody_waits s sound ino part out)
@@ -146,7 +141,7 @@ module _ (s : State) (sound : IsSound s) (tree : Nodes) (sessions : SessionTable
 
   quiet_at : (ino : ℕ) (part : Part) (b : Bool) → map.contains_key s.scene.tree.nodes ino ≡ b → IsQuiet new ino part (option_map (lock_in part) (map.get states ino))
   quiet_at ino part true here =
-      subst (λ o. IsQuiet new ino part (option_map (lock_in part) o)) (sym (leaves.locks ino here)) (quiet_kept ino part (lock_at s.scene.locks ino part) (sound.at_rest.each ino part))
+      subst (λ o. IsQuiet new ino part (option_map (lock_in part) o)) (sym (leaves.locks ino here)) (still_quiet s.scene new ino part refl (wants-kept s.scene tree sessions ino leaves.wants) (λ goal. refl) (lock_at s.scene.locks ino part) (sound.at_rest.each ino part))
   quiet_at ino part false out =
       subst (λ o. IsQuiet new ino part (option_map (lock_in part) o)) (sym (leaves.new_locks ino out)) (quiet_new ino part out (map.get tree.nodes ino))
 

@@ -42,6 +42,7 @@ pub mod Stopping
 pub mod Stops
 pub mod Undone
 pub mod Steps
+pub mod StillQuiet
 pub mod Touched
 pub mod Asked
 pub mod Flushed

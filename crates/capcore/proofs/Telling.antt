@@ -22,9 +22,9 @@ use Rattle.captable.specs.Many.{changed_where, remade}
 use Rattle.captable.proofs.OneByOne.{fold-changed_by}
 use Rattle.captable.proofs.Searches.{find-map, filter-map}
 use Rattle.lockmachine.specs.Locks.{lock_at}
-use Rattle.lockmachine.specs.Wants.{want_of, in_all}
-use Rattle.lockmachine.specs.Scene.{Scene, wants, target_by, outside}
-use Rattle.lockmachine.specs.Moves.{IsQuiet, is_open}
+use Rattle.lockmachine.specs.Wants.{want_of}
+use Rattle.lockmachine.specs.Scene.{Scene, wants, outside}
+use Rattle.lockmachine.specs.Moves.{is_open}
 use Rattle.capcore.specs.declared.outcome.Ended.{Ended}
 use Rattle.capcore.specs.declared.outcome.Message.{Message}
 use Rattle.capcore.specs.State.{State}
@@ -33,6 +33,7 @@ use Rattle.capcore.specs.Finish.{due}
 use Rattle.capcore.specs.Headline.{holds, is_due, IssuesExactly, IsInPlace, AreInPlace}
 use Rattle.capcore.specs.Messages.{first_messages, after_messages, is_caps_of, is_recall_of, is_end_of, is_to, told_if, unasked_if}
 use Rattle.capcore.specs.Sound.{IsSoundEntry, IsSound, AreGiven}
+use Rattle.capcore.proofs.StillQuiet.{still_quiet}
 
 -- ---- lists that are mapped
 
@@ -84,12 +85,6 @@ module _ (s : State) (told_as : EntryRow → ℕ) (asked_as : EntryRow → Bool)
       ap (list_any left) (same_on (record { 0 = ino }))
       ∙ any-map_same left to (λ row. refl) (filter (is_of_inode (record { 0 = ino })) s.scene.table.rows)
 
-  quiet_kept : (ino : ℕ) (part : Part) (o : Option LockState) → IsQuiet s.scene ino part o → IsQuiet new ino part o
-  quiet_kept ino part None quiet = quiet
-  quiet_kept ino part (Some (Stable state)) quiet =
-      (ap (λ each. target_by s.scene.locks.queue (in_all each) ino part state) (same_wants ino) ∙ quiet.0, quiet.1)
-  quiet_kept ino part (Some (Gather from goal)) quiet = same_open ino part goal ∙ quiet
-
   place_kept : (row : EntryRow) (part : Part) (o : Option LockState) → IsInPlace s.scene row part o → IsInPlace new (to row) part o
   place_kept row part None placed = placed
   place_kept row part (Some (Stable state)) placed = placed
@@ -119,7 +114,7 @@ module _ (s : State) (told_as : EntryRow → ℕ) (asked_as : EntryRow → Bool)
     locked = sound.locked;
     strays = λ ino gone. any-map_same (is_of_inode (record { 0 = ino })) to (λ row. refl) s.scene.table.rows ∙ sound.strays ino gone;
     in_place = places_kept sound.in_place;
-    at_rest = record { each = λ ino part. quiet_kept ino part (lock_at s.scene.locks ino part) (sound.at_rest.each ino part) };
+    at_rest = record { each = λ ino part. still_quiet s.scene new ino part refl (same_wants ino) (same_open ino part) (lock_at s.scene.locks ino part) (sound.at_rest.each ino part) };
   }
     where
       entry_kept : (row : EntryRow) → IsSoundEntry s.scene row → IsSoundEntry new (to row)

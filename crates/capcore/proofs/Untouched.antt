@@ -14,7 +14,7 @@ use Rattle.capgrant.specs.declared.access.Attr.{Attr}
 use Rattle.inotree.specs.declared.node.Kind.{Kind}
 use Rattle.inotree.specs.declared.node.Node.{Node}
 use Rattle.inotree.specs.declared.node.Place.TheVariants.{Gone}
-use Rattle.inotree.specs.Maps.{change_at}
+use Rattle.capbits.specs.Maps.{change_at}
 use Rattle.inotree.specs.Tree.{Nodes, IsTree, place_at}
 use Rattle.inotree.specs.Calls.{with_new, new_node, changed}
 use Rattle.inotree.proofs.Maps.{insert-other}

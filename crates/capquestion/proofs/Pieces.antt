@@ -9,22 +9,11 @@ use Rattle.std.proofs.lemmas.Bool.{false≢true}
 use Rattle.std.proofs.lemmas.List.Elements.{All-map, All-same, All-from_recursion, recursion_from_All}
 use Rattle.std.specs.Prelude.{Option, Some, None, Result, Ok, Err, IsOk}
 use Rattle.std.specs.Result.{result_ok}
-use Rattle.std.specs.Iterator.{Yields}
-use Rattle.std.proofs.lemmas.Iterator.{YieldsList}
-use Rattle.std.proofs.lemmas.Iterator.Consumers.{YieldsList-turn, YieldsList-end}
 use Rattle.std.proofs.lemmas.Simd.{map-map}
 use Rattle.capspec.proofs.Valued.{IsNumeric, numbers_are, pieces_are}
 use Rattle.capspec.specs.Items.{is_comma, IsNumber}
 use Rattle.capspec.specs.Separated.{AreSeparated}
 use Rattle.capquestion.specs.Values.{AreGroups}
-
--- where the item of this turn of a loop stands in the list that the loop goes over
-pub item_of_turn : {S A B : Type 0} {steps : S → Option A → S → Type 0} {v : A → B} {s : S} {all : List B} (xs : List A) (t : S) (y : Yields steps s xs t) (r : Option A) (u : S) (x : A) → r ≡ Some x → steps t r u → YieldsList steps v s all → (length xs < length all) × (v x ≡ get_or all (length xs) (v x))
-item_of_turn xs t y r u x is step road = YieldsList-turn road xs t y r u x is step
-
--- at its end a loop went over the whole list
-pub items_at_end : {S A B : Type 0} {steps : S → Option A → S → Type 0} {v : A → B} {s : S} {all : List B} (xs : List A) (t : S) (y : Yields steps s xs t) (r : Option A) (u : S) → r ≡ None → steps t r u → YieldsList steps v s all → map v xs ≡ all
-items_at_end xs t y r u is step road = (YieldsList-end road xs t y r u is step).0
 
 -- what can't take one more is full
 pub is_full : {T E : Type 0} (r : Result T E) (o : Option T) (n cap : ℕ) → o ≡ None → o ≡ result_ok r → (n < cap → IsOk r) → cap ≤ n

@@ -1,25 +1,14 @@
 -- Group numbers between commas: what a loop over the pieces knows of the whole text.
 use Rattle.std.proofs.Common.{◌≡◌, ℕ, ◌^◌, ◌<◌, ◌≤◌, Bool, true, false, zero, suc, List, [], ◌∷◌, ◌++◌, length, map, get_or, refl, sym, ap, subst, ◌∙◌, arith, inl, inr}
-use Rattle.std.specs.Iterator.{Yields}
 use Rattle.std.specs.List.{slice_split}
 use Rattle.std.specs.Prelude.{◌⊎◌, nat_lt, nat_le, ◌&&◌, bytes_eq, codes, Option, Some, None, Result, Ok, Err, IsOk, OnOk, is_err, IsErrAnd, if◌then◌else◌}
 use Rattle.std.specs.Str.Parse.{digits_value}
 use Rattle.std.proofs.lemmas.Bool.{false≢true}
 use Rattle.std.proofs.lemmas.Bool.Decides.{nat_tests}
-use Rattle.std.proofs.lemmas.Iterator.{YieldsList}
-use Rattle.std.proofs.lemmas.Iterator.Consumers.{YieldsList-turn, YieldsList-end}
 use Rattle.capspec.specs.Items.{is_comma}
 use Rattle.capscript.specs.declared.fault.LineFault.{LineFault}
 use Rattle.capscript.specs.declared.fault.LineFault.TheVariants.{Number}
 use Rattle.capscript.specs.Values.{is_numeral, number_in, numbers_in, list_in, groups_in, ◌>>=◌}
-
--- where the item of this turn of a loop stands in the list that the loop goes over
-pub item_of_turn : {S A B : Type 0} {steps : S → Option A → S → Type 0} {v : A → B} {s : S} {all : List B} (xs : List A) (t : S) (y : Yields steps s xs t) (r : Option A) (u : S) (x : A) → r ≡ Some x → steps t r u → YieldsList steps v s all → (length xs < length all) × (v x ≡ get_or all (length xs) (v x))
-item_of_turn xs t y r u x is step road = YieldsList-turn road xs t y r u x is step
-
--- at its end a loop went over the whole list
-pub items_at_end : {S A B : Type 0} {steps : S → Option A → S → Type 0} {v : A → B} {s : S} {all : List B} (xs : List A) (t : S) (y : Yields steps s xs t) (r : Option A) (u : S) → r ≡ None → steps t r u → YieldsList steps v s all → map v xs ≡ all
-items_at_end xs t y r u is step road = (YieldsList-end road xs t y r u is step).0
 
 abbrev pub between_commas : List ℕ → List (List ℕ)
 between_commas text = slice_split is_comma text

@@ -9,7 +9,7 @@ use Rattle.inotree.specs.declared.node.Node.{Node}
 use Rattle.inotree.specs.declared.node.Place.TheVariants.{NoIno, Gone, Here}
 use Rattle.inotree.specs.declared.node.Site.{Site}
 use Rattle.inotree.specs.declared.node.Site.TheVariants.{Root, Under, Stray}
-use Rattle.inotree.specs.Maps.{change_at}
+use Rattle.capbits.specs.Maps.{change_at}
 use Rattle.inotree.specs.Inodes.{InodeMap}
 use Rattle.inotree.specs.Tree.{Nodes, IsTree, IsUnder, site_of, place, place_at, path_at, path_of, upward, names_up}
 use Rattle.inotree.specs.Calls.{new_node, with_new, changed, forgotten}

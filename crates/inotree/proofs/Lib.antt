@@ -2,7 +2,6 @@ pub mod Below
 pub mod Changes
 pub mod Copies
 pub mod Elsewhere
-pub mod Entries
 pub mod Found
 pub mod Gathering
 pub mod Growing

@@ -11,7 +11,7 @@ use Rattle.inotree.specs.declared.node.Node.{Node}
 use Rattle.inotree.specs.declared.node.Setting.{Setting}
 use Rattle.inotree.specs.declared.node.Site.TheVariants.{Root, Stray}
 use Rattle.inotree.specs.Names.{is_bad_attribute}
-use Rattle.inotree.specs.Maps.{change_at}
+use Rattle.capbits.specs.Maps.{change_at}
 use Rattle.inotree.specs.Inodes.{InodeMap, with_site, with_setting, with_attribute, without_attribute}
 use Rattle.inotree.specs.Tree.{Nodes, IsTree, IsChildless, HasGoodNames, site_of, place, place_at, path_of, is_directory, reaches}
 use Rattle.inotree.specs.Calls.{changed, unlinked}

@@ -1,5 +1,4 @@
 pub mod Names
-pub mod Maps
 pub mod Node
 pub mod Inodes
 pub mod Index

@@ -2,7 +2,7 @@
 ghost use Rattle.std.specs.Prelude.{◌≡◌, IfOk, OnOk, OnErr};
 ghost use Rattle.std.specs.Option.{option_copied, option_map};
 ghost use Rattle.std.specs.FinMap as map;
-ghost use Rattle.inotree.specs.Maps.{change_at};
+ghost use Rattle.capbits.specs.Maps.{change_at};
 ghost use Rattle.inotree.specs.Inodes.{with_setting, with_site, with_attribute, without_attribute, with_snapshot, without_snapshot};
 ghost use Rattle.inotree.specs.Tree.{site_of, slot_at, parent, is_within, names_up};
 

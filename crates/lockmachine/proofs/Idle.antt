@@ -17,15 +17,11 @@ use Rattle.lockmachine.specs.declared.moves.Move.TheVariants.{Settled}
 use Rattle.lockmachine.specs.Inodes.{lock_in, in_sync}
 use Rattle.lockmachine.specs.Scene.{Scene, target}
 use Rattle.lockmachine.specs.Moves.{LockPlace, places, may_end, may_begin, may_serve, serve_or_begin, begin_or_rest, end_or_serve, first_move}
+use Rattle.lockmachine.proofs.Finding.{find_none}
 
 -- the locks of an inode, if it has any, are in SYNC
 abbrev pub InSync : Scene → Type 0
 InSync s = (ino : ℕ) (locks : InodeLocks) → map.get s.locks.states ino ≡ Some locks → locks ≡ in_sync
-
--- where no element passes a test, none is found
-pub find_nothing : {T : Type 0} (p : T → Bool) → ((x : T) → p x ≡ false) → (xs : List T) → find p xs ≡ None
-find_nothing p fails [] = refl
-find_nothing p fails (x ∷ xs) = ap (λ b. cond b (Some x) (find p xs)) (fails x) ∙ find_nothing p fails xs
 
 -- a lock that nobody wants stays where it is
 unwanted : (part : Part) (state : State) (loner : Option (ClientId × Caps)) → target_of part state Empty loner no_caps ≡ state
@@ -56,6 +52,6 @@ module _ (s : Scene) (rows : s.table.rows ≡ []) (queue : s.locks.queue ≡ [])
   pub idle : first_move s ≡ Settled
   unfolding first_move
   idle =
-      ap (end_or_serve s) (find_nothing (may_end s) (λ at. in_no_gather at (map.get s.locks.states at.0) refl) (places s.locks))
+      ap (end_or_serve s) (find_none (may_end s) (places s.locks) (λ at inside. in_no_gather at (map.get s.locks.states at.0) refl))
       ∙ ap (λ q. serve_or_begin s (find (may_serve s.locks) q)) queue
-      ∙ ap (begin_or_rest s) (find_nothing (may_begin s) (λ at. at_target at (map.get s.locks.states at.0) refl) (places s.locks))
+      ∙ ap (begin_or_rest s) (find_none (may_begin s) (places s.locks) (λ at inside. at_target at (map.get s.locks.states at.0) refl))

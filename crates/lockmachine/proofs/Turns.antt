@@ -15,7 +15,7 @@ use Rattle.lockmachine.specs.Moves.{LockPlace, places, may_end, may_end_in, may_
 use Rattle.lockmachine.specs.Runs.{ChangesLocksOf}
 use Rattle.lockmachine.specs.Elsewhere.{IsSameBut}
 use Rattle.lockmachine.specs.Turns.{IsTurnOf, IsDoneAt, NothingEnds}
-use Rattle.lockmachine.proofs.Idle.{find_nothing}
+use Rattle.lockmachine.proofs.Finding.{find_none}
 use Rattle.lockmachine.proofs.Rest.{none_at}
 use Rattle.lockmachine.proofs.Finding.{find_none, by_number}
 use Rattle.lockmachine.proofs.SameBut.{same-at, same-locks, begin-alike, end-alike}
@@ -47,9 +47,9 @@ pub turn-rests : (s : Scene) (a : ℕ) → IsTurnOf s a → IsDoneAt s a
     → ((other : ℕ) (part : Part) → a < other → may_begin s (other, part) ≡ false) → first_move s ≡ Settled
 unfolding first_move
 turn-rests s a turn done above =
-    ap (end_or_serve s) (find_nothing (may_end s) (λ at. done-ends s a turn done at.0 at.1) (places s.locks))
+    ap (end_or_serve s) (find_none (may_end s) (places s.locks) (λ at inside. done-ends s a turn done at.0 at.1))
     ∙ ap (serve_or_begin s) (find_none (may_serve s.locks) s.locks.queue done.serves)
-    ∙ ap (begin_or_rest s) (find_nothing (may_begin s) (λ at. done-begins s a turn done at.0 at.1 (above at.0 at.1)) (places s.locks))
+    ∙ ap (begin_or_rest s) (find_none (may_begin s) (places s.locks) (λ at inside. done-begins s a turn done at.0 at.1 (above at.0 at.1)))
 
 -- ---- what is served, and what no gather's end comes before
 

@@ -2,7 +2,7 @@
 ghost use Rattle.std.specs.Prelude.{◌≡◌, ◌+◌, OnOk, OnErr};
 ghost use Rattle.std.specs.Option.{option_copied};
 ghost use Rattle.std.specs.FinMap as map;
-ghost use Rattle.inotree.specs.Maps.{change_at};
+ghost use Rattle.capbits.specs.Maps.{change_at};
 ghost use Rattle.lockmachine.specs.Inodes as words;
 ghost use Rattle.lockmachine.specs.Inodes.{IsNext};
 

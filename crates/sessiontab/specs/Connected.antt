@@ -1,10 +1,10 @@
 -- The sessions by client.
 use Rattle.std.specs.Prelude.{ℕ}
 use Rattle.std.specs.Coded.{Coded, coded_ℕ}
-use Rattle.std.specs.Option.{option_map_or}
 use Rattle.std.specs.Ordering.{nat_cmp}
 use Rattle.std.specs.FinMap as map
 use Rattle.std.specs.FinMap.{FinMap}
+use Rattle.capbits.specs.Maps.{change_at}
 use Rattle.sessiontab.specs.declared.session.Session.{Session}
 use Rattle.sessiontab.specs.contracts.session.Session as session
 
@@ -18,4 +18,4 @@ session_map_code = map.code coded_ℕ session.the_row.coded
 
 -- the sessions with the client's one changed by f, where it has one
 abbrev pub change_session : (Session → Session) → SessionMap → ℕ → SessionMap
-change_session f sessions client = option_map_or (λ session. map.insert sessions client (f session)) (map.get sessions client) sessions
+change_session f sessions client = change_at f sessions client

@@ -1,4 +1,4 @@
-//! The one form in which grants are written.
+//! The one form in which grants are written, of the longest and of none. Other forms stand in the talks of `casebook`.
 
 use crate::asserting::{holds, made, same};
 use crate::texts::{copy_of, grants_of, long_text, written};
@@ -10,83 +10,6 @@ use std::process::Abort;
 fn form_of(rt: &(impl Abort + AllocGlobal), text: &[u8]) -> Vec<u8> {
     let grants = grants_of(rt, text);
     written(rt, &grants)
-}
-
-// Sees in which form the grants of a text are written, and that the form is written as itself.
-fn is_written(rt: &(impl Abort + AllocGlobal), text: &str, form: &str) {
-    let written = form_of(rt, text.as_bytes());
-    same(rt, written.as_slice(), form.as_bytes(), ("once", text));
-    let again = form_of(rt, written.as_slice());
-    same(rt, again.as_slice(), form.as_bytes(), ("again", text));
-}
-
-// Texts of grants, and the form in which these are written.
-const FORMS: &[(&str, &str)] = &[
-    (
-        "allow rw uid=1 gids=1,2,allow r",
-        "allow rw uid=1 gids=1,2, allow r",
-    ),
-    ("allow rwps", "allow rwps"),
-    ("allow *", "allow rwps"),
-    ("allow all", "allow rwps"),
-    (
-        " allow r ;\tallow rw\n,allow rwp;allow rws ",
-        "allow r, allow rw, allow rwp, allow rws",
-    ),
-    (
-        "allow rw root_squash gids=5 path=srv//www uid=0005;allow r",
-        "allow rw path=/srv/www uid=5 gids=5 root_squash, allow r",
-    ),
-    (
-        "allow r root_squash gids=7 uid=8 path=/p fsname=f",
-        "allow r fsname=f path=/p uid=8 gids=7 root_squash",
-    ),
-    ("allow rw fsname=*", "allow rw"),
-    ("allow rw fsname=A.b_9-", "allow rw fsname=A.b_9-"),
-    ("allow r uid=0000", "allow r uid=0"),
-    ("allow r uid=4294967295", "allow r uid=4294967295"),
-    (
-        "allow r uid=10 gids=020,0,020",
-        "allow r uid=10 gids=20,0,20",
-    ),
-];
-
-fn are_written(rt: &(impl Abort + AllocGlobal), forms: &[(&str, &str)]) {
-    for row in forms {
-        let (text, form) = *row;
-        is_written(rt, text, form);
-    }
-}
-
-#[test]
-fn grants_have_one_written_form(rt: HostRuntime) {
-    are_written(&rt, FORMS);
-}
-
-// Texts with a path, and the form in which these are written.
-const PATHS: &[(&str, &str)] = &[
-    ("allow r path=/", "allow r"),
-    ("allow r path=\"//\"", "allow r"),
-    ("allow r path=a", "allow r path=/a"),
-    ("allow r path=//a//b/", "allow r path=/a/b"),
-    ("allow r path=A.b_9-/..", "allow r path=/A.b_9-/.."),
-    ("allow r path=\"/a\"", "allow r path=/a"),
-    ("allow r path='a/b'", "allow r path=/a/b"),
-    ("allow r path='/a b'", "allow r path=\"/a b\""),
-    ("allow r path=\"/a,b;c\"", "allow r path=\"/a,b;c\""),
-    ("allow r path='/a*'", "allow r path=\"/a*\""),
-    ("allow r path=\"/\u{e9}\"", "allow r path=\"/\u{e9}\""),
-    ("allow r path=\"it's\"", "allow r path=\"/it's\""),
-    ("allow r path='say \"x\"'", "allow r path='/say \"x\"'"),
-    ("allow r path='\"'", "allow r path='/\"'"),
-    ("allow r path=\"'\"", "allow r path=\"/'\""),
-    ("allow r path=' / a/'", "allow r path=\"/ / a\""),
-    ("allow r path=\" path=/x\"", "allow r path=\"/ path=/x\""),
-];
-
-#[test]
-fn a_path_is_bare_where_it_can_be(rt: HostRuntime) {
-    are_written(&rt, PATHS);
 }
 
 // A path of as many names as there may be, each as long as it can be, of these letters.

@@ -1,4 +1,5 @@
-//! Grant texts: their faults, the grants that they mean, and the paths and names in them.
+//! Grant texts: how long they may be, the grants that they mean, and the paths and names in them. Their faults are asked for in
+//! the talks of `casebook`.
 
 use crate::asserting::{made, same};
 use crate::texts::{Long, copy_of, grants_of, long_text, written};
@@ -11,73 +12,6 @@ fn fault_in(alloc: Global, text: &str) -> Option<(SpecFaultKind, usize)> {
     match read_grants(alloc, text.as_bytes()) {
         Ok(_) => None,
         Err(SpecFault { at, kind }) => Some((kind, at)),
-    }
-}
-
-const FAULTS: &[(&str, SpecFaultKind, usize)] = &[
-    ("", SpecFaultKind::Empty, 0),
-    ("   ", SpecFaultKind::Empty, 3),
-    ("allow rwsp", SpecFaultKind::BadFlags, 6),
-    ("allow rwf", SpecFaultKind::LeftOut, 6),
-    ("allow rw network 10.0.0.0/8", SpecFaultKind::LeftOut, 9),
-    ("allow rw path=\"/a", SpecFaultKind::OpenQuote, 9),
-    ("allow r,", SpecFaultKind::NotAllow, 8),
-    ("allow rw gids=1", SpecFaultKind::GidsWithoutUid, 9),
-    ("allow rw uid=1 uid=2", SpecFaultKind::Twice, 15),
-    ("allow rw uid=4294967296", SpecFaultKind::BadNumber, 9),
-    ("allow rw path=/a*", SpecFaultKind::BadPath, 9),
-    ("allow rw pa", SpecFaultKind::BadItem, 9),
-    ("allow rw path=", SpecFaultKind::BadPath, 9),
-    ("allow rw path=/a,", SpecFaultKind::NotAllow, 17),
-    ("allow rw path=/a, allow", SpecFaultKind::BadFlags, 23),
-    ("allo", SpecFaultKind::NotAllow, 0),
-    ("allow rw path=\"/a\"b", SpecFaultKind::BadItem, 9),
-    ("allow rw uid=1 gids=1,", SpecFaultKind::NotAllow, 22),
-    ("allow", SpecFaultKind::BadFlags, 5),
-    ("allow  ", SpecFaultKind::BadFlags, 7),
-    ("allow r, ", SpecFaultKind::NotAllow, 9),
-    ("allow rff", SpecFaultKind::BadFlags, 6),
-    ("allow path=\"a b\"", SpecFaultKind::BadFlags, 6),
-    ("allow rw fsname=* fsname=a", SpecFaultKind::Twice, 18),
-    (
-        "allow rw root_squash root_squashed",
-        SpecFaultKind::BadItem,
-        21,
-    ),
-    (
-        "allow rw gids=1 root_squash",
-        SpecFaultKind::GidsWithoutUid,
-        9,
-    ),
-    ("allow rw uid=1 gids=1,2x", SpecFaultKind::BadNumber, 15),
-    ("allow rw uid=1 gids=", SpecFaultKind::BadNumber, 15),
-    ("allow rw path='/a\"", SpecFaultKind::OpenQuote, 9),
-    ("allow rw path=\"\"", SpecFaultKind::BadPath, 9),
-    (",allow r", SpecFaultKind::NotAllow, 0),
-    ("allow rw uid=1 gids=1,2 ,3", SpecFaultKind::NotAllow, 25),
-    ("allow rw uid=1 uid=x", SpecFaultKind::Twice, 15),
-    (
-        "allow rw uid=1 gids=4294967296,1",
-        SpecFaultKind::BadNumber,
-        15,
-    ),
-    ("allow rw path=\"/a\u{7}\"x", SpecFaultKind::BadItem, 9),
-    ("allow rw root_squash=1", SpecFaultKind::BadItem, 9),
-    ("allowr r", SpecFaultKind::NotAllow, 0),
-    ("allow rw gids=1 uid=x", SpecFaultKind::BadNumber, 16),
-    (
-        "allow rw uid=1 gids=0,1,2,3,4,5,6,7,8,9,10,11,12,13,14,15,16x",
-        SpecFaultKind::BadNumber,
-        15,
-    ),
-    ("allow, allow r", SpecFaultKind::BadFlags, 5),
-];
-
-#[test]
-fn each_fault_has_its_place(rt: HostRuntime) {
-    for (text, kind, at) in FAULTS {
-        let found = fault_in(rt.alloc(), text);
-        same(&rt, found, Some((*kind, *at)), *text);
     }
 }
 

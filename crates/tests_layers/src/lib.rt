@@ -1,4 +1,4 @@
-//! Tests of the public calls of the crates below the core: capabilities, grants, verdicts and the lock table, and the crates
+//! Tests of the public calls of the crates below the core: capabilities, grants, what these permit, and the lock table, and the crates
 //! that keep state, which are the tree, the table of capabilities, sessions and locks.
 //!
 //! They stand in a crate of their own, since a crate with tests is proved twice.
@@ -31,6 +31,8 @@ mod locks;
 #[cfg(test)]
 mod numbers;
 #[cfg(test)]
+mod permitted;
+#[cfg(test)]
 mod queue;
 #[cfg(test)]
 mod sessions;
@@ -44,5 +46,3 @@ mod tree;
 mod tree_steps;
 #[cfg(test)]
 mod triple_lists;
-#[cfg(test)]
-mod verdicts;

@@ -1,6 +1,6 @@
 use Rattle.std.proofs.Common.{ap, ◌∙◌}
 use Rattle.std.specs.FinMap as map
-use Rattle.inotree.proofs.Entries.{insert-entries}
+use Rattle.capbits.proofs.Entries.{insert-entries}
 use Rattle.inotree.proofs.Order.{name_total, name_same}
 use Rattle.inotree.proofs.attributes.Attributes.insert.Goals as goal
 

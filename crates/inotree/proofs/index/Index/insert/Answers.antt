@@ -1,6 +1,6 @@
 use Rattle.std.proofs.Common.{ap, ◌∙◌}
 use Rattle.std.specs.FinMap as map
-use Rattle.inotree.proofs.Entries.{insert-entries}
+use Rattle.capbits.proofs.Entries.{insert-entries}
 use Rattle.inotree.proofs.Slots.{slot_total, slot_same}
 use Rattle.inotree.proofs.index.Index.insert.Goals as goal
 

@@ -2,7 +2,7 @@ use Rattle.std.proofs.Common.{◌≡◌, ℕ, ◌<◌, ◌^◌, ◌==◌, sym, a
 use Rattle.std.specs.List.{filter, AllByRecursion}
 use Rattle.std.specs.FinMap as map
 use Rattle.inotree.specs.declared.index.Slot.{Slot}
-use Rattle.inotree.proofs.Entries.{entries-entries}
+use Rattle.capbits.proofs.Entries.{entries-entries}
 use Rattle.inotree.proofs.Slots.{slot_total, slot_same, up_to_next, up_to_end}
 use Rattle.inotree.proofs.index.Index.names_in.Goals as goal
 use Rattle.inotree.proofs.index.Index.names_in.Goals.{in-Some, in-None}

@@ -2,9 +2,9 @@ use Rattle.std.proofs.Common.{â„•, IsSome, OnOk, OnErr, refl, sym, ap, subst, â—
 use Rattle.std.specs.Cmp.{nat_cmp_total}
 use Rattle.std.specs.FinMap as map
 use Rattle.inotree.specs.declared.node.Node.{Node}
-use Rattle.inotree.specs.Maps.{change_at}
+use Rattle.capbits.specs.Maps.{change_at}
 use Rattle.inotree.specs.Inodes.{InodeMap, with_snapshot}
-use Rattle.inotree.proofs.Entries.{change-entries, change-no_entry, same-entries}
+use Rattle.capbits.proofs.Entries.{change-entries, change-no_entry, same-entries}
 use Rattle.inotree.proofs.Results.{on_ok, on_err, ok_of, err_of}
 use Rattle.inotree.proofs.inodes.Inodes.add_snapshot.Goals as goal
 use Rattle.inotree.proofs.inodes.Inodes.add_snapshot.Goals.{in-Some, in-None}

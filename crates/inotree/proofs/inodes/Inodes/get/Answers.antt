@@ -1,7 +1,7 @@
 use Rattle.std.proofs.Common.{sym, ap, ◌∙◌}
 use Rattle.std.specs.Cmp.{nat_cmp_total}
 use Rattle.std.specs.FinMap as map
-use Rattle.inotree.proofs.Entries.{get-entries}
+use Rattle.capbits.proofs.Entries.{get-entries}
 use Rattle.inotree.proofs.inodes.Inodes.get.Goals as goal
 
 pub returns : goal.returns

@@ -1,7 +1,7 @@
 use Rattle.std.proofs.Common.{ap, ◌∙◌}
 use Rattle.std.specs.Cmp.{nat_cmp_total}
 use Rattle.std.specs.FinMap as map
-use Rattle.inotree.proofs.Entries.{insert-entries}
+use Rattle.capbits.proofs.Entries.{insert-entries}
 use Rattle.inotree.proofs.inodes.Inodes.insert.Goals as goal
 
 pub returns-clause-ok : goal.returns-clause-ok

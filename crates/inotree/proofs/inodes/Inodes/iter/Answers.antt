@@ -1,6 +1,6 @@
 use Rattle.std.proofs.Common.{sym, ap, ◌∙◌}
 use Rattle.std.specs.FinMap as map
-use Rattle.inotree.proofs.Entries.{entries-entries}
+use Rattle.capbits.proofs.Entries.{entries-entries}
 use Rattle.std.specs.Cmp.{nat_cmp_total}
 use Rattle.inotree.proofs.inodes.Inodes.iter.Goals as goal
 

@@ -1,7 +1,7 @@
 use Rattle.std.proofs.Common.{ap, ◌∙◌}
 use Rattle.std.specs.Cmp.{nat_cmp_total}
 use Rattle.std.specs.FinMap as map
-use Rattle.inotree.proofs.Entries.{remove-entries}
+use Rattle.capbits.proofs.Entries.{remove-entries}
 use Rattle.inotree.proofs.inodes.Inodes.remove.Goals as goal
 
 pub returns : goal.returns

@@ -2,9 +2,9 @@ use Rattle.std.proofs.Common.{ℕ, IsSome, refl, sym, ap, subst, ◌∙◌}
 use Rattle.std.specs.Cmp.{nat_cmp_total}
 use Rattle.std.specs.FinMap as map
 use Rattle.inotree.specs.declared.node.Node.{Node}
-use Rattle.inotree.specs.Maps.{change_at}
+use Rattle.capbits.specs.Maps.{change_at}
 use Rattle.inotree.specs.Inodes.{InodeMap, without_snapshot}
-use Rattle.inotree.proofs.Entries.{change-entries, change-no_entry}
+use Rattle.capbits.proofs.Entries.{change-entries, change-no_entry}
 use Rattle.inotree.proofs.inodes.Inodes.remove_snapshot.Goals as goal
 use Rattle.inotree.proofs.inodes.Inodes.remove_snapshot.Goals.{in-Some, in_default}
 

@@ -1,6 +1,6 @@
 use Rattle.std.proofs.Common.{ap, ◌∙◌}
 use Rattle.std.specs.FinSet as set
-use Rattle.inotree.proofs.Entries.{insert-keys}
+use Rattle.capbits.proofs.Entries.{insert-keys}
 use Rattle.inotree.proofs.Order.{name_total, name_same}
 use Rattle.inotree.proofs.snapshots.Snapshots.insert.Goals as goal
 

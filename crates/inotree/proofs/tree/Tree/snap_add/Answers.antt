@@ -1,6 +1,6 @@
 use Rattle.std.proofs.Common.{◌≡◌, false, refl, ap, ◌∙◌}
 use Rattle.inotree.specs.Names.{is_bad_name}
-use Rattle.inotree.specs.Maps.{change_at}
+use Rattle.capbits.specs.Maps.{change_at}
 use Rattle.inotree.specs.Inodes.{InodeMap, with_snapshot}
 use Rattle.inotree.proofs.Changes.{kept-any, kept_at}
 use Rattle.inotree.proofs.Inner.{snapshot_good}

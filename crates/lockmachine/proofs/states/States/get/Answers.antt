@@ -1,6 +1,6 @@
 use Rattle.std.proofs.Common.{sym, ap, ◌∙◌}
 use Rattle.std.specs.FinMap as map
-use Rattle.sessiontab.proofs.Entries.{get-entries}
+use Rattle.capbits.proofs.Entries.{get-entries}
 use Rattle.lockmachine.proofs.states.States.get.Goals as goal
 
 pub returns : goal.returns

@@ -1,6 +1,6 @@
 use Rattle.std.proofs.Common.{ap, ◌∙◌}
 use Rattle.std.specs.FinMap as map
-use Rattle.sessiontab.proofs.Entries.{insert-entries}
+use Rattle.capbits.proofs.Entries.{insert-entries}
 use Rattle.lockmachine.proofs.states.States.insert.Goals as goal
 
 pub returns-clause-ok : goal.returns-clause-ok

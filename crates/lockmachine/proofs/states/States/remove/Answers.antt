@@ -1,6 +1,6 @@
 use Rattle.std.proofs.Common.{ap, ◌∙◌}
 use Rattle.std.specs.FinMap as map
-use Rattle.sessiontab.proofs.Entries.{remove-entries}
+use Rattle.capbits.proofs.Entries.{remove-entries}
 use Rattle.lockmachine.proofs.states.States.remove.Goals as goal
 
 pub returns : goal.returns

@@ -1,7 +1,7 @@
 use Rattle.std.proofs.Common.{sym, ap, ◌∙◌}
 use Rattle.std.specs.Cmp.{nat_cmp_total}
 use Rattle.std.specs.FinSet as set
-use Rattle.sessiontab.proofs.Entries.{remove-keys}
+use Rattle.capbits.proofs.Entries.{remove-keys}
 use Rattle.sessiontab.proofs.blocklist.Blocklist.remove.Goals as goal
 
 pub returns-clause-had : goal.returns-clause-had
@@ -11,5 +11,5 @@ returns-clause-had c =
 
 pub returns-clause-out : goal.returns-clause-out
 returns-clause-out c =
-    remove-keys c.self.inside.clients.keys c.remove.new.self.keys c.args.client.0 c.remove.ensures.updates.0
+    remove-keys nat_cmp_total set.nat_cmp-IsAntisymmetric c.self.inside.clients.keys c.remove.new.self.keys c.args.client.0 c.remove.ensures.updates.0
     ∙ ap (λ s. set.remove s c.args.client.0) c.self.view_is

@@ -11,7 +11,7 @@ use Rattle.std.specs.List.Sorted.{IsStrictlySortedBy}
 use Rattle.std.specs.Map.{lookup, keys_of}
 use Rattle.std.specs.Option.{option_map_or}
 use Rattle.std.specs.Ordering.{is_eq, eq_by_cmp}
-use Rattle.inotree.specs.Maps.{change_at}
+use Rattle.capbits.specs.Maps.{change_at}
 use Rattle.std.proofs.lemmas.Map.Keys.{sorted_head, sorted_tail}
 
 or_cond : (a b : Bool) → cond a true b ≡ (a || b)
