@@ -12,7 +12,7 @@ use Rattle.lockmachine.specs.Requests.{part_of_ask, head_of_ask, first_for, is_n
 use Rattle.lockmachine.specs.Locks.{lock_at}
 use Rattle.lockmachine.specs.Scene.{Scene, wanted_in_all}
 use Rattle.lockmachine.specs.Moves.{LockPlace, same_state, places, may_end, may_end_in, may_begin, may_begin_in, may_serve, is_served_in, serve_or_begin, begin_or_rest, end_or_serve, first_move, IsQuiet, IsAtRest}
-use Rattle.lockmachine.proofs.Idle.{find_nothing}
+use Rattle.lockmachine.proofs.Finding.{find_none}
 
 and_false : (b : Bool) → (b && false) ≡ false
 and_false true = refl
@@ -43,6 +43,6 @@ serves_not s r (Some (Stable state)) q = ap (λ f. option_map_or (is_numbered r.
 pub settled : (s : Scene) → IsAtRest s → first_move s ≡ Settled
 unfolding first_move
 settled s rest =
-    ap (end_or_serve s) (find_nothing (may_end s) (λ at. ends_not s at (lock_at s.locks at.0 at.1) (rest.each at.0 at.1)) (places s.locks))
-    ∙ ap (serve_or_begin s) (find_nothing (may_serve s.locks) (λ r. serves_not s r (lock_at s.locks r.ino.0 (part_of_ask r.ask)) (rest.each r.ino.0 (part_of_ask r.ask))) s.locks.queue)
-    ∙ ap (begin_or_rest s) (find_nothing (may_begin s) (λ at. begins_not s at (lock_at s.locks at.0 at.1) (rest.each at.0 at.1)) (places s.locks))
+    ap (end_or_serve s) (find_none (may_end s) (places s.locks) (λ at inside. ends_not s at (lock_at s.locks at.0 at.1) (rest.each at.0 at.1)))
+    ∙ ap (serve_or_begin s) (find_none (may_serve s.locks) s.locks.queue (λ r inside. serves_not s r (lock_at s.locks r.ino.0 (part_of_ask r.ask)) (rest.each r.ino.0 (part_of_ask r.ask))))
+    ∙ ap (begin_or_rest s) (find_none (may_begin s) (places s.locks) (λ at inside. begins_not s at (lock_at s.locks at.0 at.1) (rest.each at.0 at.1)))

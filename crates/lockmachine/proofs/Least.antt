@@ -47,7 +47,7 @@ begins-behind from = record {
 
 module _ (m : BTreeMap ℕ InodeLocks) (states : StateMap) (is : map.from_entries {R = nat_cmp} m.entries ≡ states) (low : Bound ℕ) (from : ℕ) (begins : Begins low from) where
   at_key : (k : ℕ) → map.get states k ≡ get nat_cmp m k
-  at_key k = ap (λ (t : StateMap). map.get t k) (sym is) ∙ get-entries m.entries k
+  at_key k = ap (λ (t : StateMap). map.get t k) (sym is) ∙ get-entries nat_cmp_total map.nat_cmp-IsAntisymmetric m.entries k
 
   -- where nothing lies within the bound, no such inode has locks
   pub none-from : IsRangeOf nat_cmp low Unbounded m [] → (k : ℕ) → from ≤ k → map.contains_key states k ≡ false

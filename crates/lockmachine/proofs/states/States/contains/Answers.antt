@@ -1,4 +1,5 @@
 use Rattle.std.proofs.Common.{is_some, sym, ap, ◌∙◌}
+use Rattle.std.specs.Cmp.{nat_cmp_total}
 use Rattle.std.specs.FinMap as map
 use Rattle.capbits.proofs.Entries.{get-entries}
 use Rattle.lockmachine.proofs.states.States.contains.Goals as goal
@@ -6,4 +7,4 @@ use Rattle.lockmachine.proofs.states.States.contains.Goals as goal
 pub returns : goal.returns
 returns c =
     c.contains_key.ensures
-    ∙ ap is_some (sym (get-entries c.self.inside.locks.entries c.args.ino.0) ∙ ap (λ m. map.get m c.args.ino.0) c.self.view_is)
+    ∙ ap is_some (sym (get-entries nat_cmp_total map.nat_cmp-IsAntisymmetric c.self.inside.locks.entries c.args.ino.0) ∙ ap (λ m. map.get m c.args.ino.0) c.self.view_is)
