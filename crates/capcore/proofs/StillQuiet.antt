@@ -13,7 +13,7 @@ pub still_quiet : (old new : Scene) (ino : ℕ) (part : Part) → new.locks.queu
     → ((goal : LockGoal) → is_open new ino part goal ≡ is_open old ino part goal) → (lock : Option LockState) → IsQuiet old ino part lock → IsQuiet new ino part lock
 still_quiet old new ino part queue wanted as_open None quiet = ap (λ q. first_for q ino part) queue ∙ quiet
 still_quiet old new ino part queue wanted as_open (Some (Stable state)) quiet = (
-    ap (λ q. target_by q (in_all (wants new ino)) ino part state) queue ∙ ap (λ each. target_by old.locks.queue (in_all each) ino part state) wanted ∙ quiet.0,
-    ap (λ q. first_for q ino part) queue ∙ quiet.1,
+  ap (λ q. target_by q (in_all (wants new ino)) ino part state) queue ∙ ap (λ each. target_by old.locks.queue (in_all each) ino part state) wanted ∙ quiet.0,
+  ap (λ q. first_for q ino part) queue ∙ quiet.1,
 )
 still_quiet old new ino part queue wanted as_open (Some (Gather from goal)) quiet = as_open goal ∙ quiet
