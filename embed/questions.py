@@ -29,7 +29,8 @@ def some_grant(pick, path):
         # Often a beginning of the path that is asked for.
         names = [it for it in path.split("/") if it]
         below = "/".join(names[: pick.randint(0, len(names))]) if pick.random() < 0.6 else some_path(pick, 4)
-        quote = pick.choice(["", "", '"', "'"])
+        # A byte that a bare path can't have stands in quotes, mostly.
+        quote = pick.choice(["", "", '"', "'"] if below.isascii() or pick.random() < 0.02 else ['"', "'"])
         items.append(f"path={quote}/{below}{quote}")
     if pick.random() < 0.5:
         items.append(f"uid={pick.choice(IDS)}")
@@ -42,7 +43,7 @@ def some_grant(pick, path):
 
 
 def some_grants(pick, path):
-    count = pick.choice([1, 1, 2, 2, 3, 4, 16, 17]) if pick.random() < 0.9 else pick.randint(1, 16)
+    count = pick.choice([1, 1, 2, 2, 3, 4, 16]) if pick.random() < 0.9 else pick.randint(1, 17)
     text = pick.choice([", ", ",", ";", " ; "]).join(some_grant(pick, path) for _ in range(count))
     if pick.random() < 0.15:
         at = pick.randint(0, len(text))
@@ -70,7 +71,7 @@ def some_question(pick):
     if pick.random() < 0.02:
         values["mode"] = "10000"
     if pick.random() < 0.5:
-        count = pick.choice([1, 2, 3, 16, 17])
+        count = pick.choice([1, 2, 3, 16]) if pick.random() < 0.98 else 17
         values["groups"] = ",".join(str(pick.choice(IDS)) for _ in range(count))
     return values
 
