@@ -122,16 +122,8 @@ static int is_told(uint32_t status, const struct baybowl_fault *fault) {
     }
 }
 
-int main(int argc, char **argv) {
-    const char *values[OPTIONS] = {NULL};
-    /* One more than there may be, so that the library says so. */
-    uint32_t groups[17];
-    size_t groups_len;
-    struct baybowl_question question;
-    struct baybowl_answer answer;
-    struct baybowl_fault fault;
-    uint32_t status;
-
+/* Takes the values of the options from the command line. */
+static void read_values(int argc, char **argv, const char **values) {
     for (int at = 1; at + 1 < argc; at += 2) {
         for (int option = 0; option < OPTIONS; option++) {
             if (strcmp(argv[at], names[option]) == 0) {
@@ -142,17 +134,33 @@ int main(int argc, char **argv) {
     for (int option = 0; option < OPTIONS; option++) {
         if (values[option] == NULL && option != GROUPS) {
             fprintf(stderr, "explain: %s is missing\n", names[option]);
-            return 2;
+            exit(2);
         }
     }
-    question.uid = number(UID, values[UID], '\0', 10);
-    question.gid = number(GID, values[GID], '\0', 10);
-    question.owner = number(OWNER, values[OWNER], '\0', 10);
-    question.group = number(GROUP, values[GROUP], '\0', 10);
-    question.mode = number(MODE, values[MODE], '\0', 8);
-    read_access(values[ACCESS], &question);
-    groups_len = read_groups(values[GROUPS], groups, sizeof groups / sizeof groups[0]);
+}
 
+static void read_question(const char *const *values, struct baybowl_question *question) {
+    question->uid = number(UID, values[UID], '\0', 10);
+    question->gid = number(GID, values[GID], '\0', 10);
+    question->owner = number(OWNER, values[OWNER], '\0', 10);
+    question->group = number(GROUP, values[GROUP], '\0', 10);
+    question->mode = number(MODE, values[MODE], '\0', 8);
+    read_access(values[ACCESS], question);
+}
+
+int main(int argc, char **argv) {
+    const char *values[OPTIONS] = {NULL};
+    /* One more than there may be, so that the library says so. */
+    uint32_t groups[17];
+    size_t groups_len;
+    struct baybowl_question question;
+    struct baybowl_answer answer;
+    struct baybowl_fault fault;
+    uint32_t status;
+
+    read_values(argc, argv, values);
+    read_question(values, &question);
+    groups_len = read_groups(values[GROUPS], groups, sizeof groups / sizeof groups[0]);
     status = baybowl_verdict(values[GRANTS], strlen(values[GRANTS]), values[FS], strlen(values[FS]), values[PATH],
                              strlen(values[PATH]), groups, groups_len, &question, &answer, &fault);
     if (is_told(status, &fault)) {
