@@ -1,0 +1,69 @@
+//! Verdicts as numbers.
+ghost use Rattle.std.specs.Prelude.{◌≡◌, ◌≤◌, length};
+ghost use Rattle.capffi.specs.Answering.{answer_of, no_answer, rule_at, rule_numbers};
+
+use crate::passed::Answer;
+use capgrant::{Rule, Verdict};
+
+/// A verdict as numbers.
+pub(crate) fn answer_of(verdict: &Verdict) -> Answer
+    ensures { result ≡ answer_of verdict.now }
+{
+    match verdict {
+        Verdict::Allowed { grant } => Answer {
+            grant: *grant,
+            count: 0,
+            rules: rule_numbers(&[]),
+        },
+        Verdict::Denied { rules } => Answer {
+            grant: 0,
+            count: rules.len() as u32,
+            rules: rule_numbers(rules.as_slice()),
+        },
+    }
+}
+
+/// What stands in the place of an answer where there is none.
+pub(crate) fn no_answer() -> Answer
+    ensures { result ≡ no_answer }
+{
+    Answer {
+        grant: 0,
+        count: 0,
+        rules: [0; 16],
+    }
+}
+
+// The numbers of the rules at the places of an answer, each written out, so that each is one call.
+fn rule_numbers(rules: &[Rule]) -> [u8; 16]
+    ensures { result ≡ rule_numbers rules.now }
+{
+    [
+        rule_at(rules, 0),
+        rule_at(rules, 1),
+        rule_at(rules, 2),
+        rule_at(rules, 3),
+        rule_at(rules, 4),
+        rule_at(rules, 5),
+        rule_at(rules, 6),
+        rule_at(rules, 7),
+        rule_at(rules, 8),
+        rule_at(rules, 9),
+        rule_at(rules, 10),
+        rule_at(rules, 11),
+        rule_at(rules, 12),
+        rule_at(rules, 13),
+        rule_at(rules, 14),
+        rule_at(rules, 15),
+    ]
+}
+
+// The number of the rule at a place, or 0 where there is none.
+fn rule_at(rules: &[Rule], place: usize) -> u8
+    ensures { result ≡ rule_at rules.now place }
+{
+    match rules.get(place).copied() {
+        Some(rule) => rule.number(),
+        None => 0,
+    }
+}

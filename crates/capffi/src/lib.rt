@@ -1,0 +1,176 @@
+//! What a metadata server in C, C++ or Rust calls of this one: the verdict on grants, the reading and the writing of their
+//! text, the caps that they permit, and the table of the locks. `include/baybowl.h` declares it, and `docs/EMBED.md` is its page.
+//!
+//! Numbers and texts come in and go out; nothing is kept between calls. Each call answers a status, `OK` or why there is no
+//! answer. What it writes where there is no answer is zeros.
+#![tactic(auto)]
+
+mod answering;
+mod asking;
+mod locks;
+mod passed;
+mod texts;
+mod trouble;
+
+ghost use Rattle.std.specs.Prelude.{◌≡◌};
+ghost use Rattle.capffi.specs.Calls.{TellsVerdict, TellsPermitted, TellsCheck, TellsForm, TellsTarget, status, caps_bits};
+ghost use Rattle.capffi.specs.Locks.{allowed_by};
+
+use crate::answering::{answer_of, no_answer};
+use crate::asking::{judge, permit, read_text};
+use crate::locks::{allowed_by, numbers_of, target_of};
+use crate::texts::{form, put};
+use crate::trouble::no_fault;
+pub use passed::{Answer, Fault, Lock, Question, StableState, Wants};
+use std::alloc::Global;
+pub use trouble::{
+    ACCESS, CAPS, FS, GRANTS, GROUPS, HEAD, MEMORY, MODE, OK, PART, PATH, ROOM, STATE,
+};
+
+/// The version of these calls: each that changes what a call takes or answers has a greater one.
+pub const VERSION: u32 = 1;
+
+/// The version of these calls.
+#[unsafe(no_mangle)]
+pub extern "C" fn capffi_version() -> u32
+    ensures { result ≡ VERSION }
+{
+    VERSION
+}
+
+/// Whether the grants of a text let a caller make an access to an inode: by which grant, or by which rule each grant fails.
+#[unsafe(no_mangle)]
+pub extern "C" fn capffi_verdict(
+    alloc: Global,
+    grants: &[u8],
+    fs: &[u8],
+    path: &[u8],
+    groups: &[u32],
+    question: &Question,
+    answer: &mut Answer,
+    fault: &mut Fault,
+) -> u32
+    ensures { TellsVerdict grants.now fs.now path.now groups.now question.now result answer.new fault.new }
+{
+    match judge(alloc, grants, fs, path, groups, question) {
+        Ok(verdict) => {
+            *answer = answer_of(&verdict);
+            *fault = no_fault();
+            OK
+        }
+        Err(trouble) => {
+            *answer = no_answer();
+            *fault = trouble.fault();
+            trouble.status()
+        }
+    }
+}
+
+/// The caps, as bits, that the grants of a text permit a caller to hold of an inode.
+#[unsafe(no_mangle)]
+pub extern "C" fn capffi_permitted(
+    alloc: Global,
+    grants: &[u8],
+    fs: &[u8],
+    path: &[u8],
+    groups: &[u32],
+    question: &Question,
+    caps: &mut u32,
+    fault: &mut Fault,
+) -> u32
+    ensures { TellsPermitted grants.now fs.now path.now groups.now question.now result caps.new fault.new }
+{
+    match permit(alloc, grants, fs, path, groups, question) {
+        Ok(permitted) => {
+            *caps = permitted.bits();
+            *fault = no_fault();
+            OK
+        }
+        Err(trouble) => {
+            *caps = 0;
+            *fault = trouble.fault();
+            trouble.status()
+        }
+    }
+}
+
+/// Whether a text is one of grants, and else its first fault.
+#[unsafe(no_mangle)]
+pub extern "C" fn capffi_grants_check(alloc: Global, grants: &[u8], fault: &mut Fault) -> u32
+    ensures { TellsCheck grants.now result fault.new }
+{
+    match read_text(alloc, grants) {
+        Ok(_) => {
+            *fault = no_fault();
+            OK
+        }
+        Err(trouble) => {
+            *fault = trouble.fault();
+            trouble.status()
+        }
+    }
+}
+
+/// The written form of the grants of a text, at the front of `room` if it fits there. `len` is how long it is.
+#[unsafe(no_mangle)]
+pub extern "C" fn capffi_grants_write(
+    alloc: Global,
+    grants: &[u8],
+    room: &mut [u8],
+    len: &mut u64,
+    fault: &mut Fault,
+) -> u32
+    ensures { TellsForm grants.now room.old room.new len.new result fault.new }
+{
+    match form(alloc, grants) {
+        Ok(form) => {
+            *fault = no_fault();
+            put(form.as_slice(), room, len)
+        }
+        Err(trouble) => {
+            *len = 0;
+            *fault = trouble.fault();
+            trouble.status()
+        }
+    }
+}
+
+/// The caps of a part, as bits, that a client may hold under the part's lock. The parts are 0 A, 1 L, 2 X and 3 F.
+#[unsafe(no_mangle)]
+pub extern "C" fn capffi_allowed(part: u32, lock: &Lock, client: u32, caps: &mut u32) -> u32
+    ensures status { result ≡ status (allowed_by part lock.now client) }
+    ensures caps { caps.new ≡ caps_bits (allowed_by part lock.now client) }
+{
+    match allowed_by(part, lock, client) {
+        Ok(allowed) => {
+            *caps = allowed.bits();
+            OK
+        }
+        Err(trouble) => {
+            *caps = 0;
+            trouble.status()
+        }
+    }
+}
+
+/// Where the lock of a part, stable in `state`, is to go.
+#[unsafe(no_mangle)]
+pub extern "C" fn capffi_target(
+    part: u32,
+    state: &StableState,
+    wants: &Wants,
+    target: &mut StableState,
+) -> u32
+    ensures { TellsTarget part state.now wants.now result target.new }
+{
+    match target_of(part, state, wants) {
+        Ok(state) => {
+            *target = numbers_of(state);
+            OK
+        }
+        Err(trouble) => {
+            *target = StableState { kind: 0, holder: 0 };
+            trouble.status()
+        }
+    }
+}

@@ -1,0 +1,154 @@
+/* The calls of baybowl.h over those of crates/capffi. What is proved is proved of values; a pointer that is NULL or not aligned
+ * and a length that no text has are no values, so they are turned away here. Nothing else is decided here. */
+#include "exports.h"
+
+#define ALIGNED(pointer, type) ((pointer) != NULL && (uintptr_t)(pointer) % _Alignof(type) == 0)
+
+/* What a text of length 0 points to. */
+static const uint8_t no_bytes[1] = {0};
+static const uint32_t no_groups[1] = {0};
+
+/* The texts and the groups of a question. */
+struct texts {
+    const uint8_t *grants, *fs, *path;
+    const uint32_t *groups;
+};
+
+static const uint8_t *bytes(const char *text, size_t len) { return len == 0 ? no_bytes : (const uint8_t *)text; }
+
+static uint32_t text_status(const char *text, size_t len) {
+    if (len > BAYBOWL_MAX_LEN) {
+        return BAYBOWL_LENGTH;
+    }
+    return text == NULL && len != 0 ? BAYBOWL_POINTER : BAYBOWL_OK;
+}
+
+static uint32_t groups_status(const uint32_t *groups, size_t len) {
+    if (len > BAYBOWL_MAX_LEN) {
+        return BAYBOWL_LENGTH;
+    }
+    return len != 0 && !ALIGNED(groups, uint32_t) ? BAYBOWL_POINTER : BAYBOWL_OK;
+}
+
+/* The first of some statuses that is not BAYBOWL_OK. */
+static uint32_t first_of(uint32_t a, uint32_t b, uint32_t c, uint32_t d) {
+    return a != BAYBOWL_OK ? a : b != BAYBOWL_OK ? b : c != BAYBOWL_OK ? c : d;
+}
+
+/* Whether two pieces of memory have no byte in common. */
+static int are_apart(const void *one, size_t one_len, const void *other, size_t other_len) {
+    uintptr_t a = (uintptr_t)one, b = (uintptr_t)other;
+    return one_len == 0 || other_len == 0 || (a < b ? b - a >= one_len : a - b >= other_len);
+}
+
+uint32_t baybowl_version(void) { return capffi_version(); }
+
+uint32_t baybowl_verdict(const char *grants, size_t grants_len, const char *fs, size_t fs_len, const char *path, size_t path_len,
+                         const uint32_t *groups, size_t groups_len, const struct baybowl_question *question,
+                         struct baybowl_answer *answer, struct baybowl_fault *fault) {
+    struct baybowl_answer said;
+    struct baybowl_fault why;
+    uint32_t status = first_of(text_status(grants, grants_len), text_status(fs, fs_len), text_status(path, path_len),
+                               groups_status(groups, groups_len));
+    if (status != BAYBOWL_OK) {
+        return status;
+    }
+    if (!ALIGNED(question, struct baybowl_question) || !ALIGNED(answer, struct baybowl_answer) ||
+        !ALIGNED(fault, struct baybowl_fault)) {
+        return BAYBOWL_POINTER;
+    }
+    /* Both are written at the end, so that they may overlap with what is read. */
+    status = capffi_verdict(bytes(grants, grants_len), grants_len, bytes(fs, fs_len), fs_len, bytes(path, path_len), path_len,
+                            groups_len == 0 ? no_groups : groups, groups_len, question, &said, &why);
+    *answer = said;
+    *fault = why;
+    return status;
+}
+
+uint32_t baybowl_permitted(const char *grants, size_t grants_len, const char *fs, size_t fs_len, const char *path, size_t path_len,
+                           const uint32_t *groups, size_t groups_len, const struct baybowl_question *question, uint32_t *caps,
+                           struct baybowl_fault *fault) {
+    uint32_t said;
+    struct baybowl_fault why;
+    uint32_t status = first_of(text_status(grants, grants_len), text_status(fs, fs_len), text_status(path, path_len),
+                               groups_status(groups, groups_len));
+    if (status != BAYBOWL_OK) {
+        return status;
+    }
+    if (!ALIGNED(question, struct baybowl_question) || !ALIGNED(caps, uint32_t) || !ALIGNED(fault, struct baybowl_fault)) {
+        return BAYBOWL_POINTER;
+    }
+    status = capffi_permitted(bytes(grants, grants_len), grants_len, bytes(fs, fs_len), fs_len, bytes(path, path_len), path_len,
+                              groups_len == 0 ? no_groups : groups, groups_len, question, &said, &why);
+    *caps = said;
+    *fault = why;
+    return status;
+}
+
+uint32_t baybowl_grants_check(const char *grants, size_t grants_len, struct baybowl_fault *fault) {
+    struct baybowl_fault why;
+    uint32_t status = text_status(grants, grants_len);
+    if (status != BAYBOWL_OK) {
+        return status;
+    }
+    if (!ALIGNED(fault, struct baybowl_fault)) {
+        return BAYBOWL_POINTER;
+    }
+    status = capffi_grants_check(bytes(grants, grants_len), grants_len, &why);
+    *fault = why;
+    return status;
+}
+
+uint32_t baybowl_grants_write(const char *grants, size_t grants_len, char *room, size_t room_len, uint64_t *len,
+                              struct baybowl_fault *fault) {
+    uint8_t no_room[1];
+    uint64_t written;
+    struct baybowl_fault why;
+    uint32_t status = first_of(text_status(grants, grants_len), text_status(room, room_len), BAYBOWL_OK, BAYBOWL_OK);
+    if (status != BAYBOWL_OK) {
+        return status;
+    }
+    if (!ALIGNED(len, uint64_t) || !ALIGNED(fault, struct baybowl_fault) || !are_apart(grants, grants_len, room, room_len)) {
+        return BAYBOWL_POINTER;
+    }
+    status = capffi_grants_write(bytes(grants, grants_len), grants_len, room_len == 0 ? no_room : (uint8_t *)room, room_len,
+                                 &written, &why);
+    *len = written;
+    *fault = why;
+    return status;
+}
+
+uint32_t baybowl_allowed(uint32_t part, const struct baybowl_lock *lock, uint32_t client, uint32_t *caps) {
+    uint32_t said, status;
+    if (!ALIGNED(lock, struct baybowl_lock) || !ALIGNED(caps, uint32_t)) {
+        return BAYBOWL_POINTER;
+    }
+    status = capffi_allowed(part, lock, client, &said);
+    *caps = said;
+    return status;
+}
+
+uint32_t baybowl_target(uint32_t part, const struct baybowl_stable_state *state, const struct baybowl_wants *wants,
+                        struct baybowl_stable_state *target) {
+    struct baybowl_stable_state said;
+    uint32_t status;
+    if (!ALIGNED(state, struct baybowl_stable_state) || !ALIGNED(wants, struct baybowl_wants) ||
+        !ALIGNED(target, struct baybowl_stable_state)) {
+        return BAYBOWL_POINTER;
+    }
+    status = capffi_target(part, state, wants, &said);
+    *target = said;
+    return status;
+}
+
+const char *baybowl_rule_word(uint32_t rule) {
+    static const char *const words[] = {"fsname", "uid",  "gids", "path",      "no-write",      "root-squash",
+                                        "no-p",   "no-s", "not-owner", "not-own-group", "mode-bits"};
+    return rule >= 1 && rule <= sizeof words / sizeof words[0] ? words[rule - 1] : NULL;
+}
+
+const char *baybowl_fault_word(uint32_t kind) {
+    static const char *const words[] = {"Empty",     "NotAllow",       "BadFlags", "BadItem", "Twice",  "BadNumber",
+                                        "OpenQuote", "GidsWithoutUid", "LeftOut",  "TooMany", "BadPath"};
+    return kind >= 1 && kind <= sizeof words / sizeof words[0] ? words[kind - 1] : NULL;
+}
