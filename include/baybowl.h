@@ -205,12 +205,12 @@ uint32_t baybowl_grants_check(const char *grants, size_t grants_len, struct bayb
 uint32_t baybowl_grants_write(const char *grants, size_t grants_len, char *room, size_t room_len, uint64_t *len,
                               struct baybowl_fault *fault);
 
-/* The caps of a part, as bits, that a client may hold while the part's lock is so: BAYBOWL_OK, else BAYBOWL_PART,
- * BAYBOWL_STATE, BAYBOWL_POINTER. It takes no memory. */
+/* The caps of a part, as bits, that a client may hold while the part's lock is so: BAYBOWL_OK, else the first that is so of
+ * BAYBOWL_POINTER, BAYBOWL_PART, BAYBOWL_STATE. It takes no memory. */
 uint32_t baybowl_allowed(uint32_t part, const struct baybowl_lock *lock, uint32_t client, uint32_t *caps);
 
-/* Where the lock of a part, at rest in `state`, is to go: BAYBOWL_OK, else BAYBOWL_PART, BAYBOWL_STATE, BAYBOWL_HEAD,
- * BAYBOWL_CAPS, BAYBOWL_POINTER. It takes no memory. */
+/* Where the lock of a part, at rest in `state`, is to go: BAYBOWL_OK, else the first that is so of BAYBOWL_POINTER, BAYBOWL_PART,
+ * BAYBOWL_STATE, BAYBOWL_HEAD, BAYBOWL_CAPS. It takes no memory. */
 uint32_t baybowl_target(uint32_t part, const struct baybowl_stable_state *state, const struct baybowl_wants *wants,
                         struct baybowl_stable_state *target);
 

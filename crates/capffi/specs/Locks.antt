@@ -1,5 +1,6 @@
 -- The table of the locks, by numbers.
 use Rattle.std.specs.Prelude.{◌≡◌, ◌≢◌, ◌==◌, ◌⊎◌, ℕ, Option, Some, None, Result, Ok, Err, MatchResult, if◌then◌else◌}
+use Rattle.std.specs.Option.{IsSome}
 use Rattle.capbits.specs.declared.cap.Part.{Part}
 use Rattle.capbits.specs.declared.cap.Part.TheVariants.{A, L, X, F}
 use Rattle.capbits.specs.declared.ids.ClientId.{ClientId}
@@ -107,12 +108,13 @@ pub record IsTarget (part : ℕ) (state : StableState) (w : Wants) (target : Sta
   pub is_wanted : IsCapSet w.wanted wanted
   pub is_target : target ≡ target_of the_part the_state head loner wanted
 
--- what is said of numbers that name nothing is so
+-- the first of the numbers that names nothing is told: the part, the state, what stands first in the queue, or the bits of caps
 abbrev pub IsTargetTrouble : ℕ → StableState → Wants → Trouble → Type 0
 IsTargetTrouble part state w troubles.Part = part_of part ≡ None
-IsTargetTrouble part state w troubles.State = state_of state ≡ None
-IsTargetTrouble part state w troubles.Head = head_of w.head w.asker ≡ None
-IsTargetTrouble part state w troubles.Caps = ((w.loners ≢ 0) × NoCapSet w.loner_wants) ⊎ NoCapSet w.wanted
+IsTargetTrouble part state w troubles.State = IsSome (part_of part) × (state_of state ≡ None)
+IsTargetTrouble part state w troubles.Head = IsSome (part_of part) × IsSome (state_of state) × (head_of w.head w.asker ≡ None)
+IsTargetTrouble part state w troubles.Caps =
+    IsSome (part_of part) × IsSome (state_of state) × IsSome (head_of w.head w.asker) × (((w.loners ≢ 0) × NoCapSet w.loner_wants) ⊎ NoCapSet w.wanted)
 IsTargetTrouble part state w trouble = ⊥
 
 -- the target, or why none is told
