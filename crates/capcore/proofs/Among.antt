@@ -59,10 +59,12 @@ pub ends-one : (ino : ℕ) (touched : StateMap) (first last : Scene) (told : Lis
 ends-one ino touched first last told ends = let all = ends.settles in let there = all.settles in record {
   at = ends.at;
   settled = ends.settled;
+  sized = ends.sized;
   settles = record {
     moves = all.moves;
     settles = record { settles = there.settles; among = λ q is. there.among q (one-touched ino touched q is); same = there.same };
     ended_is = all.ended_is;
+    sized_is = all.sized_is;
   };
   tree = ends.tree;
   finished = ends.finished;

@@ -16,6 +16,7 @@ use Rattle.lockmachine.specs.Scene.{Scene}
 use Rattle.lockmachine.specs.Moves.{IsQuietOutside}
 use Rattle.lockmachine.proofs.Finding.{filter-contains}
 use Rattle.lockmachine.proofs.SameOutside.{outside-one, rest-outside}
+use Rattle.capbits.specs.declared.ids.Ino.{Ino}
 use Rattle.capbits.specs.declared.ids.Ticket.{Ticket}
 use Rattle.capcore.specs.declared.event.Event.{Event}
 use Rattle.capcore.specs.declared.outcome.Ended.{Ended}
@@ -25,7 +26,8 @@ use Rattle.capcore.specs.Answered.{IsAnswered}
 use Rattle.capcore.specs.Direct.{direct, reply_of, shown, with_scene}
 use Rattle.capcore.specs.Judge.{judged}
 use Rattle.capcore.specs.Serves.{SettlesWith, EndsWith}
-use Rattle.capcore.specs.Settle.{MakesAll, ended_in}
+use Rattle.capcore.specs.Finish.{sizes_owed}
+use Rattle.capcore.specs.Settle.{MakesAll, ended_in, sized_in}
 use Rattle.capcore.specs.Sound.{IsSoundEntry, IsSound, NumbersLeft}
 use Rattle.capcore.specs.Step.{earlier, all_ended, state_at_end}
 use Rattle.capcore.specs.Touching.{touched_by, IsTouchedEntry, Touches, TouchesOne, SettlesAt, finished_at}
@@ -38,7 +40,7 @@ use Rattle.capcore.proofs.SameOff.{row_elsewhere}
 
 -- ---- the numbers of those that a settling ends
 
-module _ (at from : ℕ → Bool) (first settled : Scene) (told : List Ended) (settles : SettlesWith at from first settled told) where
+module _ (at from : ℕ → Bool) (first settled : Scene) (told : List Ended) (sized : List Ino) (settles : SettlesWith at from first settled told sized) where
   made : MakesAll first settles.moves settled
   made = let at_them = settles.settles in let all = at_them.settles in all.made
 
@@ -134,7 +136,7 @@ module _ (old : State) (e : Event) (k : Holder) (about : touched_by e ≡ Some k
   -- ---- the end of the step
 
   module _ (last : Scene) (told : List Ended) (ends : EndsWith from first last told) (last_table : IsTable last.table) where
-    abbrev settles : SettlesWith ends.at from first ends.settled told
+    abbrev settles : SettlesWith ends.at from first ends.settled told ends.sized
     settles = ends.settles
 
     -- the event leaves the messages
@@ -145,10 +147,11 @@ module _ (old : State) (e : Event) (k : Holder) (about : touched_by e ≡ Some k
     abbrev pub closed_state : State
     closed_state = record { scene = last; messages = old.messages ++ earlier old.scene.locks.last told }
 
-    same_state : closed_state ≡ state_at_end old (direct old e).state settles.moves (finished_at ends.at (direct old e).state.scene ends.settled)
+    same_state : closed_state ≡ state_at_end old (direct old e).state settles.moves (finished_at ends.at (direct old e).state.scene (sizes_owed (sized_in settles.moves) ends.settled))
     same_state =
         (λ i. record { scene = ends.finished i; messages = old.messages ++ earlier old.scene.locks.last (settles.ended_is i) })
-        ∙ ap (λ (s : State). state_at_end old s settles.moves (finished_at ends.at s.scene ends.settled)) left
+        ∙ ap (λ (sized : List Ino). state_at_end old (with_scene old first) settles.moves (finished_at ends.at first (sizes_owed sized ends.settled))) settles.sized_is
+        ∙ ap (λ (s : State). state_at_end old s settles.moves (finished_at ends.at s.scene (sizes_owed (sized_in settles.moves) ends.settled))) left
 
     pub closed : (said : Said) (new : State) → said.reply ≡ reply_of closed_state told (direct old e).answer → said.kept ≡ said.reply → said.ended ≡ earlier old.scene.locks.last told
         → new ≡ shown (direct old e).answer closed_state → IsAnswered old e said new

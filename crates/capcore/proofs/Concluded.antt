@@ -11,12 +11,13 @@ use Rattle.capcore.specs.declared.reply.Reply.{Reply}
 use Rattle.capcore.specs.State.{State}
 use Rattle.capcore.specs.Direct.{direct, reply_of, shown}
 use Rattle.capcore.specs.Headline.{IssuesExactly}
-use Rattle.capcore.specs.Settle.{Made, ended_in}
+use Rattle.capcore.specs.Finish.{sizes_owed}
+use Rattle.capcore.specs.Settle.{Made, ended_in, sized_in}
 use Rattle.capcore.specs.Sound.{IsSound, AreGiven}
 use Rattle.capcore.specs.Step.{Step, all_ended, state_at_end}
 use Rattle.capcore.specs.Touching.{Touches, SettlesAt, finished_at}
-use Rattle.capcore.proofs.EndsThere.{touched-ends, touched-issues}
-use Rattle.capcore.proofs.StayingSound.{sound-touched, given-touched}
+use Rattle.capcore.proofs.SizesOwed.{sizes-end, sizes-sound, sizes-issues, sizes-given}
+use Rattle.capcore.proofs.StayingSound.{given-touched}
 use Rattle.capcore.proofs.Telling.{shown-sound, shown-issued, shown-given}
 use Rattle.capcore.proofs.TouchStep.{one-step}
 
@@ -41,23 +42,23 @@ module _ (at from : ℕ → Bool) (old : State) (e : Event) (moves : List Made) 
   touched = (direct old e).state
 
   abbrev pub last : State
-  last = state_at_end old touched moves (finished_at at touched.scene settled)
+  last = state_at_end old touched moves (finished_at at touched.scene (sizes_owed (sized_in moves) settled))
 
   pub concluded : IsTable last.scene.table → (answer : Reply) (new : State) → answer ≡ reply_of last (ended_in moves) (direct old e).answer
       → new ≡ shown (direct old e).answer last → IsConcluded old e answer (all_ended old (direct old e) moves) new
   concluded last-table answer new answers is = record {
     step =
-        one-step old e moves settled (finished_at at touched.scene settled) settles.settles
-        (touched-ends at from old touched moves settled sound table touches settles) answer new answers is;
+        one-step old e moves settled (finished_at at touched.scene (sizes_owed (sized_in moves) settled)) settles.settles
+        (sizes-end at from old touched moves settled sound table touches settles) answer new answers is;
     sound =
         subst IsSound (sym is)
-        (shown-sound last (direct old e).answer (sound-touched at from old touched moves settled sound tree table touches settles) last-table);
+        (shown-sound last (direct old e).answer (sizes-sound at from old touched moves settled sound table touches settles tree) last-table);
     issued =
         subst (λ (s : State). IssuesExactly touched.scene s.scene) (sym is)
         (shown-issued touched.scene last (direct old e).answer last-table
-        (touched-issues at from old touched moves settled sound table touches settles tree));
+        (sizes-issues at from old touched moves settled sound table touches settles tree));
     given = λ count given. (let b = gives count given in
         subst (AreGiven (count + 1)) (sym is)
         (shown-given (count + 1) last (direct old e).answer
-        (given-touched at from count old touched moves settled settles b.0 b.1 b.2)));
+        (sizes-given at from old touched moves settled sound table touches settles count (given-touched at from count old touched moves settled settles b.0 b.1 b.2))));
   }

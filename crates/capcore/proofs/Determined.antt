@@ -30,12 +30,12 @@ use Rattle.capcore.specs.declared.reply.Reply.{Reply}
 use Rattle.capcore.specs.declared.reply.Reply.TheVariants as reply
 use Rattle.capcore.specs.declared.stopped.Stopped.{Stopped}
 use Rattle.capcore.specs.Direct.{Direct, Answer, Says, Shows, Gives, Awaits, direct, effect, effect_unless, asks, found, reply_of, shown, awaited_as, outcome_reply, is_of_ticket}
-use Rattle.capcore.specs.Finish.{finished}
+use Rattle.capcore.specs.Finish.{sizes_owed, finished}
 use Rattle.capcore.specs.Headline.{move_of}
 use Rattle.capcore.specs.Judge.{judged}
 use Rattle.capcore.specs.SameEvents.{FoundMemory}
 use Rattle.capcore.specs.Serving.{MayEndAs, As_judged, Without_memory, served}
-use Rattle.capcore.specs.Settle.{Made, Began, Gathered, Served, Makes, MakesAll, ended_in}
+use Rattle.capcore.specs.Settle.{Made, Began, Gathered, Served, Makes, MakesAll, ended_in, sized_in}
 use Rattle.capcore.specs.State.{State}
 use Rattle.capcore.specs.Step.{Step, StepBy, earlier, state_after, all_ended}
 use Rattle.capcore.specs.Untold.{HaveOwnNumbers}
@@ -269,5 +269,5 @@ module _ (old : State) (e : Event) (order : IsLockMap old.scene.locks) where
   pub step-order : (a : Reply) (xs : List Ended) (new : State) → Step old e a xs new → IsLockMap new.scene.locks
   step-order a xs new (moves, by) =
       let moved = (moved-all d.state.scene moves by.settled by.settles.made).order (direct-order old e order) in
-      let kept : IsLockMap (finished old.scene d.state.scene by.settled).locks = record { rising = moved.rising; given = moved.given; room = moved.room } in
+      let kept : IsLockMap (finished old.scene d.state.scene (sizes_owed (sized_in moves) by.settled)).locks = record { rising = moved.rising; given = moved.given; room = moved.room } in
       subst (λ (s : State). IsLockMap s.scene.locks) (sym by.new_is) (shown-order d.answer (state_after old d moves by.settled) kept)

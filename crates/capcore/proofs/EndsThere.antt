@@ -46,7 +46,7 @@ any-map p g same [] = refl
 any-map p g same (x ∷ xs) = λ i. same x i || any-map p g same xs i
 
 -- two changes of each row are one
-two_changes : (f g h : EntryRow → EntryRow) (rows : List EntryRow) → ((row : EntryRow) → Contains rows row → f (g row) ≡ h row) → map f (map g rows) ≡ map h rows
+pub two_changes : (f g h : EntryRow → EntryRow) (rows : List EntryRow) → ((row : EntryRow) → Contains rows row → f (g row) ≡ h row) → map f (map g rows) ≡ map h rows
 two_changes f g h [] each = refl
 two_changes f g h (row ∷ rows) each =
     λ i. each row (0, omega arith, refl) i ∷ two_changes f g h rows (λ x inside. each x (suc inside.0, omega (arith, inside.1), inside.2)) i
@@ -237,10 +237,10 @@ same-end at from old touched settled touches =
 module _ (at from : ℕ → Bool) (old touched : State) (moves : List Made) (settled : Scene) (sound : IsSound old) (table : IsTable touched.scene.table) (touches : Touches from old touched)
     (settles : SettlesAt at from moves touched.scene settled) where
   -- moves leave the entries
-  same-table : settled.table ≡ touched.scene.table
+  pub same-table : settled.table ≡ touched.scene.table
   same-table = let made = settles.settles in (moved-all touched.scene moves settled made.made).table
 
-  settled-table : IsTable settled.table
+  pub settled-table : IsTable settled.table
   settled-table = subst IsTable (sym same-table) table
 
   off-these : IsSameFrom at old.scene settled

@@ -22,7 +22,7 @@ use Rattle.lockmachine.specs.Scene.{Scene, told_set}
 use Rattle.lockmachine.proofs.Exact.{settled}
 use Rattle.capcore.specs.State.{State}
 use Rattle.capcore.specs.Settle.{Settles}
-use Rattle.capcore.specs.Finish.{due, issue_row, issue, is_kept, forget, told_before, number_row, number, finished}
+use Rattle.capcore.specs.Finish.{sizes_owed, due, issue_row, issue, is_kept, forget, told_before, number_row, number, finished}
 use Rattle.capcore.specs.Sound.{IsSound, IsSoundEntry}
 
 -- ---- lists of rows that stay
@@ -34,6 +34,11 @@ same_rows f (row ∷ rows) each = λ i. each row (0, omega arith, refl) i ∷ sa
 
 with_rows : Scene → List EntryRow → Scene
 with_rows s rows = record s { table = record s.table { rows = rows } }
+
+-- where no size was changed, none is to be told
+pub none-sized : (s : Scene) → sizes_owed [] s ≡ s
+unfolding with_rows
+none-sized s = ap (with_rows s) (same_rows (λ row. row) s.table.rows (λ row inside. refl))
 
 -- ---- issue
 
@@ -105,6 +110,10 @@ module _ (s : State) (sound : IsSound s) (table : IsTable s.scene.table) where
 
   pub sound-finished : finished s.scene s.scene s.scene ≡ s.scene
   sound-finished = same-finished s.scene (λ row inside. refl)
+
+  -- so too where a step made no move
+  pub sound-ends : finished s.scene s.scene (sizes_owed [] s.scene) ≡ s.scene
+  sound-ends = ap (finished s.scene s.scene) (none-sized s.scene) ∙ sound-finished
 
 -- and no move applies
 pub sound-settles : (s : State) → IsSound s → Settles s.scene [] s.scene

@@ -43,6 +43,8 @@ pub mod Stops
 pub mod Undone
 pub mod Steps
 pub mod StillQuiet
+pub mod SizesOwed
+pub mod Owing
 pub mod Touched
 pub mod Asked
 pub mod Flushed

@@ -15,9 +15,9 @@ use Rattle.capcore.specs.declared.event.Event.{Event}
 use Rattle.capcore.specs.declared.outcome.Ended.{Ended}
 use Rattle.capcore.specs.declared.reply.Reply.{Reply}
 use Rattle.capcore.specs.Direct.{Answer, Says, Shows, Gives, Awaits, direct, shown}
-use Rattle.capcore.specs.Finish.{is_kept, issue}
+use Rattle.capcore.specs.Finish.{is_kept, issue, sizes_owed}
 use Rattle.capcore.specs.Headline.{ByMoves, OtherLocksStay, is_of_lock_at}
-use Rattle.capcore.specs.Settle.{Made, Began, Gathered, Served, Makes, MakesAll}
+use Rattle.capcore.specs.Settle.{Made, Began, Gathered, Served, Makes, MakesAll, sized_in}
 use Rattle.capcore.specs.State.{State}
 use Rattle.capcore.specs.Step.{Step, state_after}
 use Rattle.capcore.proofs.Strays.{retained-here, retained-gone}
@@ -80,5 +80,5 @@ other-locks old e answer ended new (moves, by) = (
       let at_end : lock_at last.scene.locks ino part ≡ Some lock =
       sym (ap (λ (s : State). lock_at s.scene.locks ino part) by.new_is ∙ ap (λ (locks : LockMap). lock_at locks ino part) (shown_locks (direct old e).answer last)) ∙ there in
       sym (all_stay (direct old e).state.scene moves by.settled ino part settles.made off)
-      ∙ lock_before by.settled (is_kept (issue by.settled)) ino part lock at_end,
+      ∙ lock_before by.settled (is_kept (issue (sizes_owed (sized_in moves) by.settled))) ino part lock at_end,
 )

@@ -23,7 +23,7 @@ use Rattle.capcore.specs.Messages.{first_messages, with_given, after_messages, i
 use Rattle.capcore.specs.Settle.{Settles}
 use Rattle.capcore.specs.Sound.{IsSound, AreGiven}
 use Rattle.capcore.specs.Step.{Step, all_ended, state_after}
-use Rattle.capcore.proofs.Finishing.{sound-finished, sound-settles}
+use Rattle.capcore.proofs.Finishing.{sound-ends, sound-settles}
 use Rattle.capcore.proofs.Promised.{has-due}
 use Rattle.capcore.proofs.Sounding.{later-given}
 use Rattle.capcore.proofs.Telling.{shown-sound, shown-given, shown-issued}
@@ -71,7 +71,7 @@ module _ (old : State) (sound : IsSound old) (table : IsTable old.scene.table) (
       by_itself = ap (λ o. effect_unless old poll (stop_by old.scene o (first_denied old.scene []) (first_failing []))) is
 
       nothing_left : state_after old here [] old.scene ≡ old
-      nothing_left = λ i. record old { scene = sound-finished old sound table i; messages = append-nil old.messages i }
+      nothing_left = λ i. record old { scene = sound-ends old sound table i; messages = append-nil old.messages i }
 
   pub poll-answered : (said : Said) → first_failing (session_tests old.scene.sessions client.0) ≡ None
       → said.reply ≡ reply.Messages (first_messages old client max) → said.kept ≡ said.reply → said.ended ≡ []

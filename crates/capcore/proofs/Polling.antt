@@ -3,6 +3,7 @@ use Rattle.std.proofs.Common.{◌≡◌, ◌≤◌, ℕ, zero, suc, Bool, true, 
 use Rattle.std.specs.Prelude.{◌==◌, nat_lt}
 use Rattle.std.specs.List.{list_any, flat_map, IsDistinct}
 use Rattle.std.specs.Cmp.{nat_eq_equiv}
+use Rattle.std.specs.FinMap as finite
 use Rattle.std.proofs.lemmas.Bool.{or_parts}
 use Rattle.std.proofs.lemmas.List.{take-append-le, take_all}
 use Rattle.std.proofs.lemmas.List.Folds.{list_any-append}
@@ -12,7 +13,7 @@ use Rattle.capbits.specs.Caps.{Caps}
 use Rattle.captable.specs.declared.entry.Entry.{Entry}
 use Rattle.captable.specs.declared.entry.EntryRow.{EntryRow}
 use Rattle.captable.specs.Table.{Table, IsTable, holder, same, is_among}
-use Rattle.captable.specs.Calls.{is_of_client, is_due, changed, told, with_asked}
+use Rattle.captable.specs.Calls.{is_of_client, is_due, changed, told, with_asked, with_size_due}
 use Rattle.captable.specs.Many.{changed_where, remade}
 use Rattle.captable.proofs.OneByOne.{fold-changed_by}
 use Rattle.lockmachine.specs.Scene.{Scene, told_set}
@@ -20,12 +21,12 @@ use Rattle.capcore.specs.declared.outcome.Ended.{Ended}
 use Rattle.capcore.specs.declared.outcome.Message.{Message}
 use Rattle.capcore.specs.declared.outcome.Message.TheVariants as message
 use Rattle.capcore.specs.State.{State}
-use Rattle.capcore.specs.Messages.{caps_messages, recall_messages, first_messages, end_messages, after_messages, is_caps_of, is_recall_of, told_if, unasked_if}
-use Rattle.capcore.proofs.Telling.{map_alike}
+use Rattle.capcore.specs.Messages.{row_messages, size_message, first_messages, end_messages, after_messages, is_caps_of, is_size_of, is_recall_of, told_if, sized_if, unasked_if}
+use Rattle.capcore.proofs.Telling.{map_alike, given_fields, given-fields}
 
 -- ---- the first of a list
 
-take-take_append : {X : Type 0} (n : ℕ) (xs ys : List X) → take n (take n xs ++ ys) ≡ take n (xs ++ ys)
+pub take-take_append : {X : Type 0} (n : ℕ) (xs ys : List X) → take n (take n xs ++ ys) ≡ take n (xs ++ ys)
 take-take_append zero xs ys = refl
 take-take_append (suc n) [] ys = refl
 take-take_append (suc n) (x ∷ xs) ys = ap (λ zs. x ∷ zs) (take-take_append n xs ys)
@@ -39,7 +40,7 @@ length-take_le (suc n) (x ∷ xs) = omega (arith, length-take_le n xs)
 
 -- those that are due to the clients of some entries
 abbrev pub due_of : Scene → List EntryRow → List Message
-due_of s rows = flat_map (λ row. caps_messages s row ++ recall_messages row) rows
+due_of s rows = flat_map (row_messages s) rows
 
 -- what is listed so far, and what the entries that are left add to it: the requests that ended come first
 pub record IsListed (max : ℕ) (s : Scene) (first : List Message) (rows : List EntryRow) (listed : List Message) (left : List EntryRow) : Type 0 where
@@ -47,7 +48,7 @@ pub record IsListed (max : ℕ) (s : Scene) (first : List Message) (rows : List 
 
 -- one entry more
 pub listed-more : (max : ℕ) (s : Scene) (first : List Message) (rows left : List EntryRow) (listed more : List Message) (row : EntryRow)
-    → more ≡ take max (listed ++ (caps_messages s row ++ recall_messages row)) → IsListed max s first rows listed (row ∷ left) → IsListed max s first rows more left
+    → more ≡ take max (listed ++ row_messages s row) → IsListed max s first rows listed (row ∷ left) → IsListed max s first rows more left
 listed-more max s first rows left listed more row is so_far = record {
   is =
       ap (λ xs. take max (xs ++ due_of s left)) is
@@ -57,7 +58,7 @@ listed-more max s first rows left listed more row is so_far = record {
 }
   where
     one : List Message
-    one = caps_messages s row ++ recall_messages row
+    one = row_messages s row
 
 pub few-more : (max : ℕ) (xs more : List Message) → more ≡ take max xs → length more ≤ max
 few-more max xs more is = subst (λ (ys : List Message). length ys ≤ max) (sym is) (length-take_le max xs)
@@ -83,11 +84,13 @@ due-rows s [] = refl
 due-rows s (row ∷ rows) = by_test (is_due row) refl (due-rows s rows)
   where
     by_test : (b : Bool) → is_due row ≡ b → due_of s (filter is_due rows) ≡ due_of s rows → due_of s (cond b (row ∷ filter is_due rows) (filter is_due rows)) ≡ due_of s (row ∷ rows)
-    by_test true e rest = ap (λ ms. (caps_messages s row ++ recall_messages row) ++ ms) rest
+    by_test true e rest = ap (λ ms. row_messages s row ++ ms) rest
     by_test false e rest =
-        let p = or_parts (nat_lt row.entry.told_seq row.entry.seq) row.entry.asked e in
-        let none : caps_messages s row ++ recall_messages row ≡ [] =
-        λ i. cond (p.0 i) (message.Caps row.holder.ino row.entry.seq (told_set s row) ∷ []) [] ++ cond (p.1 i) (message.Recall row.holder.ino ∷ []) [] in
+        let p = or_parts (nat_lt row.entry.told_seq row.entry.seq) (row.entry.size_due || row.entry.asked) e in
+        let q = or_parts row.entry.size_due row.entry.asked p.1 in
+        let none : row_messages s row ≡ [] =
+        λ i. cond (p.0 i) (message.Caps row.holder.ino row.entry.seq (told_set s row) ∷ []) []
+        ++ cond (q.0 i) (size_message row.holder.ino (finite.get s.tree.nodes row.holder.ino.0)) [] ++ cond (q.1 i) (message.Recall row.holder.ino ∷ []) [] in
         rest ∙ ap (λ ms. ms ++ due_of s rows) (sym none)
 
 -- what a walk over those of the client's entries that are due has listed
@@ -115,23 +118,27 @@ module _ (client : ClientId) where
   given-none t = ap (λ (rows : List EntryRow). record t { rows = rows }) (sym (map-same (given_to []) (λ row. given-row_none row (is_of_client client row)) t.rows))
 
   -- given once more
-  twice : (e : Entry) (caps recall more_caps more_recall : Bool) → unasked_if more_recall (told_if more_caps (unasked_if recall (told_if caps e))) ≡ unasked_if (recall || more_recall) (told_if (caps || more_caps) e)
-  twice e false false false false = refl
-  twice e false false false true = refl
-  twice e false false true false = refl
-  twice e false false true true = refl
-  twice e false true false false = refl
-  twice e false true false true = refl
-  twice e false true true false = refl
-  twice e false true true true = refl
-  twice e true false false false = refl
-  twice e true false false true = refl
-  twice e true false true false = refl
-  twice e true false true true = refl
-  twice e true true false false = refl
-  twice e true true false true = refl
-  twice e true true true false = refl
-  twice e true true true true = refl
+  seq_twice : (seq told_seq : ℕ) (b more : Bool) → cond more seq (cond b seq told_seq) ≡ cond (b || more) seq told_seq
+  seq_twice seq told_seq true true = refl
+  seq_twice seq told_seq true false = refl
+  seq_twice seq told_seq false more = refl
+
+  flag_twice : (flag b more : Bool) → cond more false (cond b false flag) ≡ cond (b || more) false flag
+  flag_twice flag true true = refl
+  flag_twice flag true false = refl
+  flag_twice flag false more = refl
+
+  twice : (e : Entry) (caps size recall more_caps more_size more_recall : Bool)
+      → unasked_if more_recall (sized_if more_size (told_if more_caps (unasked_if recall (sized_if size (told_if caps e))))) ≡ unasked_if (recall || more_recall) (sized_if (size || more_size) (told_if (caps || more_caps) e))
+  twice e caps size recall more_caps more_size more_recall =
+      ap (λ (e : Entry). unasked_if more_recall (sized_if more_size (told_if more_caps e))) (given-fields e caps size recall)
+      ∙ given-fields (given_fields caps size recall e) more_caps more_size more_recall
+      ∙ (λ i. record e {
+        told_seq = seq_twice e.seq e.told_seq caps more_caps i;
+        asked = flag_twice e.asked recall more_recall i;
+        size_due = flag_twice e.size_due size more_size i;
+      })
+      ∙ sym (given-fields e (caps || more_caps) (size || more_size) (recall || more_recall))
 
   given-row_more : (done more : List Message) (row : EntryRow) (own : Bool) → is_of_client client row ≡ own → given_to more (given_to done row) ≡ given_to (done ++ more) row
   given-row_more done more row true is =
@@ -142,8 +149,10 @@ module _ (client : ClientId) where
     where
       both : after_messages more (remade (after_messages done) row) ≡ after_messages (done ++ more) row
       both =
-          twice row.entry (list_any (is_caps_of row.holder.ino) done) (list_any (is_recall_of row.holder.ino) done) (list_any (is_caps_of row.holder.ino) more) (list_any (is_recall_of row.holder.ino) more)
-          ∙ sym (λ i. unasked_if (list_any-append (is_recall_of row.holder.ino) done more i) (told_if (list_any-append (is_caps_of row.holder.ino) done more i) row.entry))
+          twice row.entry (list_any (is_caps_of row.holder.ino) done) (list_any (is_size_of row.holder.ino) done) (list_any (is_recall_of row.holder.ino) done)
+          (list_any (is_caps_of row.holder.ino) more) (list_any (is_size_of row.holder.ino) more) (list_any (is_recall_of row.holder.ino) more)
+          ∙ sym (λ i. unasked_if (list_any-append (is_recall_of row.holder.ino) done more i)
+          (sized_if (list_any-append (is_size_of row.holder.ino) done more i) (told_if (list_any-append (is_caps_of row.holder.ino) done more i) row.entry)))
   given-row_more done more row false is =
       ap (λ b. given_to more (cond b (remade (after_messages done) row) row)) is
       ∙ ap (λ b. cond b (remade (after_messages more) row) row) is
@@ -192,11 +201,15 @@ module _ (g : EntryRow → Entry) (given : List Message) (client : ClientId) (in
       ∙ ap (λ (rows : List EntryRow). record t { rows = rows })
       (map_alike (λ row. cond (is_among (holder client ino ∷ []) row.holder) (remade g row) row) (λ row. cond (is_of_client client row) (remade (after_messages given) row) row) each_row t.rows)
 
-caps_if : (e : Entry) (b : Bool) → unasked_if false (told_if (b || false) e) ≡ cond b (told e) e
+caps_if : (e : Entry) (b : Bool) → unasked_if false (sized_if false (told_if (b || false) e)) ≡ cond b (told e) e
 caps_if e true = refl
 caps_if e false = refl
 
-recall_if : (e : Entry) (b : Bool) → unasked_if (b || false) (told_if false e) ≡ cond b (with_asked false e) e
+size_if : (e : Entry) (b : Bool) → unasked_if false (sized_if (b || false) (told_if false e)) ≡ cond b (with_size_due false e) e
+size_if e true = refl
+size_if e false = refl
+
+recall_if : (e : Entry) (b : Bool) → unasked_if (b || false) (sized_if false (told_if false e)) ≡ cond b (with_asked false e) e
 recall_if e true = refl
 recall_if e false = refl
 
@@ -204,6 +217,11 @@ pub caps-given : (client : ClientId) (ino : Ino) (seq : ℕ) (caps : Caps) (t : 
     → changed t (holder client ino) told ≡ changed_where (is_of_client client) (after_messages (message.Caps ino seq caps ∷ [])) t
 caps-given client ino seq caps t is =
     one-given (λ row. told row.entry) (message.Caps ino seq caps ∷ []) client ino (λ row. caps_if row.entry (ino.0 == row.holder.ino.0)) t is
+
+pub size-given : (client : ClientId) (ino : Ino) (size : ℕ) (t : Table) → IsTable t
+    → changed t (holder client ino) (with_size_due false) ≡ changed_where (is_of_client client) (after_messages (message.Size ino size ∷ [])) t
+size-given client ino size t is =
+    one-given (λ row. with_size_due false row.entry) (message.Size ino size ∷ []) client ino (λ row. size_if row.entry (ino.0 == row.holder.ino.0)) t is
 
 pub recall-given : (client : ClientId) (ino : Ino) (t : Table) → IsTable t
     → changed t (holder client ino) (with_asked false) ≡ changed_where (is_of_client client) (after_messages (message.Recall ino ∷ [])) t

@@ -17,26 +17,22 @@ use Rattle.capcore.specs.Sound.{IsSound, AreGiven}
 use Rattle.capcore.proofs.Finishing.{same-finished}
 use Rattle.capcore.proofs.Sounding.{later-given}
 use Rattle.capcore.proofs.Steps.{direct-answered}
-use Rattle.capcore.proofs.Telling.{map_alike, retold, retold_table, retold-sound}
-
--- no change more was told
-abbrev as_told : EntryRow → ℕ
-as_told row = row.entry.told_seq
+use Rattle.capcore.proofs.Telling.{as_told, as_sized, map_alike, retold, retold_table, retold-sound}
 
 -- who was named is asked, and who was asked before
 abbrev asked_too : List Holder → EntryRow → Bool
 asked_too named row = is_among named row.holder || row.entry.asked
 
 row_asked : (row : EntryRow) (b : Bool) → cond b (record row { entry = with_asked true row.entry }) row
-    ≡ record row { entry = record row.entry { told_seq = row.entry.told_seq; asked = b || row.entry.asked } }
+    ≡ record row { entry = record row.entry { told_seq = row.entry.told_seq; asked = b || row.entry.asked; size_due = row.entry.size_due } }
 row_asked row true = refl
 row_asked row false = refl
 
-recalled-retold : (t : Table) (n : ℕ) → recalled t n ≡ retold_table as_told (asked_too (take n t.recall)) t
+recalled-retold : (t : Table) (n : ℕ) → recalled t n ≡ retold_table as_told as_sized (asked_too (take n t.recall)) t
 recalled-retold t n =
     let named : List Holder = take n t.recall in
     ap (λ (rows : List EntryRow). record t { rows = rows })
-    (map_alike (asked_row named) (retold as_told (asked_too named)) (λ row. row_asked row (is_among named row.holder)) t.rows)
+    (map_alike (asked_row named) (retold as_told as_sized (asked_too named)) (λ row. row_asked row (is_among named row.holder)) t.rows)
 
 module _ (old : State) (sound : IsSound old) (count : ℕ) where
   abbrev named : List Holder
@@ -48,13 +44,13 @@ module _ (old : State) (sound : IsSound old) (count : ℕ) where
   pub recalled-sound : IsSound (with_table old (recalled old.scene.table count))
   recalled-sound =
       subst (λ t. IsSound (with_table old t)) (sym (recalled-retold old.scene.table count))
-      (retold-sound old as_told (asked_too named) old.messages sound.messages (λ row below. below) sound)
+      (retold-sound old as_told as_sized (asked_too named) old.messages sound.messages (λ row below. below) sound)
 
   -- no number changes
   recalled-given : (most : ℕ) → AreGiven most old → AreGiven (most + 1) new
   recalled-given most given = later-given most new (
       subst (λ t. AreGiven most (with_table old t)) (sym (recalled-retold old.scene.table count))
-      (record { entries = All-map (λ row. row.entry.seq ≤ most) (retold as_told (asked_too named)) old.scene.table.rows given.entries; last = given.last; made = given.made }))
+      (record { entries = All-map (λ row. row.entry.seq ≤ most) (retold as_told as_sized (asked_too named)) old.scene.table.rows given.entries; last = given.last; made = given.made }))
 
   -- and what each client is to know that it holds is what it was
   pub recalled-finished : IsTable old.scene.table → finished old.scene (with_table old (recalled old.scene.table count)).scene (with_table old (recalled old.scene.table count)).scene ≡ (with_table old (recalled old.scene.table count)).scene

@@ -3,20 +3,22 @@ use Rattle.std.proofs.Common.{◌≡◌, ◌≢◌, ◌≤◌, ◌+◌, ◌==◌
 use Rattle.std.specs.Prelude.{All, filter, nat_lt}
 use Rattle.std.specs.List.{find, list_any, fold, flat_map}
 use Rattle.std.specs.Option.{option_map}
+use Rattle.std.specs.FinMap as finite
 use Rattle.std.proofs.lemmas.Bool.{eqb-true}
 use Rattle.std.proofs.lemmas.List.Elements.{All-contains, All-contains_itself, All-nil, All-cons, All-head, All-tail, All-append, All-take, All-filter, All-weaker, filter_passes}
 use Rattle.std.proofs.lemmas.List.Sums.{fold-append}
-use Rattle.capbits.specs.declared.cap.Cap.TheVariants.{P}
+use Rattle.capbits.specs.declared.cap.Cap.TheVariants.{P, Fc}
 use Rattle.capbits.specs.declared.ids.ClientId.{ClientId}
 use Rattle.capbits.specs.declared.ids.Ino.{Ino}
 use Rattle.capbits.specs.Caps.{Caps, has}
 use Rattle.capbits.specs.Sets.{minus, is_empty, same_caps, has-minus}
+use Rattle.inotree.specs.declared.node.Node.{Node}
 use Rattle.inotree.specs.Tree.{child}
 use Rattle.captable.specs.declared.entry.Entry.{Entry}
 use Rattle.captable.specs.declared.entry.EntryRow.{EntryRow}
 use Rattle.captable.specs.declared.entry.Holder.{Holder}
 use Rattle.captable.specs.Table.{Table, IsTable, holder, same, is_row_of, is_among, entry_of, entry_at}
-use Rattle.captable.specs.Calls.{opened, changed, issued, taken, given_back, released, touched, told, recalled, renumbered, with_asked, without_client, is_of_client}
+use Rattle.captable.specs.Calls.{opened, changed, issued, taken, given_back, released, touched, told, recalled, renumbered, with_asked, with_size_due, without_client, is_of_client}
 use Rattle.captable.specs.Many.{remade}
 use Rattle.captable.specs.Shown.{IsShown}
 use Rattle.captable.proofs.ByHolder.{entry_at-changed, entry_at-changed_other, entry_at-opened_other, entry_at-without_client, entry_at-without_client_other, entry_at-released_pin, entry_at-released, entry_at-released_other, entry_at-recalled, entry_at-recalled_other, row_found}
@@ -40,18 +42,19 @@ use Rattle.capcore.specs.declared.stopped.Stopped.{Stopped}
 use Rattle.capcore.specs.declared.stopped.Stopped.TheVariants.{ByPolicy, ByTest}
 use Rattle.capcore.specs.State.{State}
 use Rattle.capcore.specs.Direct.{Direct, Shows, Gives, direct, effect, effect_unless, with_entry, with_opening, with_wanted, reply_of, shown, found, opened_as}
-use Rattle.capcore.specs.Finish.{due, issue_row, issue, forget, told_before, number_row}
+use Rattle.capcore.specs.Finish.{is_sized, owed, sizes_owed, due, issue_row, issue, forget, told_before, number_row}
 use Rattle.capcore.specs.Judge.{judged, stop_reply, revoked_of}
-use Rattle.capcore.specs.Messages.{first_messages, messages_to, after_messages, caps_messages, recall_messages, end_message, end_messages, is_caps_of, is_recall_of, is_to, told_if, unasked_if}
-use Rattle.capcore.specs.Settle.{Made, Settles, ended_in}
+use Rattle.capcore.specs.Messages.{first_messages, messages_to, after_messages, row_messages, caps_messages, size_message, size_messages, recall_messages, end_message, end_messages, is_caps_of, is_size_of, is_recall_of, is_to, told_if, sized_if, unasked_if}
+use Rattle.capcore.specs.Settle.{Made, Settles, ended_in, sized_in}
 use Rattle.capcore.specs.Shown.{AreShown, shown_by, shown_of, shown_opened, shown_less, shown_given, shown_in}
 use Rattle.capcore.specs.Sound.{IsSound, IsSoundEntry}
 use Rattle.capcore.specs.Step.{Step, state_after}
-use Rattle.capcore.proofs.Finishing.{sound-finished}
+use Rattle.capcore.proofs.Finishing.{sound-ends}
 use Rattle.capcore.proofs.Leaving.{found-contains}
 use Rattle.capcore.proofs.Moved.{moved-all}
 use Rattle.capcore.proofs.Revoking.{revoked-found}
 use Rattle.capcore.proofs.Stopping.{no_moves, stopped-only}
+use Rattle.capcore.proofs.Telling.{given_fields, given-fields}
 
 abbrev pub at : Holder → Entry → EntryRow
 at k e = record { holder = k; entry = e }
@@ -140,6 +143,13 @@ pub entry_at-entry_other : (t : Table) (j k : Holder) → k ≢ j → entry_at (
 entry_at-entry_other t j k apart =
     elim (is_some (entry_at t j)) as (λ b. entry_at (cond b t (opened t j)) k ≡ entry_at t k) [ true ↦ refl | false ↦ entry_at-opened_other t j k apart ]
 
+-- a size that is to be told changes no other field
+field-owed : {V : Type 0} (field : Entry → V) → ((e : Entry) → field (with_size_due true e) ≡ field e) → (row : EntryRow) (b h : Bool)
+    → field (cond b (record row { entry = cond h (with_size_due true row.entry) row.entry }) row).entry ≡ field row.entry
+field-owed field same row false h = refl
+field-owed field same row true true = same row.entry
+field-owed field same row true false = refl
+
 -- ---- messages that show an inode
 
 cond_same : (b : Bool) (x : Caps) → cond b x x ≡ x
@@ -153,6 +163,7 @@ Says ino told_of m = is_caps_of ino m ≡ true → (was : Caps) → shown_in ino
 skipped : (ino : Ino) (was : Caps) (m : Message) → is_caps_of ino m ≡ false → shown_in ino was m ≡ was
 skipped ino was (message.Ended ticket outcome) off = refl
 skipped ino was (message.Caps i seq caps) off = ap (λ b. cond b caps was) off
+skipped ino was (message.Size i size) off = refl
 skipped ino was (message.Recall i) off = refl
 
 -- where all that show it, show the same, this is shown, if one does
@@ -175,17 +186,26 @@ rows_say ino told_of f (row ∷ rows) all =
     let Fact : EntryRow → Type 0 = λ row. All (Says ino told_of) (f row) in
     All-append (Says ino told_of) (f row) (flat_map f rows) (All-head Fact row rows all) (rows_say ino told_of f rows (All-tail Fact row rows all))
 
-row_says : (s : Scene) (ino : Ino) (told_of : Caps) (row : EntryRow) → ((row.holder.ino.0 == ino.0) ≡ true → told_set s row ≡ told_of) → All (Says ino told_of) (caps_messages s row ++ recall_messages row)
+row_says : (s : Scene) (ino : Ino) (told_of : Caps) (row : EntryRow) → ((row.holder.ino.0 == ino.0) ≡ true → told_set s row ≡ told_of) → All (Says ino told_of) (row_messages s row)
 row_says s ino told_of row its =
-    All-append (Says ino told_of) (caps_messages s row) (recall_messages row)
+    All-append (Says ino told_of) (caps_messages s row ++ size_messages s row) (recall_messages row)
+    (All-append (Says ino told_of) (caps_messages s row) (size_messages s row)
     (elim (nat_lt row.entry.told_seq row.entry.seq) as (λ b. All (Says ino told_of) (cond b (message.Caps row.holder.ino row.entry.seq (told_set s row) ∷ []) [])) [
       | true ↦ All-cons (Says ino told_of) (message.Caps row.holder.ino row.entry.seq (told_set s row)) [] (λ on was. ap (λ b. cond b (told_set s row) was) on ∙ its on) (All-nil (Says ino told_of))
       | false ↦ All-nil (Says ino told_of)
     ])
+    (elim row.entry.size_due as (λ b. All (Says ino told_of) (cond b (size_message row.holder.ino (finite.get s.tree.nodes row.holder.ino.0)) [])) [
+      | true ↦ size_says (finite.get s.tree.nodes row.holder.ino.0)
+      | false ↦ All-nil (Says ino told_of)
+    ]))
     (elim row.entry.asked as (λ b. All (Says ino told_of) (cond b (message.Recall row.holder.ino ∷ []) [])) [
       | true ↦ All-cons (Says ino told_of) (message.Recall row.holder.ino) [] (λ is. absurd (true≢false (sym is))) (All-nil (Says ino told_of))
       | false ↦ All-nil (Says ino told_of)
     ])
+  where
+    size_says : (o : Option Node) → All (Says ino told_of) (size_message row.holder.ino o)
+    size_says None = All-nil (Says ino told_of)
+    size_says (Some node) = All-cons (Says ino told_of) (message.Size row.holder.ino node.size) [] (λ is. absurd (true≢false (sym is))) (All-nil (Says ino told_of))
 
 -- ---- an event by itself
 
@@ -293,19 +313,55 @@ module _ (old : State) (sound : IsSound old) (table : IsTable old.scene.table) (
     abbrev st : State
     st = state_after old d moves settled
 
+    -- the scene, in which the sizes that were changed are to be told
+    abbrev owing : Scene
+    owing = sizes_owed (sized_in moves) settled
+
     abbrev ended : Scene
-    ended = forget (issue settled)
+    ended = forget (issue owing)
 
     same_table : settled.table ≡ first.table
     same_table = (moved-all first moves settled settles.made).table
 
-    found_last : (k : Holder) → find (is_row_of k) st.scene.table.rows ≡ option_map (number_row old.scene first ended) (option_map (issue_row settled) (find (is_row_of k) settled.table.rows))
+    abbrev owed_row : EntryRow → EntryRow
+    owed_row row = cond (is_sized (sized_in moves) row) (remade owed row) row
+
+    -- an entry there, by what it was right after the event
+    was_first : (k : Holder) (f : Entry) → entry_at owing.table k ≡ Some f → (g : Entry) × (entry_at first.table k ≡ Some g) × (f ≡ (owed_row (at k g)).entry)
+    was_first k f there = by_row (find (is_row_of k) settled.table.rows) refl
+      where
+        found_owing : find (is_row_of k) owing.table.rows ≡ option_map owed_row (find (is_row_of k) settled.table.rows)
+        found_owing = find-map (is_row_of k) owed_row (λ row. elim (is_sized (sized_in moves) row) as (λ b. is_row_of k (cond b (remade owed row) row) ≡ is_row_of k row) [ true ↦ refl | false ↦ refl ]) settled.table.rows
+
+        by_row : (o : Option EntryRow) → find (is_row_of k) settled.table.rows ≡ o → (g : Entry) × (entry_at first.table k ≡ Some g) × (f ≡ (owed_row (at k g)).entry)
+        by_row None none = let gone : entry_at owing.table k ≡ None = ap entry_of (found_owing ∙ ap (option_map owed_row) none) in absurd (cc)
+        by_row (Some row) found_it =
+            let settled_there : entry_at settled.table k ≡ Some row.entry = ap entry_of found_it in
+            let at_row : Some row ≡ Some (at k row.entry) = sym found_it ∙ entry_found settled.table k row.entry settled_there in
+            let now : entry_at owing.table k ≡ Some (owed_row (at k row.entry)).entry = ap entry_of (found_owing ∙ ap (option_map owed_row) (found_it ∙ at_row)) in
+            let f_is : f ≡ (owed_row (at k row.entry)).entry = cc in
+            (row.entry, ap (λ (u : Table). entry_at u k) (sym same_table) ∙ settled_there, f_is)
+
+    -- what was known of it, is known of it there
+    known-then : (k : Holder) (was : Caps) (f : Entry) → entry_at owing.table k ≡ Some f → ((g : Entry) → entry_at first.table k ≡ Some g → IsKnown old.scene k was g) → IsKnown old.scene k was f
+    known-then k was f there known =
+        let w = was_first k f there in
+        let g : Entry = w.0 in
+        let b = is_sized (sized_in moves) (at k g) in
+        let h = has g.held Fc in
+        known-same old.scene k was g f
+        (ap (λ (e : Entry). e.held) w.2 ∙ field-owed (λ e. e.held) (λ e. refl) (at k g) b h)
+        (ap (λ (e : Entry). e.seq) w.2 ∙ field-owed (λ e. e.seq) (λ e. refl) (at k g) b h)
+        (ap (λ (e : Entry). e.revoke_seq) w.2 ∙ field-owed (λ e. e.revoke_seq) (λ e. refl) (at k g) b h)
+        (ap (λ (e : Entry). e.told_seq) w.2 ∙ field-owed (λ e. e.told_seq) (λ e. refl) (at k g) b h) (known g w.1)
+
+    found_last : (k : Holder) → find (is_row_of k) st.scene.table.rows ≡ option_map (number_row old.scene first ended) (option_map (issue_row owing) (find (is_row_of k) owing.table.rows))
     found_last k =
-        find-map (is_row_of k) (number_row old.scene first ended) (λ row. refl) (map (issue_row settled) settled.table.rows)
-        ∙ ap (option_map (number_row old.scene first ended)) (find-map (is_row_of k) (issue_row settled) (λ row. refl) settled.table.rows)
+        find-map (is_row_of k) (number_row old.scene first ended) (λ row. refl) (map (issue_row owing) owing.table.rows)
+        ∙ ap (option_map (number_row old.scene first ended)) (find-map (is_row_of k) (issue_row owing) (λ row. refl) owing.table.rows)
 
     abbrev more : Holder → Entry → Entry
-    more k f = issued (due settled (at k f)) f
+    more k f = issued (due owing (at k f)) f
 
     abbrev then_told : Holder → Entry → Caps
     then_told k f = told_set old.scene (at k f)
@@ -314,38 +370,41 @@ module _ (old : State) (sound : IsSound old) (table : IsTable old.scene.table) (
     now_told k f = told_set ended (at k (more k f))
 
     -- an entry as the step leaves it
-    numbered : (k : Holder) (f : Entry) → entry_at first.table k ≡ Some f → (was : Caps) → IsKnown old.scene k was f → (e : Entry) → entry_at st.scene.table k ≡ Some e
+    numbered : (k : Holder) (f : Entry) → entry_at owing.table k ≡ Some f → (was : Caps) → IsKnown old.scene k was f → (e : Entry) → entry_at st.scene.table k ≡ Some e
         → IsShown was (told_set st.scene (at k e)) e
     numbered k f there was known e last =
         subst (λ (x : Entry). IsShown was (told_set st.scene (at k x)) x) (sym e_is)
         (subst (λ (now : Caps). IsShown was now (renumbered (then_told k f) (now_told k f) (more k f))) (sym (told-held st.scene k (more k f) (renumbered (then_told k f) (now_told k f) (more k f)) (held-renumbered (then_told k f) (now_told k f) (more k f))))
         (shown-numbered was (then_told k f) (now_told k f) (more k f) known.below (same-numbers was (then_told k f) f (more k f) refl refl refl known.says)))
       where
-        found_first : find (is_row_of k) first.table.rows ≡ Some (at k f)
-        found_first = entry_found first.table k f there
-
-        found_settled : find (is_row_of k) settled.table.rows ≡ Some (at k f)
-        found_settled = ap (λ (u : Table). find (is_row_of k) u.rows) same_table ∙ found_first
+        told_then : told_before old.scene (find (is_row_of k) first.table.rows) ≡ then_told k f
+        told_then =
+            let w = was_first k f there in
+            let g : Entry = w.0 in
+            let held : f.held ≡ g.held = ap (λ (e : Entry). e.held) w.2 ∙ field-owed (λ e. e.held) (λ e. refl) (at k g) (is_sized (sized_in moves) (at k g)) (has g.held Fc) in
+            ap (told_before old.scene) (entry_found first.table k g w.1) ∙ sym (told-held old.scene k g f held)
 
         e_is : e ≡ renumbered (then_told k f) (now_told k f) (more k f)
         e_is =
             let now : entry_at st.scene.table k ≡ Some (renumbered (told_before old.scene (find (is_row_of k) first.table.rows)) (now_told k f) (more k f)) =
-            ap entry_of (found_last k ∙ ap (λ o. option_map (number_row old.scene first ended) (option_map (issue_row settled) o)) found_settled) in
+            ap entry_of (found_last k ∙ ap (λ o. option_map (number_row old.scene first ended) (option_map (issue_row owing) o)) (entry_found owing.table k f there)) in
             let there_now : e ≡ renumbered (told_before old.scene (find (is_row_of k) first.table.rows)) (now_told k f) (more k f) = cc in
-            there_now ∙ ap (λ o. renumbered (told_before old.scene o) (now_told k f) (more k f)) found_first
+            there_now ∙ ap (λ (was : Caps). renumbered was (now_told k f) (more k f)) told_then
 
-    -- what has an entry at the end, had it right after the event
-    was_there : (k : Holder) (e : Entry) → entry_at st.scene.table k ≡ Some e → (f : Entry) × (entry_at first.table k ≡ Some f)
-    was_there k e last = by_row (find (is_row_of k) settled.table.rows) refl
+    -- what has an entry at the end, had it before
+    was_there : (k : Holder) (e : Entry) → entry_at st.scene.table k ≡ Some e → (f : Entry) × (entry_at owing.table k ≡ Some f)
+    was_there k e last = by_row (find (is_row_of k) owing.table.rows) refl
       where
-        by_row : (o : Option EntryRow) → find (is_row_of k) settled.table.rows ≡ o → (f : Entry) × (entry_at first.table k ≡ Some f)
+        by_row : (o : Option EntryRow) → find (is_row_of k) owing.table.rows ≡ o → (f : Entry) × (entry_at owing.table k ≡ Some f)
         by_row None none =
             let gone : entry_at st.scene.table k ≡ None =
-            ap entry_of (found_last k ∙ ap (λ o. option_map (number_row old.scene first ended) (option_map (issue_row settled) o)) none) in absurd (cc)
-        by_row (Some row) found_it = (row.entry, ap (λ (u : Table). entry_at u k) (sym same_table) ∙ ap entry_of found_it)
+            ap entry_of (found_last k ∙ ap (λ o. option_map (number_row old.scene first ended) (option_map (issue_row owing) o)) none) in absurd (cc)
+        by_row (Some row) found_it = (row.entry, ap entry_of found_it)
 
     by_number : (was : Holder → Caps) → Left first.table was → (k : Holder) (e : Entry) → entry_at st.scene.table k ≡ Some e → IsShown (was k) (told_set st.scene (at k e)) e
-    by_number was left k e last = let there = was_there k e last in numbered k there.0 there.1 (was k) (left k there.0 there.1) e last
+    by_number was left k e last =
+        let there = was_there k e last in
+        numbered k there.0 there.1 (was k) (known-then k (was k) there.0 there.1 (left k)) e last
 
     -- where it is shown to one holder
     by_show : (j : Holder) → LeftBut first.table j → (k : Holder) (e : Entry) → entry_at (shown (Shows j) st).scene.table k ≡ Some e
@@ -354,7 +413,7 @@ module _ (old : State) (sound : IsSound old) (table : IsTable old.scene.table) (
       | true ↦ λ on. own (same-is k j on)
       | false ↦ λ off. (let here = sym (entry_at-changed_other st.scene.table j k told (apart-of k j off)) ∙ last in
           let there = was_there k e here in
-          numbered k there.0 there.1 (before k) (left k there.0 off there.1) e here)
+          numbered k there.0 there.1 (before k) (known-then k (before k) there.0 there.1 (λ g was. left k g off was)) e here)
     ] refl
       where
         own : k ≡ j → IsShown (shown_opened (before k) (reply_of st (ended_in moves) (Shows j))) (told_set st.scene (at k e)) e
@@ -388,7 +447,7 @@ module _ (old : State) (sound : IsSound old) (table : IsTable old.scene.table) (
     all_say : (k : Holder) (e : Entry) → entry_at t k ≡ Some e → (k.client.0 == client.0) ≡ true → All (Says k.ino (told_set old.scene (at k e))) given
     all_say k e there own =
         let now : Caps = told_set old.scene (at k e) in
-        let of_it : EntryRow → List Message = λ row. caps_messages old.scene row ++ recall_messages row in
+        let of_it : EntryRow → List Message = row_messages old.scene in
         let mine : List EntryRow = filter (is_of_client client) t.rows in
         All-take (Says k.ino now) max (messages_to old client)
         (All-append (Says k.ino now) (end_messages client old.messages) (flat_map of_it mine) (ends_say k.ino now (filter (is_to client) old.messages))
@@ -416,14 +475,15 @@ module _ (old : State) (sound : IsSound old) (table : IsTable old.scene.table) (
           | true ↦ λ own.
               subst (λ (x : Caps). IsShown x (told_set old.scene (at k (after_messages given (at k e)))) (after_messages given (at k e)))
               (sym (shown_all k.ino (told_set old.scene (at k e)) (before k) given (all_say k e there own)))
-              (by_tests (list_any (is_caps_of k.ino) given) (list_any (is_recall_of k.ino) given))
+              (by_tests (list_any (is_caps_of k.ino) given) (list_any (is_size_of k.ino) given) (list_any (is_recall_of k.ino) given))
         ] refl
       where
-        by_tests : (b c : Bool) → IsShown (cond b (told_set old.scene (at k e)) (before k)) (told_set old.scene (at k (unasked_if c (told_if b e)))) (unasked_if c (told_if b e))
-        by_tests true true = same-numbers (told_set old.scene (at k e)) (told_set old.scene (at k e)) (told e) (with_asked false (told e)) refl refl refl (shown-told (told_set old.scene (at k e)) e)
-        by_tests true false = shown-told (told_set old.scene (at k e)) e
-        by_tests false true = same-numbers (before k) (told_set old.scene (at k e)) e (with_asked false e) refl refl refl (was_shown k e there)
-        by_tests false false = was_shown k e there
+        fields : (b z c : Bool) → IsShown (cond b (told_set old.scene (at k e)) (before k)) (told_set old.scene (at k (given_fields b z c e))) (given_fields b z c e)
+        fields true z c = same-numbers (told_set old.scene (at k e)) (told_set old.scene (at k e)) (told e) (given_fields true z c e) refl refl refl (shown-told (told_set old.scene (at k e)) e)
+        fields false z c = same-numbers (before k) (told_set old.scene (at k e)) e (given_fields false z c e) refl refl refl (was_shown k e there)
+
+        by_tests : (b z c : Bool) → IsShown (cond b (told_set old.scene (at k e)) (before k)) (told_set old.scene (at k (unasked_if c (sized_if z (told_if b e))))) (unasked_if c (sized_if z (told_if b e)))
+        by_tests b z c = subst (λ (x : Entry). IsShown (cond b (told_set old.scene (at k e)) (before k)) (told_set old.scene (at k x)) x) (sym (given-fields e b z c)) (fields b z c)
 
     found_polled : (k : Holder) → find (is_row_of k) (map polled_row t.rows) ≡ option_map polled_row (find (is_row_of k) t.rows)
     found_polled k = find-map (is_row_of k) polled_row (λ row. elim (is_of_client client row) as (λ b. is_row_of k (cond b (remade (after_messages given) row) row) ≡ is_row_of k row) [ true ↦ refl | false ↦ refl ]) t.rows
@@ -452,7 +512,7 @@ module _ (old : State) (sound : IsSound old) (table : IsTable old.scene.table) (
             subst (λ (x : Entry). IsShown (cond (k.client.0 == client.0) (fold (shown_in k.ino) (before k) given) (before k)) (told_set old.scene (at k x)) x) (sym f_is) (given_entry k e there)
 
     nothing_left : state_after old poll_of [] old.scene ≡ old
-    nothing_left = λ i. record old { scene = sound-finished old sound table i; messages = append-nil old.messages i }
+    nothing_left = λ i. record old { scene = sound-ends old sound table i; messages = append-nil old.messages i }
 
     polled : (moves : List Made) (settled : Scene) → Settles old.scene moves settled → PollShown (state_after old poll_of moves settled)
     polled moves settled settles =

@@ -6,6 +6,7 @@ use Rattle.std.proofs.lemmas.Bool.{eqb-true}
 use Rattle.std.proofs.lemmas.List.{length-append}
 use Rattle.std.proofs.lemmas.List.Elements.{All-contains, filter_map-append, filter_passes}
 use Rattle.capbits.specs.declared.cap.Part.{Part}
+use Rattle.capbits.specs.declared.ids.Ino.{Ino}
 use Rattle.capbits.specs.declared.ids.Ticket.{Ticket}
 use Rattle.inotree.specs.Tree.{Nodes, IsTree, is_within}
 use Rattle.inotree.specs.Alike.{IsAlike}
@@ -30,7 +31,7 @@ use Rattle.capcore.specs.declared.outcome.Ended.{Ended}
 use Rattle.capcore.specs.Served.{is_rename}
 use Rattle.capcore.specs.Serves.{Serves, SettlesWith, is_touched}
 use Rattle.capcore.specs.Serving.{tree_after}
-use Rattle.capcore.specs.Settle.{Made, Served, Makes, MakesAll, ended_by, ended_in}
+use Rattle.capcore.specs.Settle.{Made, Began, Gathered, Served, Makes, MakesAll, ended_by, ended_in, sized_by, sized_in}
 use Rattle.capcore.specs.Sweep.{AreStill, IsSwept, IsTurnOfLeast, Keeps, Covers, Reaches}
 use Rattle.capcore.specs.Touching.{IsSameOff}
 use Rattle.capcore.proofs.Among.{untouched, not-touched, more-touched}
@@ -42,10 +43,11 @@ use Rattle.capcore.proofs.Sweeping.{still-kept}
 
 -- these moves were made and these requests ended; nothing changed but at the inodes that are touched, among which are those of the
 -- event, and of which all but the one have their locks from before kept; elsewhere nothing moves, and who waits there is held up
-pub record IsSoFar (ino : ℕ) (from : ℕ → Bool) (touched : StateMap) (first now : Scene) (told : List Ended) : Type 0 where
+pub record IsSoFar (ino : ℕ) (from : ℕ → Bool) (touched : StateMap) (first now : Scene) (told : List Ended) (sized : List Ino) : Type 0 where
   pub moves : List Made
   pub made : MakesAll first moves now
   pub ended_is : told ≡ ended_in moves
+  pub sized_is : sized ≡ sized_in moves
   pub among : (other : ℕ) → from other ≡ true → is_touched ino touched other ≡ true
   pub same : IsSameOff (is_touched ino touched) first now
   pub states : (other : ℕ) → is_touched ino touched other ≡ false → map.get now.locks.states other ≡ map.get first.locks.states other
@@ -59,11 +61,12 @@ pub record IsSoFar (ino : ℕ) (from : ℕ → Bool) (touched : StateMap) (first
 
 pub so-far-begins : (ino : ℕ) (touched : StateMap) (first : Scene) → IsQuietOutside (is_touched ino touched) first → map.contains_key touched ino ≡ false
     → ((other : ℕ) → map.contains_key touched other ≡ true → map.get touched other ≡ map.get first.locks.states other)
-    → IsSoFar ino (is_touched ino touched) touched first first []
+    → IsSoFar ino (is_touched ino touched) touched first first [] []
 so-far-begins ino touched first quiet apart before = record {
   moves = [];
   made = refl;
   ended_is = refl;
+  sized_is = refl;
   among = λ other is. is;
   same = off-refl (is_touched ino touched) first;
   states = λ other off. refl;
@@ -77,11 +80,18 @@ so-far-begins ino touched first quiet apart before = record {
   count = omega arith;
 }
 
+-- moves that end no request change no size
+none-sized : (moves : List Made) → ended_in moves ≡ [] → sized_in moves ≡ []
+none-sized [] none = refl
+none-sized (Began ino part to ∷ moves) none = none-sized moves none
+none-sized (Gathered ino part ∷ moves) none = none-sized moves none
+none-sized (Served q o ∷ moves) none = absurd (cc)
+
 -- where nothing ends, it is the turn of the least one
 pub turn-of_least : (at : ℕ → Bool) (s : Scene) → AreStill at s → NothingEnds s → IsTurnOfLeast at s
 turn-of_least at s still ends a least = ends-turn s a ends (λ other part below. still.begins other part (least.least other below))
 
-module _ (ino : ℕ) (from : ℕ → Bool) (touched : StateMap) (first now : Scene) (told : List Ended) (so : IsSoFar ino from touched first now told) where
+module _ (ino : ℕ) (from : ℕ → Bool) (touched : StateMap) (first now : Scene) (told : List Ended) (sized : List Ino) (so : IsSoFar ino from touched first now told sized) where
   -- ---- gathers began and ended
 
   module _ (new : Scene) (swept : IsSwept (is_touched ino touched) now new) where
@@ -101,7 +111,7 @@ module _ (ino : ℕ) (from : ℕ → Bool) (touched : StateMap) (first now : Sce
     by_left : (P : Scene → Type 0) → P left → P new
     by_left P is = subst P (sym swept.is) is
 
-    pub so-far-swept : IsSoFar ino from touched first new told
+    pub so-far-swept : IsSoFar ino from touched first new told sized
     so-far-swept = record {
       moves = so.moves ++ swept.moves;
       made = makes-append first so.moves now swept.moves new so.made swept.made;
@@ -110,6 +120,11 @@ module _ (ino : ℕ) (from : ℕ → Bool) (touched : StateMap) (first now : Sce
           ∙ sym (append-nil (ended_in so.moves))
           ∙ ap (λ ms. ended_in so.moves ++ ms) (sym swept.none)
           ∙ sym (filter_map-append ended_by so.moves swept.moves);
+      sized_is =
+          so.sized_is
+          ∙ sym (append-nil (sized_in so.moves))
+          ∙ ap (λ inos. sized_in so.moves ++ inos) (sym (none-sized swept.moves swept.none))
+          ∙ sym (filter_map-append sized_by so.moves swept.moves);
       among = so.among;
       same = by_left (IsSameOff (is_touched ino touched) first) (off-trans (is_touched ino touched) first now left so.same swept_off);
       states = λ other off. swept.states other off ∙ so.states other off;
@@ -121,7 +136,7 @@ module _ (ino : ℕ) (from : ℕ → Bool) (touched : StateMap) (first now : Sce
     }
 
   -- and where no move applies, it has settled
-  pub so-far-settled : first_move now ≡ Settled → SettlesWith (is_touched ino touched) from first now told
+  pub so-far-settled : first_move now ≡ Settled → SettlesWith (is_touched ino touched) from first now told sized
   so-far-settled rests = record {
     moves = so.moves;
     settles = record {
@@ -130,6 +145,7 @@ module _ (ino : ℕ) (from : ℕ → Bool) (touched : StateMap) (first now : Sce
       same = so.same;
     };
     ended_is = so.ended_is;
+    sized_is = so.sized_is;
   }
 
   -- ---- a request was served
@@ -281,7 +297,7 @@ module _ (ino : ℕ) (from : ℕ → Bool) (touched : StateMap) (first now : Sce
     pub turn-served : IsTurnOfLeast (is_touched ino kept) new
     turn-served = by_after (IsTurnOfLeast (is_touched ino kept)) turn_after
 
-    pub so-far-served : IsSoFar ino from kept first new (told ++ ended ∷ [])
+    pub so-far-served : IsSoFar ino from kept first new (told ++ ended ∷ []) (sized ++ sized_in (Served q ended.outcome ∷ []))
     so-far-served = record {
       moves = so.moves ++ Served q ended.outcome ∷ [];
       made = makes-append first so.moves now (Served q ended.outcome ∷ []) new so.made (new, makes, refl);
@@ -289,6 +305,9 @@ module _ (ino : ℕ) (from : ℕ → Bool) (touched : StateMap) (first now : Sce
           ap (λ ms. ms ++ ended ∷ []) so.ended_is
           ∙ ap (λ (m : Ended). ended_in so.moves ++ m ∷ []) serves.ended_is
           ∙ sym (filter_map-append ended_by so.moves (Served q ended.outcome ∷ []));
+      sized_is =
+          ap (λ inos. inos ++ sized_in (Served q ended.outcome ∷ [])) so.sized_is
+          ∙ sym (filter_map-append sized_by so.moves (Served q ended.outcome ∷ []));
       among = λ other is. more-touched ino touched kept still_kept other (so.among other is);
       same = by_after (IsSameOff (is_touched ino kept) first)
           (off-trans (is_touched ino kept) first now after (off-wider (is_touched ino touched) (is_touched ino kept) first now wider so.same) served_off);

@@ -18,12 +18,12 @@ use Rattle.inotree.specs.declared.node.Kind.TheVariants.{Directory, File}
 use Rattle.capcore.specs.Judge.{judged}
 use Rattle.capcore.specs.Direct.{Answer, Direct, direct, effect, effect_unless, found, reply_of, shown, with_scene, IsDirect}
 use Rattle.capcore.specs.Settle.{Settles}
-use Rattle.capcore.specs.Finish.{finished}
+use Rattle.capcore.specs.Finish.{sizes_owed, finished}
 use Rattle.capcore.specs.Leaving.{with_parts, LeavesEntries}
 use Rattle.capcore.specs.Sound.{IsSound, AreGiven}
 use Rattle.capcore.specs.Step.{Step, state_after}
 use Rattle.capcore.specs.Touching.{touched_by, turned_by, is_listing}
-use Rattle.capcore.proofs.Finishing.{sound-settles}
+use Rattle.capcore.proofs.Finishing.{none-sized, sound-settles}
 use Rattle.capcore.proofs.Judging.{no_test}
 use Rattle.capcore.proofs.Leaving.{kept-sound, kept-finished}
 use Rattle.capcore.proofs.Promised.{issues-exactly}
@@ -91,8 +91,10 @@ module _ (old new : State) (e : Event) (still : turned_by e ≡ None) (answer : 
       d : Direct
       d = direct old e
 
-      done : finished old.scene d.state.scene d.state.scene ≡ d.state.scene
-      done = subst (λ (s : State). finished old.scene s.scene s.scene ≡ s.scene) is.state_is finishes
+      done : finished old.scene d.state.scene (sizes_owed [] d.state.scene) ≡ d.state.scene
+      done =
+          ap (finished old.scene d.state.scene) (none-sized d.state.scene)
+          ∙ subst (λ (s : State). finished old.scene s.scene s.scene ≡ s.scene) is.state_is finishes
 
   pub direct-answered : (says : Said) → ((count : ℕ) → AreGiven count old → AreGiven (count + 1) new)
       → says.reply ≡ answer → says.kept ≡ answer → says.ended ≡ [] → IsAnswered old e says new

@@ -15,7 +15,7 @@ use Rattle.capcore.specs.Direct.{Direct, direct, says, effect_unless, reply_of, 
 use Rattle.capcore.specs.Settle.{Made, Began, Gathered, Served, Makes, MakesAll, Settles, ended_in}
 use Rattle.capcore.specs.Step.{Step, all_ended, state_after}
 use Rattle.capcore.specs.Sound.{IsSound}
-use Rattle.capcore.proofs.Finishing.{sound-finished, sound-settles}
+use Rattle.capcore.proofs.Finishing.{sound-ends, sound-settles}
 
 pub stopped-step : (old : State) (e : Event) (stopped : Stopped) → IsSound old → IsTable old.scene.table → judged old.scene e ≡ Some stopped → Step old e (stop_reply stopped) [] old
 stopped-step old e stopped sound table is = (
@@ -23,7 +23,7 @@ stopped-step old e stopped sound table is = (
   record {
     settled = old.scene;
     settles = subst (λ (d : Direct). Settles d.state.scene [] old.scene) (sym by_itself) (sound-settles old sound);
-    new_is = sym (ap (λ (d : Direct). shown d.answer (state_after old d [] old.scene)) by_itself ∙ (λ i. record old { scene = sound-finished old sound table i; messages = append-nil old.messages i }));
+    new_is = sym (ap (λ (d : Direct). shown d.answer (state_after old d [] old.scene)) by_itself ∙ (λ i. record old { scene = sound-ends old sound table i; messages = append-nil old.messages i }));
     answer_is = ap (λ (d : Direct). reply_of (state_after old d [] old.scene) [] d.answer) (sym by_itself);
     ended_is = ap (λ (d : Direct). all_ended old d []) (sym by_itself);
   },
@@ -62,7 +62,7 @@ stopped-only old new e stopped answer ended sound table is (moves, step) = (
       ∙ ap (λ (d : Direct). shown d.answer (state_after old d moves step.settled)) by_itself
       ∙ ap (λ (ms : List Made). state_after old here ms step.settled) none.0
       ∙ ap (state_after old here []) none.1
-      ∙ (λ i. record old { scene = sound-finished old sound table i; messages = append-nil old.messages i }),
+      ∙ (λ i. record old { scene = sound-ends old sound table i; messages = append-nil old.messages i }),
 )
   where
     here : Direct

@@ -1,4 +1,4 @@
--- What a client is told changes two fields of entries, by which nothing is judged, moved or issued.
+-- What a client is told changes three fields of entries, by which nothing is judged, moved or issued.
 use Rattle.std.proofs.Common.{◌≡◌, ◌≤◌, ℕ, Bool, true, false, cond, not, ◌&&◌, ◌||◌, Option, Some, None, List, [], ◌∷◌, filter, map, refl, sym, ap, subst, ◌∙◌, arith}
 use Rattle.std.specs.Prelude.{IsTrue, All}
 use Rattle.std.specs.List.{find, list_any, IsDistinct, AllByRecursion}
@@ -14,6 +14,7 @@ use Rattle.locktable.specs.declared.states.State.{State as LockGoal}
 use Rattle.locktable.specs.declared.states.LockState.{LockState}
 use Rattle.locktable.specs.declared.states.LockState.TheVariants.{Stable, Gather}
 use Rattle.sessiontab.specs.Calls.{has_session}
+use Rattle.captable.specs.declared.entry.Entry.{Entry}
 use Rattle.captable.specs.declared.entry.EntryRow.{EntryRow}
 use Rattle.captable.specs.declared.entry.Holder.{Holder}
 use Rattle.captable.specs.Table.{Table, IsTable, same, is_row_of, is_among}
@@ -31,7 +32,7 @@ use Rattle.capcore.specs.State.{State}
 use Rattle.capcore.specs.Direct.{Answer, Says, Shows, Gives, Awaits, with_scene, shown}
 use Rattle.capcore.specs.Finish.{due}
 use Rattle.capcore.specs.Headline.{holds, is_due, IssuesExactly, IsInPlace, AreInPlace}
-use Rattle.capcore.specs.Messages.{first_messages, after_messages, is_caps_of, is_recall_of, is_end_of, is_to, told_if, unasked_if}
+use Rattle.capcore.specs.Messages.{first_messages, after_messages, is_caps_of, is_size_of, is_recall_of, is_end_of, is_to, told_if, sized_if, unasked_if}
 use Rattle.capcore.specs.Sound.{IsSoundEntry, IsSound, AreGiven}
 use Rattle.capcore.proofs.StillQuiet.{still_quiet}
 
@@ -51,22 +52,22 @@ pub map_alike : {X Y : Type 0} (f g : X → Y) → ((x : X) → f x ≡ g x) →
 map_alike f g same [] = refl
 map_alike f g same (x ∷ xs) = λ i. same x i ∷ map_alike f g same xs i
 
--- ---- entries of which other changes were told, and that are asked or not
+-- ---- entries of which other changes were told, of which the size is due or not, and that are asked or not
 
-module _ (told_as : EntryRow → ℕ) (asked_as : EntryRow → Bool) where
+module _ (told_as : EntryRow → ℕ) (size_as asked_as : EntryRow → Bool) where
   abbrev pub retold : EntryRow → EntryRow
-  retold row = record row { entry = record row.entry { told_seq = told_as row; asked = asked_as row } }
+  retold row = record row { entry = record row.entry { told_seq = told_as row; asked = asked_as row; size_due = size_as row } }
 
   abbrev pub retold_table : Table → Table
   retold_table table = record table { rows = map retold table.rows }
 
-module _ (s : State) (told_as : EntryRow → ℕ) (asked_as : EntryRow → Bool) where
+module _ (s : State) (told_as : EntryRow → ℕ) (size_as asked_as : EntryRow → Bool) where
   abbrev to : EntryRow → EntryRow
-  to = retold told_as asked_as
+  to = retold told_as size_as asked_as
 
   -- the scene with these entries
   abbrev new : Scene
-  new = record s.scene { table = retold_table told_as asked_as s.scene.table }
+  new = record s.scene { table = retold_table told_as size_as asked_as s.scene.table }
 
   same_on : (ino : Ino) → filter (is_of_inode ino) new.table.rows ≡ map to (filter (is_of_inode ino) s.scene.table.rows)
   same_on ino = filter-map (is_of_inode ino) to (λ row. refl) s.scene.table.rows
@@ -106,7 +107,7 @@ module _ (s : State) (told_as : EntryRow → ℕ) (asked_as : EntryRow → Bool)
 
   pub retold-sound : (messages : List Ended) → All (λ m. IsTrue (has_session s.scene.sessions m.client.0)) messages
       → ((row : EntryRow) → row.entry.told_seq ≤ row.entry.seq → told_as row ≤ row.entry.seq) → IsSound s
-      → IsSound (record { scene = record s.scene { table = retold_table told_as asked_as s.scene.table }; messages = messages })
+      → IsSound (record { scene = record s.scene { table = retold_table told_as size_as asked_as s.scene.table }; messages = messages })
   retold-sound messages connected below sound = record {
     entries = All-map (IsSoundEntry new) to s.scene.table.rows (All-weaker (IsSoundEntry s.scene) (λ row. IsSoundEntry new (to row)) entry_kept s.scene.table.rows sound.entries);
     waiting = sound.waiting;
@@ -142,7 +143,7 @@ module _ (s : State) (told_as : EntryRow → ℕ) (asked_as : EntryRow → Bool)
       let f : EntryRow → Bool = λ row. has (due s.scene row) cap in
       ap (λ o. option_map_or f o false) (same_found k) ∙ same_or f (λ row. refl) (find (is_row_of k) s.scene.table.rows)
 
-  pub retold-issued : (first : Scene) → IssuesExactly first s.scene → IssuesExactly first (record s.scene { table = retold_table told_as asked_as s.scene.table })
+  pub retold-issued : (first : Scene) → IssuesExactly first s.scene → IssuesExactly first (record s.scene { table = retold_table told_as size_as asked_as s.scene.table })
   retold-issued first issued k cap = same_holds k cap ∙ issued k cap ∙ ap (λ b. holds first k cap || b) (sym (same_due k cap))
 
 -- ---- what is shown
@@ -154,18 +155,26 @@ named k row = is_among (k ∷ []) row.holder
 abbrev told_where : (EntryRow → Bool) → EntryRow → ℕ
 told_where passes row = cond (passes row) row.entry.seq row.entry.told_seq
 
-abbrev as_asked : EntryRow → Bool
+-- no change more was told, and nothing else of what is due
+abbrev pub as_told : EntryRow → ℕ
+as_told row = row.entry.told_seq
+
+abbrev pub as_asked : EntryRow → Bool
 as_asked row = row.entry.asked
 
-told_row : (row : EntryRow) (b : Bool) → cond b (remade (λ row. told row.entry) row) row ≡ record row { entry = record row.entry { told_seq = cond b row.entry.seq row.entry.told_seq; asked = row.entry.asked } }
+abbrev pub as_sized : EntryRow → Bool
+as_sized row = row.entry.size_due
+
+told_row : (row : EntryRow) (b : Bool) → cond b (remade (λ row. told row.entry) row) row
+    ≡ record row { entry = record row.entry { told_seq = cond b row.entry.seq row.entry.told_seq; asked = row.entry.asked; size_due = row.entry.size_due } }
 told_row row true = refl
 told_row row false = refl
 
-shown_table : (t : Table) (k : Holder) → IsTable t → changed t k told ≡ retold_table (told_where (named k)) as_asked t
+shown_table : (t : Table) (k : Holder) → IsTable t → changed t k told ≡ retold_table (told_where (named k)) as_sized as_asked t
 unfolding IsDistinct
 shown_table t k is =
     fold-changed_by (λ row. told row.entry) t (k ∷ []) is once
-    ∙ ap (λ (rows : List EntryRow). record t { rows = rows }) (map_alike (λ row. cond (named k row) (remade (λ row. told row.entry) row) row) (retold (told_where (named k)) as_asked) (λ row. told_row row (named k row)) t.rows)
+    ∙ ap (λ (rows : List EntryRow). record t { rows = rows }) (map_alike (λ row. cond (named k row) (remade (λ row. told row.entry) row) row) (retold (told_where (named k)) as_sized as_asked) (λ row. told_row row (named k row)) t.rows)
   where
     once : IsDistinct same (k ∷ [])
     once = (tt, tt)
@@ -180,22 +189,36 @@ module _ (client : ClientId) (given : List Message) where
   abbrev told_given : EntryRow → ℕ
   told_given row = cond (is_of_client client row && list_any (is_caps_of row.holder.ino) given) row.entry.seq row.entry.told_seq
 
+  abbrev size_given : EntryRow → Bool
+  size_given row = cond (is_of_client client row && list_any (is_size_of row.holder.ino) given) false row.entry.size_due
+
   abbrev asked_given : EntryRow → Bool
   asked_given row = cond (is_of_client client row && list_any (is_recall_of row.holder.ino) given) false row.entry.asked
 
-given_row : (row : EntryRow) (own caps recall : Bool) → cond own (record row { entry = unasked_if recall (told_if caps row.entry) }) row
-    ≡ record row { entry = record row.entry { told_seq = cond (own && caps) row.entry.seq row.entry.told_seq; asked = cond (own && recall) false row.entry.asked } }
-given_row row false caps recall = refl
-given_row row true false false = refl
-given_row row true false true = refl
-given_row row true true false = refl
-given_row row true true true = refl
+-- which fields the messages that were given change
+abbrev pub given_fields : Bool → Bool → Bool → Entry → Entry
+given_fields caps size recall e = record e { told_seq = cond caps e.seq e.told_seq; asked = cond recall false e.asked; size_due = cond size false e.size_due }
 
-given_table : (client : ClientId) (given : List Message) (t : Table) → changed_where (is_of_client client) (after_messages given) t ≡ retold_table (told_given client given) (asked_given client given) t
+pub given-fields : (e : Entry) (caps size recall : Bool) → unasked_if recall (sized_if size (told_if caps e)) ≡ given_fields caps size recall e
+given-fields e false false false = refl
+given-fields e false false true = refl
+given-fields e false true false = refl
+given-fields e false true true = refl
+given-fields e true false false = refl
+given-fields e true false true = refl
+given-fields e true true false = refl
+given-fields e true true true = refl
+
+given_row : (row : EntryRow) (own caps size recall : Bool) → cond own (record row { entry = unasked_if recall (sized_if size (told_if caps row.entry)) }) row
+    ≡ record row { entry = given_fields (own && caps) (own && size) (own && recall) row.entry }
+given_row row false caps size recall = refl
+given_row row true caps size recall = ap (λ (e : Entry). record row { entry = e }) (given-fields row.entry caps size recall)
+
+given_table : (client : ClientId) (given : List Message) (t : Table) → changed_where (is_of_client client) (after_messages given) t ≡ retold_table (told_given client given) (size_given client given) (asked_given client given) t
 given_table client given t =
     ap (λ (rows : List EntryRow). record t { rows = rows })
-    (map_alike (λ row. cond (is_of_client client row) (remade (after_messages given) row) row) (retold (told_given client given) (asked_given client given))
-    (λ row. given_row row (is_of_client client row) (list_any (is_caps_of row.holder.ino) given) (list_any (is_recall_of row.holder.ino) given)) t.rows)
+    (map_alike (λ row. cond (is_of_client client row) (remade (after_messages given) row) row) (retold (told_given client given) (size_given client given) (asked_given client given))
+    (λ row. given_row row (is_of_client client row) (list_any (is_caps_of row.holder.ino) given) (list_any (is_size_of row.holder.ino) given) (list_any (is_recall_of row.holder.ino) given)) t.rows)
 
 -- ---- each answer
 
@@ -203,12 +226,12 @@ pub shown-sound : (s : State) (answer : Answer) → IsSound s → IsTable s.scen
 shown-sound s (Says answer) sound table = sound
 shown-sound s (Shows k) sound table =
     subst (λ t. IsSound (with_scene s (record s.scene { table = t }))) (sym (shown_table s.scene.table k table))
-    (retold-sound s (told_where (named k)) as_asked s.messages sound.messages (λ row below. told_below (named k row) row.entry.seq row.entry.told_seq below) sound)
+    (retold-sound s (told_where (named k)) as_sized as_asked s.messages sound.messages (λ row below. told_below (named k row) row.entry.seq row.entry.told_seq below) sound)
 shown-sound s (Gives client max) sound table =
     let given : List Message = first_messages s client max in
     let due : Ended → Bool = λ m. not (is_to client m && list_any (is_end_of m.ticket) given) in
     subst (λ t. IsSound (record { scene = record s.scene { table = t }; messages = filter due s.messages })) (sym (given_table client given s.scene.table))
-    (retold-sound s (told_given client given) (asked_given client given) (filter due s.messages)
+    (retold-sound s (told_given client given) (size_given client given) (asked_given client given) (filter due s.messages)
     (All-filter due (λ m. IsTrue (has_session s.scene.sessions m.client.0)) s.messages sound.messages)
     (λ row below. told_below (is_of_client client row && list_any (is_caps_of row.holder.ino) given) row.entry.seq row.entry.told_seq below) sound)
 shown-sound s (Awaits ticket) sound table = sound
@@ -216,10 +239,10 @@ shown-sound s (Awaits ticket) sound table = sound
 pub shown-issued : (first : Scene) (s : State) (answer : Answer) → IsTable s.scene.table → IssuesExactly first s.scene → IssuesExactly first (shown answer s).scene
 shown-issued first s (Says answer) table issued = issued
 shown-issued first s (Shows k) table issued =
-    subst (λ t. IssuesExactly first (record s.scene { table = t })) (sym (shown_table s.scene.table k table)) (retold-issued s (told_where (named k)) as_asked first issued)
+    subst (λ t. IssuesExactly first (record s.scene { table = t })) (sym (shown_table s.scene.table k table)) (retold-issued s (told_where (named k)) as_sized as_asked first issued)
 shown-issued first s (Gives client max) table issued =
     let given : List Message = first_messages s client max in
-    subst (λ t. IssuesExactly first (record s.scene { table = t })) (sym (given_table client given s.scene.table)) (retold-issued s (told_given client given) (asked_given client given) first issued)
+    subst (λ t. IssuesExactly first (record s.scene { table = t })) (sym (given_table client given s.scene.table)) (retold-issued s (told_given client given) (size_given client given) (asked_given client given) first issued)
 shown-issued first s (Awaits ticket) table issued = issued
 
 -- ---- numbers
@@ -237,7 +260,7 @@ module _ (count : ℕ) where
 
   given-where : (client : ClientId) (given : List Message) (t : Table) → All IsGiven t.rows → All IsGiven (changed_where (is_of_client client) (after_messages given) t).rows
   given-where client given t all =
-      subst (λ (t : Table). All IsGiven t.rows) (sym (given_table client given t)) (All-map IsGiven (retold (told_given client given) (asked_given client given)) t.rows all)
+      subst (λ (t : Table). All IsGiven t.rows) (sym (given_table client given t)) (All-map IsGiven (retold (told_given client given) (size_given client given) (asked_given client given)) t.rows all)
 
   pub shown-given : (s : State) (answer : Answer) → AreGiven count s → AreGiven count (shown answer s)
   shown-given s (Says answer) given = given

@@ -5,12 +5,12 @@ use Rattle.capcore.specs.declared.event.Event.{Event}
 use Rattle.capcore.specs.declared.reply.Reply.{Reply}
 use Rattle.capcore.specs.State.{State}
 use Rattle.capcore.specs.Direct.{direct, reply_of, shown}
-use Rattle.capcore.specs.Settle.{Made, Settles, ended_in}
-use Rattle.capcore.specs.Finish.{finished}
+use Rattle.capcore.specs.Settle.{Made, Settles, ended_in, sized_in}
+use Rattle.capcore.specs.Finish.{sizes_owed, finished}
 use Rattle.capcore.specs.Step.{Step, earlier, all_ended, state_after, state_at_end}
 
 module _ (old : State) (e : Event) (moves : List Made) (settled last : Scene) (settles : Settles (direct old e).state.scene moves settled)
-    (ends : finished old.scene (direct old e).state.scene settled ≡ last) where
+    (ends : finished old.scene (direct old e).state.scene (sizes_owed (sized_in moves) settled) ≡ last) where
   -- the state at the end, but for what the answer tells
   ended_at : state_after old (direct old e) moves settled ≡ state_at_end old (direct old e).state moves last
   ended_at = λ i. record { scene = ends i; messages = (direct old e).state.messages ++ earlier old.scene.locks.last (ended_in moves) }

@@ -6,6 +6,7 @@ use Rattle.std.specs.FinMap as map
 use Rattle.std.proofs.lemmas.List.Sums.{length-filter, count_by-le-length}
 use Rattle.std.proofs.lemmas.List.Elements.{All-weaker, All-contains_itself}
 use Rattle.capbits.specs.declared.ids.ClientId.{ClientId}
+use Rattle.capbits.specs.declared.ids.Ino.{Ino}
 use Rattle.capbits.specs.declared.refusal.Refusal.{Refusal}
 use Rattle.capbits.specs.Refusal.{first_failing}
 use Rattle.locktable.specs.declared.states.LockState.{LockState}
@@ -35,7 +36,8 @@ use Rattle.capcore.specs.Direct.{Direct, direct, reply_of, shown}
 use Rattle.capcore.specs.Judge.{judged, stop}
 use Rattle.capcore.specs.Messages.{is_to}
 use Rattle.capcore.specs.Serves.{SettlesWith, EndsWith, is_touched}
-use Rattle.capcore.specs.Settle.{ended_in}
+use Rattle.capcore.specs.Finish.{sizes_owed}
+use Rattle.capcore.specs.Settle.{ended_in, sized_in}
 use Rattle.capcore.specs.Sound.{IsSound, NumbersLeft}
 use Rattle.capcore.specs.Step.{earlier, all_ended, state_at_end}
 use Rattle.capcore.specs.Touching.{Touches, SettlesAt, finished_at}
@@ -145,26 +147,27 @@ module _ (old : State) (client : ClientId) (turn : Turn) (passed : judged old.sc
   -- ---- the end of the step
 
   module _ (order : IsLockMap old.scene.locks) (last : Scene) (told : List Ended) (ends : EndsWith from touched.scene last told) (last_table : IsTable last.table) where
-    abbrev settles : SettlesWith ends.at from touched.scene ends.settled told
+    abbrev settles : SettlesWith ends.at from touched.scene ends.settled told ends.sized
     settles = ends.settles
 
     -- all that were served were of earlier steps
     all : earlier old.scene.locks.last told ≡ told
     all =
         subst (λ n. earlier n told ≡ told) (turned-last (is_end turn) old.scene.locks client)
-        (told-all ends.at from touched.scene ends.settled told settles (order-left (is_end turn) order))
+        (told-all ends.at from touched.scene ends.settled told ends.sized settles (order-left (is_end turn) order))
 
     -- the state at the end
     abbrev pub turn_closed : State
     turn_closed = record { scene = last; messages = touched.messages ++ told }
 
     abbrev by_the_rules : State
-    by_the_rules = state_at_end old (direct old e).state settles.moves (finished_at ends.at (direct old e).state.scene ends.settled)
+    by_the_rules = state_at_end old (direct old e).state settles.moves (finished_at ends.at (direct old e).state.scene (sizes_owed (sized_in settles.moves) ends.settled))
 
     same_state : turn_closed ≡ by_the_rules
     same_state =
         (λ i. record { scene = ends.finished i; messages = touched.messages ++ (sym all ∙ ap (earlier old.scene.locks.last) settles.ended_is) i })
-        ∙ ap (λ (d : Direct). state_at_end old d.state settles.moves (finished_at ends.at d.state.scene ends.settled)) (sym by_itself)
+        ∙ ap (λ (sized : List Ino). state_at_end old touched settles.moves (finished_at ends.at touched.scene (sizes_owed sized ends.settled))) settles.sized_is
+        ∙ ap (λ (d : Direct). state_at_end old d.state settles.moves (finished_at ends.at d.state.scene (sizes_owed (sized_in settles.moves) ends.settled))) (sym by_itself)
 
     pub turn-closed : (said : Said) → said.reply ≡ reply.Done → said.kept ≡ reply.Done → said.ended ≡ dropped_by (is_end turn) old.scene.locks client ++ told
         → IsAnswered old e said turn_closed

@@ -78,14 +78,14 @@ module _ (old : State) (k : Holder) (ask : Ask) (sound : IsSound old) (table : I
 
   module _ (last : Scene) (told : List Ended) (ends : EndsWith from first last told) where
     pub wait-differ : HaveOwnNumbers told
-    wait-differ = told-own_numbers ends.at from first ends.settled told ends.settles
+    wait-differ = told-own_numbers ends.at from first ends.settled told ends.sized ends.settles
 
     module _ (last_table : IsTable last.table) (ticket : Ticket) (next : ticket.0 ≡ old.scene.locks.last + 1) (said : Said) (messages : List Ended)
         (replies : said.reply ≡ awaited_as ticket (find (is_of_ticket ticket) told)) (kept : said.kept ≡ said.reply) (ended : said.ended ≡ but_for ticket told)
         (left : messages ≡ old.messages ++ but_for ticket told) where
       others : earlier old.scene.locks.last told ≡ but_for ticket told
       others =
-          told-but_own ends.at from first ends.settled told ends.settles (subst IsLockMap (sym queued) (order-of_ask old.scene k ask order free)) old.scene.locks.last ticket next
+          told-but_own ends.at from first ends.settled told ends.sized ends.settles (subst IsLockMap (sym queued) (order-of_ask old.scene k ask order free)) old.scene.locks.last ticket next
           (ap (λ (l : LockMap). l.last) queued)
 
       abbrev new : State

@@ -1,23 +1,41 @@
--- What a step does once the locks have settled: it issues what may be held, forgets strays that nobody has an entry on,
+-- What a step does once the locks have settled: where a size was changed, it is to be told; then it issues what may be held, forgets strays that nobody has an entry on,
 -- and numbers what changed.
-use Rattle.std.specs.Prelude.{ℕ, Bool, not, ◌||◌, [], ◌∷◌, map, Option, Some, None}
+use Rattle.std.specs.Prelude.{ℕ, Bool, true, not, ◌||◌, List, [], ◌∷◌, map, Option, Some, None, if◌then◌else◌}
 use Rattle.std.specs.List.{find, list_any}
 use Rattle.std.specs.FinMap as finite
-use Rattle.capbits.specs.declared.cap.Cap.TheVariants.{P}
+use Rattle.capbits.specs.declared.cap.Cap.TheVariants.{P, Fc}
 use Rattle.capbits.specs.declared.cap.Part.{Part}
+use Rattle.capbits.specs.declared.ids.Ino.{Ino}
 use Rattle.capbits.specs.declared.cap.Part.TheVariants.{A, L, X, F}
-use Rattle.capbits.specs.Caps.{Caps}
+use Rattle.capbits.specs.Caps.{Caps, has}
 use Rattle.capbits.specs.Sets.{no_caps, caps_in, union, meet}
 use Rattle.locktable.specs.declared.states.LockState.{LockState}
 use Rattle.locktable.specs.Rows.{allowed_of}
 use Rattle.inotree.specs.Tree.{place}
+use Rattle.captable.specs.declared.entry.Entry.{Entry}
 use Rattle.captable.specs.declared.entry.EntryRow.{EntryRow}
 use Rattle.captable.specs.Table.{is_row_of}
-use Rattle.captable.specs.Calls.{issued, renumbered, is_of_inode}
+use Rattle.captable.specs.Calls.{issued, renumbered, with_size_due, is_of_inode}
+use Rattle.captable.specs.Many.{changed_where}
 use Rattle.lockmachine.specs.Locks.{lock_at}
 use Rattle.lockmachine.specs.Wants.{effective_want}
 use Rattle.lockmachine.specs.Scene.{Scene, told_set}
 use Rattle.inotree.specs.Tests.{is_gone}
+
+-- ---- sizes
+
+-- the row is an entry on one of these inodes
+abbrev pub is_sized : List Ino → EntryRow → Bool
+is_sized sized row = list_any (λ ino. is_of_inode ino row) sized
+
+-- the entry of a client that caches the data, which is to be told the size. No move changes what is held, so it cached the data
+-- when the size was changed
+abbrev pub owed : EntryRow → Entry
+owed row = if has row.entry.held Fc then with_size_due true row.entry else row.entry
+
+-- the scene, where the sizes of these inodes were changed
+abbrev pub sizes_owed : List Ino → Scene → Scene
+sizes_owed sized s = record s { table = changed_where (is_sized sized) owed s.table }
 
 -- ---- issue
 

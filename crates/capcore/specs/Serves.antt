@@ -1,6 +1,7 @@
 -- One serving by its number, and a settling with all that it served.
 use Rattle.std.specs.Prelude.{◌≡◌, ℕ, Bool, ◌||◌, ◌==◌, List, Some}
 use Rattle.std.specs.FinMap as map
+use Rattle.capbits.specs.declared.ids.Ino.{Ino}
 use Rattle.capbits.specs.declared.ids.Ticket.{Ticket}
 use Rattle.inotree.specs.Tree.{IsTree}
 use Rattle.lockmachine.specs.declared.request.Request.{Request}
@@ -9,7 +10,8 @@ use Rattle.lockmachine.specs.Locks.{request_at, without_request}
 use Rattle.lockmachine.specs.Scene.{Scene}
 use Rattle.capcore.specs.declared.outcome.Ended.{Ended}
 use Rattle.capcore.specs.Serving.{MayEndAs, tree_after}
-use Rattle.capcore.specs.Settle.{Made, ended_in}
+use Rattle.capcore.specs.Finish.{sizes_owed}
+use Rattle.capcore.specs.Settle.{Made, ended_in, sized_in}
 use Rattle.capcore.specs.Touching.{SettlesAt, finished_at}
 
 -- the request with this number is served, ends so and waits no more
@@ -24,17 +26,19 @@ pub record Serves (old : Scene) (ticket : Ticket) (ended : Ended) (new : Scene) 
 abbrev pub is_touched : ℕ → StateMap → ℕ → Bool
 is_touched ino touched other = (other == ino) || map.contains_key touched other
 
--- by some moves the locks settle, nothing changes but at these inodes, among which are those of the event, and these requests end,
--- in this order
-pub record SettlesWith (at from : ℕ → Bool) (first settled : Scene) (ended : List Ended) : Type 0 where
+-- by some moves the locks settle, nothing changes but at these inodes, among which are those of the event, these requests end, in
+-- this order, and the sizes of these inodes change
+pub record SettlesWith (at from : ℕ → Bool) (first settled : Scene) (ended : List Ended) (sized : List Ino) : Type 0 where
   pub moves : List Made
   pub settles : SettlesAt at from moves first settled
   pub ended_is : ended ≡ ended_in moves
+  pub sized_is : sized ≡ sized_in moves
 
 -- the event was about these inodes: the locks settle, these requests end, and the step ends at the inodes that it touched
 pub record EndsWith (from : ℕ → Bool) (first last : Scene) (ended : List Ended) : Type 0 where
   pub at : ℕ → Bool
   pub settled : Scene
-  pub settles : SettlesWith at from first settled ended
+  pub sized : List Ino
+  pub settles : SettlesWith at from first settled ended sized
   pub tree : IsTree settled.tree
-  pub finished : last ≡ finished_at at first settled
+  pub finished : last ≡ finished_at at first (sizes_owed sized settled)

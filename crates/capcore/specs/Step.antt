@@ -6,8 +6,8 @@ use Rattle.capcore.specs.declared.outcome.Ended.{Ended}
 use Rattle.capcore.specs.declared.reply.Reply.{Reply}
 use Rattle.capcore.specs.State.{State}
 use Rattle.capcore.specs.Direct.{Direct, direct, reply_of, shown}
-use Rattle.capcore.specs.Settle.{Made, Settles, ended_in}
-use Rattle.capcore.specs.Finish.{finished}
+use Rattle.capcore.specs.Settle.{Made, Settles, ended_in, sized_in}
+use Rattle.capcore.specs.Finish.{sizes_owed, finished}
 
 -- of the requests that the moves ended, those of earlier steps: they have no number above the last that was given before
 abbrev pub earlier : ℕ → List Ended → List Ended
@@ -21,7 +21,7 @@ all_ended old d moves = d.dropped ++ earlier old.scene.locks.last (ended_in move
 -- has ended
 abbrev pub state_after : State → Direct → List Made → Scene → State
 state_after old d moves settled = record d.state {
-  scene = finished old.scene d.state.scene settled;
+  scene = finished old.scene d.state.scene (sizes_owed (sized_in moves) settled);
   messages = d.state.messages ++ earlier old.scene.locks.last (ended_in moves);
 }
 

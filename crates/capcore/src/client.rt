@@ -1,5 +1,5 @@
 //! Steps by which a client's session ends, becomes stale or is open again.
-ghost use Rattle.std.specs.Prelude.{◌≡◌, ◌+◌, ◌≤◌, ◌++◌, true, [], None, All, IsTrue, Contains, length, map as each, IfOk, IfErr, OnOk, OnErr};
+ghost use Rattle.std.specs.Prelude.{◌≡◌, ◌+◌, ◌≤◌, ◌++◌, true, [], None, All, IsTrue, Contains, length, map as each, IfOk, IfErr, OnOk, OnErr, vec_capacity};
 ghost use Rattle.std.specs.FinMap as map;
 ghost use Rattle.capbits.specs.Refusal.{first_failing};
 ghost use Rattle.captable.specs.declared.entry.EntryRow.{EntryRow};
@@ -187,6 +187,7 @@ impl Room {
         ensures reaches { IfOk result (λ room. ReachesClient 1 client table.now locks.now room.others) }
         ensures told { IfOk result (λ room. (room.endings.told.items ≡ []) × (length locks.now.queue ≤ room.endings.told.room)) }
         ensures kept { IfOk result (λ room. (room.endings.kept.items ≡ []) × (length locks.now.queue ≤ room.endings.kept.room)) }
+        ensures sized { IfOk result (λ room. (room.endings.sized.items ≡ []) × (length locks.now.queue ≤ vec_capacity room.endings.sized)) }
         ensures dropped { IfOk result (λ room. (room.dropped.items ≡ []) × (length locks.now.queue ≤ room.dropped.room)) }
     {
         let others = reach_client(alloc, table, locks, client)?;

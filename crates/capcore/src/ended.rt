@@ -22,7 +22,8 @@ pub(crate) fn close(messages: &mut Messages, reply: Reply, endings: Endings) -> 
     ensures kept { result.kept ≡ reply }
     ensures ended { result.ended ≡ endings.kept.items }
 {
-    let Endings { told, kept } = endings;
+    let Endings { told, kept, sized } = endings;
+    drop(sized);
     messages.append(told);
     let ended = kept.into_list();
     let kept = copy_of_reply(&reply);
@@ -39,7 +40,8 @@ pub(crate) fn close_dropped(messages: &mut Messages, dropped: Messages, endings:
     ensures kept { result.kept ≡ reply.Done }
     ensures ended { result.ended ≡ dropped.items ++ endings.kept.items }
 {
-    let Endings { told, kept } = endings;
+    let Endings { told, kept, sized } = endings;
+    drop(sized);
     messages.append(told);
     let mut all = dropped;
     all.append(kept);
@@ -61,7 +63,12 @@ pub(crate) fn close_with(messages: &mut Messages, ticket: Ticket, endings: Endin
     ensures kept { result.kept ≡ result.reply }
     ensures ended { result.ended ≡ but_for ticket endings.told.items }
 {
-    let Endings { mut told, mut kept } = endings;
+    let Endings {
+        mut told,
+        mut kept,
+        sized,
+    } = endings;
+    drop(sized);
     let reply = awaited(ticket, told.take(ticket));
     messages.append(told);
     let kept_reply = awaited(ticket, kept.take(ticket));

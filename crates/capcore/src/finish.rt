@@ -119,7 +119,11 @@ fn finish_entries(
 }
 
 // The clients with an entry on an inode, in the order of making. Each has a session, so there is room for them.
-fn clients_on(sessions: &Sessions, table: &CapTable, ino: Ino) -> ArrayVec<u32, MAX_SESSIONS>
+pub(crate) fn clients_on(
+    sessions: &Sessions,
+    table: &CapTable,
+    ino: Ino,
+) -> ArrayVec<u32, MAX_SESSIONS>
     requires { All (λ row. IsTrue (has_session sessions.now row.holder.client.0)) table.now.rows }
     ensures clients { result.items ≡ words.clients_of (entries_on table.now ino) }
     ensures sound { IsTable table.now }

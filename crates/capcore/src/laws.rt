@@ -52,6 +52,12 @@ pub fn a_sound_state_has_nothing_left_to_do()
         → finished s.scene s.scene s.scene ≡ s.scene }
 {}
 
+/// The moves of a step leave all that is held, and all else of the entries: so who caches the data of a file once the locks have
+/// settled, cached it whenever one of these moves changed its size.
+pub fn moves_leave_what_is_held()
+    ensures { (first settled : Scene) (moves : List Made) → MakesAll first moves settled → settled.table ≡ first.table }
+{}
+
 /// So of an event that is stopped there is a step, which says what stopped it, ends no request and changes nothing; and
 /// there is no other.
 pub fn a_stop_changes_nothing()

@@ -25,6 +25,7 @@ mod serving;
 mod serving_laws;
 mod settle;
 mod shown_laws;
+mod sizes;
 mod start;
 mod step;
 mod stopped;

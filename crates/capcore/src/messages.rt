@@ -1,6 +1,6 @@
 //! The requests that ended and that no client was told of.
-ghost use Rattle.std.specs.Prelude.{◌≡◌, ◌+◌, ◌≤◌, ◌<◌, ◌++◌, [], ◌∷◌, length, filter, not, IfOk, OnOk, OnErr};
-ghost use Rattle.std.specs.List.{find, list_any, position};
+ghost use Rattle.std.specs.Prelude.{◌≡◌, ◌+◌, ◌≤◌, ◌<◌, ◌++◌, [], ◌∷◌, length, filter, not, IfOk, OnOk, OnErr, vec_capacity};
+ghost use Rattle.std.specs.List.{find, filter_map, list_any, position};
 ghost use Rattle.capcore.specs.Direct.{is_of_ticket};
 ghost use Rattle.capcore.specs.Messages.{is_to, is_left, is_end_of};
 ghost use Rattle.capcore.specs.Untold.{HaveOwnNumbers, but_for};
@@ -8,7 +8,7 @@ ghost use Rattle.capcore.specs.Untold.{HaveOwnNumbers, but_for};
 use crate::history::EndedList;
 use crate::outcome::{Ended, Message};
 use crate::serving::Served;
-use capbits::{ClientId, Ticket};
+use capbits::{ClientId, Ino, Ticket};
 use std::alloc::{AllocError, Global};
 use std::marker::Model;
 
@@ -141,11 +141,13 @@ impl Messages {
     }
 }
 
-// The requests that a step ends: once to be told to their clients, and once for the history.
+// The requests that a step ends: once to be told to their clients, and once for the history; and the inodes whose sizes they
+// changed.
 #[derive(Drop)]
 pub(crate) struct Endings {
     pub(crate) told: Messages,
     pub(crate) kept: Messages,
+    pub(crate) sized: Vec<Ino>,
 }
 
 impl Endings {
@@ -153,15 +155,18 @@ impl Endings {
     pub(crate) fn with_room(alloc: Global, room: usize) -> Result<Endings, AllocError>
         ensures told { IfOk result (λ endings. (endings.told.items ≡ []) × (room ≤ endings.told.room)) }
         ensures kept { IfOk result (λ endings. (endings.kept.items ≡ []) × (room ≤ endings.kept.room)) }
+        ensures sized { IfOk result (λ endings. (endings.sized.items ≡ []) × (room ≤ vec_capacity endings.sized)) }
     {
-        let told = Messages::with_room(alloc, room)?;
-        match Messages::with_room(alloc, room) {
-            Ok(kept) => Ok(Endings { told, kept }),
-            Err(refused) => {
-                drop(told);
-                Err(refused)
-            }
-        }
+        let mut sized = Vec::new(alloc);
+        sized.reserve(room)?;
+        let (Ok(told), Ok(kept)) = (
+            Messages::with_room(alloc, room),
+            Messages::with_room(alloc, room),
+        ) else {
+            drop(sized);
+            return Err(AllocError);
+        };
+        Ok(Endings { told, kept, sized })
     }
 
     // The allocator of the lists.
@@ -169,13 +174,22 @@ impl Endings {
         self.told.alloc()
     }
 
-    // A client's request with this number ended so.
-    pub(crate) fn push(&mut self, client: ClientId, ticket: Ticket, served: Served)
+    // A client's request with this number ended so, and changed the size of this inode, if of any.
+    pub(crate) fn push(
+        &mut self,
+        client: ClientId,
+        ticket: Ticket,
+        served: Served,
+        sized: Option<Ino>,
+    )
         requires told { length self.old.told.items < self.old.told.room }
         requires kept { length self.old.kept.items < self.old.kept.room }
+        requires sized { length self.old.sized.items < vec_capacity self.old.sized }
         ensures told { self.new.told.items ≡ self.old.told.items ++ record { client = client; ticket = ticket; outcome = served.outcome } ∷ [] }
         ensures kept { self.new.kept.items ≡ self.old.kept.items ++ record { client = client; ticket = ticket; outcome = served.kept } ∷ [] }
-        ensures room { (self.old.told.room ≤ self.new.told.room) × (self.old.kept.room ≤ self.new.kept.room) }
+        ensures sized { self.new.sized.items ≡ self.old.sized.items ++ filter_map (λ ino. ino) (sized ∷ []) }
+        ensures room { (self.old.told.room ≤ self.new.told.room) × (self.old.kept.room ≤ self.new.kept.room)
+            × (vec_capacity self.old.sized ≤ vec_capacity self.new.sized) }
     {
         let Served { outcome, kept } = served;
         self.told.push(Ended {
@@ -188,6 +202,20 @@ impl Endings {
             ticket,
             outcome: kept,
         });
+        add_sized(&mut self.sized, sized);
+    }
+}
+
+// One inode more, if there is one, for which there is room.
+fn add_sized(inodes: &mut Vec<Ino>, sized: Option<Ino>)
+    requires room { length inodes.old.items < vec_capacity inodes.old }
+    ensures items { inodes.new.items ≡ inodes.old.items ++ filter_map (λ ino. ino) (sized ∷ []) }
+    ensures room { vec_capacity inodes.old ≤ vec_capacity inodes.new }
+{
+    if let Some(ino) = sized {
+        let Ok(()) = inodes.push(ino) else {
+            unreachable!()
+        };
     }
 }
 
@@ -218,6 +246,6 @@ fn is_end_of(ticket: Ticket, message: &Message) -> bool
 {
     match message {
         Message::Ended { ticket: told, .. } => told.0 == ticket.0,
-        Message::Caps { .. } | Message::Recall { .. } => false,
+        Message::Caps { .. } | Message::Size { .. } | Message::Recall { .. } => false,
     }
 }

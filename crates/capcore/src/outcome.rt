@@ -77,6 +77,13 @@ pub enum Message {
         /// What it is to know now.
         caps: CapSet,
     },
+    /// The size of an inode was changed while it cached the data.
+    Size {
+        /// The inode.
+        ino: Ino,
+        /// How many bytes of data there are now.
+        size: u64,
+    },
     /// It is asked to give back what it holds on an inode.
     Recall {
         /// The inode.

@@ -3,7 +3,7 @@ ghost use Rattle.std.specs.Prelude.{◌≡◌, ◌≤◌, ◌++◌, [], ◌∷�
 ghost use Rattle.captable.specs.Calls.{is_of_client};
 ghost use Rattle.captable.specs.Many.{changed_where};
 ghost use Rattle.lockmachine.specs.Scene.{Scene};
-ghost use Rattle.capcore.specs.Messages.{after_messages, caps_messages, end_messages, first_messages, recall_messages};
+ghost use Rattle.capcore.specs.Messages.{after_messages, caps_messages, end_messages, first_messages, row_messages, size_messages};
 ghost use Rattle.capcore.specs.State.{State};
 
 use crate::copies::copy_of_outcome;
@@ -11,6 +11,7 @@ use crate::outcome::{Ended, Message, MessageList};
 use crate::told::told_set_of;
 use capbits::ClientId;
 use captable::{CapTable, EntryRow};
+use inotree::Tree;
 use lockmachine::Locks;
 use std::alloc::{AllocError, Global};
 
@@ -18,18 +19,20 @@ use std::alloc::{AllocError, Global};
 pub(crate) fn due_messages(
     alloc: Global,
     ended: &[Ended],
+    tree: &Tree,
     table: &CapTable,
     locks: &Locks,
     client: ClientId,
     max: u32,
 ) -> Result<MessageList, AllocError>
-    ensures { IfOk result (λ due. (s : State) → s.scene.table ≡ table.now → s.scene.locks ≡ locks.now → s.messages ≡ ended.now
+    ensures { IfOk result (λ due. (s : State) → s.scene.tree ≡ tree.now → s.scene.table ≡ table.now → s.scene.locks ≡ locks.now
+        → s.messages ≡ ended.now
         → due ≡ first_messages s client max) }
 {
     let mut due = ended_messages(alloc, ended, client, max)?;
     let mut walk = table.due_of(client);
     'rows: while let Some(row) = walk.next() {
-        add_due(&mut due, max, locks, &row)?;
+        add_due(&mut due, max, tree, locks, &row)?;
         if due.as_slice().len() >= max as usize {
             return Ok(due);
         }
@@ -61,12 +64,33 @@ fn ended_messages(
 fn add_due(
     list: &mut MessageList,
     max: u32,
+    tree: &Tree,
     locks: &Locks,
     row: &EntryRow,
 ) -> Result<(), AllocError>
     requires room { length list.old ≤ max }
-    ensures ok { OnOk result ((s : Scene) → s.locks ≡ locks.now
-        → list.new ≡ take max (list.old ++ (caps_messages s row.now ++ recall_messages row.now))) }
+    ensures ok { OnOk result ((s : Scene) → s.tree ≡ tree.now → s.locks ≡ locks.now
+        → list.new ≡ take max (list.old ++ row_messages s row.now)) }
+{
+    let ino = row.holder.ino;
+    add_caps(list, max, locks, row)?;
+    add_size(list, max, tree, row)?;
+    if row.entry.asked {
+        add(list, max, Message::Recall { ino })?;
+    }
+    Ok(())
+}
+
+// Adds the change that the client was not told of.
+fn add_caps(
+    list: &mut MessageList,
+    max: u32,
+    locks: &Locks,
+    row: &EntryRow,
+) -> Result<(), AllocError>
+    requires room { length list.old ≤ max }
+    ensures ok { OnOk result ((s : Scene) → s.locks ≡ locks.now → list.new ≡ take max (list.old ++ caps_messages s row.now)) }
+    ensures few { OnOk result (length list.new ≤ max) }
 {
     let ino = row.holder.ino;
     if row.entry.told_seq < row.entry.seq {
@@ -74,8 +98,22 @@ fn add_due(
         let caps = told_set_of(locks, row);
         add(list, max, Message::Caps { ino, seq, caps })?;
     }
-    if row.entry.asked {
-        add(list, max, Message::Recall { ino })?;
+    Ok(())
+}
+
+// Adds the size that the client is to be told.
+fn add_size(list: &mut MessageList, max: u32, tree: &Tree, row: &EntryRow) -> Result<(), AllocError>
+    requires room { length list.old ≤ max }
+    ensures ok { OnOk result ((s : Scene) → s.tree ≡ tree.now → list.new ≡ take max (list.old ++ size_messages s row.now)) }
+    ensures few { OnOk result (length list.new ≤ max) }
+{
+    if !row.entry.size_due {
+        return Ok(());
+    }
+    let ino = row.holder.ino;
+    if let Some(node) = tree.node(ino) {
+        let size = node.size;
+        add(list, max, Message::Size { ino, size })?;
     }
     Ok(())
 }
@@ -91,7 +129,7 @@ fn add(list: &mut MessageList, max: u32, message: Message) -> Result<(), AllocEr
     Ok(())
 }
 
-// The client is told of the changes that these messages say, and asked no more where they ask.
+// The client is told of the changes and the sizes that these messages say, and asked no more where they ask.
 pub(crate) fn give(table: &mut CapTable, client: ClientId, given: &[Message])
     ensures { table.new ≡ changed_where (is_of_client client) (after_messages given.now) table.old }
 {
@@ -108,6 +146,7 @@ fn give_one(table: &mut CapTable, client: ClientId, message: &Message)
     let _oldest = table.oldest();
     match message {
         Message::Caps { ino, .. } => table.tell(client, *ino),
+        Message::Size { ino, .. } => table.tell_size(client, *ino),
         Message::Recall { ino } => table.ask(client, *ino, false),
         Message::Ended { .. } => {}
     }

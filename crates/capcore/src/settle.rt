@@ -1,5 +1,5 @@
 //! The locks settle at the inodes that a step touches, and who waits for them is served.
-ghost use Rattle.std.specs.Prelude.{◌≡◌, ◌==◌, ◌≤◌, ◌<◌, ◌^◌, ◌-◌, ◌+◌, ◌++◌, ◌∷◌, [], true, false, length, ℕ, List, Some, All, IsTrue};
+ghost use Rattle.std.specs.Prelude.{◌≡◌, ◌==◌, ◌≤◌, ◌<◌, ◌^◌, ◌-◌, ◌+◌, ◌++◌, ◌∷◌, [], true, false, length, ℕ, List, Some, All, IsTrue, vec_capacity};
 ghost use Rattle.std.specs.FinMap as map;
 ghost use Rattle.capbits.specs.declared.cap.Part.{Part};
 ghost use Rattle.inotree.specs.Tree.{Nodes};
@@ -13,18 +13,21 @@ ghost use Rattle.lockmachine.specs.Moves.{may_end_by, IsQuietOutside};
 ghost use Rattle.lockmachine.specs.Turns.{WaitAt};
 ghost use Rattle.capcore.specs.declared.outcome.Ended.{Ended};
 ghost use Rattle.capcore.specs.Serves.{Serves, SettlesWith, EndsWith, is_touched};
+ghost use Rattle.capcore.specs.Settle.{Served as Serving, sized_by, sized_in};
 ghost use Rattle.capcore.specs.Sweep.{AreStill, GoesOn, IsTurnOfLeast, IsLeastOf, IsNextOf, IsSwept, Reaches};
 ghost use Rattle.capcore.specs.Untold.{HasRoom};
 
 use crate::finish::finish;
 use crate::messages::Endings;
+use crate::outcome::Outcome;
 use crate::reach::reach;
-use crate::serving::serve;
+use crate::serving::{Served, serve};
+use crate::sizes::owe_sizes;
 use capbits::{Ino, Part, Ticket};
 use capspec::FsName;
 use captable::CapTable;
-use inotree::Tree;
-use lockmachine::{Locks, Move, States};
+use inotree::{Setting, Tree};
+use lockmachine::{Ask, Change, Locks, Move, Request, States};
 use sessiontab::Sessions;
 
 // Lets the locks settle after an event about one inode, and ends the step. The locks of every other inode are quiet.
@@ -39,8 +42,10 @@ pub(crate) fn end_at_one(
 )
     requires quiet { IsQuietOutside (λ other. other == ino.0) (scene fs.now tree.old sessions.now table.old locks.old) }
     requires none { endings.old.told.items ≡ [] }
+    requires no_sizes { endings.old.sized.items ≡ [] }
     requires told { HasRoom endings.old.told locks.old }
     requires kept { HasRoom endings.old.kept locks.old }
+    requires sized { length endings.old.sized.items + length locks.old.queue ≤ vec_capacity endings.old.sized }
     requires same { endings.old.kept.items ≡ endings.old.told.items }
     requires locked { All (λ row. IsTrue (map.contains_key locks.old.states row.holder.ino.0)) table.old.rows }
     requires numbers { All (λ row. row.entry.seq < 2 ^ 64 - 1) table.old.rows }
@@ -73,8 +78,10 @@ pub(crate) fn end_at(
     requires before { (other : ℕ) → map.contains_key others other ≡ true
         → map.get others other ≡ map.get locks.old.states other }
     requires none { endings.old.told.items ≡ [] }
+    requires no_sizes { endings.old.sized.items ≡ [] }
     requires told { HasRoom endings.old.told locks.old }
     requires kept { HasRoom endings.old.kept locks.old }
+    requires sized { length endings.old.sized.items + length locks.old.queue ≤ vec_capacity endings.old.sized }
     requires same { endings.old.kept.items ≡ endings.old.told.items }
     requires locked { All (λ row. IsTrue (map.contains_key locks.old.states row.holder.ino.0)) table.old.rows }
     requires numbers { All (λ row. row.entry.seq < 2 ^ 64 - 1) table.old.rows }
@@ -88,6 +95,7 @@ pub(crate) fn end_at(
 {
     let before = locks.of_ino(ino);
     let touched = settle(fs, tree, sessions, table, locks, ino, others, endings);
+    owe_sizes(sessions, table, endings.sized.as_slice());
     // A look at the tree, by which the proof knows what it keeps.
     let _last = tree.last();
     finish(fs, tree, sessions, table, locks, ino, before, &touched);
@@ -112,13 +120,15 @@ fn settle(
     requires before { (other : ℕ) → map.contains_key others other ≡ true
         → map.get others other ≡ map.get locks.old.states other }
     requires none { endings.old.told.items ≡ [] }
+    requires no_sizes { endings.old.sized.items ≡ [] }
     requires told { HasRoom endings.old.told locks.old }
     requires kept { HasRoom endings.old.kept locks.old }
+    requires sized { length endings.old.sized.items + length locks.old.queue ≤ vec_capacity endings.old.sized }
     requires same { endings.old.kept.items ≡ endings.old.told.items }
     requires locked { All (λ row. IsTrue (map.contains_key locks.old.states row.holder.ino.0)) table.now.rows }
     ensures settles { SettlesWith (is_touched ino.0 result) (is_touched ino.0 others)
         (scene fs.now tree.old sessions.now table.now locks.old)
-        (scene fs.now tree.new sessions.now table.now locks.new) endings.new.told.items }
+        (scene fs.now tree.new sessions.now table.now locks.new) endings.new.told.items endings.new.sized.items }
     ensures kept { endings.new.kept.items ≡ endings.new.told.items }
     ensures count { length endings.new.told.items + length locks.new.queue ≡ length locks.old.queue }
     ensures apart { map.contains_key result ino.0 ≡ false }
@@ -238,13 +248,17 @@ fn serve_next(
     requires locked { All (λ row. IsTrue (map.contains_key locks.old.states row.holder.ino.0)) table.now.rows }
     requires told { length endings.old.told.items < endings.old.told.room }
     requires kept { length endings.old.kept.items < endings.old.kept.room }
+    requires sized { length endings.old.sized.items < vec_capacity endings.old.sized }
     ensures served { (ended : Ended) × ((some : Table) → Serves (scene fs.now tree.old sessions.now some locks.old) ticket ended
         (scene fs.now tree.new sessions.now some locks.new))
         × (endings.new.told.items ≡ endings.old.told.items ++ ended ∷ [])
-        × (endings.new.kept.items ≡ endings.old.kept.items ++ ended ∷ []) }
+        × (endings.new.kept.items ≡ endings.old.kept.items ++ ended ∷ [])
+        × ((q : Request) → request_at locks.old ticket.0 ≡ Some q
+        → endings.new.sized.items ≡ endings.old.sized.items ++ sized_in (Serving q ended.outcome ∷ [])) }
     ensures reached { (q : Request) → request_at locks.old ticket.0 ≡ Some q
         → Reaches q ino.0 tree.old tree.new table.now locks.old.states touched.old touched.new }
-    ensures room { (endings.old.told.room ≤ endings.new.told.room) × (endings.old.kept.room ≤ endings.new.kept.room) }
+    ensures room { (endings.old.told.room ≤ endings.new.told.room) × (endings.old.kept.room ≤ endings.new.kept.room)
+        × (vec_capacity endings.old.sized ≤ vec_capacity endings.new.sized) }
 {
     let Some(request) = locks.apply_move(Move::Serve(ticket)) else {
         unreachable!()
@@ -259,7 +273,18 @@ fn serve_next(
         reached.is_ok(),
     );
     let (client, ticket) = (request.client, request.ticket);
+    let sized = sized_by(&request, &served);
     // The request goes before its end is told, so that the proof has to follow it but once.
     drop(request);
-    endings.push(client, ticket, served);
+    endings.push(client, ticket, served, sized);
+}
+
+// The inode of the request, if it set the size.
+fn sized_by(request: &Request, served: &Served) -> Option<Ino>
+    ensures { result ≡ sized_by (Serving request.now served.now.outcome) }
+{
+    match (&request.ask, &served.outcome) {
+        (Ask::Alter(Change::Set(Setting::Size(_))), Outcome::Done) => Some(request.ino),
+        _ => None,
+    }
 }

@@ -6,8 +6,8 @@ ghost use Rattle.capcore.specs.declared.event.Event.{Event};
 ghost use Rattle.capcore.specs.declared.reply.Reply.{Reply};
 ghost use Rattle.capcore.specs.State.{State};
 ghost use Rattle.capcore.specs.Direct.{direct, reply_of, shown};
-ghost use Rattle.capcore.specs.Finish.{finished};
-ghost use Rattle.capcore.specs.Settle.{Made, Settles, ended_in};
+ghost use Rattle.capcore.specs.Finish.{sizes_owed, finished};
+ghost use Rattle.capcore.specs.Settle.{Made, Settles, ended_in, sized_in};
 ghost use Rattle.capcore.specs.Step.{Step, all_ended, state_at_end};
 
 /// An event is a whole step, once the locks have settled, the step has ended and its client was told what is answered. The
@@ -15,7 +15,7 @@ ghost use Rattle.capcore.specs.Step.{Step, all_ended, state_at_end};
 pub fn an_event_is_a_step_once_it_has_ended()
     ensures { (old new : State) (e : Event) (moves : List Made) (settled last : Scene) (answer : Reply)
         → Settles (direct old e).state.scene moves settled
-        → finished old.scene (direct old e).state.scene settled ≡ last
+        → finished old.scene (direct old e).state.scene (sizes_owed (sized_in moves) settled) ≡ last
         → answer ≡ reply_of (state_at_end old (direct old e).state moves last) (ended_in moves) (direct old e).answer
         → new ≡ shown (direct old e).answer (state_at_end old (direct old e).state moves last)
         → Step old e answer (all_ended old (direct old e) moves) new }

@@ -219,8 +219,9 @@ impl World {
         // The list once for the reply and once for the history, both before the client was told of anything.
         let alloc = self.alloc();
         let ended = self.messages.as_slice();
-        let given = due_messages(alloc, ended, &self.table, &self.locks, client, max)?;
-        let kept = due_messages(alloc, ended, &self.table, &self.locks, client, max)?;
+        let (tree, table, locks) = (&self.tree, &self.table, &self.locks);
+        let given = due_messages(alloc, ended, tree, table, locks, client, max)?;
+        let kept = due_messages(alloc, ended, tree, table, locks, client, max)?;
         give(&mut self.table, client, given.as_slice());
         self.table.skip_quiet(client);
         self.messages.remove_given(client, given.as_slice());

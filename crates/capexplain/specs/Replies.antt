@@ -60,6 +60,7 @@ outcome_text outcome = option_map_or reply_line (outcome_reply outcome) (codes "
 abbrev pub message_text : Message → List ℕ
 message_text (messages.Ended ticket outcome) = codes "ended " ++ decimal ticket.0 ++ codes " " ++ outcome_text outcome
 message_text (messages.Caps ino seq caps) = codes "caps " ++ decimal ino.0 ++ codes " " ++ decimal seq ++ codes " " ++ text_of caps
+message_text (messages.Size ino size) = codes "size " ++ decimal ino.0 ++ codes " " ++ decimal size
 message_text (messages.Recall ino) = codes "recall " ++ decimal ino.0
 
 -- a message on a line of its own, behind two spaces

@@ -40,6 +40,7 @@ fn print_message(text: &mut Vec<u8>, message: &Message) -> Result<(), AllocError
             print(text, format_args!("caps {ino} {seq} "))?;
             print_caps(text, *caps)
         }
+        Message::Size { ino, size } => print(text, format_args!("size {ino} {size}")),
         Message::Recall { ino } => print(text, format_args!("recall {ino}")),
     }
 }

@@ -27,6 +27,19 @@ change_same (r ∷ rows) k e x f some is =
 pub put_found : (t : Table) (k : Holder) (e x : Entry) (f : Entry → Entry) → entry_at t k ≡ Some e → x ≡ f e → changed t k (λ _. x) ≡ changed t k f
 put_found t k e x f some is = ap (λ (rows : List EntryRow). record t { rows = rows }) (change_same t.rows k e x f some is)
 
+-- where two changes make the same of the holder's entry, they are the same change
+pub same_found : (t : Table) (k : Holder) (e : Entry) (f g : Entry → Entry) → entry_at t k ≡ Some e → f e ≡ g e → changed t k f ≡ changed t k g
+same_found t k e f g some is = sym (put_found t k e (f e) f some refl) ∙ put_found t k e (f e) g some is
+
+change_itself : (rows : List EntryRow) (k : Holder) → change_rows rows k (λ e. e) ≡ rows
+change_itself [] k = refl
+change_itself (r ∷ rows) k = elim (same k r.holder) as (λ b. cond b (r ∷ rows) (r ∷ change_rows rows k (λ e. e)) ≡ r ∷ rows) [ true ↦ refl | false ↦ ap (λ xs. r ∷ xs) (change_itself rows k) ]
+
+-- a change that leaves the entry leaves the table
+pub left_found : (t : Table) (k : Holder) (e : Entry) (f : Entry → Entry) → entry_at t k ≡ Some e → f e ≡ e → t ≡ changed t k f
+left_found t k e f some is =
+    ap (λ (rows : List EntryRow). record t { rows = rows }) (sym (change_itself t.rows k)) ∙ same_found t k e (λ e. e) f some (sym is)
+
 -- where there is no entry, there is no row
 pub no_entry : (o : Option EntryRow) → entry_of o ≡ None → o ≡ None
 no_entry None e = refl

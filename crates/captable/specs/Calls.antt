@@ -14,7 +14,7 @@ use Rattle.captable.specs.Table.{Table, same, is_row_of, is_among}
 
 -- the entry of one that opens an inode
 abbrev pub new_entry : Entry
-new_entry = record { held = no_caps; want = no_caps; seq = 0; revoke_seq = 0; told_seq = 0; asked = false }
+new_entry = record { held = no_caps; want = no_caps; seq = 0; revoke_seq = 0; told_seq = 0; asked = false; size_due = false }
 
 -- the table with a new entry for the holder, last in both orders
 abbrev pub opened : Table → Holder → Table
@@ -71,9 +71,12 @@ told e = record e { told_seq = e.seq }
 abbrev pub with_asked : Bool → Entry → Entry
 with_asked asked e = record e { asked = asked }
 
--- the client was not told of the last change, or is asked to give back
+abbrev pub with_size_due : Bool → Entry → Entry
+with_size_due due e = record e { size_due = due }
+
+-- the client was not told of the last change, is still to be told the size, or is asked to give back
 abbrev pub is_due_entry : Entry → Bool
-is_due_entry e = nat_lt e.told_seq e.seq || e.asked
+is_due_entry e = nat_lt e.told_seq e.seq || (e.size_due || e.asked)
 
 abbrev pub is_due : EntryRow → Bool
 is_due row = is_due_entry row.entry

@@ -31,6 +31,8 @@ pub struct Entry {
     pub told_seq: u64,
     /// Whether the client is asked to give capabilities back, in a message that is still due.
     pub asked: bool,
+    /// Whether the client is still to be told the inode's size, which was changed while it cached the data.
+    pub size_due: bool,
 }
 
 /// An entry with its holder.
@@ -63,14 +65,15 @@ impl Entry {
             revoke_seq: 0,
             told_seq: 0,
             asked: false,
+            size_due: false,
         }
     }
 
-    // Whether the client was not told of the last change, or is asked to give back.
+    // Whether the client was not told of the last change, is still to be told the size, or is asked to give back.
     pub(crate) fn is_due(&self) -> bool
         ensures { result ≡ words.is_due_entry self.now }
     {
-        self.told_seq < self.seq || self.asked
+        self.told_seq < self.seq || self.size_due || self.asked
     }
 
     // The client holds these too.

@@ -1,5 +1,5 @@
 //! The table of entries.
-ghost use Rattle.std.specs.Prelude.{◌≡◌, ◌<◌, ◌^◌, ◌-◌, [], ◌∷◌, IfSome, IfOk, OnOk, OnErr, None, slice_get, take, filter};
+ghost use Rattle.std.specs.Prelude.{◌≡◌, ◌<◌, ◌^◌, ◌-◌, true, false, [], ◌∷◌, IfSome, IfOk, OnOk, OnErr, None, slice_get, take, filter};
 
 use crate::entry::{Entry, Holder, Slot};
 use crate::holders::Holders;
@@ -70,7 +70,7 @@ impl CapTable {
     ghost use Rattle.captable.specs.Many.{changed_by, asking};
     ghost use Rattle.capbits.specs.Refusal.{first_failing};
     ghost use Rattle.captable.specs.Tests.{open_tests, entry_test, ack_tests, release_tests};
-    ghost use Rattle.captable.specs.Calls.{opened, changed, wanting, issued, taken, renumbered, told, with_asked, released, without, without_client, newer_in, touched, recalled, is_of_client, is_of_inode, is_due};
+    ghost use Rattle.captable.specs.Calls.{opened, changed, wanting, issued, taken, renumbered, told, with_asked, with_size_due, released, without, without_client, newer_in, touched, recalled, is_of_client, is_of_inode, is_due};
 
     /// A table without entries, of which none was made yet. No clause can say that the memory for it is there.
     pub fn new(alloc: Global) -> Result<CapTable, AllocError>
@@ -261,6 +261,27 @@ impl CapTable {
     {
         if let Some(entry) = self.find(client, ino) {
             self.put(Holder { client, ino }, Entry { asked, ..entry });
+        }
+    }
+
+    /// The client is to be told the inode's size, in a message that is due from now on. Where it has no entry, nothing
+    /// happens.
+    pub fn owe_size(&mut self, client: ClientId, ino: Ino)
+        ensures { self.new ≡ changed self.old (holder client ino) (with_size_due true) }
+    {
+        if let Some(entry) = self.find(client, ino) {
+            let size_due = true;
+            self.put(Holder { client, ino }, Entry { size_due, ..entry });
+        }
+    }
+
+    /// The client was told the inode's size. Where it has no entry, nothing happens.
+    pub fn tell_size(&mut self, client: ClientId, ino: Ino)
+        ensures { self.new ≡ changed self.old (holder client ino) (with_size_due false) }
+    {
+        if let Some(entry) = self.find(client, ino) {
+            let size_due = false;
+            self.put(Holder { client, ino }, Entry { size_due, ..entry });
         }
     }
 

@@ -29,7 +29,7 @@ const A_RECALL_MEANWHILE: &[Step] = &[
     ),
     (
         "poll 1 9",
-        "messages 2\n  caps 2 2 p\n  recall 2",
+        "messages 2\n  caps 2 2 pFc\n  recall 2",
         "SYNC to LOCK; pFscr 2; pFscr 2 due",
     ),
 ];

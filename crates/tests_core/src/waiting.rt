@@ -25,7 +25,7 @@ const ONE_MORE: &[Said] = &[
     ("rename 2 2 1 f", "refused Exists"),
     ("get 2 9 A", "refused NoIno"),
     ("poll 2 9", "messages 0"),
-    ("poll 1 9", "messages 1\n  caps 2 2 p"),
+    ("poll 1 9", "messages 1\n  caps 2 2 pFc"),
     ("ack 1 2 2", "done"),
     ("get 2 2 A", "attr A 10 10 0644"),
     ("poll 2 2000", "messages 1024"),
@@ -33,7 +33,7 @@ const ONE_MORE: &[Said] = &[
 
 const ROOM_AGAIN: &[Said] = &[
     ("poll 2 9", "messages 0"),
-    ("poll 1 9", "messages 1\n  caps 2 3 pFsxcrwb"),
+    ("poll 1 9", "messages 2\n  caps 2 3 pFsxcrwb\n  size 2 5"),
     ("alter 2 2 size 6", "waiting 1026"),
 ];
 

@@ -32,40 +32,52 @@ const TWO_REQUESTS: &[Step] = &[
     ),
     (
         "poll 1 9",
-        "messages 1\n  caps 2 2 p",
+        "messages 1\n  caps 2 2 pFc",
         "EXCL(1) to LOCK; pFsxcrwb 2; p 1",
     ),
-    ("ack 1 2 2", "done", "MIX; pFrw 3 due; pFr 2 due"),
+    // Both are served, and the first client is to cache no more beside the second.
+    ("ack 1 2 2", "done", "LOCK to MIX; pFc 3 due; p 1"),
     (
         "poll 2 1",
         "messages 1\n  ended 1 done",
-        "MIX; pFrw 3 due; pFr 2 due",
+        "LOCK to MIX; pFc 3 due; p 1",
     ),
     (
         "poll 2 9",
-        "messages 2\n  ended 2 attr F 5 0\n  caps 2 2 pFr",
-        "MIX; pFrw 3 due; pFr 2",
+        "messages 1\n  ended 2 attr F 5 0",
+        "LOCK to MIX; pFc 3 due; p 1",
     ),
     (
         "poll 1 9",
-        "messages 1\n  caps 2 3 pFrw",
-        "MIX; pFrw 3; pFr 2",
+        "messages 2\n  caps 2 3 p\n  size 2 5",
+        "LOCK to MIX; pFc 3; p 1",
+    ),
+    ("ack 1 2 3", "done", "MIX; pFrw 4 due; pFr 2 due"),
+    (
+        "poll 1 9",
+        "messages 1\n  caps 2 4 pFrw",
+        "MIX; pFrw 4; pFr 2 due",
+    ),
+    (
+        "poll 2 9",
+        "messages 1\n  caps 2 2 pFr",
+        "MIX; pFrw 4; pFr 2",
     ),
 ];
 
 // While both have it open, the second asks for its size.
 const A_REQUEST_FOR_VALUES: &[Step] = &[
-    ("get 2 2 F", "waiting 3", "MIX to SYNC; pFrw 4 due; pFr 2"),
+    ("get 2 2 F", "waiting 3", "MIX to SYNC; pFrw 5 due; pFr 2"),
     (
         "poll 1 9",
-        "messages 1\n  caps 2 4 pFr",
-        "MIX to SYNC; pFrw 4; pFr 2",
+        "messages 1\n  caps 2 5 pFr",
+        "MIX to SYNC; pFrw 5; pFr 2",
     ),
-    ("ack 1 2 4", "done", "MIX; pFrw 5 due; pFr 2"),
+    ("ack 1 2 5", "done", "MIX; pFrw 6 due; pFr 2"),
     (
         "poll 2 9",
         "messages 1\n  ended 3 attr F 5 0",
-        "MIX; pFrw 5 due; pFr 2",
+        "MIX; pFrw 6 due; pFr 2",
     ),
 ];
 
@@ -76,7 +88,7 @@ fn requests_wait_until_the_lock_serves_them(rt: HostRuntime) -> Result<(), Fail>
 
 // What the history has of them, from its fifth row on: none of the rows but the one that served them ended any.
 const TWO_REQUESTS_KEPT: &[(Look, &str)] = &[
-    (Rows, "12"),
+    (Rows, "15"),
     (Row(4), "1.5: alter 2 2 size 5: waiting Ticket(1); ended 0"),
     (Row(5), "1.6: get 2 2 F: waiting Ticket(2); ended 0"),
     (
@@ -187,7 +199,7 @@ const DENIED_WHEN_SERVED: &[Step] = &[
     ),
     (
         "poll 1 9",
-        "messages 1\n  caps 2 2 p",
+        "messages 1\n  caps 2 2 pFc",
         "EXCL(1) to LOCK; pFsxcrwb 2; -",
     ),
     ("ack 1 2 2", "done", "EXCL(1); pFsxcrwb 3 due; -"),

@@ -299,6 +299,7 @@ fn empty_entry() -> Entry {
         revoke_seq: 0,
         told_seq: 0,
         asked: false,
+        size_due: false,
     }
 }
 

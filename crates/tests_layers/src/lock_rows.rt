@@ -50,7 +50,7 @@ const CELLS: &[(State, [&[Cap]; 4])] = &[
             &[Cap::Fs, Cap::Fc, Cap::Fr, Cap::Fl],
         ],
     ),
-    (State::Lock, [&[], &[], &[], &[]]),
+    (State::Lock, [&[], &[], &[], &[Cap::Fc]]),
     (State::Mix, [&[], &[], &[], &[Cap::Fr, Cap::Fw, Cap::Fl]]),
     (
         State::Excl(HOLDER),

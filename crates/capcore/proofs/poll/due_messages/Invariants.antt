@@ -10,5 +10,5 @@ decreases-rows l = length l.walk
 abbrev pub invariant-rows : goal.invariant-rows
 invariant-rows l = record {
   few : length l.due ≤ l.max;
-  listed : (s : Scene) → s.locks ≡ l.locks → IsListed l.max s (end_messages l.fn.client l.ended) l.initial.walk l.due l.walk;
+  listed : (s : Scene) → s.tree ≡ l.tree → s.locks ≡ l.locks → IsListed l.max s (end_messages l.fn.client l.ended) l.initial.walk l.due l.walk;
 }

@@ -1,15 +1,39 @@
-use Rattle.std.proofs.Common.{sym}
+use Rattle.std.proofs.Common.{◌≡◌, ◌<◌, List, sym, ap, subst, ◌∙◌}
+use Rattle.std.specs.Prelude.{All, IsTrue}
+use Rattle.capbits.specs.declared.ids.Ino.{Ino}
+use Rattle.sessiontab.specs.Calls.{has_session}
+use Rattle.captable.specs.Table.{Table}
+use Rattle.captable.specs.Many.{changed_where}
 use Rattle.lockmachine.specs.Scene.{Scene, scene}
+use Rattle.capcore.specs.Finish.{is_sized, owed}
 use Rattle.capcore.specs.Serves.{is_touched}
+use Rattle.capcore.specs.Touching.{finished_at}
+use Rattle.capcore.proofs.ManyInodes.{holders-stay}
+use Rattle.capcore.proofs.SizesOwed.{owed-numbers}
 use Rattle.capcore.proofs.settle.end_at.Goals as goal
+
+pub finish-requires-clause-numbers : goal.finish-requires-clause-numbers
+finish-requires-clause-numbers c =
+    subst (λ (t : Table). All (λ row. row.entry.seq < 18446744073709551615) t.rows) (sym c.owe_sizes.ensures)
+    (owed-numbers (is_sized c.as_slice.result.now) (λ seq. seq < 18446744073709551615) c.args.table.now c.requires.numbers)
+
+pub finish-requires-clause-clients : goal.finish-requires-clause-clients
+finish-requires-clause-clients c =
+    subst (λ (t : Table). All (λ row. IsTrue (has_session c.args.sessions.now row.holder.client.0)) t.rows) (sym c.owe_sizes.ensures)
+    (holders-stay (is_sized c.as_slice.result.now) owed (λ h. IsTrue (has_session c.args.sessions.now h.client.0)) c.args.table.now c.requires.clients)
 
 pub returns-clause-ends : goal.returns-clause-ends
 returns-clause-ends c =
     let first : Scene = scene c.args.fs.now c.args.tree.now c.args.sessions.now c.args.table.now c.args.locks.now in
+    let at = is_touched c.args.ino.0 c.settle-touched.result in
+    let after : Table → Scene = λ t. scene c.args.fs.now c.settle-touched.new.tree c.args.sessions.now t c.settle-touched.new.locks in
+    let owes : c.owe_sizes.new.table ≡ changed_where (is_sized c.settle-touched.new.endings.sized.items) owed c.args.table.now =
+    c.owe_sizes.ensures ∙ ap (λ (sized : List Ino). changed_where (is_sized sized) owed c.args.table.now) c.as_slice.ensures.value in
     record {
-      at = is_touched c.args.ino.0 c.settle-touched.result;
-      settled = scene c.args.fs.now c.settle-touched.new.tree c.args.sessions.now c.args.table.now c.settle-touched.new.locks;
+      at = at;
+      settled = after c.args.table.now;
+      sized = c.settle-touched.new.endings.sized.items;
       settles = c.settle-touched.ensures.settles;
       tree = c.last-last.ensures.sound;
-      finished = c.finish.ensures.finished first (sym c.of_ino-before.ensures) (λ other kept. c.settle-touched.ensures.before other kept);
+      finished = c.finish.ensures.finished first (sym c.of_ino-before.ensures) (λ other kept. c.settle-touched.ensures.before other kept) ∙ ap (λ (t : Table). finished_at at first (after t)) owes;
     }

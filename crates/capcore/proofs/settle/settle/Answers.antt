@@ -1,9 +1,11 @@
-use Rattle.std.proofs.Common.{◌≡◌, ◌<◌, ◌+◌, ◌++◌, ◌∷◌, [], ℕ, Bool, true, length, List, Some, Contains, sym, ap, subst, ◌∙◌, arith}
+use Rattle.std.proofs.Common.{◌≡◌, ◌<◌, ◌≤◌, ◌+◌, ◌++◌, ◌∷◌, [], ℕ, Bool, true, false, cond, ◌&&◌, length, List, Option, Some, None, Contains, sym, ap, subst, ◌∙◌, arith}
+use Rattle.std.specs.List.{filter_map}
 use Rattle.std.specs.Prelude.{All, IsTrue}
 use Rattle.std.specs.FinMap as map
 use Rattle.std.proofs.lemmas.List.{length-append}
 use Rattle.std.proofs.lemmas.List.Elements.{All-weaker}
 use Rattle.captable.specs.declared.entry.EntryRow.{EntryRow}
+use Rattle.capbits.specs.declared.ids.Ino.{Ino}
 use Rattle.lockmachine.specs.declared.request.Request.{Request}
 use Rattle.lockmachine.specs.declared.moves.Move.TheVariants.{Serve}
 use Rattle.lockmachine.specs.Locks.{lock_at, request_at}
@@ -12,7 +14,9 @@ use Rattle.lockmachine.specs.Scene.{Scene, scene}
 use Rattle.lockmachine.proofs.Exact.{ends_not}
 use Rattle.lockmachine.proofs.Waiting.{served-at}
 use Rattle.capcore.specs.declared.outcome.Ended.{Ended}
+use Rattle.capcore.specs.declared.outcome.Outcome.{Outcome}
 use Rattle.capcore.specs.Serves.{Serves, is_touched}
+use Rattle.capcore.specs.Settle.{Served, sets_size, is_done, sized_in}
 use Rattle.capcore.specs.Sweep.{GoesOn, IsSwept, IsTurnOfLeast, Reaches}
 use Rattle.capcore.proofs.Moved.{moved-all}
 use Rattle.capcore.proofs.SoFar.{IsSoFar, so-far-begins, so-far-served, so-far-settled, so-far-swept, turn-of_least, turn-served}
@@ -31,15 +35,25 @@ servings-init c =
     let at : ℕ → Bool = is_touched c.args.ino.0 c.args.others in
     let begun = so-far-begins c.args.ino.0 c.args.others first c.requires.quiet c.requires.apart c.requires.before in
     let swept : IsSwept at first now = c.end_gathers.ensures.swept c.args.fs.now c.args.tree.now c.args.sessions.now begun.waits in
-    let so : IsSoFar c.args.ino.0 at c.args.others first now [] = so-far-swept c.args.ino.0 at c.args.others first first [] begun now swept in
+    let so : IsSoFar c.args.ino.0 at c.args.others first now [] [] = so-far-swept c.args.ino.0 at c.args.others first first [] [] begun now swept in
     let queue : length c.end_gathers.new.locks.queue ≡ length c.args.locks.now.queue = ap length swept.queue in
     record {
-      so_far = subst (IsSoFar c.args.ino.0 at c.args.others first now) (sym c.requires.none) so;
+      so_far =
+          subst (λ (told : List Ended). IsSoFar c.args.ino.0 at c.args.others first now told c.args.endings.now.sized.items) (sym c.requires.none)
+          (subst (IsSoFar c.args.ino.0 at c.args.others first now []) (sym c.requires.no_sizes) so);
       turn = turn-of_least at now so.still c.end_gathers.ensures.ends;
       same = c.requires.same;
       told = omega (arith, queue, c.requires.told);
       kept = omega (arith, queue, c.requires.kept);
+      sized = omega (arith, queue, c.requires.sized);
     }
+
+-- a serving changes at most one size
+few-sized : (sized more : List Ino) (q : Request) (o : Outcome) → more ≡ sized ++ sized_in (Served q o ∷ []) → length more ≤ length sized + 1
+few-sized sized more q o is = elim (sets_size q.ask && is_done o) as (λ b. more ≡ sized ++ filter_map (λ (ino : Option Ino). ino) (cond b (Some q.ino) None ∷ []) → length more ≤ length sized + 1) [
+  | true ↦ λ is. let long = ap length is in omega (arith, long, length-append sized (q.ino ∷ []))
+  | false ↦ λ is. let none : List Ino = [] in let long = ap length is in omega (arith, long, length-append sized none)
+] is
 
 -- the inodes of the event
 abbrev from : After-last-last → ℕ → Bool
@@ -56,8 +70,8 @@ module _ (c : After-last-last) where
   mid = scene c.args.fs.now c.servings.tree c.args.sessions.now c.args.table.now c.sweep.new.locks
 
   -- gathers began and ended
-  swept : IsSoFar c.args.ino.0 (from c) c.servings.touched first mid c.servings.endings.told.items
-  swept = so-far-swept c.args.ino.0 (is_touched c.args.ino.0 c.args.others) c.servings.touched first now c.servings.endings.told.items c.servings.invariant.so_far mid c.sweep.ensures.swept
+  swept : IsSoFar c.args.ino.0 (from c) c.servings.touched first mid c.servings.endings.told.items c.servings.endings.sized.items
+  swept = so-far-swept c.args.ino.0 (is_touched c.args.ino.0 c.args.others) c.servings.touched first now c.servings.endings.told.items c.servings.endings.sized.items c.servings.invariant.so_far mid c.sweep.ensures.swept
 
   -- where each entry's inode had locks, it has some
   locked : All (λ (row : EntryRow). IsTrue (map.contains_key c.args.locks.now.states row.holder.ino.0)) c.args.table.now.rows
@@ -96,6 +110,9 @@ serve_next-requires-clause-told c = let some = some_wait (goal.at.serve_next-req
 pub serve_next-requires-clause-kept : goal.serve_next-requires-clause-kept
 serve_next-requires-clause-kept c = let some = some_wait (goal.at.serve_next-requires-clause-kept c).After-last-last in omega (arith, some, c.servings.invariant.kept)
 
+pub serve_next-requires-clause-sized : goal.serve_next-requires-clause-sized
+serve_next-requires-clause-sized c = let some = some_wait (goal.at.serve_next-requires-clause-sized c).After-last-last in omega (arith, some, c.servings.invariant.sized)
+
 abbrev before_serving : After-serve_next → After-last-last
 before_serving c = (goal.at.servings-preserved c).After-last-last
 
@@ -112,14 +129,14 @@ module _ (c : After-serve_next) where
   abbrev reaches : Reaches serves.request c.args.ino.0 c.servings.tree c.serve_next.new.tree c.args.table.now c.sweep.new.locks.states c.servings.touched c.serve_next.new.touched
   reaches = c.serve_next.ensures.reached serves.request serves.waits
 
-  served : IsSoFar c.args.ino.0 (from (before_serving c)) c.serve_next.new.touched (first (before_serving c)) new (c.servings.endings.told.items ++ ended ∷ [])
+  served : IsSoFar c.args.ino.0 (from (before_serving c)) c.serve_next.new.touched (first (before_serving c)) new (c.servings.endings.told.items ++ ended ∷ []) (c.servings.endings.sized.items ++ sized_in (Served serves.request ended.outcome ∷ []))
   served =
-      so-far-served c.args.ino.0 (from (before_serving c)) c.servings.touched (first (before_serving c)) (mid (before_serving c)) c.servings.endings.told.items (swept (before_serving c))
+      so-far-served c.args.ino.0 (from (before_serving c)) c.servings.touched (first (before_serving c)) (mid (before_serving c)) c.servings.endings.told.items c.servings.endings.sized.items (swept (before_serving c))
       c.in-Some.ticket ended new c.serve_next.new.touched c.state-lock.ensures.sound c.last-last.ensures.sound (move (before_serving c)) serves reaches
 
   turn : IsTurnOfLeast (is_touched c.args.ino.0 c.serve_next.new.touched) new
   turn =
-      turn-served c.args.ino.0 (from (before_serving c)) c.servings.touched (first (before_serving c)) (mid (before_serving c)) c.servings.endings.told.items (swept (before_serving c))
+      turn-served c.args.ino.0 (from (before_serving c)) c.servings.touched (first (before_serving c)) (mid (before_serving c)) c.servings.endings.told.items c.servings.endings.sized.items (swept (before_serving c))
       c.in-Some.ticket ended new c.serve_next.new.touched c.state-lock.ensures.sound c.last-last.ensures.sound (move (before_serving c)) serves reaches
 
   one_more : length (c.servings.endings.told.items ++ ended ∷ []) ≡ length c.servings.endings.told.items + 1
@@ -138,16 +155,22 @@ pub servings-preserved : goal.servings-preserved
 servings-preserved c =
     let all = c.serve_next.ensures.served in
     let same : c.serve_next.new.endings.kept.items ≡ c.serve_next.new.endings.told.items = all.3 ∙ ap (λ ms. ms ++ ended c ∷ []) c.servings.invariant.same ∙ sym all.2 in
+    let request = (serves c).request in
+    let sizes : c.serve_next.new.endings.sized.items ≡ c.servings.endings.sized.items ++ sized_in (Served request (ended c).outcome ∷ []) = all.4 request (serves c).waits in
+    let few_sizes : length c.serve_next.new.endings.sized.items ≤ length c.servings.endings.sized.items + 1 = few-sized c.servings.endings.sized.items c.serve_next.new.endings.sized.items request (ended c).outcome sizes in
     let more : length c.serve_next.new.endings.told.items ≡ length c.servings.endings.told.items + 1 = ap length all.2 ∙ one_more c in
     let less = one_less c in
     let kept_more : length c.serve_next.new.endings.kept.items ≡ length c.servings.endings.kept.items + 1 = ap length same ∙ more ∙ ap (λ (ms : List Ended). length ms + 1) (sym c.servings.invariant.same) in
     let room = c.serve_next.ensures.room in
     record {
-      so_far = subst (IsSoFar c.args.ino.0 (from (before_serving c)) c.serve_next.new.touched (first (before_serving c)) (new c)) (sym all.2) (served c);
+      so_far =
+          subst (λ (told : List Ended). IsSoFar c.args.ino.0 (from (before_serving c)) c.serve_next.new.touched (first (before_serving c)) (new c) told c.serve_next.new.endings.sized.items) (sym all.2)
+          (subst (IsSoFar c.args.ino.0 (from (before_serving c)) c.serve_next.new.touched (first (before_serving c)) (new c) (c.servings.endings.told.items ++ ended c ∷ [])) (sym sizes) (served c));
       turn = turn c;
       same = same;
       told = omega (arith, more, less, room.0, c.servings.invariant.told);
       kept = omega (arith, kept_more, less, room.1, c.servings.invariant.kept);
+      sized = omega (arith, few_sizes, less, room.2, c.servings.invariant.sized);
     }
 
 pub returns-clause-settles : goal.returns-clause-settles
@@ -155,6 +178,6 @@ returns-clause-settles c =
     let first : Scene = scene c.args.fs.now c.args.tree.now c.args.sessions.now c.args.table.now c.args.locks.now in
     let now : Scene = scene c.args.fs.now c.servings.tree c.args.sessions.now c.args.table.now c.servings.locks in
     let last : Scene = scene c.args.fs.now c.servings.tree c.args.sessions.now c.args.table.now c.sweep.new.locks in
-    so-far-settled c.args.ino.0 (is_touched c.args.ino.0 c.args.others) c.servings.touched first last c.servings.endings.told.items
-    (so-far-swept c.args.ino.0 (is_touched c.args.ino.0 c.args.others) c.servings.touched first now c.servings.endings.told.items c.servings.invariant.so_far last c.sweep.ensures.swept)
+    so-far-settled c.args.ino.0 (is_touched c.args.ino.0 c.args.others) c.servings.touched first last c.servings.endings.told.items c.servings.endings.sized.items
+    (so-far-swept c.args.ino.0 (is_touched c.args.ino.0 c.args.others) c.servings.touched first now c.servings.endings.told.items c.servings.endings.sized.items c.servings.invariant.so_far last c.sweep.ensures.swept)
     (subst (GoesOn last) c.in_default.is c.sweep.ensures.next)

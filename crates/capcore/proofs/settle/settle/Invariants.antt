@@ -1,4 +1,5 @@
-use Rattle.std.proofs.Common.{◌≡◌, length}
+use Rattle.std.proofs.Common.{◌≡◌, ◌≤◌, ◌+◌, length}
+use Rattle.std.specs.Prelude.{vec_capacity}
 use Rattle.lockmachine.specs.Scene.{scene}
 use Rattle.capcore.specs.Serves.{is_touched}
 use Rattle.capcore.specs.Sweep.{IsTurnOfLeast}
@@ -11,9 +12,10 @@ decreases-servings l = length l.locks.queue
 
 abbrev pub invariant-servings : goal.invariant-servings
 invariant-servings l = record {
-  so_far : IsSoFar l.ino.0 (is_touched l.ino.0 l.fn.others) l.touched (scene l.fs l.fn.tree l.sessions l.table l.fn.locks) (scene l.fs l.tree l.sessions l.table l.locks) l.endings.told.items;
+  so_far : IsSoFar l.ino.0 (is_touched l.ino.0 l.fn.others) l.touched (scene l.fs l.fn.tree l.sessions l.table l.fn.locks) (scene l.fs l.tree l.sessions l.table l.locks) l.endings.told.items l.endings.sized.items;
   turn : IsTurnOfLeast (is_touched l.ino.0 l.touched) (scene l.fs l.tree l.sessions l.table l.locks);
   same : l.endings.kept.items ≡ l.endings.told.items;
   told : HasRoom l.endings.told l.locks;
   kept : HasRoom l.endings.kept l.locks;
+  sized : length l.endings.sized.items + length l.locks.queue ≤ vec_capacity l.endings.sized;
 }

@@ -92,7 +92,7 @@ module _ (c : After-close) where
   ends = c.end_at_one.ensures.ends
 
   all : earlier c.self.inside.locks.last told ≡ told
-  all = let w = ends in told-all w.at (λ other. other == c.args.ino.0) (first before) w.settled told w.settles c.waiting.ensures.sound
+  all = let w = ends in told-all w.at (λ other. other == c.args.ino.0) (first before) w.settled told w.sized w.settles c.waiting.ensures.sound
 
   -- the state when the step had ended at the inode
   abbrev closed_as : State

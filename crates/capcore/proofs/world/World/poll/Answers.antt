@@ -48,10 +48,10 @@ module _ (c : After-new) where
   said = record { reply = reply.Messages c.in_ok-given.given; kept = reply.Messages c.in_ok-kept.kept; ended = c.new.result }
 
   first : c.in_ok-given.given ≡ first_messages old c.args.client c.args.max
-  first = c.in_ok-given.ensures old refl refl (sym c.as_slice-ended.ensures)
+  first = c.in_ok-given.ensures old refl refl refl (sym c.as_slice-ended.ensures)
 
   same : c.in_ok-kept.kept ≡ c.in_ok-given.given
-  same = c.in_ok-kept.ensures old refl refl (sym c.as_slice-ended.ensures) ∙ sym first
+  same = c.in_ok-kept.ensures old refl refl refl (sym c.as_slice-ended.ensures) ∙ sym first
 
   kept_items : c.remove_given.new.self.items ≡ filter (is_left c.args.client c.in_ok-given.given) old.messages
   kept_items = c.remove_given.ensures.items ∙ ap (λ (given : List Message). filter (is_left c.args.client given) old.messages) c.as_slice-2.ensures

@@ -81,6 +81,13 @@ end_at-requires-clause-kept g =
     let none = ap length kept.0 in
     omega (arith, none, kept.1, fewer c)
 
+pub end_at-requires-clause-sized : goal.end_at-requires-clause-sized
+end_at-requires-clause-sized g =
+    let c = (goal.at.end_at-requires-clause-sized g).After-leave in
+    let sized = c.in_ok-room.ensures.sized in
+    let none = ap length sized.0 in
+    omega (arith, none, sized.1, fewer c)
+
 pub end_at-requires-clause-locked : goal.end_at-requires-clause-locked
 end_at-requires-clause-locked g =
     let c = (goal.at.end_at-requires-clause-locked g).After-leave in
