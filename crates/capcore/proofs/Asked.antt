@@ -55,6 +55,7 @@ asking (event.Session client caller grants) k ask is = absurd (none-some (k, ask
 asking (event.CloseSession client) k ask is = absurd (none-some (k, ask) is)
 asking (event.Stale client) k ask is = absurd (none-some (k, ask) is)
 asking (event.Renew client) k ask is = absurd (none-some (k, ask) is)
+asking (event.Regrant client grants) k ask is = absurd (none-some (k, ask) is)
 asking (event.Evict client) k ask is = absurd (none-some (k, ask) is)
 asking (event.Unblock client) k ask is = absurd (none-some (k, ask) is)
 asking (event.Recall count) k ask is = absurd (none-some (k, ask) is)

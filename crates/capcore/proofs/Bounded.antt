@@ -34,6 +34,7 @@ alone-order old (event.Session client caller grants) is order = order
 alone-order old (event.CloseSession client) is order = without_requests_of-kept old.scene.locks client order
 alone-order old (event.Stale client) is order = order
 alone-order old (event.Renew client) is order = order
+alone-order old (event.Regrant client grants) is order = order
 alone-order old (event.Evict client) is order = without_requests_of-kept old.scene.locks client order
 alone-order old (event.Unblock client) is order = order
 alone-order old (event.Recall count) is order = order

@@ -123,6 +123,7 @@ module _ (old : State) (order : IsLockMap old.scene.locks) where
   effect-fits (event.CloseSession client) = left-fits (effect old (event.CloseSession client)) client
   effect-fits (event.Stale client) = all-fit (effect old (event.Stale client))
   effect-fits (event.Renew client) = all-fit (effect old (event.Renew client))
+  effect-fits (event.Regrant client grants) = all-fit (effect old (event.Regrant client grants))
   effect-fits (event.Evict client) = left-fits (effect old (event.Evict client)) client
   effect-fits (event.Unblock client) = all-fit (effect old (event.Unblock client))
   effect-fits (event.Recall count) = all-fit (effect old (event.Recall count))

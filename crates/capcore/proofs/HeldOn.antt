@@ -141,6 +141,7 @@ module _ (old : State) (k : Holder) (cap : Cap) (held : holds old.scene k cap â‰
   by_event (event.CloseSession client) = client-gone client (first_of (event.CloseSession client)) refl
   by_event (event.Stale client) = keeps_all (event.Stale client) refl
   by_event (event.Renew client) = keeps_all (event.Renew client) refl
+  by_event (event.Regrant client grants) = keeps_all (event.Regrant client grants) refl
   by_event (event.Evict client) = client-gone client (first_of (event.Evict client)) refl
   by_event (event.Unblock client) = keeps_all (event.Unblock client) refl
   by_event (event.Recall count) = takes-nothing (event.Recall count) (first_of (event.Recall count)) (recalled-keeps t count k)

@@ -62,6 +62,7 @@ module _ (old last : State) (ended : List Ended) where
   effect-no_stop (event.CloseSession client) none = refl
   effect-no_stop (event.Stale client) none = refl
   effect-no_stop (event.Renew client) none = refl
+  effect-no_stop (event.Regrant client grants) none = refl
   effect-no_stop (event.Evict client) none = refl
   effect-no_stop (event.Unblock client) none = refl
   effect-no_stop (event.Recall count) none = refl

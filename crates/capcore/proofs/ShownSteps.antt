@@ -533,6 +533,7 @@ module _ (old : State) (sound : IsSound old) (table : IsTable old.scene.table) (
   by_event (event.CloseSession client) moves settled settles = by_number moves (effect old (event.CloseSession client)) settled settles before (left-dropped client)
   by_event (event.Stale client) moves settled settles = by_number moves (effect old (event.Stale client)) settled settles before (left-same t (λ k. refl))
   by_event (event.Renew client) moves settled settles = by_number moves (effect old (event.Renew client)) settled settles before (left-same t (λ k. refl))
+  by_event (event.Regrant client grants) moves settled settles = by_number moves (effect old (event.Regrant client grants)) settled settles before (left-same t (λ k. refl))
   by_event (event.Evict client) moves settled settles = by_number moves (effect old (event.Evict client)) settled settles before (left-dropped client)
   by_event (event.Unblock client) moves settled settles = by_number moves (effect old (event.Unblock client)) settled settles before (left-same t (λ k. refl))
   by_event (event.Recall count) moves settled settles = by_number moves (effect old (event.Recall count)) settled settles before (left-recalled count)
@@ -574,6 +575,7 @@ stop-shows k was (event.Session client caller grants) x = refl
 stop-shows k was (event.CloseSession client) x = refl
 stop-shows k was (event.Stale client) x = refl
 stop-shows k was (event.Renew client) x = refl
+stop-shows k was (event.Regrant client grants) x = refl
 stop-shows k was (event.Evict client) x = refl
 stop-shows k was (event.Unblock client) x = refl
 stop-shows k was (event.Recall count) x = refl

@@ -134,6 +134,7 @@ all-takes_unshown rows old (event.Session client caller grants) sound was = tt
 all-takes_unshown rows old (event.CloseSession client) sound was = tt
 all-takes_unshown rows old (event.Stale client) sound was = tt
 all-takes_unshown rows old (event.Renew client) sound was = tt
+all-takes_unshown rows old (event.Regrant client grants) sound was = tt
 all-takes_unshown rows old (event.Evict client) sound was = tt
 all-takes_unshown rows old (event.Unblock client) sound was = tt
 all-takes_unshown rows old (event.Recall count) sound was = tt

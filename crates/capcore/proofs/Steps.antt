@@ -41,6 +41,7 @@ none_dropped-effect old (event.Session client caller grants) is = refl
 none_dropped-effect old (event.CloseSession client) is = absurd (none-some client (sym is))
 none_dropped-effect old (event.Stale client) is = absurd (none-some client (sym is))
 none_dropped-effect old (event.Renew client) is = absurd (none-some client (sym is))
+none_dropped-effect old (event.Regrant client grants) is = absurd (none-some client (sym is))
 none_dropped-effect old (event.Evict client) is = absurd (none-some client (sym is))
 none_dropped-effect old (event.Unblock client) is = refl
 none_dropped-effect old (event.Recall count) is = refl
@@ -128,6 +129,7 @@ module _ (old : State) (sound : IsSound old) (tree : IsTree old.scene.tree) wher
   effect-left (event.CloseSession client) alone none = absurd (none-some client (sym alone.2))
   effect-left (event.Stale client) alone none = absurd (none-some client (sym alone.2))
   effect-left (event.Renew client) alone none = absurd (none-some client (sym alone.2))
+  effect-left (event.Regrant client grants) alone none = absurd (none-some client (sym alone.2))
   effect-left (event.Evict client) alone none = absurd (none-some client (sym alone.2))
   effect-left (event.Unblock client) alone none = record { leaves = unblocked-leaves old sound client.0; is = refl }
   effect-left (event.Recall count) alone none = absurd (true≢false alone.1)

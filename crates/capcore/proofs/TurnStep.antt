@@ -24,7 +24,7 @@ use Rattle.lockmachine.proofs.Queue.{without_requests_of-kept}
 use Rattle.lockmachine.proofs.SameOutside.{rest-outside}
 use Rattle.lockmachine.proofs.Waiting.{quiet-waits-at}
 use Rattle.capcore.specs.declared.client.Turn.{Turn}
-use Rattle.capcore.specs.declared.client.Turn.TheVariants.{Close, Stale, Renew, Evict}
+use Rattle.capcore.specs.declared.client.Turn.TheVariants.{Close, Stale, Renew, Regrant, Evict}
 use Rattle.capcore.specs.declared.event.Event.{Event}
 use Rattle.capcore.specs.declared.outcome.Ended.{Ended}
 use Rattle.capcore.specs.declared.reply.Reply.TheVariants as reply
@@ -52,6 +52,7 @@ before-turn : (s : Scene) (client : ClientId) (turn : Turn) → judged s (turn_e
 before-turn s client Close = refl
 before-turn s client Stale = refl
 before-turn s client Renew = refl
+before-turn s client (Regrant grants) = refl
 before-turn s client Evict = refl
 
 -- the first test that fails, stops it, and nothing else

@@ -1,4 +1,4 @@
--- A client's session ends, is stale or open again, by itself: it touches the inodes where the client is.
+-- A client's session ends, is stale, open again or has other grants, by itself: it touches the inodes where the client is.
 use Rattle.std.proofs.Common.{◌≡◌, ◌≢◌, ◌≤◌, ℕ, zero, suc, ◌==◌, Bool, true, false, not, cond, Option, Some, None, is_some, List, [], ◌∷◌, refl, sym, ap, subst, ◌∙◌, Contains, true≢false, arith, eq-eqb}
 use Rattle.std.specs.Prelude.{IsTrue, All, filter}
 use Rattle.std.specs.Cmp.{nat_cmp_total}
@@ -32,7 +32,7 @@ use Rattle.lockmachine.proofs.PolicyElsewhere.{alike-itself}
 use Rattle.lockmachine.proofs.Finding.{contains-filter, fails_at, find_none}
 use Rattle.lockmachine.proofs.SameOutside.{outside-itself, outside-then, outside-dropped}
 use Rattle.capcore.specs.declared.client.Turn.{Turn}
-use Rattle.capcore.specs.declared.client.Turn.TheVariants.{Close, Stale, Renew, Evict}
+use Rattle.capcore.specs.declared.client.Turn.TheVariants.{Close, Stale, Renew, Regrant, Evict}
 use Rattle.capcore.specs.declared.reply.Reply.TheVariants as reply
 use Rattle.capcore.specs.State.{State}
 use Rattle.capcore.specs.Direct.{Direct, Says, direct, effect, effect_unless}
@@ -52,6 +52,7 @@ effect-turned : (old : State) (client : ClientId) (turn : Turn) → effect old (
 effect-turned old client Close = refl
 effect-turned old client Stale = refl
 effect-turned old client Renew = refl
+effect-turned old client (Regrant grants) = refl
 effect-turned old client Evict = refl
 
 pub direct-turned : (old : State) (client : ClientId) (turn : Turn) → judged old.scene (turn_event client turn) ≡ None → direct old (turn_event client turn) ≡ turn_direct old client turn
@@ -95,6 +96,7 @@ pub turned-other : (t : SessionTable) (client : ClientId) (turn : Turn) (other :
 turned-other t client Close other off = removed-other t.sessions client.0 other off
 turned-other t client Stale other off = changed-other t.sessions client.0 other (λ session. record session { status = status.Stale }) off
 turned-other t client Renew other off = changed-other t.sessions client.0 other (λ session. record session { status = status.Open }) off
+turned-other t client (Regrant grants) other off = changed-other t.sessions client.0 other (λ session. record session { grants = grants.now }) off
 turned-other t client Evict other off = removed-other t.sessions client.0 other off
 
 -- where the session does not end, it is there
@@ -102,6 +104,7 @@ turned-has : (t : SessionTable) (client : ClientId) (turn : Turn) (other : ℕ) 
 turned-has t client Close other still = absurd (true≢false still)
 turned-has t client Stale other still = changed-has t.sessions client.0 other (λ session. record session { status = status.Stale })
 turned-has t client Renew other still = changed-has t.sessions client.0 other (λ session. record session { status = status.Open })
+turned-has t client (Regrant grants) other still = changed-has t.sessions client.0 other (λ session. record session { grants = grants.now })
 turned-has t client Evict other still = absurd (true≢false still)
 
 -- whose session ends is left nowhere

@@ -18,7 +18,7 @@ use Rattle.inotree.specs.Calls.{with_new, changed}
 use Rattle.sessiontab.specs.declared.session.Session.{Session}
 use Rattle.sessiontab.specs.declared.session.Status.TheVariants as status
 use Rattle.sessiontab.specs.Table.{SessionTable}
-use Rattle.sessiontab.specs.Calls.{with_session, without_session, with_status, with_evicted, without_blocked}
+use Rattle.sessiontab.specs.Calls.{with_session, without_session, with_status, with_grants, with_evicted, without_blocked}
 use Rattle.captable.specs.declared.entry.Holder.{Holder}
 use Rattle.captable.specs.declared.entry.EntryRow.{EntryRow}
 use Rattle.captable.specs.Table.{Table, holder, is_row_of, entry_at}
@@ -217,6 +217,7 @@ effect s (event.Session client caller grants) =
 effect s (event.CloseSession client) = ends s client (without_session s.scene.sessions client.0)
 effect s (event.Stale client) = says (with_sessions s (with_status s.scene.sessions client.0 status.Stale)) reply.Done
 effect s (event.Renew client) = says (with_sessions s (with_status s.scene.sessions client.0 status.Open)) reply.Done
+effect s (event.Regrant client grants) = says (with_sessions s (with_grants s.scene.sessions client.0 grants)) reply.Done
 effect s (event.Evict client) = ends s client (with_evicted s.scene.sessions client.0)
 effect s (event.Unblock client) =
     says (with_scene s (record s.scene { sessions = without_blocked s.scene.sessions client.0 })) reply.Done

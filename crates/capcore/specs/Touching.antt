@@ -35,6 +35,7 @@ touched_by (event.Session client caller grants) = None
 touched_by (event.CloseSession client) = None
 touched_by (event.Stale client) = None
 touched_by (event.Renew client) = None
+touched_by (event.Regrant client grants) = None
 touched_by (event.Evict client) = None
 touched_by (event.Unblock client) = None
 touched_by (event.Recall count) = None
@@ -55,12 +56,13 @@ touched_by (event.Rename client ino dir name) = Some (holder client ino)
 touched_by (event.Flush client ino change) = Some (holder client ino)
 touched_by (event.Poll client max) = None
 
--- whose session an event ends, makes stale or renews
+-- whose session an event ends, makes stale or renews, or whose grants it replaces
 abbrev pub turned_by : Event → Option ClientId
 turned_by (event.Session client caller grants) = None
 turned_by (event.CloseSession client) = Some client
 turned_by (event.Stale client) = Some client
 turned_by (event.Renew client) = Some client
+turned_by (event.Regrant client grants) = Some client
 turned_by (event.Evict client) = Some client
 turned_by (event.Unblock client) = None
 turned_by (event.Recall count) = None
@@ -87,6 +89,7 @@ asks_for (event.Session client caller grants) = None
 asks_for (event.CloseSession client) = None
 asks_for (event.Stale client) = None
 asks_for (event.Renew client) = None
+asks_for (event.Regrant client grants) = None
 asks_for (event.Evict client) = None
 asks_for (event.Unblock client) = None
 asks_for (event.Recall count) = None
@@ -113,6 +116,7 @@ is_listing (event.Session client caller grants) = false
 is_listing (event.CloseSession client) = false
 is_listing (event.Stale client) = false
 is_listing (event.Renew client) = false
+is_listing (event.Regrant client grants) = false
 is_listing (event.Evict client) = false
 is_listing (event.Unblock client) = false
 is_listing (event.Recall count) = true

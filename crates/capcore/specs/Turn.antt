@@ -5,7 +5,7 @@ use Rattle.capbits.specs.declared.ids.ClientId.{ClientId}
 use Rattle.capbits.specs.Refusal.{Test}
 use Rattle.sessiontab.specs.declared.session.Status.TheVariants as status
 use Rattle.sessiontab.specs.Table.{SessionTable}
-use Rattle.sessiontab.specs.Calls.{without_session, with_status, with_evicted}
+use Rattle.sessiontab.specs.Calls.{without_session, with_status, with_grants, with_evicted}
 use Rattle.sessiontab.specs.Tests.{connected_test, session_tests, stale_tests, evict_tests}
 use Rattle.captable.specs.declared.entry.EntryRow.{EntryRow}
 use Rattle.captable.specs.Table.{Table}
@@ -15,7 +15,7 @@ use Rattle.lockmachine.specs.Inodes.{StateMap}
 use Rattle.lockmachine.specs.Locks.{LockMap, requests_of, without_requests_of}
 use Rattle.lockmachine.specs.Requests.{is_of_client as is_asked_by}
 use Rattle.capcore.specs.declared.client.Turn.{Turn}
-use Rattle.capcore.specs.declared.client.Turn.TheVariants.{Close, Stale, Renew, Evict}
+use Rattle.capcore.specs.declared.client.Turn.TheVariants.{Close, Stale, Renew, Regrant, Evict}
 use Rattle.capcore.specs.declared.event.Event.{Event}
 use Rattle.capcore.specs.declared.event.Event.TheVariants as event
 use Rattle.capcore.specs.declared.outcome.Ended.{Ended}
@@ -29,6 +29,7 @@ abbrev pub turn_event : ClientId → Turn → Event
 turn_event client Close = event.CloseSession client
 turn_event client Stale = event.Stale client
 turn_event client Renew = event.Renew client
+turn_event client (Regrant grants) = event.Regrant client grants.now
 turn_event client Evict = event.Evict client
 
 -- what is tested
@@ -36,6 +37,7 @@ abbrev pub turn_tests : SessionTable → ClientId → Turn → List Test
 turn_tests sessions client Close = connected_test sessions client.0 ∷ []
 turn_tests sessions client Stale = session_tests sessions client.0
 turn_tests sessions client Renew = stale_tests sessions client.0
+turn_tests sessions client (Regrant grants) = connected_test sessions client.0 ∷ []
 turn_tests sessions client Evict = evict_tests sessions client.0
 
 -- the sessions then
@@ -43,6 +45,7 @@ abbrev pub turned_sessions : SessionTable → ClientId → Turn → SessionTable
 turned_sessions sessions client Close = without_session sessions client.0
 turned_sessions sessions client Stale = with_status sessions client.0 status.Stale
 turned_sessions sessions client Renew = with_status sessions client.0 status.Open
+turned_sessions sessions client (Regrant grants) = with_grants sessions client.0 grants.now
 turned_sessions sessions client Evict = with_evicted sessions client.0
 
 -- the session ends
@@ -50,6 +53,7 @@ abbrev pub is_end : Turn → Bool
 is_end Close = true
 is_end Stale = false
 is_end Renew = false
+is_end (Regrant grants) = false
 is_end Evict = true
 
 -- ---- what is left, where the session ends or does not

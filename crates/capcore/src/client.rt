@@ -1,7 +1,9 @@
-//! Steps by which a client's session ends, becomes stale or is open again.
-ghost use Rattle.std.specs.Prelude.{◌≡◌, ◌+◌, ◌≤◌, ◌++◌, true, [], None, All, IsTrue, Contains, length, map as each, IfOk, IfErr, OnOk, OnErr, vec_capacity};
+//! Steps by which a client's session ends, becomes stale, is open again or has other grants.
+ghost use Rattle.std.specs.Prelude.{◌≡◌, ◌+◌, ◌≤◌, ◌++◌, true, [], ◌∷◌, None, All, IsTrue, Contains, length, map as each, IfOk, IfErr, OnOk, OnErr, vec_capacity};
 ghost use Rattle.std.specs.FinMap as map;
 ghost use Rattle.capbits.specs.Refusal.{first_failing};
+ghost use Rattle.sessiontab.specs.Calls.{with_grants};
+ghost use Rattle.sessiontab.specs.Tests.{connected_test};
 ghost use Rattle.captable.specs.declared.entry.EntryRow.{EntryRow};
 ghost use Rattle.captable.specs.Calls.{is_of_client};
 ghost use Rattle.lockmachine.specs.declared.request.Request.{Request};
@@ -24,6 +26,7 @@ use crate::reply::{Reply, Said};
 use crate::settle::end_at;
 use crate::world::World;
 use capbits::{ClientId, Ino, Refusal};
+use capspec::Grants;
 use captable::CapTable;
 use inotree::ROOT;
 use lockmachine::{Locks, States};
@@ -32,13 +35,15 @@ use std::alloc::{AllocError, Global};
 
 // What becomes of a client's session.
 #[derive(Clone, Copy)]
-pub(crate) enum Turn {
+pub(crate) enum Turn<'a> {
     // The client ends it.
     Close,
     // It is stale.
     Stale,
     // It is open again.
     Renew,
+    // It has these grants in place of those that it had.
+    Regrant(&'a Grants),
     // The client is thrown out.
     Evict,
 }
@@ -60,7 +65,7 @@ impl World {
     // there.
     pub(crate) fn turn(&mut self, client: ClientId, turn: Turn) -> Result<Said, Stop>
         requires numbers { NumbersLeft self.old }
-        ensures answered { IfOk result (λ said. IsAnswered self.old (turn_event client turn) said self.new) }
+        ensures answered { IfOk result (λ said. IsAnswered self.old (turn_event client turn.entry) said self.new) }
         ensures err { OnErr result (self.new ≡ self.old) }
         ensures memory { IfErr result (λ stop. stop ≡ Stop.NoMemory) }
     {
@@ -99,28 +104,44 @@ impl World {
 
 // The first test that fails.
 fn turn_refusal(sessions: &Sessions, client: ClientId, turn: Turn) -> Option<Refusal>
-    ensures { result ≡ first_failing (turn_tests sessions.now client turn) }
+    ensures { result ≡ first_failing (turn_tests sessions.now client turn.entry) }
 {
     match turn {
         Turn::Close => sessions.connected_refusal(client),
         Turn::Stale => sessions.session_refusal(client),
         Turn::Renew => sessions.renew_refusal(client),
+        Turn::Regrant(_grants) => sessions.connected_refusal(client),
         Turn::Evict => sessions.evict_refusal(client),
     }
 }
 
-// The session ends, or has another status. An eviction alone takes memory: for want of it nothing changes.
+// The session ends, or has another status or other grants. An eviction takes memory, and so do grants, which are copied: for
+// want of it nothing changes.
 fn turn_session(sessions: &mut Sessions, client: ClientId, turn: Turn) -> Result<(), AllocError>
     requires passed { first_failing (turn_tests sessions.old client turn) ≡ None }
-    ensures ok { OnOk result (sessions.new ≡ turned_sessions sessions.old client turn) }
+    ensures ok { OnOk result (sessions.new ≡ turned_sessions sessions.old client turn.entry) }
     ensures err { OnErr result (sessions.new ≡ sessions.old) }
 {
     match turn {
         Turn::Close => sessions.close_session(client),
         Turn::Stale => sessions.mark_stale(client),
         Turn::Renew => sessions.renew(client),
+        Turn::Regrant(grants) => regrant(sessions, client, grants)?,
         Turn::Evict => sessions.evict(client)?,
     }
+    Ok(())
+}
+
+// The client's session has a copy of these grants in place of those that it had. For want of memory nothing changes.
+fn regrant(sessions: &mut Sessions, client: ClientId, grants: &Grants) -> Result<(), AllocError>
+    requires passed { first_failing (connected_test sessions.old client.0 ∷ []) ≡ None }
+    ensures ok { OnOk result (sessions.new ≡ with_grants sessions.old client.0 grants.now) }
+    ensures err { OnErr result (sessions.new ≡ sessions.old) }
+{
+    let copy = grants.copy()?;
+    let Ok(()) = sessions.regrant(client, copy) else {
+        unreachable!()
+    };
     Ok(())
 }
 
@@ -136,11 +157,11 @@ fn leave(
     dropped: &mut Messages,
 )
     requires room { length dropped.old.items + length locks.old.queue ≤ dropped.old.room }
-    ensures table { table.new ≡ words.table_left (is_end turn) table.old client }
-    ensures locks { locks.new ≡ words.locks_left (is_end turn) locks.old client }
-    ensures messages { messages.new.items ≡ words.messages_left (is_end turn) messages.old.items client }
+    ensures table { table.new ≡ words.table_left (is_end turn.entry) table.old client }
+    ensures locks { locks.new ≡ words.locks_left (is_end turn.entry) locks.old client }
+    ensures messages { messages.new.items ≡ words.messages_left (is_end turn.entry) messages.old.items client }
     ensures left { messages.new.room ≡ messages.old.room }
-    ensures dropped { dropped.new.items ≡ dropped.old.items ++ words.dropped_by (is_end turn) locks.old client }
+    ensures dropped { dropped.new.items ≡ dropped.old.items ++ words.dropped_by (is_end turn.entry) locks.old client }
     ensures room { length dropped.new.items + length locks.new.queue ≤ dropped.new.room }
 {
     match turn {
@@ -149,7 +170,7 @@ fn leave(
             messages.remove_to(client);
             drop_requests(locks, client, dropped);
         }
-        Turn::Stale | Turn::Renew => {}
+        Turn::Stale | Turn::Renew | Turn::Regrant(_) => {}
     }
 }
 

@@ -45,6 +45,14 @@ pub enum Event {
         /// The client.
         client: ClientId,
     },
+    /// An administrator replaces the grants of a client, whose session is open or stale and goes on. What it holds it still
+    /// holds; all else is decided by the new grants from now on.
+    Regrant {
+        /// The client.
+        client: ClientId,
+        /// What it may do from now on, and where.
+        grants: Grants,
+    },
     /// A client is thrown out: its session ends, and it comes on the blocklist.
     Evict {
         /// The client.

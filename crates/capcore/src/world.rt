@@ -146,6 +146,7 @@ impl World {
             Event::CloseSession { client } => self.turn(*client, Turn::Close),
             Event::Stale { client } => self.turn(*client, Turn::Stale),
             Event::Renew { client } => self.turn(*client, Turn::Renew),
+            Event::Regrant { client, grants } => self.turn(*client, Turn::Regrant(grants)),
             Event::Evict { client } => self.turn(*client, Turn::Evict),
             Event::Recall { count } => self.recall(*count),
             Event::Session { .. }
@@ -277,6 +278,7 @@ impl World {
             Event::CloseSession { .. }
             | Event::Stale { .. }
             | Event::Renew { .. }
+            | Event::Regrant { .. }
             | Event::Evict { .. }
             | Event::Recall { .. }
             | Event::Open { .. }

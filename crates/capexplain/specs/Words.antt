@@ -7,7 +7,7 @@ use Rattle.capcore.specs.declared.event.Event.TheVariants as event
 use Rattle.capcore.specs.declared.event.OpenMode.{OpenMode}
 use Rattle.capcore.specs.declared.event.OpenMode.TheVariants as opening
 use Rattle.capexplain.specs.declared.command.Command.{Command}
-use Rattle.capexplain.specs.declared.command.Command.TheVariants.{Session, CloseSession, Stale, Renew, Evict, Unblock, Recall, Lookup, Create, Mkdir, MakeSnapshot, RemoveSnapshot, Open, Want, Ack, Release, Get, Alter, Unlink, Rmdir, Rename, Flush, Poll}
+use Rattle.capexplain.specs.declared.command.Command.TheVariants.{Session, CloseSession, Stale, Renew, Regrant, Evict, Unblock, Recall, Lookup, Create, Mkdir, MakeSnapshot, RemoveSnapshot, Open, Want, Ack, Release, Get, Alter, Unlink, Rmdir, Rename, Flush, Poll}
 use Rattle.capexplain.specs.declared.change_word.ChangeWord.{ChangeWord}
 use Rattle.capexplain.specs.declared.change_word.ChangeWord.TheVariants as words
 
@@ -17,6 +17,7 @@ command_word Session = codes "session"
 command_word CloseSession = codes "close"
 command_word Stale = codes "stale"
 command_word Renew = codes "renew"
+command_word Regrant = codes "regrant"
 command_word Evict = codes "evict"
 command_word Unblock = codes "unblock"
 command_word Recall = codes "recall"
@@ -43,6 +44,7 @@ command_of (event.Session client caller grants) = Session
 command_of (event.CloseSession client) = CloseSession
 command_of (event.Stale client) = Stale
 command_of (event.Renew client) = Renew
+command_of (event.Regrant client grants) = Regrant
 command_of (event.Evict client) = Evict
 command_of (event.Unblock client) = Unblock
 command_of (event.Recall count) = Recall

@@ -15,6 +15,8 @@ pub enum Command {
     Stale,
     /// A client's session is open again.
     Renew,
+    /// A client's grants are replaced.
+    Regrant,
     /// A client is thrown out.
     Evict,
     /// A client comes off the blocklist.
@@ -65,6 +67,7 @@ impl Command {
             Event::CloseSession { .. } => Command::CloseSession,
             Event::Stale { .. } => Command::Stale,
             Event::Renew { .. } => Command::Renew,
+            Event::Regrant { .. } => Command::Regrant,
             Event::Evict { .. } => Command::Evict,
             Event::Unblock { .. } => Command::Unblock,
             Event::Recall { .. } => Command::Recall,
@@ -96,6 +99,7 @@ impl Command {
             Command::CloseSession => "close",
             Command::Stale => "stale",
             Command::Renew => "renew",
+            Command::Regrant => "regrant",
             Command::Evict => "evict",
             Command::Unblock => "unblock",
             Command::Recall => "recall",

@@ -50,6 +50,7 @@ fn print_arguments(text: &mut Vec<u8>, event: &Event) -> Result<(), AllocError>
         | Event::Renew { client }
         | Event::Evict { client }
         | Event::Unblock { client } => print_client(text, *client),
+        Event::Regrant { client, grants } => print_regrant(text, *client, grants),
         Event::Recall { count } => print_count(text, *count),
         Event::Lookup { client, dir, name } => print_named(text, *client, *dir, name),
         Event::MakeSnapshot { client, ino, name } | Event::RemoveSnapshot { client, ino, name } => {
@@ -150,6 +151,14 @@ fn print_session(
     print(text, format_args!(" {client} {uid} {gid} "))?;
     print_groups(text, &caller.groups)?;
     print(text, " ")?;
+    print_grants(text, grants)
+}
+
+// The client, and its new grants.
+fn print_regrant(text: &mut Vec<u8>, client: ClientId, grants: &Grants) -> Result<(), AllocError>
+    ensures { OnOk result (text.new.items ≡ text.old.items ++ (codes " " ++ decimal client.0 ++ codes " " ++ grants_text grants.now)) }
+{
+    print(text, format_args!(" {client} "))?;
     print_grants(text, grants)
 }
 

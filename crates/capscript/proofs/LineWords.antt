@@ -6,7 +6,7 @@ use Rattle.std.proofs.lemmas.Bool.{ltb-true, ltb-false}
 use Rattle.std.proofs.lemmas.List.Splits.{slice_split_first, slice_split_none, join_with_byte-slice_split, length-slice_split}
 use Rattle.std.proofs.lemmas.List.Sums.{fails_before_first}
 use Rattle.std.proofs.lemmas.List.{map-append, length-map, take_rest}
-use Rattle.capscript.specs.Words.{is_space, words, spaced, six_parts}
+use Rattle.capscript.specs.Words.{is_space, words, spaced, six_parts, arguments_in}
 
 -- a text without a mark is one piece
 one_piece : (p : ℕ → Bool) (text : List ℕ) → length text ≤ position_or_len p text → slice_split p text ≡ text ∷ []
@@ -82,3 +82,30 @@ cut_up text parts all rest pushed cut count whole =
 pub cut_more : (text : List ℕ) (parts all : List (Bor (List ℕ))) (rest word behind : Bor (List ℕ)) → all ≡ parts ++ word ∷ [] → words text ≡ map now parts ++ words rest.now → words rest.now ≡ word.now ∷ words behind.now → words text ≡ map now all ++ words behind.now
 cut_more text parts all rest word behind pushed cut next =
     rw (pushed, map-append now parts (word ∷ []), append_assoc) (cut ∙ ap (λ (ws : List (List ℕ)). map now parts ++ ws) next)
+
+-- ---- a line whose third part is all that is left of it
+
+-- one word has nothing behind it
+pub no_argument : (text : List ℕ) → words text ≡ text ∷ [] → arguments_in text ≡ []
+no_argument text whole = ap (λ (ws : List (List ℕ)). drop 1 (six_parts ws)) whole
+
+-- and of two words the second alone is behind the first
+pub only_argument : (text word behind : List ℕ) → words text ≡ word ∷ words behind → words behind ≡ behind ∷ [] → arguments_in text ≡ behind ∷ []
+only_argument text word behind first whole = ap (λ (ws : List (List ℕ)). drop 1 (six_parts ws)) (first ∙ ap (λ (ws : List (List ℕ)). word ∷ ws) whole)
+
+-- the words from the third on may be joined as one, and what they are with spaces between them stays
+joined : (a b c : List ℕ) (ws : List (List ℕ)) → (more : List (List ℕ)) × (six_parts (a ∷ b ∷ c ∷ ws) ≡ a ∷ b ∷ c ∷ more) × (spaced (c ∷ more) ≡ spaced (c ∷ ws))
+joined a b c [] = ([], refl, refl)
+joined a b c (d ∷ []) = (d ∷ [], refl, refl)
+joined a b c (d ∷ e ∷ []) = (d ∷ e ∷ [], refl, refl)
+joined a b c (d ∷ e ∷ f ∷ ws) = (d ∷ e ∷ spaced (f ∷ ws) ∷ [], refl, refl)
+
+-- the arguments behind the first, with a space between each two, are all that is left of the line
+pub rest_of_line : (text word behind argument rest : List ℕ) → words text ≡ word ∷ words behind → words behind ≡ argument ∷ words rest
+    → (first : List ℕ) × ((more : List (List ℕ)) × (arguments_in text ≡ argument ∷ first ∷ more) × (spaced (first ∷ more) ≡ rest))
+rest_of_line text word behind argument rest first second =
+    let third = first_word rest in
+    let all : words text ≡ word ∷ argument ∷ third.0 ∷ third.1.0 =
+    first ∙ ap (λ (ws : List (List ℕ)). word ∷ ws) (second ∙ ap (λ (ws : List (List ℕ)). argument ∷ ws) third.1.1) in
+    let one = joined word argument third.0 third.1.0 in
+    (third.0, (one.0, ap (λ (ws : List (List ℕ)). drop 1 (six_parts ws)) all ∙ ap (λ (ws : List (List ℕ)). drop 1 ws) one.1, one.2 ∙ ap spaced (sym third.1.1) ∙ join_with_byte-slice_split 32 rest))

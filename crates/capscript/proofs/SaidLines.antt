@@ -20,11 +20,13 @@ use Rattle.capscript.specs.declared.fault.LineFault.{LineFault}
 use Rattle.capscript.specs.declared.fault.LineFault.TheVariants as faults
 use Rattle.capscript.specs.declared.fault.Refused.{Refused}
 use Rattle.capscript.specs.declared.fault.Refused.TheVariants as refusals
-use Rattle.capscript.specs.Events.{Line, said_in, line_says, Tells, Reads}
-use Rattle.capscript.specs.Events.Line.{Nothing, Says, Opens, Names, Faulty}
+use Rattle.capscript.specs.Events.{Line, ◌>>=◌, granting, regrant_by, said_in, line_says, Tells, Reads}
+use Rattle.capscript.specs.Events.Line.{Nothing, Says, Grants, Names, Faulty}
 use Rattle.capscript.specs.Faults.{Has, HasFault, IsRefused, IsRefusedFor}
 use Rattle.capscript.specs.Lines.{is_skipped}
-use Rattle.capscript.specs.Values.{Spells}
+use Rattle.capscript.specs.Values.{client_in, Spells}
+use Rattle.capscript.specs.Words.{words, arguments_in}
+use Rattle.capscript.proofs.LineWords.{rest_of_line}
 
 -- ---- want of memory
 
@@ -32,14 +34,14 @@ use Rattle.capscript.specs.Values.{Spells}
 abbrev pub SaysAny : Line → Type 0
 SaysAny Nothing = ⊥
 SaysAny (Says event) = Unit {0}
-SaysAny (Opens client caller text) = (grants : List Grant) × MeansGrants text grants
+SaysAny (Grants said text) = (grants : List Grant) × MeansGrants text grants
 SaysAny (Names said word) = (caps : Caps) × Spells word caps
 SaysAny (Faulty fault) = ⊥
 
 event_said : (line : Line) → SaysAny line → (event : Event) × Tells line event
 event_said Nothing says = absurd says
 event_said (Says event) says = (event, refl)
-event_said (Opens client caller text) says = (events.Session client caller says.0, (says.0, says.1, refl))
+event_said (Grants said text) says = (said says.0, (says.0, says.1, refl))
 event_said (Names said word) says = (said says.0, (says.0, says.1, refl))
 event_said (Faulty fault) says = absurd says
 
@@ -50,16 +52,16 @@ missed (Err refused) IsRight line told says = rw told (event_said line says)
 -- ---- grants
 
 -- a grant text that is refused has a fault, or memory was missing for what it says
-refused_text : (client : ClientId) (caller : Caller) (text : List ℕ) (fault : SpecFault) (refused : Refused) → IsFault text fault ⊎ (IsNoMemory fault × (grants : List Grant) × MeansGrants text grants) → IsRefusedFor fault refused → IsRefused (Opens client caller text) refused
-refused_text client caller text fault (refusals.Wrong kind) (inl is) passed = (fault, is, passed.0)
-refused_text client caller text fault (refusals.Wrong kind) (inr missed) passed = absurd (passed.1 (ap (λ (f : SpecFault). f.kind) missed.0))
-refused_text client caller text fault refusals.NoMemory (inl is) passed = absurd (fault_told text fault is passed)
-refused_text client caller text fault refusals.NoMemory (inr missed) passed = event_said (Opens client caller text) (missed.1, missed.2)
+refused_text : (said : List Grant → Event) (text : List ℕ) (fault : SpecFault) (refused : Refused) → IsFault text fault ⊎ (IsNoMemory fault × (grants : List Grant) × MeansGrants text grants) → IsRefusedFor fault refused → IsRefused (Grants said text) refused
+refused_text said text fault (refusals.Wrong kind) (inl is) passed = (fault, is, passed.0)
+refused_text said text fault (refusals.Wrong kind) (inr missed) passed = absurd (passed.1 (ap (λ (f : SpecFault). f.kind) missed.0))
+refused_text said text fault refusals.NoMemory (inl is) passed = absurd (fault_told text fault is passed)
+refused_text said text fault refusals.NoMemory (inr missed) passed = event_said (Grants said text) (missed.1, missed.2)
 
-pub text_refused : {A : Type 0} (answer : Result A Refused) (IsRight : A → Type 0) (client : ClientId) (caller : Caller) (text : List ℕ) (fault : SpecFault) → IsErrAnd answer (IsRefusedFor fault) → IsFault text fault ⊎ (IsNoMemory fault × (grants : List Grant) × MeansGrants text grants)
-    → MatchResult answer IsRight (IsRefused (Opens client caller text))
-text_refused (Ok done) IsRight client caller text fault passed found = absurd passed
-text_refused (Err refused) IsRight client caller text fault passed found = refused_text client caller text fault refused found passed
+pub text_refused : {A : Type 0} (answer : Result A Refused) (IsRight : A → Type 0) (said : List Grant → Event) (text : List ℕ) (fault : SpecFault) → IsErrAnd answer (IsRefusedFor fault) → IsFault text fault ⊎ (IsNoMemory fault × (grants : List Grant) × MeansGrants text grants)
+    → MatchResult answer IsRight (IsRefused (Grants said text))
+text_refused (Ok done) IsRight said text fault passed found = absurd passed
+text_refused (Err refused) IsRight said text fault passed found = refused_text said text fault refused found passed
 
 -- ---- parts
 
@@ -117,6 +119,13 @@ five (a ∷ b ∷ c ∷ []) count = absurd (omega arith)
 five (a ∷ b ∷ c ∷ d ∷ []) count = absurd (omega arith)
 five (a ∷ b ∷ c ∷ d ∷ e ∷ f ∷ more) count = absurd (omega arith)
 
+-- of new grants, by the first argument and all that is left of the line behind it
+pub regranted : (text word behind argument rest : List ℕ) → words text ≡ word ∷ words behind → words behind ≡ argument ∷ words rest
+    → regrant_by (arguments_in text) ≡ (client_in argument >>= (λ client. granting (events.Regrant client) rest))
+regranted text word behind argument rest first second =
+    let cut = rest_of_line text word behind argument rest first second in
+    ap regrant_by cut.1.1 ∙ ap (λ (left : List ℕ). client_in argument >>= (λ client. granting (events.Regrant client) left)) cut.1.2
+
 -- what is no event is why there is none
 pub refused_by : {A : Type 0} (answer : Result A Refused) (IsRight : A → Type 0) (line : Line) (refused : Refused) → IsErrAnd answer (λ passed. passed ≡ refused) → IsRefused line refused → MatchResult answer IsRight (IsRefused line)
 refused_by (Ok done) IsRight line refused passed why = absurd passed
@@ -127,21 +136,21 @@ refused_by (Err same) IsRight line refused passed why = rw passed why
 pub tells_once : (line : Line) (event other : Event) → Tells line event → Tells line other → event ≡ other
 tells_once Nothing event other is also = absurd is
 tells_once (Says said) event other is also = is ∙ sym also
-tells_once (Opens client caller text) event other is also = is.2 ∙ ap (events.Session client caller) (reads_once text is.0 also.0 is.1 also.1) ∙ sym also.2
+tells_once (Grants said text) event other is also = is.2 ∙ ap said (reads_once text is.0 also.0 is.1 also.1) ∙ sym also.2
 tells_once (Names said word) event other is also = is.2 ∙ ap said (text_of-injective is.0 also.0 (sym is.1 ∙ also.1)) ∙ sym also.2
 tells_once (Faulty fault) event other is also = absurd is
 
 pub tells_no_fault : (line : Line) (event : Event) (fault : LineFault) → Tells line event → Has line fault → ⊥
 tells_no_fault Nothing event fault is has = is
 tells_no_fault (Says said) event fault is has = has
-tells_no_fault (Opens client caller text) event fault is has = reads_no_fault text is.0 has.0 is.1 has.1
+tells_no_fault (Grants said text) event fault is has = reads_no_fault text is.0 has.0 is.1 has.1
 tells_no_fault (Names said word) event fault is has = has.0 is.0 is.1
 tells_no_fault (Faulty found) event fault is has = is
 
 pub one_fault : (line : Line) (fault other : LineFault) → Has line fault → Has line other → fault ≡ other
 one_fault Nothing fault other is also = absurd is
 one_fault (Says said) fault other is also = absurd is
-one_fault (Opens client caller text) fault other is also = is.2 ∙ ap faults.Grants (one_grant_fault text is.0 also.0 is.1 also.1) ∙ sym also.2
+one_fault (Grants said text) fault other is also = is.2 ∙ ap faults.Grants (one_grant_fault text is.0 also.0 is.1 also.1) ∙ sym also.2
 one_fault (Names said word) fault other is also = is.1 ∙ sym also.1
 one_fault (Faulty found) fault other is also = is ∙ sym also
 

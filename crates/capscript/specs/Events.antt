@@ -21,7 +21,7 @@ use Rattle.capscript.specs.declared.fault.LineFault.TheVariants as faults
 use Rattle.capscript.specs.Changes.{change_kind, is_counted}
 use Rattle.capscript.specs.Lines.{is_skipped, longest_line}
 use Rattle.capscript.specs.Values.{number_below, number_in, client_in, ino_in, seq_in, mode_in, open_mode_in, part_in, bytes_in, groups_in, Spells}
-use Rattle.capscript.specs.Words.{parts, command_in}
+use Rattle.capscript.specs.Words.{parts, spaced, command_in}
 
 -- the client that the event is about; a recall is about none
 abbrev pub client_of : Event → Option ClientId
@@ -29,6 +29,7 @@ client_of (events.Session client caller grants) = Some client
 client_of (events.CloseSession client) = Some client
 client_of (events.Stale client) = Some client
 client_of (events.Renew client) = Some client
+client_of (events.Regrant client grants) = Some client
 client_of (events.Evict client) = Some client
 client_of (events.Unblock client) = Some client
 client_of (events.Recall count) = None
@@ -49,12 +50,12 @@ client_of (events.Rename client ino dir name) = Some client
 client_of (events.Flush client ino change) = Some client
 client_of (events.Poll client max) = Some client
 
--- What a line says: nothing, as it is skipped; an event; that a client opens a session with the grants that a text means, whatever these
--- are; an event with the set of capabilities that a word spells; or nothing that can be read, by its fault.
+-- What a line says: nothing, as it is skipped; an event; an event with the grants that a text means, whatever these are; an event with
+-- the set of capabilities that a word spells; or nothing that can be read, by its fault.
 pub data Line : Type 0 where
   Nothing : Line
   Says : Event → Line
-  Opens : ClientId → Caller → List ℕ → Line
+  Grants : (List Grant → Event) → List ℕ → Line
   Names : (Caps → Event) → List ℕ → Line
   Faulty : LineFault → Line
 
@@ -82,8 +83,8 @@ new_inode_by event (client_word ∷ dir_word ∷ name ∷ mode_word ∷ []) = do
 new_inode_by event arguments = Faulty faults.Count
 
 -- exactly `none` for no grants, or a grant text
-abbrev pub opened : ClientId → Caller → List ℕ → Line
-opened client caller text = if bytes_eq text (codes "none") then Says (events.Session client caller []) else Opens client caller text
+abbrev pub granting : (List Grant → Event) → List ℕ → Line
+granting event text = if bytes_eq text (codes "none") then Says (event []) else Grants event text
 
 -- a client, its user, group and further groups, and its grants
 abbrev pub session_by : List (List ℕ) → Line
@@ -92,8 +93,15 @@ session_by (client_word ∷ uid_word ∷ gid_word ∷ groups_word ∷ text ∷ [
   uid ← number_in uid_word
   gid ← number_in gid_word
   groups ← groups_in groups_word
-  opened client (record { uid = uid; gid = gid; groups = groups }) text
+  granting (events.Session client (record { uid = uid; gid = gid; groups = groups })) text
 session_by arguments = Faulty faults.Count
+
+-- a client, and its new grants: all that is left of the line
+abbrev pub regrant_by : List (List ℕ) → Line
+regrant_by (client_word ∷ first ∷ more) = do
+  client ← client_in client_word
+  granting (events.Regrant client) (spaced (first ∷ more))
+regrant_by arguments = Faulty faults.Count
 
 -- a client
 abbrev pub client_by : (ClientId → Event) → List (List ℕ) → Line
@@ -221,6 +229,7 @@ said_with commands.Session arguments = session_by arguments
 said_with commands.CloseSession arguments = client_by events.CloseSession arguments
 said_with commands.Stale arguments = client_by events.Stale arguments
 said_with commands.Renew arguments = client_by events.Renew arguments
+said_with commands.Regrant arguments = regrant_by arguments
 said_with commands.Evict arguments = client_by events.Evict arguments
 said_with commands.Unblock arguments = client_by events.Unblock arguments
 said_with commands.Recall arguments = recall_by arguments
@@ -260,7 +269,7 @@ line_says text = if is_skipped text then Nothing else said_in text
 abbrev pub Tells : Line → Event → Type 0
 Tells Nothing event = ⊥
 Tells (Says said) event = event ≡ said
-Tells (Opens client caller text) event = (grants : List Grant) × MeansGrants text grants × (event ≡ events.Session client caller grants)
+Tells (Grants said text) event = (grants : List Grant) × MeansGrants text grants × (event ≡ said grants)
 Tells (Names said word) event = (caps : Caps) × Spells word caps × (event ≡ said caps)
 Tells (Faulty fault) event = ⊥
 

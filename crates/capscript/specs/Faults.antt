@@ -11,14 +11,14 @@ use Rattle.capscript.specs.declared.fault.Refused.TheVariants as refusals
 use Rattle.capscript.specs.declared.fault.ScriptFault.{ScriptFault}
 use Rattle.capscript.specs.declared.fault.ScriptFault.TheVariants as stops
 use Rattle.capscript.specs.Events.{Line, line_says, Tells, Reads}
-use Rattle.capscript.specs.Events.Line.{Nothing, Says, Opens, Names, Faulty}
+use Rattle.capscript.specs.Events.Line.{Nothing, Says, Grants, Names, Faulty}
 use Rattle.capscript.specs.Values.{SpellsNone}
 
 -- the line has the fault; of a grant text, it is the fault that the text has, and of a word that has to spell capabilities, that it spells none
 abbrev pub Has : Line → LineFault → Type 0
 Has Nothing fault = ⊥
 Has (Says event) fault = ⊥
-Has (Opens client caller text) fault = (grants_fault : SpecFault) × IsFault text grants_fault × (fault ≡ faults.Grants grants_fault)
+Has (Grants said text) fault = (grants_fault : SpecFault) × IsFault text grants_fault × (fault ≡ faults.Grants grants_fault)
 Has (Names said word) fault = SpellsNone word × (fault ≡ faults.Caps)
 Has (Faulty found) fault = fault ≡ found
 

@@ -1,9 +1,9 @@
 -- The words of a line, and what the first of them says.
-use Rattle.std.specs.Prelude.{◌==◌, not, ℕ, Bool, Result, List, [], ◌∷◌, find, bytes_eq}
+use Rattle.std.specs.Prelude.{◌==◌, not, ℕ, Bool, Result, List, [], ◌∷◌, drop, find, bytes_eq}
 use Rattle.std.specs.List.{list_all, slice_split, join_with_byte}
 use Rattle.std.specs.Option.{ok_or}
 use Rattle.capexplain.specs.declared.command.Command.{Command}
-use Rattle.capexplain.specs.declared.command.Command.TheVariants.{Session, CloseSession, Stale, Renew, Evict, Unblock, Recall, Lookup, Create, Mkdir, MakeSnapshot, RemoveSnapshot, Open, Want, Ack, Release, Get, Alter, Unlink, Rmdir, Rename, Flush, Poll}
+use Rattle.capexplain.specs.declared.command.Command.TheVariants.{Session, CloseSession, Stale, Renew, Regrant, Evict, Unblock, Recall, Lookup, Create, Mkdir, MakeSnapshot, RemoveSnapshot, Open, Want, Ack, Release, Get, Alter, Unlink, Rmdir, Rename, Flush, Poll}
 use Rattle.capexplain.specs.Words.{command_word}
 use Rattle.capscript.specs.declared.fault.LineFault.{LineFault}
 use Rattle.capscript.specs.declared.fault.LineFault.TheVariants as faults
@@ -29,13 +29,17 @@ six_parts few = few
 abbrev pub parts : List ℕ → List (List ℕ)
 parts text = six_parts (words text)
 
+-- the parts behind the first
+abbrev pub arguments_in : List ℕ → List (List ℕ)
+arguments_in text = drop 1 (parts text)
+
 -- The part is one word. The last part of a line with more words than parts has a space.
 abbrev pub is_one_word : List ℕ → Bool
 is_one_word part = list_all (λ b. not (is_space b)) part
 
 abbrev pub commands : List Command
 commands =
-    Session ∷ CloseSession ∷ Stale ∷ Renew ∷ Evict ∷ Unblock ∷ Recall
+    Session ∷ CloseSession ∷ Stale ∷ Renew ∷ Regrant ∷ Evict ∷ Unblock ∷ Recall
     ∷ Lookup ∷ Create ∷ Mkdir ∷ MakeSnapshot ∷ RemoveSnapshot ∷ Open ∷ Want ∷ Ack ∷ Release
     ∷ Get ∷ Alter ∷ Unlink ∷ Rmdir ∷ Rename ∷ Flush ∷ Poll ∷ []
 

@@ -5,11 +5,12 @@ ghost use Rattle.capscript.specs.Words.{command_in};
 use crate::fault::LineFault;
 use capexplain::Command;
 
-const COMMANDS: [Command; 23] = [
+const COMMANDS: [Command; 24] = [
     Command::Session,
     Command::CloseSession,
     Command::Stale,
     Command::Renew,
+    Command::Regrant,
     Command::Evict,
     Command::Unblock,
     Command::Recall,

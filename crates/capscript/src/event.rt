@@ -1,12 +1,12 @@
 //! The events that lines say.
 ghost use Rattle.std.specs.Prelude.{◌≡◌, ℕ, List, map, MatchResult};
-ghost use Rattle.capbits.specs.declared.caller.Caller.{Caller as ACaller};
 ghost use Rattle.capbits.specs.declared.ids.ClientId.{ClientId as AClient};
 ghost use Rattle.capbits.specs.declared.ids.Ino.{Ino as AnIno};
+ghost use Rattle.capspec.specs.declared.grant.Grant.{Grant as AGrant};
 ghost use Rattle.capcore.specs.declared.event.Event.{Event as AnEvent};
-ghost use Rattle.capcore.specs.declared.event.Event.TheVariants as events;
-ghost use Rattle.capscript.specs.Events.{Tells, said_in, said_with, session_by, named_by, new_inode_by, opened};
+ghost use Rattle.capscript.specs.Events.{Tells, said_in, said_with, session_by, regrant_by, named_by, new_inode_by, granting};
 ghost use Rattle.capscript.specs.Faults.{IsRefused};
+ghost use Rattle.capscript.specs.Words.{arguments_in};
 
 use crate::command::read_command;
 use crate::entry_event::{read_ack, read_open, read_poll, read_release, read_want};
@@ -17,7 +17,7 @@ use crate::session_event::{
     read_close, read_evict, read_recall, read_renew, read_stale, read_unblock,
 };
 use crate::values::{read_client, read_groups, read_ino, read_number, read_permissions};
-use crate::words::split_words;
+use crate::words::{split_at_space, split_words};
 use capbits::{Caller, ClientId, Ino, Mode};
 use capcore::Event;
 use capexplain::Command;
@@ -54,11 +54,17 @@ pub(crate) fn read_event(alloc: Global, text: &[u8]) -> Result<Event, Refused>
     if text.len() > MAX_LINE {
         return Err(Refused::Wrong(LineFault::Count));
     }
-    read_arguments(alloc, command, arguments)
+    read_arguments(alloc, command, text, arguments)
 }
 
-// The event that a command says with its arguments, of which the fifth is all that is left of the line.
-fn read_arguments(alloc: Global, command: Command, arguments: &[&[u8]]) -> Result<Event, Refused>
+// The event that a command says with the arguments of its line, of which the fifth is all that is left of it.
+fn read_arguments(
+    alloc: Global,
+    command: Command,
+    text: &[u8],
+    arguments: &[&[u8]],
+) -> Result<Event, Refused>
+    requires { map (λ word. word.now) arguments.now ≡ arguments_in text.now }
     ensures { let said = said_with command (map (λ word. word.now) arguments.now) in
         MatchResult result (Tells said) (IsRefused said) }
 {
@@ -67,6 +73,7 @@ fn read_arguments(alloc: Global, command: Command, arguments: &[&[u8]]) -> Resul
         Command::CloseSession => read_close(arguments),
         Command::Stale => read_stale(arguments),
         Command::Renew => read_renew(arguments),
+        Command::Regrant => read_regrant(alloc, text),
         Command::Evict => read_evict(arguments),
         Command::Unblock => read_unblock(arguments),
         Command::Recall => read_recall(arguments),
@@ -150,6 +157,22 @@ fn read_session(alloc: Global, arguments: &[&[u8]]) -> Result<Event, Refused>
     })
 }
 
+// A client, and its new grants, which are all that is left of the line behind it.
+fn read_regrant(alloc: Global, text: &[u8]) -> Result<Event, Refused>
+    ensures { let said = regrant_by (arguments_in text.now) in
+        MatchResult result (Tells said) (IsRefused said) }
+{
+    let Some((_command, behind)) = split_at_space(text) else {
+        return Err(Refused::Wrong(LineFault::Count));
+    };
+    let Some((client, grants)) = split_at_space(behind) else {
+        return Err(Refused::Wrong(LineFault::Count));
+    };
+    let client = read_client(client)?;
+    let grants = read_all_grants(alloc, grants)?;
+    Ok(Event::Regrant { client, grants })
+}
+
 // A client, an inode and a name, whichever event they are said for.
 #[tactic(auto, using(crate::proofs::SaidLines::three))]
 fn read_named(alloc: Global, arguments: &[&[u8]]) -> Result<Named, Refused>
@@ -192,13 +215,11 @@ fn read_new_inode(alloc: Global, arguments: &[&[u8]]) -> Result<NewInode, Refuse
     })
 }
 
-// The grants that a text says, or none where it is `none`: those with which a session is opened.
+// The grants that a text says, or none where it is `none`, whichever event they are said for.
 fn read_all_grants(alloc: Global, text: &[u8]) -> Result<Grants, Refused>
-    ensures { (client : AClient) (caller : ACaller)
-        → let said = opened client caller text.now in
-        MatchResult result
-        (λ grants. Tells said (events.Session client caller grants))
-        (IsRefused said) }
+    ensures { (event : List AGrant → AnEvent)
+        → let said = granting event text.now in
+        MatchResult result (λ grants. Tells said (event grants)) (IsRefused said) }
 {
     if text == b"none".as_slice() {
         return Ok(Grants::none(alloc)?);

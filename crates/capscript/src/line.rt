@@ -65,6 +65,7 @@ fn client_of(event: &Event) -> Option<ClientId>
         | Event::CloseSession { client }
         | Event::Stale { client }
         | Event::Renew { client }
+        | Event::Regrant { client, .. }
         | Event::Evict { client }
         | Event::Unblock { client }
         | Event::Lookup { client, .. }

@@ -1,7 +1,9 @@
 //! What the clients ask for in the work that asks again, and what is answered as far as it counts there.
 
 use crate::fault::Fault;
-use crate::inodes::{creation_of, directory_of_number, mode_of, session_below, session_of};
+use crate::inodes::{
+    creation_of, directory_of_number, mode_of, regrant_to_read, session_below, session_of,
+};
 use capbits::{Cap, CapSet, ClientId, Ino, Part};
 use capcore::{Event, Message, OpenMode, Outcome, Reply};
 use inotree::{ROOT, Setting};
@@ -50,6 +52,8 @@ pub(crate) enum Asked {
     Stale(ClientId),
     /// That it be open again.
     Renew(ClientId),
+    /// That it may read, and nothing else.
+    Regrant(ClientId),
     /// That it be thrown out.
     Evict(ClientId),
     /// That it be let in again.
@@ -123,6 +127,7 @@ pub(crate) fn event(alloc: Global, places: Places, asked: Asked) -> Result<Event
         Asked::Close(client) => Event::CloseSession { client },
         Asked::Stale(client) => Event::Stale { client },
         Asked::Renew(client) => Event::Renew { client },
+        Asked::Regrant(client) => regrant_to_read(alloc, client)?,
         Asked::Evict(client) => Event::Evict { client },
         Asked::Unblock(client) => Event::Unblock { client },
     })

@@ -213,6 +213,12 @@ fn session_by(alloc: Global, client: ClientId, grants: &[u8]) -> Result<Event, F
     })
 }
 
+/// The event by which a client may read everywhere from then on, and nothing else.
+pub(crate) fn regrant_to_read(alloc: Global, client: ClientId) -> Result<Event, Fault> {
+    let grants = read_grants(alloc, b"allow r")?;
+    Ok(Event::Regrant { client, grants })
+}
+
 // Gives the client a session, and the core a tree of this shape.
 pub(crate) fn build(alloc: Global, core: &mut Core, shape: TreeShape) -> Result<(), Fault> {
     open_session(alloc, core, CLIENT)?;

@@ -78,20 +78,23 @@ const WAITING: &[(Asked, Answer)] = &[
 ];
 
 // What was left alone longest is asked back. Then the first client is thrown out while two changes wait for what it holds, of
-// which one is its own; it comes back, is stale for a while, and the other ends its session.
+// which one is its own, and the other's may not be made any more; it comes back, is stale for a while, in which it gets other
+// grants, and the other ends its session.
 const ENDING: &[(Asked, Answer)] = &[
     (Asked::Recall(1), Answer::Recalled(1)),
     (Asked::Poll(CLIENT), Answer::AskedBack),
     (Asked::Release(OTHER, &[Cap::As]), Answer::Done),
     (Asked::Mode(OTHER, 0o640), Answer::Waits),
     (Asked::Mode(CLIENT, 0o600), Answer::Waits),
+    (Asked::Regrant(OTHER), Answer::Done),
     (Asked::Evict(CLIENT), Answer::Done),
-    (Asked::Poll(OTHER), Answer::EndedDone),
+    (Asked::Poll(OTHER), Answer::EndedDenied),
     (Asked::Session(CLIENT), Answer::Refused),
     (Asked::Unblock(CLIENT), Answer::Done),
     (Asked::Session(CLIENT), Answer::Done),
     (Asked::Open(CLIENT, OpenMode::Read), Answer::Change(1)),
     (Asked::Stale(CLIENT), Answer::Done),
+    (Asked::Regrant(CLIENT), Answer::Done),
     (Asked::Renew(CLIENT), Answer::Done),
     (Asked::Close(OTHER), Answer::Done),
     (Asked::Session(OTHER), Answer::Done),

@@ -30,6 +30,10 @@ without_session table client = record table { sessions = map.remove table.sessio
 abbrev pub with_status : SessionTable → ℕ → Status → SessionTable
 with_status table client status = record table { sessions = change_session (λ session. record session { status = status }) table.sessions client }
 
+-- the table with these grants in the client's session
+abbrev pub with_grants : SessionTable → ℕ → List Grant → SessionTable
+with_grants table client grants = record table { sessions = change_session (λ session. record session { grants = grants }) table.sessions client }
+
 -- the table without the client's session, with the client on the blocklist
 abbrev pub with_evicted : SessionTable → ℕ → SessionTable
 with_evicted table client = record { sessions = map.remove table.sessions client; blocked = set.insert table.blocked client }

@@ -7,6 +7,7 @@ ghost use Rattle.sessiontab.specs.Connected.{change_session};
 
 use crate::session::{Session, Status};
 use capbits::ClientId;
+use capspec::Grants;
 use std::alloc::{AllocError, Global};
 use std::collections::BTreeMap;
 use std::marker::Model;
@@ -77,6 +78,15 @@ impl Connected {
     {
         if let Some(session) = self.sessions.get_mut(&client.0) {
             session.status = status;
+        }
+    }
+
+    // Gives the client's session these grants, where it has one.
+    pub(crate) fn set_grants(&mut self, client: ClientId, grants: Grants)
+        ensures { self.new ≡ change_session (λ session. record session { grants = grants }) self.old client.0 }
+    {
+        if let Some(session) = self.sessions.get_mut(&client.0) {
+            session.grants = grants;
         }
     }
 }

@@ -10,5 +10,5 @@ mod session;
 mod table;
 
 pub use laws::a_new_session_leaves_the_others;
-pub use session::{Session, Status};
+pub use session::{NoSession, Session, Status};
 pub use table::{MAX_BLOCKED, MAX_SESSIONS, Sessions};

@@ -12,6 +12,10 @@ pub enum Status {
     Stale,
 }
 
+/// A client has no session that could be changed.
+#[derive(Clone, Copy, Debug, PartialEq, Eq)]
+pub struct NoSession;
+
 /// What the server keeps of a client while it is connected.
 #[derive(Debug, Drop)]
 pub struct Session {

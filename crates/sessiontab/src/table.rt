@@ -1,12 +1,12 @@
 //! The table of sessions, with the blocklist.
-ghost use Rattle.std.specs.Prelude.{◌≡◌, [], ◌∷◌, None, IfOk, OnOk, OnErr};
+ghost use Rattle.std.specs.Prelude.{◌≡◌, ◌↔◌, [], ◌∷◌, None, IsTrue, IsOk, IfOk, IfErr, OnOk, OnErr};
 ghost use Rattle.std.specs.Option.{option_map, option_copied};
 ghost use Rattle.std.specs.FinMap as map;
 ghost use Rattle.std.specs.FinSet as set;
 
 use crate::blocklist::Blocklist;
 use crate::connected::Connected;
-use crate::session::{Session, Status};
+use crate::session::{NoSession, Session, Status};
 use capbits::{Caller, ClientId, Refusal};
 use capspec::Grants;
 use std::alloc::{AllocError, Global};
@@ -41,7 +41,7 @@ impl Model for Sessions {
 impl Sessions {
     ghost use Rattle.sessiontab.specs.Table.{IsSound};
     ghost use Rattle.capbits.specs.Refusal.{first_failing};
-    ghost use Rattle.sessiontab.specs.Calls.{status_of, with_session, without_session, with_status, with_evicted, without_blocked};
+    ghost use Rattle.sessiontab.specs.Calls.{status_of, with_session, without_session, with_status, with_grants, with_evicted, without_blocked, has_session};
     ghost use Rattle.sessiontab.specs.Tests.{connected_test, session_tests, stale_tests, new_session_tests, evict_tests, blocked_test};
     ghost use Rattle.sessiontab.specs.declared.session.Status.TheVariants.{Open, Stale};
 
@@ -172,6 +172,21 @@ impl Sessions {
         ensures { self.new ≡ with_status self.old client.0 Open }
     {
         self.connected.set_status(client, Status::Open);
+    }
+
+    /// Gives a client's session, open or stale, other grants. Where the client has no session, nothing changes, and the grants are
+    /// given back.
+    pub fn regrant(&mut self, client: ClientId, grants: Grants) -> Result<(), (NoSession, Grants)>
+        ensures which { IsOk result ↔ IsTrue (has_session self.old client.0) }
+        ensures ok { OnOk result (self.new ≡ with_grants self.old client.0 grants) }
+        ensures back { IfErr result (λ refused. refused.1 ≡ grants) }
+        ensures err { OnErr result (self.new ≡ self.old) }
+    {
+        if self.status(client).is_none() {
+            return Err((NoSession, grants));
+        }
+        self.connected.set_grants(client, grants);
+        Ok(())
     }
 
     /// Throws a client out: ends its session, open or stale, and puts it on the blocklist. For want of memory nothing changes.

@@ -185,6 +185,10 @@ pub fn event_text(alloc: Global, event: &Event) -> Result<String, AllocError> {
         Event::CloseSession { client } => format!(in alloc; "close {client}"),
         Event::Stale { client } => format!(in alloc; "stale {client}"),
         Event::Renew { client } => format!(in alloc; "renew {client}"),
+        Event::Regrant { client, grants } => {
+            let count = grants.len();
+            format!(in alloc; "regrant {client} {count}")
+        }
         Event::Evict { client } => format!(in alloc; "evict {client}"),
         Event::Unblock { client } => format!(in alloc; "unblock {client}"),
         Event::Recall { count } => format!(in alloc; "recall {count}"),

@@ -3,7 +3,7 @@
 use crate::asserting::same;
 use capbits::{Caller, ClientId, Groups, Refusal};
 use capspec::{Flags4, Grants, read_grants};
-use sessiontab::{MAX_BLOCKED, MAX_SESSIONS, Sessions, Status};
+use sessiontab::{MAX_BLOCKED, MAX_SESSIONS, NoSession, Sessions, Status};
 use std::alloc::{AllocError, Global};
 use std::process::Abort;
 use std::test::Fail;
@@ -18,6 +18,8 @@ enum Ask {
     Close(u32),
     Stale(u32),
     Renew(u32),
+    // These grants in place of those that it has.
+    Regrant(u32, &'static str),
     Evict(u32),
     Unblock(u32),
 }
@@ -127,6 +129,13 @@ fn renewed(sessions: &mut Sessions, client: ClientId) -> Option<Refusal> {
     None
 }
 
+fn regranted(sessions: &mut Sessions, client: ClientId, grants: Grants) -> Option<Refusal> {
+    match sessions.regrant(client, grants) {
+        Ok(()) => None,
+        Err((NoSession, _grants)) => Some(Refusal::NoSession),
+    }
+}
+
 fn evicted(sessions: &mut Sessions, client: ClientId) -> Result<Option<Refusal>, AllocError> {
     if let Some(refusal) = sessions.evict_refusal(client) {
         return Ok(Some(refusal));
@@ -158,6 +167,7 @@ fn asked(alloc: Global, sessions: &mut Sessions, ask: Ask) -> Result<String, All
         Close(client) => closed(sessions, ClientId(client)),
         Stale(client) => marked(sessions, ClientId(client)),
         Renew(client) => renewed(sessions, ClientId(client)),
+        Regrant(client, text) => regranted(sessions, ClientId(client), grants(alloc, text)?),
         Evict(client) => evicted(sessions, ClientId(client))?,
         Unblock(client) => unblocked(sessions, ClientId(client)),
     };
@@ -360,6 +370,20 @@ const THREE_CLIENTS: &[Round] = &[
         ],
     ),
     (&[(Close(2), "done")], &[Uid(2, None), HasGrants(2, false)]),
+    // Other grants are for a stale session too, and leave all else.
+    (
+        &[
+            (Regrant(3, "allow rwp"), "done"),
+            (Regrant(2, "allow rwp"), "NoSession"),
+        ],
+        &[
+            IsAt(3, Some(Status::Stale), false),
+            Uid(3, Some(30)),
+            Flags(3, Some(Flags4::Rwp)),
+            Flags(1, Some(Flags4::Rws)),
+            HasGrants(2, false),
+        ],
+    ),
 ];
 
 const BEHIND_SIXTY_FOUR: &[Round] = &[

@@ -5,4 +5,4 @@ use Rattle.capscript.proofs.event.read_session.Goals as goal
 pub returns-in_err-grants : goal.returns-in_err-grants
 returns-in_err-grants c =
     rw (five c.args.arguments.now (omega arith), sym c.in_ok-client.ensures, sym c.in_ok-read_number.ensures, sym c.in_ok-read_number-2.ensures, sym c.in_ok-read_groups.ensures)
-    (refused_by _ _ _ c.in_err-grants.field-0.0 c.from_residual-in_err-grants.ensures.1 (c.in_err-grants.ensures _ _))
+    (refused_by _ _ _ c.in_err-grants.field-0.0 c.from_residual-in_err-grants.ensures.1 (c.in_err-grants.ensures _))
