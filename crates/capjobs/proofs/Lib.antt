@@ -1,0 +1,3 @@
+mod JobLists
+mod NewPasses
+mod Plans
