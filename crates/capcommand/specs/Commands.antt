@@ -14,7 +14,7 @@ use Rattle.capscript.specs.Lines.{lines, longest_script}
 use Rattle.capscript.specs.Transcript.{Ran, IsTranscript}
 use Rattle.capjobs.specs.declared.fault.ServeFault.{ServeFault}
 use Rattle.capjobs.specs.declared.fault.ServeFault.TheVariants.{Script as ServeScript}
-use Rattle.capjobs.specs.Served.{IsServed, IsUnserved}
+use Rattle.capjobs.specs.Served.{IsServed, IsWritten}
 use Rattle.capcommand.specs.declared.command_line.Ask.{Ask}
 use Rattle.capcommand.specs.declared.command_line.Ask.TheVariants as asks
 use Rattle.capcommand.specs.declared.fault.Fault.{Fault}
@@ -41,11 +41,12 @@ pub record RunStops (stop : ScriptFault) (input : Option (List ℕ)) (ended unre
   pub long : IfSome input (λ script. longest_script < length script → ((stop ≡ stops.ReadFault) ⊎ (stop ≡ stops.NoMemory)) × Appends old new [])
   pub written : (stop ≡ stops.WriteFault) ↔ IsTrue unwritten
 
--- The serving stopped so. A read or a write that failed is told; unless it was a write that failed, nothing was written.
-pub record ServeStops (stop : ServeFault) (input : Option (List ℕ)) (ended unread unwritten : Bool) (old new : Option (List ℕ)) : Type 0 where
-  pub stopped : IfSome input (λ script. StopsServing script ended stop)
+-- The serving stopped so, and this was written. A read or a write that failed is told; unless it was a write that failed, nothing was written.
+pub record ServeStops (stop : ServeFault) (input : Option (List ℕ)) (unread unwritten : Bool) (old new : Option (List ℕ)) : Type 0 where
+  pub served : IfSome input (λ script. (text : List ℕ) × IsWritten {T = ⊤} (lines script) (Err stop) text × Appends old new text)
   pub read_told : IsTrue unread → stop ≡ ServeScript stops.ReadFault
   pub read : stop ≡ ServeScript stops.ReadFault → IsTrue unread ⊎ IfSome input (λ script. longest_script < length script)
+  pub long : IfSome input (λ script. longest_script < length script → (stop ≡ ServeScript stops.ReadFault) ⊎ (stop ≡ ServeScript stops.NoMemory))
   pub written : (stop ≡ ServeScript stops.WriteFault) ↔ IsTrue unwritten
   pub kept : (stop ≡ ServeScript stops.WriteFault) ⊎ Keeps old new
 
@@ -54,4 +55,4 @@ abbrev pub Stops : Ask → Fault → Option (List ℕ) → Bool → Bool → Boo
 Stops (asks.Explain values) fault input ended unread unwritten old new = StopsBefore (IsFaultIn values) fault unwritten old new
 Stops (asks.Grants text) fault input ended unread unwritten old new = StopsBefore (IsFaultOfText text.items) fault unwritten old new
 Stops asks.Run fault input ended unread unwritten old new = (stop : ScriptFault) × (fault ≡ Script stop) × RunStops stop input ended unread unwritten old new
-Stops asks.Serve fault input ended unread unwritten old new = (stop : ServeFault) × (fault ≡ Serve stop) × ServeStops stop input ended unread unwritten old new
+Stops asks.Serve fault input ended unread unwritten old new = (stop : ServeFault) × (fault ≡ Serve stop) × ServeStops stop input unread unwritten old new

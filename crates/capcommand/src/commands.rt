@@ -11,9 +11,8 @@ ghost use Rattle.capscript.specs.declared.fault.ScriptFault.{ScriptFault as AScr
 ghost use Rattle.capscript.specs.Lines.{lines, longest_script};
 ghost use Rattle.capscript.specs.Transcript.{IsTranscript};
 ghost use Rattle.capscript.specs.Watched.{inner_of, has_failed, has_ended};
-ghost use Rattle.capcore.specs.declared.history.Row.{Row as ARow};
 ghost use Rattle.capjobs.specs.declared.fault.ServeFault.{ServeFault as AServeFault};
-ghost use Rattle.capjobs.specs.Served.{IsServed, audit_lines};
+ghost use Rattle.capjobs.specs.Served.{IsServed};
 ghost use Rattle.capcommand.specs.declared.fault.Fault.{Fault as AFault};
 ghost use Rattle.capcommand.specs.declared.fault.Fault.TheVariants as faults;
 ghost use Rattle.capcommand.specs.Commands.{Answers, Stops, StopsBefore, RunStops, ServeStops};
@@ -179,11 +178,11 @@ fn serve_script<T: Threads + Wait + Sync, R: Read, W: Write>(
     requires writer_clear { IsFalse (has_failed writer.old) }
     ensures ok { OnOk result (IsFalse (has_failed reader.new) × IsFalse (has_failed writer.new)) }
     ensures short { OnOk result (IfSome (R.remaining (inner_of reader.old)) (λ script. length script ≤ longest_script)) }
-    ensures served { OnOk result (IfSome (R.remaining (inner_of reader.old)) (λ script. (rows : List ARow)
-        × IsServed (lines script) rows
-        × Appends (W.contents (inner_of writer.old)) (W.contents (inner_of writer.new)) (audit_lines rows))) }
+    ensures served { OnOk result (IfSome (R.remaining (inner_of reader.old)) (λ script. (text : List ℕ)
+        × IsServed (lines script) text
+        × Appends (W.contents (inner_of writer.old)) (W.contents (inner_of writer.new)) text)) }
     ensures stops { IfErr result (λ fault. (stop : AServeFault) × (fault ≡ faults.Serve stop)
-        × ServeStops stop (R.remaining (inner_of reader.old)) (has_ended reader.new) (has_failed reader.new) (has_failed writer.new)
+        × ServeStops stop (R.remaining (inner_of reader.old)) (has_failed reader.new) (has_failed writer.new)
         (W.contents (inner_of writer.old)) (W.contents (inner_of writer.new))) }
 {
     match serve(rt, alloc, reader, writer) {

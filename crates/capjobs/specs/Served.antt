@@ -12,9 +12,13 @@ use Rattle.capjobs.specs.declared.fault.ServeFault.{ServeFault}
 use Rattle.capjobs.specs.declared.fault.ServeFault.TheVariants.{Script, Clients, HistoryFull}
 use Rattle.capjobs.specs.Jobs.{Work, no_work, event_count, TakesAll, StopsAt}
 
+-- the line of a row, with its line feed
+abbrev pub row_line : Row → List ℕ
+row_line row = audit_text row ++ codes "\n"
+
 -- the line of each row, in order
 abbrev pub audit_lines : List Row → List ℕ
-audit_lines rows = flat_map (λ row. audit_text row ++ codes "\n") rows
+audit_lines rows = flat_map row_line rows
 
 -- the rows are a legal history on a root alone that leads to this state, one for each event
 pub record IsHistory (work : Work) (rows : List Row) (last : State) : Type 0 where

@@ -1,7 +1,6 @@
 //! The lines of a history.
-ghost use Rattle.std.specs.Prelude.{◌≡◌, ◌++◌, codes, IfOk, OnOk};
-ghost use Rattle.capexplain.specs.Audit.{audit_text};
-ghost use Rattle.capjobs.specs.Served.{audit_lines};
+ghost use Rattle.std.specs.Prelude.{◌≡◌, ◌++◌, IfOk, OnOk};
+ghost use Rattle.capjobs.specs.Served.{audit_lines, row_line};
 
 use capcore::Row;
 use capexplain::audit_line;
@@ -19,7 +18,7 @@ pub(crate) fn audit_lines(alloc: Global, rows: &[Row]) -> Result<Vec<u8>, AllocE
 }
 
 fn add_line(alloc: Global, text: &mut Vec<u8>, row: &Row) -> Result<(), AllocError>
-    ensures { OnOk result (text.new.items ≡ text.old.items ++ (audit_text row.now ++ codes "\n")) }
+    ensures { OnOk result (text.new.items ≡ text.old.items ++ row_line row.now) }
 {
     let line = audit_line(alloc, row)?;
     text.extend_from_slice(line.as_slice())?;
