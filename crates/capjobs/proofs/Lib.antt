@@ -1,3 +1,4 @@
 mod JobLists
 mod NewPasses
 mod Plans
+mod Writing

@@ -1,5 +1,6 @@
 -- Plans that grow line by line.
 use Rattle.std.proofs.Common.{◌≡◌, ℕ, ◌+◌, ◌≤◌, ◌<◌, List, [], ◌∷◌, length, refl, sym, subst, arith, inl, inr}
+use Rattle.std.specs.Prelude.{Result, Ok, Err, IfErr, IsErrAnd}
 use Rattle.capscript.specs.Lines.{lines}
 use Rattle.capjobs.specs.declared.fault.ServeFault.{ServeFault}
 use Rattle.capjobs.specs.Jobs.{Work, no_work, Takes, TakesAll, IsFaultAt, StopsAt}
@@ -25,3 +26,8 @@ all_taken now mid script rest number so is takes = so.work mid (subst (λ (ls : 
 
 pub stopped_at : (now : Work) (script rest text : List ℕ) (more : List (List ℕ)) (number : ℕ) (fault : ServeFault) → SoFar now script rest number → lines rest ≡ text ∷ more → IsFaultAt now number text fault → StopsAt no_work 1 (lines script) fault
 stopped_at now script rest text more number fault so is at = so.stops fault (subst (λ (ls : List (List ℕ)). StopsAt now number ls fault) (sym is) (inl at))
+
+-- a fault that was handed on
+pub handed_on : (T : Type 0) (P : ServeFault → Type 0) (fault : ServeFault) (result : Result T ServeFault) → IsErrAnd result (λ told. told ≡ fault) → P fault → IfErr result P
+handed_on T P fault (Ok done) told why = absurd told
+handed_on T P fault (Err found) told why = subst P (sym told) why

@@ -1,5 +1,5 @@
 //! Serving a script: what its lines call is called by the passes of a server, and the history of that is written.
-ghost use Rattle.std.specs.Prelude.{◌≡◌, ◌<◌, ◌≤◌, ◌+◌, ◌⊎◌, ◌↔◌, ℕ, List, Err, length, vec_len, IfOk, IfErr, IfSome, OnErr, IsTrue, IsFalse};
+ghost use Rattle.std.specs.Prelude.{◌≡◌, ◌≢◌, ◌<◌, ◌≤◌, ◌+◌, ◌⊎◌, ◌↔◌, ℕ, List, Err, length, vec_len, IfOk, IfErr, IfSome, OnErr, IsTrue, IsFalse};
 ghost use Rattle.std.specs.Io.KnownBytes.{Appends, Keeps};
 ghost use Rattle.capcore.specs.History.{IsLegal};
 ghost use Rattle.capscript.specs.Lines.{lines, longest_script};
@@ -52,7 +52,29 @@ pub fn serve<T: Threads + Wait + Sync, R: Read, W: Write>(
     // A write that failed is told, and only that.
     ensures write_told { (result ≡ Err (faults.Script stops.WriteFault)) ↔ IsTrue (has_failed writer.new) }
 {
-    let script = read_script(alloc, reader)?;
+    match read_script(alloc, reader) {
+        Ok(script) => serve_whole(rt, alloc, script, writer),
+        Err(fault) => Err(ServeFault::Script(fault)),
+    }
+}
+
+// Serves a script that was read, and writes the history.
+fn serve_whole<T: Threads + Wait + Sync, W: Write>(
+    rt: &T,
+    alloc: Global,
+    script: Vec<u8>,
+    writer: &mut Watched<W>,
+) -> Result<(), ServeFault>
+    requires short { length script.items ≤ longest_script }
+    requires clear { IsFalse (has_failed writer.old) }
+    ensures written { (text : List ℕ)
+        × IsWritten (lines script.items) result text
+        × Appends (W.contents (inner_of writer.old)) (W.contents (inner_of writer.new)) text }
+    ensures err { OnErr result ((result ≡ Err (faults.Script stops.WriteFault))
+        ⊎ Keeps (W.contents (inner_of writer.old)) (W.contents (inner_of writer.new))) }
+    ensures read { result ≢ Err (faults.Script stops.ReadFault) }
+    ensures write_told { (result ≡ Err (faults.Script stops.WriteFault)) ↔ IsTrue (has_failed writer.new) }
+{
     let text = serve_text(rt, alloc, script.as_slice())?;
     write_text(writer, text.as_slice())?;
     Ok(())
