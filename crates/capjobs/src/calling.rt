@@ -1,5 +1,5 @@
 //! The calls of a plan, each client's by a thread and a pass of its own.
-ghost use Rattle.std.specs.Prelude.{◌≡◌, ◌<◌, ◌+◌, length, vec_len, IfOk, IsTrue};
+ghost use Rattle.std.specs.Prelude.{◌≡◌, ◌+◌, length, vec_len, IfOk, IsTrue};
 ghost use Rattle.std.specs.List.{sum_by};
 ghost use Rattle.capserver.specs.Passes.{AllNew};
 ghost use Rattle.capjobs.specs.Jobs.{work_of, event_count};
@@ -30,25 +30,13 @@ pub(crate) fn call_all<L: Server + Send + Sync, G: Gate + Send + Sync, T: Thread
         threaded: _,
         jobs,
     } = plan;
-    let (first_pass, others) = part_first(passes);
+    let mut passes = passes;
+    let first_pass = passes.remove(0);
     let first_pass = call_events(rt, server, first_pass, first)?;
-    let tasks = tasks_of(alloc, others, jobs)?;
+    let tasks = tasks_of(alloc, passes, jobs)?;
     let mut passes = call_tasks(rt, alloc, server, tasks)?;
     passes.push(first_pass)?;
     Ok(passes)
-}
-
-// The first pass and the others, where none has called anything yet.
-fn part_first<L: Server>(passes: Vec<Pass<L>>) -> (Pass<L>, Vec<Pass<L>>)
-    requires some { 0 < vec_len passes }
-    requires new { AllNew 0 passes.items }
-    ensures first { result.0.calls ≡ 0 }
-    ensures many { vec_len result.1 + 1 ≡ vec_len passes }
-    ensures others { sum_by (λ p. p.calls) result.1.items ≡ 0 }
-{
-    let mut passes = passes;
-    let first = passes.remove(0);
-    (first, passes)
 }
 
 // What a thread is to call, by a pass that has called nothing yet.

@@ -1,6 +1,7 @@
-use Rattle.std.proofs.Common.{refl}
-use Rattle.std.specs.Prelude.{Err}
+use Rattle.std.proofs.Common.{◌≡◌, ℕ, refl, inl, inr}
+use Rattle.std.specs.Prelude.{◌⊎◌, Err}
 use Rattle.capscript.specs.Watched.{inner_of}
+use Rattle.capscript.specs.declared.fault.ScriptFault.TheVariants as stops
 use Rattle.capjobs.proofs.Writing.{whole_written, unread_written}
 use Rattle.capjobs.proofs.serving.serve.Goals as goal
 
@@ -11,4 +12,5 @@ returns-in-Ok-clause-written g c =
 
 pub returns-in-Err-clause-written : goal.returns-in-Err-clause-written
 returns-in-Err-clause-written g c =
-    unread_written _ _ (g.R.Read.remaining (inner_of c.args.reader.now)) (g.W.Write.contents (inner_of c.args.writer.now)) c.in-Err.fault (Err c.in-Err.fault) _ refl refl c.in-Err.ensures.err
+    let why : (c.in-Err.fault ≡ stops.ReadFault) ⊎ (c.in-Err.fault ≡ stops.NoMemory) = elim c.in-Err.ensures.err [ inl is ↦ inl cc | inr is ↦ inr cc ] in
+    unread_written ℕ (g.R.Read.remaining (inner_of c.args.reader.now)) (g.W.Write.contents (inner_of c.args.writer.now)) c.in-Err.fault why
