@@ -12,17 +12,21 @@ use Rattle.capscript.specs.declared.fault.ScriptFault.{ScriptFault}
 use Rattle.capscript.specs.declared.fault.ScriptFault.TheVariants as stops
 use Rattle.capscript.specs.Lines.{lines, longest_script}
 use Rattle.capscript.specs.Transcript.{Ran, IsTranscript}
+use Rattle.capjobs.specs.declared.fault.ServeFault.{ServeFault}
+use Rattle.capjobs.specs.declared.fault.ServeFault.TheVariants.{Script as ServeScript}
+use Rattle.capjobs.specs.Served.{IsServed, IsWritten}
 use Rattle.capcommand.specs.declared.command_line.Ask.{Ask}
 use Rattle.capcommand.specs.declared.command_line.Ask.TheVariants as asks
 use Rattle.capcommand.specs.declared.fault.Fault.{Fault}
-use Rattle.capcommand.specs.declared.fault.Fault.TheVariants.{WriteFailed, Script}
+use Rattle.capcommand.specs.declared.fault.Fault.TheVariants.{WriteFailed, Script, Serve}
 use Rattle.capcommand.specs.Fault.{Tells}
 
--- the whole answer was written: the line for a question, the written form of grants, or the transcript of the script that was to be read
+-- the whole answer was written: the line for a question, the written form of grants, the transcript of the script that was to be read, or the history
 abbrev pub Answers : Ask → Option (List ℕ) → Option (List ℕ) → Option (List ℕ) → Type 0
 Answers (asks.Explain values) input old new = (asked : Question) × AsksFor values asked × Appends old new (answer_text asked ++ codes "\n")
 Answers (asks.Grants text) input old new = (grants : List Grant) × Reads text.items grants × Appends old new (written grants ++ codes "\n")
 Answers asks.Run input old new = IfSome input (λ script. (length script ≤ longest_script) × ((text : List ℕ) × IsTranscript (lines script) text × Appends old new text))
+Answers asks.Serve input old new = IfSome input (λ script. (length script ≤ longest_script) × ((text : List ℕ) × IsServed (lines script) text × Appends old new text))
 
 -- a write failed, or the fault is one of which this holds, and nothing was written
 abbrev pub StopsBefore : (QuestionFault → Type 0) → Fault → Bool → Option (List ℕ) → Option (List ℕ) → Type 0
@@ -37,8 +41,18 @@ pub record RunStops (stop : ScriptFault) (input : Option (List ℕ)) (ended unre
   pub long : IfSome input (λ script. longest_script < length script → ((stop ≡ stops.ReadFault) ⊎ (stop ≡ stops.NoMemory)) × Appends old new [])
   pub written : (stop ≡ stops.WriteFault) ↔ IsTrue unwritten
 
+-- The serving stopped so, and this was written. A read or a write that failed is told; unless it was a write that failed, nothing was written.
+pub record ServeStops (stop : ServeFault) (input : Option (List ℕ)) (unread unwritten : Bool) (old new : Option (List ℕ)) : Type 0 where
+  pub served : IfSome input (λ script. (text : List ℕ) × IsWritten {T = ⊤} (lines script) (Err stop) text × Appends old new text)
+  pub read_told : IsTrue unread → stop ≡ ServeScript stops.ReadFault
+  pub read : stop ≡ ServeScript stops.ReadFault → IsTrue unread ⊎ IfSome input (λ script. longest_script < length script)
+  pub long : IfSome input (λ script. longest_script < length script → (stop ≡ ServeScript stops.ReadFault) ⊎ (stop ≡ ServeScript stops.NoMemory))
+  pub written : (stop ≡ ServeScript stops.WriteFault) ↔ IsTrue unwritten
+  pub kept : (stop ≡ ServeScript stops.WriteFault) ⊎ Keeps old new
+
 -- why there is no whole answer, by whether the input was read to its end, whether a read failed and whether a write did
 abbrev pub Stops : Ask → Fault → Option (List ℕ) → Bool → Bool → Bool → Option (List ℕ) → Option (List ℕ) → Type 0
 Stops (asks.Explain values) fault input ended unread unwritten old new = StopsBefore (IsFaultIn values) fault unwritten old new
 Stops (asks.Grants text) fault input ended unread unwritten old new = StopsBefore (IsFaultOfText text.items) fault unwritten old new
 Stops asks.Run fault input ended unread unwritten old new = (stop : ScriptFault) × (fault ≡ Script stop) × RunStops stop input ended unread unwritten old new
+Stops asks.Serve fault input ended unread unwritten old new = (stop : ServeFault) × (fault ≡ Serve stop) × ServeStops stop input unread unwritten old new

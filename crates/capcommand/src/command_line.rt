@@ -13,6 +13,8 @@ const GRANTS: &str = "grants";
 
 const RUN: &str = "run";
 
+const SERVE: &str = "serve";
+
 const TEXT: &str = "text";
 
 const EXAMPLE: &str = "Example:
@@ -34,6 +36,13 @@ prints
   done
   denied write 1:4";
 
+const SERVE_EXAMPLE: &str = "Example:
+  printf 'session 1 10 10 - allow rw\\nthreads\\nmkdir 1 1 a 0755\\nlookup 1 1 a\\n' | capd serve
+prints
+  1.1 session 1 10 10 - allow rw => done
+  2.1 mkdir 1 1 a 0755 => ino 2
+  2.2 lookup 1 1 a => ino 2";
+
 /// What a command line asks for.
 #[derive(Debug, Drop)]
 pub enum Ask {
@@ -43,6 +52,8 @@ pub enum Ask {
     Grants(Vec<u8>),
     /// The transcript of a script.
     Run,
+    /// The history of a script whose clients call at once.
+    Serve,
 }
 
 /// What the words behind the program's name ask for. The error's text says what is wrong with the words, or it is the
@@ -80,7 +91,8 @@ fn capd<'a>(alloc: Global) -> Result<Command<'a>, AllocError> {
         .bin_name(CAPD)?;
     let command = with(command, explain(alloc))?;
     let command = with(command, grants(alloc))?;
-    command.subcommand(run(alloc))
+    let command = with(command, Ok(run(alloc)))?;
+    command.subcommand(serve(alloc))
 }
 
 // The command with one subcommand more, where there was memory for that one.
@@ -128,6 +140,14 @@ fn run<'a>(alloc: Global) -> Command<'a> {
         .after_help(RUN_EXAMPLE)
 }
 
+fn serve<'a>(alloc: Global) -> Command<'a> {
+    Command::new(alloc, SERVE)
+        .about(
+            "Reads a script, lets each client call by a thread of its own behind the line `threads`, and prints the history",
+        )
+        .after_help(SERVE_EXAMPLE)
+}
+
 fn asked(alloc: Global, matches: &ArgMatches<'_>) -> Result<Ask, ErrorKind> {
     if let Some(matches) = matches.subcommand_matches(EXPLAIN) {
         Ok(Ask::Explain(explain_values(alloc, matches)?))
@@ -135,6 +155,8 @@ fn asked(alloc: Global, matches: &ArgMatches<'_>) -> Result<Ask, ErrorKind> {
         Ok(Ask::Grants(value(alloc, matches, TEXT)?))
     } else if matches.subcommand_matches(RUN).is_some() {
         Ok(Ask::Run)
+    } else if matches.subcommand_matches(SERVE).is_some() {
+        Ok(Ask::Serve)
     } else {
         Err(ErrorKind::MissingSubcommand)
     }

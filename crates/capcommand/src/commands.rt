@@ -11,12 +11,15 @@ ghost use Rattle.capscript.specs.declared.fault.ScriptFault.{ScriptFault as AScr
 ghost use Rattle.capscript.specs.Lines.{lines, longest_script};
 ghost use Rattle.capscript.specs.Transcript.{IsTranscript};
 ghost use Rattle.capscript.specs.Watched.{inner_of, has_failed, has_ended};
+ghost use Rattle.capjobs.specs.declared.fault.ServeFault.{ServeFault as AServeFault};
+ghost use Rattle.capjobs.specs.Served.{IsServed};
 ghost use Rattle.capcommand.specs.declared.fault.Fault.{Fault as AFault};
 ghost use Rattle.capcommand.specs.declared.fault.Fault.TheVariants as faults;
-ghost use Rattle.capcommand.specs.Commands.{Answers, Stops, StopsBefore, RunStops};
+ghost use Rattle.capcommand.specs.Commands.{Answers, Stops, StopsBefore, RunStops, ServeStops};
 
 use crate::command_line::{Ask, parse};
 use crate::fault::Fault;
+use capjobs::serve;
 use capquestion::{Question, Values, spelled};
 use capscript::{Watched, run};
 use capspec::{read_grants, write_grants};
@@ -24,6 +27,8 @@ use clap::error::ErrorKind;
 use std::alloc::{AllocError, Global};
 use std::io;
 use std::io::{Read, Write};
+use std::sync::Wait;
+use std::thread::Threads;
 
 /// The work was done, or the help was shown. A denial is an answer.
 pub const DONE: u8 = 0;
@@ -36,7 +41,7 @@ pub const USAGE: u8 = 2;
 
 /// Does what the words behind the program's name ask for, and returns the status. What is wrong is written to `faults`;
 /// where that fails, nothing else can be said, and the status stays.
-pub fn dispatch<E: AllocGlobal, R: Read, W: Write, F: Write>(
+pub fn dispatch<E: AllocGlobal + Threads + Wait + Sync, R: Read, W: Write, F: Write>(
     rt: &E,
     words: &[Vec<u8>],
     reader: &mut R,
@@ -53,12 +58,13 @@ pub fn dispatch<E: AllocGlobal, R: Read, W: Write, F: Write>(
     };
     let mut reader = Watched::new(reader);
     let mut writer = Watched::new(writer);
-    carry_out(rt.alloc(), &ask, &mut reader, &mut writer, faults)
+    carry_out(rt, rt.alloc(), &ask, &mut reader, &mut writer, faults)
 }
 
 /// Does what is asked, and returns the status: `DONE` where all of the answer was written, no stream failed, and nothing was
 /// written to `faults`; else `FAILED`. Neither stream was read or written to yet.
-pub fn carry_out<R: Read, W: Write, F: Write>(
+pub fn carry_out<T: Threads + Wait + Sync, R: Read, W: Write, F: Write>(
+    rt: &T,
     alloc: Global,
     ask: &Ask,
     reader: &mut Watched<R>,
@@ -75,14 +81,15 @@ pub fn carry_out<R: Read, W: Write, F: Write>(
         × Stops ask.now fault (R.remaining (inner_of reader.old)) (has_ended reader.new) (has_failed reader.new) (has_failed writer.new)
         (W.contents (inner_of writer.old)) (W.contents (inner_of writer.new)))) }
 {
-    match answer(alloc, ask, reader, writer) {
+    match answer(rt, alloc, ask, reader, writer) {
         Ok(()) => DONE,
         Err(fault) => report(fault, faults),
     }
 }
 
 // Writes the answer to what is asked.
-fn answer<R: Read, W: Write>(
+fn answer<T: Threads + Wait + Sync, R: Read, W: Write>(
+    rt: &T,
     alloc: Global,
     ask: &Ask,
     reader: &mut Watched<R>,
@@ -102,6 +109,7 @@ fn answer<R: Read, W: Write>(
         Ask::Explain(values) => explain(alloc, values, writer),
         Ask::Grants(text) => grants(alloc, text.as_slice(), writer),
         Ask::Run => run_script(alloc, reader, writer),
+        Ask::Serve => serve_script(rt, alloc, reader, writer),
     }
 }
 
@@ -155,6 +163,31 @@ fn run_script<R: Read, W: Write>(
     match run(alloc, reader, writer) {
         Ok(()) => Ok(()),
         Err(stop) => Err(Fault::Script(stop)),
+    }
+}
+
+// Serves the script that is read, and writes its history.
+fn serve_script<T: Threads + Wait + Sync, R: Read, W: Write>(
+    rt: &T,
+    alloc: Global,
+    reader: &mut Watched<R>,
+    writer: &mut Watched<W>,
+) -> Result<(), Fault>
+    requires reader_clear { IsFalse (has_failed reader.old) }
+    requires reader_unended { IsFalse (has_ended reader.old) }
+    requires writer_clear { IsFalse (has_failed writer.old) }
+    ensures ok { OnOk result (IsFalse (has_failed reader.new) × IsFalse (has_failed writer.new)) }
+    ensures short { OnOk result (IfSome (R.remaining (inner_of reader.old)) (λ script. length script ≤ longest_script)) }
+    ensures served { OnOk result (IfSome (R.remaining (inner_of reader.old)) (λ script. (text : List ℕ)
+        × IsServed (lines script) text
+        × Appends (W.contents (inner_of writer.old)) (W.contents (inner_of writer.new)) text)) }
+    ensures stops { IfErr result (λ fault. (stop : AServeFault) × (fault ≡ faults.Serve stop)
+        × ServeStops stop (R.remaining (inner_of reader.old)) (has_failed reader.new) (has_failed writer.new)
+        (W.contents (inner_of writer.old)) (W.contents (inner_of writer.new))) }
+{
+    match serve(rt, alloc, reader, writer) {
+        Ok(()) => Ok(()),
+        Err(stop) => Err(Fault::Serve(stop)),
     }
 }
 

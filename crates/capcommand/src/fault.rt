@@ -1,5 +1,6 @@
 //! Why the program could not answer.
 
+use capjobs::ServeFault;
 use capquestion::QuestionFault;
 use capscript::ScriptFault;
 use capspec::SpecFault;
@@ -15,6 +16,9 @@ pub enum Fault {
     /// A script stopped before its end.
     #[error("{0}")]
     Script(ScriptFault),
+    /// A script was not served to its end.
+    #[error("{0}")]
+    Serve(ServeFault),
     /// The answer could not be written.
     #[error("write failed")]
     WriteFailed,

@@ -1,5 +1,6 @@
 //! `capd` answers questions about the grants of CephFS clients: whether they allow an access, by which grant or why not,
-//! and what their written form is. And it runs scripts of what clients do, and prints what a server answers.
+//! and what their written form is. And it runs scripts of what clients do, and prints what a server answers, or what history
+//! it makes where they call at once.
 #![tactic(auto)]
 
 use capcommand::{Fault, dispatch, report, words};

@@ -11,9 +11,13 @@ mod text;
 use crate::fault::{BookFault, Stop};
 use crate::play::play_text;
 use capcommand::words;
+use std::env::Env;
 use std::fs;
+use std::fs::Files;
 use std::io::Write;
 use std::process::ExitCode;
+use std::sync::Wait;
+use std::thread::Threads;
 
 fn main(rt: HostRuntime) -> ExitCode {
     let (mut writer, mut faults) = (rt.stdout(), rt.stderr());
@@ -31,7 +35,10 @@ fn main(rt: HostRuntime) -> ExitCode {
 }
 
 // Plays the files that the words name, and counts the talks that differ.
-fn play_files(rt: &HostRuntime, writer: &mut impl Write) -> Result<usize, Stop> {
+fn play_files<R: AllocGlobal + Env + Files + Threads + Wait + Sync>(
+    rt: &R,
+    writer: &mut impl Write,
+) -> Result<usize, Stop> {
     let names = words(rt, rt.alloc())?;
     if names.is_empty() {
         return Err(Stop::NoFile);
@@ -45,7 +52,11 @@ fn play_files(rt: &HostRuntime, writer: &mut impl Write) -> Result<usize, Stop> 
 }
 
 // Plays the talks of a file, and counts those that differ.
-fn play_file(rt: &HostRuntime, name: String, writer: &mut impl Write) -> Result<usize, Stop> {
+fn play_file<R: AllocGlobal + Files + Threads + Wait + Sync>(
+    rt: &R,
+    name: String,
+    writer: &mut impl Write,
+) -> Result<usize, Stop> {
     let played = match fs::read(rt, name.as_str()) {
         Ok(text) => play_text(rt, topic(name.as_str()), text.as_slice(), writer),
         Err(_) => Err(BookFault::Unread.at(0)),

@@ -8,6 +8,8 @@ use capcommand::dispatch;
 use std::alloc::Global;
 use std::io;
 use std::io::Write;
+use std::sync::Wait;
+use std::thread::Threads;
 
 /// What a command writes, what it says of faults, and its status.
 #[derive(PartialEq, Drop)]
@@ -52,7 +54,7 @@ impl Run {
     }
 
     // What comes when the command is run.
-    fn outcome(&self, rt: &impl AllocGlobal) -> Outcome {
+    fn outcome(&self, rt: &(impl AllocGlobal + Threads + Wait + Sync)) -> Outcome {
         let mut came = Outcome::new(rt.alloc());
         let mut reader = self.input.as_slice();
         came.status = dispatch(
@@ -93,7 +95,7 @@ fn status(text: &[u8]) -> Result<u8, BookFault> {
 /// Plays each talk of a file, and counts those that differ. A line is written for each, and for one that differs what was
 /// wanted and what came.
 pub fn play_text(
-    rt: &impl AllocGlobal,
+    rt: &(impl AllocGlobal + Threads + Wait + Sync),
     topic: &str,
     text: &[u8],
     writer: &mut impl Write,
@@ -150,7 +152,7 @@ fn take_line(alloc: Global, runs: &mut Vec<Run>, line: Line<'_>) -> Result<(), B
 
 // Whether each run of a talk has the outcome that is wanted.
 fn play_talk(
-    rt: &impl AllocGlobal,
+    rt: &(impl AllocGlobal + Threads + Wait + Sync),
     topic: &str,
     talk: Talk<'_>,
     runs: &[Run],

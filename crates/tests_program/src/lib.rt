@@ -7,12 +7,18 @@
 #[cfg(test)]
 mod asserting;
 #[cfg(test)]
+mod gates;
+#[cfg(test)]
 mod lines;
 #[cfg(test)]
 mod measured_work;
 #[cfg(test)]
+mod passes;
+#[cfg(test)]
 mod runs;
 #[cfg(test)]
 mod scripts;
+#[cfg(test)]
+mod servers;
 #[cfg(test)]
 mod words;

@@ -9,7 +9,9 @@ use capgrant::{Access, Rules, Verdict};
 use capquestion::spelled;
 use std::alloc::Global;
 use std::process::Abort;
+use std::sync::Wait;
 use std::test::Fail;
+use std::thread::Threads;
 
 /// An option and its value.
 type Given = (&'static str, &'static str);
@@ -152,7 +154,10 @@ fn a_wrong_word_may_hold_any_byte(rt: HostRuntime) -> Result<(), Fail> {
 }
 
 // Asks the question with one word more, which is a bad value of the groups.
-fn ask_with(rt: &(impl AllocGlobal + Abort), word: &[u8]) -> Result<(), Fail> {
+fn ask_with(
+    rt: &(impl AllocGlobal + Abort + Threads + Wait + Sync),
+    word: &[u8],
+) -> Result<(), Fail> {
     let mut words = words(rt.alloc(), &[])?;
     words.push(word.to_vec(rt.alloc())?)?;
     let faults = "capd: bad value of --groups\n";
@@ -165,7 +170,12 @@ fn has_part(text: &[u8], part: &[u8]) -> bool {
 }
 
 // Runs `capd` on words that are wrong, or that ask for help: which of its outputs has a text is told by the status.
-fn expect_part(rt: &(impl AllocGlobal + Abort), words: &[Vec<u8>], part: &[u8], status: u8) {
+fn expect_part(
+    rt: &(impl AllocGlobal + Abort + Threads + Wait + Sync),
+    words: &[Vec<u8>],
+    part: &[u8],
+    status: u8,
+) {
     let (got, text, faults) = outcome(rt, words, Input::whole(b""), ALL_ROOM);
     same(rt, got, status, words);
     let (said, other) = if status == 0 {
@@ -192,6 +202,8 @@ const SHOWN: &[(&[&str], &str, u8)] = &[
     (&["explain", "--help"], "Usage: capd explain [OPTIONS]", 0),
     (&["explain", "-h"], "--mode <OCTAL>", 0),
     (&["help", "explain"], "grant 2 rule 11 mode-bits", 0),
+    (&["serve", "--help"], "2.2 lookup 1 1 a => ino 2", 0),
+    (&["serve", "left"], "unexpected argument", 2),
 ];
 
 #[test]
@@ -214,7 +226,11 @@ fn a_value_may_begin_with_a_dash(rt: HostRuntime) -> Result<(), Fail> {
 const WRITE_FAILED: &[u8] = b"capd: write failed\n";
 
 // Runs `capd` on words with outputs that may fail.
-fn outcome_in(rt: &impl AllocGlobal, words: &[Vec<u8>], rooms: Rooms) -> Outcome {
+fn outcome_in(
+    rt: &(impl AllocGlobal + Threads + Wait + Sync),
+    words: &[Vec<u8>],
+    rooms: Rooms,
+) -> Outcome {
     outcome(rt, words, Input::whole(b""), rooms)
 }
 

@@ -7,7 +7,9 @@ use std::fmt::Debug;
 use std::io;
 use std::io::{ErrorKind, Read, Write};
 use std::process::Abort;
+use std::sync::Wait;
 use std::test::Fail;
+use std::thread::Threads;
 
 /// Gives its bytes one by one, and fails once it was read so often.
 #[derive(Drop)]
@@ -74,7 +76,7 @@ pub type Outcome = (u8, Vec<u8>, Vec<u8>);
 
 /// Runs the program on these words.
 pub fn outcome(
-    rt: &impl AllocGlobal,
+    rt: &(impl AllocGlobal + Threads + Wait + Sync),
     words: &[Vec<u8>],
     reader: Input<'_>,
     (room, room_for_faults): Rooms,
@@ -116,7 +118,7 @@ pub fn as_bytes(alloc: Global, words: &[&str]) -> Result<Vec<Vec<u8>>, Fail> {
 
 /// Runs the program on the words, with nothing to be read, and sees what it writes, what it says of faults and its status.
 pub fn expect(
-    rt: &(impl AllocGlobal + Abort),
+    rt: &(impl AllocGlobal + Abort + Threads + Wait + Sync),
     words: &[Vec<u8>],
     text: &str,
     faults: &str,

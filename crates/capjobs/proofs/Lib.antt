@@ -1,0 +1,4 @@
+mod JobLists
+mod NewPasses
+mod Plans
+mod Writing

@@ -1,0 +1,177 @@
+//! The calls of a plan, each client's by a thread and a pass of its own.
+ghost use Rattle.std.specs.Prelude.{◌≡◌, ◌+◌, length, vec_len, IfOk, IsTrue};
+ghost use Rattle.std.specs.List.{sum_by};
+ghost use Rattle.capserver.specs.Passes.{AllNew};
+ghost use Rattle.capjobs.specs.Jobs.{work_of, event_count};
+
+use crate::plan::{Job, Plan};
+use capcore::{Event, Stop};
+use capserver::{CapServer, Gate, Pass, Server};
+use std::alloc::{AllocError, Global};
+use std::sync::Wait;
+use std::thread::{Promise, PromisedHandle, Scope, Threads, scope, scope_env};
+
+// Calls all events of a plan: the first ones by the first pass, then each client's in a thread of its own. The passes come back with as
+// many calls as there are events. Else it says why a call was not answered, of those with a fault the one of the lowest pass.
+pub(crate) fn call_all<L: Server + Send + Sync, G: Gate + Send + Sync, T: Threads + Wait + Sync>(
+    rt: &T,
+    alloc: Global,
+    server: &CapServer<G, L>,
+    passes: Vec<Pass<L>>,
+    plan: Plan,
+) -> Result<Vec<Pass<L>>, Stop>
+    requires many { vec_len passes ≡ vec_len plan.jobs + 1 }
+    requires new { AllNew 0 passes.items }
+    ensures many { IfOk result (λ passes_back. vec_len passes_back ≡ vec_len passes) }
+    ensures calls { IfOk result (λ passes_back. sum_by (λ p. p.calls) passes_back.items ≡ event_count (work_of plan)) }
+{
+    let Plan {
+        first,
+        threaded: _,
+        jobs,
+    } = plan;
+    let mut passes = passes;
+    let first_pass = passes.remove(0);
+    let first_pass = call_events(rt, server, first_pass, first)?;
+    let tasks = tasks_of(alloc, passes, jobs)?;
+    let mut passes = call_tasks(rt, alloc, server, tasks)?;
+    passes.push(first_pass)?;
+    Ok(passes)
+}
+
+// What a thread is to call, by a pass that has called nothing yet.
+#[derive(Drop)]
+struct Task<L: Server> {
+    pass: Pass<L>,
+    events: Vec<Event>,
+    ghost new: { pass.calls ≡ 0 },
+}
+
+impl<L: Server> Task<L> {
+    fn new(pass: Pass<L>, events: Vec<Event>) -> Task<L>
+        requires { pass.calls ≡ 0 }
+        ensures { result.events ≡ events }
+    {
+        Task { pass, events }
+    }
+}
+
+// A task for each job, the last one first.
+fn tasks_of<L: Server>(
+    alloc: Global,
+    passes: Vec<Pass<L>>,
+    jobs: Vec<Job>,
+) -> Result<Vec<Task<L>>, AllocError>
+    requires many { vec_len passes ≡ vec_len jobs }
+    requires new { sum_by (λ p. p.calls) passes.items ≡ 0 }
+    ensures many { IfOk result (λ tasks. vec_len tasks ≡ vec_len jobs) }
+    ensures events { IfOk result (λ tasks. sum_by (λ t. length t.events.items) tasks.items ≡ sum_by (λ j. length j.events.items) jobs.items) }
+{
+    let (mut passes, mut jobs) = (passes, jobs);
+    let mut tasks = Vec::new(alloc);
+    while let Some(job) = jobs.pop() {
+        let Some(pass) = passes.pop() else {
+            unreachable!()
+        };
+        let Job { client: _, events } = job;
+        tasks.push(Task::new(pass, events))?;
+    }
+    Ok(tasks)
+}
+
+// Calls the events one after the other, up to the first that is not answered. The pass comes back where all were.
+fn call_events<L: Server, G: Gate, T: Wait>(
+    rt: &T,
+    server: &CapServer<G, L>,
+    pass: Pass<L>,
+    events: Vec<Event>,
+) -> Result<Pass<L>, Stop>
+    ensures { IfOk result (λ back. back.calls ≡ pass.calls + length events.items) }
+{
+    let mut pass = pass;
+    for event in events {
+        server.call(rt, &mut pass, event)?;
+    }
+    Ok(pass)
+}
+
+// What a thread promises: that its pass comes back with so many calls.
+#[derive(Drop)]
+struct CallsBack(usize);
+
+impl<L: Server> Promise<Result<Pass<L>, Stop>> for CallsBack {
+    ghost use Rattle.std.specs.Prelude.{◌≡◌, IfOk};
+
+    ghost kept_by = { λ promise ended. IfOk ended (λ pass. pass.calls ≡ promise.0) };
+}
+
+// Threads that were started, that of the lowest pass first, and whether all were.
+struct Started<L: Server> {
+    threads: Vec<PromisedHandle<Result<Pass<L>, Stop>, CallsBack>>,
+    all: bool,
+}
+
+// Calls the events of each task in a thread of its own, and waits for all.
+fn call_tasks<L: Server + Send + Sync, G: Gate + Send + Sync, T: Threads + Wait + Sync>(
+    rt: &T,
+    alloc: Global,
+    server: &CapServer<G, L>,
+    tasks: Vec<Task<L>>,
+) -> Result<Vec<Pass<L>>, Stop>
+    ensures many { IfOk result (λ passes. vec_len passes ≡ vec_len tasks) }
+    ensures calls { IfOk result (λ passes. sum_by (λ p. p.calls) passes.items ≡ sum_by (λ t. length t.events.items) tasks.items) }
+{
+    scope(scope_env(), rt, |scope| {
+        let started = start_all(scope, rt, alloc, server, tasks);
+        join_all(rt, alloc, started)
+    })
+}
+
+// Starts a thread for each task, from the last one on, up to the first for which there is none.
+fn start_all<'s, E, L: Server + Send + Sync, G: Gate + Send + Sync, T: Threads + Wait + Sync>(
+    scope: &Scope<'s, E>,
+    rt: &'s T,
+    alloc: Global,
+    server: &'s CapServer<G, L>,
+    tasks: Vec<Task<L>>,
+) -> Started<L>
+    ensures many { IsTrue result.all → vec_len result.threads ≡ vec_len tasks }
+    ensures events { IsTrue result.all → sum_by (λ h. h.promise.0) result.threads.items ≡ sum_by (λ t. length t.events.items) tasks.items }
+{
+    let mut tasks = tasks;
+    let mut threads = Vec::new(alloc);
+    while let Some(Task { pass, events }) = tasks.pop() {
+        let promise = CallsBack(events.len());
+        let thread = scope.spawn_with(promise, move || call_events(rt, server, pass, events));
+        let Ok(thread) = thread else {
+            return Started {
+                threads,
+                all: false,
+            };
+        };
+        if threads.push(thread).is_err() {
+            return Started {
+                threads,
+                all: false,
+            };
+        }
+    }
+    Started { threads, all: true }
+}
+
+// Waits for the threads, and takes their passes back.
+fn join_all<L: Server, T: Threads>(
+    rt: &T,
+    alloc: Global,
+    started: Started<L>,
+) -> Result<Vec<Pass<L>>, Stop>
+    ensures many { IfOk result (λ passes. IsTrue started.all × (vec_len passes ≡ vec_len started.threads)) }
+    ensures calls { IfOk result (λ passes. sum_by (λ p. p.calls) passes.items ≡ sum_by (λ h. h.promise.0) started.threads.items) }
+{
+    let Started { threads, all } = started;
+    let mut passes = Vec::new(alloc);
+    for thread in threads {
+        passes.push(thread.join(rt)?)?;
+    }
+    if all { Ok(passes) } else { Err(Stop::NoMemory) }
+}

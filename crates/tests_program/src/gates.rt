@@ -1,0 +1,137 @@
+//! A gate at which each call gives way to the others: the calls of two clients alternate, and stand one behind the other.
+
+use crate::asserting::{holds, same};
+use crate::servers::{Numbers, count_numbered, numbers};
+use capjobs::{read_plan, serve_plan};
+use capscript::MAX_SCRIPT;
+use capserver::Gate;
+use std::alloc::{AllocError, Global};
+use std::sync::atomic::{AtomicU64, Ordering};
+use std::sync::{Arc, Wait};
+use std::test::Fail;
+use std::thread::{Threads, yield_now};
+
+// So often a call gives way to the others.
+const TURNS: u32 = 16;
+
+// So often it looks round in between, which takes longer than a thread takes to start.
+const LOOKS: u32 = 10_000;
+
+// What calls see of each other.
+#[derive(Drop)]
+struct Signs {
+    // 1 while a call is at the gate.
+    taken: AtomicU64,
+    // 1 from then on that two calls were.
+    met: AtomicU64,
+}
+
+fn new_signs(alloc: Global) -> Result<Arc<Signs, Global>, AllocError> {
+    let signs = Signs {
+        taken: AtomicU64::new(0),
+        met: AtomicU64::new(0),
+    };
+    match Arc::new(alloc, signs) {
+        Ok(signs) => Ok(signs),
+        Err(_) => Err(AllocError),
+    }
+}
+
+// Gives way in each call.
+#[derive(Drop)]
+struct Slow {
+    signs: Arc<Signs, Global>,
+}
+
+impl Gate for Slow {
+    fn pause<R: Wait>(&self, _rt: &R) {
+        if self.signs.taken.swap(1, Ordering::SeqCst) == 1 {
+            self.signs.met.store(1, Ordering::SeqCst);
+        }
+        for _ in 0..TURNS {
+            look_round(&self.signs);
+            yield_now();
+        }
+        self.signs.taken.store(0, Ordering::SeqCst);
+    }
+}
+
+// Takes time: where nobody else would run, yielding takes none.
+fn look_round(signs: &Signs) {
+    for _ in 0..LOOKS {
+        if signs.met.load(Ordering::SeqCst) == 1 {
+            return;
+        }
+    }
+}
+
+// How many lines each of two clients has.
+const LINES: u32 = 20;
+
+// Two clients, each with as many lines behind the line `threads`.
+fn two_clients(alloc: Global) -> Result<String, AllocError> {
+    let mut script = String::new(alloc);
+    script.push_str("threads\n")?;
+    add_lines(&mut script, "poll 1 1\n")?;
+    add_lines(&mut script, "poll 2 1\n")?;
+    Ok(script)
+}
+
+fn add_lines(script: &mut String, line: &str) -> Result<(), AllocError> {
+    for _ in 0..LINES {
+        script.push_str(line)?;
+    }
+    Ok(())
+}
+
+// The rows of a script whose calls are slow.
+fn served_slowly<R: AllocGlobal + Threads + Wait + Sync>(
+    rt: &R,
+    script: &[u8],
+    slow: Slow,
+) -> Option<Vec<Numbers>> {
+    if script.len() > MAX_SCRIPT {
+        return None;
+    }
+    let plan = read_plan(rt.alloc(), script).ok()?;
+    let core = serve_plan(rt, rt.alloc(), plan, slow).ok()?;
+    let rows = numbers(rt.alloc(), core.history());
+    drop(core);
+    rows.ok()
+}
+
+// Whether a row of one pass stands before some row of another.
+fn begins_before_end(rows: &[Numbers], one: u32, other: u32) -> bool {
+    let begin = rows.iter().position(|row| row.0 == one);
+    let end = rows.iter().rposition(|row| row.0 == other);
+    begin < end
+}
+
+#[test]
+fn two_clients_of_a_script_call_at_once(rt: HostRuntime) -> Result<(), Fail> {
+    let script = two_clients(rt.alloc())?;
+    let signs = new_signs(rt.alloc())?;
+    let Ok(theirs) = Arc::try_clone(&signs) else {
+        return Err(Fail::new("memory"));
+    };
+    let slow = Slow { signs: theirs };
+    let Some(rows) = served_slowly(&rt, script.as_bytes(), slow) else {
+        return Err(Fail::new("serving"));
+    };
+    let met = signs.met.load(Ordering::SeqCst);
+    same(&rt, met, 0, "calls under the lock at once");
+    let rows = rows.as_slice();
+    same(&rt, count_numbered(rows, 2), Some(20), "pass 2");
+    same(&rt, count_numbered(rows, 3), Some(20), "pass 3");
+    holds(
+        &rt,
+        begins_before_end(rows, 2, 3),
+        "pass 2 waits for pass 3",
+    );
+    holds(
+        &rt,
+        begins_before_end(rows, 3, 2),
+        "pass 3 waits for pass 2",
+    );
+    Ok(())
+}

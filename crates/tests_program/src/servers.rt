@@ -1,0 +1,63 @@
+//! Servers in tests: events are called by the lines that say them, and the rows that they leave are seen as numbers.
+
+use capcore::{Reply, Row};
+use capscript::{file_system, read_line};
+use capserver::{CapServer, Gate, Opening, Pass, Server};
+use std::alloc::{AllocError, Global};
+use std::sync::Wait;
+
+/// How many rows the history of a server in a test may have.
+const MAX_ROWS: u32 = 1000;
+
+/// An opening on a root alone.
+pub fn opening(alloc: Global) -> Result<Opening, AllocError> {
+    let (fs, tree) = file_system(alloc)?;
+    Opening::new(alloc, fs, tree, MAX_ROWS)
+}
+
+/// Calls the event that a line says, and tells whether it was answered.
+pub fn call<G: Gate, L: Server, R: Wait>(
+    rt: &R,
+    alloc: Global,
+    server: &CapServer<G, L>,
+    pass: &mut Pass<L>,
+    line: &str,
+) -> bool {
+    match read_line(alloc, 1, line.as_bytes()) {
+        Ok(Some((_, event))) => server.call(rt, pass, event).is_ok(),
+        _ => false,
+    }
+}
+
+/// The numbers of a row: its pass, its number there, and the inode that was answered, or 0.
+pub type Numbers = (u32, u64, u64);
+
+fn numbers_of(row: &Row) -> Numbers {
+    match &row.reply {
+        Reply::Ino(ino) => (row.pass.0, row.nth, ino.0),
+        _ => (row.pass.0, row.nth, 0),
+    }
+}
+
+/// The numbers of each row.
+pub fn numbers(alloc: Global, rows: &[Row]) -> Result<Vec<Numbers>, AllocError> {
+    let mut all = Vec::new(alloc);
+    for row in rows {
+        all.push(numbers_of(row))?;
+    }
+    Ok(all)
+}
+
+/// How many rows are those of a pass, where these are numbered 1, 2, 3 and so on.
+pub fn count_numbered(rows: &[Numbers], pass: u32) -> Option<u64> {
+    let mut count = 0u64;
+    for row in rows {
+        if row.0 == pass {
+            count = count.checked_add(1)?;
+            if row.1 != count {
+                return None;
+            }
+        }
+    }
+    Some(count)
+}
