@@ -1,6 +1,9 @@
 -- Which inodes a step touches: that of its event, and those whose locks from before are kept.
 use Rattle.std.proofs.Common.{◌≡◌, ◌≢◌, ℕ, Bool, true, false, ◌||◌, ◌==◌, ◌⊎◌, inl, inr, is_some, List, refl, sym, ap, ◌∙◌, eq-eqb, true≢false}
 use Rattle.std.specs.FinMap as map
+use Rattle.std.specs.HashMap.{HashMap}
+use Rattle.capbits.specs.Caps.{Caps}
+use Rattle.captable.specs.declared.entry.Holder.{Holder}
 use Rattle.std.specs.Ordering.{nat_cmp}
 use Rattle.std.proofs.lemmas.Bool.{ne_eqb}
 use Rattle.lockmachine.specs.declared.states.InodeLocks.{InodeLocks}
@@ -55,8 +58,9 @@ quiet-among ino touched s quiet = record {
 -- ---- at the inode alone
 
 -- what ends at more inodes, has ended at this one
-pub ends-one : (ino : ℕ) (touched : StateMap) (first last : Scene) (told : List Ended) → EndsWith (is_touched ino touched) first last told → EndsWith (λ other. other == ino) first last told
-ends-one ino touched first last told ends = let all = ends.settles in let there = all.settles in record {
+pub ends-one : {S : Type 0} (ino : ℕ) (touched : StateMap) (was now : HashMap Holder Caps S) (first last : Scene) (told : List Ended)
+    → EndsWith (is_touched ino touched) was now first last told → EndsWith (λ other. other == ino) was now first last told
+ends-one ino touched was now first last told ends = let all = ends.settles in let there = all.settles in record {
   at = ends.at;
   settled = ends.settled;
   sized = ends.sized;
@@ -68,6 +72,7 @@ ends-one ino touched first last told ends = let all = ends.settles in let there 
   };
   tree = ends.tree;
   finished = ends.finished;
+  kept = ends.kept;
 }
 
 pub none-kept : (other : ℕ) → map.contains_key (map.empty {X = InodeLocks} {R = nat_cmp}) other ≡ false

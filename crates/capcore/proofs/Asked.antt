@@ -36,6 +36,7 @@ use Rattle.capcore.specs.Direct.{direct, effect, effect_unless, asks}
 use Rattle.capcore.specs.Serving.{judged_again}
 use Rattle.capcore.specs.Sound.{IsSound, AreGiven}
 use Rattle.capcore.specs.Touching.{asks_for, IsTouchedEntry, TouchesOne}
+use Rattle.capcore.proofs.NothingServed.{sound-pinned}
 use Rattle.capcore.proofs.Touched.{all-left, asked-session, asked-there, AreBelow}
 
 -- ---- which events ask, and what
@@ -158,6 +159,7 @@ module _ (old : State) (k : Holder) (ask : Ask) (sound : IsSound old) (table : I
         (asking-session old.scene k ask free);
     at_lock = λ part none. absurd (no_lock part (map.get old.scene.locks.states k.ino.0) (sound.locked k.ino.0 ∙ asking-there old.scene k ask free) none);
     each = All-filter (is_of_inode (record { 0 = k.ino.0 })) (IsTouchedEntry first) old.scene.table.rows (all-left old first sound table refl refl (λ ino. refl));
+    calm = λ row inside none. absurd (sound-pinned old sound row inside none);
   }
 
 pub below-of_ask : (count : ℕ) (old : State) (k : Holder) (ask : Ask) → AreGiven count old → AreBelow count (asks old k.client k.ino ask).state

@@ -3,11 +3,11 @@ use Rattle.std.proofs.Common.{◌≡◌, ℕ, zero, suc, ◌<◌, Bool, true, fa
 use Rattle.std.specs.Prelude.{All, IfSome, ◌==◌}
 use Rattle.std.specs.List.{find, list_any, fold, AllByRecursion, IsDistinct}
 use Rattle.std.specs.FinMap as map
-use Rattle.std.proofs.lemmas.Bool.{eqb-true}
 use Rattle.std.proofs.lemmas.List.Elements.{All-contains, All-from_recursion, recursion_from_All}
 use Rattle.std.proofs.lemmas.Map.Keys.{apart_from_distinct}
 use Rattle.capbits.specs.declared.ids.ClientId.{ClientId}
 use Rattle.capbits.specs.declared.ids.Ino.{Ino}
+use Rattle.capbits.specs.Caps.{Caps}
 use Rattle.inotree.specs.Tree.{Nodes}
 use Rattle.sessiontab.specs.Table.{SessionTable}
 use Rattle.captable.specs.declared.entry.Entry.{Entry}
@@ -15,19 +15,17 @@ use Rattle.captable.specs.declared.entry.EntryRow.{EntryRow}
 use Rattle.captable.specs.declared.entry.Holder.{Holder}
 use Rattle.captable.specs.Table.{Table, same, holder, is_row_of, entry_of, entry_at}
 use Rattle.captable.specs.Calls.{change_rows, changed, is_of_inode, entries_on}
-use Rattle.captable.specs.Many.{changed_by, changed_where}
+use Rattle.captable.specs.Many.{changed_by}
 use Rattle.captable.proofs.Tables.{same_equiv, same-is}
 use Rattle.captable.proofs.ByHolder.{entry_at-changed_other}
 use Rattle.captable.proofs.Searches.{find_passes}
 use Rattle.lockmachine.specs.declared.states.InodeLocks.{InodeLocks}
 use Rattle.lockmachine.specs.Inodes.{StateMap}
-use Rattle.lockmachine.specs.Locks.{LockMap}
-use Rattle.lockmachine.specs.Scene.{Scene, scene}
-use Rattle.capcore.specs.Finishing.{entry_under, entry_from, is_on}
-use Rattle.capcore.specs.Touching.{finished_entry, forget_at, forget_among}
+use Rattle.lockmachine.specs.Scene.{Scene}
+use Rattle.capcore.specs.Finishing.{due_under, told_at, numbered_as, entry_under, entry_by}
+use Rattle.capcore.specs.Touching.{forget_at, forget_among}
 use Rattle.capcore.specs.Serves.{is_touched}
 use Rattle.capcore.proofs.Leaving.{found-contains}
-use Rattle.capcore.proofs.ManyInodes.{same-where, changed-twice_where}
 use Rattle.capcore.proofs.Strays.{forget-one, forget-twice, forget-same}
 
 -- ---- who has an entry
@@ -43,17 +41,6 @@ none-pass p (x ∷ xs) is =
     elim (p x) as (λ b. cond b (x ∷ filter p xs) (filter p xs) ≡ [] → (b || list_any p xs) ≡ false) [ true ↦ λ is. absurd (cc) | false ↦ λ is. none-pass p xs is ] is
 
 -- ---- one entry
-
--- the row of a holder's entry
-pub row_of-entry : (t : Table) (k : Holder) (e : Entry) → entry_at t k ≡ Some e → find (is_row_of k) t.rows ≡ Some (record { holder = k; entry = e })
-row_of-entry t k e at = by_case (find (is_row_of k) t.rows) refl at
-  where
-    by_case : (o : Option EntryRow) → find (is_row_of k) t.rows ≡ o → entry_of o ≡ Some e → o ≡ Some (record { holder = k; entry = e })
-    by_case None found at = absurd (cc)
-    by_case (Some row) found at =
-        let mine : k ≡ row.holder = same-is k row.holder (find_passes (is_row_of k) t.rows row found) in
-        let its : row.entry ≡ e = cc in
-        λ i. Some (record { holder = sym mine i; entry = its i })
 
 all-unfiltered : (P : EntryRow → Type 0) (p : EntryRow → Bool) (rows : List EntryRow) → AllByRecursion P (filter p rows) → AllByRecursion (λ row. p row ≡ true → P row) rows
 all-unfiltered P p [] all = tt
@@ -107,53 +94,17 @@ yet-unchanged g t (k ∷ ks) (suc i) d apart inside =
 
 -- ---- all entries on the touched inodes
 
-or_turned : (a b : Bool) → (a || b) ≡ (b || a)
+pub or_turned : (a b : Bool) → (a || b) ≡ (b || a)
 or_turned true true = refl
 or_turned true false = refl
 or_turned false true = refl
 or_turned false false = refl
 
--- of one inode: by its locks, and by those of all inodes
-pub by-all-locks : (fs : List ℕ) (tree : Nodes) (sessions : SessionTable) (t : Table) (ino : Ino) (before now : Option InodeLocks) (kept states : StateMap)
-    → before ≡ map.get kept ino.0 → now ≡ map.get states ino.0
-    → changed_where (is_of_inode ino) (entry_under fs tree sessions before now) t ≡ changed_where (is_of_inode ino) (entry_from fs tree sessions kept states) t
-by-all-locks fs tree sessions t ino before now kept states was is =
-    same-where (is_of_inode ino) (entry_under fs tree sessions before now) (entry_from fs tree sessions kept states) here t
-  where
-    here : (row : EntryRow) → is_of_inode ino row ≡ true → entry_under fs tree sessions before now row ≡ entry_from fs tree sessions kept states row
-    here row e =
-        let on : row.holder.ino.0 ≡ ino.0 = eqb-true row.holder.ino.0 ino.0 e in
-        let then : before ≡ map.get kept row.holder.ino.0 = was ∙ sym (ap (map.get kept) on) in
-        let at : now ≡ map.get states row.holder.ino.0 = is ∙ sym (ap (map.get states) on) in
-        λ i. entry_under fs tree sessions (then i) (at i) row
-
--- of the others first, and then of the inode of the event: the entries at the end, by the locks and by the scenes
-pub at-end : (fs : List ℕ) (tree : Nodes) (sessions : SessionTable) (t : Table) (locks : LockMap) (ino : Ino) (first : Scene) (before now : Option InodeLocks) (touched : StateMap)
-    → map.contains_key touched ino.0 ≡ false → map.get first.locks.states ino.0 ≡ before → ((other : ℕ) → map.contains_key touched other ≡ true → map.get touched other ≡ map.get first.locks.states other)
-    → now ≡ map.get locks.states ino.0
-    → changed_where (is_of_inode ino) (entry_under fs tree sessions before now) (changed_where (is_on touched) (entry_from fs tree sessions touched locks.states) t)
-    ≡ changed_where (λ row. is_touched ino.0 touched row.holder.ino.0) (finished_entry first (scene fs tree sessions t locks)) t
-at-end fs tree sessions t locks ino first before now touched apart was kept is =
-    changed-twice_where (map.contains_key touched) (λ n. n == ino.0) (is_touched ino.0 touched) (entry_from fs tree sessions touched locks.states)
-    (entry_under fs tree sessions before now) (finished_entry first (scene fs tree sessions t locks)) elsewhere (λ n. or_turned (map.contains_key touched n) (n == ino.0)) besides here t
-  where
-    elsewhere : (n : ℕ) → map.contains_key touched n ≡ true → (n == ino.0) ≡ false
-    elsewhere n there = by_test (n == ino.0) refl
-      where
-        by_test : (b : Bool) → (n == ino.0) ≡ b → b ≡ false
-        by_test false e = refl
-        by_test true e = sym there ∙ ap (map.contains_key touched) (eqb-true n ino.0 e) ∙ apart
-
-    besides : (row : EntryRow) → map.contains_key touched row.holder.ino.0 ≡ true
-        → entry_from fs tree sessions touched locks.states row ≡ finished_entry first (scene fs tree sessions t locks) row
-    besides row there = λ i. entry_under fs tree sessions (kept row.holder.ino.0 there i) (map.get locks.states row.holder.ino.0) row
-
-    here : (row : EntryRow) → is_of_inode ino row ≡ true → entry_under fs tree sessions before now row ≡ finished_entry first (scene fs tree sessions t locks) row
-    here row e =
-        let on : row.holder.ino.0 ≡ ino.0 = eqb-true row.holder.ino.0 ino.0 e in
-        let then : before ≡ map.get first.locks.states row.holder.ino.0 = sym (ap (map.get first.locks.states) on ∙ was) in
-        let at : now ≡ map.get locks.states row.holder.ino.0 = is ∙ sym (ap (map.get locks.states) on) in
-        λ i. entry_under fs tree sessions (then i) (at i) row
+-- of an entry on the inode: by its locks, and by those of all inodes; and by what is known now, and what was known at first
+pub entry-alike : (known first : Holder → Caps) (fs : List ℕ) (tree : Nodes) (sessions : SessionTable) (locks : Option InodeLocks) (states : StateMap) (row : EntryRow)
+    → known row.holder ≡ first row.holder → locks ≡ map.get states row.holder.ino.0 → entry_under known fs tree sessions locks row ≡ entry_by first fs tree sessions states row
+entry-alike known first fs tree sessions locks states row same_known is =
+    λ i. numbered_as (same_known i) (told_at fs tree sessions (is i) row) (due_under fs tree sessions (is i) row) row
 
 -- first the others are forgotten, and then the inode of the event: the strays of all that are touched
 pub forget-all : (ino : ℕ) (touched : StateMap) (s : Scene) → forget_at ino (forget_among (map.contains_key touched) s) ≡ forget_among (is_touched ino touched) s

@@ -2,6 +2,8 @@
 use Rattle.std.proofs.Common.{◌≡◌, ◌≤◌, ◌<◌, ◌^◌, ◌-◌, ℕ, ◌+◌, ◌++◌, ◌==◌, Bool, true, false, Some, None, is_some, List, Contains, refl, sym, ap, subst, ◌∙◌, arith}
 use Rattle.std.specs.Prelude.{IsTrue, All}
 use Rattle.std.specs.FinMap as map
+use Rattle.std.specs.HashMap.{HashMap}
+use Rattle.capbits.specs.Caps.{Caps}
 use Rattle.std.proofs.lemmas.Bool.{eqb-true}
 use Rattle.std.proofs.lemmas.List.Elements.{All-weaker, All-contains}
 use Rattle.sessiontab.specs.Table.{SessionTable}
@@ -30,9 +32,11 @@ use Rattle.capcore.specs.Finish.{sizes_owed}
 use Rattle.capcore.specs.Settle.{MakesAll, ended_in, sized_in}
 use Rattle.capcore.specs.Sound.{IsSoundEntry, IsSound, NumbersLeft}
 use Rattle.capcore.specs.Step.{earlier, all_ended, state_at_end}
-use Rattle.capcore.specs.Touching.{touched_by, IsTouchedEntry, Touches, TouchesOne, SettlesAt, finished_at}
+use Rattle.capcore.specs.Touching.{touched_by, IsTouchedEntry, Touches, TouchesOne, SettlesAt, Knows, finished_at}
+use Rattle.capcore.specs.Known.{known_in, AreKnown, StillKept}
 use Rattle.capcore.specs.Untold.{HaveOwnNumbers, but_for}
 use Rattle.capcore.proofs.Concluded.{IsConcluded, GivesOne, concluded}
+use Rattle.capcore.proofs.EndKnown.{ends-known}
 use Rattle.capcore.proofs.EndedIn.{earlier-all, earlier-but_own, own-numbers}
 use Rattle.capcore.proofs.Forgotten.{all_rows}
 use Rattle.capcore.proofs.OfInode.{event-touches, event-table, event-below, event-keeps}
@@ -103,6 +107,7 @@ touches-one ino old first sound one = record {
   each = λ row inside is.
       All-contains (IsTouchedEntry first) (entries_on first.table (record { 0 = ino })) row one.each
       (filter-contains (is_of_inode (record { 0 = ino })) first.table.rows row inside is);
+  calm = one.calm;
 }
 
 -- ---- an event about one inode that nothing stops, and the scene that it leads to by itself
@@ -135,7 +140,8 @@ module _ (old : State) (e : Event) (k : Holder) (about : touched_by e ≡ Some k
 
   -- ---- the end of the step
 
-  module _ (last : Scene) (told : List Ended) (ends : EndsWith from first last told) (last_table : IsTable last.table) where
+  module _ {S : Type 0} (was now : HashMap Holder Caps S) (order : IsLockMap first.locks) (knows : Knows (known_in was) old.scene first.table)
+      (last : Scene) (told : List Ended) (ends : EndsWith from was now first last told) where
     abbrev settles : SettlesWith ends.at from first ends.settled told ends.sized
     settles = ends.settles
 
@@ -147,18 +153,25 @@ module _ (old : State) (e : Event) (k : Holder) (about : touched_by e ≡ Some k
     abbrev pub closed_state : State
     closed_state = record { scene = last; messages = old.messages ++ earlier old.scene.locks.last told }
 
-    same_state : closed_state ≡ state_at_end old (direct old e).state settles.moves (finished_at ends.at (direct old e).state.scene (sizes_owed (sized_in settles.moves) ends.settled))
+    same_state : closed_state ≡ state_at_end old (direct old e).state settles.moves (finished_at ends.at (known_in was) (sizes_owed (sized_in settles.moves) ends.settled))
     same_state =
         (λ i. record { scene = ends.finished i; messages = old.messages ++ earlier old.scene.locks.last (settles.ended_is i) })
-        ∙ ap (λ (sized : List Ino). state_at_end old (with_scene old first) settles.moves (finished_at ends.at first (sizes_owed sized ends.settled))) settles.sized_is
-        ∙ ap (λ (s : State). state_at_end old s settles.moves (finished_at ends.at s.scene (sizes_owed (sized_in settles.moves) ends.settled))) left
+        ∙ ap (λ (sized : List Ino). state_at_end old (with_scene old first) settles.moves (finished_at ends.at (known_in was) (sizes_owed sized ends.settled))) settles.sized_is
+        ∙ ap (λ (s : State). state_at_end old s settles.moves (finished_at ends.at (known_in was) (sizes_owed (sized_in settles.moves) ends.settled))) left
 
-    pub closed : (said : Said) (new : State) → said.reply ≡ reply_of closed_state told (direct old e).answer → said.kept ≡ said.reply → said.ended ≡ earlier old.scene.locks.last told
-        → new ≡ shown (direct old e).answer closed_state → IsAnswered old e said new
-    closed said new replies kept ended new-is =
+    -- what is known of each entry at the end
+    pub closed-known : (before : HashMap Holder Caps S) → AreKnown before old.scene → StillKept old.scene.table first.table before was → AreKnown now last
+    closed-known before known still =
+        ends-known before was now from old (with_scene old first) sound table (subst (λ (s : Scene). IsTable s.table) (sym is) (event-table old e k table about passed)) touches known still knows
+        last told ends
+
+    pub closed : IsTable last.table → (said : Said) (new : State) → said.reply ≡ reply_of closed_state told (direct old e).answer → said.kept ≡ said.reply
+        → said.ended ≡ earlier old.scene.locks.last told → new ≡ shown (direct old e).answer closed_state → IsAnswered old e said new
+    closed last_table said new replies kept ended new-is =
         let c =
-        concluded ends.at from old e settles.moves ends.settled sound (subst (Touches from old) left touches)
-        (event-table old e k table about passed) gives (subst (λ (s : Scene). SettlesAt ends.at from settles.moves s ends.settled) is settles.settles) ends.tree
+        concluded ends.at from (known_in was) old e settles.moves ends.settled sound (subst (Touches from old) left touches)
+        (event-table old e k table about passed) (subst (λ (s : Scene). IsLockMap s.locks) is order) (subst (λ (s : Scene). Knows (known_in was) old.scene s.table) is knows)
+        gives (subst (λ (s : Scene). SettlesAt ends.at from settles.moves s ends.settled) is settles.settles) ends.tree
         (subst (λ (s : State). IsTable s.scene.table) same_state last_table) said.reply new
         (replies ∙ (λ i. reply_of (same_state i) (settles.ended_is i) (direct old e).answer)) (new-is ∙ ap (shown (direct old e).answer) same_state) in
         let ends_so : all_ended old (direct old e) settles.moves ≡ said.ended =

@@ -3,7 +3,10 @@
 use Rattle.std.proofs.Common.{◌≡◌, ◌≤◌, ℕ, ◌+◌, Bool, List, sym, subst}
 use Rattle.std.specs.Prelude.{All}
 use Rattle.inotree.specs.Tree.{IsTree}
+use Rattle.capbits.specs.Caps.{Caps}
+use Rattle.captable.specs.declared.entry.Holder.{Holder}
 use Rattle.captable.specs.Table.{IsTable}
+use Rattle.lockmachine.specs.Locks.{IsLockMap}
 use Rattle.lockmachine.specs.Scene.{Scene}
 use Rattle.capcore.specs.declared.event.Event.{Event}
 use Rattle.capcore.specs.declared.outcome.Ended.{Ended}
@@ -15,7 +18,7 @@ use Rattle.capcore.specs.Finish.{sizes_owed}
 use Rattle.capcore.specs.Settle.{Made, ended_in, sized_in}
 use Rattle.capcore.specs.Sound.{IsSound, AreGiven}
 use Rattle.capcore.specs.Step.{Step, all_ended, state_at_end}
-use Rattle.capcore.specs.Touching.{Touches, SettlesAt, finished_at}
+use Rattle.capcore.specs.Touching.{Touches, SettlesAt, Knows, finished_at}
 use Rattle.capcore.proofs.SizesOwed.{sizes-end, sizes-sound, sizes-issues, sizes-given}
 use Rattle.capcore.proofs.StayingSound.{given-touched}
 use Rattle.capcore.proofs.Telling.{shown-sound, shown-issued, shown-given}
@@ -35,30 +38,31 @@ GivesOne old e =
     All (λ row. row.entry.seq ≤ count) (direct old e).state.scene.table.rows
     × ((direct old e).state.scene.table.made ≤ count + 1) × ((direct old e).state.scene.locks.last ≤ count + 1)
 
-module _ (at from : ℕ → Bool) (old : State) (e : Event) (moves : List Made) (settled : Scene) (sound : IsSound old)
-    (touches : Touches from old (direct old e).state) (table : IsTable (direct old e).state.scene.table) (gives : GivesOne old e)
+module _ (at from : ℕ → Bool) (known : Holder → Caps) (old : State) (e : Event) (moves : List Made) (settled : Scene) (sound : IsSound old)
+    (touches : Touches from old (direct old e).state) (table : IsTable (direct old e).state.scene.table) (order : IsLockMap (direct old e).state.scene.locks)
+    (knows : Knows known old.scene (direct old e).state.scene.table) (gives : GivesOne old e)
     (settles : SettlesAt at from moves (direct old e).state.scene settled) (tree : IsTree settled.tree) where
   abbrev touched : State
   touched = (direct old e).state
 
   abbrev pub last : State
-  last = state_at_end old touched moves (finished_at at touched.scene (sizes_owed (sized_in moves) settled))
+  last = state_at_end old touched moves (finished_at at known (sizes_owed (sized_in moves) settled))
 
   pub concluded : IsTable last.scene.table → (answer : Reply) (new : State) → answer ≡ reply_of last (ended_in moves) (direct old e).answer
       → new ≡ shown (direct old e).answer last → IsConcluded old e answer (all_ended old (direct old e) moves) new
   concluded last-table answer new answers is = record {
     step =
-        one-step old e moves settled (finished_at at touched.scene (sizes_owed (sized_in moves) settled)) settles.settles
-        (sizes-end at from old touched moves settled sound table touches settles) answer new answers is;
+        one-step old e moves settled (finished_at at known (sizes_owed (sized_in moves) settled)) settles.settles
+        (sizes-end at from known old touched moves settled sound tree table touches knows settles) answer new answers is;
     sound =
         subst IsSound (sym is)
-        (shown-sound last (direct old e).answer (sizes-sound at from old touched moves settled sound table touches settles tree) last-table);
+        (shown-sound last (direct old e).answer (sizes-sound at from known old touched moves settled sound tree table touches knows settles order) last-table);
     issued =
         subst (λ (s : State). IssuesExactly touched.scene s.scene) (sym is)
         (shown-issued touched.scene last (direct old e).answer last-table
-        (sizes-issues at from old touched moves settled sound table touches settles tree));
+        (sizes-issues at from known old touched moves settled sound tree table touches knows settles));
     given = λ count given. (let b = gives count given in
         subst (AreGiven (count + 1)) (sym is)
         (shown-given (count + 1) last (direct old e).answer
-        (sizes-given at from old touched moves settled sound table touches settles count (given-touched at from count old touched moves settled settles b.0 b.1 b.2))));
+        (sizes-given at from known old touched moves settled sound tree table touches knows settles count (given-touched at from known count old touched moves settled settles b.0 b.1 b.2))));
   }

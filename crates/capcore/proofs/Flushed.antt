@@ -31,6 +31,7 @@ use Rattle.capcore.specs.Sound.{IsSound, AreGiven}
 use Rattle.capcore.specs.Touching.{IsTouchedEntry, TouchesOne}
 use Rattle.capcore.proofs.Again.{change-passed}
 use Rattle.capcore.proofs.OneChange.{by_change, alike_change}
+use Rattle.capcore.proofs.NothingServed.{sound-pinned}
 use Rattle.capcore.proofs.Touched.{all-left, before-passed, after-passed, AreBelow}
 
 known_change : (tree : Nodes) (ino : ℕ) (change : Change) (other : ℕ) → map.contains_key (tree_changed tree ino change).nodes other ≡ map.contains_key tree.nodes other
@@ -60,6 +61,7 @@ flush-touches old k change sound table = record {
   each =
       All-filter (is_of_inode (record { 0 = k.ino.0 })) (IsTouchedEntry (with_flush old k change).scene) old.scene.table.rows
       (all-left old (with_flush old k change).scene sound table refl refl (λ ino. known_change old.scene.tree k.ino.0 change ino));
+  calm = λ row inside none. absurd (sound-pinned old sound row inside none);
 }
 
 pub flush-table : (old : State) (k : Holder) (change : Change) → IsTable old.scene.table → IsTable (with_flush old k change).scene.table

@@ -10,8 +10,8 @@ use Rattle.inotree.specs.Tree.{child}
 use Rattle.captable.specs.declared.entry.Entry.{Entry}
 use Rattle.captable.specs.declared.entry.Holder.{Holder}
 use Rattle.captable.specs.Table.{Table, holder, same, is_among, entry_at}
-use Rattle.captable.specs.Calls.{opened, changed, taken, given_back, released, recalled, with_asked, without_client}
-use Rattle.captable.proofs.ByHolder.{entry_at-changed, entry_at-changed_other, entry_at-without_client_other, entry_at-released, entry_at-released_other, entry_at-recalled, entry_at-recalled_other}
+use Rattle.captable.specs.Calls.{opened, changed, acked, given_back, released, recalled, with_asked, without_client}
+use Rattle.captable.proofs.ByHolder.{entry_at-changed, entry_at-changed_other, entry_at-without_client_other, entry_at-acked_other, entry_at-released, entry_at-released_other, entry_at-recalled, entry_at-recalled_other}
 use Rattle.captable.proofs.Tables.{same-is}
 use Rattle.lockmachine.specs.Scene.{Scene}
 use Rattle.capcore.specs.declared.event.Event.{Event}
@@ -94,13 +94,13 @@ module _ (old : State) (k : Holder) (cap : Cap) (held : holds old.scene k cap �
   opened-keeps : (j : Holder) (mode : OpenMode) → KeepsAt t (with_opening t j mode) k
   opened-keeps j mode e there = changed-keeps (with_entry t j) j k _ (λ f. refl) e (entry-kept t j k e there)
 
-  acked-own : (j : Holder) (first : Scene) → first.table ≡ changed t j (taken (revoked_of old.scene j)) → holds first k cap ≡ false → same k j ≡ true
+  acked-own : (j : Holder) (first : Scene) → first.table ≡ acked t j (revoked_of old.scene j) → holds first k cap ≡ false → same k j ≡ true
   acked-own j first left gone = by_same (same k j) refl
     where
       by_same : (b : Bool) → same k j ≡ b → same k j ≡ true
       by_same true on = on
       by_same false off =
-          absurd (no_loss first (same-keeps t first.table k (ap (λ (u : Table). entry_at u k) left ∙ entry_at-changed_other t j k (taken (revoked_of old.scene j)) (apart-of k j off))) gone)
+          absurd (no_loss first (same-keeps t first.table k (ap (λ (u : Table). entry_at u k) left ∙ entry_at-acked_other t j k (revoked_of old.scene j) (apart-of k j off))) gone)
 
   -- with the pin all that was held was given back
   given-own : (j : Holder) (caps : Caps) (first : Scene) → first.table ≡ released t j caps → k ≡ j → holds first k cap ≡ false → (has caps P || has caps cap) ≡ true

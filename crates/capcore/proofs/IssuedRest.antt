@@ -4,6 +4,7 @@ use Rattle.std.proofs.Common.{◌≡◌, ℕ, Bool, true, false, cond, not, ◌=
 use Rattle.std.specs.List.{list_any}
 use Rattle.std.proofs.lemmas.Bool.{eqb-true}
 use Rattle.capbits.specs.declared.cap.Part.{Part}
+use Rattle.capbits.specs.Caps.{Caps}
 use Rattle.capbits.specs.Sets.{is_empty}
 use Rattle.locktable.specs.declared.states.State.{State}
 use Rattle.locktable.specs.declared.states.LockState.{LockState}
@@ -25,21 +26,21 @@ each_twice f g same [] = refl
 each_twice f g same (x ∷ xs) = λ i. same x i ∷ each_twice f g same xs i
 
 -- at these inodes
-module _ (old s : Scene) (at : ℕ → Bool) where
+module _ (known : Holder → Caps) (s : Scene) (at : ℕ → Bool) where
   abbrev pub on_it : EntryRow → Bool
   on_it row = at row.holder.ino.0
 
   -- a row at the end: those on these inodes change
   abbrev pub last_row : EntryRow → EntryRow
-  last_row row = cond (on_it row) (ended_row old s row) row
+  last_row row = cond (on_it row) (ended_row known s row) row
 
   -- the scene with these rows
   abbrev pub issued_at : Scene
-  issued_at = record s { table = changed_where on_it (finished_entry old s) s.table }
+  issued_at = record s { table = changed_where on_it (finished_entry known s) s.table }
 
   -- what holds of a row on one of them at the end, and of each other as it is, holds of each at the end
-  pub by_place : (P : EntryRow → Type 0) (row : EntryRow) → (on_it row ≡ true → P (ended_row old s row)) → (on_it row ≡ false → P row) → P (last_row row)
-  by_place P row here elsewhere = elim (on_it row) as (λ b. on_it row ≡ b → P (cond b (ended_row old s row) row)) [ true ↦ here | false ↦ elsewhere ] refl
+  pub by_place : (P : EntryRow → Type 0) (row : EntryRow) → (on_it row ≡ true → P (ended_row known s row)) → (on_it row ≡ false → P row) → P (last_row row)
+  by_place P row here elsewhere = elim (on_it row) as (λ b. on_it row ≡ b → P (cond b (ended_row known s row) row)) [ true ↦ here | false ↦ elsewhere ] refl
 
   pub holder-last : (row : EntryRow) → (last_row row).holder ≡ row.holder
   holder-last row = by_place (λ r. r.holder ≡ row.holder) row (λ e. refl) (λ e. refl)
@@ -48,7 +49,7 @@ module _ (old s : Scene) (at : ℕ → Bool) where
   of_inode-last i row = ap (λ (h : Holder). h.ino.0 == i) (holder-last row)
 
   want-last : (row : EntryRow) → want_of s.fs s.tree s.sessions (last_row row) ≡ want_of s.fs s.tree s.sessions row
-  want-last row = by_place (λ r. want_of s.fs s.tree s.sessions r ≡ want_of s.fs s.tree s.sessions row) row (λ e i. (row.holder.client, effective-ended old s row s.fs s.tree s.sessions i)) (λ e. refl)
+  want-last row = by_place (λ r. want_of s.fs s.tree s.sessions r ≡ want_of s.fs s.tree s.sessions row) row (λ e i. (row.holder.client, effective-ended known s row s.fs s.tree s.sessions i)) (λ e. refl)
 
   wants-last : (i : ℕ) → wants issued_at i ≡ wants s i
   wants-last i =
@@ -66,7 +67,7 @@ module _ (old s : Scene) (at : ℕ → Bool) where
 
     left-last : (row : EntryRow) → row.holder.ino.0 ≡ i → is_left (last_row row) ≡ is_left row
     left-last row here =
-        by_place (λ r. is_left r ≡ is_left row) row (λ e. ap (λ caps. not (is_empty caps)) (outside-ended old s row part from to (ap (λ n. lock_at s.locks n part) here ∙ lock))) (λ e. refl)
+        by_place (λ r. is_left r ≡ is_left row) row (λ e. ap (λ caps. not (is_empty caps)) (outside-ended known s row part from to (ap (λ n. lock_at s.locks n part) here ∙ lock))) (λ e. refl)
 
     left : (rows : List EntryRow) → list_any is_left (filter on (each last_row rows)) ≡ list_any is_left (filter on rows)
     left [] = refl

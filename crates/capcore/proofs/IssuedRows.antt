@@ -18,6 +18,7 @@ use Rattle.locktable.specs.declared.states.LockState.TheVariants.{Stable, Gather
 use Rattle.locktable.specs.Rows.{row_of, allowed_of, allowed_covers}
 use Rattle.captable.specs.declared.entry.Entry.{Entry}
 use Rattle.captable.specs.declared.entry.EntryRow.{EntryRow}
+use Rattle.captable.specs.declared.entry.Holder.{Holder}
 use Rattle.captable.specs.Calls.{renumbered}
 use Rattle.captable.specs.Many.{remade}
 use Rattle.lockmachine.specs.Locks.{lock_at}
@@ -87,50 +88,50 @@ numbered Q before after e lost gained same =
 
 -- ---- the entry at the end
 
-abbrev pub ended_row : Scene → Scene → EntryRow → EntryRow
-ended_row old s row = remade (finished_entry old s) row
+abbrev pub ended_row : (Holder → Caps) → Scene → EntryRow → EntryRow
+ended_row known s row = remade (finished_entry known s) row
 
-module _ (old s : Scene) (row : EntryRow) where
+module _ (known : Holder → Caps) (s : Scene) (row : EntryRow) where
   pub ended : (Q : Entry → Type 0) → ((seq revoke_seq : ℕ) → row.entry.seq ≤ seq → seq ≤ row.entry.seq + 1 → revoke_seq ≤ row.entry.revoke_seq ⊎ (revoke_seq ≡ seq)
-      → Q (record row.entry { held = union row.entry.held (due s row); seq = seq; revoke_seq = revoke_seq })) → Q (finished_entry old s row)
+      → Q (record row.entry { held = union row.entry.held (due s row); seq = seq; revoke_seq = revoke_seq })) → Q (finished_entry known s row)
   ended Q each =
-      numbered Q (told_set old row) (told_set s (issue_row s row)) (issue_row s row).entry
+      numbered Q (meet (known row.holder) row.entry.held) (told_set s (issue_row s row)) (issue_row s row).entry
       (each (row.entry.seq + 1) (row.entry.seq + 1) (omega arith) (omega arith) (inr refl))
       (each (row.entry.seq + 1) row.entry.revoke_seq (omega arith) (omega arith) (inl (omega arith)))
       (each row.entry.seq row.entry.revoke_seq (omega arith) (omega arith) (inl (omega arith)))
 
-  pub held-ended : (finished_entry old s row).held ≡ union row.entry.held (due s row)
+  pub held-ended : (finished_entry known s row).held ≡ union row.entry.held (due s row)
   held-ended = ended (λ e. e.held ≡ union row.entry.held (due s row)) (λ seq revoke_seq least most revoked. refl)
 
-  pub want-ended : (finished_entry old s row).want ≡ row.entry.want
+  pub want-ended : (finished_entry known s row).want ≡ row.entry.want
   want-ended = ended (λ e. e.want ≡ row.entry.want) (λ seq revoke_seq least most revoked. refl)
 
-  pub told-ended : row.entry.told_seq ≤ row.entry.seq → (finished_entry old s row).told_seq ≤ (finished_entry old s row).seq
+  pub told-ended : row.entry.told_seq ≤ row.entry.seq → (finished_entry known s row).told_seq ≤ (finished_entry known s row).seq
   told-ended was = ended (λ e. e.told_seq ≤ e.seq) (λ seq revoke_seq least most revoked. omega (arith, was, least))
 
-  pub revoked-ended : row.entry.revoke_seq ≤ row.entry.seq → (finished_entry old s row).revoke_seq ≤ (finished_entry old s row).seq
+  pub revoked-ended : row.entry.revoke_seq ≤ row.entry.seq → (finished_entry known s row).revoke_seq ≤ (finished_entry known s row).seq
   revoked-ended was = ended (λ e. e.revoke_seq ≤ e.seq) (λ seq revoke_seq least most revoked. elim revoked as (λ _. revoke_seq ≤ seq) [
     | inl before ↦ omega (arith, was, least, before)
     | inr now ↦ omega (arith, now)
   ])
 
-  pub seq-ended : (count : ℕ) → row.entry.seq ≤ count → (finished_entry old s row).seq ≤ count + 1
+  pub seq-ended : (count : ℕ) → row.entry.seq ≤ count → (finished_entry known s row).seq ≤ count + 1
   seq-ended count was = ended (λ e. e.seq ≤ count + 1) (λ seq revoke_seq least most revoked. omega (arith, was, most))
 
-  pub effective-ended : (fs : List ℕ) (tree : Nodes) (sessions : SessionTable) → effective_want fs tree sessions (ended_row old s row) ≡ effective_want fs tree sessions row
+  pub effective-ended : (fs : List ℕ) (tree : Nodes) (sessions : SessionTable) → effective_want fs tree sessions (ended_row known s row) ≡ effective_want fs tree sessions row
   effective-ended fs tree sessions =
       ap (λ (want : Caps). if is_open (status_of sessions row.holder.client.0) then meet want (permitted fs tree sessions row.holder) else no_caps) want-ended
 
   -- ---- what it holds
 
-  pub holds-held : (c : Cap) → has row.entry.held c ≡ true → has (finished_entry old s row).held c ≡ true
+  pub holds-held : (c : Cap) → has row.entry.held c ≡ true → has (finished_entry known s row).held c ≡ true
   holds-held c h = ap (λ caps. has caps c) held-ended ∙ has-union row.entry.held (due s row) c ∙ first_true _ _ h
 
-  pub holds-due : (c : Cap) → has (due s row) c ≡ true → has (finished_entry old s row).held c ≡ true
+  pub holds-due : (c : Cap) → has (due s row) c ≡ true → has (finished_entry known s row).held c ≡ true
   holds-due c h = ap (λ caps. has caps c) held-ended ∙ has-union row.entry.held (due s row) c ∙ second_true _ _ h
 
   -- it holds the pin, where the pin was held or is wanted
-  pub holds-pin : (has row.entry.held P || has (effective_want s.fs s.tree s.sessions row) P) ≡ true → has (finished_entry old s row).held P ≡ true
+  pub holds-pin : (has row.entry.held P || has (effective_want s.fs s.tree s.sessions row) P) ≡ true → has (finished_entry known s row).held P ≡ true
   holds-pin h = elim (either _ _ h) [
     | inl held ↦ holds-held P held
     | inr wanted ↦ holds-due P (has-meet _ _ P ∙ both_true _ _ wanted (pin_allowed s row))
@@ -141,24 +142,24 @@ module _ (old s : Scene) (row : EntryRow) where
   due_here part c d cov = allowed_here s row part c cov (and_parts _ _ (sym (has-meet (effective_want s.fs s.tree s.sessions row) (allowed_to s row) c) ∙ d)).1
 
   -- what it holds of a part it held, or it is due
-  held_or_due : (part : Part) (c : Cap) → has (of_part part (finished_entry old s row).held) c ≡ true
+  held_or_due : (part : Part) (c : Cap) → has (of_part part (finished_entry known s row).held) c ≡ true
       → (has (of_part part row.entry.held) c ≡ true) ⊎ (has (allowed_part s row part) c ≡ true)
   held_or_due part c h =
-      let parts = and_parts (has (finished_entry old s row).held c) (covers c part) (sym (has-of_part part (finished_entry old s row).held c) ∙ h) in
+      let parts = and_parts (has (finished_entry known s row).held c) (covers c part) (sym (has-of_part part (finished_entry known s row).held c) ∙ h) in
       elim (either (has row.entry.held c) (has (due s row) c) (sym (ap (λ caps. has caps c) held-ended ∙ has-union row.entry.held (due s row) c) ∙ parts.0)) as (λ _. (has (of_part part row.entry.held) c ≡ true) ⊎ (has (allowed_part s row part) c ≡ true)) [
         | inl held ↦ inl (has-of_part part row.entry.held c ∙ both_true _ _ held parts.1)
         | inr is_due ↦ inr (due_here part c is_due parts.1)
       ]
 
   -- it stays in the row of the lock
-  pub in_row-ended : (part : Part) → IsInRow s row part → IsInRow s (ended_row old s row) part
+  pub in_row-ended : (part : Part) → IsInRow s row part → IsInRow s (ended_row known s row) part
   unfolding allowed_of
   in_row-ended part was = by_lock (lock_at s.locks row.holder.ino.0 part) refl was
     where
       allowed_by_it : (o : Option LockState) (c : Cap) → lock_at s.locks row.holder.ino.0 part ≡ o → has (allowed_part s row part) c ≡ true → has (allowed_by part row o) c ≡ true
       allowed_by_it o c is h = ap (λ o. has (allowed_by part row o) c) (sym is) ∙ h
 
-      by_lock : (o : Option LockState) → lock_at s.locks row.holder.ino.0 part ≡ o → IsInRowOf row part o → IsInRowOf (ended_row old s row) part o
+      by_lock : (o : Option LockState) → lock_at s.locks row.holder.ino.0 part ≡ o → IsInRowOf row part o → IsInRowOf (ended_row known s row) part o
       by_lock None is was = λ c h. elim (held_or_due part c h) as (λ _. has no_caps c ≡ true) [ inl held ↦ was c held | inr allowed ↦ allowed_by_it None c is allowed ]
       by_lock (Some (Stable state)) is was = λ c h. elim (held_or_due part c h) as (λ _. has (row_of part state row.holder.client) c ≡ true) [ inl held ↦ was c held | inr allowed ↦ allowed_by_it (Some (Stable state)) c is allowed ]
       by_lock (Some (Gather from to)) is was = λ c h. elim (held_or_due part c h) as (λ _. has (row_of part from row.holder.client) c ≡ true) [
@@ -167,7 +168,7 @@ module _ (old s : Scene) (row : EntryRow) where
       ]
 
   -- what is outside of a gather's target stays so
-  pub outside-ended : (part : Part) (from to : State) → lock_at s.locks row.holder.ino.0 part ≡ Some (Gather from to) → outside part to (ended_row old s row) ≡ outside part to row
+  pub outside-ended : (part : Part) (from to : State) → lock_at s.locks row.holder.ino.0 part ≡ Some (Gather from to) → outside part to (ended_row known s row) ≡ outside part to row
   unfolding allowed_of
   outside-ended part from to lock = same_caps _ _ (λ c.
       has-minus _ _ c ∙ ap (λ b. b && not (has (row_of part to row.holder.client) c)) (has-of_part part _ c ∙ ap (λ b. b && covers c part) (ap (λ caps. has caps c) held-ended ∙ has-union row.entry.held (due s row) c))

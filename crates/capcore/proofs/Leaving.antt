@@ -4,12 +4,13 @@ use Rattle.std.specs.Prelude.{IsTrue}
 use Rattle.std.specs.List.{find}
 use Rattle.std.specs.Option.{option_map}
 use Rattle.std.specs.FinMap as map
+use Rattle.std.specs.HashMap.{HashMap, get}
 use Rattle.std.proofs.lemmas.Bool.{eqb-true}
 use Rattle.std.proofs.lemmas.List.Elements.{All-contains, All-contains_itself, All-weaker}
 use Rattle.capbits.specs.declared.cap.Part.{Part}
 use Rattle.capbits.specs.declared.cap.Part.TheVariants.{A, L, X, F}
-use Rattle.capbits.specs.Caps.{has, caps_where}
-use Rattle.capbits.specs.Sets.{no_caps, minus, meet, IsSubset}
+use Rattle.capbits.specs.Caps.{Caps, has, caps_where}
+use Rattle.capbits.specs.Sets.{no_caps, union, minus, meet, IsSubset}
 use Rattle.locktable.specs.declared.states.State.TheVariants.{Sync}
 use Rattle.locktable.specs.declared.states.LockState.{LockState}
 use Rattle.locktable.specs.declared.states.LockState.TheVariants.{Stable, Gather}
@@ -20,16 +21,21 @@ use Rattle.inotree.specs.Tree.{Nodes}
 use Rattle.sessiontab.specs.Table.{SessionTable}
 use Rattle.sessiontab.specs.Calls.{has_session}
 use Rattle.captable.specs.declared.entry.EntryRow.{EntryRow}
-use Rattle.captable.specs.Table.{IsTable, is_row_of}
+use Rattle.captable.specs.declared.entry.Holder.{Holder}
+use Rattle.captable.specs.Table.{IsTable, same, is_row_of, entry_of}
+use Rattle.captable.proofs.Searches.{find_passes}
+use Rattle.captable.proofs.Tables.{same-is}
 use Rattle.captable.specs.Calls.{is_of_inode}
 use Rattle.lockmachine.specs.Inodes.{StateMap, lock_in, in_sync}
 use Rattle.lockmachine.specs.Locks.{lock_at}
+use Rattle.lockmachine.specs.Policy.{permitted}
 use Rattle.lockmachine.specs.Requests.{first_for, head_of}
 use Rattle.lockmachine.specs.Wants.{effective_want, want_of, loner_of, union_of}
-use Rattle.lockmachine.specs.Scene.{Scene, rows_on, loner, wanted, against}
+use Rattle.lockmachine.specs.Scene.{Scene, rows_on, loner, wanted, against, told_set}
 use Rattle.lockmachine.specs.Moves.{IsQuiet}
 use Rattle.lockmachine.proofs.PolicyElsewhere.{wants-kept}
 use Rattle.capcore.specs.State.{State}
+use Rattle.capcore.specs.Known.{AreKnown}
 use Rattle.capcore.specs.Direct.{with_scene}
 use Rattle.capcore.specs.Finish.{due, finished}
 use Rattle.capcore.specs.Finishing.{against_under, allowed_under}
@@ -86,8 +92,8 @@ module _ (s : State) (sound : IsSound s) where
   nobody_waits ino part out =
       subst (λ o. IsQuiet s.scene ino part (option_map (lock_in part) o)) (no_locks ino out) (sound.at_rest.each ino part)
 
-  entry_of : (row : EntryRow) → Contains s.scene.table.rows row → IsSoundEntry s.scene row
-  entry_of row inside = All-contains (IsSoundEntry s.scene) s.scene.table.rows row sound.entries inside
+  sound_row : (row : EntryRow) → Contains s.scene.table.rows row → IsSoundEntry s.scene row
+  sound_row row inside = All-contains (IsSoundEntry s.scene) s.scene.table.rows row sound.entries inside
 
   no_rows : (ino : ℕ) → map.contains_key s.scene.tree.nodes ino ≡ false → rows_on s.scene ino ≡ []
   no_rows ino out = none_passes (is_of_inode (record { 0 = ino })) s.scene.table.rows (λ row inside. by_test row inside (row.holder.ino.0 == ino) refl)
@@ -95,7 +101,7 @@ module _ (s : State) (sound : IsSound s) where
       by_test : (row : EntryRow) → Contains s.scene.table.rows row → (b : Bool) → (row.holder.ino.0 == ino) ≡ b → b ≡ false
       by_test row inside false e = refl
       by_test row inside true e =
-          let entry = entry_of row inside in
+          let entry = sound_row row inside in
           let here : map.contains_key s.scene.tree.nodes ino ≡ true = subst (λ q. map.contains_key s.scene.tree.nodes q ≡ true) (eqb-true row.holder.ino.0 ino e) entry.on_inode in
           cc
 
@@ -106,10 +112,12 @@ module _ (s : State) (sound : IsSound s) (tree : Nodes) (sessions : SessionTable
   new = with_parts s.scene tree sessions states
 
   same_locks : (row : EntryRow) → Contains s.scene.table.rows row → map.get states row.holder.ino.0 ≡ map.get s.scene.locks.states row.holder.ino.0
-  same_locks row inside = let entry = entry_of s sound row inside in leaves.locks row.holder.ino.0 entry.on_inode
+  same_locks row inside = let entry = sound_row s sound row inside in leaves.locks row.holder.ino.0 entry.on_inode
 
   same_against : (row : EntryRow) → Contains s.scene.table.rows row → against new row ≡ against s.scene row
-  same_against row inside = ap (λ o. against_under o row) (same_locks row inside)
+  same_against row inside =
+      let may = All-contains (λ row. permitted s.scene.fs tree sessions row.holder ≡ permitted s.scene.fs s.scene.tree s.scene.sessions row.holder) s.scene.table.rows row leaves.permits inside in
+      λ i. union (against_under (same_locks row inside i) row) (minus row.entry.held (may i))
 
   same_due : (row : EntryRow) → Contains s.scene.table.rows row → due new row ≡ due s.scene row
   same_due row inside =
@@ -117,7 +125,7 @@ module _ (s : State) (sound : IsSound s) (tree : Nodes) (sessions : SessionTable
       λ i. meet (want i) (allowed_under (same_locks row inside i) row)
 
   entry_kept : (row : EntryRow) → Contains s.scene.table.rows row → IsSoundEntry new row
-  entry_kept row inside = let was = entry_of s sound row inside in record {
+  entry_kept row inside = let was = sound_row s sound row inside in record {
     of_session = leaves.connected row.holder.client.0 was.of_session;
     on_inode = leaves.there row.holder.ino.0 was.on_inode;
     holds_pin = was.holds_pin;
@@ -178,3 +186,17 @@ module _ (s : State) (sound : IsSound s) (tree : Nodes) (sessions : SessionTable
   pub kept-finished : IsTable s.scene.table → finished s.scene (with_parts s.scene tree sessions states) (with_parts s.scene tree sessions states) ≡ with_parts s.scene tree sessions states
   kept-finished table =
       same-finished (with_scene s (with_parts s.scene tree sessions states)) kept-sound table s.scene (λ row inside. ap (minus row.entry.held) (sym (same_against row inside)))
+
+  -- what is known of each entry is known
+  pub kept-known : {S : Type 0} (sets : HashMap Holder Caps S) → AreKnown sets s.scene → AreKnown sets (with_parts s.scene tree sessions states)
+  kept-known sets known k e there = by_row (find (is_row_of k) s.scene.table.rows) refl there
+    where
+      by_row : (o : Option EntryRow) → find (is_row_of k) s.scene.table.rows ≡ o → entry_of o ≡ Some e → get same sets k ≡ Some (told_set new (record { holder = k; entry = e }))
+      by_row None none is = absurd (cc)
+      by_row (Some row) found is =
+          let mine : k ≡ row.holder = same-is k row.holder (find_passes (is_row_of k) s.scene.table.rows row found) in
+          let its : row.entry ≡ e = cc in
+          let one : row ≡ record { holder = k; entry = e } = λ i. record { holder = sym mine i; entry = its i } in
+          known k e there ∙ ap (λ (r : EntryRow). Some (told_set s.scene r)) (sym one)
+          ∙ ap (λ caps. Some (minus row.entry.held caps)) (sym (same_against row (found-contains (is_row_of k) s.scene.table.rows row found)))
+          ∙ ap (λ (r : EntryRow). Some (told_set new r)) one

@@ -68,3 +68,8 @@ pub mod Reaching
 pub mod ShownSteps
 pub mod ShownWords
 pub mod HeldOn
+pub mod NothingServed
+pub mod Knowing
+pub mod EndKnown
+pub mod KeptSets
+pub mod TouchKept

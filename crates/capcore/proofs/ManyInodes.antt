@@ -1,23 +1,29 @@
 -- The end of a step at several inodes: one after another, each once, they are finished as if all at once.
-use Rattle.std.proofs.Common.{◌≡◌, ℕ, Bool, true, false, cond, ◌||◌, ◌&&◌, List, [], ◌∷◌, filter, map as each, refl, sym, ap, subst, ◌∙◌}
+use Rattle.std.proofs.Common.{◌≡◌, ℕ, Bool, true, false, cond, ◌||◌, ◌&&◌, List, [], ◌∷◌, filter, map as each, ◌++◌, append-nil, append_assoc, eq-eqb, refl, sym, ap, subst, ◌∙◌}
 use Rattle.std.specs.Prelude.{T, All, ◌==◌}
 use Rattle.std.specs.declared.cmp.Ordering.{Ordering}
 use Rattle.std.specs.declared.cmp.Ordering.TheVariants.{Less, Equal, Greater}
 use Rattle.std.specs.Cmp.{unsigned_tied}
 use Rattle.std.specs.FinMap as map
 use Rattle.std.specs.FinMap.Entries.{below_all}
-use Rattle.std.specs.List.{list_any, fold, AllByRecursion, IsDistinct}
+use Rattle.std.specs.List.{find, list_any, AllByRecursion, IsDistinct}
 use Rattle.std.specs.Ordering.{nat_cmp, eq_by_cmp, is_eq, is_lt}
 use Rattle.std.proofs.lemmas.Bool.{eqb-true}
-use Rattle.std.proofs.lemmas.List.Elements.{All-map, All-weaker, All-filter}
+use Rattle.std.proofs.lemmas.List.Elements.{All-map, All-weaker}
 use Rattle.capbits.specs.declared.ids.Ino.{Ino}
 use Rattle.captable.specs.declared.entry.Entry.{Entry}
 use Rattle.captable.specs.declared.entry.EntryRow.{EntryRow}
 use Rattle.captable.specs.declared.entry.Holder.{Holder}
 use Rattle.captable.specs.Table.{Table}
+use Rattle.capbits.specs.Caps.{Caps}
+use Rattle.std.specs.HashMap.{HashMap, get}
+use Rattle.std.proofs.lemmas.List.Folds.{list_any-append}
 use Rattle.captable.specs.Calls.{is_of_inode, entries_on}
 use Rattle.captable.specs.Many.{changed_where, remade}
+use Rattle.captable.specs.Table.{same, is_row_of}
 use Rattle.captable.proofs.OneByOne.{same_holder}
+use Rattle.capcore.specs.Known.{KeptAnew}
+use Rattle.capcore.proofs.KeptSets.{kept-nobody, kept-same, kept-then, kept-not, found-stays}
 
 -- ---- the inodes of a map are named once
 
@@ -126,56 +132,101 @@ entries_on-stay p g ino fails t = rows-stay p g ino fails t.rows
 
 -- ---- one inode after another
 
--- the table, in which each entry on the inode becomes what g makes of its row
-abbrev pub finished_on : (EntryRow → Entry) → Table → ℕ → Table
-finished_on g t ino = changed_where (is_of_inode (record { 0 = ino })) g t
-
 untouched : (g : EntryRow → Entry) (rows : List EntryRow) → each (λ row. cond false (remade g row) row) rows ≡ rows
 untouched g [] = refl
 untouched g (row ∷ rows) = ap (λ rest. row ∷ rest) (untouched g rows)
-
--- a number among others is not one that differs from all
-not_among : (k : ℕ) (ks : List ℕ) → AllByRecursion (λ q. same_number k q ≡ false) ks → (n : ℕ) → (n == k) ≡ true → list_any (same_number n) ks ≡ false
-not_among k [] all n is = refl
-not_among k (q ∷ ks) all n is =
-    ap (λ b. b || list_any (same_number n) ks) (ap (λ x. same_number x q) (eqb-true n k is) ∙ all.0) ∙ not_among k ks all.1 n is
-
-pub fold-finished_on : (g : EntryRow → Entry) (ks : List ℕ) (t : Table) → IsDistinct same_number ks
-    → fold (finished_on g) t ks ≡ changed_where (on (λ n. list_any (same_number n) ks)) g t
-unfolding IsDistinct
-fold-finished_on g [] t apart = ap (λ (rows : List EntryRow). record t { rows = rows }) (sym (untouched g t.rows))
-fold-finished_on g (k ∷ ks) t apart =
-    fold-finished_on g ks (finished_on g t k) apart.1
-    ∙ changed-twice_where (λ n. n == k) (λ n. list_any (same_number n) ks) (λ n. list_any (same_number n) (k ∷ ks)) g g g (not_among k ks apart.0)
-    (λ n. ap (λ b. b || list_any (same_number n) ks) (sym (unsigned_tied n k))) (λ row e. refl) (λ row e. refl) t
 
 same_tests : (p q : ℕ → Bool) → ((n : ℕ) → p n ≡ q n) → (g : EntryRow → Entry) (rows : List EntryRow)
     → each (λ row. cond (on p row) (remade g row) row) rows ≡ each (λ row. cond (on q row) (remade g row) row) rows
 same_tests p q is g [] = refl
 same_tests p q is g (row ∷ rows) = λ i. cond (is row.holder.ino.0 i) (remade g row) row ∷ same_tests p q is g rows i
 
--- all inodes of a map
-pub fold-keys : {X : Type 0} (g : EntryRow → Entry) (m : map.FinMap nat_cmp X) (t : Table) → fold (finished_on g) t (map.keys m) ≡ changed_where (on (map.contains_key m)) g t
-fold-keys g m t =
-    fold-finished_on g (map.keys m) t (distinct-keys m)
-    ∙ ap (λ (rows : List EntryRow). record t { rows = rows }) (same_tests (λ n. list_any (same_number n) (map.keys m)) (map.contains_key m) (λ n. sym (map.contains_key-keys m n)) g t.rows)
+-- ---- so far
 
--- what is known of all entries, is known of those on each of these inodes
-pub of-each : (P : EntryRow → Type 0) (t : Table) (ks : List ℕ) → All P t.rows → AllByRecursion (λ q. All P (entries_on t (record { 0 = q }))) ks
-of-each P t [] all = tt
-of-each P t (k ∷ ks) all = (All-filter (is_of_inode (record { 0 = k })) P t.rows all, of-each P t ks all)
+-- some inodes are done, of those that are named: their entries are finished, and what their clients are to know is kept
+pub record IsFinishing {S : Type 0} (g : EntryRow → Entry) (f : EntryRow → Caps) (t : Table) (was : HashMap Holder Caps S) (all : List ℕ) (left : List ℕ) (now : Table) (sets : HashMap Holder Caps S) : Type 0 where
+  pub done : List ℕ
+  pub named : done ++ left ≡ all
+  pub finished : now ≡ changed_where (on (λ n. list_any (same_number n) done)) g t
+  pub kept : KeptAnew (λ k. list_any (same_number k.ino.0) done) f t was sets
 
--- what is known of the entries on inodes that are yet to come, is known of them once this one is finished
-pub yet-to-come : (P : EntryRow → Type 0) (g : EntryRow → Entry) (t : Table) (k : ℕ) (ks : List ℕ) → AllByRecursion (λ q. same_number k q ≡ false) ks
-    → AllByRecursion (λ q. All P (entries_on t (record { 0 = q }))) ks → AllByRecursion (λ q. All P (entries_on (finished_on g t k) (record { 0 = q }))) ks
-yet-to-come P g t k [] apart all = tt
-yet-to-come P g t k (q ∷ ks) apart all =
-    let other : (q == k) ≡ false = differs (q == k) refl in
-    (subst (All P) (sym (entries_on-stay (λ n. n == k) g (record { 0 = q }) other t)) all.0, yet-to-come P g t k ks apart.1 all.1)
+-- at first none is
+pub none-finished : {S : Type 0} (g : EntryRow → Entry) (f : EntryRow → Caps) (t : Table) (was : HashMap Holder Caps S) (all : List ℕ) → IsFinishing g f t was all all t was
+none-finished g f t was all = record {
+  done = [];
+  named = refl;
+  finished = ap (λ (rows : List EntryRow). record t { rows = rows }) (sym (untouched g t.rows));
+  kept = kept-nobody f t was;
+}
+
+-- the next is not among those that are done
+pub next-apart : (done : List ℕ) (k : ℕ) (left : List ℕ) → IsDistinct same_number (done ++ k ∷ left) → (n : ℕ) → (n == k) ≡ true → list_any (same_number n) done ≡ false
+unfolding IsDistinct
+next-apart [] k left apart n is = refl
+next-apart (d ∷ done) k left apart n is =
+    ap (λ b. b || list_any (same_number n) done) (turned (same_number n d) refl) ∙ next-apart done k left apart.1 n is
   where
-    differs : (b : Bool) → (q == k) ≡ b → b ≡ false
-    differs false e = refl
-    differs true e = sym (unsigned_tied k k ∙ itself) ∙ ap (same_number k) (sym (eqb-true q k e)) ∙ apart.0
+    behind : (xs : List ℕ) → AllByRecursion (λ q. same_number d q ≡ false) (xs ++ k ∷ left) → same_number d k ≡ false
+    behind [] all = all.0
+    behind (x ∷ xs) all = behind xs all.1
+
+    turned : (b : Bool) → same_number n d ≡ b → b ≡ false
+    turned false e = refl
+    turned true e =
+        let here : (n == d) ≡ true = sym (unsigned_tied n d) ∙ e in
+        let equal : d ≡ k = sym (eqb-true n d here) ∙ eqb-true n k is in
+        sym (unsigned_tied k k ∙ eq-eqb k k refl) ∙ ap (λ q. same_number q k) (sym equal) ∙ behind done apart.0
+
+-- it is finished in its turn, as it would have been at first
+pub next-finished : {S : Type 0} (g : EntryRow → Entry) (f : EntryRow → Caps) (t : Table) (was : HashMap Holder Caps S) (all : List ℕ) (k : ℕ) (left : List ℕ) (mid : Table) (sets : HashMap Holder Caps S)
+    (h : EntryRow → Entry) (now : Table) (then : HashMap Holder Caps S)
+    → IsDistinct same_number all → IsFinishing g f t was all (k ∷ left) mid sets → now ≡ changed_where (is_of_inode (record { 0 = k })) h mid
+    → ((row : EntryRow) → is_of_inode (record { 0 = k }) row ≡ true → get same sets row.holder ≡ get same was row.holder → h row ≡ g row)
+    → KeptAnew (λ q. q.ino.0 == k) f mid sets then → IsFinishing g f t was all left now then
+next-finished g f t was all k left mid sets h now then once so_far step alike kept = record {
+  done = so_far.done ++ k ∷ [];
+  named = append_assoc so_far.done (k ∷ []) left ∙ so_far.named;
+  finished =
+      step ∙ ap (changed_where (is_of_inode (record { 0 = k })) h) so_far.finished
+      ∙ changed-twice_where (λ n. list_any (same_number n) so_far.done) (λ n. n == k) among_more g h g elsewhere more (λ row e. refl)
+      (λ row e. alike row e (kept-not (λ q. list_any (same_number q.ino.0) so_far.done) f t was sets so_far.kept row.holder (apart row.holder.ino.0 e))) t;
+  kept =
+      kept-same (λ q. list_any (same_number q.ino.0) so_far.done || (q.ino.0 == k)) (λ q. among_more q.ino.0) f t was then (λ q. more q.ino.0)
+      (kept-then (λ q. list_any (same_number q.ino.0) so_far.done) (λ q. q.ino.0 == k) f t mid was sets then so_far.kept kept
+      (λ q e. ap (λ (u : Table). find (is_row_of q) u.rows) so_far.finished
+      ∙ found-stays (on (λ n. list_any (same_number n) so_far.done)) g t q (λ row is. ap (λ (x : Holder). list_any (same_number x.ino.0) so_far.done) (sym is) ∙ apart q.ino.0 e)));
+}
+  where
+    among_more : ℕ → Bool
+    among_more n = list_any (same_number n) (so_far.done ++ k ∷ [])
+
+    apart : (n : ℕ) → (n == k) ≡ true → list_any (same_number n) so_far.done ≡ false
+    apart n e = next-apart so_far.done k left (subst (IsDistinct same_number) (sym so_far.named) once) n e
+
+    elsewhere : (n : ℕ) → list_any (same_number n) so_far.done ≡ true → (n == k) ≡ false
+    elsewhere n among = by_test (n == k) refl
       where
-        itself : (k == k) ≡ true
-        itself = sym (ap (λ n. n == k) (eqb-true q k e)) ∙ e
+        by_test : (b : Bool) → (n == k) ≡ b → b ≡ false
+        by_test false e = refl
+        by_test true e = sym among ∙ apart n e
+
+    or_false : (b : Bool) → (b || false) ≡ b
+    or_false true = refl
+    or_false false = refl
+
+    more : (n : ℕ) → (list_any (same_number n) so_far.done || (n == k)) ≡ among_more n
+    more n =
+        ap (λ b. list_any (same_number n) so_far.done || b) (sym (unsigned_tied n k) ∙ sym (or_false (same_number n k)))
+        ∙ sym (list_any-append (same_number n) so_far.done (k ∷ []))
+
+-- at the end all inodes of a map are
+pub all-finished : {S X : Type 0} (g : EntryRow → Entry) (f : EntryRow → Caps) (t : Table) (was : HashMap Holder Caps S) (m : map.FinMap nat_cmp X) (now : Table) (sets : HashMap Holder Caps S)
+    → IsFinishing g f t was (map.keys m) [] now sets
+    → (now ≡ changed_where (on (map.contains_key m)) g t) × KeptAnew (λ k. map.contains_key m k.ino.0) f t was sets
+all-finished g f t was m now sets so_far = (
+  so_far.finished ∙ ap (λ (rows : List EntryRow). record t { rows = rows }) (same_tests (λ n. list_any (same_number n) so_far.done) (map.contains_key m) tests g t.rows),
+  kept-same (λ k. list_any (same_number k.ino.0) so_far.done) (λ k. map.contains_key m k.ino.0) f t was sets (λ k. tests k.ino.0) so_far.kept,
+)
+  where
+    tests : (n : ℕ) → list_any (same_number n) so_far.done ≡ map.contains_key m n
+    tests n = ap (list_any (same_number n)) (sym (append-nil so_far.done) ∙ so_far.named) ∙ sym (map.contains_key-keys m n)

@@ -16,9 +16,10 @@ use Rattle.locktable.specs.Rows.{row_of}
 use Rattle.captable.specs.declared.entry.EntryRow.{EntryRow}
 use Rattle.captable.specs.Calls.{is_of_inode}
 use Rattle.lockmachine.specs.Locks.{lock_at}
-use Rattle.lockmachine.specs.Scene.{Scene, outside, against_lock, against_part, against}
+use Rattle.lockmachine.specs.Scene.{Scene, outside, against_lock, against_part, against_locks, against_policy, against}
 use Rattle.lockmachine.specs.Rows.{IsInRowOf, IsInRow}
-use Rattle.capcore.specs.Headline.{IsTakenBack, IsInPlace}
+use Rattle.lockmachine.specs.Policy.{permitted}
+use Rattle.capcore.specs.Headline.{IsTakenBack, IsInPlace, AreRevoked}
 
 pub second_true : (a b : Bool) → b ≡ true → (a || b) ≡ true
 second_true true b e = refl
@@ -36,12 +37,15 @@ any_found p q (x ∷ xs) row (suc k, room, is) on passes = later (p x) (any_foun
     later false found = found
     later true found = second_true (q x) (list_any q (filter p xs)) found
 
--- what is revoked of a part is revoked
+-- what a lock takes is being revoked
+by_locks : (s : Scene) (row : EntryRow) (part : Part) (c : Cap) → has (against_part s row part) c ≡ true → has (against_locks s row) c ≡ true
+by_locks s row A c h = has-union _ _ c ∙ ap (λ b. b || has (union (against_part s row L) (union (against_part s row X) (against_part s row F))) c) h
+by_locks s row L c h = has-union _ _ c ∙ second_true _ _ (has-union _ _ c ∙ ap (λ b. b || has (union (against_part s row X) (against_part s row F)) c) h)
+by_locks s row X c h = has-union _ _ c ∙ second_true _ _ (has-union _ _ c ∙ second_true _ _ (has-union _ _ c ∙ ap (λ b. b || has (against_part s row F) c) h))
+by_locks s row F c h = has-union _ _ c ∙ second_true _ _ (has-union _ _ c ∙ second_true _ _ (has-union _ _ c ∙ second_true _ _ h))
+
 part_in_all : (s : Scene) (row : EntryRow) (part : Part) (c : Cap) → has (against_part s row part) c ≡ true → has (against s row) c ≡ true
-part_in_all s row A c h = has-union _ _ c ∙ ap (λ b. b || has (union (against_part s row L) (union (against_part s row X) (against_part s row F))) c) h
-part_in_all s row L c h = has-union _ _ c ∙ second_true _ _ (has-union _ _ c ∙ ap (λ b. b || has (union (against_part s row X) (against_part s row F)) c) h)
-part_in_all s row X c h = has-union _ _ c ∙ second_true _ _ (has-union _ _ c ∙ second_true _ _ (has-union _ _ c ∙ ap (λ b. b || has (against_part s row F) c) h))
-part_in_all s row F c h = has-union _ _ c ∙ second_true _ _ (has-union _ _ c ∙ second_true _ _ (has-union _ _ c ∙ second_true _ _ h))
+part_in_all s row part c h = has-union (against_locks s row) (against_policy s row) c ∙ ap (λ b. b || has (against_policy s row) c) (by_locks s row part c h)
 
 module _ (s : Scene) (row : EntryRow) (inside : Contains s.table.rows row) (part : Part) where
   -- what is outside the row of a gather's target is being revoked, and keeps the gather open
@@ -69,3 +73,10 @@ pub placed-in_row : (s : Scene) (row : EntryRow) (part : Part) (o : Option LockS
 placed-in_row s row part None place = place
 placed-in_row s row part (Some (Stable state)) place = place
 placed-in_row s row part (Some (Gather from to)) place = place.0
+
+-- ---- what is not permitted
+
+pub all-revoked : (s : Scene) → AreRevoked s
+all-revoked s row cap found held out =
+    has-union (against_locks s row) (against_policy s row) cap
+    ∙ second_true _ _ (has-minus row.entry.held (permitted s.fs s.tree s.sessions row.holder) cap ∙ (λ i. held i && not (out i)))

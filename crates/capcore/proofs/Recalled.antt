@@ -1,6 +1,8 @@
 -- A recall is a whole step: it marks entries as asked for, by which nothing is judged, moved or issued.
 use Rattle.std.proofs.Common.{◌≡◌, ◌≤◌, ℕ, ◌+◌, Bool, true, false, cond, ◌||◌, List, [], take, refl, sym, ap, subst}
+use Rattle.std.specs.HashMap.{HashMap}
 use Rattle.std.proofs.lemmas.List.Elements.{All-map}
+use Rattle.capbits.specs.Caps.{Caps}
 use Rattle.captable.specs.declared.entry.EntryRow.{EntryRow}
 use Rattle.captable.specs.declared.entry.Holder.{Holder}
 use Rattle.captable.specs.Table.{Table, IsTable, is_among}
@@ -10,11 +12,13 @@ use Rattle.capcore.specs.declared.event.Event.TheVariants as event
 use Rattle.capcore.specs.declared.reply.Reply.TheVariants as reply
 use Rattle.capcore.specs.declared.reply.Said.{Said}
 use Rattle.capcore.specs.State.{State}
+use Rattle.capcore.specs.Known.{AreKnown}
 use Rattle.capcore.specs.Answered.{IsAnswered}
 use Rattle.capcore.specs.Direct.{with_table}
 use Rattle.capcore.specs.Finish.{finished}
 use Rattle.capcore.specs.Sound.{IsSound, AreGiven}
 use Rattle.capcore.proofs.Finishing.{same-finished}
+use Rattle.capcore.proofs.Knowing.{HoldAlike, known-alike, alike-where}
 use Rattle.capcore.proofs.Sounding.{later-given}
 use Rattle.capcore.proofs.Steps.{direct-answered}
 use Rattle.capcore.proofs.Telling.{as_told, as_sized, map_alike, retold, retold_table, retold-sound}
@@ -62,3 +66,10 @@ module _ (old : State) (sound : IsSound old) (count : ℕ) where
   recall-answered said table answers kept none =
       direct-answered old new (event.Recall count) refl (reply.Recalled (take count old.scene.table.recall)) (record { answer_is = refl; state_is = refl })
       recalled-sound (recalled-finished table) said recalled-given answers kept none
+
+  -- each entry holds what it held
+  pub recalled-known : {S : Type 0} (sets : HashMap Holder Caps S) → AreKnown sets old.scene → AreKnown sets (with_table old (recalled old.scene.table count)).scene
+  recalled-known sets known =
+      known-alike sets old.scene (recalled old.scene.table count)
+      (subst (HoldAlike old.scene.table) (sym (recalled-retold old.scene.table count))
+      (alike-where (λ row. true) (λ row. (retold as_told as_sized (asked_too named) row).entry) old.scene.table (λ row. refl))) known

@@ -18,10 +18,10 @@ use Rattle.captable.specs.declared.entry.Entry.{Entry}
 use Rattle.captable.specs.declared.entry.EntryRow.{EntryRow}
 use Rattle.captable.specs.declared.entry.Holder.{Holder}
 use Rattle.captable.specs.Table.{Table, IsTable, holder, same, is_row_of, is_among, entry_of, entry_at}
-use Rattle.captable.specs.Calls.{opened, changed, issued, taken, given_back, released, touched, told, recalled, renumbered, with_asked, with_size_due, without_client, is_of_client}
+use Rattle.captable.specs.Calls.{opened, changed, without, issued, taken, given_back, acked, released, touched, told, recalled, renumbered, with_asked, with_size_due, without_client, is_of_client}
 use Rattle.captable.specs.Many.{remade}
 use Rattle.captable.specs.Shown.{IsShown}
-use Rattle.captable.proofs.ByHolder.{entry_at-changed, entry_at-changed_other, entry_at-opened_other, entry_at-without_client, entry_at-without_client_other, entry_at-released_pin, entry_at-released, entry_at-released_other, entry_at-recalled, entry_at-recalled_other, row_found}
+use Rattle.captable.proofs.ByHolder.{entry_at-changed, entry_at-changed_other, entry_at-opened_other, entry_at-acked_other, entry_at-without, entry_at-without_client, entry_at-without_client_other, entry_at-released_pin, entry_at-released, entry_at-released_other, entry_at-recalled, entry_at-recalled_other, row_found}
 use Rattle.captable.proofs.Searches.{find_passes, find-map}
 use Rattle.captable.proofs.Shown.{shown-numbered, shown-less, shown-told}
 use Rattle.captable.proofs.Tables.{same_equiv, same-is}
@@ -281,14 +281,15 @@ module _ (old : State) (sound : IsSound old) (table : IsTable old.scene.table) (
           })
 
   -- what an acknowledgement leaves
-  left-acked : (j : Holder) → Left (changed t j (taken (revoked_of old.scene j))) before
+  left-acked : (j : Holder) → Left (acked t j (revoked_of old.scene j)) before
   left-acked j k f there = by_same (same k j) refl
     where
-      own : k ≡ j → IsKnown old.scene k (before k) f
-      own is =
+      by_pin : (b : Bool) → k ≡ j → entry_at (cond b (without t j) (changed t j (taken (revoked_of old.scene j)))) k ≡ Some f → IsKnown old.scene k (before k) f
+      by_pin true is here = let none : entry_at (without t j) k ≡ None = ap (entry_at (without t j)) is ∙ entry_at-without t j in absurd (cc)
+      by_pin false is here =
           let now : entry_at (changed t j (taken (revoked_of old.scene j))) k ≡ option_map (taken (revoked_of old.scene j)) (entry_at t k) =
           ap (entry_at (changed t j (taken (revoked_of old.scene j)))) is ∙ entry_at-changed t j (taken (revoked_of old.scene j)) ∙ ap (λ (q : Holder). option_map (taken (revoked_of old.scene j)) (entry_at t q)) (sym is) in
-          let found = mapped (taken (revoked_of old.scene j)) (entry_at t k) f (sym now ∙ there) in
+          let found = mapped (taken (revoked_of old.scene j)) (entry_at t k) f (sym now ∙ here) in
           let e : Entry = found.0 in
           let known = known-old k e found.1 in
           let all : revoked_of old.scene j ≡ against old.scene (at k e) =
@@ -301,8 +302,8 @@ module _ (old : State) (sound : IsSound old) (table : IsTable old.scene.table) (
           })
 
       by_same : (b : Bool) → same k j ≡ b → IsKnown old.scene k (before k) f
-      by_same true on = own (same-is k j on)
-      by_same false off = known-old k f (sym (entry_at-changed_other t j k (taken (revoked_of old.scene j)) (apart-of k j off)) ∙ there)
+      by_same true on = by_pin (has (revoked_of old.scene j) P) (same-is k j on) there
+      by_same false off = known-old k f (sym (entry_at-acked_other t j k (revoked_of old.scene j) (apart-of k j off)) ∙ there)
 
   -- ---- the end of the step
 

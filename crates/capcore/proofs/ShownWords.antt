@@ -1,5 +1,5 @@
 -- What numbers say of what was shown, in the words of users.
-use Rattle.std.proofs.Common.{◌≡◌, ◌≤◌, ℕ, nat_lt, Bool, true, false, not, ◌&&◌, Contains, List, Option, Some, None, refl, sym, ap, subst, ◌∙◌, true≢false, arith}
+use Rattle.std.proofs.Common.{◌≡◌, ◌≤◌, ℕ, nat_lt, Bool, true, false, cond, not, ◌&&◌, Contains, List, Option, Some, None, refl, sym, ap, subst, ◌∙◌, true≢false, arith}
 use Rattle.std.proofs.lemmas.Bool.{ltb-false}
 use Rattle.std.proofs.lemmas.List.Elements.{All-contains}
 use Rattle.std.specs.List.{find}
@@ -8,6 +8,7 @@ use Rattle.capbits.specs.declared.cap.Cap.{Cap}
 use Rattle.capbits.specs.declared.ids.ClientId.{ClientId}
 use Rattle.capbits.specs.declared.ids.Ino.{Ino}
 use Rattle.capbits.specs.declared.refusal.Refusal.TheVariants as refusal
+use Rattle.capbits.specs.declared.cap.Cap.TheVariants.{P}
 use Rattle.capbits.specs.Caps.{Caps, has}
 use Rattle.capbits.specs.Sets.{has-minus}
 use Rattle.capbits.proofs.Tests.{passed-if}
@@ -15,12 +16,12 @@ use Rattle.captable.specs.declared.entry.Entry.{Entry}
 use Rattle.captable.specs.declared.entry.EntryRow.{EntryRow}
 use Rattle.captable.specs.declared.entry.Holder.{Holder}
 use Rattle.captable.specs.Table.{Table, holder, is_row_of, entry_of, entry_at}
-use Rattle.captable.specs.Calls.{taken, changed}
+use Rattle.captable.specs.Calls.{taken, changed, without}
 use Rattle.captable.specs.Tests.{last_revocation}
 use Rattle.captable.proofs.ByHolder.{entry_at-changed}
 use Rattle.lockmachine.specs.Scene.{Scene, against}
 use Rattle.lockmachine.specs.Told.{is_taken}
-use Rattle.lockmachine.proofs.Told.{has-against, has-told}
+use Rattle.lockmachine.proofs.Told.{has-against, has-told, pin-takes_all}
 use Rattle.capcore.specs.declared.event.Event.{Event}
 use Rattle.capcore.specs.declared.event.Event.TheVariants as event
 use Rattle.capcore.specs.declared.stopped.Stopped.{Stopped}
@@ -102,14 +103,17 @@ module _ (rows : List Row) (old : State) (sound : IsSound old) (was : AreShown r
     -- what is held no more was being revoked
     revoked_is : (cap : Cap) → has e.held cap ≡ true → holds (direct old ack).state.scene k cap ≡ false → has (against old.scene (at k e)) cap ≡ true
     revoked_is cap held gone =
-        now (subst (λ (d : Direct). holds d.state.scene k cap ≡ false) (ap (effect_unless old ack) free) gone)
+        by_pin (has (revoked_of old.scene k) P) refl
+        (subst (λ (d : Direct). holds d.state.scene k cap ≡ false) (ap (effect_unless old ack) free) gone)
       where
-        now : holds (record old.scene { table = changed t k (taken (revoked_of old.scene k)) }) k cap ≡ false → has (against old.scene (at k e)) cap ≡ true
-        now out =
-            let there_now : entry_at (changed t k (taken (revoked_of old.scene k))) k ≡ Some (taken (revoked_of old.scene k) e) =
+        by_pin : (b : Bool) → has (revoked_of old.scene k) P ≡ b → holds (record old.scene { table = cond b (without t k) (changed t k (taken (revoked_of old.scene k))) }) k cap ≡ false
+            → has (against old.scene (at k e)) cap ≡ true
+        by_pin true pin out = pin-takes_all old.scene (at k e) (ap (λ (caps : Caps). has caps P) (sym all_of) ∙ pin) cap held
+        by_pin false no_pin out =
+            let now : entry_at (changed t k (taken (revoked_of old.scene k))) k ≡ Some (taken (revoked_of old.scene k) e) =
             entry_at-changed t k (taken (revoked_of old.scene k)) ∙ ap (option_map (taken (revoked_of old.scene k))) there in
             let less : (has e.held cap && not (has (revoked_of old.scene k) cap)) ≡ false =
-            sym (holds-found (record old.scene { table = changed t k (taken (revoked_of old.scene k)) }) k cap (taken (revoked_of old.scene k) e) there_now ∙ has-minus e.held (revoked_of old.scene k) cap) ∙ out in
+            sym (holds-found (record old.scene { table = changed t k (taken (revoked_of old.scene k)) }) k cap (taken (revoked_of old.scene k) e) now ∙ has-minus e.held (revoked_of old.scene k) cap) ∙ out in
             ap (λ (caps : Caps). has caps cap) (sym all_of) ∙ gone_is (has e.held cap) (has (revoked_of old.scene k) cap) held less
 
     taken_unshown : (cap : Cap) → has e.held cap ≡ true → holds (direct old ack).state.scene k cap ≡ false → has (shown_of k rows) cap ≡ false

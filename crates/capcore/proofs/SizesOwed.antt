@@ -1,32 +1,38 @@
 -- A size that is to be told changes one field of entries, which the end of a step doesn't read.
-use Rattle.std.proofs.Common.{◌≡◌, ◌≤◌, ℕ, suc, ◌+◌, Bool, true, false, not, cond, ◌&&◌, ◌||◌, Option, List, [], ◌∷◌, map, refl, sym, ap, subst, ◌∙◌, Contains, arith}
+use Rattle.std.proofs.Common.{◌≡◌, ◌≤◌, ℕ, suc, ◌+◌, Bool, true, false, not, cond, ◌&&◌, ◌||◌, Option, Some, None, List, [], ◌∷◌, map, refl, sym, ap, subst, ◌∙◌, Contains, arith}
 use Rattle.std.specs.Prelude.{All}
 use Rattle.std.specs.FinMap as finite
+use Rattle.std.specs.HashMap.{HashMap, get}
 use Rattle.std.specs.List.{find, list_any}
-use Rattle.std.specs.Option.{option_map_or}
+use Rattle.std.specs.Option.{option_map, option_map_or}
 use Rattle.std.proofs.lemmas.List.Elements.{All-map, All-weaker}
 use Rattle.capbits.specs.declared.cap.Cap.TheVariants.{Fc}
 use Rattle.capbits.specs.declared.ids.Ino.{Ino}
 use Rattle.capbits.specs.Caps.{Caps, has}
-use Rattle.capbits.specs.Sets.{is_empty, minus}
+use Rattle.capbits.specs.Sets.{is_empty, minus, meet}
 use Rattle.inotree.specs.Tree.{IsTree, place}
 use Rattle.inotree.specs.Tests.{is_gone}
 use Rattle.captable.specs.declared.entry.Entry.{Entry}
 use Rattle.captable.specs.declared.entry.EntryRow.{EntryRow}
-use Rattle.captable.specs.Table.{Table, IsTable, is_row_of}
+use Rattle.captable.specs.declared.entry.Holder.{Holder}
+use Rattle.captable.specs.Table.{Table, IsTable, same as same_holders, is_row_of}
 use Rattle.captable.specs.Calls.{is_of_inode, renumbered, with_size_due}
 use Rattle.captable.specs.Many.{changed_where, remade}
 use Rattle.captable.proofs.ByHolder.{row_found}
+use Rattle.captable.proofs.Searches.{find-map}
+use Rattle.lockmachine.specs.Locks.{IsLockMap}
 use Rattle.lockmachine.specs.Scene.{Scene, told_set}
-use Rattle.capcore.specs.Finish.{is_sized, owed, sizes_owed, due, issue_row, issue, is_kept, forget, told_before, number_row, number, finished}
+use Rattle.capcore.specs.Finish.{is_sized, owed, sizes_owed, issue_row, issue, is_kept, forget, told_before, number_row, number, finished}
 use Rattle.capcore.specs.Headline.{IssuesExactly}
 use Rattle.capcore.specs.Settle.{Made, sized_in}
 use Rattle.capcore.specs.Sound.{IsSound, AreGiven}
 use Rattle.capcore.specs.State.{State}
 use Rattle.capcore.specs.Step.{state_at_end}
-use Rattle.capcore.specs.Touching.{Touches, SettlesAt, stays, forget_among, finished_entry, finished_at}
-use Rattle.capcore.proofs.EndsThere.{any-map, two_changes, field-renumbered, settled-table, touched-ends, touched-issues}
-use Rattle.capcore.proofs.StayingSound.{sound-touched, given-touched}
+use Rattle.capcore.specs.Touching.{Touches, SettlesAt, Knows, stays, forget_among, told_then, finished_entry, finished_at}
+use Rattle.capcore.specs.Known.{AreKnown, kept_anew, KeptAnew}
+use Rattle.capcore.proofs.EndsThere.{any-map, two_changes, field-renumbered, settled-table, touched-ends, touched-issues, touched-known}
+use Rattle.capcore.proofs.Knowing.{known-alike, alike-where}
+use Rattle.capcore.proofs.StayingSound.{sound-touched}
 use Rattle.capcore.proofs.Telling.{as_told, as_asked, retold, retold_table, retold-sound, retold-issued}
 
 -- no number changes
@@ -134,66 +140,101 @@ module _ (sized : List Ino) (t : Table) where
 
     -- ---- and at some inodes alone
 
-    pub sizes-finished_at : (at : ℕ → Bool) (first : Scene) → finished_at at first (sizes_owed sized s) ≡ with_sizes (finished_at at first s)
-    sizes-finished_at at first =
-        ap (finished_at at first) sizes-owed
+    pub sizes-finished_at : (at : ℕ → Bool) (known : Holder → Caps) → finished_at at known (sizes_owed sized s) ≡ with_sizes (finished_at at known s)
+    sizes-finished_at at known =
+        ap (finished_at at known) sizes-owed
         ∙ ap (λ (rows : List EntryRow). forget_among at (record s { table = record s.table { rows = rows } })) ended
-        ∙ (λ i. record (with_sizes (record s { table = changed_where (λ row. at row.holder.ino.0) (finished_entry first s) s.table })) {
+        ∙ (λ i. record (with_sizes (record s { table = changed_where (λ row. at row.holder.ino.0) (finished_entry known s) s.table })) {
           tree = record s.tree { nodes = finite.retain_keys s.tree.nodes (λ q. same_stays q i) };
           locks = record s.locks { states = finite.retain_keys s.locks.states (λ q. same_stays q i) };
         })
       where
-        same_stays : (q : ℕ) → stays at (with_sizes (record s { table = changed_where (λ row. at row.holder.ino.0) (finished_entry first s) s.table })) q
-            ≡ stays at (record s { table = changed_where (λ row. at row.holder.ino.0) (finished_entry first s) s.table }) q
-        same_stays q = ap (λ b. not (at q) || b) (same_kept (record s { table = changed_where (λ row. at row.holder.ino.0) (finished_entry first s) s.table }) q)
+        same_stays : (q : ℕ) → stays at (with_sizes (record s { table = changed_where (λ row. at row.holder.ino.0) (finished_entry known s) s.table })) q
+            ≡ stays at (record s { table = changed_where (λ row. at row.holder.ino.0) (finished_entry known s) s.table }) q
+        same_stays q = ap (λ b. not (at q) || b) (same_kept (record s { table = changed_where (λ row. at row.holder.ino.0) (finished_entry known s) s.table }) q)
 
-        ended_row : (row : EntryRow) (b : Bool) → cond b (remade (finished_entry first s) (sized_row row)) (sized_row row) ≡ sized_row (cond b (remade (finished_entry first s) row) row)
-        ended_row row true = ap (λ (e : Entry). record row { entry = e }) (numbered (told_set first row) (told_set s (issue_row s row)) (issue_row s row))
+        ended_row : (row : EntryRow) (b : Bool) → cond b (remade (finished_entry known s) (sized_row row)) (sized_row row) ≡ sized_row (cond b (remade (finished_entry known s) row) row)
+        ended_row row true = ap (λ (e : Entry). record row { entry = e }) (numbered (meet (known row.holder) row.entry.held) (told_then s row) (issue_row s row))
         ended_row row false = refl
 
-        ended : map (λ row. cond (at row.holder.ino.0) (remade (finished_entry first s) row) row) (map sized_row s.table.rows)
-            ≡ map sized_row (map (λ row. cond (at row.holder.ino.0) (remade (finished_entry first s) row) row) s.table.rows)
+        ended : map (λ row. cond (at row.holder.ino.0) (remade (finished_entry known s) row) row) (map sized_row s.table.rows)
+            ≡ map sized_row (map (λ row. cond (at row.holder.ino.0) (remade (finished_entry known s) row) row) s.table.rows)
         ended =
-            two_changes (λ row. cond (at row.holder.ino.0) (remade (finished_entry first s) row) row) sized_row
-            (λ row. sized_row (cond (at row.holder.ino.0) (remade (finished_entry first s) row) row)) s.table.rows (λ row inside. ended_row row (at row.holder.ino.0))
-            ∙ sym (two_changes sized_row (λ row. cond (at row.holder.ino.0) (remade (finished_entry first s) row) row)
-            (λ row. sized_row (cond (at row.holder.ino.0) (remade (finished_entry first s) row) row)) s.table.rows (λ row inside. refl))
+            two_changes (λ row. cond (at row.holder.ino.0) (remade (finished_entry known s) row) row) sized_row
+            (λ row. sized_row (cond (at row.holder.ino.0) (remade (finished_entry known s) row) row)) s.table.rows (λ row inside. ended_row row (at row.holder.ino.0))
+            ∙ sym (two_changes sized_row (λ row. cond (at row.holder.ino.0) (remade (finished_entry known s) row) row)
+            (λ row. sized_row (cond (at row.holder.ino.0) (remade (finished_entry known s) row) row)) s.table.rows (λ row inside. refl))
+
+    -- ---- what is kept of entries
+
+    told_owed : (row : EntryRow) (b h : Bool) → told_then s (cond b (record row { entry = cond h (with_size_due true row.entry) row.entry }) row) ≡ told_then s row
+    told_owed row false h = refl
+    told_owed row true true = refl
+    told_owed row true false = refl
+
+    -- it is the same, whether sizes are to be told or not
+    pub sizes-kept : {S : Type 0} (among : Holder → Bool) (was now : HashMap Holder Caps S) → KeptAnew among (told_then (sizes_owed sized s)) (sizes_owed sized s).table was now
+        → KeptAnew among (told_then s) s.table was now
+    sizes-kept among was now kept k = kept k ∙ ap (λ o. kept_anew (among k) (told_then s) o (get same_holders was k)) found ∙ by_row (among k) (find (is_row_of k) s.table.rows)
+      where
+        one : EntryRow → EntryRow
+        one row = cond (is_sized sized row) (remade owed row) row
+
+        found : find (is_row_of k) (sizes_owed sized s).table.rows ≡ option_map one (find (is_row_of k) s.table.rows)
+        found = find-map (is_row_of k) one (λ row. elim (is_sized sized row) as (λ b. is_row_of k (cond b (remade owed row) row) ≡ is_row_of k row) [ true ↦ refl | false ↦ refl ]) s.table.rows
+
+        by_row : (b : Bool) (o : Option EntryRow) → kept_anew b (told_then s) (option_map one o) (get same_holders was k) ≡ kept_anew b (told_then s) o (get same_holders was k)
+        by_row true None = refl
+        by_row true (Some row) = ap Some (told_owed row (is_sized sized row) (has row.entry.held Fc))
+        by_row false None = refl
+        by_row false (Some row) = refl
 
 -- ---- of an event
 
-module _ (at from : ℕ → Bool) (old touched : State) (moves : List Made) (settled : Scene) (sound : IsSound old) (table : IsTable touched.scene.table) (touches : Touches from old touched)
-    (settles : SettlesAt at from moves touched.scene settled) where
+module _ (at from : ℕ → Bool) (known : Holder → Caps) (old touched : State) (moves : List Made) (settled : Scene) (sound : IsSound old) (tree : IsTree settled.tree) (table : IsTable touched.scene.table)
+    (touches : Touches from old touched) (knows : Knows known old.scene touched.scene.table) (settles : SettlesAt at from moves touched.scene settled) where
   table-then : IsTable settled.table
-  table-then = settled-table at from old touched moves settled sound table touches settles
+  table-then = settled-table at from known old touched moves settled sound tree table touches knows settles
 
-  at_end : finished_at at touched.scene (sizes_owed (sized_in moves) settled) ≡ with_sizes (sized_in moves) settled.table (finished_at at touched.scene settled)
-  at_end = sizes-finished_at (sized_in moves) settled.table table-then settled refl at touched.scene
+  at_end : finished_at at known (sizes_owed (sized_in moves) settled) ≡ with_sizes (sized_in moves) settled.table (finished_at at known settled)
+  at_end = sizes-finished_at (sized_in moves) settled.table table-then settled refl at known
 
-  pub sizes-end : finished old.scene touched.scene (sizes_owed (sized_in moves) settled) ≡ finished_at at touched.scene (sizes_owed (sized_in moves) settled)
+  pub sizes-end : finished old.scene touched.scene (sizes_owed (sized_in moves) settled) ≡ finished_at at known (sizes_owed (sized_in moves) settled)
   sizes-end =
       sizes-finished (sized_in moves) settled.table table-then settled refl old.scene touched.scene
-      ∙ ap (with_sizes (sized_in moves) settled.table) (touched-ends at from old touched moves settled sound table touches settles)
+      ∙ ap (with_sizes (sized_in moves) settled.table) (touched-ends at from known old touched moves settled sound tree table touches knows settles)
       ∙ sym at_end
 
-  pub sizes-sound : IsTree settled.tree → IsSound (state_at_end old touched moves (finished_at at touched.scene (sizes_owed (sized_in moves) settled)))
-  sizes-sound tree =
-      let ends = sound-touched at from old touched moves settled sound tree table touches settles in
+  pub sizes-sound : IsLockMap touched.scene.locks → IsSound (state_at_end old touched moves (finished_at at known (sizes_owed (sized_in moves) settled)))
+  sizes-sound order =
+      let ends = sound-touched at from known old touched moves settled sound tree table order touches knows settles in
       subst (λ (s : Scene). IsSound (state_at_end old touched moves s)) (sym at_end)
-      (retold-sound (state_at_end old touched moves (finished_at at touched.scene settled)) as_told (size_as (sized_in moves) settled.table) as_asked
-      (state_at_end old touched moves (finished_at at touched.scene settled)).messages ends.messages (λ row below. below) ends)
+      (retold-sound (state_at_end old touched moves (finished_at at known settled)) as_told (size_as (sized_in moves) settled.table) as_asked
+      (state_at_end old touched moves (finished_at at known settled)).messages ends.messages (λ row below. below) ends)
 
-  pub sizes-issues : IsTree settled.tree → IssuesExactly touched.scene (finished_at at touched.scene (sizes_owed (sized_in moves) settled))
-  sizes-issues tree =
+  pub sizes-issues : IssuesExactly touched.scene (finished_at at known (sizes_owed (sized_in moves) settled))
+  sizes-issues =
       subst (IssuesExactly touched.scene) (sym at_end)
-      (retold-issued (state_at_end old touched moves (finished_at at touched.scene settled)) as_told (size_as (sized_in moves) settled.table) as_asked touched.scene
-      (touched-issues at from old touched moves settled sound table touches settles tree))
+      (retold-issued (state_at_end old touched moves (finished_at at known settled)) as_told (size_as (sized_in moves) settled.table) as_asked touched.scene
+      (touched-issues at from known old touched moves settled sound tree table touches knows settles))
 
-  pub sizes-given : (count : ℕ) → AreGiven (count + 1) (state_at_end old touched moves (finished_at at touched.scene settled))
-      → AreGiven (count + 1) (state_at_end old touched moves (finished_at at touched.scene (sizes_owed (sized_in moves) settled)))
+  pub sizes-given : (count : ℕ) → AreGiven (count + 1) (state_at_end old touched moves (finished_at at known settled))
+      → AreGiven (count + 1) (state_at_end old touched moves (finished_at at known (sizes_owed (sized_in moves) settled)))
   sizes-given count given =
       subst (λ (s : Scene). AreGiven (count + 1) (state_at_end old touched moves s)) (sym at_end)
       (record {
-        entries = All-map (λ row. row.entry.seq ≤ count + 1) (sized_row (sized_in moves) settled.table) (finished_at at touched.scene settled).table.rows given.entries;
+        entries = All-map (λ row. row.entry.seq ≤ count + 1) (sized_row (sized_in moves) settled.table) (finished_at at known settled).table.rows given.entries;
         last = given.last;
         made = given.made;
       })
+
+  pub sizes-known : {S : Type 0} (was sets : HashMap Holder Caps S)
+      → ((row : EntryRow) → Contains touched.scene.table.rows row → at row.holder.ino.0 ≡ false → get same_holders was row.holder ≡ Some (told_set old.scene row))
+      → KeptAnew (λ k. at k.ino.0) (told_then (sizes_owed (sized_in moves) settled)) (sizes_owed (sized_in moves) settled).table was sets
+      → AreKnown sets (finished_at at known (sizes_owed (sized_in moves) settled))
+  sizes-known was sets off_known kept =
+      let ends = touched-known at from known old touched moves settled sound tree table touches knows settles was sets off_known
+      (sizes-kept (sized_in moves) settled.table table-then settled refl (λ k. at k.ino.0) was sets kept) in
+      subst (AreKnown sets) (sym at_end)
+      (known-alike sets (finished_at at known settled) (with_sizes (sized_in moves) settled.table (finished_at at known settled)).table
+      (alike-where (λ row. true) (λ row. (sized_row (sized_in moves) settled.table row).entry) (finished_at at known settled).table (λ row. refl)) ends)

@@ -1,5 +1,5 @@
 -- A sound state stays sound after the step of an event that touched some inodes.
-use Rattle.std.proofs.Common.{◌≡◌, ◌≤◌, ℕ, ◌+◌, ◌==◌, Bool, true, false, cond, ◌||◌, Some, None, is_some, List, refl, sym, ap, subst, ◌∙◌, ◌&&◌, ◌++◌, Contains, arith}
+use Rattle.std.proofs.Common.{◌≡◌, ◌≤◌, ℕ, ◌+◌, ◌==◌, Bool, true, false, ◌||◌, Some, None, is_some, List, refl, sym, ap, subst, ◌∙◌, ◌&&◌, ◌++◌, Contains, arith}
 use Rattle.std.specs.Prelude.{IsTrue, All, nat_le}
 use Rattle.std.specs.List.{find, list_any}
 use Rattle.std.specs.Option.{option_map}
@@ -9,13 +9,12 @@ use Rattle.std.proofs.lemmas.List.Elements.{All-append, All-contains, All-filter
 use Rattle.capbits.specs.declared.cap.Cap.TheVariants.{P}
 use Rattle.capbits.specs.declared.cap.Part.{Part}
 use Rattle.capbits.specs.declared.ids.ClientId.{ClientId}
-use Rattle.capbits.specs.Caps.{has}
-use Rattle.capbits.specs.Sets.{no_caps, meet, has-none, has-meet, IsSubset}
+use Rattle.capbits.specs.Caps.{Caps, has}
+use Rattle.capbits.specs.Sets.{meet, IsSubset}
 use Rattle.inotree.specs.declared.node.Place.TheVariants.{Gone}
-use Rattle.inotree.specs.Tree.{Nodes, IsTree, place}
+use Rattle.inotree.specs.Tree.{IsTree, place}
 use Rattle.sessiontab.specs.Table.{SessionTable}
-use Rattle.sessiontab.specs.Calls.{has_session, status_of}
-use Rattle.sessiontab.specs.Tests.{is_open}
+use Rattle.sessiontab.specs.Calls.{has_session}
 use Rattle.captable.specs.declared.entry.EntryRow.{EntryRow}
 use Rattle.captable.specs.declared.entry.Holder.{Holder}
 use Rattle.captable.specs.Table.{Table, IsTable, is_row_of}
@@ -25,8 +24,7 @@ use Rattle.captable.proofs.Searches.{find-filter_kept}
 use Rattle.captable.proofs.Tables.{same-is}
 use Rattle.lockmachine.specs.declared.moves.Move.TheVariants.{Settled}
 use Rattle.lockmachine.specs.Inodes.{StateMap, lock_in}
-use Rattle.lockmachine.specs.Locks.{lock_at}
-use Rattle.lockmachine.specs.Policy.{subject, permitted}
+use Rattle.lockmachine.specs.Locks.{IsLockMap, lock_at}
 use Rattle.lockmachine.specs.Requests.{first_for}
 use Rattle.lockmachine.specs.Scene.{Scene}
 use Rattle.lockmachine.specs.Moves.{first_move, IsQuiet, IsAtRest, WaitAtLocks}
@@ -39,37 +37,21 @@ use Rattle.capcore.specs.Finish.{due, allowed_to}
 use Rattle.capcore.specs.Sound.{IsSoundEntry, IsSound, AreGiven}
 use Rattle.capcore.specs.Settle.{Made, ended_in}
 use Rattle.capcore.specs.Step.{earlier, state_at_end}
-use Rattle.capcore.specs.Touching.{IsTouchedEntry, Touches, SettlesAt, finished_at}
-use Rattle.capcore.proofs.EndsThere.{any-map, off_due, same-end}
+use Rattle.capcore.specs.Touching.{IsTouchedEntry, Touches, SettlesAt, Knows, finished_at}
+use Rattle.capcore.proofs.EndsThere.{any-map, off_due}
 use Rattle.capcore.proofs.IssuedRows.{ended_row, want-ended, told-ended, revoked-ended, seq-ended, effective-ended, holds-due, holds-pin, in_row-ended}
 use Rattle.capcore.proofs.IssuedRest.{on_it, last_row, issued_at, by_place, of_inode-last, rest-issued}
 use Rattle.capcore.proofs.Placed.{placed-in_row}
 use Rattle.capcore.proofs.Forgotten.{all_rows, IsSoundBut, sound-forgotten}
 use Rattle.capcore.proofs.Moved.{IsMoved, moved-all, no_lock-moved, nobody-moved, all-waiting, Waited, ended-waited}
+use Rattle.capcore.proofs.NothingServed.{nothing-served}
 use Rattle.capcore.proofs.SameOff.{not-among, row_elsewhere, any_elsewhere, IsSameFrom, from-first}
-use Rattle.capcore.proofs.Touched.{permitted-pin, IsKeptEntry, kept-left}
-
--- ---- the pin
-
--- where a session is open, whoever wants the pin effectively wants it, on each tree
-wants_pin : (fs : List ℕ) (tree : Nodes) (sessions : SessionTable) (row : EntryRow)
-    → has (effective_want fs tree sessions row) P ≡ (is_open (status_of sessions row.holder.client.0) && has row.entry.want P)
-wants_pin fs tree sessions row = by_session (is_open (status_of sessions row.holder.client.0))
-  where
-    always : (b : Bool) → (b && true) ≡ b
-    always true = refl
-    always false = refl
-
-    by_session : (b : Bool) → has (cond b (meet row.entry.want (permitted fs tree sessions row.holder)) no_caps) P ≡ (b && has row.entry.want P)
-    by_session true =
-        has-meet row.entry.want (permitted fs tree sessions row.holder) P
-        ∙ ap (λ b. has row.entry.want P && b) (permitted-pin fs (subject tree sessions row.holder)) ∙ always (has row.entry.want P)
-    by_session false = has-none P
+use Rattle.capcore.proofs.Touched.{IsKeptEntry, kept-left}
 
 -- ---- the step
 
 -- all that is known of it
-record IsGiven (at from : ℕ → Bool) (old touched : State) (settled : Scene) : Type 0 where
+record IsGiven (at from : ℕ → Bool) (known : Holder → Caps) (old touched : State) (settled : Scene) : Type 0 where
   among : (q : ℕ) → from q ≡ true → at q ≡ true
   sound : IsSound old
   tree : IsTree settled.tree
@@ -79,24 +61,28 @@ record IsGiven (at from : ℕ → Bool) (old touched : State) (settled : Scene) 
   touches : Touches from old touched
   same : IsSameFrom at old.scene settled
   rests : first_move settled ≡ Settled
+  knows : Knows known old.scene settled.table
+  fs : settled.fs ≡ touched.scene.fs
+  -- where an entry has not its pin yet, the tree is as the event left it
+  calm : (row : EntryRow) → Contains touched.scene.table.rows row → has row.entry.held P ≡ false → settled.tree ≡ touched.scene.tree
 
-module _ (at from : ℕ → Bool) (old touched : State) (settled : Scene) where
+module _ (at from : ℕ → Bool) (known : Holder → Caps) (old touched : State) (settled : Scene) where
   abbrev first : Scene
   first = touched.scene
 
   abbrev last : Scene
-  last = issued_at old.scene settled at
+  last = issued_at known settled at
 
   abbrev on : EntryRow → Bool
-  on = on_it old.scene settled at
+  on = on_it known settled at
 
   abbrev last_of : EntryRow → EntryRow
-  last_of = last_row old.scene settled at
+  last_of = last_row known settled at
 
   abbrev rows : List EntryRow
   rows = settled.table.rows
 
-  module _ (g : IsGiven at from old touched settled) where
+  module _ (g : IsGiven at from known old touched settled) where
     -- ---- rest
 
     -- who waits, waits for a lock that is there
@@ -114,7 +100,7 @@ module _ (at from : ℕ → Bool) (old touched : State) (settled : Scene) where
         ] refl)
 
     rest_last : IsAtRest last
-    rest_last = rest-issued old.scene settled at (at_rest settled wait_at g.rests)
+    rest_last = rest-issued known settled at (at_rest settled wait_at g.rests)
 
     -- ---- rows of other inodes are those of the old state
 
@@ -170,37 +156,36 @@ module _ (at from : ℕ → Bool) (old touched : State) (settled : Scene) where
 
     in_row_last : (row : EntryRow) → Contains rows row → (part : Part) → IsInRow settled (last_of row) part
     in_row_last row inside part =
-        by_place old.scene settled at (λ r. IsInRow settled r part) row (λ here. in_row-ended old.scene settled row part (in_row_settled row inside part)) (λ off. in_row_settled row inside part)
+        by_place known settled at (λ r. IsInRow settled r part) row (λ here. in_row-ended known settled row part (in_row_settled row inside part)) (λ off. in_row_settled row inside part)
 
     -- ---- entries
 
     has_session_still : (client : ℕ) → IsTrue (has_session first.sessions client) → IsTrue (has_session settled.sessions client)
     has_session_still client is = let moved = g.moved in subst (λ (t : SessionTable). IsTrue (has_session t client)) (sym moved.sessions) is
 
-    -- the pin is held or wanted as it was, as no move reads the tree for it
-    pin_still : (row : EntryRow) → IsTrue (has row.entry.held P || has (effective_want first.fs first.tree first.sessions row) P) → IsTrue (has row.entry.held P || has (effective_want settled.fs settled.tree settled.sessions row) P)
-    pin_still row is =
-        let moved = g.moved in
-        ap (λ b. has row.entry.held P || b)
-        (wants_pin settled.fs settled.tree settled.sessions row
-        ∙ ap (λ (t : SessionTable). is_open (status_of t row.holder.client.0) && has row.entry.want P) moved.sessions
-        ∙ sym (wants_pin first.fs first.tree first.sessions row))
-        ∙ is
+    -- the pin is held, or it is wanted as it was, since nobody was served
+    pin_still : (row : EntryRow) → Contains rows row → IsTrue (has row.entry.held P || has (effective_want first.fs first.tree first.sessions row) P) → IsTrue (has row.entry.held P || has (effective_want settled.fs settled.tree settled.sessions row) P)
+    pin_still row inside is = elim (has row.entry.held P) as (λ b. has row.entry.held P ≡ b → (b || has (effective_want first.fs first.tree first.sessions row) P) ≡ true → (b || has (effective_want settled.fs settled.tree settled.sessions row) P) ≡ true) [
+      | true ↦ λ held due. refl
+      | false ↦ λ none due. (let moved = g.moved in
+          let sessions : settled.sessions ≡ first.sessions = moved.sessions in
+          (λ i. has (effective_want (g.fs i) (g.calm row (first_row row inside) none i) (sessions i) row) P) ∙ due)
+    ] refl is
 
-    entry_here : (row : EntryRow) → IsTouchedEntry first row → IsSoundEntry last (ended_row old.scene settled row)
-    entry_here row entry = let moved = g.moved in record {
+    entry_here : (row : EntryRow) → Contains rows row → IsTouchedEntry first row → IsSoundEntry last (ended_row known settled row)
+    entry_here row inside entry = let moved = g.moved in record {
       of_session = has_session_still row.holder.client.0 entry.of_session;
       on_inode = moved.nodes row.holder.ino.0 ∙ entry.on_inode;
-      holds_pin = holds-pin old.scene settled row (pin_still row entry.pin);
-      wants_pin = ap (λ caps. has caps P) (want-ended old.scene settled row) ∙ entry.wants_pin;
-      has_due = λ c is_due. holds-due old.scene settled row c
+      holds_pin = holds-pin known settled row (pin_still row inside entry.pin);
+      wants_pin = ap (λ caps. has caps P) (want-ended known settled row) ∙ entry.wants_pin;
+      has_due = λ c is_due. holds-due known settled row c
           (ap (λ caps. has caps c) (sym due_as_before) ∙ is_due);
-      told = told-ended old.scene settled row entry.told;
-      revoked = revoked-ended old.scene settled row entry.revoked;
+      told = told-ended known settled row entry.told;
+      revoked = revoked-ended known settled row entry.revoked;
     }
       where
-        due_as_before : due last (ended_row old.scene settled row) ≡ due settled row
-        due_as_before = λ i. meet (effective-ended old.scene settled row settled.fs settled.tree settled.sessions i) (allowed_to settled row)
+        due_as_before : due last (ended_row known settled row) ≡ due settled row
+        due_as_before = λ i. meet (effective-ended known settled row settled.fs settled.tree settled.sessions i) (allowed_to settled row)
 
     settled_table : IsTable settled.table
     settled_table = let moved = g.moved in subst IsTable (sym moved.table) g.table
@@ -219,14 +204,14 @@ module _ (at from : ℕ → Bool) (old touched : State) (settled : Scene) where
           on_inode = there_still row.holder.ino.0 ∙ was.on_inode;
           holds_pin = was.holds_pin;
           wants_pin = was.wants_pin;
-          has_due = subst (λ caps. IsSubset caps row.entry.held) (sym (off_due at old settled sound settled_table same row inside off)) was.has_due;
+          has_due = subst (λ caps. IsSubset caps row.entry.held) (sym (off_due at known old settled sound settled_table same g.tree g.knows row inside off)) was.has_due;
           told = was.told;
           revoked = was.revoked;
         }
 
     entry_last : (row : EntryRow) → Contains rows row → IsSoundEntry last (last_of row)
     entry_last row inside =
-        by_place old.scene settled at (IsSoundEntry last) row (λ here. entry_here row (touched_row row inside)) (λ off. entry_elsewhere row inside off)
+        by_place known settled at (IsSoundEntry last) row (λ here. entry_here row inside (touched_row row inside)) (λ off. entry_elsewhere row inside off)
 
     -- ---- inodes
 
@@ -238,7 +223,7 @@ module _ (at from : ℕ → Bool) (old touched : State) (settled : Scene) where
         let sound = g.sound in
         let same = g.same in
         let of_it = is_of_inode (record { 0 = q }) in
-        any-map of_it last_of (of_inode-last old.scene settled at q) rows
+        any-map of_it last_of (of_inode-last known settled at q) rows
         ∙ any_elsewhere at old.scene.table settled.table same.entries q off ∙ sound.strays q (sym (same.places q off) ∙ gone)
 
     -- ---- all together
@@ -261,15 +246,15 @@ module _ (at from : ℕ → Bool) (old touched : State) (settled : Scene) where
       at_rest = rest_last;
     }
 
-    sound_last : (messages : List Ended) → All (λ m. IsTrue (has_session settled.sessions m.client.0)) messages → IsSound (record { scene = finished_at at old.scene settled; messages = messages })
+    sound_last : (messages : List Ended) → All (λ m. IsTrue (has_session settled.sessions m.client.0)) messages → IsSound (record { scene = finished_at at known settled; messages = messages })
     sound_last messages told = sound-forgotten at (record { scene = last; messages = messages }) (but_last messages told) g.tree
 
-module _ (at from : ℕ → Bool) (old touched : State) (moves : List Made) (settled : Scene) (sound : IsSound old) (tree : IsTree settled.tree) (table : IsTable touched.scene.table)
-    (touches : Touches from old touched) (settles : SettlesAt at from moves touched.scene settled) where
+module _ (at from : ℕ → Bool) (known : Holder → Caps) (old touched : State) (moves : List Made) (settled : Scene) (sound : IsSound old) (tree : IsTree settled.tree) (table : IsTable touched.scene.table)
+    (order : IsLockMap touched.scene.locks) (touches : Touches from old touched) (knows : Knows known old.scene touched.scene.table) (settles : SettlesAt at from moves touched.scene settled) where
   moved-there : IsMoved touched.scene settled
   moved-there = let made = settles.settles in moved-all touched.scene moves settled made.made
 
-  given-all : IsGiven at from old touched settled
+  given-all : IsGiven at from known old touched settled
   given-all = let made = settles.settles in record {
     among = settles.among;
     sound = sound;
@@ -279,6 +264,9 @@ module _ (at from : ℕ → Bool) (old touched : State) (moves : List Made) (set
     touches = touches;
     same = from-first at from old.scene touched.scene settled settles.among touches.same settles.same;
     rests = made.settled;
+    knows = subst (λ (t : Table). Knows known old.scene t) (sym (let moved = moved-there in moved.table)) knows;
+    fs = (let same = settles.same in same.fs);
+    calm = λ row inside none. (nothing-served touched.scene moves settled order (touches.calm row inside none) made.made).1;
   }
 
   -- who has a session right after the event, has it at the end
@@ -299,26 +287,25 @@ module _ (at from : ℕ → Bool) (old touched : State) (moves : List Made) (set
   messages-connected =
       All-weaker (λ m. IsTrue (has_session touched.scene.sessions m.client.0)) (λ m. IsTrue (has_session settled.sessions m.client.0)) (λ m. connected m.client.0) touched.messages touches.messages
 
-  pub sound-touched : IsSound (state_at_end old touched moves (finished_at at touched.scene settled))
+  pub sound-touched : IsSound (state_at_end old touched moves (finished_at at known settled))
   sound-touched =
-      subst (λ (s : Scene). IsSound (state_at_end old touched moves s)) (sym (same-end at from old touched settled touches))
-      (sound_last at from old touched settled given-all (touched.messages ++ earlier old.scene.locks.last (ended_in moves))
+      sound_last at from known old touched settled given-all (touched.messages ++ earlier old.scene.locks.last (ended_in moves))
       (All-append (λ m. IsTrue (has_session settled.sessions m.client.0)) touched.messages (earlier old.scene.locks.last (ended_in moves)) messages-connected
-      (All-filter (λ m. nat_le m.ticket.0 old.scene.locks.last) (λ m. IsTrue (has_session settled.sessions m.client.0)) (ended_in moves) ended-connected)))
+      (All-filter (λ m. nat_le m.ticket.0 old.scene.locks.last) (λ m. IsTrue (has_session settled.sessions m.client.0)) (ended_in moves) ended-connected))
 
 -- ---- numbers
 
-module _ (at from : ℕ → Bool) (count : ℕ) (old touched : State) (moves : List Made) (settled : Scene) (settles : SettlesAt at from moves touched.scene settled)
+module _ (at from : ℕ → Bool) (known : Holder → Caps) (count : ℕ) (old touched : State) (moves : List Made) (settled : Scene) (settles : SettlesAt at from moves touched.scene settled)
     (numbers : All (λ row. row.entry.seq ≤ count) touched.scene.table.rows) (made : touched.scene.table.made ≤ count + 1) (given : touched.scene.locks.last ≤ count + 1) where
   moved-so : IsMoved touched.scene settled
   moved-so = let all = settles.settles in moved-all touched.scene moves settled all.made
 
-  numbers_last : All (λ row. row.entry.seq ≤ count + 1) (issued_at touched.scene settled at).table.rows
+  numbers_last : All (λ row. row.entry.seq ≤ count + 1) (issued_at known settled at).table.rows
   numbers_last =
       let moved = moved-so in
-      All-map (λ row. row.entry.seq ≤ count + 1) (last_row touched.scene settled at) settled.table.rows
-      (All-weaker (λ row. row.entry.seq ≤ count) (λ row. (last_row touched.scene settled at row).entry.seq ≤ count + 1)
-      (λ row was. by_place touched.scene settled at (λ r. r.entry.seq ≤ count + 1) row (λ here. seq-ended touched.scene settled row count was) (λ off. omega (arith, was)))
+      All-map (λ row. row.entry.seq ≤ count + 1) (last_row known settled at) settled.table.rows
+      (All-weaker (λ row. row.entry.seq ≤ count) (λ row. (last_row known settled at row).entry.seq ≤ count + 1)
+      (λ row was. by_place known settled at (λ r. r.entry.seq ≤ count + 1) row (λ here. seq-ended known settled row count was) (λ off. omega (arith, was)))
       settled.table.rows (All-same (λ row. row.entry.seq ≤ count) settled.table.rows touched.scene.table.rows (ap (λ (t : Table). t.rows) moved.table) numbers))
 
   request_last : settled.locks.last ≤ count + 1
@@ -327,5 +314,5 @@ module _ (at from : ℕ → Bool) (count : ℕ) (old touched : State) (moves : L
   made_last : settled.table.made ≤ count + 1
   made_last = let moved = moved-so in let same : settled.table.made ≡ touched.scene.table.made = ap (λ (t : Table). t.made) moved.table in omega (arith, same, made)
 
-  pub given-touched : AreGiven (count + 1) (state_at_end old touched moves (finished_at at touched.scene settled))
+  pub given-touched : AreGiven (count + 1) (state_at_end old touched moves (finished_at at known settled))
   given-touched = record { entries = numbers_last; last = request_last; made = made_last }

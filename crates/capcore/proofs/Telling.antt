@@ -209,6 +209,10 @@ given-fields e true false true = refl
 given-fields e true true false = refl
 given-fields e true true true = refl
 
+-- what is held stays
+pub given-held : (given : List Message) (row : EntryRow) → (after_messages given row).held ≡ row.entry.held
+given-held given row = ap (λ (e : Entry). e.held) (given-fields row.entry (list_any (is_caps_of row.holder.ino) given) (list_any (is_size_of row.holder.ino) given) (list_any (is_recall_of row.holder.ino) given))
+
 given_row : (row : EntryRow) (own caps size recall : Bool) → cond own (record row { entry = unasked_if recall (sized_if size (told_if caps row.entry)) }) row
     ≡ record row { entry = given_fields (own && caps) (own && size) (own && recall) row.entry }
 given_row row false caps size recall = refl

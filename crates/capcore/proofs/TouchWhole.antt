@@ -7,6 +7,7 @@ use Rattle.capbits.specs.declared.ids.Ino.{Ino}
 use Rattle.captable.specs.declared.entry.EntryRow.{EntryRow}
 use Rattle.captable.specs.declared.entry.Holder.{Holder}
 use Rattle.captable.specs.Table.{Table, IsTable, holder, is_row_of}
+use Rattle.captable.specs.Calls.{told}
 use Rattle.lockmachine.specs.Scene.{Scene}
 use Rattle.capcore.specs.declared.touch.Touch.{Touch}
 use Rattle.capcore.specs.declared.touch.Touch.TheVariants.{Open, Want, Ack, Release}
@@ -15,10 +16,12 @@ use Rattle.capcore.specs.declared.outcome.Ended.{Ended}
 use Rattle.capcore.specs.declared.stopped.Stopped.{Stopped}
 use Rattle.capcore.specs.State.{State}
 use Rattle.capcore.specs.Judge.{judged, revoked_of}
-use Rattle.capcore.specs.Direct.{direct, effect, effect_unless, reply_of, opened_as, has_list}
+use Rattle.capcore.specs.Direct.{direct, effect, effect_unless, reply_of, shown, opened_as, has_list}
 use Rattle.capcore.specs.Sound.{IsSound}
 use Rattle.capcore.specs.Touch.{touch_event, touched_table, touch_answer}
 use Rattle.capcore.specs.Touching.{touched_by}
+use Rattle.capcore.proofs.Knowing.{HoldAlike}
+use Rattle.capcore.proofs.TouchKept.{alike-changed}
 use Rattle.capcore.proofs.Touched.{touched-state}
 
 no_list-opened : (s : Scene) (o : Option EntryRow) → has_list (opened_as s o) ≡ false
@@ -49,6 +52,13 @@ no_list-touch s k (Open mode) = no_list-opened s.scene (find (is_row_of k) s.sce
 no_list-touch s k (Want caps) = no_list-opened s.scene (find (is_row_of k) s.scene.table.rows)
 no_list-touch s k (Ack seq) = refl
 no_list-touch s k (Release caps) = refl
+
+-- what is told is held as before
+pub tell-alike : (s : State) (k : Holder) (touch : Touch) → HoldAlike s.scene.table (shown (touch_answer k touch) s).scene.table
+tell-alike s k (Open mode) = alike-changed s.scene.table k told (λ e. refl)
+tell-alike s k (Want caps) = alike-changed s.scene.table k told (λ e. refl)
+tell-alike s k (Ack seq) = λ j e there. (e, there, refl)
+tell-alike s k (Release caps) = λ j e there. (e, there, refl)
 
 -- ---- what the first calls answered, on the state that the call was handed
 

@@ -1,24 +1,24 @@
 -- An event about one entry, by itself: it changes entries of its inode alone, and leaves of each what every state keeps, but that
 -- what is due is held. It drops no request and leaves the messages.
-use Rattle.std.proofs.Common.{◌≡◌, ◌≢◌, ◌≤◌, ℕ, ◌+◌, Bool, true, false, cond, not, ◌&&◌, ◌||◌, Option, Some, None, is_some, List, [], ◌∷◌, ◌++◌, refl, sym, ap, subst, ◌∙◌, Contains, true≢false, arith}
+use Rattle.std.proofs.Common.{◌≡◌, ◌≢◌, ◌≤◌, ℕ, ◌+◌, Bool, true, false, cond, not, ◌&&◌, ◌||◌, Option, Some, None, is_some, List, [], ◌∷◌, ◌++◌, filter, refl, sym, ap, subst, ◌∙◌, Contains, true≢false, arith}
 use Rattle.std.specs.Prelude.{IsTrue, All}
-use Rattle.std.specs.List.{find}
-use Rattle.std.specs.Option.{option_map, option_map_or}
+use Rattle.std.specs.List.{find, list_any}
+use Rattle.std.proofs.lemmas.List.Folds.{list_any-append}
+use Rattle.std.specs.Option.{option_map}
 use Rattle.std.specs.FinMap as map
-use Rattle.std.proofs.lemmas.List.Elements.{All-cons, All-head, All-tail, All-push, All-contains, All-contains_itself, All-weaker, All-filter, All-same}
+use Rattle.std.proofs.lemmas.List.Elements.{All-cons, All-head, All-tail, All-push, All-contains, All-contains_itself, All-weaker, All-filter, All-same, filter-append}
 use Rattle.capbits.specs.declared.cap.Cap.TheVariants.{P, Fs, Fx, Fc, Fr, Fw, Fb}
 use Rattle.capbits.specs.declared.cap.Part.{Part}
-use Rattle.capbits.specs.declared.cap.Part.TheVariants.{A, L, X, F}
 use Rattle.capbits.specs.declared.ids.ClientId.{ClientId}
 use Rattle.capbits.specs.declared.ids.Ino.{Ino}
 use Rattle.capbits.specs.declared.refusal.Refusal.{Refusal}
 use Rattle.capbits.specs.declared.refusal.Refusal.TheVariants as refusal
 use Rattle.capbits.specs.Caps.{Caps, has}
-use Rattle.capbits.specs.Sets.{no_caps, caps_in, union, meet, minus, of_part, covers, IsSubset, has-none, has-caps_in, has-union, has-meet, has-minus, has-of_part, and_parts}
+use Rattle.capbits.specs.Sets.{no_caps, caps_in, union, meet, minus, of_part, covers, is_empty, IsSubset, has-none, has-caps_in, has-union, has-meet, has-minus, has-of_part, and_parts}
 use Rattle.capbits.specs.Refusal.{first_failing}
-use Rattle.capbits.proofs.Covering.{pin_covers_none}
 use Rattle.capbits.proofs.Tests.{passed-if, passed-both}
-use Rattle.capgrant.specs.Permitted.{permitted_of, for_all}
+use Rattle.capgrant.specs.declared.access.Access.TheVariants as access
+use Rattle.capgrant.proofs.Pins.{pin_of_read, pin_of_write}
 use Rattle.inotree.specs.declared.node.Node.{Node}
 use Rattle.inotree.specs.Tree.{place, place_at}
 use Rattle.inotree.specs.Tests.{is_no_ino, inode_tests, file_test}
@@ -27,9 +27,9 @@ use Rattle.sessiontab.specs.declared.session.Status.{Status}
 use Rattle.sessiontab.specs.declared.session.Status.TheVariants as status
 use Rattle.sessiontab.specs.Table.{SessionTable}
 use Rattle.sessiontab.specs.Calls.{has_session, status_of}
-use Rattle.sessiontab.specs.Tests.{is_open, is_stale, session_tests}
+use Rattle.sessiontab.specs.Tests.{is_open as is_open_status, is_stale, session_tests}
+use Rattle.locktable.specs.declared.states.State.{State as LockGoal}
 use Rattle.locktable.specs.declared.states.LockState.{LockState}
-use Rattle.locktable.specs.declared.states.LockState.TheVariants.{Stable, Gather}
 use Rattle.locktable.specs.Rows.{row_of}
 use Rattle.captable.specs.declared.entry.Entry.{Entry}
 use Rattle.captable.specs.declared.entry.EntryRow.{EntryRow}
@@ -37,16 +37,18 @@ use Rattle.captable.specs.declared.entry.Holder.{Holder}
 use Rattle.captable.specs.Table.{Table, IsTable, holder, is_row_of, entry_of, entry_at}
 use Rattle.captable.specs.Calls.{new_entry, opened, change_rows, changed, without, wanting, taken, given_back, is_of_inode, entries_on}
 use Rattle.captable.specs.Tests.{open_tests, entry_test, ack_tests, release_tests}
-use Rattle.captable.proofs.Tables.{same_equiv, IsTable-changed, IsTable-opened, IsTable-released}
+use Rattle.captable.proofs.Tables.{same_equiv, IsTable-changed, IsTable-opened, IsTable-released, IsTable-without}
 use Rattle.captable.proofs.Moves.{IsTable-touched}
 use Rattle.captable.proofs.ByHolder.{row_found}
-use Rattle.captable.proofs.ByInode.{entries_on-changed, entries_on-opened, entries_on-released}
+use Rattle.captable.proofs.ByInode.{entries_on-changed, entries_on-opened, entries_on-released, entries_on-without}
 use Rattle.lockmachine.specs.Inodes.{StateMap, lock_in}
 use Rattle.lockmachine.specs.Locks.{lock_at}
-use Rattle.lockmachine.specs.Policy.{Subject, subject, permitted, permitted_to}
+use Rattle.lockmachine.specs.Policy.{Subject, subject, question_of, is_granted_to, permitted, permitted_to}
 use Rattle.lockmachine.specs.Rows.{IsInRowOf, IsInRow}
-use Rattle.lockmachine.specs.Scene.{Scene, against, against_lock}
-use Rattle.lockmachine.specs.Moves.{present_state, IsQuiet}
+use Rattle.lockmachine.specs.Requests.{part_of_ask}
+use Rattle.lockmachine.specs.Scene.{Scene, outside}
+use Rattle.lockmachine.specs.Turns.{WaitAt}
+use Rattle.lockmachine.specs.Moves.{present_state, is_open, IsQuiet}
 use Rattle.lockmachine.specs.Wants.{effective_want}
 use Rattle.lockmachine.proofs.SameBut.{same-entries}
 use Rattle.capcore.specs.declared.event.Event.{Event}
@@ -56,13 +58,14 @@ use Rattle.capcore.specs.declared.event.OpenMode.TheVariants as opening
 use Rattle.capcore.specs.declared.touch.Touch.{Touch}
 use Rattle.capcore.specs.declared.touch.Touch.TheVariants.{Open, Want, Ack, Release}
 use Rattle.capcore.specs.State.{State}
-use Rattle.capcore.specs.Judge.{judged, before, needs, after, stop_by, first_denied, is_writing, revoked_of, connected_tests, asked_tests, room_for}
-use Rattle.capcore.specs.Needs.{Need}
+use Rattle.capcore.specs.Judge.{judged, before, needs, after, stop_by, first_denied, is_met, opening_needs, is_writing, revoked_of, connected_tests, asked_tests, room_for}
+use Rattle.capcore.specs.Needs.{Need, need}
 use Rattle.capcore.specs.Direct.{Direct, direct, effect, effect_unless, opening_wants, with_entry, with_table}
 use Rattle.capcore.specs.Touch.{touch_event, touch_tests, touched_table}
 use Rattle.capcore.specs.Touching.{IsTouchedEntry, TouchesOne}
 use Rattle.capcore.specs.Sound.{IsSound, IsSoundEntry, AreGiven}
 use Rattle.capcore.proofs.Judging.{no_test}
+use Rattle.capcore.proofs.NothingServed.{sound-waits}
 use Rattle.capcore.proofs.Placed.{placed-in_row}
 
 -- ---- the tests of an event that nothing stops
@@ -145,7 +148,8 @@ module _ (t : Table) (k : Holder) (is : IsTable t) where
   table-touched revoked (Want caps) passed =
       let f : Entry → Entry = λ e. wanting (union caps (caps_in (P ∷ []))) e in
       IsTable-touched (changed t k f) k (IsTable-changed t k f is)
-  table-touched revoked (Ack seq) passed = IsTable-changed t k (taken revoked) is
+  table-touched revoked (Ack seq) passed =
+      elim (has revoked P) as (λ b. IsTable (cond b (without t k) (changed t k (taken revoked)))) [ true ↦ IsTable-without t k is | false ↦ IsTable-changed t k (taken revoked) is ]
   table-touched revoked (Release caps) passed = IsTable-released t k caps is
 
 -- the entries on another inode stay
@@ -158,7 +162,8 @@ module _ (t : Table) (k : Holder) (ino : Ino) (apart : ino ≢ k.ino) where
   others-touched revoked (Open mode) =
       entries_on-changed (with_entry t k) k (λ e. wanting (union e.want (opening_wants mode)) e) ino apart ∙ others-entry (is_some (entry_at t k))
   others-touched revoked (Want caps) = entries_on-changed t k (λ e. wanting (union caps (caps_in (P ∷ []))) e) ino apart
-  others-touched revoked (Ack seq) = entries_on-changed t k (taken revoked) ino apart
+  others-touched revoked (Ack seq) =
+      elim (has revoked P) as (λ b. entries_on (cond b (without t k) (changed t k (taken revoked))) ino ≡ entries_on t ino) [ true ↦ entries_on-without t k ino apart | false ↦ entries_on-changed t k (taken revoked) ino apart ]
   others-touched revoked (Release caps) = entries_on-released t k caps ino apart
 
 -- no number rises, and at most one entry is made
@@ -174,11 +179,15 @@ module _ (count : ℕ) (k : Holder) where
   below-released t caps all true = All-filter (λ row. not (is_row_of k row)) IsBelow t.rows all
   below-released t caps all false = All-change IsBelow t.rows k (given_back caps) (λ row is. is) all
 
+  below-acked : (t : Table) (caps : Caps) → All IsBelow t.rows → (b : Bool) → All IsBelow (cond b (without t k) (changed t k (taken caps))).rows
+  below-acked t caps all true = All-filter (λ row. not (is_row_of k row)) IsBelow t.rows all
+  below-acked t caps all false = All-change IsBelow t.rows k (taken caps) (λ row is. is) all
+
   pub below-touched : (t : Table) (revoked : Caps) (touch : Touch) → All IsBelow t.rows → All IsBelow (touched_table t k revoked touch).rows
   below-touched t revoked (Open mode) all =
       All-change IsBelow (with_entry t k).rows k (λ e. wanting (union e.want (opening_wants mode)) e) (λ row is. is) (below-entry t all (is_some (entry_at t k)))
   below-touched t revoked (Want caps) all = All-change IsBelow t.rows k (λ e. wanting (union caps (caps_in (P ∷ []))) e) (λ row is. is) all
-  below-touched t revoked (Ack seq) all = All-change IsBelow t.rows k (taken revoked) (λ row is. is) all
+  below-touched t revoked (Ack seq) all = below-acked t revoked all (has revoked P)
   below-touched t revoked (Release caps) all = below-released t caps all (has caps P)
 
   made-entry : (t : Table) → t.made ≤ count → (b : Bool) → (cond b t (opened t k)).made ≤ count + 1
@@ -189,10 +198,14 @@ module _ (count : ℕ) (k : Holder) where
   made-released t caps made true = omega (arith, made)
   made-released t caps made false = omega (arith, made)
 
+  made-acked : (t : Table) (caps : Caps) → t.made ≤ count → (b : Bool) → (cond b (without t k) (changed t k (taken caps))).made ≤ count + 1
+  made-acked t caps made true = omega (arith, made)
+  made-acked t caps made false = omega (arith, made)
+
   pub made-touched : (t : Table) (revoked : Caps) (touch : Touch) → t.made ≤ count → (touched_table t k revoked touch).made ≤ count + 1
   made-touched t revoked (Open mode) made = made-entry t made (is_some (entry_at t k))
   made-touched t revoked (Want caps) made = omega (arith, made)
-  made-touched t revoked (Ack seq) made = omega (arith, made)
+  made-touched t revoked (Ack seq) made = made-acked t revoked made (has revoked P)
   made-touched t revoked (Release caps) made = made-released t caps made (has caps P)
 
 -- ---- sets of capabilities
@@ -228,39 +241,40 @@ part-less part a b less c in_it =
 part-none : (part : Part) (more : Caps) → IsSubset (of_part part no_caps) more
 part-none part more c in_it = absurd (true≢false (sym in_it ∙ has-of_part part no_caps c ∙ ap (λ b. b && covers c part) (has-none c)))
 
--- what is being revoked is of the parts, so never the pin
-no_pin-lock : (part : Part) (row : EntryRow) (o : Option LockState) → has (against_lock part row o) P ≡ false
-no_pin-lock part row None = has-none P
-no_pin-lock part row (Some (Stable state)) = has-none P
-no_pin-lock part row (Some (Gather from to)) =
-    by_test _ refl
-  where
-    by_test : (b : Bool) → has (against_lock part row (Some (Gather from to))) P ≡ b → b ≡ false
-    by_test false is = refl
-    by_test true is =
-        let held = minus-less _ _ P is in
-        sym (and_parts (has row.entry.held P) (covers P part) (sym (has-of_part part row.entry.held P) ∙ held)).1 ∙ pin_covers_none part
-
-no_pin-against : (s : Scene) (row : EntryRow) → has (against s row) P ≡ false
-no_pin-against s row = out-union _ _ (of A) (out-union _ _ (of L) (out-union _ _ (of X) (of F)))
-  where
-    of : (part : Part) → has (against_lock part row (lock_at s.locks row.holder.ino.0 part)) P ≡ false
-    of part = no_pin-lock part row (lock_at s.locks row.holder.ino.0 part)
-
-no_pin-revoked : (s : Scene) (o : Option EntryRow) → has (option_map_or (against s) o no_caps) P ≡ false
-no_pin-revoked s None = has-none P
-no_pin-revoked s (Some row) = no_pin-against s row
-
 wants-pin : (mode : OpenMode) → has (opening_wants mode) P ≡ true
 wants-pin opening.Read = has-caps_in (P ∷ Fs ∷ Fc ∷ Fr ∷ []) P
 wants-pin opening.Write = has-caps_in (P ∷ Fx ∷ Fw ∷ Fb ∷ []) P
 wants-pin opening.ReadWrite = has-caps_in (P ∷ Fs ∷ Fx ∷ Fc ∷ Fr ∷ Fw ∷ Fb ∷ []) P
 
--- the pin is always permitted
-pub permitted-pin : (fs : List ℕ) (o : Option Subject) → has (permitted_to fs o) P ≡ true
-unfolding permitted_of
-permitted-pin fs None = has-caps_in (P ∷ []) P
-permitted-pin fs (Some s) = in-union_left (caps_in for_all) _ (has-caps_in for_all P)
+-- the pin is permitted where something may be read or written
+read-pin : (fs : List ℕ) (o : Option Subject) → is_granted_to fs o access.Read ≡ true → has (permitted_to fs o) P ≡ true
+read-pin fs None may = has-caps_in (P ∷ []) P
+read-pin fs (Some s) may = pin_of_read (question_of fs s) s.grants may
+
+write-pin : (fs : List ℕ) (o : Option Subject) → is_granted_to fs o access.Write ≡ true → has (permitted_to fs o) P ≡ true
+write-pin fs None may = has-caps_in (P ∷ []) P
+write-pin fs (Some s) may = pin_of_write (question_of fs s) s.grants may
+
+stop_by-denied : (s : Scene) (o : Option Refusal) (d : Option Need) (l : Option Refusal) → stop_by s o d l ≡ None → d ≡ None
+stop_by-denied s (Some x) d l e = cc
+stop_by-denied s None (Some n) l e = cc
+stop_by-denied s None None l e = refl
+
+met-first : (s : Scene) (n : Need) (rest : List Need) → first_denied s (n ∷ rest) ≡ None → is_met s n ≡ true
+met-first s n rest none = by_test (is_met s n) none
+  where
+    by_test : (b : Bool) → cond (not b) (Some n) (first_denied s rest) ≡ None → b ≡ true
+    by_test true e = refl
+    by_test false e = absurd (cc)
+
+-- so it is for whom an opening is not stopped
+opening-pin : (s : Scene) (client : ClientId) (ino : Ino) (mode : OpenMode) → judged s (event.Open client ino mode) ≡ None → has (permitted s.fs s.tree s.sessions (holder client ino)) P ≡ true
+opening-pin s client ino mode free = by_mode mode (stop_by-denied s _ _ _ free)
+  where
+    by_mode : (m : OpenMode) → first_denied s (opening_needs client ino.0 m) ≡ None → has (permitted s.fs s.tree s.sessions (holder client ino)) P ≡ true
+    by_mode opening.Read none = read-pin s.fs (subject s.tree s.sessions (holder client ino)) (met-first s (need client ino.0 access.Read) [] none)
+    by_mode opening.Write none = write-pin s.fs (subject s.tree s.sessions (holder client ino)) (met-first s (need client ino.0 access.Write) [] none)
+    by_mode opening.ReadWrite none = read-pin s.fs (subject s.tree s.sessions (holder client ino)) (met-first s (need client ino.0 access.Read) (need client ino.0 access.Write ∷ []) none)
 
 -- ---- an entry whose pin is held
 
@@ -348,6 +362,11 @@ module _ (s : Scene) (k : Holder) where
       All-change IsKept rows k (taken caps)
       (λ row was. less-kept s row (taken caps row.entry) (minus-less row.entry.held caps) (in-minus row.entry.held caps no_pin was.holds_pin) was.wants_pin refl refl refl was) all
 
+  -- where something is taken, and with the pin the entry goes
+  acked-kept : (t : Table) (caps : Caps) (b : Bool) → has caps P ≡ b → All IsKept t.rows → All IsKept (cond b (without t k) (changed t k (taken caps))).rows
+  acked-kept t caps true pin all = All-filter (λ row. not (is_row_of k row)) IsKept t.rows all
+  acked-kept t caps false no_pin all = taken-kept t.rows caps no_pin all
+
   -- where something is given back
   released-kept : (t : Table) (caps : Caps) (b : Bool) → has caps P ≡ b → All IsKept t.rows → All IsKept (cond b (without t k) (changed t k (given_back caps))).rows
   released-kept t caps true pin all = All-filter (λ row. not (is_row_of k row)) IsKept t.rows all
@@ -362,11 +381,11 @@ not_false : (b : Bool) → not b ≡ false → b ≡ true
 not_false true is = refl
 not_false false is = sym is
 
-open_session : (o : Option Session) → is_some o ≡ true → is_stale (option_map (λ session. session.status) o) ≡ false → is_open (option_map (λ session. session.status) o) ≡ true
+open_session : (o : Option Session) → is_some o ≡ true → is_stale (option_map (λ session. session.status) o) ≡ false → is_open_status (option_map (λ session. session.status) o) ≡ true
 open_session None has not_stale = has
 open_session (Some session) has not_stale = by_status session.status not_stale
   where
-    by_status : (st : Status) → is_stale (Some st) ≡ false → is_open (Some st) ≡ true
+    by_status : (st : Status) → is_stale (Some st) ≡ false → is_open_status (Some st) ≡ true
     by_status status.Open fresh = refl
     by_status status.Stale fresh = sym fresh
 
@@ -381,7 +400,7 @@ module _ (s : Scene) (client : ClientId) (ino : Ino) (asked : first_failing (ask
   pub asked-session : has_session s.sessions client.0 ≡ true
   asked-session = not_false (has_session s.sessions client.0) (passed-if _ refusal.NoSession _ both.0).0
 
-  asked-open : is_open (status_of s.sessions client.0) ≡ true
+  asked-open : is_open_status (status_of s.sessions client.0) ≡ true
   asked-open =
       open_session (map.get s.sessions.sessions client.0) asked-session
       (passed-if (is_stale (status_of s.sessions client.0)) refusal.SessionStale None (passed-if (not (has_session s.sessions client.0)) refusal.NoSession _ both.0).1).0
@@ -396,8 +415,8 @@ module _ (s : Scene) (client : ClientId) (ino : Ino) (asked : first_failing (ask
       subst (λ caps. IsSubset (of_part part caps) allowed) (sym none) (part-none part allowed)
 
   -- it holds nothing, and wants what the opening takes: the pin is due
-  new-touched : (t : Table) (want : Caps) → has want P ≡ true → IsTouchedEntry (record s { table = t }) (row_with (holder client ino) (wanting want new_entry))
-  new-touched t want wanted = record {
+  new-touched : has (permitted s.fs s.tree s.sessions (holder client ino)) P ≡ true → (t : Table) (want : Caps) → has want P ≡ true → IsTouchedEntry (record s { table = t }) (row_with (holder client ino) (wanting want new_entry))
+  new-touched may t want wanted = record {
     of_session = asked-session;
     on_inode = asked-there;
     wants_pin = wanted;
@@ -411,11 +430,36 @@ module _ (s : Scene) (client : ClientId) (ino : Ino) (asked : first_failing (ask
       pin_due =
           ap (λ b. has (cond b (meet want (permitted s.fs s.tree s.sessions (holder client ino))) no_caps) P) asked-open
           ∙ has-meet want (permitted s.fs s.tree s.sessions (holder client ino)) P
-          ∙ and_true _ _ wanted (permitted-pin s.fs (subject s.tree s.sessions (holder client ino)))
+          ∙ and_true _ _ wanted may
 
 -- ---- the entries, as the event leaves them
 
+-- what is outside of a state is not changed by what is wanted, nor by one entry more
+any-changed : (p q : EntryRow → Bool) (k : Holder) (f : Entry → Entry) → ((row : EntryRow) → p (record row { entry = f row.entry }) ≡ p row) → ((row : EntryRow) → q (record row { entry = f row.entry }) ≡ q row)
+    → (rows : List EntryRow) → list_any p (filter q (change_rows rows k f)) ≡ list_any p (filter q rows)
+any-changed p q k f same_p same_q [] = refl
+any-changed p q k f same_p same_q (row ∷ rows) = elim (is_row_of k row) as (λ b. list_any p (filter q (cond b (record row { entry = f row.entry } ∷ rows) (row ∷ change_rows rows k f))) ≡ list_any p (filter q (row ∷ rows))) [
+  | true ↦ ap (λ b. list_any p (cond b (record row { entry = f row.entry } ∷ filter q rows) (filter q rows))) (same_q row)
+      ∙ (elim (q row) as (λ b. list_any p (cond b (record row { entry = f row.entry } ∷ filter q rows) (filter q rows)) ≡ list_any p (cond b (row ∷ filter q rows) (filter q rows))) [
+        | true ↦ ap (λ b. b || list_any p (filter q rows)) (same_p row)
+        | false ↦ refl
+      ])
+  | false ↦ elim (q row) as (λ b. list_any p (cond b (row ∷ filter q (change_rows rows k f)) (filter q (change_rows rows k f))) ≡ list_any p (cond b (row ∷ filter q rows) (filter q rows))) [
+    | true ↦ ap (λ b. p row || b) (any-changed p q k f same_p same_q rows)
+    | false ↦ any-changed p q k f same_p same_q rows
+  ]
+]
+
+any-more : (p q : EntryRow → Bool) (rows more : List EntryRow) → list_any p (filter q rows) ≡ true → list_any p (filter q (rows ++ more)) ≡ true
+any-more p q rows more is = ap (list_any p) (filter-append q rows more) ∙ list_any-append p (filter q rows) (filter q more) ∙ ap (λ b. b || list_any p (filter q more)) is
+
+any-entry : (p q : EntryRow → Bool) (t : Table) (k : Holder) → list_any p (filter q t.rows) ≡ true → list_any p (filter q (with_entry t k).rows) ≡ true
+any-entry p q t k is = elim (is_some (entry_at t k)) as (λ b. list_any p (filter q (cond b t (opened t k)).rows) ≡ true) [ true ↦ is | false ↦ any-more p q t.rows (row_with k new_entry ∷ []) is ]
+
 module _ (old : State) (client : ClientId) (ino : Ino) (sound : IsSound old) (table : IsTable old.scene.table) where
+  pinned : (rows : List EntryRow) → All (IsKeptEntry old.scene) rows → (row : EntryRow) → Contains rows row → has row.entry.held P ≡ false → ⊥
+  pinned rows all row inside none = let kept = All-contains (IsKeptEntry old.scene) rows row all inside in true≢false (sym kept.holds_pin ∙ none)
+
   abbrev k : Holder
   k = holder client ino
 
@@ -431,20 +475,38 @@ module _ (old : State) (client : ClientId) (ino : Ino) (sound : IsSound old) (ta
   left : (new : Table) (rows : List EntryRow) → All (IsKeptEntry old.scene) rows → All (Left new) rows
   left new rows all = All-weaker (IsKeptEntry old.scene) (Left new) (λ row. kept-touched old.scene new row) rows all
 
-  left-opening : (mode : OpenMode) (new : Table) → first_failing (asked_tests old.scene client ino.0) ≡ None → (o : Option Entry) → entry_at t k ≡ o
+  left-opening : (mode : OpenMode) (new : Table) → has (permitted old.scene.fs old.scene.tree old.scene.sessions (holder client ino)) P ≡ true → first_failing (asked_tests old.scene client ino.0) ≡ None → (o : Option Entry) → entry_at t k ≡ o
       → All (Left new) (change_rows (cond (is_some o) t (opened t k)).rows k (λ e. wanting (union e.want (opening_wants mode)) e))
-  left-opening mode new asked (Some e) at =
+  left-opening mode new may asked (Some e) at =
       left new _ (want-kept old.scene k t.rows (λ want. union want (opening_wants mode)) (λ want is. in-union_left want (opening_wants mode) is) all_kept)
-  left-opening mode new asked None at =
+  left-opening mode new may asked None at =
       All-same (Left new) _ _ (change-new t.rows k (λ e. wanting (union e.want (opening_wants mode)) e) new_entry at)
-      (All-push (Left new) t.rows _ (left new t.rows all_kept) (new-touched old.scene client ino asked new (union no_caps (opening_wants mode)) (in-union_right no_caps (opening_wants mode) (wants-pin mode))))
+      (All-push (Left new) t.rows _ (left new t.rows all_kept) (new-touched old.scene client ino asked may new (union no_caps (opening_wants mode)) (in-union_right no_caps (opening_wants mode) (wants-pin mode))))
 
   left-touched : (touch : Touch) (new : Table) → judged old.scene (touch_event client ino touch) ≡ None → All (Left new) (touched_table t k (revoked_of old.scene k) touch).rows
-  left-touched (Open mode) new free = left-opening mode new (before-passed old.scene (event.Open client ino mode) free) (entry_at t k) refl
+  left-touched (Open mode) new free = left-opening mode new (opening-pin old.scene client ino mode free) (before-passed old.scene (event.Open client ino mode) free) (entry_at t k) refl
   left-touched (Want caps) new free =
       left new _ (want-kept old.scene k t.rows (λ want. union caps (caps_in (P ∷ []))) (λ want is. in-union_right caps (caps_in (P ∷ [])) (has-caps_in (P ∷ []) P)) all_kept)
-  left-touched (Ack seq) new free = left new _ (taken-kept old.scene k t.rows (revoked_of old.scene k) (no_pin-revoked old.scene (find (is_row_of k) t.rows)) all_kept)
+  left-touched (Ack seq) new free = left new _ (acked-kept old.scene k t (revoked_of old.scene k) (has (revoked_of old.scene k) P) refl all_kept)
   left-touched (Release caps) new free = left new _ (released-kept old.scene k t caps (has caps P) refl all_kept)
+
+  -- ---- who waits
+
+  -- of all rows but a new one the pin is held
+  calm-touched : (touch : Touch) → (row : EntryRow) → Contains (touched_table t k (revoked_of old.scene k) touch).rows row → has row.entry.held P ≡ false
+      → WaitAt (λ q. false) (record old.scene { table = touched_table t k (revoked_of old.scene k) touch })
+  calm-touched (Open mode) row inside none = λ q waits off.
+      let held = sound-waits old sound q waits off in
+      record { from = held.from; to = held.to; gathers = held.gathers; is_held = opened-open mode q.ino.0 (part_of_ask q.ask) held.to held.is_held }
+    where
+      opened-open : (m : OpenMode) (i : ℕ) (part : Part) (to : LockGoal) → is_open old.scene i part to ≡ true → is_open (record old.scene { table = touched_table t k (revoked_of old.scene k) (Open m) }) i part to ≡ true
+      opened-open m i part to is =
+          any-changed (λ r. not (is_empty (outside part to r))) (is_of_inode (record { 0 = i })) k (λ e. wanting (union e.want (opening_wants m)) e) (λ r. refl) (λ r. refl) (with_entry t k).rows
+          ∙ any-entry (λ r. not (is_empty (outside part to r))) (is_of_inode (record { 0 = i })) t k is
+  calm-touched (Want caps) row inside none =
+      absurd (pinned _ (want-kept old.scene k t.rows (λ want. union caps (caps_in (P ∷ []))) (λ want is. in-union_right caps (caps_in (P ∷ [])) (has-caps_in (P ∷ []) P)) all_kept) row inside none)
+  calm-touched (Ack seq) row inside none = absurd (pinned _ (acked-kept old.scene k t (revoked_of old.scene k) (has (revoked_of old.scene k) P) refl all_kept) row inside none)
+  calm-touched (Release caps) row inside none = absurd (pinned _ (released-kept old.scene k t caps (has caps P) refl all_kept) row inside none)
 
 -- ---- the event
 
@@ -463,6 +525,7 @@ touches-touched old k touch sound table free =
           All-filter (is_of_inode (record { 0 = k.ino.0 })) (IsTouchedEntry (record old.scene { table = touched_table old.scene.table k (revoked_of old.scene k) touch }))
           (touched_table old.scene.table k (revoked_of old.scene k) touch).rows
           (left-touched old k.client k.ino sound table touch (touched_table old.scene.table k (revoked_of old.scene k) touch) free);
+      calm = calm-touched old k.client k.ino sound table touch;
     })
 
 -- ---- what it leaves of numbers, and what it leaves out

@@ -1,8 +1,14 @@
 -- What the calls of the step of a client's session come to.
-use Rattle.std.proofs.Common.{◌≡◌, ◌≤◌, ◌<◌, ◌^◌, ◌-◌, ℕ, ◌+◌, ◌++◌, true, false, not, Bool, Option, Some, None, is_some, List, [], Contains, length, refl, sym, ap, subst, ◌∙◌, arith}
+use Rattle.std.proofs.Common.{◌==◌, ◌≡◌, ◌≤◌, ◌<◌, ◌^◌, ◌-◌, ℕ, ◌+◌, ◌++◌, true, false, not, Bool, Option, Some, None, is_some, List, [], Contains, length, refl, sym, ap, subst, ◌∙◌, arith}
 use Rattle.std.specs.Prelude.{IsTrue, All}
 use Rattle.std.specs.Option.{option_map}
 use Rattle.std.specs.FinMap as map
+use Rattle.std.specs.HashMap.{HashMap}
+use Rattle.capbits.specs.Caps.{Caps}
+use Rattle.captable.specs.declared.entry.Entry.{Entry}
+use Rattle.captable.specs.declared.entry.Holder.{Holder}
+use Rattle.std.proofs.lemmas.Bool.{eqb-true}
+use Rattle.captable.specs.Calls.{without_client}
 use Rattle.std.proofs.lemmas.List.Sums.{length-filter, count_by-le-length}
 use Rattle.std.proofs.lemmas.List.Elements.{All-weaker, All-contains_itself}
 use Rattle.capbits.specs.declared.ids.ClientId.{ClientId}
@@ -12,7 +18,8 @@ use Rattle.capbits.specs.Refusal.{first_failing}
 use Rattle.locktable.specs.declared.states.LockState.{LockState}
 use Rattle.sessiontab.specs.Calls.{has_session}
 use Rattle.captable.specs.declared.entry.EntryRow.{EntryRow}
-use Rattle.captable.specs.Table.{IsTable}
+use Rattle.captable.specs.Table.{Table, IsTable, entry_at}
+use Rattle.captable.proofs.ByHolder.{entry_at-without_client, entry_at-without_client_other}
 use Rattle.lockmachine.specs.declared.request.Request.{Request}
 use Rattle.lockmachine.specs.declared.states.InodeLocks.{InodeLocks}
 use Rattle.lockmachine.specs.Inodes.{StateMap, lock_in}
@@ -40,9 +47,13 @@ use Rattle.capcore.specs.Finish.{sizes_owed}
 use Rattle.capcore.specs.Settle.{ended_in, sized_in}
 use Rattle.capcore.specs.Sound.{IsSound, NumbersLeft}
 use Rattle.capcore.specs.Step.{earlier, all_ended, state_at_end}
-use Rattle.capcore.specs.Touching.{Touches, SettlesAt, finished_at}
-use Rattle.capcore.specs.Turn.{ReachesClient, turn_event, turn_tests, is_end, locks_left, messages_left, dropped_by, turned}
+use Rattle.capcore.specs.Touching.{Touches, SettlesAt, Knows, finished_at}
+use Rattle.capcore.specs.Known.{known_in, AreKnown, StillKept}
+use Rattle.capcore.specs.Turn.{ReachesClient, turn_event, turn_tests, is_end, table_left, locks_left, messages_left, dropped_by, turned}
 use Rattle.capcore.proofs.Closing.{told-all, touches-clients, touches-locked}
+use Rattle.capcore.proofs.EndKnown.{ends-known}
+use Rattle.capcore.proofs.Knowing.{HoldAlike, alike-less, still-knows}
+use Rattle.capcore.proofs.ShownSteps.{apart_client}
 use Rattle.capcore.proofs.Concluded.{IsConcluded, GivesOne, concluded}
 use Rattle.capcore.proofs.Turned.{turn_direct, direct-turned, turned-touches, turned-table, turned-below, turned-made, turned-last}
 
@@ -93,6 +104,20 @@ few-messages true messages client =
     let kept = length-filter (λ m. not (is_to client m)) messages in
     let few = count_by-le-length (λ m. not (is_to client m)) messages in
     omega (arith, kept, few)
+
+-- ---- whose entries stay, hold what they held
+
+abbrev there_as : Table → Holder → Entry → Type 0
+there_as t k e = (f : Entry) × (entry_at t k ≡ Some f) × (e.held ≡ f.held)
+
+left-alike : (b : Bool) (t : Table) (client : ClientId) (k : Holder) (e : Entry) → entry_at (table_left b t client) k ≡ Some e → there_as t k e
+left-alike false t client k e there = (e, there, refl)
+left-alike true t client k e there = by_client (k.client.0 == client.0) refl
+  where
+    by_client : (b : Bool) → (k.client.0 == client.0) ≡ b → there_as t k e
+    by_client true mine =
+        let none : entry_at (without_client t client) k ≡ None = entry_at-without_client t client k (ap (λ n. record { 0 = n }) (eqb-true k.client.0 client.0 mine)) in absurd (cc)
+    by_client false off = (e, sym (entry_at-without_client_other t client k (apart_client k.client client off)) ∙ there, refl)
 
 -- ---- an event that nothing stops, and the state that it leads to by itself
 
@@ -147,7 +172,21 @@ module _ (old : State) (client : ClientId) (turn : Turn) (passed : judged old.sc
 
   -- ---- the end of the step
 
-  module _ (order : IsLockMap old.scene.locks) (last : Scene) (told : List Ended) (ends : EndsWith from touched.scene last told) (last_table : IsTable last.table) where
+  table-left : IsTable touched.scene.table
+  table-left = turned-table (is_end turn) old.scene.table client table
+
+  -- each entry is as it was
+  pub turn-alike : HoldAlike old.scene.table touched.scene.table
+  turn-alike k f there = left-alike (is_end turn) old.scene.table client k f there
+
+  module _ {S : Type 0} (before was now : HashMap Holder Caps S) (order : IsLockMap old.scene.locks) (known : AreKnown before old.scene) (still : StillKept old.scene.table touched.scene.table before was)
+      (last : Scene) (told : List Ended) (ends : EndsWith from was now touched.scene last told) where
+    knows : Knows (known_in was) old.scene touched.scene.table
+    knows = still-knows before was old.scene touched.scene.table known still table-left (alike-less old.scene.table touched.scene.table turn-alike)
+
+    pub turn-known : AreKnown now last
+    turn-known = ends-known before was now from old touched sound table table-left touches known still knows last told ends
+
     abbrev settles : SettlesWith ends.at from touched.scene ends.settled told ends.sized
     settles = ends.settles
 
@@ -162,20 +201,22 @@ module _ (old : State) (client : ClientId) (turn : Turn) (passed : judged old.sc
     turn_closed = record { scene = last; messages = touched.messages ++ told }
 
     abbrev by_the_rules : State
-    by_the_rules = state_at_end old (direct old e).state settles.moves (finished_at ends.at (direct old e).state.scene (sizes_owed (sized_in settles.moves) ends.settled))
+    by_the_rules = state_at_end old (direct old e).state settles.moves (finished_at ends.at (known_in was) (sizes_owed (sized_in settles.moves) ends.settled))
 
     same_state : turn_closed ≡ by_the_rules
     same_state =
         (λ i. record { scene = ends.finished i; messages = touched.messages ++ (sym all ∙ ap (earlier old.scene.locks.last) settles.ended_is) i })
-        ∙ ap (λ (sized : List Ino). state_at_end old touched settles.moves (finished_at ends.at touched.scene (sizes_owed sized ends.settled))) settles.sized_is
-        ∙ ap (λ (d : Direct). state_at_end old d.state settles.moves (finished_at ends.at d.state.scene (sizes_owed (sized_in settles.moves) ends.settled))) (sym by_itself)
+        ∙ ap (λ (sized : List Ino). state_at_end old touched settles.moves (finished_at ends.at (known_in was) (sizes_owed sized ends.settled))) settles.sized_is
+        ∙ ap (λ (d : Direct). state_at_end old d.state settles.moves (finished_at ends.at (known_in was) (sizes_owed (sized_in settles.moves) ends.settled))) (sym by_itself)
 
-    pub turn-closed : (said : Said) → said.reply ≡ reply.Done → said.kept ≡ reply.Done → said.ended ≡ dropped_by (is_end turn) old.scene.locks client ++ told
+    pub turn-closed : IsTable last.table → (said : Said) → said.reply ≡ reply.Done → said.kept ≡ reply.Done → said.ended ≡ dropped_by (is_end turn) old.scene.locks client ++ told
         → IsAnswered old e said turn_closed
-    turn-closed said replies kept ended =
+    turn-closed last_table said replies kept ended =
         let c =
-        concluded ends.at from old e settles.moves ends.settled sound (subst (λ (d : Direct). Touches from old d.state) (sym by_itself) touches)
-        (subst (λ (d : Direct). IsTable d.state.scene.table) (sym by_itself) (turned-table (is_end turn) old.scene.table client table)) gives
+        concluded ends.at from (known_in was) old e settles.moves ends.settled sound (subst (λ (d : Direct). Touches from old d.state) (sym by_itself) touches)
+        (subst (λ (d : Direct). IsTable d.state.scene.table) (sym by_itself) table-left)
+        (subst (λ (d : Direct). IsLockMap d.state.scene.locks) (sym by_itself) (order-left (is_end turn) order))
+        (subst (λ (d : Direct). Knows (known_in was) old.scene d.state.scene.table) (sym by_itself) knows) gives
         (subst (λ (d : Direct). SettlesAt ends.at from settles.moves d.state.scene ends.settled) (sym by_itself) settles.settles) ends.tree
         (subst (λ (s : State). IsTable s.scene.table) same_state last_table) said.reply turn_closed
         (replies ∙ sym (ap (λ (d : Direct). reply_of by_the_rules (ended_in settles.moves) d.answer) by_itself))

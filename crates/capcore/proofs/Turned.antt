@@ -41,6 +41,7 @@ use Rattle.capcore.specs.Messages.{is_to}
 use Rattle.capcore.specs.Sound.{IsSound}
 use Rattle.capcore.specs.Touching.{Touches, IsTouchedEntry}
 use Rattle.capcore.specs.Turn.{turn_event, turned_sessions, is_end, table_left, locks_left, messages_left, dropped_by, turned}
+use Rattle.capcore.proofs.NothingServed.{sound-pinned}
 use Rattle.capcore.proofs.Touched.{IsKeptEntry, kept-left, sound-kept}
 
 -- ---- the event
@@ -242,6 +243,11 @@ module _ (old : State) (client : ClientId) (turn : Turn) (sound : IsSound old) (
         left-ended (is_of_client client) (IsKeptEntry old.scene) (IsTouchedEntry first) old.scene.table.rows (sound-kept old sound table)
         (λ row off kept. one-left row (has_by true is row.holder.client.0 (λ e. off)) kept)
 
+    -- each was there
+    was-row : (b : Bool) (row : EntryRow) → Contains (table_left b old.scene.table client).rows row → Contains old.scene.table.rows row
+    was-row false row inside = inside
+    was-row true row inside = contains-filter (λ row. not (is_of_client client row)) old.scene.table.rows row inside
+
     pub turned-touches : Touches from old (turned old client turn)
     turned-touches = record {
       same = outside-then from old.scene with_theirs first outside-sessions (outside-left (is_end turn));
@@ -254,6 +260,7 @@ module _ (old : State) (client : ClientId) (turn : Turn) (sound : IsSound old) (
           left-none (is_end turn) ino part
           (subst (IsQuiet old.scene ino part) (sym (left-lock (is_end turn) ino part) ∙ none) (let rest = sound.at_rest in rest.each ino part));
       each = λ row inside on. All-contains (IsTouchedEntry first) first.table.rows row (left-entries (is_end turn) refl) inside;
+      calm = λ row inside none. absurd (sound-pinned old sound row (was-row (is_end turn) row inside) none);
     }
 
 -- ---- the table, and numbers

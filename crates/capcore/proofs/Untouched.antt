@@ -4,6 +4,10 @@ use Rattle.std.specs.Option.{option_map}
 use Rattle.std.specs.Cmp.{nat_cmp_total}
 use Rattle.std.specs.Ordering.{nat_cmp, eq_by_cmp}
 use Rattle.std.specs.FinMap as map
+use Rattle.std.specs.HashMap.{HashMap}
+use Rattle.capbits.specs.Caps.{Caps}
+use Rattle.captable.specs.declared.entry.Holder.{Holder}
+use Rattle.capcore.specs.Known.{AreKnown}
 use Rattle.std.specs.FinSet as set
 use Rattle.std.specs.FinSet.{FinSet}
 use Rattle.std.proofs.lemmas.List.Elements.{All-weaker}
@@ -27,13 +31,14 @@ use Rattle.captable.specs.declared.entry.EntryRow.{EntryRow}
 use Rattle.lockmachine.specs.declared.states.InodeLocks.{InodeLocks}
 use Rattle.lockmachine.specs.Inodes.{in_sync}
 use Rattle.lockmachine.specs.Locks.{with_ino}
+use Rattle.lockmachine.specs.Policy.{permitted}
 use Rattle.lockmachine.specs.Wants.{effective_want}
-use Rattle.lockmachine.proofs.PolicyElsewhere.{want-session, want-new, want-changed}
+use Rattle.lockmachine.proofs.PolicyElsewhere.{permitted-session, permitted-new, permitted-changed, want-session, want-new, want-changed}
 use Rattle.capcore.specs.State.{State}
 use Rattle.capcore.specs.Direct.{with_scene, with_tree, with_birth}
 use Rattle.capcore.specs.Sound.{IsSoundEntry, IsSound}
 use Rattle.capcore.specs.Leaving.{LeavesEntries}
-use Rattle.capcore.proofs.Leaving.{kept-sound, none_if, some_same, no_locks}
+use Rattle.capcore.proofs.Leaving.{kept-sound, none_if, some_same, no_locks, kept-known}
 
 -- the locks that an inode begins with, where there is an inode
 abbrev first_of : Option Node → Option InodeLocks
@@ -51,6 +56,10 @@ module _ (s : State) (sound : IsSound s) where
   abbrev SameWant : Nodes → SessionTable → EntryRow → Type 0
   SameWant tree sessions row = effective_want s.scene.fs tree sessions row ≡ effective_want s.scene.fs s.scene.tree s.scene.sessions row
 
+  -- and the same is permitted
+  abbrev SameMay : Nodes → SessionTable → EntryRow → Type 0
+  SameMay tree sessions row = permitted s.scene.fs tree sessions row.holder ≡ permitted s.scene.fs s.scene.tree s.scene.sessions row.holder
+
   -- whoever is on the blocklist
   blocked-leaves : (blocked : FinSet nat_cmp) → LeavesEntries s.scene s.scene.tree (record s.scene.sessions { blocked = blocked }) s.scene.locks.states
   blocked-leaves blocked = record {
@@ -59,6 +68,7 @@ module _ (s : State) (sound : IsSound s) where
     locks = λ ino here. refl;
     new_locks = none_new;
     strays = λ ino gone. gone;
+    permits = All-weaker (IsSoundEntry s.scene) (SameMay s.scene.tree (record s.scene.sessions { blocked = blocked })) (λ row entry. refl) s.scene.table.rows sound.entries;
     wants = All-weaker (IsSoundEntry s.scene) (SameWant s.scene.tree (record s.scene.sessions { blocked = blocked })) (λ row entry. refl) s.scene.table.rows sound.entries;
   }
 
@@ -76,6 +86,8 @@ module _ (s : State) (sound : IsSound s) where
     locks = λ ino here. refl;
     new_locks = none_new;
     strays = λ ino gone. gone;
+    permits = All-weaker (IsSoundEntry s.scene) (SameMay s.scene.tree (with_session s.scene.sessions client caller grants))
+        (λ row entry. permitted-session s.scene.fs s.scene.tree s.scene.sessions client caller grants passed row.holder entry.of_session) s.scene.table.rows sound.entries;
     wants = All-weaker (IsSoundEntry s.scene) (SameWant s.scene.tree (with_session s.scene.sessions client caller grants))
         (λ row entry. want-session s.scene.fs s.scene.tree s.scene.sessions client caller grants passed row entry.of_session) s.scene.table.rows sound.entries;
   }
@@ -89,6 +101,8 @@ module _ (s : State) (sound : IsSound s) where
     locks = λ q here. refl;
     new_locks = λ q out. none_new q out ∙ sym (same_first q);
     strays = λ q gone. ap place_at (sym (field-changed f (λ n. n.site) site s.scene.tree.nodes ino q)) ∙ gone;
+    permits = All-weaker (IsSoundEntry s.scene) (SameMay (changed f s.scene.tree ino) s.scene.sessions)
+        (λ row entry. permitted-changed s.scene.fs s.scene.tree s.scene.sessions f ino site attr row.holder) s.scene.table.rows sound.entries;
     wants = All-weaker (IsSoundEntry s.scene) (SameWant (changed f s.scene.tree ino) s.scene.sessions)
         (λ row entry. want-changed s.scene.fs s.scene.tree s.scene.sessions f ino site attr row) s.scene.table.rows sound.entries;
   }
@@ -107,6 +121,8 @@ module _ (s : State) (sound : IsSound s) where
         map.get-insert nat_cmp_total s.scene.locks.states k in_sync q ∙ ap (cond (eq_by_cmp nat_cmp q k) (Some in_sync)) (none_new q out)
         ∙ sym (ap first_of (map.get-insert nat_cmp_total s.scene.tree.nodes k node q) ∙ through (eq_by_cmp nat_cmp q k) node (map.get s.scene.tree.nodes q));
     strays = λ q gone. by_test q (eq_by_cmp nat_cmp q k) (ap (λ o. place_at (option_map (λ n. n.site) o)) (sym (map.get-insert nat_cmp_total s.scene.tree.nodes k node q)) ∙ gone);
+    permits = All-weaker (IsSoundEntry s.scene) (SameMay (with_new s.scene.tree kind dir name attr) s.scene.sessions)
+        (λ row entry. permitted-new s.scene.fs s.scene.tree s.scene.sessions tree kind dir name attr row.holder entry.on_inode) s.scene.table.rows sound.entries;
     wants = All-weaker (IsSoundEntry s.scene) (SameWant (with_new s.scene.tree kind dir name attr) s.scene.sessions)
         (λ row entry. want-new s.scene.fs s.scene.tree s.scene.sessions tree kind dir name attr row entry.on_inode) s.scene.table.rows sound.entries;
   }
@@ -139,3 +155,22 @@ module _ {s : State} (sound : IsSound s) where
   pub birth-sound : (kind : Kind) (dir : ℕ) (name : List ℕ) (attr : Attr) → IsTree s.scene.tree → IsSound (with_birth s kind dir name attr)
   birth-sound kind dir name attr tree =
       kept-sound s sound (with_new s.scene.tree kind dir name attr) s.scene.sessions (with_ino s.scene.locks (s.scene.tree.last + 1)).states (birth-leaves s sound kind dir name attr tree)
+
+-- ---- and what is known of entries
+
+module _ {s : State} (sound : IsSound s) {S : Type 0} (sets : HashMap Holder Caps S) (known : AreKnown sets s.scene) where
+  pub session-known : (client : ℕ) (caller : Caller) (grants : List Grant) → first_failing (new_session_tests s.scene.sessions client) ≡ None
+      → AreKnown sets (record s.scene { sessions = with_session s.scene.sessions client caller grants })
+  session-known client caller grants passed =
+      kept-known s sound s.scene.tree (with_session s.scene.sessions client caller grants) s.scene.locks.states (session-leaves s sound client caller grants passed) sets known
+
+  pub unblocked-known : (client : ℕ) → AreKnown sets (record s.scene { sessions = without_blocked s.scene.sessions client })
+  unblocked-known client = kept-known s sound s.scene.tree (without_blocked s.scene.sessions client) s.scene.locks.states (unblocked-leaves s sound client) sets known
+
+  pub changed-known : (f : Node → Node) (ino : ℕ) → ((n : Node) → (f n).site ≡ n.site) → ((n : Node) → (f n).attr ≡ n.attr)
+      → AreKnown sets (with_tree s (changed f s.scene.tree ino)).scene
+  changed-known f ino site attr = kept-known s sound (changed f s.scene.tree ino) s.scene.sessions s.scene.locks.states (changed-leaves s sound f ino site attr) sets known
+
+  pub birth-known : (kind : Kind) (dir : ℕ) (name : List ℕ) (attr : Attr) → IsTree s.scene.tree → AreKnown sets (with_birth s kind dir name attr).scene
+  birth-known kind dir name attr tree =
+      kept-known s sound (with_new s.scene.tree kind dir name attr) s.scene.sessions (with_ino s.scene.locks (s.scene.tree.last + 1)).states (birth-leaves s sound kind dir name attr tree) sets known

@@ -1,8 +1,10 @@
 -- The step of a request that waits, as its calls go.
-use Rattle.std.proofs.Common.{◌≡◌, ◌<◌, ◌≤◌, ℕ, Bool, ◌+◌, ◌==◌, not, cond, Some, None, List, ◌++◌, length, refl, sym, ap, subst, ◌∙◌, arith}
+use Rattle.std.proofs.Common.{is_some, ◌≡◌, ◌<◌, ◌≤◌, ℕ, Bool, ◌+◌, ◌==◌, not, cond, Some, None, List, ◌++◌, length, refl, sym, ap, subst, ◌∙◌, arith}
 use Rattle.std.specs.Prelude.{IsTrue, All}
 use Rattle.std.specs.List.{count_by, find}
 use Rattle.std.specs.FinMap as map
+use Rattle.std.specs.HashMap.{HashMap}
+use Rattle.capbits.specs.Caps.{Caps}
 use Rattle.std.proofs.lemmas.Bool.{lt-leb}
 use Rattle.std.proofs.lemmas.List.Sums.{length-filter, count_by-le-length}
 use Rattle.capbits.specs.declared.ids.Ticket.{Ticket}
@@ -26,12 +28,15 @@ use Rattle.capcore.specs.Serves.{EndsWith}
 use Rattle.capcore.specs.Sound.{IsSound}
 use Rattle.capcore.specs.Step.{earlier}
 use Rattle.capcore.proofs.Asked.{asking-touches, asking-direct, asking-stop, order-of_ask}
+use Rattle.capcore.proofs.EndKnown.{ends-known}
+use Rattle.capcore.proofs.Knowing.{HoldAlike, alike-less, still-there, still-knows}
 use Rattle.capcore.proofs.Closing.{told-own_numbers, told-but_own, touches-one, touches-locked, closed}
 use Rattle.capcore.proofs.Stops.{touched-asks}
 use Rattle.capcore.specs.declared.event.Event.{Event}
 use Rattle.capcore.specs.declared.event.Event.TheVariants as event
 use Rattle.capcore.specs.declared.outcome.Ended.{Ended}
-use Rattle.capcore.specs.Touching.{asks_for, Touches}
+use Rattle.capcore.specs.Touching.{asks_for, Touches, Knows}
+use Rattle.capcore.specs.Known.{known_in, AreKnown, StillKept}
 use Rattle.capcore.specs.Untold.{HaveOwnNumbers, but_for}
 
 -- an event asks for it
@@ -76,7 +81,23 @@ module _ (old : State) (k : Holder) (ask : Ask) (sound : IsSound old) (table : I
   pub wait-locked : All (λ row. IsTrue (map.contains_key first.locks.states row.holder.ino.0)) first.table.rows
   wait-locked = touches-locked from old (with_scene old first) sound touches
 
-  module _ (last : Scene) (told : List Ended) (ends : EndsWith from first last told) where
+  order-then : IsLockMap locks
+  order-then = subst IsLockMap (sym queued) (order-of_ask old.scene k ask order free)
+
+  -- the entries are as they were
+  wait-alike : HoldAlike old.scene.table first.table
+  wait-alike j e there = (e, there, refl)
+
+  module _ {S : Type 0} (was now : HashMap Holder Caps S) (known : AreKnown was old.scene) (last : Scene) (told : List Ended) (ends : EndsWith from was now first last told) where
+    still : StillKept old.scene.table first.table was was
+    still = still-there old.scene.table first.table was was (λ j e there. ap is_some there) (λ j e there. refl)
+
+    knows : Knows (known_in was) old.scene first.table
+    knows = still-knows was was old.scene first.table known still table (alike-less old.scene.table first.table wait-alike)
+
+    pub wait-known : AreKnown now last
+    wait-known = ends-known was was now from old (with_scene old first) sound table table touches known still knows last told ends
+
     pub wait-differ : HaveOwnNumbers told
     wait-differ = told-own_numbers ends.at from first ends.settled told ends.sized ends.settles
 
@@ -85,7 +106,7 @@ module _ (old : State) (k : Holder) (ask : Ask) (sound : IsSound old) (table : I
         (left : messages ≡ old.messages ++ but_for ticket told) where
       others : earlier old.scene.locks.last told ≡ but_for ticket told
       others =
-          told-but_own ends.at from first ends.settled told ends.sized ends.settles (subst IsLockMap (sym queued) (order-of_ask old.scene k ask order free)) old.scene.locks.last ticket next
+          told-but_own ends.at from first ends.settled told ends.sized ends.settles order-then old.scene.locks.last ticket next
           (ap (λ (l : LockMap). l.last) queued)
 
       abbrev new : State
@@ -100,6 +121,6 @@ module _ (old : State) (k : Holder) (ask : Ask) (sound : IsSound old) (table : I
           let by_itself = asking-direct old e k ask asked passed in
           let is : first ≡ (direct old e).state.scene = (λ i. record old.scene { locks = queued i }) ∙ sym (ap (λ (d : Direct). d.state.scene) by_itself) in
           let awaits : Awaits ticket ≡ (direct old e).answer = ap (λ n. Awaits (record { 0 = n })) next ∙ sym (ap (λ (d : Direct). d.answer) by_itself) in
-          closed old e k (touched-asks e k ask asked) passed sound table first is last told ends last_table said new
+          closed old e k (touched-asks e k ask asked) passed sound table first is was now order-then knows last told ends last_table said new
           (replies ∙ ap (reply_of closed_as told) awaits) kept (ended ∙ sym others)
           ((λ i. record { scene = last; messages = (left ∙ ap (λ ms. old.messages ++ ms) (sym others)) i }) ∙ ap (λ (a : Answer). shown a closed_as) awaits)

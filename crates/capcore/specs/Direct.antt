@@ -22,7 +22,7 @@ use Rattle.sessiontab.specs.Calls.{with_session, without_session, with_status, w
 use Rattle.captable.specs.declared.entry.Holder.{Holder}
 use Rattle.captable.specs.declared.entry.EntryRow.{EntryRow}
 use Rattle.captable.specs.Table.{Table, holder, is_row_of, entry_at}
-use Rattle.captable.specs.Calls.{opened, wanting, taken, released, touched, told, recalled, without_client, changed as changed_entry}
+use Rattle.captable.specs.Calls.{opened, wanting, acked, released, touched, told, recalled, without_client, changed as changed_entry}
 use Rattle.lockmachine.specs.declared.request.Ask.{Ask}
 use Rattle.lockmachine.specs.declared.request.Ask.TheVariants.{Get, Alter, Unlink, Rmdir, Rename}
 use Rattle.lockmachine.specs.declared.request.Change.{Change}
@@ -155,10 +155,6 @@ with_opening table k mode = with_want (with_entry table k) k (λ want. union wan
 abbrev pub with_wanted : Table → Holder → Caps → Table
 with_wanted table k caps = with_want table k (λ want. union caps (caps_in (P ∷ [])))
 
--- what is being revoked of the holder's entry is held no more
-abbrev pub with_taken : Table → Holder → Caps → Table
-with_taken table k revoked = changed_entry table k (taken revoked)
-
 abbrev pub with_table : State → Table → State
 with_table s table = with_scene s (record s.scene { table = table })
 
@@ -232,7 +228,7 @@ effect s (event.Open client ino mode) =
 effect s (event.Want client ino caps) =
     shows (with_table s (with_wanted s.scene.table (holder client ino) caps)) (holder client ino)
 effect s (event.Ack client ino seq) =
-    says (with_table s (with_taken s.scene.table (holder client ino) (revoked_of s.scene (holder client ino)))) reply.Done
+    says (with_table s (acked s.scene.table (holder client ino) (revoked_of s.scene (holder client ino)))) reply.Done
 effect s (event.Release client ino caps) = says (with_table s (released s.scene.table (holder client ino) caps)) reply.Done
 effect s (event.Get client ino part) = asks s client ino (Get part)
 effect s (event.Alter client ino change) = asks s client ino (Alter change)

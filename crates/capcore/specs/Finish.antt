@@ -79,12 +79,13 @@ forget s = record s {
 
 -- ---- numbers
 
--- of an entry as the event left it, what was not being revoked when the event came; an entry that the event made holds nothing
+-- of what an entry still holds right after the event, what was not being revoked when the event came, by the locks, the tree and
+-- the grants of then; an entry that the event made holds nothing
 abbrev pub told_before : Scene → Option EntryRow → Caps
 told_before old None = no_caps
 told_before old (Some row) = told_set old row
 
--- the entry, renumbered where its client is to know at the end of another set than right after the event
+-- the entry, renumbered where its client is to know at the end of another set than was known so
 abbrev pub number_row : Scene → Scene → Scene → EntryRow → EntryRow
 number_row old first last row =
     record row { entry = renumbered (told_before old (find (is_row_of row.holder) first.table.rows)) (told_set last row) row.entry }

@@ -18,7 +18,7 @@ use Rattle.captable.specs.declared.entry.Holder.{Holder}
 use Rattle.captable.specs.declared.entry.EntryRow.{EntryRow}
 use Rattle.captable.specs.Table.{is_row_of}
 use Rattle.lockmachine.specs.Locks.{LockMap, lock_at}
-use Rattle.lockmachine.specs.Policy.{failures}
+use Rattle.lockmachine.specs.Policy.{failures, permitted}
 use Rattle.lockmachine.specs.declared.request.Request.{Request}
 use Rattle.lockmachine.specs.Requests.{same_part}
 use Rattle.lockmachine.specs.Scene.{Scene, against}
@@ -166,6 +166,13 @@ abbrev pub AreInPlace : Scene → Type 0
 AreInPlace s =
     (row : EntryRow) (part : Part) → find (is_row_of row.holder) s.table.rows ≡ Some row →
     IsInPlace s row part (lock_at s.locks row.holder.ino.0 part)
+
+-- what is held and is not permitted, by the grants of now and where the inode stands now, is being revoked. It says what revoking
+-- comes to; what clients know of it is said where it is said what they were shown
+abbrev pub AreRevoked : Scene → Type 0
+AreRevoked s =
+    (row : EntryRow) (cap : Cap) → find (is_row_of row.holder) s.table.rows ≡ Some row → IsTrue (has row.entry.held cap) →
+    IsFalse (has (permitted s.fs s.tree s.sessions row.holder) cap) → IsTrue (has (against s row) cap)
 
 -- no two clients hold what may not be held together
 abbrev pub NoneConflict : Scene → Type 0

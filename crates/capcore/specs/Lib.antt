@@ -24,3 +24,4 @@ pub mod Serves
 pub mod Sweep
 pub mod SameEvents
 pub mod Shown
+pub mod Known

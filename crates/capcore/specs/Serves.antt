@@ -1,8 +1,11 @@
 -- One serving by its number, and a settling with all that it served.
 use Rattle.std.specs.Prelude.{◌≡◌, ℕ, Bool, ◌||◌, ◌==◌, List, Some}
 use Rattle.std.specs.FinMap as map
+use Rattle.std.specs.HashMap.{HashMap}
 use Rattle.capbits.specs.declared.ids.Ino.{Ino}
 use Rattle.capbits.specs.declared.ids.Ticket.{Ticket}
+use Rattle.capbits.specs.Caps.{Caps}
+use Rattle.captable.specs.declared.entry.Holder.{Holder}
 use Rattle.inotree.specs.Tree.{IsTree}
 use Rattle.lockmachine.specs.declared.request.Request.{Request}
 use Rattle.lockmachine.specs.Inodes.{StateMap}
@@ -12,7 +15,8 @@ use Rattle.capcore.specs.declared.outcome.Ended.{Ended}
 use Rattle.capcore.specs.Serving.{MayEndAs, tree_after}
 use Rattle.capcore.specs.Finish.{sizes_owed}
 use Rattle.capcore.specs.Settle.{Made, ended_in, sized_in}
-use Rattle.capcore.specs.Touching.{SettlesAt, finished_at}
+use Rattle.capcore.specs.Touching.{SettlesAt, told_then, finished_at}
+use Rattle.capcore.specs.Known.{known_in, KeptAnew}
 
 -- the request with this number is served, ends so and waits no more
 pub record Serves (old : Scene) (ticket : Ticket) (ended : Ended) (new : Scene) : Type 0 where
@@ -34,11 +38,13 @@ pub record SettlesWith (at from : ℕ → Bool) (first settled : Scene) (ended :
   pub ended_is : ended ≡ ended_in moves
   pub sized_is : sized ≡ sized_in moves
 
--- the event was about these inodes: the locks settle, these requests end, and the step ends at the inodes that it touched
-pub record EndsWith (from : ℕ → Bool) (first last : Scene) (ended : List Ended) : Type 0 where
+-- the event was about these inodes: the locks settle, these requests end, and the step ends at the inodes that it touched. What
+-- was known of entries is kept in `was`, and what is known of them at the end in `now`
+pub record EndsWith {S : Type 0} (from : ℕ → Bool) (was now : HashMap Holder Caps S) (first last : Scene) (ended : List Ended) : Type 0 where
   pub at : ℕ → Bool
   pub settled : Scene
   pub sized : List Ino
   pub settles : SettlesWith at from first settled ended sized
   pub tree : IsTree settled.tree
-  pub finished : last ≡ finished_at at first (sizes_owed sized settled)
+  pub finished : last ≡ finished_at at (known_in was) (sizes_owed sized settled)
+  pub kept : KeptAnew (λ k. at k.ino.0) (told_then (sizes_owed sized settled)) (sizes_owed sized settled).table was now

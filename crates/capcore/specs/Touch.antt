@@ -6,7 +6,7 @@ use Rattle.capbits.specs.Caps.{Caps}
 use Rattle.capbits.specs.Refusal.{Test}
 use Rattle.captable.specs.declared.entry.Holder.{Holder}
 use Rattle.captable.specs.Table.{Table}
-use Rattle.captable.specs.Calls.{released}
+use Rattle.captable.specs.Calls.{acked, released}
 use Rattle.captable.specs.Tests.{entry_test, ack_tests, release_tests}
 use Rattle.capcore.specs.declared.event.Event.{Event}
 use Rattle.capcore.specs.declared.event.Event.TheVariants as event
@@ -14,7 +14,7 @@ use Rattle.capcore.specs.declared.reply.Reply.TheVariants as reply
 use Rattle.capcore.specs.declared.touch.Touch.{Touch}
 use Rattle.capcore.specs.declared.touch.Touch.TheVariants.{Open, Want, Ack, Release}
 use Rattle.capcore.specs.Judge.{room_for}
-use Rattle.capcore.specs.Direct.{Answer, Says, Shows, with_opening, with_wanted, with_taken}
+use Rattle.capcore.specs.Direct.{Answer, Says, Shows, with_opening, with_wanted}
 
 -- the event that asks it of the client's entry on the inode
 abbrev pub touch_event : ClientId → Ino → Touch → Event
@@ -34,7 +34,7 @@ touch_tests table k revoked (Release caps) = release_tests table k caps
 abbrev pub touched_table : Table → Holder → Caps → Touch → Table
 touched_table table k revoked (Open mode) = with_opening table k mode
 touched_table table k revoked (Want caps) = with_wanted table k caps
-touched_table table k revoked (Ack seq) = with_taken table k revoked
+touched_table table k revoked (Ack seq) = acked table k revoked
 touched_table table k revoked (Release caps) = released table k caps
 
 -- what is answered

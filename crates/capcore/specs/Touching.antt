@@ -4,7 +4,8 @@ use Rattle.std.specs.FinMap as map
 use Rattle.capbits.specs.declared.cap.Cap.TheVariants.{P}
 use Rattle.capbits.specs.declared.cap.Part.{Part}
 use Rattle.capbits.specs.declared.ids.ClientId.{ClientId}
-use Rattle.capbits.specs.Caps.{has}
+use Rattle.capbits.specs.Caps.{Caps, has}
+use Rattle.capbits.specs.Sets.{meet}
 use Rattle.inotree.specs.Calls.{forgotten}
 use Rattle.inotree.specs.Tree.{place}
 use Rattle.inotree.specs.Alike.{IsAlike}
@@ -12,7 +13,7 @@ use Rattle.sessiontab.specs.Calls.{has_session}
 use Rattle.captable.specs.declared.entry.Entry.{Entry}
 use Rattle.captable.specs.declared.entry.EntryRow.{EntryRow}
 use Rattle.captable.specs.declared.entry.Holder.{Holder}
-use Rattle.captable.specs.Table.{holder}
+use Rattle.captable.specs.Table.{Table, holder}
 use Rattle.captable.specs.Calls.{entries_on, renumbered}
 use Rattle.captable.specs.Many.{changed_where}
 use Rattle.lockmachine.specs.declared.request.Ask.{Ask}
@@ -23,6 +24,7 @@ use Rattle.lockmachine.specs.Requests.{first_for}
 use Rattle.lockmachine.specs.Locks.{lock_at, without_ino}
 use Rattle.lockmachine.specs.Scene.{Scene, told_set}
 use Rattle.lockmachine.specs.Rows.{IsInRow}
+use Rattle.lockmachine.specs.Turns.{WaitAt}
 use Rattle.capcore.specs.declared.event.Event.{Event}
 use Rattle.capcore.specs.declared.event.Event.TheVariants as event
 use Rattle.capcore.specs.Finish.{issue_row, is_kept}
@@ -165,6 +167,8 @@ pub record Touches (from : ℕ → Bool) (old touched : State) : Type 0 where
   pub at_lock : (ino : ℕ) (part : Part) → from ino ≡ true → lock_at touched.scene.locks ino part ≡ None →
       first_for touched.scene.locks.queue ino part ≡ None
   pub each : (row : EntryRow) → Contains touched.scene.table.rows row → from row.holder.ino.0 ≡ true → IsTouchedEntry touched.scene row
+  -- where an entry has not its pin yet, all who wait are held up, so that nobody is served before it has
+  pub calm : (row : EntryRow) → Contains touched.scene.table.rows row → has row.entry.held P ≡ false → WaitAt (λ ino. false) touched.scene
 
 -- the event is about one inode: it leaves sessions and messages, and leads to this scene
 pub record TouchesOne (ino : ℕ) (old : State) (first : Scene) : Type 0 where
@@ -175,6 +179,7 @@ pub record TouchesOne (ino : ℕ) (old : State) (first : Scene) : Type 0 where
   pub waiting : All (λ q. IsTrue (has_session first.sessions q.client.0)) first.locks.queue
   pub at_lock : (part : Part) → lock_at first.locks ino part ≡ None → first_for first.locks.queue ino part ≡ None
   pub each : All (IsTouchedEntry first) (entries_on first.table (record { 0 = ino }))
+  pub calm : (row : EntryRow) → Contains first.table.rows row → has row.entry.held P ≡ false → WaitAt (λ ino. false) first
 
 -- ---- how their steps end
 
@@ -197,11 +202,19 @@ pub record SettlesAt (at from : ℕ → Bool) (moves : List Made) (first settled
   pub among : (ino : ℕ) → from ino ≡ true → at ino ≡ true
   pub same : IsSameOff at first settled
 
--- the entry at the end: it gains what is due, and has a new number if its client is to know of another set than right
--- after the event
-abbrev pub finished_entry : Scene → Scene → EntryRow → Entry
-finished_entry first settled row =
-    renumbered (told_set first row) (told_set settled (issue_row settled row)) (issue_row settled row).entry
+-- what was known of these entries when the event came, so far as they still hold it
+abbrev pub Knows : (Holder → Caps) → Scene → Table → Type 0
+Knows known old table = (row : EntryRow) → Contains table.rows row → meet (known row.holder) row.entry.held ≡ told_set old row
+
+-- what the entry's client is to know of at the end
+abbrev pub told_then : Scene → EntryRow → Caps
+told_then settled row = told_set settled (issue_row settled row)
+
+-- the entry at the end: it gains what is due, and has a new number if its client is to know of another set than was known when
+-- the event came, so far as it still held that right after the event
+abbrev pub finished_entry : (Holder → Caps) → Scene → EntryRow → Entry
+finished_entry known settled row =
+    renumbered (meet (known row.holder) row.entry.held) (told_then settled row) (issue_row settled row).entry
 
 -- the inode goes with its locks, if it is a stray that nobody has an entry on
 abbrev pub forget_at : ℕ → Scene → Scene
@@ -219,6 +232,6 @@ forget_among at s = record s {
 }
 
 -- the end of the step, at these inodes alone
-abbrev pub finished_at : (ℕ → Bool) → Scene → Scene → Scene
-finished_at at first settled =
-    forget_among at (record settled { table = changed_where (λ row. at row.holder.ino.0) (finished_entry first settled) settled.table })
+abbrev pub finished_at : (ℕ → Bool) → (Holder → Caps) → Scene → Scene
+finished_at at known settled =
+    forget_among at (record settled { table = changed_where (λ row. at row.holder.ino.0) (finished_entry known settled) settled.table })

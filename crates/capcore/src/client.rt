@@ -1,10 +1,14 @@
 //! Steps by which a client's session ends, becomes stale, is open again or has other grants.
-ghost use Rattle.std.specs.Prelude.{◌≡◌, ◌+◌, ◌≤◌, ◌++◌, true, [], ◌∷◌, None, All, IsTrue, Contains, length, map as each, IfOk, IfErr, OnOk, OnErr, vec_capacity};
+ghost use Rattle.std.specs.Prelude.{Some, ◌≡◌, ◌+◌, ◌≤◌, ◌++◌, true, [], ◌∷◌, None, All, IsTrue, Contains, length, map as each, IfOk, IfErr, OnOk, OnErr, vec_capacity};
 ghost use Rattle.std.specs.FinMap as map;
+ghost use Rattle.std.specs.HashMap.{get};
 ghost use Rattle.capbits.specs.Refusal.{first_failing};
 ghost use Rattle.sessiontab.specs.Calls.{with_grants};
 ghost use Rattle.sessiontab.specs.Tests.{connected_test};
 ghost use Rattle.captable.specs.declared.entry.EntryRow.{EntryRow};
+ghost use Rattle.captable.specs.declared.entry.Entry.{Entry};
+ghost use Rattle.captable.specs.declared.entry.Holder.{Holder};
+ghost use Rattle.captable.specs.Table.{same, entry_at};
 ghost use Rattle.captable.specs.Calls.{is_of_client};
 ghost use Rattle.lockmachine.specs.declared.request.Request.{Request};
 ghost use Rattle.lockmachine.specs.Locks.{requests_of, without_requests_of};
@@ -19,6 +23,7 @@ ghost use Rattle.capcore.specs.Turn as words;
 
 use crate::ended::close_dropped;
 use crate::history::Stop;
+use crate::known::Known;
 use crate::messages::{Endings, Messages};
 use crate::outcome::{Ended, Outcome};
 use crate::reach::keep;
@@ -80,7 +85,16 @@ impl World {
             return Err(refused.into());
         }
         let (table, locks, messages) = (&mut self.table, &mut self.locks, &mut self.messages);
-        leave(table, locks, messages, client, turn, &mut room.dropped);
+        let known = &mut self.known;
+        leave(
+            table,
+            known,
+            locks,
+            messages,
+            client,
+            turn,
+            &mut room.dropped,
+        );
         let Room {
             others,
             mut endings,
@@ -91,6 +105,7 @@ impl World {
             &mut self.tree,
             &self.sessions,
             &mut self.table,
+            &mut self.known,
             &mut self.locks,
             ROOT,
             others,
@@ -150,6 +165,7 @@ fn regrant(sessions: &mut Sessions, client: ClientId, grants: &Grants) -> Result
 // Where the session ends, takes out all that is the client's, and lists its requests as dropped.
 fn leave(
     table: &mut CapTable,
+    known: &mut Known,
     locks: &mut Locks,
     messages: &mut Messages,
     client: ClientId,
@@ -158,6 +174,7 @@ fn leave(
 )
     requires room { length dropped.old.items + length locks.old.queue ≤ dropped.old.room }
     ensures table { table.new ≡ words.table_left (is_end turn.entry) table.old client }
+    ensures known { (k : Holder) (e : Entry) → entry_at table.new k ≡ Some e → get same known.new.sets k ≡ get same known.old.sets k }
     ensures locks { locks.new ≡ words.locks_left (is_end turn.entry) locks.old client }
     ensures messages { messages.new.items ≡ words.messages_left (is_end turn.entry) messages.old.items client }
     ensures left { messages.new.room ≡ messages.old.room }
@@ -166,6 +183,7 @@ fn leave(
 {
     match turn {
         Turn::Close | Turn::Evict => {
+            known.remove_client(table, client);
             table.drop_client(client);
             messages.remove_to(client);
             drop_requests(locks, client, dropped);

@@ -1,86 +1,91 @@
 //! The end of a step at the inodes that it touched.
-ghost use Rattle.std.specs.Prelude.{◌≡◌, ◌<◌, ◌^◌, ◌-◌, ℕ, List, true, false, Some, IsTrue, All, IfSome};
+ghost use Rattle.std.specs.Prelude.{◌≡◌, ◌==◌, ◌<◌, ◌^◌, ◌-◌, ℕ, List, true, false, Some, IsTrue, All, IsSome, IfSome};
+ghost use Rattle.std.specs.HashMap.{get};
 ghost use Rattle.std.specs.List.{find, list_any};
 ghost use Rattle.std.specs.FinMap as map;
 ghost use Rattle.sessiontab.specs.Table.{SessionTable};
 ghost use Rattle.sessiontab.specs.Calls.{has_session};
-ghost use Rattle.captable.specs.Table.{IsTable, is_row_of, entry_at};
+ghost use Rattle.captable.specs.Table.{IsTable, same, is_row_of, entry_at};
 ghost use Rattle.captable.specs.Calls.{told, changed, is_of_inode, entries_on};
 ghost use Rattle.captable.specs.Many.{changed_by, changed_where};
 ghost use Rattle.lockmachine.specs.Scene.{Scene, scene};
 ghost use Rattle.capcore.specs.Finish.{allowed_by};
 ghost use Rattle.capcore.specs.Finishing as words;
 ghost use Rattle.capcore.specs.Direct.{opened_as};
-ghost use Rattle.capcore.specs.Touching.{forget_at, forget_among, finished_at};
+ghost use Rattle.capcore.specs.Known.{AreKnown, HaveRoom, KeptAnew, known_in};
+ghost use Rattle.capcore.specs.Touching.{forget_at, forget_among, finished_at, told_then};
 ghost use Rattle.capcore.specs.Serves.{is_touched};
 
+use crate::known::Known;
 use crate::reply::Reply;
-use crate::told::{lock_under, told_set_of, told_under};
+use crate::told::{lock_under, told_under};
 use arrayvec::ArrayVec;
 use capbits::{Cap, CapSet, ClientId, Ino, Part};
 use capspec::FsName;
 use captable::{CapTable, Entry, EntryRow, Holder};
 use inotree::{Place, Tree};
-use lockmachine::{InodeLocks, Locks, States, effective_want};
+use lockmachine::{InodeLocks, Locks, States, permitted, want_of_permitted};
 use locktable::allowed;
 use sessiontab::{MAX_SESSIONS, Sessions};
 
 // ---- at the touched inodes
 
-// Issues what is due on the touched inodes, numbers what clients are to know of, and forgets those that are strays that nobody has
-// an entry on. The locks have settled. The one inode had the locks `before` when the event came, and the others those that are
-// kept of them.
+// Issues what is due on the touched inodes, numbers what clients are to know of, keeps that, and forgets those inodes that are
+// strays that nobody has an entry on. The locks have settled.
 pub(crate) fn finish(
     fs: &FsName,
     tree: &mut Tree,
     sessions: &Sessions,
     table: &mut CapTable,
+    known: &mut Known,
     locks: &mut Locks,
     ino: Ino,
-    before: Option<InodeLocks>,
     touched: &States,
 )
     requires apart { map.contains_key touched.now ino.0 ≡ false }
     requires numbers { All (λ row. row.entry.seq < 2 ^ 64 - 1) table.old.rows }
     requires clients { All (λ row. IsTrue (has_session sessions.now row.holder.client.0)) table.old.rows }
-    ensures finished { (first : Scene) → map.get first.locks.states ino.0 ≡ before
-        → ((other : ℕ) → map.contains_key touched.now other ≡ true
-        → map.get touched.now other ≡ map.get first.locks.states other)
-        → scene fs.now tree.new sessions.now table.new locks.new
-        ≡ finished_at (is_touched ino.0 touched.now) first (scene fs.now tree.old sessions.now table.old locks.old) }
+    requires room { HaveRoom known.old.sets table.old }
+    ensures finished { scene fs.now tree.new sessions.now table.new locks.new
+        ≡ finished_at (is_touched ino.0 touched.now) (known_in known.old.sets) (scene fs.now tree.old sessions.now table.old locks.old) }
+    ensures known { KeptAnew (λ k. is_touched ino.0 touched.now k.ino.0) (told_then (scene fs.now tree.old sessions.now table.old locks.old))
+        table.old known.old.sets known.new.sets }
     ensures queue { locks.new.queue ≡ locks.old.queue }
 {
-    finish_touched(fs, tree, sessions, table, locks, touched);
+    finish_touched(fs, tree, sessions, table, known, locks, touched);
     let now = locks.of_ino(ino);
-    finish_entries(fs, tree, sessions, table, ino, &before, &now);
+    finish_entries(fs, tree, sessions, table, known, ino, &now);
     forget_touched(tree, table, locks, touched);
     forget_unheld(tree, table, locks, ino);
 }
 
-// Issues what is due on each inode whose locks were kept, and numbers what its clients are to know of. Each is gone through
-// once, since an entry that was renumbered may have used up its number.
+// Issues what is due on each inode that was touched beside the one, and numbers what its clients are to know of. Each is gone
+// through once, since an entry that was renumbered may have used up its number.
 fn finish_touched(
     fs: &FsName,
     tree: &Tree,
     sessions: &Sessions,
     table: &mut CapTable,
+    known: &mut Known,
     locks: &Locks,
     touched: &States,
 )
     requires numbers { All (λ row. row.entry.seq < 2 ^ 64 - 1) table.old.rows }
     requires clients { All (λ row. IsTrue (has_session sessions.now row.holder.client.0)) table.old.rows }
-    ensures { table.new
-        ≡ changed_where (words.is_on touched.now) (words.entry_from fs.now tree.now sessions.now touched.now locks.now.states) table.old }
+    requires room { HaveRoom known.old.sets table.old }
+    ensures table { table.new
+        ≡ changed_where (words.is_on touched.now) (words.entry_by (known_in known.old.sets) fs.now tree.now sessions.now locks.now.states) table.old }
+    ensures known { KeptAnew (λ k. map.contains_key touched.now k.ino.0) (words.told_by fs.now tree.now sessions.now locks.now.states)
+        table.old known.old.sets known.new.sets }
 {
     for number in touched.inos() {
         let ino = Ino(*number);
-        let kept = touched.get(ino).copied();
         let now = locks.of_ino(ino);
-        finish_entries(fs, tree, sessions, table, ino, &kept, &now);
+        finish_entries(fs, tree, sessions, table, known, ino, &now);
     }
 }
 
-// Forgets those whose locks were kept, if they are strays that nobody has an entry on.
+// Forgets those that are strays that nobody has an entry on.
 fn forget_touched(tree: &mut Tree, table: &CapTable, locks: &mut Locks, touched: &States)
     ensures left { (fs : List ℕ) (sessions : SessionTable) → scene fs tree.new sessions table.now locks.new
         ≡ forget_among (map.contains_key touched.now) (scene fs tree.old sessions table.now locks.old) }
@@ -93,28 +98,30 @@ fn forget_touched(tree: &mut Tree, table: &CapTable, locks: &mut Locks, touched:
 
 // ---- at one inode
 
-// Issues what is due on the inode, and numbers what its clients are to know of, where it had these locks when the event came,
-// and has those now.
+// Issues what is due on the inode, which has these locks, numbers what its clients are to know of, and keeps that.
 fn finish_entries(
     fs: &FsName,
     tree: &Tree,
     sessions: &Sessions,
     table: &mut CapTable,
+    known: &mut Known,
     ino: Ino,
-    before: &Option<InodeLocks>,
-    now: &Option<InodeLocks>,
+    locks: &Option<InodeLocks>,
 )
     requires numbers { All (λ row. row.entry.seq < 2 ^ 64 - 1) (entries_on table.old ino) }
     requires clients { All (λ row. IsTrue (has_session sessions.now row.holder.client.0)) table.old.rows }
-    ensures { table.new
-        ≡ changed_where (is_of_inode ino) (words.entry_under fs.now tree.now sessions.now before.now now.now) table.old }
+    requires room { HaveRoom known.old.sets table.old }
+    ensures table { table.new
+        ≡ changed_where (is_of_inode ino) (words.entry_under (known_in known.old.sets) fs.now tree.now sessions.now locks.now) table.old }
+    ensures known { KeptAnew (λ k. k.ino.0 == ino.0) (words.told_at fs.now tree.now sessions.now locks.now)
+        table.old known.old.sets known.new.sets }
 {
     let clients = clients_on(sessions, table, ino);
     let numbers = clients.as_slice();
     for number in numbers {
         let client = ClientId(*number);
         let holder = Holder { client, ino };
-        finish_entry(fs, tree, sessions, table, holder, before, now);
+        finish_entry(fs, tree, sessions, table, known, holder, locks);
     }
 }
 
@@ -169,45 +176,42 @@ pub(crate) fn is_held(table: &CapTable, ino: Ino) -> bool
 
 // ---- of one entry
 
-// Issues what is due to the holder, and numbers what its client is to know of.
+// Issues what is due to the holder, numbers what its client is to know of, and keeps that.
 fn finish_entry(
     fs: &FsName,
     tree: &Tree,
     sessions: &Sessions,
     table: &mut CapTable,
+    known: &mut Known,
     holder: Holder,
-    before: &Option<InodeLocks>,
-    now: &Option<InodeLocks>,
+    locks: &Option<InodeLocks>,
 )
-    requires { IfSome (entry_at table.old holder) (λ entry. entry.seq < 2 ^ 64 - 1) }
-    ensures { table.new
-        ≡ changed_by (words.entry_under fs.now tree.now sessions.now before.now now.now) table.old holder }
+    requires number { IfSome (entry_at table.old holder) (λ entry. entry.seq < 2 ^ 64 - 1) }
+    requires room { IsSome (entry_at table.old holder) → IsSome (get same known.old.sets holder) }
+    ensures table { table.new
+        ≡ changed_by (words.entry_under (known_in known.old.sets) fs.now tree.now sessions.now locks.now) table.old holder }
+    ensures known { KeptAnew (λ k. same k holder) (words.told_at fs.now tree.now sessions.now locks.now) table.old known.old.sets known.new.sets }
 {
     if let Some(entry) = table.find(holder.client, holder.ino) {
         let row = EntryRow { holder, entry };
-        let due = effective_want(fs, tree, sessions, row).meet(allowed_under(&row, now));
-        issue(table, &row, due, before, now);
+        let permitted = permitted(fs, tree, sessions, holder.client, holder.ino);
+        let due = want_of_permitted(sessions, row, permitted).meet(allowed_under(&row, locks));
+        let told = told_under(&with_issued(&row, due), permitted, locks);
+        issue(table, &row, due, known.of(holder), told);
+        known.put(holder, told);
     }
 }
 
-// Issues this to the entry's client, and numbers what it is to know of.
-fn issue(
-    table: &mut CapTable,
-    row: &EntryRow,
-    due: CapSet,
-    before: &Option<InodeLocks>,
-    now: &Option<InodeLocks>,
-)
+// Issues this to the entry's client, and numbers what it is to know of, where that is told now and was known before the event.
+fn issue(table: &mut CapTable, row: &EntryRow, due: CapSet, known: CapSet, told: CapSet)
     requires there { entry_at table.old row.now.holder ≡ Some row.now.entry }
     requires room { row.now.entry.seq < 2 ^ 64 - 1 }
-    ensures { table.new ≡ changed table.old row.now.holder (λ _. words.numbered_under before.now now.now due row.now) }
+    ensures { table.new ≡ changed table.old row.now.holder (λ _. words.numbered_as known told due row.now) }
 {
     let (client, ino) = (row.holder.client, row.holder.ino);
-    let told_before = told_under(row, before);
-    let issued = with_issued(row, due);
-    let told_now = told_under(&issued, now);
+    let before = known.meet(row.entry.held);
     table.issue(client, ino, due);
-    table.renumber(client, ino, told_before, told_now);
+    table.renumber(client, ino, before, told);
 }
 
 // The entry, with more held.
@@ -243,25 +247,26 @@ fn allowed_part(part: Part, row: &EntryRow, locks: &Option<InodeLocks>) -> CapSe
 // ---- what is answered
 
 // Tells the holder's client what it is to know that it holds, and answers it.
-pub(crate) fn show(table: &mut CapTable, locks: &Locks, holder: Holder) -> Reply
-    ensures answer { (s : Scene) → s.table ≡ table.old → s.locks ≡ locks.now
+pub(crate) fn show(table: &mut CapTable, known: &Known, holder: Holder) -> Reply
+    ensures answer { (s : Scene) → s.table ≡ table.old → AreKnown known.now.sets s
         → result ≡ opened_as s (find (is_row_of holder) table.old.rows) }
     ensures told { table.new ≡ changed table.old holder told }
 {
-    let reply = opened(table, locks, holder);
+    let reply = opened(table, known, holder);
     table.tell(holder.client, holder.ino);
     reply
 }
 
 // What the holder's client is to know that it holds.
-fn opened(table: &CapTable, locks: &Locks, holder: Holder) -> Reply
-    ensures { (s : Scene) → s.locks ≡ locks.now → result ≡ opened_as s (find (is_row_of holder) table.now.rows) }
+fn opened(table: &CapTable, known: &Known, holder: Holder) -> Reply
+    ensures { (s : Scene) → s.table ≡ table.now → AreKnown known.now.sets s
+        → result ≡ opened_as s (find (is_row_of holder) table.now.rows) }
 {
     let Some(entry) = table.find(holder.client, holder.ino) else {
         return Reply::Done;
     };
-    let seq = entry.seq;
-    let row = EntryRow { holder, entry };
-    let caps = told_set_of(locks, &row);
-    Reply::Opened { seq, caps }
+    Reply::Opened {
+        seq: entry.seq,
+        caps: known.of(holder),
+    }
 }

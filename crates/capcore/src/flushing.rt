@@ -50,6 +50,7 @@ impl World {
             &mut self.tree,
             &self.sessions,
             &mut self.table,
+            &mut self.known,
             &mut self.locks,
             ino,
             &mut endings,

@@ -1,7 +1,6 @@
 //! Laws of the core. No program needs to call them.
 
 ghost use Rattle.std.specs.Prelude.{◌≡◌, ℕ, ◌+◌, List, [], Some, None, length};
-ghost use Rattle.capbits.specs.declared.cap.Part.{Part};
 ghost use Rattle.inotree.specs.Tree.{Nodes, IsTree};
 ghost use Rattle.capbits.specs.declared.caller.Caller.{Caller};
 ghost use Rattle.capbits.specs.Refusal.{first_failing};
@@ -14,10 +13,9 @@ ghost use Rattle.sessiontab.specs.Table.{SessionTable};
 ghost use Rattle.sessiontab.specs.Calls.{with_session, without_blocked};
 ghost use Rattle.sessiontab.specs.Tests.{new_session_tests};
 ghost use Rattle.lockmachine.specs.Inodes.{StateMap};
-ghost use Rattle.captable.specs.declared.entry.EntryRow.{EntryRow};
 ghost use Rattle.captable.specs.Table.{IsTable};
-ghost use Rattle.lockmachine.specs.Locks.{IsLockMap, lock_at, with_ino};
-ghost use Rattle.lockmachine.specs.Scene.{Scene, told_set};
+ghost use Rattle.lockmachine.specs.Locks.{IsLockMap, with_ino};
+ghost use Rattle.lockmachine.specs.Scene.{Scene};
 ghost use Rattle.capcore.specs.declared.event.Event.{Event};
 ghost use Rattle.capcore.specs.declared.history.Row.{Row};
 ghost use Rattle.capcore.specs.declared.outcome.Ended.{Ended};
@@ -108,15 +106,6 @@ pub fn the_served_are_denied_exactly()
 pub fn the_served_are_denied_by_name()
     ensures { (first last : Scene) (moves : List Made) → MakesAll first moves last
         → EachServing ServedByName first moves }
-{}
-
-/// What the client of an entry is to know that it holds is the same on two scenes that have the same locks of the entry's
-/// inode. So, of one and the same entry, whether it is read off the scene when an event came or off the one that the event
-/// made, where the event leaves these locks.
-pub fn numbers_begin_at_the_event()
-    ensures { (old first : Scene) (row : EntryRow)
-        → ((part : Part) → lock_at old.locks row.holder.ino.0 part ≡ lock_at first.locks row.holder.ino.0 part)
-        → told_set old row ≡ told_set first row }
 {}
 
 /// A settling ends as many requests as there are fewer that wait, so that it serves at most as many as waited; and between two

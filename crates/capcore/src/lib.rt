@@ -13,6 +13,7 @@ mod flushing;
 mod giving;
 mod history;
 mod judge;
+mod known;
 mod laws;
 mod messages;
 mod outcome;
@@ -41,7 +42,7 @@ pub use history::{EndedList, Row, Stop};
 pub use laws::{
     a_row_fixes_its_step, a_settling_serves_at_most_who_waits,
     a_sound_state_has_nothing_left_to_do, a_step_that_finds_memory_has_one_end,
-    a_stop_changes_nothing, an_opening_is_sound, numbers_begin_at_the_event, rows_fix_the_state,
+    a_stop_changes_nothing, an_opening_is_sound, rows_fix_the_state,
     sessions_inodes_and_snapshots_leave_entries_alone, the_held_are_apart,
     the_same_events_have_the_same_history, the_served_are_denied_by_name,
     the_served_are_denied_exactly, what_leaves_entries_alone_leaves_nothing_to_do,

@@ -1,18 +1,18 @@
 //! The messages that a client is given when it asks for them.
-ghost use Rattle.std.specs.Prelude.{◌≡◌, ◌≤◌, ◌++◌, [], ◌∷◌, length, take, IfOk, OnOk};
+ghost use Rattle.std.specs.Prelude.{◌≡◌, ◌≤◌, ◌++◌, [], ◌∷◌, true, nat_lt, length, take, IfOk, OnOk};
 ghost use Rattle.captable.specs.Calls.{is_of_client};
 ghost use Rattle.captable.specs.Many.{changed_where};
-ghost use Rattle.lockmachine.specs.Scene.{Scene};
+ghost use Rattle.lockmachine.specs.Scene.{Scene, told_set};
+ghost use Rattle.capcore.specs.Known.{AreKnown, known_in};
 ghost use Rattle.capcore.specs.Messages.{after_messages, caps_messages, end_messages, first_messages, row_messages, size_messages};
 ghost use Rattle.capcore.specs.State.{State};
 
 use crate::copies::copy_of_outcome;
+use crate::known::Known;
 use crate::outcome::{Ended, Message, MessageList};
-use crate::told::told_set_of;
 use capbits::ClientId;
 use captable::{CapTable, EntryRow};
 use inotree::Tree;
-use lockmachine::Locks;
 use std::alloc::{AllocError, Global};
 
 // The first messages that are due to a client, at most so many, where these requests have ended.
@@ -21,18 +21,18 @@ pub(crate) fn due_messages(
     ended: &[Ended],
     tree: &Tree,
     table: &CapTable,
-    locks: &Locks,
+    known: &Known,
     client: ClientId,
     max: u32,
 ) -> Result<MessageList, AllocError>
-    ensures { IfOk result (λ due. (s : State) → s.scene.tree ≡ tree.now → s.scene.table ≡ table.now → s.scene.locks ≡ locks.now
+    ensures { IfOk result (λ due. (s : State) → s.scene.tree ≡ tree.now → s.scene.table ≡ table.now → AreKnown known.now.sets s.scene
         → s.messages ≡ ended.now
         → due ≡ first_messages s client max) }
 {
     let mut due = ended_messages(alloc, ended, client, max)?;
     let mut walk = table.due_of(client);
     'rows: while let Some(row) = walk.next() {
-        add_due(&mut due, max, tree, locks, &row)?;
+        add_due(&mut due, max, tree, known, &row)?;
         if due.as_slice().len() >= max as usize {
             return Ok(due);
         }
@@ -65,15 +65,16 @@ fn add_due(
     list: &mut MessageList,
     max: u32,
     tree: &Tree,
-    locks: &Locks,
+    known: &Known,
     row: &EntryRow,
 ) -> Result<(), AllocError>
     requires room { length list.old ≤ max }
-    ensures ok { OnOk result ((s : Scene) → s.tree ≡ tree.now → s.locks ≡ locks.now
+    ensures ok { OnOk result ((s : Scene) → s.tree ≡ tree.now
+        → (nat_lt row.now.entry.told_seq row.now.entry.seq ≡ true → known_in known.now.sets row.now.holder ≡ told_set s row.now)
         → list.new ≡ take max (list.old ++ row_messages s row.now)) }
 {
     let ino = row.holder.ino;
-    add_caps(list, max, locks, row)?;
+    add_caps(list, max, known, row)?;
     add_size(list, max, tree, row)?;
     if row.entry.asked {
         add(list, max, Message::Recall { ino })?;
@@ -85,17 +86,19 @@ fn add_due(
 fn add_caps(
     list: &mut MessageList,
     max: u32,
-    locks: &Locks,
+    known: &Known,
     row: &EntryRow,
 ) -> Result<(), AllocError>
     requires room { length list.old ≤ max }
-    ensures ok { OnOk result ((s : Scene) → s.locks ≡ locks.now → list.new ≡ take max (list.old ++ caps_messages s row.now)) }
+    ensures ok { OnOk result ((s : Scene)
+        → (nat_lt row.now.entry.told_seq row.now.entry.seq ≡ true → known_in known.now.sets row.now.holder ≡ told_set s row.now)
+        → list.new ≡ take max (list.old ++ caps_messages s row.now)) }
     ensures few { OnOk result (length list.new ≤ max) }
 {
     let ino = row.holder.ino;
     if row.entry.told_seq < row.entry.seq {
         let seq = row.entry.seq;
-        let caps = told_set_of(locks, row);
+        let caps = known.of(row.holder);
         add(list, max, Message::Caps { ino, seq, caps })?;
     }
     Ok(())

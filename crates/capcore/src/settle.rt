@@ -12,12 +12,14 @@ ghost use Rattle.lockmachine.specs.Scene.{scene};
 ghost use Rattle.lockmachine.specs.Moves.{may_end_by, IsQuietOutside};
 ghost use Rattle.lockmachine.specs.Turns.{WaitAt};
 ghost use Rattle.capcore.specs.declared.outcome.Ended.{Ended};
+ghost use Rattle.capcore.specs.Known.{HaveRoom};
 ghost use Rattle.capcore.specs.Serves.{Serves, SettlesWith, EndsWith, is_touched};
 ghost use Rattle.capcore.specs.Settle.{Served as Serving, sized_by, sized_in};
 ghost use Rattle.capcore.specs.Sweep.{AreStill, GoesOn, IsTurnOfLeast, IsLeastOf, IsNextOf, IsSwept, Reaches};
 ghost use Rattle.capcore.specs.Untold.{HasRoom};
 
 use crate::finish::finish;
+use crate::known::Known;
 use crate::messages::Endings;
 use crate::outcome::Outcome;
 use crate::reach::reach;
@@ -36,6 +38,7 @@ pub(crate) fn end_at_one(
     tree: &mut Tree,
     sessions: &Sessions,
     table: &mut CapTable,
+    known: &mut Known,
     locks: &mut Locks,
     ino: Ino,
     endings: &mut Endings,
@@ -50,7 +53,8 @@ pub(crate) fn end_at_one(
     requires locked { All (λ row. IsTrue (map.contains_key locks.old.states row.holder.ino.0)) table.old.rows }
     requires numbers { All (λ row. row.entry.seq < 2 ^ 64 - 1) table.old.rows }
     requires clients { All (λ row. IsTrue (has_session sessions.now row.holder.client.0)) table.old.rows }
-    ensures ends { EndsWith (λ other. other == ino.0) (scene fs.now tree.old sessions.now table.old locks.old)
+    requires room { HaveRoom known.old.sets table.old }
+    ensures ends { EndsWith (λ other. other == ino.0) known.old.sets known.new.sets (scene fs.now tree.old sessions.now table.old locks.old)
         (scene fs.now tree.new sessions.now table.new locks.new) endings.new.told.items }
     ensures kept { endings.new.kept.items ≡ endings.new.told.items }
     // As many waited as wait and have ended.
@@ -58,7 +62,9 @@ pub(crate) fn end_at_one(
     ensures table { IsTable table.new }
 {
     let others = States::new(endings.alloc());
-    end_at(fs, tree, sessions, table, locks, ino, others, endings);
+    end_at(
+        fs, tree, sessions, table, known, locks, ino, others, endings,
+    );
 }
 
 // Lets the locks settle after an event, and ends the step. The event was about one inode and those whose locks are kept as they
@@ -68,6 +74,7 @@ pub(crate) fn end_at(
     tree: &mut Tree,
     sessions: &Sessions,
     table: &mut CapTable,
+    known: &mut Known,
     locks: &mut Locks,
     ino: Ino,
     others: States,
@@ -86,19 +93,19 @@ pub(crate) fn end_at(
     requires locked { All (λ row. IsTrue (map.contains_key locks.old.states row.holder.ino.0)) table.old.rows }
     requires numbers { All (λ row. row.entry.seq < 2 ^ 64 - 1) table.old.rows }
     requires clients { All (λ row. IsTrue (has_session sessions.now row.holder.client.0)) table.old.rows }
-    ensures ends { EndsWith (is_touched ino.0 others) (scene fs.now tree.old sessions.now table.old locks.old)
+    requires room { HaveRoom known.old.sets table.old }
+    ensures ends { EndsWith (is_touched ino.0 others) known.old.sets known.new.sets (scene fs.now tree.old sessions.now table.old locks.old)
         (scene fs.now tree.new sessions.now table.new locks.new) endings.new.told.items }
     ensures kept { endings.new.kept.items ≡ endings.new.told.items }
     // As many waited as wait and have ended.
     ensures count { length endings.new.told.items + length locks.new.queue ≡ length locks.old.queue }
     ensures table { IsTable table.new }
 {
-    let before = locks.of_ino(ino);
     let touched = settle(fs, tree, sessions, table, locks, ino, others, endings);
     owe_sizes(sessions, table, endings.sized.as_slice());
     // A look at the tree, by which the proof knows what it keeps.
     let _last = tree.last();
-    finish(fs, tree, sessions, table, locks, ino, before, &touched);
+    finish(fs, tree, sessions, table, known, locks, ino, &touched);
     // And one at the entries.
     let _oldest = table.oldest();
 }

@@ -5,7 +5,7 @@ ghost use Rattle.capcore.specs.State.{State};
 ghost use Rattle.capcore.specs.Direct.{direct};
 ghost use Rattle.capcore.specs.Sound.{IsSound};
 ghost use Rattle.capcore.specs.Headline.{DeniedExactly, DeniesByName, ServedDenied, ServedByName, EachServing, ByMoves, AreBounded, OtherLocksStay};
-ghost use Rattle.capcore.specs.Headline.{IssuesExactly, AreInPlace, NoneConflict, is_stop};
+ghost use Rattle.capcore.specs.Headline.{IssuesExactly, AreInPlace, AreRevoked, NoneConflict, is_stop};
 ghost use Rattle.capcore.specs.Shown.{ShowsWhatIsTold, TakesUnshown, TakesOnlySo};
 ghost use Rattle.sessiontab.specs.Calls.{status_of};
 ghost use Rattle.captable.specs.Table.{holder, entry_at};
@@ -81,9 +81,11 @@ impl Core {
         // Locks change by these moves alone.
         ensures other_locks { IfOk result (λ answer. InItsRow self.old.rows self.new.rows
             (λ ended. ByMoves (OtherLocksStay self.new.state.scene.locks) self.old.state event answer ended self.new.state)) }
-        // What is issued is what is wanted, permitted and allowed; and no two clients hold what may not be held together.
+        // What is issued is what is wanted, permitted and allowed. What is held outside its lock's row is being revoked under an
+        // open gather, and what is held and not permitted is being revoked; and no two clients hold what may not be held together.
         ensures issued { OnOk result (IssuesExactly (direct self.old.state event).state.scene self.new.state.scene) }
         ensures in_place { OnOk result (AreInPlace self.new.state.scene) }
+        ensures lost { OnOk result (AreRevoked self.new.state.scene) }
         ensures apart { OnOk result (NoneConflict self.new.state.scene) }
         // Where no message is due for an entry, its client was last shown just what it is to know. What an acknowledgement takes was
         // missing from what was shown; and nothing else takes what is held, but a release and the end of a session.

@@ -1,43 +1,36 @@
 //! What is being revoked of an entry, and what its client is to know that it holds.
 ghost use Rattle.std.specs.Prelude.{◌≡◌};
-ghost use Rattle.lockmachine.specs.Scene.{Scene, against_lock, told_set};
-ghost use Rattle.capcore.specs.Judge.{revoked_of};
+ghost use Rattle.lockmachine.specs.Scene.{Scene, against_lock};
 ghost use Rattle.capcore.specs.Finishing as words;
+ghost use Rattle.capcore.specs.Judge.{revoked_of};
+ghost use Rattle.capcore.specs.Known.{AreKnown};
 
+use crate::known::Known;
 use capbits::{CapSet, Part};
 use captable::{CapTable, EntryRow, Holder};
-use lockmachine::{InodeLocks, Locks};
+use lockmachine::InodeLocks;
 use locktable::{LockState, row};
 
-// ---- by all locks
-
-// What is being revoked of the holder's entry, where it has one.
-pub(crate) fn revoked_of(table: &CapTable, locks: &Locks, holder: Holder) -> CapSet
-    ensures { (s : Scene) → s.table ≡ table.now → s.locks ≡ locks.now → result ≡ revoked_of s holder }
+// What is being revoked of the holder's entry, where it has one: what it holds and its client is not to know of.
+pub(crate) fn revoked_of(table: &CapTable, known: &Known, holder: Holder) -> CapSet
+    ensures { (s : Scene) → s.table ≡ table.now → AreKnown known.now.sets s → result ≡ revoked_of s holder }
 {
     match table.find(holder.client, holder.ino) {
-        Some(entry) => against_under(&EntryRow { holder, entry }, &locks.of_ino(holder.ino)),
+        Some(entry) => entry.held.minus(known.of(holder)),
         None => CapSet::empty(),
     }
 }
 
-// What the entry's client is to know that it holds: what it holds without what is being revoked.
-pub(crate) fn told_set_of(locks: &Locks, entry: &EntryRow) -> CapSet
-    ensures { (s : Scene) → s.locks ≡ locks.now → result ≡ told_set s entry.now }
+// What the client is to know that it holds, under these locks of the inode and where it is permitted these capabilities.
+pub(crate) fn told_under(entry: &EntryRow, permitted: CapSet, locks: &Option<InodeLocks>) -> CapSet
+    ensures { result ≡ words.told_under permitted locks.now entry.now }
 {
-    told_under(entry, &locks.of_ino(entry.holder.ino))
+    let lost = entry.entry.held.minus(permitted);
+    let revoked = against_under(entry, locks).union(lost);
+    entry.entry.held.minus(revoked)
 }
 
-// ---- by the locks of the entry's inode
-
-// What the client is to know that it holds, under these locks of the inode.
-pub(crate) fn told_under(entry: &EntryRow, locks: &Option<InodeLocks>) -> CapSet
-    ensures { result ≡ words.told_under locks.now entry.now }
-{
-    entry.entry.held.minus(against_under(entry, locks))
-}
-
-// What is being revoked of the entry.
+// What the locks revoke of the entry.
 fn against_under(entry: &EntryRow, locks: &Option<InodeLocks>) -> CapSet
     ensures { result ≡ words.against_under locks.now entry.now }
 {
@@ -48,7 +41,7 @@ fn against_under(entry: &EntryRow, locks: &Option<InodeLocks>) -> CapSet
     auth.union(link.union(xattr.union(file)))
 }
 
-// And what of one part: where the part's lock gathers, what is held outside the row of its target.
+// And what the lock of one part: where it gathers, what is held outside the row of its target.
 fn against_part(part: Part, entry: &EntryRow, locks: &Option<InodeLocks>) -> CapSet
     ensures { result ≡ against_lock part entry.now (words.lock_under locks.now part) }
 {

@@ -2,7 +2,10 @@
 ghost use Rattle.std.specs.Prelude.{◌≡◌, ◌<◌, ◌^◌, ◌-◌, [], None, OnOk, OnErr};
 ghost use Rattle.capbits.specs.Refusal.{first_failing};
 ghost use Rattle.capcore.specs.Judge.{room_for};
-ghost use Rattle.captable.specs.Table.{IsTable};
+ghost use Rattle.captable.specs.Table.{IsTable, entry_at};
+ghost use Rattle.captable.specs.Calls.{opened};
+ghost use Rattle.captable.specs.Tests.{open_tests};
+ghost use Rattle.capcore.specs.Known.{AreKnown, StillKept};
 ghost use Rattle.capcore.specs.State.{State};
 ghost use Rattle.capcore.specs.Direct.{reply_of, shown, with_table};
 ghost use Rattle.capcore.specs.Direct as effects;
@@ -10,10 +13,10 @@ ghost use Rattle.capcore.specs.Touch as words;
 
 use crate::event::OpenMode;
 use crate::finish::show;
+use crate::known::Known;
 use crate::reply::Reply;
 use capbits::{Cap, CapSet};
 use captable::{CapTable, Holder};
-use lockmachine::Locks;
 use std::alloc::AllocError;
 
 // What is asked of a client's entry on an inode.
@@ -33,6 +36,7 @@ pub(crate) enum Touch {
 // want of it nothing changes.
 pub(crate) fn touch_entry(
     table: &mut CapTable,
+    known: &mut Known,
     holder: Holder,
     revoked: CapSet,
     touch: &Touch,
@@ -41,32 +45,64 @@ pub(crate) fn touch_entry(
     requires passed { first_failing (words.touch_tests table.old holder revoked touch.now) ≡ None }
     ensures ok { OnOk result (table.new ≡ words.touched_table table.old holder revoked touch.now) }
     ensures err { OnErr result (table.new ≡ table.old) }
+    ensures known { StillKept table.old table.new known.old.sets known.new.sets }
 {
     match touch {
-        Touch::Open(mode) => open(table, holder, *mode)?,
+        Touch::Open(mode) => open(table, known, holder, *mode)?,
         Touch::Want(caps) => want(table, holder, caps.union(CapSet::of(&[Cap::P]))),
-        Touch::Ack(seq) => table.ack(holder.client, holder.ino, *seq, revoked),
-        Touch::Release(caps) => table.release(holder.client, holder.ino, *caps),
+        Touch::Ack(seq) => {
+            table.ack(holder.client, holder.ino, *seq, revoked);
+            known.remove_unheld(table, holder);
+        }
+        Touch::Release(caps) => {
+            table.release(holder.client, holder.ino, *caps);
+            known.remove_unheld(table, holder);
+        }
     }
     Ok(())
 }
 
 // The holder has an entry, made where there is none, which wants what the opening takes too.
-fn open(table: &mut CapTable, holder: Holder, mode: OpenMode) -> Result<(), AllocError>
+fn open(
+    table: &mut CapTable,
+    known: &mut Known,
+    holder: Holder,
+    mode: OpenMode,
+) -> Result<(), AllocError>
     requires made { table.old.made < 2 ^ 64 - 1 }
     requires passed { first_failing (room_for table.old holder) ≡ None }
     ensures ok { OnOk result (table.new ≡ effects.with_opening table.old holder mode) }
     ensures err { OnErr result (table.new ≡ table.old) }
+    ensures known { StillKept table.old table.new known.old.sets known.new.sets }
 {
     let wanted = match table.find(holder.client, holder.ino) {
         Some(entry) => entry.want,
         None => {
-            table.open_entry(holder.client, holder.ino)?;
+            make_entry(table, known, holder)?;
             CapSet::empty()
         }
     };
     want(table, holder, wanted.union(opening_wants(mode)));
     Ok(())
+}
+
+// Makes the holder's entry, of which nothing is known yet. For want of memory nothing changes.
+fn make_entry(table: &mut CapTable, known: &mut Known, holder: Holder) -> Result<(), AllocError>
+    requires new { entry_at table.old holder ≡ None }
+    requires made { table.old.made < 2 ^ 64 - 1 }
+    requires passed { first_failing (open_tests table.old) ≡ None }
+    ensures ok { OnOk result (table.new ≡ opened table.old holder) }
+    ensures err { OnErr result (table.new ≡ table.old) }
+    ensures known { StillKept table.old table.new known.old.sets known.new.sets }
+{
+    known.add(holder)?;
+    match table.open_entry(holder.client, holder.ino) {
+        Ok(()) => Ok(()),
+        Err(refused) => {
+            known.remove(holder);
+            Err(refused)
+        }
+    }
 }
 
 // The holder's entry wants these, and comes last in the order of recall.
@@ -97,8 +133,8 @@ fn opening_wants(mode: OpenMode) -> CapSet
 }
 
 // Says what is answered to it at the end of the step, and tells the holder's client so.
-pub(crate) fn tell(table: &mut CapTable, locks: &Locks, holder: Holder, touch: &Touch) -> Reply
-    ensures reply { (s : State) → s.scene.table ≡ table.old → s.scene.locks ≡ locks.now
+pub(crate) fn tell(table: &mut CapTable, known: &Known, holder: Holder, touch: &Touch) -> Reply
+    ensures reply { (s : State) → s.scene.table ≡ table.old → AreKnown known.now.sets s.scene
         → result ≡ reply_of s [] (words.touch_answer holder touch.now) }
     ensures told { (s : State) → s.scene.table ≡ table.old
         → with_table s table.new ≡ shown (words.touch_answer holder touch.now) s }
@@ -107,7 +143,7 @@ pub(crate) fn tell(table: &mut CapTable, locks: &Locks, holder: Holder, touch: &
     // A look at the entries, by which the proof knows what they keep.
     let _oldest = table.oldest();
     match touch {
-        Touch::Open(_) | Touch::Want(_) => show(table, locks, holder),
+        Touch::Open(_) | Touch::Want(_) => show(table, known, holder),
         Touch::Ack(_) | Touch::Release(_) => Reply::Done,
     }
 }

@@ -27,6 +27,7 @@ use crate::ended::close;
 use crate::event::{Event, OpenMode};
 use crate::history::{EndedList, Stop};
 use crate::judge::{by_test, denial};
+use crate::known::Known;
 use crate::messages::{Endings, Messages};
 use crate::poll::{due_messages, give};
 use crate::reply::{Reply, Said};
@@ -53,6 +54,8 @@ pub(crate) struct World {
     pub(crate) tree: Tree,
     pub(crate) sessions: Sessions,
     pub(crate) table: CapTable,
+    // Of each entry what its client was to know of at the end of the last step.
+    pub(crate) known: Known,
     pub(crate) locks: Locks,
     // The requests that ended and that no client was told of.
     pub(crate) messages: Messages,
@@ -65,6 +68,7 @@ impl Model for World {
     ghost use Rattle.capcore.specs.Touch.{touch_event};
     ghost use Rattle.capcore.specs.Touching.{touched_by, is_listing};
     ghost use Rattle.capcore.specs.Untold.{HasRoom};
+    ghost use Rattle.capcore.specs.Known.{AreKnown};
 
     ghost Value = { State };
 
@@ -75,13 +79,14 @@ impl Model for World {
       messages = w.messages.items;
     } };
 
-    // Sound; and there is room for each message that is to come.
+    // Sound; there is room for each message that is to come; and of each entry it is known what its client is to know of.
     ghost invariant = { λ w.
         IsSound (record {
           scene = record { fs = w.fs; tree = w.tree; sessions = w.sessions; table = w.table; locks = w.locks };
           messages = w.messages.items;
         })
-        × HasRoom w.messages w.locks };
+        × HasRoom w.messages w.locks
+        × AreKnown w.known.sets (record { fs = w.fs; tree = w.tree; sessions = w.sessions; table = w.table; locks = w.locks }) };
 }
 
 impl World {
@@ -99,6 +104,7 @@ impl World {
             tree,
             sessions,
             table,
+            known: Known::new(alloc),
             locks,
             messages: Messages::new(alloc),
         })
@@ -187,9 +193,10 @@ impl World {
         if let Some(stopped) = self.touch_stop(holder, &touch) {
             return Ok(Said::alone(self.alloc(), stopped.into()));
         }
-        let revoked = revoked_of(&self.table, &self.locks, holder);
+        let revoked = revoked_of(&self.table, &self.known, holder);
         let mut endings = Endings::with_room(self.alloc(), self.locks.waiting())?;
-        if let Err(refused) = touch_entry(&mut self.table, holder, revoked, &touch) {
+        let (table, known) = (&mut self.table, &mut self.known);
+        if let Err(refused) = touch_entry(table, known, holder, revoked, &touch) {
             drop(endings);
             return Err(refused.into());
         }
@@ -198,11 +205,12 @@ impl World {
             &mut self.tree,
             &self.sessions,
             &mut self.table,
+            &mut self.known,
             &mut self.locks,
             ino,
             &mut endings,
         );
-        let reply = tell(&mut self.table, &self.locks, holder, &touch);
+        let reply = tell(&mut self.table, &self.known, holder, &touch);
         Ok(close(&mut self.messages, reply, endings))
     }
 
@@ -220,9 +228,9 @@ impl World {
         // The list once for the reply and once for the history, both before the client was told of anything.
         let alloc = self.alloc();
         let ended = self.messages.as_slice();
-        let (tree, table, locks) = (&self.tree, &self.table, &self.locks);
-        let given = due_messages(alloc, ended, tree, table, locks, client, max)?;
-        let kept = due_messages(alloc, ended, tree, table, locks, client, max)?;
+        let (tree, table, known) = (&self.tree, &self.table, &self.known);
+        let given = due_messages(alloc, ended, tree, table, known, client, max)?;
+        let kept = due_messages(alloc, ended, tree, table, known, client, max)?;
         give(&mut self.table, client, given.as_slice());
         self.table.skip_quiet(client);
         self.messages.remove_given(client, given.as_slice());
@@ -529,7 +537,7 @@ impl World {
         match self.connected_stop(client, ino) {
             Some(refusal) => Some(refusal),
             None => {
-                let revoked = revoked_of(&self.table, &self.locks, Holder { client, ino });
+                let revoked = revoked_of(&self.table, &self.known, Holder { client, ino });
                 self.table.ack_refusal(client, ino, seq, revoked)
             }
         }

@@ -1,2 +1,3 @@
 pub mod Listed
 pub mod Verdicts
+pub mod Pins

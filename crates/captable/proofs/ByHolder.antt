@@ -14,7 +14,7 @@ use Rattle.captable.specs.declared.entry.Holder.{Holder}
 use Rattle.captable.specs.declared.entry.Entry.{Entry}
 use Rattle.captable.specs.declared.entry.EntryRow.{EntryRow}
 use Rattle.captable.specs.Table.{Table, IsTable, same, is_row_of, entry_of, entry_at, is_among, holders_of_rows}
-use Rattle.captable.specs.Calls.{new_entry, opened, change_rows, changed, given_back, with_asked, released, without, without_client, asked_row, recalled, is_of_client}
+use Rattle.captable.specs.Calls.{new_entry, opened, change_rows, changed, given_back, with_asked, released, without, without_client, asked_row, recalled, is_of_client, taken, acked}
 use Rattle.captable.proofs.Tables.{same_equiv, same-is}
 use Rattle.captable.proofs.Changes.{no_entry}
 use Rattle.captable.proofs.Searches.{find_passes, find-filter_kept, find-filter_gone, find-map}
@@ -26,6 +26,17 @@ same-apart j k apart = by_test (same j k) refl
     by_test : (b : Bool) → same j k ≡ b → b ≡ false
     by_test false e = refl
     by_test true e = absurd (apart (same-is j k e))
+
+-- the row of a holder's entry
+pub row_of-entry : (t : Table) (k : Holder) (e : Entry) → entry_at t k ≡ Some e → find (is_row_of k) t.rows ≡ Some (record { holder = k; entry = e })
+row_of-entry t k e at = by_case (find (is_row_of k) t.rows) refl at
+  where
+    by_case : (o : Option EntryRow) → find (is_row_of k) t.rows ≡ o → entry_of o ≡ Some e → o ≡ Some (record { holder = k; entry = e })
+    by_case None found at = absurd (cc)
+    by_case (Some row) found at =
+        let mine : k ≡ row.holder = same-is k row.holder (find_passes (is_row_of k) t.rows row found) in
+        let its : row.entry ≡ e = cc in
+        λ i. Some (record { holder = sym mine i; entry = its i })
 
 -- ---- a change
 
@@ -115,6 +126,19 @@ pub entry_at-released_other : (t : Table) (k j : Holder) (caps : Caps) → j ≢
 entry_at-released_other t k j caps apart =
     elim (has caps P) as (λ b. entry_at (cond b (without t k) (changed t k (given_back caps))) j ≡ entry_at t j)
     [ true ↦ entry_at-without_other t k j apart | false ↦ entry_at-changed_other t k j (given_back caps) apart ]
+
+-- ---- an acknowledgement
+
+pub entry_at-acked_pin : (t : Table) (k : Holder) (against : Caps) → has against P ≡ true → entry_at (acked t k against) k ≡ None
+entry_at-acked_pin t k against pin = ap (λ b. entry_at (cond b (without t k) (changed t k (taken against))) k) pin ∙ entry_at-without t k
+
+pub entry_at-acked : (t : Table) (k : Holder) (against : Caps) → has against P ≡ false → entry_at (acked t k against) k ≡ option_map (taken against) (entry_at t k)
+entry_at-acked t k against no_pin = ap (λ b. entry_at (cond b (without t k) (changed t k (taken against))) k) no_pin ∙ entry_at-changed t k (taken against)
+
+pub entry_at-acked_other : (t : Table) (k j : Holder) (against : Caps) → j ≢ k → entry_at (acked t k against) j ≡ entry_at t j
+entry_at-acked_other t k j against apart =
+    elim (has against P) as (λ b. entry_at (cond b (without t k) (changed t k (taken against))) j ≡ entry_at t j)
+    [ true ↦ entry_at-without_other t k j apart | false ↦ entry_at-changed_other t k j (taken against) apart ]
 
 -- ---- a recall
 

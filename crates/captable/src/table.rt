@@ -70,7 +70,7 @@ impl CapTable {
     ghost use Rattle.captable.specs.Many.{changed_by, asking};
     ghost use Rattle.capbits.specs.Refusal.{first_failing};
     ghost use Rattle.captable.specs.Tests.{open_tests, entry_test, ack_tests, release_tests};
-    ghost use Rattle.captable.specs.Calls.{opened, changed, wanting, issued, taken, renumbered, told, with_asked, with_size_due, released, without, without_client, newer_in, touched, recalled, is_of_client, is_of_inode, is_due};
+    ghost use Rattle.captable.specs.Calls.{opened, changed, wanting, issued, acked, renumbered, told, with_asked, with_size_due, released, without, without_client, newer_in, touched, recalled, is_of_client, is_of_inode, is_due};
 
     /// A table without entries, of which none was made yet. No clause can say that the memory for it is there.
     pub fn new(alloc: Global) -> Result<CapTable, AllocError>
@@ -223,13 +223,17 @@ impl CapTable {
     }
 
     /// Takes an acknowledgement, which names the message with the number `seq`: the client gives back the capabilities
-    /// of `against`, which are being revoked, and no longer holds any of them.
+    /// of `against`, which are being revoked, and no longer holds any of them. With the pin among them, all that it holds
+    /// is being revoked, and its whole entry goes, from both orders.
     pub fn ack(&mut self, client: ClientId, ino: Ino, seq: u64, against: CapSet)
         requires passed { first_failing (ack_tests self.old (holder client ino) seq against) ≡ None }
-        ensures { self.new ≡ changed self.old (holder client ino) (taken against) }
+        ensures { self.new ≡ acked self.old (holder client ino) against }
     {
-        if let Some(entry) = self.find(client, ino) {
-            self.put(Holder { client, ino }, entry.taken(against));
+        let holder = Holder { client, ino };
+        if against.has(Cap::P) {
+            self.remove(holder);
+        } else if let Some(entry) = self.find(client, ino) {
+            self.put(holder, entry.taken(against));
         }
     }
 

@@ -68,7 +68,12 @@ pub wants-kept : (s : Scene) (new : Nodes) (after : SessionTable) (ino : ℕ) �
 wants-kept s new after ino all =
     each_same (want_of s.fs s.tree s.sessions) (want_of s.fs new after) (is_of_inode (record { 0 = ino })) s.table.rows (λ k d lt i. ((slice_index_or s.table.rows k d).holder.client, all k d lt i))
 
--- ---- a new inode, of which the row's is none
+-- ---- a new inode, of which the holder's is none
+
+pub permitted-new : (fs : List ℕ) (tree : Nodes) (sessions : SessionTable) → IsTree tree → (kind : Kind) (dir : ℕ) (name : List ℕ) (attr : Attr) (k : Holder)
+    → map.contains_key tree.nodes k.ino.0 ≡ true → permitted fs (with_new tree kind dir name attr) sessions k ≡ permitted fs tree sessions k
+permitted-new fs tree sessions sound kind dir name attr k there =
+    permitted-kept fs tree (with_new tree kind dir name attr) sessions sessions k (alike-new tree kind dir name attr k.ino.0 sound (not_next tree k.ino.0 sound there)) refl
 
 pub want-new : (fs : List ℕ) (tree : Nodes) (sessions : SessionTable) → IsTree tree → (kind : Kind) (dir : ℕ) (name : List ℕ) (attr : Attr) (row : EntryRow)
     → map.contains_key tree.nodes row.holder.ino.0 ≡ true → effective_want fs (with_new tree kind dir name attr) sessions row ≡ effective_want fs tree sessions row
@@ -78,15 +83,22 @@ want-new fs tree sessions sound kind dir name attr row there =
 -- ---- a change of an inode that policy does not read, as of a snapshot
 
 module _ (fs : List ℕ) (tree : Nodes) (sessions : SessionTable) (f : Node → Node) (ino : ℕ) (site : (n : Node) → (f n).site ≡ n.site) (attr : (n : Node) → (f n).attr ≡ n.attr) where
+  pub permitted-changed : (k : Holder) → permitted fs (changed f tree ino) sessions k ≡ permitted fs tree sessions k
+  permitted-changed k = permitted-kept fs tree (changed f tree ino) sessions sessions k (alike-changed tree f ino site attr k.ino.0) refl
+
   pub want-changed : (row : EntryRow) → effective_want fs (changed f tree ino) sessions row ≡ effective_want fs tree sessions row
   want-changed row = want-kept fs tree (changed f tree ino) sessions sessions row (alike-changed tree f ino site attr row.holder.ino.0) refl
 
--- ---- a new session, where the row's client has one
+-- ---- a new session, where the holder's client has one
 
 pub alike-itself : (tree : Nodes) (ino : ℕ) → IsAlike tree tree ino
 alike-itself tree ino = record { path = refl; attr = refl }
 
 module _ (fs : List ℕ) (tree : Nodes) (sessions : SessionTable) (client : ℕ) (caller : Caller) (grants : List Grant) (passed : first_failing (new_session_tests sessions client) ≡ None) where
+  pub permitted-session : (k : Holder) → has_session sessions k.client.0 ≡ true → permitted fs tree (with_session sessions client caller grants) k ≡ permitted fs tree sessions k
+  permitted-session k there =
+      permitted-kept fs tree tree sessions (with_session sessions client caller grants) k (alike-itself tree k.ino.0) (session-kept sessions client caller grants k.client.0 passed there)
+
   pub want-session : (row : EntryRow) → has_session sessions row.holder.client.0 ≡ true → effective_want fs tree (with_session sessions client caller grants) row ≡ effective_want fs tree sessions row
   want-session row there =
       want-kept fs tree tree sessions (with_session sessions client caller grants) row (alike-itself tree row.holder.ino.0) (session-kept sessions client caller grants row.holder.client.0 passed there)

@@ -1,5 +1,5 @@
 -- Of what a client holds, what is being revoked: which capabilities these are, whoever holds how much.
-use Rattle.std.specs.Prelude.{ℕ, Bool, false, not, ◌&&◌, ◌||◌, Option, Some, None}
+use Rattle.std.specs.Prelude.{Bool, false, not, ◌&&◌, ◌||◌, Option, Some, None}
 use Rattle.capbits.specs.declared.cap.Cap.{Cap}
 use Rattle.capbits.specs.declared.cap.Part.{Part}
 use Rattle.capbits.specs.declared.cap.Part.TheVariants.{A, L, X, F}
@@ -11,6 +11,7 @@ use Rattle.locktable.specs.declared.states.LockState.TheVariants.{Stable, Gather
 use Rattle.locktable.specs.Rows.{row_of}
 use Rattle.captable.specs.declared.entry.Holder.{Holder}
 use Rattle.lockmachine.specs.Locks.{lock_at}
+use Rattle.lockmachine.specs.Policy.{permitted}
 use Rattle.lockmachine.specs.Scene.{Scene}
 
 -- the lock takes it from the client: it gathers, and the row of its target is without it
@@ -22,6 +23,8 @@ is_taken_by part client c (Some (Gather from to)) = covers c part && not (has (r
 abbrev pub is_taken_of : Scene → Holder → Cap → Part → Bool
 is_taken_of s k c part = is_taken_by part k.client c (lock_at s.locks k.ino.0 part)
 
--- a lock takes it from the holder
+-- a lock takes it from the holder, or it is not permitted
 abbrev pub is_taken : Scene → Holder → Cap → Bool
-is_taken s k c = is_taken_of s k c A || (is_taken_of s k c L || (is_taken_of s k c X || is_taken_of s k c F))
+is_taken s k c =
+    (is_taken_of s k c A || (is_taken_of s k c L || (is_taken_of s k c X || is_taken_of s k c F)))
+    || not (has (permitted s.fs s.tree s.sessions k) c)

@@ -18,12 +18,13 @@ use Rattle.lockmachine.specs.declared.wants.Wanting.{Wanting}
 use Rattle.lockmachine.specs.declared.wants.Wanting.TheVariants.{Nobody, One, Several}
 use Rattle.lockmachine.specs.Policy.{permitted}
 
+-- what the entry's client wants of these, which it is permitted, if its session is open
+abbrev pub want_of_permitted : SessionTable → Caps → EntryRow → Caps
+want_of_permitted sessions caps row = if is_open (status_of sessions row.holder.client.0) then meet row.entry.want caps else no_caps
+
 -- what the entry's client wants and is permitted, if its session is open
 abbrev pub effective_want : List ℕ → Nodes → SessionTable → EntryRow → Caps
-effective_want fs tree sessions row =
-    if is_open (status_of sessions row.holder.client.0)
-    then meet row.entry.want (permitted fs tree sessions row.holder)
-    else no_caps
+effective_want fs tree sessions row = want_of_permitted sessions (permitted fs tree sessions row.holder) row
 
 -- a client, and what it effectively wants
 abbrev pub Want : Type 0

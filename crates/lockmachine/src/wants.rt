@@ -42,11 +42,16 @@ pub fn wants_on(fs: &FsName, tree: &Tree, sessions: &Sessions, table: &CapTable,
 pub fn effective_want(fs: &FsName, tree: &Tree, sessions: &Sessions, row: EntryRow) -> CapSet
     ensures { result ≡ words.effective_want fs.now tree.now sessions.now row }
 {
+    let permitted = permitted(fs, tree, sessions, row.holder.client, row.holder.ino);
+    want_of_permitted(sessions, row, permitted)
+}
+
+/// The same, where it is known what the client is permitted.
+pub fn want_of_permitted(sessions: &Sessions, row: EntryRow, permitted: CapSet) -> CapSet
+    ensures { result ≡ words.want_of_permitted sessions.now permitted row }
+{
     match sessions.status(row.holder.client) {
-        Some(Status::Open) => {
-            let permitted = permitted(fs, tree, sessions, row.holder.client, row.holder.ino);
-            row.entry.want.meet(permitted)
-        }
+        Some(Status::Open) => row.entry.want.meet(permitted),
         Some(Status::Stale) | None => CapSet::empty(),
     }
 }

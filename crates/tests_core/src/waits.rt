@@ -149,21 +149,21 @@ fn a_flush_waits_for_no_lock(rt: HostRuntime) -> Result<(), Fail> {
     goes(&rt, &[ONE_HAS_A_FILE, A_FLUSH])
 }
 
-// An unlinked file keeps its locks until it is forgotten. Nobody is permitted to hold more of it, so a gather ends in a
-// state that nobody fills.
+// An unlinked file keeps its locks until it is forgotten. Nobody is permitted more of it than the pin, so all else is called
+// back, and a gather ends in a state that nobody fills.
 const AN_UNLINKED_FILE: &[Step] = &[
     (
         "open 2 2 r",
         "caps 1 p",
         "EXCL(1) to MIX; pFsxcrwb 2 due; p 1",
     ),
-    ("unlink 2 2", "done", "EXCL(1) to MIX; pFsxcrwb 2 due; p 1"),
+    ("unlink 2 2", "done", "EXCL(1) to MIX; pFsxcrwb 3 due; p 1"),
     (
         "poll 1 9",
-        "messages 1\n  caps 2 2 pFrw",
-        "EXCL(1) to MIX; pFsxcrwb 2; p 1",
+        "messages 1\n  caps 2 3 p",
+        "EXCL(1) to MIX; pFsxcrwb 3; p 1",
     ),
-    ("ack 1 2 2", "done", "MIX; pFrw 2; p 1"),
+    ("ack 1 2 3", "done", "MIX; p 3; p 1"),
     ("release 1 2 p", "done", "MIX; -; p 1"),
     ("get 2 2 F", "refused Gone", "MIX; -; p 1"),
     ("release 2 2 p", "done", "-; -; -"),

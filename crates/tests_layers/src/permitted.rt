@@ -98,8 +98,8 @@ fn a_list_of_rules_gives_its_vector_back(rt: HostRuntime) {
     given_back_are(&rt, rules, &wanted);
 }
 
-// All that a client may hold: the pin, for reading, for writing, and for both.
-const PIN: &str = "p";
+// All that a client may hold: nothing, for reading, for writing, and for both.
+const NOTHING: &str = "-";
 
 const READS: &str = "pAsLsXsFscrl";
 
@@ -113,15 +113,15 @@ const PERMITTED: &[(&str, Who, u32, u16, &str)] = &[
     ("allow rwps", ANA, 7, 0o000, BOTH),
     ("allow r", ANA, 7, 0o777, READS),
     // No grant is for this inode.
-    ("allow rw path=/a", ANA, 7, 0o777, PIN),
-    ("allow rw fsname=other", ANA, 7, 0o777, PIN),
+    ("allow rw path=/a", ANA, 7, 0o777, NOTHING),
+    ("allow rw fsname=other", ANA, 7, 0o777, NOTHING),
     ("allow rw path=/a, allow r path=/b", ANA, 7, 0o777, READS),
     ("allow r path=/b, allow rw path=/b", ANA, 7, 0o777, BOTH),
     // Reading is never squashed.
     ("allow rw root_squash", ROOT, 7, 0o777, READS),
     // A grant with a uid goes by the mode.
     ("allow rw uid=9 gids=50", ANA, 7, 0o640, READS),
-    ("allow rw uid=9", ANA, 7, 0o640, PIN),
+    ("allow rw uid=9", ANA, 7, 0o640, NOTHING),
     ("allow rw uid=9", ANA, 9, 0o200, WRITES),
 ];
 

@@ -1,28 +1,64 @@
-use Rattle.std.proofs.Common.{◌≡◌, Some, None, ap, ◌∙◌}
-use Rattle.capbits.specs.Caps.{Caps}
+use Rattle.std.proofs.Common.{◌≡◌, ◌<◌, Option, Some, None, is_some, refl, ap, subst, ◌∙◌}
+use Rattle.std.specs.Prelude.{IfSome}
 use Rattle.capbits.specs.Sets.{meet}
+use Rattle.captable.specs.declared.entry.Entry.{Entry}
 use Rattle.captable.specs.declared.entry.EntryRow.{EntryRow}
 use Rattle.captable.specs.declared.entry.Holder.{Holder}
 use Rattle.captable.specs.Table.{Table, entry_at}
 use Rattle.captable.proofs.Changes.{put_found, none_found}
+use Rattle.lockmachine.specs.Wants.{want_of_permitted}
 use Rattle.capcore.specs.Finishing as words
+use Rattle.capcore.specs.Known.{known_in}
+use Rattle.capcore.proofs.KeptSets.{kept-one, kept-none}
 use Rattle.capcore.proofs.finish.finish_entry.Goals as goal
 
-pub returns-in-Some : goal.returns-in-Some
-returns-in-Some c =
+pub issue-requires : goal.issue-requires
+issue-requires c =
+    let found : entry_at c.args.table.now c.args.holder ≡ Some c.in-Some.entry = cc in
+    record {
+      there = found;
+      room = subst (λ (o : Option Entry). IfSome o (λ e. e.seq < 18446744073709551615)) found c.requires.number;
+    }
+
+pub put-requires : goal.put-requires
+put-requires c =
+    let found : entry_at c.args.table.now c.args.holder ≡ Some c.in-Some.entry = cc in
+    record { there = c.requires.room (ap is_some found) }
+
+pub returns-in-Some-clause-table : goal.returns-in-Some-clause-table
+returns-in-Some-clause-table c =
     let t : Table = c.args.table.now in
     let k : Holder = c.args.holder in
     let row : EntryRow = record { holder = k; entry = c.in-Some.entry } in
     let found : entry_at t k ≡ Some c.in-Some.entry = cc in
-    let due : c.meet-due.result ≡ words.due_under c.args.fs.now c.args.tree.now c.args.sessions.now c.args.now.now row =
-    c.meet-due.ensures ∙ (λ i. meet (c.effective_want.ensures i) (c.allowed_under.ensures i)) in
+    let due : c.meet-due.result ≡ words.due_under c.args.fs.now c.args.tree.now c.args.sessions.now c.args.locks.now row =
+    c.meet-due.ensures ∙ (λ i. meet ((c.want_of_permitted.ensures ∙ ap (λ may. want_of_permitted c.args.sessions.now may row) c.permitted-permitted.ensures) i) (c.allowed_under.ensures i)) in
+    let told : c.told_under-told.result ≡ words.told_at c.args.fs.now c.args.tree.now c.args.sessions.now c.args.locks.now row =
+    c.told_under-told.ensures ∙ (λ i. words.told_under (c.permitted-permitted.ensures i) c.args.locks.now ((c.with_issued.ensures ∙ ap (λ caps. words.with_issued caps row) due) i)) in
     c.issue.ensures
-    ∙ put_found t k c.in-Some.entry (words.numbered_under c.args.before.now c.args.now.now c.meet-due.result row)
-    (λ e. words.entry_under c.args.fs.now c.args.tree.now c.args.sessions.now c.args.before.now c.args.now.now (record { holder = k; entry = e })) found
-    (ap (λ (caps : Caps). words.numbered_under c.args.before.now c.args.now.now caps row) due)
+    ∙ put_found t k c.in-Some.entry (words.numbered_as c.of.result c.told_under-told.result c.meet-due.result row)
+    (λ e. words.entry_under (known_in c.args.known.now.sets) c.args.fs.now c.args.tree.now c.args.sessions.now c.args.locks.now (record { holder = k; entry = e })) found
+    (λ i. words.numbered_as (c.of.ensures i) (told i) (due i) row)
 
-pub returns-in_default : goal.returns-in_default
-returns-in_default c =
+pub returns-in-Some-clause-known : goal.returns-in-Some-clause-known
+returns-in-Some-clause-known c =
+    let t : Table = c.args.table.now in
+    let k : Holder = c.args.holder in
+    let row : EntryRow = record { holder = k; entry = c.in-Some.entry } in
+    let found : entry_at t k ≡ Some c.in-Some.entry = cc in
+    let due : c.meet-due.result ≡ words.due_under c.args.fs.now c.args.tree.now c.args.sessions.now c.args.locks.now row =
+    c.meet-due.ensures ∙ (λ i. meet ((c.want_of_permitted.ensures ∙ ap (λ may. want_of_permitted c.args.sessions.now may row) c.permitted-permitted.ensures) i) (c.allowed_under.ensures i)) in
+    let told : c.told_under-told.result ≡ words.told_at c.args.fs.now c.args.tree.now c.args.sessions.now c.args.locks.now row =
+    c.told_under-told.ensures ∙ (λ i. words.told_under (c.permitted-permitted.ensures i) c.args.locks.now ((c.with_issued.ensures ∙ ap (λ caps. words.with_issued caps row) due) i)) in
+    kept-one (words.told_at c.args.fs.now c.args.tree.now c.args.sessions.now c.args.locks.now) t c.args.known.now.sets c.put.new.self.sets k c.in-Some.entry found (c.put.ensures.own ∙ ap Some told) c.put.ensures.others
+
+pub returns-in_default-clause-table : goal.returns-in_default-clause-table
+returns-in_default-clause-table c =
     let none : entry_at c.args.table.now c.args.holder ≡ None = cc in
     none_found c.args.table.now c.args.holder
-    (λ e. words.entry_under c.args.fs.now c.args.tree.now c.args.sessions.now c.args.before.now c.args.now.now (record { holder = c.args.holder; entry = e })) none
+    (λ e. words.entry_under (known_in c.args.known.now.sets) c.args.fs.now c.args.tree.now c.args.sessions.now c.args.locks.now (record { holder = c.args.holder; entry = e })) none
+
+pub returns-in_default-clause-known : goal.returns-in_default-clause-known
+returns-in_default-clause-known c =
+    let none : entry_at c.args.table.now c.args.holder ≡ None = cc in
+    kept-none (words.told_at c.args.fs.now c.args.tree.now c.args.sessions.now c.args.locks.now) c.args.table.now c.args.known.now.sets c.args.known.now.sets c.args.holder none (λ k. refl)

@@ -25,12 +25,9 @@ returns c =
     let k : Holder = c.args.row.now.holder in
     let e : Entry = c.args.row.now.entry in
     let more : Entry → Entry = issued c.args.due in
-    let number : Entry → Entry = renumbered c.told_under-told_before.result c.told_under-told_now.result in
-    let told_now : c.told_under-told_now.result ≡ words.told_under c.args.now.now (words.with_issued c.args.due c.args.row.now) =
-    c.told_under-told_now.ensures ∙ ap (words.told_under c.args.now.now) c.with_issued-issued.ensures in
-    let is : words.numbered_under c.args.before.now c.args.now.now c.args.due c.args.row.now ≡ number (more e) =
-    sym (λ i. renumbered (c.told_under-told_before.ensures i) (told_now i) (more e)) in
+    let number : Entry → Entry = renumbered c.meet-before.result c.args.told in
+    let is : words.numbered_as c.args.known c.args.told c.args.due c.args.row.now ≡ number (more e) = sym (ap (λ caps. renumbered caps c.args.told (more e)) c.meet-before.ensures) in
     c.renumber.ensures
     ∙ ap (λ (t : Table). changed t k number) c.issue.ensures
     ∙ changed-twice t k more number
-    ∙ sym (put_found t k e (words.numbered_under c.args.before.now c.args.now.now c.args.due c.args.row.now) (λ e. number (more e)) c.requires.there is)
+    ∙ sym (put_found t k e (words.numbered_as c.args.known c.args.told c.args.due c.args.row.now) (λ e. number (more e)) c.requires.there is)

@@ -1,29 +1,62 @@
-use Rattle.std.proofs.Common.{◌≤◌, length, subst}
+use Rattle.std.proofs.Common.{◌≡◌, ◌≤◌, ◌<◌, ◌++◌, true, ◌||◌, Contains, zero, suc, take, length, filter, refl, sym, ap, subst, ◌∙◌, arith}
+use Rattle.std.specs.Prelude.{List}
+use Rattle.captable.specs.declared.entry.EntryRow.{EntryRow}
+use Rattle.captable.specs.Calls.{is_of_client, is_due}
+use Rattle.lockmachine.proofs.Finding.{contains-filter, filter-contains}
 use Rattle.capcore.specs.declared.outcome.Message.{Message}
 use Rattle.capcore.specs.Messages.{end_messages}
-use Rattle.std.specs.Prelude.{List}
-use Rattle.capcore.proofs.Polling.{IsListed, few-more, listed-more, listed-all, listed-full, listed-first}
+use Rattle.capcore.proofs.Polling.{IsListed, due_of, take-take_append, few-more, listed-more, listed-all, listed-full, listed-first, known-row}
 use Rattle.capcore.proofs.poll.due_messages.Goals as goal
-use Rattle.capcore.proofs.poll.due_messages.Goals.{Then-as_slice-max}
+
+pub rows-init : goal.rows-init
+rows-init c = record {
+  few = few-more c.args.max _ c.in_ok-due.due c.in_ok-due.ensures;
+  among = λ row inside due.
+      contains-filter (is_of_client c.args.client) c.args.table.now.rows row
+      (contains-filter is_due (filter (is_of_client c.args.client) c.args.table.now.rows) row
+      (subst (λ (rows : List EntryRow). Contains rows row) c.due_of-walk.ensures.due (filter-contains is_due c.due_of-walk.result row inside due)));
+  listed = λ s tree table known. record {
+    is =
+        ap (λ (xs : List Message). take c.args.max (xs ++ due_of s c.due_of-walk.result)) c.in_ok-due.ensures
+        ∙ take-take_append c.args.max (end_messages c.args.client c.args.ended.now) (due_of s c.due_of-walk.result);
+  };
+}
+
+pub rows-preserved : goal.rows-preserved
+rows-preserved c =
+    let row : EntryRow = c.in-Some.row in
+    let less : length c.add_due.new.list < c.args.max = subst (λ (xs : List Message). length xs < c.args.max) c.as_slice.ensures c.if-as_slice-max.false in
+    let here : Contains c.rows.walk row = subst (λ (rows : List EntryRow). Contains rows row) (sym c.in-Some.ensures.some) (zero, omega arith, refl) in
+    record {
+      few = omega (arith, less);
+      among = λ r inside. c.rows.invariant.among r (subst (λ (rows : List EntryRow). Contains rows r) (sym c.in-Some.ensures.some) (suc inside.0, omega (arith, inside.1), inside.2));
+      listed = λ s tree table known.
+          listed-more c.args.max s (end_messages c.args.client c.args.ended.now) c.due_of-walk.result c.next.new.self c.rows.due c.add_due.new.list row
+          (c.in_ok-add_due.ensures.ok s tree (λ untold. known-row c.args.known.now.sets s c.args.table.now table c.due_of-walk.ensures.sound known row (c.rows.invariant.among row here (ap (λ b. b || (row.entry.size_due || row.entry.asked)) untold))))
+          (subst (IsListed c.args.max s (end_messages c.args.client c.args.ended.now) c.due_of-walk.result c.rows.due) c.in-Some.ensures.some (c.rows.invariant.listed s tree table known));
+    }
 
 pub returns-then-as_slice-max : goal.returns-then-as_slice-max
-returns-then-as_slice-max c = λ s tree table locks messages.
+returns-then-as_slice-max c = λ s tree table known messages.
     let max = c.args.max in
+    let row : EntryRow = c.in-Some.row in
     let first = end_messages c.args.client c.args.ended.now in
     let rows = c.due_of-walk.result in
-    let is = c.in_ok-add_due.ensures.ok s.scene tree locks in
+    let here : Contains c.rows.walk row = subst (λ (rows : List EntryRow). Contains rows row) (sym c.in-Some.ensures.some) (zero, omega arith, refl) in
+    let is = c.in_ok-add_due.ensures.ok s.scene tree
+    (λ untold. known-row c.args.known.now.sets s.scene c.args.table.now table c.due_of-walk.ensures.sound known row (c.rows.invariant.among row here (ap (λ b. b || (row.entry.size_due || row.entry.asked)) untold))) in
     let so_far : IsListed max s.scene first rows c.add_due.new.list c.next.new.self =
-    listed-more max s.scene first rows c.next.new.self c.rows.due c.add_due.new.list c.in-Some.row is
-    (subst (IsListed max s.scene first rows c.rows.due) c.in-Some.ensures.some (c.rows.invariant.listed s.scene tree locks)) in
+    listed-more max s.scene first rows c.next.new.self c.rows.due c.add_due.new.list row is
+    (subst (IsListed max s.scene first rows c.rows.due) c.in-Some.ensures.some (c.rows.invariant.listed s.scene tree table known)) in
     let full : max ≤ length c.add_due.new.list = subst (λ (xs : List Message). max ≤ length xs) c.as_slice.ensures c.if-as_slice-max.true in
     listed-first s c.args.client max c.args.table.now c.args.ended.now rows c.add_due.new.list c.due_of-walk.ensures.due table messages
     (listed-full max s.scene first rows c.next.new.self c.add_due.new.list (few-more max _ c.add_due.new.list is) full so_far)
 
 pub returns : goal.returns
-returns c = λ s tree table locks messages.
+returns c = λ s tree table known messages.
     let max = c.args.max in
     let first = end_messages c.args.client c.args.ended.now in
     let rows = c.due_of-walk.result in
     let ended = c.in_default.ensures.none in
     listed-first s c.args.client max c.args.table.now c.args.ended.now rows c.rows.due c.due_of-walk.ensures.due table messages
-    (listed-all max s.scene first rows c.rows.due c.rows.invariant.few (subst (IsListed max s.scene first rows c.rows.due) ended.0 (c.rows.invariant.listed s.scene tree locks)))
+    (listed-all max s.scene first rows c.rows.due c.rows.invariant.few (subst (IsListed max s.scene first rows c.rows.due) ended.0 (c.rows.invariant.listed s.scene tree table known)))

@@ -1,5 +1,8 @@
-use Rattle.std.proofs.Common.{◌≡◌, ◌≤◌, length}
+use Rattle.std.proofs.Common.{◌≡◌, ◌≤◌, true, Contains, length}
+use Rattle.captable.specs.declared.entry.EntryRow.{EntryRow}
+use Rattle.captable.specs.Calls.{is_due}
 use Rattle.lockmachine.specs.Scene.{Scene}
+use Rattle.capcore.specs.Known.{AreKnown}
 use Rattle.capcore.specs.Messages.{end_messages}
 use Rattle.capcore.proofs.Polling.{IsListed}
 use Rattle.capcore.proofs.poll.due_messages.Given as goal
@@ -10,5 +13,6 @@ decreases-rows l = length l.walk
 abbrev pub invariant-rows : goal.invariant-rows
 invariant-rows l = record {
   few : length l.due ≤ l.max;
-  listed : (s : Scene) → s.tree ≡ l.tree → s.locks ≡ l.locks → IsListed l.max s (end_messages l.fn.client l.ended) l.initial.walk l.due l.walk;
+  among : (row : EntryRow) → Contains l.walk row → is_due row ≡ true → Contains l.table.rows row;
+  listed : (s : Scene) → s.tree ≡ l.tree → s.table ≡ l.table → AreKnown l.known.sets s → IsListed l.max s (end_messages l.fn.client l.ended) l.initial.walk l.due l.walk;
 }

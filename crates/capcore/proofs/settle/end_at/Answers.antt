@@ -7,7 +7,9 @@ use Rattle.captable.specs.Many.{changed_where}
 use Rattle.lockmachine.specs.Scene.{Scene, scene}
 use Rattle.capcore.specs.Finish.{is_sized, owed}
 use Rattle.capcore.specs.Serves.{is_touched}
-use Rattle.capcore.specs.Touching.{finished_at}
+use Rattle.capcore.specs.Known.{known_in, HaveRoom, KeptAnew}
+use Rattle.capcore.specs.Touching.{told_then, finished_at}
+use Rattle.capcore.proofs.KeptSets.{was-there}
 use Rattle.capcore.proofs.ManyInodes.{holders-stay}
 use Rattle.capcore.proofs.SizesOwed.{owed-numbers}
 use Rattle.capcore.proofs.settle.end_at.Goals as goal
@@ -22,9 +24,14 @@ finish-requires-clause-clients c =
     subst (λ (t : Table). All (λ row. IsTrue (has_session c.args.sessions.now row.holder.client.0)) t.rows) (sym c.owe_sizes.ensures)
     (holders-stay (is_sized c.as_slice.result.now) owed (λ h. IsTrue (has_session c.args.sessions.now h.client.0)) c.args.table.now c.requires.clients)
 
+-- so each has room still
+pub finish-requires-clause-room : goal.finish-requires-clause-room
+finish-requires-clause-room c =
+    subst (HaveRoom c.args.known.now.sets) (sym c.owe_sizes.ensures)
+    (λ k e there. let was = was-there (is_sized c.as_slice.result.now) owed c.args.table.now k e there in c.requires.room k was.0 was.1)
+
 pub returns-clause-ends : goal.returns-clause-ends
 returns-clause-ends c =
-    let first : Scene = scene c.args.fs.now c.args.tree.now c.args.sessions.now c.args.table.now c.args.locks.now in
     let at = is_touched c.args.ino.0 c.settle-touched.result in
     let after : Table → Scene = λ t. scene c.args.fs.now c.settle-touched.new.tree c.args.sessions.now t c.settle-touched.new.locks in
     let owes : c.owe_sizes.new.table ≡ changed_where (is_sized c.settle-touched.new.endings.sized.items) owed c.args.table.now =
@@ -35,5 +42,6 @@ returns-clause-ends c =
       sized = c.settle-touched.new.endings.sized.items;
       settles = c.settle-touched.ensures.settles;
       tree = c.last-last.ensures.sound;
-      finished = c.finish.ensures.finished first (sym c.of_ino-before.ensures) (λ other kept. c.settle-touched.ensures.before other kept) ∙ ap (λ (t : Table). finished_at at first (after t)) owes;
+      finished = c.finish.ensures.finished ∙ ap (λ (t : Table). finished_at at (known_in c.args.known.now.sets) (after t)) owes;
+      kept = subst (λ (t : Table). KeptAnew (λ k. at k.ino.0) (told_then (after t)) t c.args.known.now.sets c.finish.new.known.sets) owes c.finish.ensures.known;
     }

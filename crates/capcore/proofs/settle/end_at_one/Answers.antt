@@ -18,5 +18,5 @@ end_at-requires-clause-before c = λ other kept.
 
 pub returns-clause-ends : goal.returns-clause-ends
 returns-clause-ends c =
-    ends-one c.args.ino.0 c.new-others.result (scene c.args.fs.now c.args.tree.now c.args.sessions.now c.args.table.now c.args.locks.now)
+    ends-one c.args.ino.0 c.new-others.result c.args.known.now.sets c.end_at.new.known.sets (scene c.args.fs.now c.args.tree.now c.args.sessions.now c.args.table.now c.args.locks.now)
     (scene c.args.fs.now c.end_at.new.tree c.args.sessions.now c.end_at.new.table c.end_at.new.locks) c.end_at.new.endings.told.items c.end_at.ensures.ends

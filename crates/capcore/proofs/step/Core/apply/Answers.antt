@@ -16,6 +16,7 @@ use Rattle.capcore.proofs.OtherLocks.{other-locks}
 use Rattle.capcore.proofs.Servings.{served-denied, served-by_name}
 use Rattle.capcore.proofs.Promised.{denied-exactly, denies-by_name, stopped-unchanged}
 use Rattle.capcore.proofs.Growing.{more-told, replays-more}
+use Rattle.capcore.proofs.Placed.{all-revoked}
 use Rattle.capcore.proofs.HeldOn.{takes-only_so}
 use Rattle.capcore.proofs.ShownSteps.{step-shown}
 use Rattle.capcore.proofs.ShownWords.{shows-told, all-takes_unshown}
@@ -107,6 +108,9 @@ returns-clause-issued c =
 
 pub returns-clause-in_place : goal.returns-clause-in_place
 returns-clause-in_place c = let sound = next c in sound.in_place
+
+pub returns-clause-lost : goal.returns-clause-lost
+returns-clause-lost c = all-revoked c.step.new.self.scene
 
 pub returns-clause-apart : goal.returns-clause-apart
 returns-clause-apart c = held-apart c.step.new.self (next c)

@@ -14,6 +14,6 @@ returns-in-None c =
     let s = c.args.self.now.scene in
     let k = holder c.args.client c.args.ino in
     c.ack_refusal.ensures
-    ∙ ap (λ caps. first_failing (ack_tests inside.table k c.args.seq caps)) (c.revoked_of-revoked.ensures inside refl refl)
+    ∙ ap (λ caps. first_failing (ack_tests inside.table k c.args.seq caps)) (c.revoked_of-revoked.ensures inside refl c.self.invariant.2)
     ∙ ap (λ (w : State). first_failing (ack_tests w.scene.table k c.args.seq (revoked_of w.scene k))) c.self.view_is
     ∙ sym (passed-front (connected_tests s c.args.client c.args.ino.0) (ack_tests s.table k c.args.seq (revoked_of s k)) (sym c.connected_stop.ensures ∙ c.in-None.is))

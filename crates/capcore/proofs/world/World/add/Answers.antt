@@ -1,10 +1,13 @@
-use Rattle.std.proofs.Common.{◌≡◌, ◌+◌, None, sym, subst, arith}
+use Rattle.std.proofs.Common.{◌≡◌, ◌+◌, None, refl, sym, subst, arith}
 use Rattle.capbits.specs.Refusal.{first_failing}
 use Rattle.inotree.specs.Tests.{create_tests}
 use Rattle.inotree.proofs.Passing.{passed-create}
+use Rattle.lockmachine.specs.Locks.{LockMap}
+use Rattle.capcore.specs.Known.{AreKnown}
+use Rattle.capcore.specs.Untold.{HasRoom}
 use Rattle.capcore.specs.State.{State}
 use Rattle.capcore.proofs.Undone.{added-dropped, not_given}
-use Rattle.capcore.proofs.Untouched.{birth-sound}
+use Rattle.capcore.proofs.Untouched.{birth-sound, birth-known}
 use Rattle.capcore.proofs.world.World.add.Goals as goal
 
 pub overflow_add-ino : goal.overflow_add-ino
@@ -18,13 +21,20 @@ overflow_add-ino c =
 pub invariant_of-self-in-Ok : goal.invariant_of-self-in-Ok
 invariant_of-self-in-Ok c =
     let sound = c.self.invariant.0 in
-    rw (c.in-Ok.ensures.ok, c.in_ok-add_ino.ensures.ok, c.last.ensures.last)
-    (birth-sound sound c.args.kind c.args.dir.0 c.args.name.now c.args.attr c.last.ensures.sound, c.self.invariant.1)
+    rw (c.in-Ok.ensures.ok, c.in_ok-add_ino.ensures.ok, c.last.ensures.last) (
+      birth-sound sound c.args.kind c.args.dir.0 c.args.name.now c.args.attr c.last.ensures.sound,
+      c.self.invariant.1,
+      birth-known sound c.self.inside.known.sets c.self.invariant.2 c.args.kind c.args.dir.0 c.args.name.now c.args.attr c.last.ensures.sound,
+    )
 
 pub invariant_of-self-in-Err : goal.invariant_of-self-in-Err
 invariant_of-self-in-Err c =
     let undone = added-dropped c.self.inside.locks (c.self.inside.tree.last + 1) (not_given c.self.invariant.0 c.last.ensures.sound) in
-    rw (c.in-Err.ensures.err, c.drop_ino.ensures, c.in_ok-add_ino.ensures.ok, c.last.ensures.last, undone) c.self.invariant
+    let locks : c.drop_ino.new.self ≡ c.self.inside.locks = rw (c.drop_ino.ensures, c.in_ok-add_ino.ensures.ok, c.last.ensures.last, undone) refl in (
+      rw (c.in-Err.ensures.err, c.drop_ino.ensures, c.in_ok-add_ino.ensures.ok, c.last.ensures.last, undone) c.self.invariant.0,
+      subst (HasRoom c.self.inside.messages) (sym locks) c.self.invariant.1,
+      rw c.in-Err.ensures.err (subst (λ (l : LockMap). AreKnown c.self.inside.known.sets (record { fs = c.self.inside.fs; tree = c.self.inside.tree; sessions = c.self.inside.sessions; table = c.self.inside.table; locks = l })) (sym locks) c.self.invariant.2),
+    )
 
 pub returns-in-Err-clause-err : goal.returns-in-Err-clause-err
 returns-in-Err-clause-err c =

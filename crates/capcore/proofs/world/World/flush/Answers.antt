@@ -1,4 +1,4 @@
-use Rattle.std.proofs.Common.{◌≡◌, ◌==◌, ◌+◌, ◌++◌, List, length, None, refl, sym, ap, subst, ◌∙◌, arith}
+use Rattle.std.proofs.Common.{is_some, ◌≡◌, ◌==◌, ◌+◌, ◌++◌, List, length, None, refl, sym, ap, subst, ◌∙◌, arith}
 use Rattle.std.proofs.lemmas.List.{length-append}
 use Rattle.captable.specs.declared.entry.Holder.{Holder}
 use Rattle.captable.specs.Table.{IsTable, holder}
@@ -11,10 +11,14 @@ use Rattle.capcore.specs.State.{State}
 use Rattle.capcore.specs.Answered.{IsAnswered}
 use Rattle.capcore.specs.Direct.{Answer, Says, Direct, direct, reply_of, shown, says, with_flush}
 use Rattle.capcore.specs.Judge.{judged}
+use Rattle.capcore.specs.Known.{known_in, StillKept}
+use Rattle.capcore.specs.Touching.{Knows}
 use Rattle.capcore.specs.Serves.{EndsWith}
 use Rattle.capcore.specs.Sound.{IsSound}
 use Rattle.capcore.specs.Step.{earlier}
-use Rattle.capcore.proofs.Closing.{first-quiet, first-locked, told-all, closed}
+use Rattle.capcore.proofs.Closing.{first-quiet, first-locked, told-all, closed-known, closed}
+use Rattle.capcore.proofs.Knowing.{HoldAlike, alike-less, still-there, still-room, still-knows}
+use Rattle.capcore.proofs.OfInode.{event-table}
 use Rattle.capcore.proofs.Flushed.{flush-calls, flush-direct}
 use Rattle.capcore.proofs.Stops.{stopped-answered}
 use Rattle.capcore.proofs.world.World.flush.Goals as goal
@@ -63,6 +67,25 @@ module _ (c : After-touch) where
       (λ i. record old.scene { tree = c.in_default-alter.ensures.ok i; table = c.touch.ensures i })
       ∙ sym (ap (λ (d : Direct). d.state.scene) by_itself)
 
+-- what is known then: the entries are as they were
+module _ (c : After-touch) where
+  alike : HoldAlike c.self.inside.table c.touch.new.self
+  alike = subst (HoldAlike c.self.inside.table) (sym c.touch.ensures) (λ j f there. (f, there, refl))
+
+  still : StillKept c.self.inside.table c.touch.new.self c.self.inside.known.sets c.self.inside.known.sets
+  still = still-there c.self.inside.table c.touch.new.self c.self.inside.known.sets c.self.inside.known.sets (λ j f there. ap is_some (alike j f there).1) (λ j f there. refl)
+
+  knows : Knows (known_in c.self.inside.known.sets) (old c).scene (first c).table
+  knows =
+      still-knows c.self.inside.known.sets c.self.inside.known.sets (old c).scene c.touch.new.self c.self.invariant.2 still
+      (subst (λ (s : Scene). IsTable s.table) (sym (is c)) (event-table (old c) (e c) (k c) c.oldest-oldest.ensures.sound refl (passed c)))
+      (alike-less c.self.inside.table c.touch.new.self alike)
+
+pub end_at_one-requires-clause-room : goal.end_at_one-requires-clause-room
+end_at_one-requires-clause-room g =
+    let c = (goal.at.end_at_one-requires-clause-room g).After-touch in
+    still-room c.self.inside.known.sets c.self.inside.known.sets (old c).scene c.touch.new.self c.self.invariant.2 (still c)
+
 pub end_at_one-requires-clause-quiet : goal.end_at_one-requires-clause-quiet
 end_at_one-requires-clause-quiet g =
     let c = (goal.at.end_at_one-requires-clause-quiet g).After-touch in
@@ -88,7 +111,7 @@ module _ (c : After-close) where
   abbrev new : State
   new = record { scene = last; messages = c.close.new.messages.items }
 
-  ends : EndsWith (λ other. other == c.args.ino.0) (first before) last told
+  ends : EndsWith (λ other. other == c.args.ino.0) c.self.inside.known.sets c.end_at_one.new.known.sets (first before) last told
   ends = c.end_at_one.ensures.ends
 
   all : earlier c.self.inside.locks.last told ≡ told
@@ -109,7 +132,7 @@ module _ (c : After-close) where
   whole : IsAnswered (old before) (e before) c.close.result new
   whole =
       closed (old before) (e before) (k before) refl (passed before) c.self.invariant.0 c.oldest-oldest.ensures.sound (first before) (is before)
-      last told ends c.end_at_one.ensures.table c.close.result new
+      c.self.inside.known.sets c.end_at_one.new.known.sets c.waiting.ensures.sound (knows before) last told ends c.end_at_one.ensures.table c.close.result new
       (c.close.ensures.reply ∙ ap (reply_of closed_as told) answer)
       (c.close.ensures.kept ∙ sym c.close.ensures.reply) (c.close.ensures.ended ∙ c.end_at_one.ensures.kept ∙ sym all) new_is
 
@@ -118,7 +141,12 @@ invariant_of-self-2 c =
     let w = whole c in
     let items : length c.close.new.messages.items ≡ length c.self.inside.messages.items + length c.end_at_one.new.endings.told.items =
     ap length c.close.ensures.items ∙ length-append c.self.inside.messages.items c.end_at_one.new.endings.told.items in
-    (w.sound, omega (arith, items, c.close.ensures.room, c.end_at_one.ensures.count, c.self.invariant.1))
+    let b = before c in (
+      w.sound,
+      omega (arith, items, c.close.ensures.room, c.end_at_one.ensures.count, c.self.invariant.1),
+      closed-known (old b) (e b) (k b) refl (passed b) c.self.invariant.0 c.oldest-oldest.ensures.sound (first b) (is b)
+          c.self.inside.known.sets c.end_at_one.new.known.sets c.waiting.ensures.sound (knows b) (last c) (told c) (ends c) c.self.inside.known.sets c.self.invariant.2 (still b),
+    )
 
 pub returns-clause-answered : goal.returns-clause-answered
 returns-clause-answered c =

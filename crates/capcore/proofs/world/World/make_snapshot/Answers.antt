@@ -3,7 +3,7 @@ use Rattle.capbits.specs.Refusal.{first_failing}
 use Rattle.inotree.specs.Inodes.{with_snapshot}
 use Rattle.inotree.specs.Tests.{new_snapshot_tests}
 use Rattle.capcore.proofs.Effects.{making-stopped, snapshot-refused}
-use Rattle.capcore.proofs.Untouched.{changed-sound}
+use Rattle.capcore.proofs.Untouched.{changed-sound, changed-known}
 use Rattle.capcore.proofs.world.World.make_snapshot.Goals as goal
 
 pub returns-in-Some-clause-direct : goal.returns-in-Some-clause-direct
@@ -17,4 +17,8 @@ returns-in-Some-new_snapshot_refusal-clause-direct c =
 pub invariant_of-self-2 : goal.invariant_of-self-2
 invariant_of-self-2 c =
     let sound = c.self.invariant.0 in
-    rw c.in_ok-snap_add.ensures.ok (changed-sound sound (with_snapshot c.args.name.now) c.args.ino.0 (λ n. refl) (λ n. refl), c.self.invariant.1)
+    rw c.in_ok-snap_add.ensures.ok (
+      changed-sound sound (with_snapshot c.args.name.now) c.args.ino.0 (λ n. refl) (λ n. refl),
+      c.self.invariant.1,
+      changed-known sound c.self.inside.known.sets c.self.invariant.2 (with_snapshot c.args.name.now) c.args.ino.0 (λ n. refl) (λ n. refl),
+    )

@@ -1,12 +1,15 @@
 use Rattle.std.proofs.Common.{◌≡◌, None, sym, ◌∙◌}
 use Rattle.capbits.specs.Refusal.{first_failing}
 use Rattle.sessiontab.specs.Tests.{new_session_tests}
-use Rattle.capcore.proofs.Untouched.{session-sound}
+use Rattle.capcore.proofs.Untouched.{session-sound, session-known}
 use Rattle.capcore.proofs.world.World.open_session.Goals as goal
 
 pub invariant_of-self-2 : goal.invariant_of-self-2
 invariant_of-self-2 c =
     let passed : first_failing (new_session_tests c.self.inside.sessions c.args.client.0) ≡ None = sym c.open_refusal.ensures ∙ c.in_default.is in
     let sound = c.self.invariant.0 in
-    rw c.in_ok-open_session.ensures.ok
-    (session-sound sound c.args.client.0 c.copy_of_caller-caller.result c.in-Ok.grants passed, c.self.invariant.1)
+    rw c.in_ok-open_session.ensures.ok (
+      session-sound sound c.args.client.0 c.copy_of_caller-caller.result c.in-Ok.grants passed,
+      c.self.invariant.1,
+      session-known sound c.self.inside.known.sets c.self.invariant.2 c.args.client.0 c.copy_of_caller-caller.result c.in-Ok.grants passed,
+    )

@@ -18,6 +18,8 @@ use Rattle.capcore.specs.Sound.{IsSound}
 use Rattle.capcore.proofs.Again.{stopped-before}
 use Rattle.capcore.proofs.Polled.{poll-answered, polled-new}
 use Rattle.capcore.proofs.Stops.{stopped-answered}
+use Rattle.capcore.proofs.Telling.{given-held}
+use Rattle.capcore.proofs.Knowing.{HoldAlike, known-alike, alike-where}
 use Rattle.capcore.proofs.world.World.poll.Goals as goal
 use Rattle.capcore.proofs.world.World.poll.Goals.{After-new}
 
@@ -48,10 +50,10 @@ module _ (c : After-new) where
   said = record { reply = reply.Messages c.in_ok-given.given; kept = reply.Messages c.in_ok-kept.kept; ended = c.new.result }
 
   first : c.in_ok-given.given ≡ first_messages old c.args.client c.args.max
-  first = c.in_ok-given.ensures old refl refl refl (sym c.as_slice-ended.ensures)
+  first = c.in_ok-given.ensures old refl refl c.self.invariant.2 (sym c.as_slice-ended.ensures)
 
   same : c.in_ok-kept.kept ≡ c.in_ok-given.given
-  same = c.in_ok-kept.ensures old refl refl refl (sym c.as_slice-ended.ensures) ∙ sym first
+  same = c.in_ok-kept.ensures old refl refl c.self.invariant.2 (sym c.as_slice-ended.ensures) ∙ sym first
 
   kept_items : c.remove_given.new.self.items ≡ filter (is_left c.args.client c.in_ok-given.given) old.messages
   kept_items = c.remove_given.ensures.items ∙ ap (λ (given : List Message). filter (is_left c.args.client given) old.messages) c.as_slice-2.ensures
@@ -74,8 +76,12 @@ invariant_of-self c =
     let items = c.self.inside.messages.items in
     let few : length c.remove_given.new.self.items ≤ length items =
     subst (λ (n : List Ended). length n ≤ length items) (sym (kept_items c))
-    (omega (arith, length-filter (is_left c.args.client c.in_ok-given.given) items, count_by-le-length (is_left c.args.client c.in_ok-given.given) items)) in
-    (w.sound, omega (arith, few, c.remove_given.ensures.room, c.self.invariant.1))
+    (omega (arith, length-filter (is_left c.args.client c.in_ok-given.given) items, count_by-le-length (is_left c.args.client c.in_ok-given.given) items)) in (
+      w.sound,
+      omega (arith, few, c.remove_given.ensures.room, c.self.invariant.1),
+      known-alike c.self.inside.known.sets (old c).scene c.skip_quiet.new.self
+          (subst (HoldAlike (old c).scene.table) (sym (told c)) (alike-where (is_of_client c.args.client) (after_messages c.in_ok-given.given) (old c).scene.table (given-held c.in_ok-given.given))) c.self.invariant.2,
+    )
 
 pub returns-clause-answered : goal.returns-clause-answered
 returns-clause-answered c =

@@ -5,7 +5,7 @@ use Rattle.capcore.specs.declared.reply.Said.{Said}
 use Rattle.capcore.specs.State.{State}
 use Rattle.capcore.specs.Answered.{IsAnswered}
 use Rattle.capcore.specs.Direct.{with_table}
-use Rattle.capcore.proofs.Recalled.{recalled-sound, recall-answered}
+use Rattle.capcore.proofs.Recalled.{recalled-sound, recalled-known, recall-answered}
 use Rattle.capcore.proofs.world.World.recall.Goals as goal
 use Rattle.capcore.proofs.world.World.recall.Goals.{After-new}
 
@@ -27,7 +27,7 @@ module _ (c : After-new) where
       (recall-answered old c.self.invariant.0 c.args.count said c.first_to_recall.ensures.sound (ap reply.Recalled c.in_ok-named.ensures.named) (ap reply.Recalled c.in_ok-kept.ensures.named) c.new.ensures)
 
 pub invariant_of-self-2 : goal.invariant_of-self-2
-invariant_of-self-2 c = rw c.in_ok-named.ensures.ok (recalled-sound _ c.self.invariant.0 c.args.count, c.self.invariant.1)
+invariant_of-self-2 c = rw c.in_ok-named.ensures.ok (recalled-sound _ c.self.invariant.0 c.args.count, c.self.invariant.1, recalled-known _ c.self.invariant.0 c.args.count c.self.inside.known.sets c.self.invariant.2)
 
 pub returns-clause-answered : goal.returns-clause-answered
 returns-clause-answered c = subst (λ (s : State). IsAnswered s (event.Recall c.args.count) (said c) (new c)) c.self.view_is (whole c)

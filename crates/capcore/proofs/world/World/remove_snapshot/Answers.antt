@@ -3,7 +3,7 @@ use Rattle.capbits.specs.Refusal.{first_failing}
 use Rattle.inotree.specs.Inodes.{without_snapshot}
 use Rattle.inotree.specs.Tests.{old_snapshot_tests}
 use Rattle.capcore.proofs.Effects.{removing-stopped, snapshot-kept}
-use Rattle.capcore.proofs.Untouched.{changed-sound}
+use Rattle.capcore.proofs.Untouched.{changed-sound, changed-known}
 use Rattle.capcore.proofs.world.World.remove_snapshot.Goals as goal
 
 pub returns-in-Some-clause-direct : goal.returns-in-Some-clause-direct
@@ -17,4 +17,8 @@ returns-in-Some-old_snapshot_refusal-clause-direct c =
 pub invariant_of-self : goal.invariant_of-self
 invariant_of-self c =
     let sound = c.self.invariant.0 in
-    rw c.snap_remove.ensures (changed-sound sound (without_snapshot c.args.name.now) c.args.ino.0 (λ n. refl) (λ n. refl), c.self.invariant.1)
+    rw c.snap_remove.ensures (
+      changed-sound sound (without_snapshot c.args.name.now) c.args.ino.0 (λ n. refl) (λ n. refl),
+      c.self.invariant.1,
+      changed-known sound c.self.inside.known.sets c.self.invariant.2 (without_snapshot c.args.name.now) c.args.ino.0 (λ n. refl) (λ n. refl),
+    )

@@ -1,8 +1,10 @@
-use Rattle.std.proofs.Common.{◌≡◌, ◌==◌, ◌+◌, ◌++◌, List, length, [], None, refl, sym, ap, subst, ◌∙◌, arith}
+use Rattle.std.proofs.Common.{Some, ◌≡◌, ◌==◌, ◌+◌, ◌++◌, List, length, [], None, refl, sym, ap, subst, ◌∙◌, arith}
 use Rattle.std.proofs.lemmas.List.{length-append}
 use Rattle.capbits.specs.Refusal.{first_failing}
+use Rattle.capbits.specs.Sets.{IsSubset}
+use Rattle.captable.specs.declared.entry.Entry.{Entry}
 use Rattle.captable.specs.declared.entry.Holder.{Holder}
-use Rattle.captable.specs.Table.{IsTable, holder}
+use Rattle.captable.specs.Table.{Table, IsTable, holder, entry_at}
 use Rattle.lockmachine.specs.Scene.{Scene}
 use Rattle.capcore.specs.declared.event.Event.{Event}
 use Rattle.capcore.specs.declared.outcome.Ended.{Ended}
@@ -10,13 +12,18 @@ use Rattle.capcore.specs.State.{State}
 use Rattle.capcore.specs.Answered.{IsAnswered}
 use Rattle.capcore.specs.Direct.{Answer, direct, reply_of, shown, has_list}
 use Rattle.capcore.specs.Judge.{judged}
+use Rattle.capcore.specs.Known.{known_in, AreKnown, StillKept}
+use Rattle.capcore.specs.Touching.{Knows}
 use Rattle.capcore.specs.Serves.{EndsWith}
 use Rattle.capcore.specs.Sound.{IsSound, NumbersLeft}
 use Rattle.capcore.specs.Step.{earlier}
 use Rattle.capcore.specs.Touch.{touch_event, touch_tests, touch_answer}
-use Rattle.capcore.proofs.Closing.{first-quiet, first-numbers, first-clients, first-locked, told-all, closed}
+use Rattle.capcore.proofs.Closing.{first-quiet, first-numbers, first-clients, first-locked, told-all, closed-known, closed}
+use Rattle.capcore.proofs.Knowing.{held_at, HoldAlike, known-alike, still-room, still-knows, still-all}
+use Rattle.capcore.proofs.OfInode.{event-table}
 use Rattle.capcore.proofs.Stops.{stopped-answered}
-use Rattle.capcore.proofs.TouchWhole.{passed-of, table-of, first-is, touch-answered, touched-by, touch-reply, no_list-touch}
+use Rattle.capcore.proofs.TouchKept.{touch-less}
+use Rattle.capcore.proofs.TouchWhole.{passed-of, table-of, first-is, touch-answered, touched-by, touch-reply, no_list-touch, tell-alike}
 use Rattle.capcore.proofs.Touched.{touched-tests}
 use Rattle.capcore.proofs.world.World.touch.Goals as goal
 use Rattle.capcore.proofs.world.World.touch.Goals.{In_default-touch_entry, After-close}
@@ -35,8 +42,16 @@ pub touch_entry-requires-clause-passed : goal.touch_entry-requires-clause-passed
 touch_entry-requires-clause-passed c =
     let old : State = record { scene = record { fs = c.self.inside.fs; tree = c.self.inside.tree; sessions = c.self.inside.sessions; table = c.self.inside.table; locks = c.self.inside.locks }; messages = c.self.inside.messages.items } in
     let k : Holder = holder c.args.client c.args.ino in
-    subst (λ revoked. first_failing (touch_tests c.self.inside.table k revoked c.args.touch) ≡ None) (sym (c.revoked_of-revoked.ensures old.scene refl refl))
+    subst (λ revoked. first_failing (touch_tests c.self.inside.table k revoked c.args.touch) ≡ None) (sym (c.revoked_of-revoked.ensures old.scene refl c.self.invariant.2))
     (touched-tests old.scene c.args.client c.args.ino c.args.touch (passed-of old c.args.self.now c.args.client c.args.ino c.args.touch c.touch_stop.result c.self.view_is c.touch_stop.ensures c.in_default.is))
+
+-- for want of memory the entries are as they were, and all is still known
+pub invariant_of-self : goal.invariant_of-self
+invariant_of-self c =
+    let s : Scene = record { fs = c.self.inside.fs; tree = c.self.inside.tree; sessions = c.self.inside.sessions; table = c.self.inside.table; locks = c.self.inside.locks } in
+    let still : StillKept c.self.inside.table c.self.inside.table c.self.inside.known.sets c.touch_entry.new.known.sets =
+    subst (λ (t : Table). StillKept c.self.inside.table t c.self.inside.known.sets c.touch_entry.new.known.sets) c.in-Err.ensures.err c.touch_entry.ensures.known in
+    rw c.in-Err.ensures.err (c.self.invariant.0, c.self.invariant.1, still-all c.self.inside.known.sets c.touch_entry.new.known.sets s c.self.invariant.2 still)
 
 -- ---- the event by itself
 
@@ -59,7 +74,25 @@ module _ (c : In_default-touch_entry) where
   is : first ≡ (direct old e).state.scene
   is =
       first-is old c.args.client c.args.ino c.args.touch passed c.self.invariant.0 c.oldest-oldest.ensures.sound c.touch_entry.new.table
-      (table-of old.scene k c.args.touch c.touch_entry.new.table c.revoked_of-revoked.result c.in_default-touch_entry.ensures.ok (c.revoked_of-revoked.ensures old.scene refl refl))
+      (table-of old.scene k c.args.touch c.touch_entry.new.table c.revoked_of-revoked.result c.in_default-touch_entry.ensures.ok (c.revoked_of-revoked.ensures old.scene refl c.self.invariant.2))
+
+-- what is known then
+module _ (c : In_default-touch_entry) where
+  first-table : IsTable c.touch_entry.new.table
+  first-table =
+      subst (λ (s : Scene). IsTable s.table) (sym (is c))
+      (event-table (old c) (e c) (k c) c.oldest-oldest.ensures.sound (touched-by c.args.client c.args.ino c.args.touch) (passed c))
+
+  knows : Knows (known_in c.touch_entry.new.known.sets) (old c).scene (first c).table
+  knows =
+      still-knows c.self.inside.known.sets c.touch_entry.new.known.sets (old c).scene c.touch_entry.new.table c.self.invariant.2 c.touch_entry.ensures.known first-table
+      (subst (λ (t : Table). (j : Holder) (f : Entry) → entry_at t j ≡ Some f → IsSubset f.held (held_at c.self.inside.table j)) (sym c.in_default-touch_entry.ensures.ok)
+      (touch-less c.self.inside.table (k c) c.revoked_of-revoked.result c.args.touch))
+
+pub end_at_one-requires-clause-room : goal.end_at_one-requires-clause-room
+end_at_one-requires-clause-room g =
+    let c = (goal.at.end_at_one-requires-clause-room g).In_default-touch_entry in
+    still-room c.self.inside.known.sets c.touch_entry.new.known.sets (old c).scene c.touch_entry.new.table c.self.invariant.2 c.touch_entry.ensures.known
 
 pub end_at_one-requires-clause-quiet : goal.end_at_one-requires-clause-quiet
 end_at_one-requires-clause-quiet g =
@@ -86,11 +119,16 @@ end_at_one-requires-clause-locked g =
 
 pub close-requires-clause-list : goal.close-requires-clause-list
 close-requires-clause-list c =
+    let b = (goal.at.close-requires-clause-list c).In_default-touch_entry in
     let st : State = record {
       scene = record { fs = c.self.inside.fs; tree = c.end_at_one.new.tree; sessions = c.self.inside.sessions; table = c.end_at_one.new.table; locks = c.end_at_one.new.locks };
       messages = [];
     } in
-    ap has_list (c.tell-reply.ensures.reply st refl refl) ∙ no_list-touch st (holder c.args.client c.args.ino) c.args.touch
+    let known : AreKnown c.end_at_one.new.known.sets st.scene =
+    closed-known (old b) (e b) (k b) (touched-by c.args.client c.args.ino c.args.touch) (passed b) c.self.invariant.0 c.oldest-oldest.ensures.sound (first b) (is b)
+    c.touch_entry.new.known.sets c.end_at_one.new.known.sets c.waiting.ensures.sound (knows b) st.scene c.end_at_one.new.endings.told.items c.end_at_one.ensures.ends
+    c.self.inside.known.sets c.self.invariant.2 c.touch_entry.ensures.known in
+    ap has_list (c.tell-reply.ensures.reply st refl known) ∙ no_list-touch st (holder c.args.client c.args.ino) c.args.touch
 
 module _ (c : After-close) where
   abbrev before : In_default-touch_entry
@@ -105,8 +143,13 @@ module _ (c : After-close) where
   abbrev new : State
   new = record { scene = record last { table = c.tell-reply.new.table }; messages = c.close.new.messages.items }
 
-  ends : EndsWith (λ other. other == c.args.ino.0) (first before) last told
+  ends : EndsWith (λ other. other == c.args.ino.0) c.touch_entry.new.known.sets c.end_at_one.new.known.sets (first before) last told
   ends = c.end_at_one.ensures.ends
+
+  known-last : AreKnown c.end_at_one.new.known.sets last
+  known-last =
+      closed-known (old before) (e before) (k before) (touched-by c.args.client c.args.ino c.args.touch) (passed before) c.self.invariant.0 c.oldest-oldest.ensures.sound (first before) (is before)
+      c.touch_entry.new.known.sets c.end_at_one.new.known.sets c.waiting.ensures.sound (knows before) last told ends c.self.inside.known.sets c.self.invariant.2 c.touch_entry.ensures.known
 
   all : earlier c.self.inside.locks.last told ≡ told
   all = let w = ends in told-all w.at (λ other. other == c.args.ino.0) (first before) w.settled told w.sized w.settles c.waiting.ensures.sound
@@ -119,7 +162,7 @@ module _ (c : After-close) where
   answer =
       sym
       (touch-answered (old before) c.args.client c.args.ino c.args.touch (passed before) c.self.invariant.0 c.oldest-oldest.ensures.sound c.touch_entry.new.table
-      (table-of (old before).scene (k before) c.args.touch c.touch_entry.new.table c.revoked_of-revoked.result c.in_default-touch_entry.ensures.ok (c.revoked_of-revoked.ensures (old before).scene refl refl)))
+      (table-of (old before).scene (k before) c.args.touch c.touch_entry.new.table c.revoked_of-revoked.result c.in_default-touch_entry.ensures.ok (c.revoked_of-revoked.ensures (old before).scene refl c.self.invariant.2)))
 
   new_is : new ≡ shown (direct (old before) (e before)).answer closed_as
   new_is =
@@ -130,16 +173,20 @@ module _ (c : After-close) where
   whole : IsAnswered (old before) (e before) c.close.result new
   whole =
       closed (old before) (e before) (k before) (touched-by c.args.client c.args.ino c.args.touch) (passed before) c.self.invariant.0 c.oldest-oldest.ensures.sound (first before) (is before)
-      last told ends c.end_at_one.ensures.table c.close.result new
-      (c.close.ensures.reply ∙ c.tell-reply.ensures.reply closed_as refl refl ∙ touch-reply closed_as told (k before) c.args.touch ∙ ap (reply_of closed_as told) answer)
+      c.touch_entry.new.known.sets c.end_at_one.new.known.sets c.waiting.ensures.sound (knows before) last told ends c.end_at_one.ensures.table c.close.result new
+      (c.close.ensures.reply ∙ c.tell-reply.ensures.reply closed_as refl known-last ∙ touch-reply closed_as told (k before) c.args.touch ∙ ap (reply_of closed_as told) answer)
       (c.close.ensures.kept ∙ sym c.close.ensures.reply) (c.close.ensures.ended ∙ c.end_at_one.ensures.kept ∙ sym all) new_is
 
 pub invariant_of-self-2 : goal.invariant_of-self-2
 invariant_of-self-2 c =
     let w = whole c in
     let items : length c.close.new.messages.items ≡ length c.self.inside.messages.items + length c.end_at_one.new.endings.told.items =
-    ap length c.close.ensures.items ∙ length-append c.self.inside.messages.items c.end_at_one.new.endings.told.items in
-    (w.sound, omega (arith, items, c.close.ensures.room, c.end_at_one.ensures.count, c.self.invariant.1))
+    ap length c.close.ensures.items ∙ length-append c.self.inside.messages.items c.end_at_one.new.endings.told.items in (
+      w.sound,
+      omega (arith, items, c.close.ensures.room, c.end_at_one.ensures.count, c.self.invariant.1),
+      known-alike c.end_at_one.new.known.sets (last c) c.tell-reply.new.table
+          (subst (HoldAlike c.end_at_one.new.table) (sym (ap (λ (s : State). s.scene.table) (c.tell-reply.ensures.told (closed_as c) refl))) (tell-alike (closed_as c) (holder c.args.client c.args.ino) c.args.touch)) (known-last c),
+    )
 
 pub returns-clause-answered : goal.returns-clause-answered
 returns-clause-answered c =

@@ -1,9 +1,9 @@
-use Rattle.std.proofs.Common.{◌≡◌, ◌≤◌, ◌<◌, ◌^◌, ◌-◌, ◌++◌, List, length, None, sym, ap, subst, ◌∙◌, arith, length-append}
+use Rattle.std.proofs.Common.{is_some, ◌≡◌, ◌≤◌, ◌<◌, ◌^◌, ◌-◌, ◌++◌, List, length, None, sym, ap, subst, ◌∙◌, arith, length-append}
 use Rattle.std.specs.Prelude.{All, IsTrue}
 use Rattle.std.specs.FinMap as map
 use Rattle.std.specs.Option.{option_map}
 use Rattle.sessiontab.specs.Calls.{has_session}
-use Rattle.captable.specs.Table.{IsTable}
+use Rattle.captable.specs.Table.{Table, IsTable}
 use Rattle.lockmachine.specs.Moves.{IsQuietOutside}
 use Rattle.lockmachine.specs.Scene.{Scene}
 use Rattle.capcore.specs.declared.event.Event.{Event}
@@ -12,11 +12,13 @@ use Rattle.capcore.specs.declared.stopped.Stopped.TheVariants.{ByTest}
 use Rattle.capcore.specs.State.{State}
 use Rattle.capcore.specs.Answered.{IsAnswered}
 use Rattle.capcore.specs.Judge.{judged}
+use Rattle.capcore.specs.Known.{AreKnown, StillKept}
 use Rattle.capcore.specs.Serves.{EndsWith, is_touched}
 use Rattle.capcore.specs.Sound.{IsSound, NumbersLeft}
 use Rattle.capcore.specs.Turn.{turn_event, turned, is_end, dropped_by}
 use Rattle.capcore.proofs.Stops.{stopped-answered}
-use Rattle.capcore.proofs.TurnStep.{turn-stop, waiting-locked, few-waiting, few-messages, turn-quiet, turn-locked, turn-clients, turn-numbers, turn-closed}
+use Rattle.capcore.proofs.TurnStep.{turn-stop, waiting-locked, few-waiting, few-messages, turn-quiet, turn-locked, turn-clients, turn-numbers, turn-alike, turn-known, turn-closed}
+use Rattle.capcore.proofs.Knowing.{HoldAlike, still-there, still-room}
 use Rattle.capcore.proofs.world.World.turn.Goals as goal
 use Rattle.capcore.proofs.world.World.turn.Goals.{After-leave, After-close_dropped}
 
@@ -60,6 +62,20 @@ module _ (c : After-leave) where
 
   numbers : NumbersLeft old
   numbers = subst NumbersLeft (sym c.self.view_is) c.requires.numbers
+
+-- of each entry that is left the same is kept
+module _ (c : After-leave) where
+  still : StillKept c.self.inside.table c.leave.new.table c.self.inside.known.sets c.leave.new.known.sets
+  still =
+      still-there c.self.inside.table c.leave.new.table c.self.inside.known.sets c.leave.new.known.sets
+      (λ k f there. ap is_some (subst (HoldAlike c.self.inside.table) (sym c.leave.ensures.table)
+      (turn-alike (old c) c.args.client c.args.turn (passed c) c.self.invariant.0 c.oldest-oldest.ensures.sound 1 c.in_ok-room.room.others c.in_ok-room.ensures.reaches) k f there).1)
+      (λ k f there. c.leave.ensures.known k f there)
+
+pub end_at-requires-clause-room : goal.end_at-requires-clause-room
+end_at-requires-clause-room g =
+    let c = (goal.at.end_at-requires-clause-room g).After-leave in
+    still-room c.self.inside.known.sets c.leave.new.known.sets (old c).scene c.leave.new.table c.self.invariant.2 (still c)
 
 pub end_at-requires-clause-quiet : goal.end_at-requires-clause-quiet
 end_at-requires-clause-quiet g =
@@ -121,8 +137,16 @@ module _ (g : After-close_dropped) where
   abbrev new : State
   new = record { scene = last; messages = g.close_dropped.new.messages.items }
 
-  ends : EndsWith (is_touched 1 g.in_ok-room.room.others) (turned (old c) g.args.client g.args.turn).scene last told
-  ends = subst (λ (s : Scene). EndsWith (is_touched 1 g.in_ok-room.room.others) s last told) (is c) g.end_at.ensures.ends
+  ends : EndsWith (is_touched 1 g.in_ok-room.room.others) g.leave.new.known.sets g.end_at.new.known.sets (turned (old c) g.args.client g.args.turn).scene last told
+  ends = subst (λ (s : Scene). EndsWith (is_touched 1 g.in_ok-room.room.others) g.leave.new.known.sets g.end_at.new.known.sets s last told) (is c) g.end_at.ensures.ends
+
+  still-turned : StillKept g.self.inside.table (turned (old c) g.args.client g.args.turn).scene.table g.self.inside.known.sets g.leave.new.known.sets
+  still-turned = subst (λ (t : Table). StillKept g.self.inside.table t g.self.inside.known.sets g.leave.new.known.sets) g.leave.ensures.table (still c)
+
+  known-last : AreKnown g.end_at.new.known.sets last
+  known-last =
+      turn-known (old c) g.args.client g.args.turn (passed c) g.self.invariant.0 g.oldest-oldest.ensures.sound 1 g.in_ok-room.room.others g.in_ok-room.ensures.reaches
+      g.self.inside.known.sets g.leave.new.known.sets g.end_at.new.known.sets g.waiting-waiting.ensures.sound g.self.invariant.2 still-turned last told ends
 
   items : g.close_dropped.new.messages.items ≡ (turned (old c) g.args.client g.args.turn).messages ++ told
   items = g.close_dropped.ensures.items ∙ ap (λ ms. ms ++ told) g.leave.ensures.messages
@@ -131,7 +155,7 @@ module _ (g : After-close_dropped) where
   whole =
       subst (λ (ms : List Ended). IsAnswered (old c) (e c) g.close_dropped.result (record { scene = last; messages = ms })) (sym items)
       (turn-closed (old c) g.args.client g.args.turn (passed c) g.self.invariant.0 g.oldest-oldest.ensures.sound 1 g.in_ok-room.room.others g.in_ok-room.ensures.reaches
-      g.waiting-waiting.ensures.sound last told ends g.end_at.ensures.table g.close_dropped.result g.close_dropped.ensures.reply g.close_dropped.ensures.kept
+      g.self.inside.known.sets g.leave.new.known.sets g.end_at.new.known.sets g.waiting-waiting.ensures.sound g.self.invariant.2 still-turned last told ends g.end_at.ensures.table g.close_dropped.result g.close_dropped.ensures.reply g.close_dropped.ensures.kept
       (g.close_dropped.ensures.ended ∙ (λ i. (g.leave.ensures.dropped ∙ ap (λ ms. ms ++ dropped_by (is_end g.args.turn) g.self.inside.locks g.args.client) g.in_ok-room.ensures.dropped.0) i ++ g.end_at.ensures.kept i)))
 
 pub close_dropped-requires-clause-room : goal.close_dropped-requires-clause-room
@@ -147,7 +171,7 @@ invariant_of-self-2 g =
     let few = few-messages (is_end g.args.turn) g.self.inside.messages.items g.args.client in
     let left = ap length g.leave.ensures.messages in
     let items = ap length g.close_dropped.ensures.items ∙ length-append g.leave.new.messages.items (told g) in
-    (w.sound, omega (arith, few, left, items, fewer (c g), g.leave.ensures.left, g.close_dropped.ensures.room, g.end_at.ensures.count, g.self.invariant.1))
+    (w.sound, omega (arith, few, left, items, fewer (c g), g.leave.ensures.left, g.close_dropped.ensures.room, g.end_at.ensures.count, g.self.invariant.1), known-last g)
 
 pub returns-clause-answered : goal.returns-clause-answered
 returns-clause-answered g =

@@ -1,4 +1,4 @@
-use Rattle.std.proofs.Common.{◌≡◌, ◌+◌, ◌++◌, ◌∷◌, List, length, [], None, Some, sym, ap, subst, ◌∙◌, arith}
+use Rattle.std.proofs.Common.{is_some, ◌≡◌, ◌+◌, ◌++◌, ◌∷◌, List, length, [], None, Some, sym, ap, subst, ◌∙◌, arith}
 use Rattle.std.proofs.lemmas.List.{length-append}
 use Rattle.captable.specs.declared.entry.Holder.{Holder}
 use Rattle.captable.specs.Table.{holder}
@@ -13,7 +13,7 @@ use Rattle.capcore.specs.Judge.{stop, asking_tests, waiting_tests}
 use Rattle.capcore.specs.Touching.{asks_for}
 use Rattle.capcore.specs.Untold.{but_for}
 use Rattle.capcore.proofs.Asked.{asking-room}
-use Rattle.capcore.proofs.Waits.{some-asking, room-left, few-others, wait-quiet, wait-locked, wait-differ, wait-answered}
+use Rattle.capcore.proofs.Waits.{some-asking, room-left, few-others, wait-quiet, wait-locked, wait-differ, wait-known, wait-answered}
 use Rattle.capcore.proofs.world.World.wait.Goals as goal
 use Rattle.capcore.proofs.world.World.wait.Goals.{After-oldest-oldest, After-close_with}
 
@@ -48,12 +48,15 @@ end_at_one-requires-clause-locked g =
     let c = (goal.at.end_at_one-requires-clause-locked g).After-oldest-oldest in
     wait-locked (old c) (k c) g.args.ask g.self.invariant.0 g.oldest-oldest.ensures.sound g.waiting-waiting.ensures.sound (free c) g.enqueue-ticket.new.self g.enqueue-ticket.ensures.queued
 
+pub end_at_one-requires-clause-room : goal.end_at_one-requires-clause-room
+end_at_one-requires-clause-room g = λ j f there. ap is_some (g.self.invariant.2 j f there)
+
 pub close_with-requires-clause-differ : goal.close_with-requires-clause-differ
 close_with-requires-clause-differ g =
     let c = (goal.at.close_with-requires-clause-differ g).After-oldest-oldest in
     let last : Scene = record { fs = g.self.inside.fs; tree = g.end_at_one.new.tree; sessions = g.self.inside.sessions; table = g.end_at_one.new.table; locks = g.end_at_one.new.locks } in
     wait-differ (old c) (k c) g.args.ask g.self.invariant.0 g.oldest-oldest.ensures.sound g.waiting-waiting.ensures.sound (free c) g.enqueue-ticket.new.self g.enqueue-ticket.ensures.queued
-    last g.end_at_one.new.endings.told.items
+    _ _ g.self.invariant.2 last g.end_at_one.new.endings.told.items
     g.end_at_one.ensures.ends
 
 -- ---- the end of the step
@@ -71,7 +74,7 @@ module _ (g : After-close_with) where
   whole : (e : Event) → asks_for e ≡ Some (k c, g.args.ask) → IsAnswered (old c) e g.close_with.result new
   whole =
       wait-answered (old c) (k c) g.args.ask g.self.invariant.0 g.oldest-oldest.ensures.sound g.waiting-waiting.ensures.sound (free c) g.enqueue-ticket.new.self g.enqueue-ticket.ensures.queued
-      last g.end_at_one.new.endings.told.items
+      _ _ g.self.invariant.2 last g.end_at_one.new.endings.told.items
       g.end_at_one.ensures.ends
       g.end_at_one.ensures.table g.enqueue-ticket.result g.enqueue-ticket.ensures.ticket g.close_with.result g.close_with.new.messages.items
       g.close_with.ensures.reply g.close_with.ensures.kept g.close_with.ensures.ended
@@ -87,8 +90,12 @@ invariant_of-self-2 g =
     ap length g.close_with.ensures.items ∙ length-append g.reserve.new.self.items (but_for ticket told) ∙ ap (λ (ms : List Ended). length ms + length (but_for ticket told)) g.reserve.ensures.items in
     let few = few-others ticket told in
     let queue : length g.enqueue-ticket.new.self.queue ≡ length g.self.inside.locks.queue + 1 =
-    ap (λ (l : LockMap). length l.queue) g.enqueue-ticket.ensures.queued ∙ length-append g.self.inside.locks.queue (next_request g.self.inside.locks g.args.client g.args.ino g.args.ask ∷ []) in
-    (w.sound, omega (arith, items, few, queue, g.in_default-reserve.ensures.ok, g.close_with.ensures.room, g.end_at_one.ensures.count, g.waiting-waiting.ensures.waiting))
+    ap (λ (l : LockMap). length l.queue) g.enqueue-ticket.ensures.queued ∙ length-append g.self.inside.locks.queue (next_request g.self.inside.locks g.args.client g.args.ino g.args.ask ∷ []) in (
+      w.sound,
+      omega (arith, items, few, queue, g.in_default-reserve.ensures.ok, g.close_with.ensures.room, g.end_at_one.ensures.count, g.waiting-waiting.ensures.waiting),
+      wait-known (old (c g)) (k (c g)) g.args.ask g.self.invariant.0 g.oldest-oldest.ensures.sound g.waiting-waiting.ensures.sound (free (c g)) g.enqueue-ticket.new.self g.enqueue-ticket.ensures.queued
+          _ _ g.self.invariant.2 (last g) g.end_at_one.new.endings.told.items g.end_at_one.ensures.ends,
+    )
 
 pub returns-clause-answered : goal.returns-clause-answered
 returns-clause-answered g = λ e asked. subst (λ (s : State). IsAnswered s e g.close_with.result (new g)) g.self.view_is (whole g e asked)

@@ -1,0 +1,48 @@
+-- At the end of a step that touched some inodes it is known of each entry what its client is to know of.
+use Rattle.std.proofs.Common.{◌≡◌, ℕ, Bool, true, false, Some, List, Contains, refl, sym, ap, subst, ◌∙◌, true≢false}
+use Rattle.std.specs.HashMap.{HashMap, get}
+use Rattle.capbits.specs.declared.ids.Ino.{Ino}
+use Rattle.capbits.specs.Caps.{Caps}
+use Rattle.captable.specs.declared.entry.EntryRow.{EntryRow}
+use Rattle.captable.specs.declared.entry.Holder.{Holder}
+use Rattle.captable.specs.Table.{IsTable, same, entry_of}
+use Rattle.captable.proofs.ByHolder.{row_found}
+use Rattle.lockmachine.specs.Scene.{Scene, told_set}
+use Rattle.capcore.specs.declared.outcome.Ended.{Ended}
+use Rattle.capcore.specs.State.{State}
+use Rattle.capcore.specs.Finish.{sizes_owed}
+use Rattle.capcore.specs.Known.{known_in, AreKnown, StillKept, KeptAnew}
+use Rattle.capcore.specs.Serves.{SettlesWith, EndsWith}
+use Rattle.capcore.specs.Sound.{IsSound}
+use Rattle.capcore.specs.Touching.{Touches, Knows, told_then, finished_at}
+use Rattle.capcore.proofs.Knowing.{still-known}
+use Rattle.capcore.proofs.SameOff.{row_elsewhere}
+use Rattle.capcore.proofs.SizesOwed.{sizes-known}
+
+module _ {S : Type 0} (before was now : HashMap Holder Caps S) (from : ℕ → Bool) (old touched : State) (sound : IsSound old) (old_table : IsTable old.scene.table) (table : IsTable touched.scene.table)
+    (touches : Touches from old touched) (known : AreKnown before old.scene) (still : StillKept old.scene.table touched.scene.table before was) (knows : Knows (known_in was) old.scene touched.scene.table)
+    (last : Scene) (told : List Ended) (ends : EndsWith from was now touched.scene last told) where
+  abbrev settles : SettlesWith ends.at from touched.scene ends.settled told ends.sized
+  settles = ends.settles
+
+  -- elsewhere entries are as they were
+  elsewhere : (row : EntryRow) → Contains touched.scene.table.rows row → from row.holder.ino.0 ≡ false → get same was row.holder ≡ Some (told_set old.scene row)
+  elsewhere row inside off =
+      let same_from = touches.same in
+      let inside_old : Contains old.scene.table.rows row = row_elsewhere from old.scene.table touched.scene.table same_from.entries row inside off in
+      still-known before was old.scene touched.scene.table known still row.holder row.entry row.entry
+      (ap entry_of (row_found touched.scene.table row table inside)) (ap entry_of (row_found old.scene.table row old_table inside_old))
+
+  off_from : (row : EntryRow) → ends.at row.holder.ino.0 ≡ false → from row.holder.ino.0 ≡ false
+  off_from row off = by_test (from row.holder.ino.0) refl
+    where
+      by_test : (b : Bool) → from row.holder.ino.0 ≡ b → b ≡ false
+      by_test false is = refl
+      by_test true is = let all = settles.settles in absurd (true≢false (sym (all.among row.holder.ino.0 is) ∙ off))
+
+  pub ends-known : AreKnown now last
+  ends-known =
+      subst (AreKnown now) (sym (ends.finished ∙ ap (λ (sized : List Ino). finished_at ends.at (known_in was) (sizes_owed sized ends.settled)) settles.sized_is))
+      (sizes-known ends.at from (known_in was) old touched settles.moves ends.settled sound ends.tree table touches knows settles.settles was now
+      (λ row inside off. elsewhere row inside (off_from row off))
+      (subst (λ (sized : List Ino). KeptAnew (λ k. ends.at k.ino.0) (told_then (sizes_owed sized ends.settled)) (sizes_owed sized ends.settled).table was now) settles.sized_is ends.kept))
