@@ -1,5 +1,5 @@
 /* Grants that are read once: a block says what their text says, whatever is asked; a room that is too short, a block that is cut off
- * and one with other bytes get a status or a verdict, and never a crash; eight threads ask one block. */
+ * and one with other bytes, each of its own in turn too, get a status or a verdict, and never a crash; eight threads ask one block. */
 #include "baybowl.h"
 #include "check.h"
 
@@ -15,6 +15,8 @@
 enum { ROUNDS = 20000, DAMAGES = 40000, THREADS = 8, CALLS = 125000, ROOM = 8192 };
 
 static const struct baybowl_question question = {9, 50, 7, 50, 0640, BAYBOWL_WRITE, 0};
+static const size_t absurd[] = {(size_t)BAYBOWL_MAX_LEN + 1, SIZE_MAX / 2, SIZE_MAX / 2 + 1, SIZE_MAX - 1, SIZE_MAX};
+enum { ABSURD = sizeof absurd / sizeof absurd[0] };
 static const char *const some_grants = "allow rw path=/a fsname=cephfs uid=9 gids=50,51, allow r root_squash, allow rwps path=\"/b c\"";
 
 static uint64_t seed = 1;
@@ -90,21 +92,40 @@ static void pointers(void) {
     CHECK(baybowl_grants_read("allow r", 7, TEXT("cephfs"), block, ROOM, &needed, NULL) == BAYBOWL_POINTER);
     CHECK(baybowl_grants_read(NULL, 7, TEXT("cephfs"), block, ROOM, &needed, &fault) == BAYBOWL_POINTER);
     CHECK(baybowl_grants_read("allow r", 7, NULL, 6, block, ROOM, &needed, &fault) == BAYBOWL_POINTER);
-    CHECK(baybowl_grants_read("allow r", 7, TEXT("cephfs"), block, SIZE_MAX, &needed, &fault) == BAYBOWL_LENGTH);
     memcpy(text, "allow r", 7);
     CHECK(baybowl_grants_read(text, 7, TEXT("cephfs"), block, ROOM, &needed, &fault) == BAYBOWL_POINTER);
+    CHECK(baybowl_grants_read("allow r", 7, text, 5, block, ROOM, &needed, &fault) == BAYBOWL_POINTER);
     CHECK(baybowl_grants_read("allow r", 7, TEXT("cephfs"), block, ROOM, &needed, &fault) == BAYBOWL_OK);
     CHECK(asked(block, ROOM, &answer) == BAYBOWL_OK);
     CHECK(asked(NULL, ROOM, &answer) == BAYBOWL_POINTER);
     CHECK(asked(odd, ROOM - 4, &answer) == BAYBOWL_POINTER);
-    CHECK(asked(block, SIZE_MAX, &answer) == BAYBOWL_LENGTH);
     CHECK(asked(block, ROOM, NULL) == BAYBOWL_POINTER);
     CHECK(baybowl_verdict_by(block, ROOM, NULL, 2, NULL, 0, &question, &answer) == BAYBOWL_POINTER);
-    CHECK(baybowl_verdict_by(block, ROOM, "/a", SIZE_MAX, NULL, 0, &question, &answer) == BAYBOWL_LENGTH);
     CHECK(baybowl_verdict_by(block, ROOM, "/a", 2, NULL, 3, &question, &answer) == BAYBOWL_POINTER);
-    CHECK(baybowl_verdict_by(block, ROOM, "/a", 2, NULL, SIZE_MAX, &question, &answer) == BAYBOWL_LENGTH);
+    CHECK(baybowl_verdict_by(block, ROOM, "/a", 2, (const uint32_t *)(const void *)(text + 1), 3, &question, &answer) == BAYBOWL_POINTER);
     CHECK(baybowl_verdict_by(block, ROOM, "/a", 2, NULL, 0, NULL, &answer) == BAYBOWL_POINTER);
     CHECK(baybowl_verdict_by(block, ROOM, NULL, 0, NULL, 0, &question, &answer) == BAYBOWL_OK);
+}
+
+static void lengths(void) {
+    static uint64_t room[ROOM / 8];
+    struct baybowl_block *block = (struct baybowl_block *)room;
+    struct baybowl_answer answer;
+    struct baybowl_fault fault;
+    uint64_t needed = 0;
+    CHECK(baybowl_grants_read("allow r", 7, TEXT("cephfs"), block, ROOM, &needed, &fault) == BAYBOWL_OK);
+    for (int at = 0; at < ABSURD; at++) {
+        const size_t len = absurd[at];
+        CHECK(baybowl_grants_read("allow r", len, TEXT("cephfs"), block, ROOM, &needed, &fault) == BAYBOWL_LENGTH);
+        CHECK(baybowl_grants_read("allow r", 7, "cephfs", len, block, ROOM, &needed, &fault) == BAYBOWL_LENGTH);
+        CHECK(baybowl_grants_read("allow r", 7, TEXT("cephfs"), block, len, &needed, &fault) == BAYBOWL_LENGTH);
+        CHECK(baybowl_grants_read(NULL, len, NULL, len, NULL, len, NULL, NULL) == BAYBOWL_LENGTH);
+        CHECK(asked(block, len, &answer) == BAYBOWL_LENGTH);
+        CHECK(baybowl_verdict_by(block, ROOM, "/a", len, NULL, 0, &question, &answer) == BAYBOWL_LENGTH);
+        CHECK(baybowl_verdict_by(block, ROOM, "/a", 2, NULL, len, &question, &answer) == BAYBOWL_LENGTH);
+        CHECK(baybowl_verdict_by(NULL, len, NULL, len, NULL, len, NULL, NULL) == BAYBOWL_LENGTH);
+    }
+    CHECK(asked(block, (size_t)needed, &answer) == BAYBOWL_OK && answer.grant == 0 && answer.count == 1);
 }
 
 /* A block that is shorter than it says, at each length. */
@@ -127,22 +148,61 @@ static void cut(void) {
     CHECK(asked(block, len, &answer) == BAYBOWL_BLOCK);
 }
 
-/* Blocks with other bytes, each where memory ends. */
+/* Whether a block of any bytes was answered: zeros beside a status, or a verdict of as many grants as the block says. */
+static int is_answered(const struct baybowl_block *block, size_t len, const char *path) {
+    static const struct baybowl_answer zeros;
+    struct baybowl_answer answer;
+    uint32_t status;
+    memset(&answer, 255, sizeof answer);
+    status = baybowl_verdict_by(block, len, path, strlen(path), NULL, 0, &question, &answer);
+    if (status != BAYBOWL_OK) {
+        return status == BAYBOWL_BLOCK && memcmp(&answer, &zeros, sizeof zeros) == 0;
+    }
+    for (uint32_t place = 0; place < 16; place++) {
+        if (place < answer.count ? answer.rules[place] < 1 || answer.rules[place] > 11 : answer.rules[place] != 0) {
+            return 0;
+        }
+    }
+    return answer.grant != 0 ? answer.grant <= block->count && answer.count == 0 : answer.count == block->count;
+}
+
+/* Each byte of a block is each other one in turn, and the block stands where memory ends. What counts for no grant changes nothing. */
+static void changed(void) {
+    size_t len;
+    struct baybowl_block *block = read_at_the_end(some_grants, &len);
+    const size_t used = offsetof(struct baybowl_block, entries) + block->count * sizeof block->entries[0];
+    uint8_t *bytes = (uint8_t *)block;
+    struct baybowl_answer wanted, answer;
+    CHECK(asked(block, len, &wanted) == BAYBOWL_OK);
+    for (size_t at = 0; at < len; at++) {
+        const uint8_t byte = bytes[at];
+        for (unsigned bits = 1; bits < 256; bits++) {
+            bytes[at] = (uint8_t)(byte ^ bits);
+            CHECK(is_answered(block, len, "/a/x"));
+            CHECK(is_answered(block, len, "a//x/"));
+            if (at >= used && at < sizeof *block) {
+                CHECK(asked(block, len, &answer) == BAYBOWL_OK && memcmp(&answer, &wanted, sizeof wanted) == 0);
+            }
+        }
+        bytes[at] = byte;
+    }
+    CHECK(asked(block, len, &answer) == BAYBOWL_OK && memcmp(&answer, &wanted, sizeof wanted) == 0);
+}
+
+/* Blocks with some other bytes, each where memory ends. */
 static void damaged(void) {
     size_t len;
     struct baybowl_block *block = read_at_the_end(some_grants, &len), *good = malloc(len);
     memcpy(good, block, len);
     for (int round = 0; round < DAMAGES; round++) {
-        struct baybowl_answer answer;
-        uint32_t status, bytes = 1 + below(6);
+        uint32_t bytes = 1 + below(6);
         memcpy(block, good, len);
         for (uint32_t byte = 0; byte < bytes; byte++) {
             uint32_t at = below(2) ? below(160) : below((uint32_t)len);
             ((uint8_t *)block)[at] = (uint8_t)(below(2) ? below(256) : 255);
         }
-        status = asked(block, len, &answer);
-        CHECK(status == BAYBOWL_OK || status == BAYBOWL_BLOCK);
-        CHECK(answer.grant <= 16 && answer.count <= 16);
+        CHECK(is_answered(block, len, "/a/x"));
+        CHECK(is_answered(block, len, "a//x/"));
     }
     free(good);
 }
@@ -244,7 +304,9 @@ static void threads(void) {
 int main(void) {
     rooms();
     pointers();
+    lengths();
     cut();
+    changed();
     damaged();
     same_verdicts();
     threads();
