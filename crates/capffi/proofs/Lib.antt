@@ -1,3 +1,4 @@
 pub mod Leads
 pub mod Entries
 pub mod Filled
+pub mod Slashes

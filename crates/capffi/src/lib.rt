@@ -24,7 +24,7 @@ ghost use Rattle.capffi.specs.Locks.{allowed_by};
 
 use crate::answering::{answer_of, no_answer};
 use crate::asking::{judge, permit, read_text};
-use crate::by_block::judge_by;
+use crate::by_block::tell_by;
 use crate::filling::{prepare, put_block};
 use crate::locks::{allowed_by, numbers_of, target_of};
 use crate::texts::{form, put};
@@ -144,16 +144,7 @@ pub extern "C" fn capffi_verdict_by(
 ) -> u32
     ensures { TellsVerdictBy block.now text.now path.now groups.now question.now result answer.new }
 {
-    match judge_by(alloc, block, text, path, groups, question) {
-        Ok(verdict) => {
-            *answer = answer_of(&verdict);
-            OK
-        }
-        Err(trouble) => {
-            *answer = no_answer();
-            trouble.status()
-        }
-    }
+    tell_by(alloc, block, text, path, groups, question, answer)
 }
 
 /// Whether a text is one of grants, and else its first fault.

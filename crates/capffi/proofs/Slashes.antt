@@ -1,0 +1,29 @@
+-- Pieces of a path's text, in which two slashes may stand side by side.
+use Rattle.std.proofs.Common.{◌≡◌, ℕ, ◌+◌, ◌-◌, ◌≤◌, zero, suc, Bool, true, false, List, [], ◌∷◌, drop, refl, sym, ap, subst, ◌∙◌, true≢false, arith}
+use Rattle.std.proofs.lemmas.Bool.{or_parts}
+use Rattle.std.proofs.lemmas.List.{drop-drop}
+use Rattle.capspec.specs.Names.{has_double_slash}
+
+behind_first : (b : ℕ) (bytes : List ℕ) → has_double_slash (b ∷ bytes) ≡ false → has_double_slash bytes ≡ false
+behind_first b [] none = refl
+behind_first b (c ∷ bytes) none = (or_parts _ _ none).1
+
+-- where none stand side by side, none do further on
+behind : (k : ℕ) (text : List ℕ) → has_double_slash text ≡ false → has_double_slash (drop k text) ≡ false
+behind zero text none = none
+behind (suc k) [] none = refl
+behind (suc k) (b ∷ text) none = behind k text (behind_first b text none)
+
+further : (k m : ℕ) (text : List ℕ) → k ≤ m → has_double_slash (drop k text) ≡ false → has_double_slash (drop m text) ≡ false
+further k m text before none =
+    let place : k + (m - k) ≡ m = omega arith in
+    subst (λ (n : ℕ). has_double_slash (drop n text) ≡ false) place (sym (ap has_double_slash (drop-drop (m - k) k text)) ∙ behind (m - k) (drop k text) none)
+
+between_same : (whole from later : Bool) → (whole ≡ false → from ≡ false) → (from ≡ false → later ≡ false) → later ≡ whole → from ≡ whole
+between_same false from later first second same = first refl
+between_same true true later first second same = refl
+between_same true false later first second same = absurd (true≢false (sym same ∙ second refl))
+
+-- where as much stands behind a place as in the whole, as much does behind each place before it
+pub before : (k m : ℕ) (text : List ℕ) → k ≤ m → has_double_slash (drop m text) ≡ has_double_slash text → has_double_slash (drop k text) ≡ has_double_slash text
+before k m text first same = between_same _ _ _ (behind k text) (further k m text first) same
