@@ -2,8 +2,6 @@
  * and a length that no text has are no values, so they are turned away here. Nothing else is decided here. */
 #include "exports.h"
 
-#include <string.h>
-
 #define ALIGNED(pointer, type) ((pointer) != NULL && (uintptr_t)(pointer) % _Alignof(type) == 0)
 
 /* What a text of length 0 points to. */
@@ -155,13 +153,13 @@ extern inline uint32_t baybowl_verdict_by(const struct baybowl_block *block, siz
                                           const uint32_t *groups, size_t groups_len, const struct baybowl_question *question,
                                           struct baybowl_answer *answer);
 
-uint32_t baybowl_odd_verdict_by(const struct baybowl_block *block, size_t block_len, const char *path, size_t path_len,
-                                const uint32_t *groups, size_t groups_len, const struct baybowl_question *question,
-                                struct baybowl_answer *answer) {
-    if (block_len > BAYBOWL_MAX_LEN) {
-        return BAYBOWL_LENGTH;
-    }
-    uint32_t status = first_of(text_status(path, path_len), groups_status(groups, groups_len), BAYBOWL_OK, BAYBOWL_OK);
+uint32_t baybowl_whole_verdict_by(const struct baybowl_block *block, size_t block_len, const char *path, size_t path_len,
+                                  const uint32_t *groups, size_t groups_len, const struct baybowl_question *question,
+                                  struct baybowl_answer *answer) {
+    static const struct baybowl_answer none;
+    struct baybowl_answer said;
+    uint32_t status = first_of(block_len > BAYBOWL_MAX_LEN ? BAYBOWL_LENGTH : BAYBOWL_OK, text_status(path, path_len),
+                               groups_status(groups, groups_len), BAYBOWL_OK);
     if (status != BAYBOWL_OK) {
         return status;
     }
@@ -170,11 +168,13 @@ uint32_t baybowl_odd_verdict_by(const struct baybowl_block *block, size_t block_
         return BAYBOWL_POINTER;
     }
     if (block_len < sizeof *block) {
-        memset(answer, 0, sizeof *answer);
+        *answer = none;
         return BAYBOWL_BLOCK;
     }
-    return capffi_verdict_by(block, (const uint8_t *)(block + 1), block_len - sizeof *block, bytes(path, path_len), path_len,
-                             groups_len == 0 ? no_groups : groups, groups_len, question, answer);
+    status = capffi_verdict_by(block, (const uint8_t *)(block + 1), block_len - sizeof *block, bytes(path, path_len), path_len,
+                               groups_len == 0 ? no_groups : groups, groups_len, question, &said);
+    *answer = said;
+    return status;
 }
 
 uint32_t baybowl_allowed(uint32_t part, const struct baybowl_lock *lock, uint32_t client, uint32_t *caps) {

@@ -16,6 +16,7 @@
 
 #include <stddef.h>
 #include <stdint.h>
+#include <string.h>
 
 #ifdef __cplusplus
 extern "C" {
@@ -246,13 +247,13 @@ uint32_t baybowl_grants_write(const char *grants, size_t grants_len, char *room,
 uint32_t baybowl_grants_read(const char *grants, size_t grants_len, const char *fs, size_t fs_len, struct baybowl_block *block,
                              size_t block_len, uint64_t *needed, struct baybowl_fault *fault);
 
-/* What baybowl_verdict_by calls: for pointers that are some and rooms that are long enough, and for others. No call for a program. */
-uint32_t capffi_verdict_by(const struct baybowl_block *block, const uint8_t *text, size_t text_len, const uint8_t *path,
-                           size_t path_len, const uint32_t *groups, size_t groups_len, const struct baybowl_question *question,
-                           struct baybowl_answer *answer);
-uint32_t baybowl_odd_verdict_by(const struct baybowl_block *block, size_t block_len, const char *path, size_t path_len,
-                                const uint32_t *groups, size_t groups_len, const struct baybowl_question *question,
-                                struct baybowl_answer *answer);
+/* What baybowl_verdict_by calls: the grant by which everybody may, where that is soon seen; and the whole verdict. No calls for a
+ * program: the first takes what it is given as it is. */
+uint32_t capffi_allowing(const struct baybowl_block *block, const uint8_t *text, size_t text_len, const uint8_t *path, size_t path_len,
+                         const struct baybowl_question *question);
+uint32_t baybowl_whole_verdict_by(const struct baybowl_block *block, size_t block_len, const char *path, size_t path_len,
+                                  const uint32_t *groups, size_t groups_len, const struct baybowl_question *question,
+                                  struct baybowl_answer *answer);
 
 /* The verdict of the grants that a block says, on the file system that it says: as baybowl_verdict on the text and the name that
  * baybowl_grants_read was given. `block_len` is how long the room is, at least `needed`.
@@ -260,19 +261,25 @@ uint32_t baybowl_odd_verdict_by(const struct baybowl_block *block, size_t block_
  * BAYBOWL_GROUPS, BAYBOWL_PATH, BAYBOWL_MODE, BAYBOWL_ACCESS. Else BAYBOWL_MEMORY, BAYBOWL_POINTER, BAYBOWL_LENGTH.
  * It takes memory only for a path that is not a '/' before each name and nothing else, or has 64 bytes or more. Any number of
  * threads may ask one block, as long as none writes it. A block that was overwritten gets BAYBOWL_BLOCK, or the verdict of the
- * grants that it then says: what is read of it stays within `block_len`. `answer` may not overlap with what is read.
- * It is inline, since a server asks often: what a compiler sees of the pointers need not be tested, and the rest costs no call. */
+ * grants that it then says: what is read of it stays within `block_len`.
+ * It is inline, since a server asks often: what a compiler sees of the pointers need not be tested. */
 inline uint32_t baybowl_verdict_by(const struct baybowl_block *block, size_t block_len, const char *path, size_t path_len,
                                    const uint32_t *groups, size_t groups_len, const struct baybowl_question *question,
                                    struct baybowl_answer *answer) {
     const uintptr_t words = (uintptr_t)groups | (uintptr_t)question | (uintptr_t)answer;
-    if (block == NULL || path == NULL || groups == NULL || question == NULL || answer == NULL || (uintptr_t)block % 8 != 0 ||
-        words % 4 != 0 || block_len > BAYBOWL_MAX_LEN || path_len > BAYBOWL_MAX_LEN || groups_len > BAYBOWL_MAX_LEN ||
-        block_len < sizeof *block) {
-        return baybowl_odd_verdict_by(block, block_len, path, path_len, groups, groups_len, question, answer);
+    if (block != NULL && path != NULL && question != NULL && answer != NULL && (groups != NULL || groups_len == 0) &&
+        (uintptr_t)block % 8 == 0 && words % 4 == 0 && block_len >= sizeof *block && block_len <= BAYBOWL_MAX_LEN &&
+        path_len <= BAYBOWL_MAX_LEN && groups_len <= 16) {
+        const uint32_t grant =
+            capffi_allowing(block, (const uint8_t *)(block + 1), block_len - sizeof *block, (const uint8_t *)path, path_len, question);
+        if (grant != 0) {
+            answer->grant = grant;
+            answer->count = 0;
+            memset(answer->rules, 0, sizeof answer->rules);
+            return BAYBOWL_OK;
+        }
     }
-    return capffi_verdict_by(block, (const uint8_t *)(block + 1), block_len - sizeof *block, (const uint8_t *)path, path_len, groups,
-                             groups_len, question, answer);
+    return baybowl_whole_verdict_by(block, block_len, path, path_len, groups, groups_len, question, answer);
 }
 
 /* The caps of a part, as bits, that a client may hold while the part's lock is so: BAYBOWL_OK, else the first that is so of

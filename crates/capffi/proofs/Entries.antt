@@ -13,6 +13,7 @@ use Rattle.capgrant.specs.Failing.{first_failing, fails_fsname, fails_uid, fails
 use Rattle.capgrant.specs.Question.{Question}
 use Rattle.capgrant.specs.Verdict.{allows, first_failures}
 use Rattle.capffi.specs.declared.block.Entry.{Entry}
+use Rattle.capffi.specs.ByBlock.{with_groups}
 use Rattle.capffi.specs.Blocks.{grant_of, path_in, fs_in, behind, grants_in}
 
 -- what stands behind the texts of entries
@@ -142,3 +143,13 @@ unfolding first_failing
 grant_for_all q g fsname uid gids path w squash p s =
     let all = no_uid q g uid in
     rw (no_fsname q g fsname, all.0, no_gids q g gids, path, w, squash, p, s, all.1, all.2, all.3) refl
+
+-- the same for a caller with any groups
+
+pub no_grant_beside_any : (q : Question) (g : Grant) → fails_path q g ≡ true → (groups : List ℕ) → allows (with_groups q groups) g ≡ false
+unfolding fails_path
+no_grant_beside_any q g path groups = no_grant_beside (with_groups q groups) g path
+
+pub grant_for_any : (q : Question) (g : Grant) → g.fsname ≡ None → g.uid ≡ None → g.gids ≡ [] → fails_path q g ≡ false → fails_no_write q g ≡ false → fails_root_squash q g ≡ false → fails_no_p q g ≡ false → fails_no_s q g ≡ false → (groups : List ℕ) → allows (with_groups q groups) g ≡ true
+unfolding fails_path fails_no_write fails_root_squash fails_no_p fails_no_s
+grant_for_any q g fsname uid gids path w squash p s groups = grant_for_all (with_groups q groups) g fsname uid gids path w squash p s

@@ -1,8 +1,9 @@
 -- What the grants of a block say to a question.
-use Rattle.std.specs.Prelude.{◌≡◌, ◌<◌, ◌≤◌, ℕ, List, length, IsTrue, IsFalse, Some, None, Result, Ok, Err, MatchResult}
+use Rattle.std.specs.Prelude.{◌≡◌, ◌<◌, ◌≤◌, ◌⊎◌, ℕ, List, length, IsTrue, IsFalse, Some, None, Result, Ok, Err, MatchResult}
 use Rattle.capspec.specs.Names.{names_of, are_few_and_short}
 use Rattle.capgrant.specs.declared.access.Access.{Access}
 use Rattle.capgrant.specs.declared.answer.Verdict.{Verdict}
+use Rattle.capgrant.specs.declared.answer.Verdict.TheVariants.{Allowed}
 use Rattle.capgrant.specs.Question.{question}
 use Rattle.capgrant.specs.Question.{Question as Asked}
 use Rattle.capgrant.specs.Verdict.{verdict_of}
@@ -46,3 +47,15 @@ IsSaid block text path groups q said =
     MatchResult said
     (λ verdict. IsBlock block text × (length groups ≤ 16) × IsTrue (are_few_and_short (names_of path)) × IsVerdictOf block text (names_of path) groups q verdict)
     (IsBlockTrouble block text path groups q)
+
+-- the verdict is that the grant allows, whatever the groups of the caller
+abbrev pub IsAllowedFor : Block → List ℕ → List ℕ → Question → ℕ → Type 0
+IsAllowedFor block text path q grant = (groups : List ℕ) → length groups ≤ 16 → IsSaid block text path groups q (Ok (Allowed grant))
+
+-- the number is that of such a grant, or 0, which says nothing
+abbrev pub IsAllowing : Block → List ℕ → List ℕ → Question → ℕ → Type 0
+IsAllowing block text path q told = (told ≡ 0) ⊎ IsAllowedFor block text path q told
+
+-- the same question of a caller with other groups
+abbrev pub with_groups : Asked → List ℕ → Asked
+with_groups q groups = question q.fs (record { uid = q.caller.uid; gid = q.caller.gid; groups = groups }) q.path q.attr q.access

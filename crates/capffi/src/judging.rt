@@ -1,5 +1,5 @@
 //! The eleven rules on the grants of a block.
-ghost use Rattle.std.specs.Prelude.{◌≡◌, ◌<◌, ◌≤◌, ◌==◌, IfSome, IsTrue, IsFalse, Some, true, false, length, find, not, position};
+ghost use Rattle.std.specs.Prelude.{◌≡◌, ◌<◌, ◌≤◌, ◌==◌, ℕ, List, IfSome, IsTrue, IsFalse, Some, true, false, length, find, not, position};
 ghost use Rattle.std.specs.List.{list_any};
 ghost use Rattle.capbits.specs.Caller.{gids_of};
 ghost use Rattle.capgrant.specs.Access.{is_read};
@@ -9,6 +9,7 @@ ghost use Rattle.capgrant.specs.Question.{contains, listed_gids, is_owner, class
 ghost use Rattle.capgrant.specs.Rule.{attr_rules};
 ghost use Rattle.capgrant.specs.Verdict.{allows, first_failures, verdict_of};
 ghost use Rattle.capffi.specs.Blocks.{grants_in};
+ghost use Rattle.capffi.specs.ByBlock.{with_groups};
 
 use crate::block::{Entry, MAX_ENTRIES};
 use crate::given::{Given, split_grant};
@@ -70,16 +71,19 @@ fn denial(case: &Case, entries: &[Entry], text: &[u8]) -> Verdict
 }
 
 impl Case<'_> {
-    /// The place of the first grant above the inode, where it is for everybody and allows the access. Most are so, and then the
-    /// caller needs no look.
+    /// The place of the first grant above the inode, where it and those before it are for everybody, and it allows the access. The
+    /// caller's groups don't matter then.
     #[inline(always)]
     pub(crate) fn first_for_all(&self, entries: &[Entry], text: &[u8]) -> Option<usize>
         ensures within { IfSome result (λ place. place < length entries.now) }
-        ensures exact { IfSome result (λ place. Some place ≡ position (allows self.now) (grants_in entries.now text.now)) }
+        ensures exact { IfSome result (λ place. (groups : List ℕ) → Some place ≡ position (allows (with_groups self.now groups)) (grants_in entries.now text.now)) }
     {
         let mut rest = text;
         for (place, entry) in entries.iter().enumerate() {
             let (grant, behind) = split_grant(entry, rest);
+            if grant.has_uid() {
+                return None;
+            }
             if self.may_allow(&grant) {
                 return if self.lets_all(&grant) {
                     Some(place)
@@ -94,20 +98,20 @@ impl Case<'_> {
 
     // Whether the inode lies at or below the grant's path. A grant where it doesn't allows nothing.
     #[inline(always)]
-    #[tactic(auto, using(crate::proofs::Entries::no_grant_beside))]
+    #[tactic(auto, using(crate::proofs::Entries::no_grant_beside_any))]
     fn may_allow(&self, grant: &Given) -> bool
         ensures below { result ≡ not (fails_path self.now grant.now) }
-        ensures beside { IsFalse result → allows self.now grant.now ≡ false }
+        ensures beside { IsFalse result → (groups : List ℕ) → allows (with_groups self.now groups) grant.now ≡ false }
     {
         self.is_below(grant)
     }
 
     // Whether a grant above the inode is for everybody, and lets them make the access.
     #[inline(always)]
-    #[tactic(auto, using(crate::proofs::Entries::grant_for_all))]
+    #[tactic(auto, using(crate::proofs::Entries::grant_for_any))]
     fn lets_all(&self, grant: &Given) -> bool
         requires { fails_path self.now grant.now ≡ false }
-        ensures { IsTrue result → allows self.now grant.now ≡ true }
+        ensures { IsTrue result → (groups : List ℕ) → allows (with_groups self.now groups) grant.now ≡ true }
     {
         grant.is_for_all()
             && !self.fails_no_write(grant)

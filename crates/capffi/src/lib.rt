@@ -20,11 +20,12 @@ mod trouble;
 
 ghost use Rattle.std.specs.Prelude.{◌≡◌};
 ghost use Rattle.capffi.specs.Calls.{TellsVerdict, TellsPermitted, TellsCheck, TellsForm, TellsTarget, TellsVerdictBy, TellsRead, status, caps_bits};
+ghost use Rattle.capffi.specs.ByBlock.{IsAllowing};
 ghost use Rattle.capffi.specs.Locks.{allowed_by};
 
 use crate::answering::{answer_of, no_answer};
 use crate::asking::{judge, permit, read_text};
-use crate::by_block::tell_by;
+use crate::by_block::{allowing, judge_by};
 use crate::filling::{prepare, put_block};
 use crate::locks::{allowed_by, numbers_of, target_of};
 use crate::texts::{form, put};
@@ -131,6 +132,24 @@ pub extern "C" fn capffi_grants_read(
     }
 }
 
+/// The number of the grant of a block by which everybody may make an access to an inode on the block's file system, whatever their
+/// groups, where that is soon seen; else 0, and `capffi_verdict_by` has to be asked. It is for a server that asks often: all that it
+/// takes is passed in registers.
+#[unsafe(no_mangle)]
+pub extern "C" fn capffi_allowing(
+    block: &Block,
+    text: &[u8],
+    path: &[u8],
+    question: &Question,
+) -> u32
+    ensures { IsAllowing block.now text.now path.now question.now result }
+{
+    match allowing(block, text, path, question) {
+        Some(grant) => grant,
+        None => 0,
+    }
+}
+
 /// Whether the grants of a block let a caller make an access to an inode on the block's file system.
 #[unsafe(no_mangle)]
 pub extern "C" fn capffi_verdict_by(
@@ -144,7 +163,16 @@ pub extern "C" fn capffi_verdict_by(
 ) -> u32
     ensures { TellsVerdictBy block.now text.now path.now groups.now question.now result answer.new }
 {
-    tell_by(alloc, block, text, path, groups, question, answer)
+    match judge_by(alloc, block, text, path, groups, question) {
+        Ok(verdict) => {
+            *answer = answer_of(&verdict);
+            OK
+        }
+        Err(trouble) => {
+            *answer = no_answer();
+            trouble.status()
+        }
+    }
 }
 
 /// Whether a text is one of grants, and else its first fault.

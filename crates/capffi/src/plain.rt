@@ -35,17 +35,31 @@ fn has_double_slash(path: &[u8]) -> bool
     }
 }
 
-// The same, byte by byte.
+// The same, byte by byte: one of two that stand side by side has an odd place.
 #[inline(always)]
 fn has_double_slash_in_few(path: &[u8]) -> bool
     ensures { result ≡ has_double_slash path.now }
 {
-    for place in 1..path.len() {
-        if is_double_slash(path, place) {
+    for pair in 0..path.len() / 2 {
+        if is_beside_slash(path, 2 * pair + 1) {
             return true;
         }
     }
     false
+}
+
+// Whether a byte is a slash, and so is the one before it or behind it.
+#[inline(always)]
+#[tactic(auto, using(capspec::proofs::OneText::pair_step, capspec::proofs::OneText::no_pair))]
+fn is_beside_slash(path: &[u8], place: usize) -> bool
+    requires behind { 0 < place }
+    requires inside { place < length path.now }
+    ensures { has_double_slash (drop (place - 1) path.now) ≡ (result || has_double_slash (drop (place + 1) path.now)) }
+{
+    if path[place] != b'/' {
+        return false;
+    }
+    is_double_slash(path, place) || (place + 1 < path.len() && is_double_slash(path, place + 1))
 }
 
 // Whether the bytes before a place and at it are slashes.
