@@ -1,5 +1,6 @@
 /* Grants that are read once: a block says what their text says, whatever is asked; a room that is too short, a block that is cut off
- * and one with other bytes, each of its own in turn too, get a status or a verdict, and never a crash; eight threads ask one block. */
+ * and one with other bytes, each of its own in turn too, get a status or a verdict, and never a crash; eight threads ask the same
+ * blocks. */
 #include "baybowl.h"
 #include "check.h"
 
@@ -18,6 +19,8 @@ static const struct baybowl_question question = {9, 50, 7, 50, 0640, BAYBOWL_WRI
 static const size_t absurd[] = {(size_t)BAYBOWL_MAX_LEN + 1, SIZE_MAX / 2, SIZE_MAX / 2 + 1, SIZE_MAX - 1, SIZE_MAX};
 enum { ABSURD = sizeof absurd / sizeof absurd[0] };
 static const char *const some_grants = "allow rw path=/a fsname=cephfs uid=9 gids=50,51, allow r root_squash, allow rwps path=\"/b c\"";
+/* Grants for everybody, which are answered another way. */
+static const char *const open_grants = "allow rwps path=/b, allow rw path=/a/long/path/to/somewhere, allow rw path=/a root_squash, allow r";
 
 static uint64_t seed = 1;
 
@@ -166,10 +169,14 @@ static int is_answered(const struct baybowl_block *block, size_t len, const char
     return answer.grant != 0 ? answer.grant <= block->count && answer.count == 0 : answer.count == block->count;
 }
 
+static int are_answered(const struct baybowl_block *block, size_t len) {
+    return is_answered(block, len, "/a/x") && is_answered(block, len, "a//x/") && is_answered(block, len, "/a/long/path/to/somewhere/else");
+}
+
 /* Each byte of a block is each other one in turn, and the block stands where memory ends. What counts for no grant changes nothing. */
-static void changed(void) {
+static void changed(const char *grants) {
     size_t len;
-    struct baybowl_block *block = read_at_the_end(some_grants, &len);
+    struct baybowl_block *block = read_at_the_end(grants, &len);
     const size_t used = offsetof(struct baybowl_block, entries) + block->count * sizeof block->entries[0];
     uint8_t *bytes = (uint8_t *)block;
     struct baybowl_answer wanted, answer;
@@ -178,8 +185,7 @@ static void changed(void) {
         const uint8_t byte = bytes[at];
         for (unsigned bits = 1; bits < 256; bits++) {
             bytes[at] = (uint8_t)(byte ^ bits);
-            CHECK(is_answered(block, len, "/a/x"));
-            CHECK(is_answered(block, len, "a//x/"));
+            CHECK(are_answered(block, len));
             if (at >= used && at < sizeof *block) {
                 CHECK(asked(block, len, &answer) == BAYBOWL_OK && memcmp(&answer, &wanted, sizeof wanted) == 0);
             }
@@ -190,9 +196,9 @@ static void changed(void) {
 }
 
 /* Blocks with some other bytes, each where memory ends. */
-static void damaged(void) {
+static void damaged(const char *grants) {
     size_t len;
-    struct baybowl_block *block = read_at_the_end(some_grants, &len), *good = malloc(len);
+    struct baybowl_block *block = read_at_the_end(grants, &len), *good = malloc(len);
     memcpy(good, block, len);
     for (int round = 0; round < DAMAGES; round++) {
         uint32_t bytes = 1 + below(6);
@@ -201,8 +207,7 @@ static void damaged(void) {
             uint32_t at = below(2) ? below(160) : below((uint32_t)len);
             ((uint8_t *)block)[at] = (uint8_t)(below(2) ? below(256) : 255);
         }
-        CHECK(is_answered(block, len, "/a/x"));
-        CHECK(is_answered(block, len, "a//x/"));
+        CHECK(are_answered(block, len));
     }
     free(good);
 }
@@ -255,7 +260,7 @@ static void same_verdicts(void) {
         struct baybowl_question q = {below(3), below(3), below(3), below(4), below(040) ? below(010000) : 010000, below(8), below(3)};
         uint64_t needed = 0;
         size_t grants_len = make_grants(grants);
-        size_t path_len = make_path(path, below(20) == 0 ? 33 : 5, below(4) == 0 ? "//" : "/");
+        size_t path_len = make_path(path, below(20) == 0 ? 33 : below(3) == 0 ? 16 : 5, below(4) == 0 ? "//" : "/");
         size_t skip = path_len > 0 && below(8) == 0, groups_len = below(30) == 0 ? 17 : below(4);
         uint32_t status = baybowl_grants_read(grants, grants_len, TEXT("cephfs"), block, sizeof room, &needed, &fault);
         CHECK(status == BAYBOWL_OK && needed <= BAYBOWL_BLOCK_ROOM(grants_len));
@@ -271,18 +276,40 @@ static void same_verdicts(void) {
     CHECK(allowed > ROUNDS / 20 && denied > ROUNDS / 20 && none > ROUNDS / 50);
 }
 
-static struct baybowl_block *shared;
-static size_t shared_len;
+/* Two slashes side by side, at each place of paths of each length: what is asked of a block is answered as what is asked of its text. */
+static void slashes(void) {
+    static const char *const grants = "allow rw path=/aaa/aaaa, allow rw path=/aaa, allow r path=/aaaa, allow r path=/aaaa/aaaaaaaaaaaaaaaa";
+    char path[80];
+    size_t len;
+    struct baybowl_block *block = read_at_the_end(grants, &len);
+    for (size_t path_len = 2; path_len < sizeof path; path_len++) {
+        for (size_t at = 1; at < path_len; at++) {
+            for (size_t slashes = 1; slashes <= 3 && at + slashes <= path_len; slashes++) {
+                struct baybowl_answer by, answer;
+                struct baybowl_fault fault;
+                memset(path, 'a', sizeof path);
+                path[0] = '/';
+                memset(path + at, '/', slashes);
+                CHECK(baybowl_verdict(TEXT(grants), TEXT("cephfs"), path, path_len, NULL, 0, &question, &answer, &fault) == BAYBOWL_OK);
+                CHECK(baybowl_verdict_by(block, len, path, path_len, NULL, 0, &question, &by) == BAYBOWL_OK);
+                CHECK(memcmp(&by, &answer, sizeof by) == 0);
+            }
+        }
+    }
+}
+
+static struct baybowl_block *shared[2];
+static size_t shared_len[2];
 
 static void *ask_shared(void *given) {
     size_t *wrong = given;
     *wrong = 0;
     for (uint32_t call = 0; call < CALLS; call++) {
-        struct baybowl_question q = {call % 2 ? 9 : 8, 50, 9, 50, 0640, call % 3 ? BAYBOWL_WRITE : BAYBOWL_READ, 0};
+        struct baybowl_question q = {call % 2 ? 9 : 0, 50, 9, 50, 0640, call % 3 ? BAYBOWL_WRITE : BAYBOWL_READ, 0};
         struct baybowl_answer answer;
-        /* The first grant is for user 9, the second lets all read. */
-        uint32_t grant = call % 2 ? 1 : call % 3 ? 0 : 2;
-        uint32_t status = baybowl_verdict_by(shared, shared_len, TEXT("/a/x"), NULL, 0, &q, &answer);
+        /* Of some_grants the first is for user 9 and the second lets all read; of open_grants the third lets all but root write. */
+        uint32_t is_open = call / 6 % 2, grant = is_open ? call % 2 || call % 3 == 0 ? 3 : 0 : call % 2 ? 1 : call % 3 ? 0 : 2;
+        uint32_t status = baybowl_verdict_by(shared[is_open], shared_len[is_open], TEXT("/a/x"), NULL, 0, &q, &answer);
         *wrong += status != BAYBOWL_OK || answer.grant != grant;
     }
     return NULL;
@@ -291,7 +318,8 @@ static void *ask_shared(void *given) {
 static void threads(void) {
     pthread_t running[THREADS];
     size_t wrong[THREADS];
-    shared = read_at_the_end(some_grants, &shared_len);
+    shared[0] = read_at_the_end(some_grants, &shared_len[0]);
+    shared[1] = read_at_the_end(open_grants, &shared_len[1]);
     for (size_t at = 0; at < THREADS; at++) {
         CHECK(pthread_create(&running[at], NULL, ask_shared, &wrong[at]) == 0);
     }
@@ -306,8 +334,11 @@ int main(void) {
     pointers();
     lengths();
     cut();
-    changed();
-    damaged();
+    changed(some_grants);
+    changed(open_grants);
+    damaged(some_grants);
+    damaged(open_grants);
+    slashes();
     same_verdicts();
     threads();
     return told();

@@ -1,5 +1,5 @@
 -- What stands in a block that was filled.
-use Rattle.std.proofs.Common.{◌≡◌, ◌⊎◌, ℕ, ◌+◌, ◌<◌, ◌≤◌, suc, Bool, true, false, eqb, not, List, [], ◌∷◌, ◌++◌, length, take, drop, get_or, Option, Some, None, Result, Ok, Err, refl, sym, ap, subst, ◌∙◌, inl, inr, append_assoc, arith, length-append, All}
+use Rattle.std.proofs.Common.{◌≡◌, ◌⊎◌, ℕ, ◌+◌, ◌<◌, ◌≤◌, suc, Bool, true, false, eqb, not, List, [], ◌∷◌, ◌++◌, length, take, drop, get_or, Option, Some, None, Result, Ok, Err, refl, sym, ap, subst, ◌∙◌, inl, inr, append_assoc, arith, All}
 use Rattle.std.specs.Prelude.{filter_map, ◌==◌, IsTrue}
 use Rattle.std.specs.List.{AllByRecursion, list_all, slice_split, onto_first}
 use Rattle.std.proofs.lemmas.Bool.{and_parts, not-true, ne_eqb}
@@ -13,9 +13,9 @@ use Rattle.capspec.specs.Bytes.{is_mark}
 use Rattle.capspec.specs.Grants.{fsname_in, path_in, gids_in, IsSaidOnce, AreWordsOf, IsGrant, Reads}
 use Rattle.capspec.specs.Items.{Item, IsItem}
 use Rattle.capspec.specs.Items.Item.{FsName, Path, Uid, Gids, RootSquash}
-use Rattle.capspec.specs.Names.{IsFsName, names_of, slashed, are_few_and_short}
+use Rattle.capspec.specs.Names.{names_of, slashed, are_few_and_short}
 use Rattle.capspec.specs.Separated.{AreSeparated}
-use Rattle.capspec.proofs.Paths.{is_slash, has_bytes}
+use Rattle.capspec.proofs.Paths.{is_slash}
 use Rattle.capspec.proofs.Fronts.{which}
 use Rattle.capspec.proofs.Slashed.{all_in, all_filter}
 use Rattle.capgrant.specs.declared.answer.Verdict.{Verdict}
@@ -25,7 +25,7 @@ use Rattle.capffi.specs.declared.filling.Ready.{Ready}
 use Rattle.capffi.specs.declared.passed.Question.{Question}
 use Rattle.capffi.specs.declared.trouble.Trouble.{Trouble}
 use Rattle.capffi.specs.declared.trouble.Trouble.TheVariants as troubles
-use Rattle.capffi.specs.Blocks.{path_names, flags_of, unless_zero, grant_of, grants_in, behind, IsBlock}
+use Rattle.capffi.specs.Blocks.{path_names, flags_of, unless_zero, grant_of, grants_in, IsBlock}
 use Rattle.capffi.specs.ByBlock.{IsSaid, IsSaidOf, IsNumberTrouble, IsBlockTrouble}
 use Rattle.capffi.specs.Texts.{IsPut}
 use Rattle.capffi.specs.Filling.{fs_text, text_of, texts_of, block_text, IsNoneOrSome, CanBeSaid, IsEntryOf, AreEntriesOf, Says, IsPutInBlock}

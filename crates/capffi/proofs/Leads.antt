@@ -1,5 +1,5 @@
 -- Paths as texts: where the names of one are the first of another's.
-use Rattle.std.proofs.Common.{◌≡◌, ℕ, ◌<◌, ◌≤◌, suc, Bool, true, false, ◌&&◌, ◌≢◌, eqb, List, [], ◌∷◌, ◌++◌, length, take, get_or, refl, sym, ap, ◌∙◌, inl, inr, arith}
+use Rattle.std.proofs.Common.{◌≡◌, ℕ, ◌<◌, ◌≤◌, Bool, true, false, ◌&&◌, ◌≢◌, eqb, List, [], ◌∷◌, length, take, get_or, refl, sym, ap, ◌∙◌, inl, inr, arith}
 use Rattle.std.specs.Prelude.{◌↔◌, ◌==◌, IsTrue, bytes_eq}
 use Rattle.std.specs.List.{starts_with, slice_split, onto_first}
 use Rattle.std.proofs.lemmas.Bool.{eqb-true, ne_eqb}

@@ -104,7 +104,7 @@ pub extern "C" fn capffi_permitted(
     }
 }
 
-/// Puts the grants of a text on a file system into a block and the text behind it, if that fits there. `len` is how long that
+/// Puts the grants of a text on a file system into a block and the text behind it, if that fits there. `needed` is how long that
 /// text is.
 #[tactic(auto, using(crate::proofs::Filled::filled))]
 #[unsafe(no_mangle)]
@@ -114,18 +114,18 @@ pub extern "C" fn capffi_grants_read(
     fs: &[u8],
     block: &mut Block,
     text: &mut [u8],
-    len: &mut u64,
+    needed: &mut u64,
     fault: &mut Fault,
 ) -> u32
-    ensures { TellsRead grants.now fs.now block.old block.new text.old text.new len.new result fault.new }
+    ensures { TellsRead grants.now fs.now block.old block.new text.old text.new needed.new result fault.new }
 {
     match prepare(alloc, grants, fs) {
         Ok(ready) => {
             *fault = no_fault();
-            put_block(&ready, block, text, len)
+            put_block(&ready, block, text, needed)
         }
         Err(trouble) => {
-            *len = 0;
+            *needed = 0;
             *fault = trouble.fault();
             trouble.status()
         }
@@ -164,8 +164,8 @@ pub extern "C" fn capffi_verdict_by(
     ensures { TellsVerdictBy block.now text.now path.now groups.now question.now result answer.new }
 {
     match judge_by(alloc, block, text, path, groups, question) {
-        Ok(verdict) => {
-            *answer = answer_of(&verdict);
+        Ok(said) => {
+            *answer = answer_of(&said);
             OK
         }
         Err(trouble) => {

@@ -1,4 +1,4 @@
-use Rattle.std.proofs.Common.{ℕ, List, rules, sym}
+use Rattle.std.proofs.Common.{ℕ, List, rules}
 use Rattle.capgrant.proofs.Verdicts.{allowed_at}
 use Rattle.capffi.proofs.by_block.first_for_all.Goals as goal
 

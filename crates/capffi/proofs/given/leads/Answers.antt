@@ -1,4 +1,4 @@
-use Rattle.std.proofs.Common.{◌<◌, length, arith}
+use Rattle.std.proofs.Common.{arith}
 use Rattle.capffi.proofs.Leads.{root_below}
 use Rattle.capffi.proofs.given.leads.Goals as goal
 

@@ -1,4 +1,4 @@
-use Rattle.std.proofs.Common.{◌∙◌, ℕ, List, arith, refl, sym}
+use Rattle.std.proofs.Common.{◌∙◌, ℕ, List, refl}
 use Rattle.capffi.proofs.Entries.{rest_more, none_more, found_here}
 use Rattle.capffi.proofs.judging.Case.first_for_all.Goals as goal
 
