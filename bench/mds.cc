@@ -2,9 +2,12 @@
 // it. It is what MDSAuthCaps of version 16 exports; the program's own globals are made before main.
 //
 //     MDS_WORK="GRANTS NAMES IDS N"    N verdicts on a write, by the grants of bench/count, read once
+//     MDS_TIME="GRANTS NAMES IDS N"    the time of one such verdict, of the program and of the library
 //     MDS_ASK="SEED N"                 N random questions, each of the program and of the library, by a block and by a text
 #include "baybowl.h"
 
+#include <algorithm>
+#include <chrono>
 #include <dlfcn.h>
 #include <cstdio>
 #include <cstdlib>
@@ -170,37 +173,96 @@ int ask(const char *work) {
     return differing != 0;
 }
 
-int run(int, char **, char **) {
-    int count, depth, has_ids;
+// A cell of the table: the grants of bench/count, read once, and the inode's path.
+struct Cell {
     long times;
-    if (!make_context()) {
-        return 2;
+    std::string grants, path;
+};
+
+bool read_cell(const char *work, Cell &cell) {
+    int count, depth, has_ids;
+    if (sscanf(work, "%d %d %d %ld", &count, &depth, &has_ids, &cell.times) != 4) {
+        return false;
     }
-    if (getenv("MDS_ASK") != nullptr) {
-        const int status = ask(getenv("MDS_ASK"));
-        fflush(stdout);
-        _Exit(status);
-    }
-    if (sscanf(getenv("MDS_WORK"), "%d %d %d %ld", &count, &depth, &has_ids, &times) != 4) {
-        return 2;
-    }
-    std::string path;
+    cell.grants = make_grants(count, depth, has_ids != 0);
     for (int name = 0; name < depth; name++) {
-        path += (name > 0 ? "/p" : "p") + std::to_string(name);
+        cell.path += (name > 0 ? "/p" : "p") + std::to_string(name);
     }
+    return true;
+}
+
+// How many of the verdicts of a cell allow, by the program.
+long mds_verdicts(const Cell &cell) {
     static MDSAuthCaps caps;
     static entity_addr_t address;
     const std::vector<unsigned long> groups{1001};
-    if (!caps.parse(make_grants(count, depth, has_ids != 0), nullptr)) {
-        return 1;
+    if (!caps.parse(cell.grants, nullptr)) {
+        return -1;
     }
     long allowed = 0;
-    for (long left = times; left > 0; left--) {
-        allowed += caps.is_capable(path, 1000, 1000, 0644, 1000, 1000, &groups, WRITE, 0, 0, address);
+    for (long left = cell.times; left > 0; left--) {
+        allowed += caps.is_capable(cell.path, 1000, 1000, 0644, 1000, 1000, &groups, WRITE, 0, 0, address);
     }
-    printf("allowed %ld\n", allowed);
+    return allowed;
+}
+
+// The same by the library.
+long library_verdicts(const Cell &cell) {
+    static uint64_t room[4096];
+    const auto block = reinterpret_cast<baybowl_block *>(room);
+    const baybowl_question question{1000, 1000, 1000, 1000, 0644, BAYBOWL_WRITE, 0};
+    const uint32_t groups[] = {1001};
+    const std::string path = "/" + cell.path;
+    baybowl_fault fault;
+    uint64_t needed;
+    if (baybowl_grants_read(cell.grants.data(), cell.grants.size(), "cephfs", 6, block, sizeof room, &needed, &fault) != BAYBOWL_OK) {
+        return -1;
+    }
+    long allowed = 0;
+    for (long left = cell.times; left > 0; left--) {
+        baybowl_answer answer;
+        baybowl_verdict_by(block, needed, path.data(), path.size(), groups, 1, &question, &answer);
+        allowed += answer.grant != 0;
+    }
+    return allowed;
+}
+
+// Prints the nanoseconds of one verdict, of the least of five turns.
+int time_both(const Cell &cell) {
+    using Clock = std::chrono::steady_clock;
+    double least[2] = {1e18, 1e18};
+    for (int turn = 0; turn < 10; turn++) {
+        const auto begin = Clock::now();
+        if ((turn % 2 == 0 ? mds_verdicts(cell) : library_verdicts(cell)) != cell.times) {
+            return 1;
+        }
+        const std::chrono::duration<double, std::nano> taken = Clock::now() - begin;
+        least[turn % 2] = std::min(least[turn % 2], taken.count() / double(cell.times));
+    }
+    printf("%.1f %.1f\n", least[0], least[1]);
+    return 0;
+}
+
+int run(int, char **, char **) {
+    const char *ask_work = getenv("MDS_ASK"), *time_work = getenv("MDS_TIME"), *work = getenv("MDS_WORK");
+    Cell cell;
+    int status = 2;
+    if (!make_context()) {
+        return status;
+    }
+    if (ask_work != nullptr) {
+        status = ask(ask_work);
+    } else if (read_cell(time_work != nullptr ? time_work : work, cell)) {
+        if (time_work != nullptr) {
+            status = time_both(cell);
+        } else {
+            const long allowed = mds_verdicts(cell);
+            printf("allowed %ld\n", allowed);
+            status = allowed != cell.times;
+        }
+    }
     fflush(stdout);
-    _Exit(allowed != times);
+    _Exit(status);
 }
 
 }  // namespace
@@ -209,5 +271,6 @@ extern "C" int __libc_start_main(int (*main)(int, char **, char **), int argc, c
                                  void (*rtld_fini)(), void *stack_end) {
     auto start = reinterpret_cast<decltype(&__libc_start_main)>(dlsym(RTLD_NEXT, "__libc_start_main"));
     bool is_mds = dlsym(RTLD_DEFAULT, "_ZN11MDSAuthCaps13set_allow_allEv") != nullptr;
-    return start(is_mds && (getenv("MDS_WORK") != nullptr || getenv("MDS_ASK") != nullptr) ? run : main, argc, argv, init, fini, rtld_fini, stack_end);
+    bool has_work = getenv("MDS_WORK") != nullptr || getenv("MDS_ASK") != nullptr || getenv("MDS_TIME") != nullptr;
+    return start(is_mds && has_work ? run : main, argc, argv, init, fini, rtld_fini, stack_end);
 }

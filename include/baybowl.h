@@ -10,6 +10,8 @@
  *   - keeps nothing and gives back all memory that it took before it returns. So any number of threads may be in calls at once,
  *     as long as no thread writes what another's call reads or writes.
  *   - is not for a signal handler, nor for the forked child of a process with threads, since it may call malloc and free.
+ *
+ * It is for C since C99, and for C++.
  */
 #ifndef BAYBOWL_H
 #define BAYBOWL_H
