@@ -249,8 +249,8 @@ uint32_t baybowl_grants_write(const char *grants, size_t grants_len, char *room,
 uint32_t baybowl_grants_read(const char *grants, size_t grants_len, const char *fs, size_t fs_len, struct baybowl_block *block,
                              size_t block_len, uint64_t *needed, struct baybowl_fault *fault);
 
-/* What baybowl_verdict_by calls: the grant by which everybody may, where that is soon seen; and the whole verdict. No calls for a
- * program: the first takes what it is given as it is. */
+/* What baybowl_verdict_by calls: the grant for every user that allows, where that is soon seen, or 0; and the whole verdict. No calls
+ * for a program: the first takes what it is given as it is. */
 uint32_t capffi_allowing(const struct baybowl_block *block, const uint8_t *text, size_t text_len, const uint8_t *path, size_t path_len,
                          const struct baybowl_question *question);
 uint32_t baybowl_whole_verdict_by(const struct baybowl_block *block, size_t block_len, const char *path, size_t path_len,

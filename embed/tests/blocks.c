@@ -20,7 +20,8 @@ static const size_t absurd[] = {(size_t)BAYBOWL_MAX_LEN + 1, SIZE_MAX / 2, SIZE_
 enum { ABSURD = sizeof absurd / sizeof absurd[0] };
 static const char *const some_grants = "allow rw path=/a fsname=cephfs uid=9 gids=50,51, allow r root_squash, allow rwps path=\"/b c\"";
 /* Grants for everybody, which are answered another way. */
-static const char *const open_grants = "allow rwps path=/b, allow rw path=/a/long/path/to/somewhere, allow rw path=/a root_squash, allow r";
+static const char *const open_grants =
+    "allow rwps path=/b, allow rw path=/a/long/path/to/somewhere, allow rw path=/a fsname=cephfs root_squash, allow r";
 
 static uint64_t seed = 1;
 

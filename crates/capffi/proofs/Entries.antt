@@ -126,10 +126,6 @@ no_grant_beside q g path = elim (which (fails_fsname q g)) [
   ]
 ]
 
-no_fsname : (q : Question) (g : Grant) → g.fsname ≡ None → fails_fsname q g ≡ false
-unfolding fails_fsname
-no_fsname q g is = rw is refl
-
 no_uid : (q : Question) (g : Grant) → g.uid ≡ None → (fails_uid q g ≡ false) × (fails_not_owner q g ≡ false) × (fails_not_own_group q g ≡ false) × (fails_mode_bits q g ≡ false)
 unfolding fails_uid fails_not_owner fails_not_own_group fails_mode_bits
 no_uid q g is = rw is (refl, refl, refl, refl)
@@ -138,11 +134,11 @@ no_gids : (q : Question) (g : Grant) → g.gids ≡ [] → fails_gids q g ≡ fa
 unfolding fails_gids
 no_gids q g is = rw is refl
 
-pub grant_for_all : (q : Question) (g : Grant) → g.fsname ≡ None → g.uid ≡ None → g.gids ≡ [] → fails_path q g ≡ false → fails_no_write q g ≡ false → fails_root_squash q g ≡ false → fails_no_p q g ≡ false → fails_no_s q g ≡ false → allows q g ≡ true
+pub grant_for_all : (q : Question) (g : Grant) → fails_fsname q g ≡ false → g.uid ≡ None → g.gids ≡ [] → fails_path q g ≡ false → fails_no_write q g ≡ false → fails_root_squash q g ≡ false → fails_no_p q g ≡ false → fails_no_s q g ≡ false → allows q g ≡ true
 unfolding first_failing
 grant_for_all q g fsname uid gids path w squash p s =
     let all = no_uid q g uid in
-    rw (no_fsname q g fsname, all.0, no_gids q g gids, path, w, squash, p, s, all.1, all.2, all.3) refl
+    rw (fsname, all.0, no_gids q g gids, path, w, squash, p, s, all.1, all.2, all.3) refl
 
 -- the same for a caller with any groups
 
@@ -150,6 +146,6 @@ pub no_grant_beside_any : (q : Question) (g : Grant) → fails_path q g ≡ true
 unfolding fails_path
 no_grant_beside_any q g path groups = no_grant_beside (with_groups q groups) g path
 
-pub grant_for_any : (q : Question) (g : Grant) → g.fsname ≡ None → g.uid ≡ None → g.gids ≡ [] → fails_path q g ≡ false → fails_no_write q g ≡ false → fails_root_squash q g ≡ false → fails_no_p q g ≡ false → fails_no_s q g ≡ false → (groups : List ℕ) → allows (with_groups q groups) g ≡ true
-unfolding fails_path fails_no_write fails_root_squash fails_no_p fails_no_s
+pub grant_for_any : (q : Question) (g : Grant) → fails_fsname q g ≡ false → g.uid ≡ None → g.gids ≡ [] → fails_path q g ≡ false → fails_no_write q g ≡ false → fails_root_squash q g ≡ false → fails_no_p q g ≡ false → fails_no_s q g ≡ false → (groups : List ℕ) → allows (with_groups q groups) g ≡ true
+unfolding fails_fsname fails_path fails_no_write fails_root_squash fails_no_p fails_no_s
 grant_for_any q g fsname uid gids path w squash p s groups = grant_for_all (with_groups q groups) g fsname uid gids path w squash p s

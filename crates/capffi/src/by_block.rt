@@ -17,13 +17,13 @@ use capspec::TreePath;
 use std::alloc::{AllocError, Global};
 
 /// The number of the grant by which a block allows an access whatever the groups of the caller: where the first grant above the inode
-/// and those before it are for everybody, and the inode is not the root. Most are so. Else the whole verdict has to be asked for.
+/// and those before it are for every user, and the inode is not the root. Else the whole verdict has to be asked for.
 #[inline(always)]
 #[tactic(auto, using(crate::proofs::Filled::said_of_text))]
 pub(crate) fn allowing(block: &Block, text: &[u8], path: &[u8], question: &Question) -> Option<u32>
     ensures { IfSome result (λ grant. IsAllowedFor block.now text.now path.now question.now grant) }
 {
-    if path.len() < 2 || !is_block(block, text) || !is_plain(path) {
+    if path.len() < 2 || !is_plain(path) || !is_block(block, text) {
         return None;
     }
     let grant = first_for_all(block, text, path, question)?;

@@ -1,5 +1,5 @@
 //! A grant as it stands in a block.
-ghost use Rattle.std.specs.Prelude.{◌≡◌, ◌==◌, ◌↔◌, ◌+◌, ◌*◌, ◌<◌, ◌≤◌, IsTrue, length, slice_index, take, drop};
+ghost use Rattle.std.specs.Prelude.{◌≡◌, ◌==◌, ◌↔◌, not, ◌+◌, ◌*◌, ◌<◌, ◌≤◌, IsTrue, length, slice_index, take, drop};
 ghost use Rattle.std.specs.List.{starts_with, slice_split};
 ghost use Rattle.std.specs.Str.{bytes_eq};
 ghost use Rattle.capffi.specs.Blocks.{path_names, grant_of, path_in, fs_in, behind};
@@ -51,20 +51,19 @@ impl Given<'_> {
     ghost use Rattle.capgrant.specs.Failing.{is_some_and};
     ghost use Rattle.capffi.specs.Blocks.{path_names};
 
-    /// Whether it is for every caller, with no groups, on every file system.
+    /// Whether it is for every caller, and lists no groups.
     pub(crate) fn is_for_all(&self) -> bool
-        ensures fsname { IsTrue result → self.now.fsname ≡ None }
         ensures uid { IsTrue result → self.now.uid ≡ None }
         ensures gids { IsTrue result → self.now.gids ≡ [] }
     {
-        self.entry.fs_len == 0 && self.entry.has_uid == 0 && self.entry.gid_count == 0
+        self.entry.has_uid == 0 && self.entry.gid_count == 0
     }
 
     /// Whether it is for another file system.
     pub(crate) fn is_for_other_fs(&self, fs: &[u8]) -> bool
         ensures { result ≡ is_some_and (λ name. not (bytes_eq name fs.now)) self.now.fsname }
     {
-        self.entry.fs_len != 0 && self.fs != fs
+        self.entry.fs_len != 0 && are_apart(self.fs, fs)
     }
 
     /// Whether it is for another caller.
@@ -128,6 +127,14 @@ impl Given<'_> {
     {
         self.entry.root_squash != 0
     }
+}
+
+// Whether two names differ.
+#[inline(never)]
+fn are_apart(one: &[u8], other: &[u8]) -> bool
+    ensures { result ≡ not (bytes_eq one.now other.now) }
+{
+    one != other
 }
 
 // Whether the directory of one text is that of the other, or lies above it. What stands in front of each is its first slash.

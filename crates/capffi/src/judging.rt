@@ -118,6 +118,7 @@ impl Case<'_> {
             && !self.fails_root_squash(grant)
             && !self.fails_no_p(grant)
             && !self.fails_no_s(grant)
+            && !self.fails_fsname(grant)
     }
 
     /// The place of the first grant that allows the access.

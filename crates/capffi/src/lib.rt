@@ -132,7 +132,7 @@ pub extern "C" fn capffi_grants_read(
     }
 }
 
-/// The number of the grant of a block by which everybody may make an access to an inode on the block's file system, whatever their
+/// The number of the grant of a block that lets a caller make an access to an inode on the block's file system, whatever the caller's
 /// groups, where that is soon seen; else 0, and `capffi_verdict_by` has to be asked. It is for a server that asks often: all that it
 /// takes is passed in registers.
 #[unsafe(no_mangle)]
