@@ -118,6 +118,65 @@ uint32_t baybowl_grants_write(const char *grants, size_t grants_len, char *room,
     return status;
 }
 
+uint32_t baybowl_grants_read(const char *grants, size_t grants_len, const char *fs, size_t fs_len, struct baybowl_block *block,
+                             size_t block_len, uint64_t *needed, struct baybowl_fault *fault) {
+    /* What is written where there is no room for a block; its text never fits. */
+    struct baybowl_block none;
+    uint8_t no_text[1], *text = no_text;
+    size_t text_len = 0;
+    uint64_t len;
+    struct baybowl_fault why;
+    uint32_t status = first_of(text_status(grants, grants_len), text_status(fs, fs_len),
+                               block_len > BAYBOWL_MAX_LEN ? BAYBOWL_LENGTH : BAYBOWL_OK, BAYBOWL_OK);
+    if (status != BAYBOWL_OK) {
+        return status;
+    }
+    if ((block_len != 0 && !ALIGNED(block, struct baybowl_block)) || !ALIGNED(needed, uint64_t) ||
+        !ALIGNED(fault, struct baybowl_fault) || !are_apart(grants, grants_len, block, block_len) ||
+        !are_apart(fs, fs_len, block, block_len)) {
+        return BAYBOWL_POINTER;
+    }
+    if (block_len < sizeof *block) {
+        block = &none;
+    } else {
+        text = (uint8_t *)(block + 1);
+        text_len = block_len - sizeof *block;
+    }
+    status = capffi_grants_read(bytes(grants, grants_len), grants_len, bytes(fs, fs_len), fs_len, block, text, text_len, &len, &why);
+    *needed = status == BAYBOWL_OK || status == BAYBOWL_ROOM ? sizeof *block + len : 0;
+    *fault = why;
+    return status;
+}
+
+/* The call that the header has inline, for a program that can't take it from there. */
+extern inline uint32_t baybowl_verdict_by(const struct baybowl_block *block, size_t block_len, const char *path, size_t path_len,
+                                          const uint32_t *groups, size_t groups_len, const struct baybowl_question *question,
+                                          struct baybowl_answer *answer);
+
+uint32_t baybowl_whole_verdict_by(const struct baybowl_block *block, size_t block_len, const char *path, size_t path_len,
+                                  const uint32_t *groups, size_t groups_len, const struct baybowl_question *question,
+                                  struct baybowl_answer *answer) {
+    static const struct baybowl_answer none;
+    struct baybowl_answer said;
+    uint32_t status = first_of(block_len > BAYBOWL_MAX_LEN ? BAYBOWL_LENGTH : BAYBOWL_OK, text_status(path, path_len),
+                               groups_status(groups, groups_len), BAYBOWL_OK);
+    if (status != BAYBOWL_OK) {
+        return status;
+    }
+    if (!ALIGNED(block, struct baybowl_block) || !ALIGNED(question, struct baybowl_question) ||
+        !ALIGNED(answer, struct baybowl_answer)) {
+        return BAYBOWL_POINTER;
+    }
+    if (block_len < sizeof *block) {
+        *answer = none;
+        return BAYBOWL_BLOCK;
+    }
+    status = capffi_verdict_by(block, (const uint8_t *)(block + 1), block_len - sizeof *block, bytes(path, path_len), path_len,
+                               groups_len == 0 ? no_groups : groups, groups_len, question, &said);
+    *answer = said;
+    return status;
+}
+
 uint32_t baybowl_allowed(uint32_t part, const struct baybowl_lock *lock, uint32_t client, uint32_t *caps) {
     uint32_t said, status;
     if (!ALIGNED(lock, struct baybowl_lock) || !ALIGNED(caps, uint32_t)) {

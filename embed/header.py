@@ -12,7 +12,8 @@ from pathlib import Path
 SIZES = {"u8": (1, "uint8_t"), "u32": (4, "uint32_t"), "u64": (8, "uint64_t")}
 # What baybowl.c answers by itself, with no call of the library.
 OF_THE_SHIM = {"BAYBOWL_POINTER", "BAYBOWL_LENGTH"}
-OF_THE_HEADER = {"BAYBOWL_MAX_LEN", "BAYBOWL_FORM_ROOM", "BAYBOWL_H"}
+OF_THE_HEADER = {"BAYBOWL_MAX_LEN", "BAYBOWL_FORM_ROOM", "BAYBOWL_BLOCK_ROOM", "BAYBOWL_H"}
+STRUCT_FILES = ("passed", "block")
 
 
 @dataclass(frozen=True)
@@ -60,6 +61,10 @@ def structs_of(source):
     return found
 
 
+def all_structs(root):
+    return [it for file in STRUCT_FILES for it in structs_of(source_of(root, "capffi", file))]
+
+
 def variants_of(source, name):
     body = re.search(rf"pub enum {name} \{{(.*?)\n\}}", source, re.S)[1]
     return re.findall(r"^    (\w+)(?:\(.*\))?,$", body, re.M)
@@ -70,7 +75,7 @@ def numbers_of(root):
     crates = root / "crates"
     read = lambda path: (crates / path).read_text(encoding="utf-8")
     found = {}
-    for path in ("capffi/src/trouble.rt", "capffi/src/lib.rt"):
+    for path in ("capffi/src/trouble.rt", "capffi/src/lib.rt", "capffi/src/block.rt"):
         found |= {f"BAYBOWL_{name}": int(value) for name, value in re.findall(r"^pub const (\w+): u32 = (\d+);", read(path), re.M)}
     locks = read("capffi/src/locks.rt")
     for kind, prefix, source in (
@@ -110,7 +115,7 @@ def assertions(root):
     """A C file that compiles where the header says what the source does, as C and as C++."""
     crate = root / "crates" / "capffi" / "src"
     lines = ["#include <assert.h>", "#include <stddef.h>", '#include "baybowl.h"', ""]
-    for struct in structs_of((crate / "passed.rt").read_text(encoding="utf-8")):
+    for struct in all_structs(root):
         name = f"struct {c_struct(struct.name)}"
         lines.append(f'static_assert(sizeof({name}) == {struct.size}, "size of {name}");')
         for field in struct.fields:
@@ -130,7 +135,7 @@ def differences(root):
     named = set(re.findall(r"\b(BAYBOWL_\w+) = \d+", header)) | set(re.findall(r"#define (BAYBOWL_\w+)", header))
     known = set(numbers_of(root)) | OF_THE_SHIM | OF_THE_HEADER
     found = [f"{name}: on one side alone" for name in sorted(named ^ known)]
-    fields = {c_struct(it.name): [field.name for field in it.fields] for it in structs_of(source_of(root, "capffi", "passed"))}
+    fields = {c_struct(it.name): [field.name for field in it.fields] for it in all_structs(root)}
     told = {
         name: re.findall(r"(\w+)(?:\[\d+\])?;", body) for name, body in re.findall(r"^struct (\w+) \{(.*?)^\};", header, re.S | re.M)
     }

@@ -1,4 +1,5 @@
-"""Random questions, each asked of examples/c/explain and of `capd explain`: both have to write the same, byte for byte."""
+"""Random questions, each asked of examples/c/explain, once by a block that is filled from the grants and once by their text, and of
+`capd explain`: all have to write the same, byte for byte."""
 
 import os
 import random
@@ -82,18 +83,19 @@ def said_by(words):
 
 
 def compare(number, seed, explain, capd):
-    """Asks question `number` of both. Gives the first word of the answer, and what was said where they differ."""
+    """Asks question `number` of all. Gives the first word of the answer, and what was said where they differ."""
     values = some_question(random.Random(f"{seed}-{number}"))
-    told = said_by([explain, *[word for name, value in values.items() for word in (f"--{name}", value)]])
+    asked = [explain, *[word for name, value in values.items() for word in (f"--{name}", value)]]
+    told = [said_by([*asked, "--by", kind]) for kind in ("block", "text")]
     wanted = said_by([capd, "explain", *[f"--{name}={value}" for name, value in values.items()]])
     status, out, err = wanted
     wanted = status, out, err.replace(b"capd: ", b"explain: ", 1)
     kind = out.split(b" ")[0].decode() or f"status {status}"
-    return kind, None if told == wanted else (values, told, wanted)
+    return kind, None if told == [wanted, wanted] else (values, told, wanted)
 
 
 def ask(count, seed, explain, capd):
-    """Asks so many questions of both. Gives how many there were of each kind of answer, and those that were answered differently."""
+    """Asks so many questions. Gives how many there were of each kind of answer, and those that were answered differently."""
     kinds, differing = Counter(), []
     with ThreadPoolExecutor(os.cpu_count()) as pool:
         for kind, found in pool.map(lambda number: compare(number, seed, explain, capd), range(count)):

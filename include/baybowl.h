@@ -1,6 +1,8 @@
 /* Baybowl for C and C++: the verdict on the grants of a CephFS client, the reading and the writing of their text, the caps that
  * they permit, and the table of the locks. docs/EMBED.md says how a metadata server uses it, docs/GRANTS.md what grants mean.
  *
+ * Grants can be read once, into a block of the caller's, and asked often.
+ *
  * Every call
  *   - takes texts as bytes with a length. They need no byte 0 at the end, and may hold any byte. A text of length 0 may be NULL.
  *   - answers a status: BAYBOWL_OK, or why there is no answer. What it writes where there is none is zeros, but for
@@ -8,25 +10,31 @@
  *   - keeps nothing and gives back all memory that it took before it returns. So any number of threads may be in calls at once,
  *     as long as no thread writes what another's call reads or writes.
  *   - is not for a signal handler, nor for the forked child of a process with threads, since it may call malloc and free.
+ *
+ * It is for C since C99, and for C++.
  */
 #ifndef BAYBOWL_H
 #define BAYBOWL_H
 
 #include <stddef.h>
 #include <stdint.h>
+#include <string.h>
 
 #ifdef __cplusplus
 extern "C" {
 #endif
 
 /* The version of this header. It changes whenever a call, a struct or a number of it does; baybowl_version tells the library's. */
-#define BAYBOWL_VERSION 1
+#define BAYBOWL_VERSION 2
 
 /* How long a text may be, in bytes, and how many groups may be passed: more is BAYBOWL_LENGTH. */
 #define BAYBOWL_MAX_LEN 0x1000000
 
 /* A room that the written form of every grant text fits into, in bytes. */
 #define BAYBOWL_FORM_ROOM 0x22000
+
+/* A room that the block of a grant text of so many bytes fits into, in bytes. */
+#define BAYBOWL_BLOCK_ROOM(grants_len) (sizeof(struct baybowl_block) + 64 + (grants_len))
 
 /* What a call answers. */
 enum baybowl_status {
@@ -44,7 +52,8 @@ enum baybowl_status {
     BAYBOWL_ROOM = 11,    /* the room for the text is too short; how long the text is was written */
     BAYBOWL_MEMORY = 12,  /* no memory was left */
     BAYBOWL_POINTER = 13, /* a pointer that may not be NULL is, or is not aligned, or room and text overlap */
-    BAYBOWL_LENGTH = 14   /* a length is greater than BAYBOWL_MAX_LEN */
+    BAYBOWL_LENGTH = 14,  /* a length is greater than BAYBOWL_MAX_LEN */
+    BAYBOWL_BLOCK = 15    /* the block is shorter than it says, or was filled by no library of this version */
 };
 
 /* What is asked for. */
@@ -177,6 +186,33 @@ struct baybowl_wants {
     uint32_t wanted;      /* the caps that all clients effectively want, as bits */
 };
 
+/* A grant of a block. The text of its path, and behind it the name of its file system, stand in the text behind the block, behind
+ * those of the entries before it. */
+struct baybowl_entry {
+    uint64_t path_len;    /* how many bytes of the text are its path, with a '/' before each name */
+    uint64_t fs_len;      /* how many are the name of its file system; 0 where it is for every one */
+    uint64_t gid_count;   /* how many of its groups count */
+    uint32_t flags;       /* 0 r, 1 rw, 2 rwp, 3 rws, 4 rwps; others are r */
+    uint32_t has_uid;     /* 0 where it is for every caller */
+    uint32_t uid;         /* else the one that it is for */
+    uint32_t root_squash; /* 0 where root is as others are */
+    uint32_t gids[16];    /* the groups that count for it */
+};
+
+/* The grants of a client on a file system, read once. A text stands behind it, in the same room: first the name of the file system,
+ * then those of the entries. It has no pointer, so it may be copied and moved, together with its text; its numbers are in the order
+ * of the machine. A caller needs none of its fields: baybowl_grants_read writes it, and baybowl_verdict_by reads it. */
+struct baybowl_block {
+    uint32_t version;  /* BAYBOWL_BLOCK_VERSION */
+    uint32_t count;    /* how many entries count */
+    uint64_t text_len; /* how long the text behind the block is */
+    uint64_t fs_len;   /* how many bytes of it are the name of the file system */
+    struct baybowl_entry entries[16];
+};
+
+/* The version of a block's layout. */
+#define BAYBOWL_BLOCK_VERSION 1
+
 /* The version of the library: equal to BAYBOWL_VERSION where header and library fit. */
 uint32_t baybowl_version(void);
 
@@ -204,6 +240,49 @@ uint32_t baybowl_grants_check(const char *grants, size_t grants_len, struct bayb
  * baybowl_grants_check. Room and text may not overlap. */
 uint32_t baybowl_grants_write(const char *grants, size_t grants_len, char *room, size_t room_len, uint64_t *len,
                               struct baybowl_fault *fault);
+
+/* Reads a grant text once: writes the grants of a client on the file system `fs` as a block with its text into a room of
+ * `block_len` bytes, aligned as struct baybowl_block is. `needed` is how long a room has to be, or 0 where there are no grants.
+ * Where the room is shorter: BAYBOWL_ROOM, with `needed`, and the room as it was; so a first call with NULL and 0 tells how much is
+ * needed, and BAYBOWL_BLOCK_ROOM how much always is enough. BAYBOWL_GRANTS, then BAYBOWL_FS, else BAYBOWL_MEMORY,
+ * BAYBOWL_POINTER, BAYBOWL_LENGTH. The room may not overlap with the texts. */
+uint32_t baybowl_grants_read(const char *grants, size_t grants_len, const char *fs, size_t fs_len, struct baybowl_block *block,
+                             size_t block_len, uint64_t *needed, struct baybowl_fault *fault);
+
+/* What baybowl_verdict_by calls: the grant for every user that allows, where that is soon seen, or 0; and the whole verdict. No calls
+ * for a program: the first takes what it is given as it is. */
+uint32_t capffi_allowing(const struct baybowl_block *block, const uint8_t *text, size_t text_len, const uint8_t *path, size_t path_len,
+                         const struct baybowl_question *question);
+uint32_t baybowl_whole_verdict_by(const struct baybowl_block *block, size_t block_len, const char *path, size_t path_len,
+                                  const uint32_t *groups, size_t groups_len, const struct baybowl_question *question,
+                                  struct baybowl_answer *answer);
+
+/* The verdict of the grants that a block says, on the file system that it says: as baybowl_verdict on the text and the name that
+ * baybowl_grants_read was given. `block_len` is how long the room is, at least `needed`.
+ * The values are tested in the order block, groups, path, mode, access, and the first bad one is told: BAYBOWL_BLOCK,
+ * BAYBOWL_GROUPS, BAYBOWL_PATH, BAYBOWL_MODE, BAYBOWL_ACCESS. Else BAYBOWL_MEMORY, BAYBOWL_POINTER, BAYBOWL_LENGTH.
+ * It takes memory only for a path that is not a '/' before each name and nothing else, or has 64 bytes or more. Any number of
+ * threads may ask one block, as long as none writes it. A block that was overwritten gets BAYBOWL_BLOCK, or the verdict of the
+ * grants that it then says: what is read of it stays within `block_len`.
+ * It is inline, since a server asks often: what a compiler sees of the pointers need not be tested. */
+inline uint32_t baybowl_verdict_by(const struct baybowl_block *block, size_t block_len, const char *path, size_t path_len,
+                                   const uint32_t *groups, size_t groups_len, const struct baybowl_question *question,
+                                   struct baybowl_answer *answer) {
+    const uintptr_t words = (uintptr_t)groups | (uintptr_t)question | (uintptr_t)answer;
+    if (block != NULL && path != NULL && question != NULL && answer != NULL && (groups != NULL || groups_len == 0) &&
+        (uintptr_t)block % 8 == 0 && words % 4 == 0 && block_len >= sizeof *block && block_len <= BAYBOWL_MAX_LEN &&
+        path_len <= BAYBOWL_MAX_LEN && groups_len <= 16) {
+        const uint32_t grant =
+            capffi_allowing(block, (const uint8_t *)(block + 1), block_len - sizeof *block, (const uint8_t *)path, path_len, question);
+        if (grant != 0) {
+            answer->grant = grant;
+            answer->count = 0;
+            memset(answer->rules, 0, sizeof answer->rules);
+            return BAYBOWL_OK;
+        }
+    }
+    return baybowl_whole_verdict_by(block, block_len, path, path_len, groups, groups_len, question, answer);
+}
 
 /* The caps of a part, as bits, that a client may hold while the part's lock is so: BAYBOWL_OK, else the first that is so of
  * BAYBOWL_POINTER, BAYBOWL_PART, BAYBOWL_STATE. It takes no memory. */

@@ -1,5 +1,5 @@
-/* One piece of work N times, for bench/embed: a verdict or permitted caps by the grants that bench/count has, a check of their
- * text, or a look into the table of the locks. It prints a sum over all answers. */
+/* One piece of work N times, for bench/embed: a verdict by the grants that bench/count has, read once or each time, or permitted
+ * caps, a check of their text, or a look into the table of the locks. It prints a sum over all answers. */
 #include "baybowl.h"
 
 #include <stdio.h>
@@ -27,16 +27,41 @@ static void make(int count, int depth, int has_ids) {
     }
 }
 
+static const uint32_t groups[] = {1001};
+static const struct baybowl_question question = {1000, 1000, 1000, 1000, 0644, BAYBOWL_WRITE, 0};
+
+/* The grants are read once, and asked N times. */
+static int once(long times) {
+    static uint64_t room[4096];
+    struct baybowl_block *block = (struct baybowl_block *)room;
+    struct baybowl_fault fault;
+    uint64_t needed, sum = 0;
+    size_t path_len = strlen(path);
+    if (baybowl_grants_read(grants, strlen(grants), "cephfs", 6, block, sizeof room, &needed, &fault) != BAYBOWL_OK) {
+        return 1;
+    }
+    for (long left = times; left > 0; left--) {
+        struct baybowl_answer answer;
+        if (baybowl_verdict_by(block, (size_t)needed, path, path_len, groups, 1, &question, &answer) != BAYBOWL_OK) {
+            return 1;
+        }
+        sum += answer.grant;
+    }
+    printf("sum %llu\n", (unsigned long long)sum);
+    return 0;
+}
+
 int main(int argc, char **argv) {
-    static const uint32_t groups[] = {1001};
-    const struct baybowl_question question = {1000, 1000, 1000, 1000, 0644, BAYBOWL_WRITE, 0};
     const struct baybowl_lock lock = {{BAYBOWL_STATE_SYNC, 0}, {BAYBOWL_STATE_MIX, 0}, 1};
     uint64_t sum = 0;
     if (argc != 6) {
-        fprintf(stderr, "counted verdict|permitted|check|allowed GRANTS NAMES plain|ids N\n");
+        fprintf(stderr, "counted once|verdict|permitted|check|allowed GRANTS NAMES plain|ids N\n");
         return 2;
     }
     make(atoi(argv[2]), atoi(argv[3]), strcmp(argv[4], "ids") == 0);
+    if (argv[1][0] == 'o') {
+        return once(atol(argv[5]));
+    }
     size_t grants_len = strlen(grants), path_len = strlen(path);
     for (long left = atol(argv[5]); left > 0; left--) {
         struct baybowl_answer answer = {0, 0, {0}};

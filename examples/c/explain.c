@@ -6,6 +6,9 @@
  * prints
  *
  *     denied write /b/x grant 1 rule 4 path, grant 2 rule 5 no-write
+ *
+ * The grants are read once, into a block, and the block is asked, as a server does that asks often. With `--by text` their text is
+ * asked, as one does that asks once. Both print the same.
  */
 #include "baybowl.h"
 
@@ -15,8 +18,8 @@
 #include <string.h>
 
 static const char *const names[] = {"--grants", "--fs",    "--uid",   "--gid",  "--groups",
-                                    "--path",   "--owner", "--group", "--mode", "--access"};
-enum { GRANTS, FS, UID, GID, GROUPS, PATH, OWNER, GROUP, MODE, ACCESS, OPTIONS };
+                                    "--path",   "--owner", "--group", "--mode", "--access", "--by"};
+enum { GRANTS, FS, UID, GID, GROUPS, PATH, OWNER, GROUP, MODE, ACCESS, BY, OPTIONS };
 
 static const char *const accesses[] = {"read", "write", "vxattr", "snapshot", "chmod", "chown:", "chgrp:"};
 
@@ -132,7 +135,7 @@ static void read_values(int argc, char **argv, const char **values) {
         }
     }
     for (int option = 0; option < OPTIONS; option++) {
-        if (values[option] == NULL && option != GROUPS) {
+        if (values[option] == NULL && option != GROUPS && option != BY) {
             fprintf(stderr, "explain: %s is missing\n", names[option]);
             exit(2);
         }
@@ -148,6 +151,39 @@ static void read_question(const char *const *values, struct baybowl_question *qu
     read_access(values[ACCESS], question);
 }
 
+/* Asks the text of the grants, which is read for this one answer. */
+static uint32_t ask_text(const char *const *values, const uint32_t *groups, size_t groups_len,
+                         const struct baybowl_question *question, struct baybowl_answer *answer, struct baybowl_fault *fault) {
+    return baybowl_verdict(values[GRANTS], strlen(values[GRANTS]), values[FS], strlen(values[FS]), values[PATH],
+                           strlen(values[PATH]), groups, groups_len, question, answer, fault);
+}
+
+/* Reads the grants into a block, as a server does where a session opens, and asks that. */
+static uint32_t ask_block(const char *const *values, const uint32_t *groups, size_t groups_len,
+                          const struct baybowl_question *question, struct baybowl_answer *answer, struct baybowl_fault *fault) {
+    size_t grants_len = strlen(values[GRANTS]), block_len = BAYBOWL_BLOCK_ROOM(grants_len);
+    struct baybowl_block *block = malloc(block_len);
+    uint64_t needed;
+    uint32_t status;
+    if (block == NULL) {
+        return BAYBOWL_MEMORY;
+    }
+    status = baybowl_grants_read(values[GRANTS], grants_len, values[FS], strlen(values[FS]), block, block_len, &needed, fault);
+    if (status == BAYBOWL_OK) {
+        /* A server asks so each time that a request of the session comes. */
+        status = baybowl_verdict_by(block, needed, values[PATH], strlen(values[PATH]), groups, groups_len, question, answer);
+    }
+    free(block);
+    return status;
+}
+
+static int is_by_text(const char *word) {
+    if (word != NULL && strcmp(word, "text") != 0 && strcmp(word, "block") != 0) {
+        bad(BY);
+    }
+    return word != NULL && word[0] == 't';
+}
+
 int main(int argc, char **argv) {
     const char *values[OPTIONS] = {NULL};
     /* One more than there may be, so that the library says so. */
@@ -161,8 +197,11 @@ int main(int argc, char **argv) {
     read_values(argc, argv, values);
     read_question(values, &question);
     groups_len = read_groups(values[GROUPS], groups, sizeof groups / sizeof groups[0]);
-    status = baybowl_verdict(values[GRANTS], strlen(values[GRANTS]), values[FS], strlen(values[FS]), values[PATH],
-                             strlen(values[PATH]), groups, groups_len, &question, &answer, &fault);
+    if (is_by_text(values[BY])) {
+        status = ask_text(values, groups, groups_len, &question, &answer, &fault);
+    } else {
+        status = ask_block(values, groups, groups_len, &question, &answer, &fault);
+    }
     if (is_told(status, &fault)) {
         return 1;
     }

@@ -3,7 +3,10 @@
 // below /a. docs/EMBED.md has more of this way of use.
 #include "baybowl.h"
 
+#include <cstdlib>
 #include <iostream>
+#include <memory>
+#include <new>
 #include <sstream>
 #include <stdexcept>
 #include <string>
@@ -12,23 +15,36 @@
 
 namespace {
 
-// The grants of a session, as its client's entity has them. A text that is none is refused when the session opens.
+// The grants of a session on a file system. They are read once, where the session opens; a text that is none is refused there.
 class Grants {
 public:
-    explicit Grants(std::string text) : text_(std::move(text)) {
+    Grants(std::string_view text, std::string_view fs)
+        : len_(BAYBOWL_BLOCK_ROOM(text.size())), block_(static_cast<baybowl_block *>(std::malloc(len_))) {
+        if (block_ == nullptr) {
+            throw std::bad_alloc();
+        }
         baybowl_fault fault;
-        if (baybowl_grants_check(text_.data(), text_.size(), &fault) != BAYBOWL_OK) {
-            std::ostringstream why;
+        uint64_t needed;
+        uint32_t status = baybowl_grants_read(text.data(), text.size(), fs.data(), fs.size(), block_.get(), len_, &needed, &fault);
+        if (status != BAYBOWL_OK) {
             const char *word = baybowl_fault_word(fault.kind);
-            why << (word != nullptr ? word : "no memory") << " at " << fault.at;
-            throw std::invalid_argument(why.str());
+            throw std::invalid_argument(word != nullptr ? word + (" at " + std::to_string(fault.at)) : "status " + std::to_string(status));
         }
     }
 
-    const std::string &text() const { return text_; }
+    // Any number of threads may ask at once.
+    uint32_t ask(std::string_view path, const std::vector<uint32_t> &groups, const baybowl_question &question,
+                 baybowl_answer &answer) const {
+        return baybowl_verdict_by(block_.get(), len_, path.data(), path.size(), groups.data(), groups.size(), &question, &answer);
+    }
 
 private:
-    std::string text_;
+    struct Freed {
+        void operator()(void *room) const { std::free(room); }
+    };
+
+    size_t len_;
+    std::unique_ptr<baybowl_block, Freed> block_;
 };
 
 struct Caller {
@@ -42,12 +58,10 @@ struct Inode {
 };
 
 // What the library says: nothing where it allows, else why it denies.
-std::string denial(const Grants &grants, std::string_view fs, const Caller &caller, const Inode &inode, baybowl_access access) {
+std::string denial(const Grants &grants, const Caller &caller, const Inode &inode, baybowl_access access) {
     baybowl_question question = {caller.uid, caller.gid, inode.owner, inode.group, inode.mode, uint32_t(access), 0};
     baybowl_answer answer;
-    baybowl_fault fault;
-    uint32_t status = baybowl_verdict(grants.text().data(), grants.text().size(), fs.data(), fs.size(), inode.path.data(),
-                                      inode.path.size(), caller.groups.data(), caller.groups.size(), &question, &answer, &fault);
+    uint32_t status = grants.ask(inode.path, caller.groups, question, answer);
     std::ostringstream why;
     if (status != BAYBOWL_OK) {
         why << "status " << status;
@@ -69,11 +83,11 @@ int main() {
         std::cerr << "header and library differ\n";
         return 1;
     }
-    const Grants grants("allow rw path=/a");
+    const Grants grants("allow rw path=/a", "cephfs");
     const Caller caller = {9, 50, {}};
     for (const char *path : {"/a/x", "/ab/x", "/b/x"}) {
         const Inode inode = {path, 9, 50, 0644};
-        const std::string why = denial(grants, "cephfs", caller, inode, BAYBOWL_WRITE);
+        const std::string why = denial(grants, caller, inode, BAYBOWL_WRITE);
         const bool own = is_below("/a", path);
         std::cout << "write " << path << ": " << (own ? "allowed" : "denied");
         if (own != why.empty()) {
@@ -82,7 +96,7 @@ int main() {
         std::cout << "\n";
     }
     try {
-        Grants("allow rw path=\"/a");
+        Grants("allow rw path=\"/a", "cephfs");
     } catch (const std::invalid_argument &why) {
         std::cout << "refused: " << why.what() << "\n";
     }

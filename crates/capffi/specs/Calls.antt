@@ -11,8 +11,11 @@ use Rattle.capffi.specs.declared.passed.Question.{Question}
 use Rattle.capffi.specs.declared.passed.StableState.{StableState}
 use Rattle.capffi.specs.declared.passed.Wants.{Wants}
 use Rattle.capffi.specs.declared.trouble.Trouble.{Trouble}
+use Rattle.capffi.specs.declared.block.Block.{Block}
 use Rattle.capffi.specs.Answering.{answer_of, no_answer}
 use Rattle.capffi.specs.Asking.{IsTextTrouble, IsJudged, IsPermitted}
+use Rattle.capffi.specs.ByBlock.{IsSaid}
+use Rattle.capffi.specs.Filling.{IsFilled}
 use Rattle.capffi.specs.Locks.{IsTargetOf, numbers_of}
 use Rattle.capffi.specs.Texts.{IsFormOf, IsPut}
 use Rattle.capffi.specs.Trouble.{status_of, fault_of, no_fault}
@@ -73,3 +76,11 @@ TellsForm text before after len told why = (said : Result (List ℕ) Trouble) ×
 -- the status and the numbers are those of the target
 abbrev pub TellsTarget : ℕ → StableState → Wants → ℕ → StableState → Type 0
 TellsTarget part state w told target = (said : Result State Trouble) × IsTargetOf part state w said × (told ≡ status said) × (target ≡ state_numbers said)
+
+-- the status and the answer are those of the verdict of the grants that the block says
+abbrev pub TellsVerdictBy : Block → List ℕ → List ℕ → List ℕ → Question → ℕ → Answer → Type 0
+TellsVerdictBy block text path groups q told answered = (said : Result Verdict Trouble) × IsSaid block text path groups q said × (told ≡ status said) × (answered ≡ answer said)
+
+-- the block, its text, the length, the status and the fault are those of the grants that the text means
+abbrev pub TellsRead : List ℕ → List ℕ → Block → Block → List ℕ → List ℕ → ℕ → ℕ → Fault → Type 0
+TellsRead grants fs old new before after len told why = (said : Result (List Grant) Trouble) × IsFilled grants fs old new before after len told said × (why ≡ fault said)

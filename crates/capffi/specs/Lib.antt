@@ -4,3 +4,6 @@ pub mod Answering
 pub mod Texts
 pub mod Locks
 pub mod Calls
+pub mod Blocks
+pub mod Filling
+pub mod ByBlock

@@ -19,6 +19,7 @@ status_of troubles.State = 8
 status_of troubles.Head = 9
 status_of troubles.Caps = 10
 status_of troubles.Memory = 12
+status_of troubles.Block = 15
 
 -- the number of a kind of fault
 abbrev pub kind_number : SpecFaultKind → ℕ

@@ -1,25 +1,44 @@
 //! Verdicts as numbers.
 ghost use Rattle.std.specs.Prelude.{◌≡◌, ◌≤◌, length};
+ghost use Rattle.capgrant.specs.declared.answer.Verdict.TheVariants.{Allowed};
 ghost use Rattle.capffi.specs.Answering.{answer_of, no_answer, rule_at, rule_numbers};
 
 use crate::passed::Answer;
 use capgrant::{Rule, Verdict};
 
 /// A verdict as numbers.
+#[inline(always)]
 pub(crate) fn answer_of(verdict: &Verdict) -> Answer
     ensures { result ≡ answer_of verdict.now }
 {
     match verdict {
-        Verdict::Allowed { grant } => Answer {
-            grant: *grant,
-            count: 0,
-            rules: rule_numbers(&[]),
-        },
-        Verdict::Denied { rules } => Answer {
-            grant: 0,
-            count: rules.len() as u32,
-            rules: rule_numbers(rules.as_slice()),
-        },
+        Verdict::Allowed { grant } => allowed(*grant),
+        Verdict::Denied { rules } => denied(rules.as_slice()),
+    }
+}
+
+/// A grant allows.
+#[inline(always)]
+pub(crate) fn allowed(grant: u32) -> Answer
+    ensures { result ≡ answer_of (Allowed grant) }
+{
+    Answer {
+        grant,
+        count: 0,
+        rules: [0; 16],
+    }
+}
+
+// The grants fail, each by a rule.
+#[inline(never)]
+fn denied(rules: &[Rule]) -> Answer
+    requires { length rules.now ≤ 16 }
+    ensures { result ≡ record { grant = 0; count = length rules.now; rules = rule_numbers rules.now } }
+{
+    Answer {
+        grant: 0,
+        count: rules.len() as u32,
+        rules: rule_numbers(rules),
     }
 }
 

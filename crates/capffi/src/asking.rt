@@ -50,8 +50,8 @@ fn read_groups(gids: &[u32]) -> Option<Groups>
     }
 }
 
-// The mode with these bits.
-fn read_mode(bits: u32) -> Option<Mode>
+/// The mode with these bits.
+pub(crate) fn read_mode(bits: u32) -> Option<Mode>
     ensures { MatchOption result (4095 < bits) (λ mode. (mode ≡ bits) × (bits ≤ 4095)) }
 {
     if bits > u32::from(MAX_MODE) {
@@ -103,9 +103,9 @@ fn read_question(
     })
 }
 
-// The access that these numbers name.
+/// The access that these numbers name.
 #[tactic(auto, unfolding(crate::specs::Asking::access_of))]
-fn read_access(kind: u32, number: u32) -> Option<Access>
+pub(crate) fn read_access(kind: u32, number: u32) -> Option<Access>
     ensures { result ≡ access_of kind number }
 {
     match kind {

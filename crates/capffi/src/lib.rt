@@ -7,28 +7,38 @@
 
 mod answering;
 mod asking;
+mod block;
+mod by_block;
+mod filling;
+mod given;
+mod judging;
 mod locks;
 mod passed;
+mod plain;
 mod texts;
 mod trouble;
 
 ghost use Rattle.std.specs.Prelude.{◌≡◌};
-ghost use Rattle.capffi.specs.Calls.{TellsVerdict, TellsPermitted, TellsCheck, TellsForm, TellsTarget, status, caps_bits};
+ghost use Rattle.capffi.specs.Calls.{TellsVerdict, TellsPermitted, TellsCheck, TellsForm, TellsTarget, TellsVerdictBy, TellsRead, status, caps_bits};
+ghost use Rattle.capffi.specs.ByBlock.{IsAllowing};
 ghost use Rattle.capffi.specs.Locks.{allowed_by};
 
 use crate::answering::{answer_of, no_answer};
 use crate::asking::{judge, permit, read_text};
+use crate::by_block::{allowing, judge_by};
+use crate::filling::{prepare, put_block};
 use crate::locks::{allowed_by, numbers_of, target_of};
 use crate::texts::{form, put};
 use crate::trouble::no_fault;
+pub use block::{BLOCK_VERSION, Block, Entry};
 pub use passed::{Answer, Fault, Lock, Question, StableState, Wants};
 use std::alloc::Global;
 pub use trouble::{
-    ACCESS, CAPS, FS, GRANTS, GROUPS, HEAD, MEMORY, MODE, OK, PART, PATH, ROOM, STATE,
+    ACCESS, BLOCK, CAPS, FS, GRANTS, GROUPS, HEAD, MEMORY, MODE, OK, PART, PATH, ROOM, STATE,
 };
 
 /// The version of these calls: each that changes what a call takes or answers has a greater one.
-pub const VERSION: u32 = 1;
+pub const VERSION: u32 = 2;
 
 /// The version of these calls.
 #[unsafe(no_mangle)]
@@ -89,6 +99,77 @@ pub extern "C" fn capffi_permitted(
         Err(trouble) => {
             *caps = 0;
             *fault = trouble.fault();
+            trouble.status()
+        }
+    }
+}
+
+/// Puts the grants of a text on a file system into a block and the text behind it, if that fits there. `needed` is how long that
+/// text is.
+#[tactic(auto, using(crate::proofs::Filled::filled))]
+#[unsafe(no_mangle)]
+pub extern "C" fn capffi_grants_read(
+    alloc: Global,
+    grants: &[u8],
+    fs: &[u8],
+    block: &mut Block,
+    text: &mut [u8],
+    needed: &mut u64,
+    fault: &mut Fault,
+) -> u32
+    ensures { TellsRead grants.now fs.now block.old block.new text.old text.new needed.new result fault.new }
+{
+    match prepare(alloc, grants, fs) {
+        Ok(ready) => {
+            *fault = no_fault();
+            put_block(&ready, block, text, needed)
+        }
+        Err(trouble) => {
+            *needed = 0;
+            *fault = trouble.fault();
+            trouble.status()
+        }
+    }
+}
+
+/// The number of the grant of a block that lets a caller make an access to an inode on the block's file system, whatever the caller's
+/// groups, where that is soon seen; else 0, and `capffi_verdict_by` has to be asked. It is for a server that asks often: all that it
+/// takes is passed in registers.
+#[unsafe(no_mangle)]
+pub extern "C" fn capffi_allowing(
+    block: &Block,
+    text: &[u8],
+    path: &[u8],
+    question: &Question,
+) -> u32
+    ensures { IsAllowing block.now text.now path.now question.now result }
+{
+    match allowing(block, text, path, question) {
+        Some(grant) => grant,
+        None => 0,
+    }
+}
+
+/// Whether the grants of a block let a caller make an access to an inode on the block's file system.
+#[unsafe(no_mangle)]
+pub extern "C" fn capffi_verdict_by(
+    alloc: Global,
+    block: &Block,
+    text: &[u8],
+    path: &[u8],
+    groups: &[u32],
+    question: &Question,
+    answer: &mut Answer,
+) -> u32
+    ensures { TellsVerdictBy block.now text.now path.now groups.now question.now result answer.new }
+{
+    match judge_by(alloc, block, text, path, groups, question) {
+        Ok(said) => {
+            *answer = answer_of(&said);
+            OK
+        }
+        Err(trouble) => {
+            *answer = no_answer();
             trouble.status()
         }
     }

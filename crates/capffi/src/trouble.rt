@@ -31,6 +31,9 @@ pub const CAPS: u32 = 10;
 pub const ROOM: u32 = 11;
 /// No memory was left.
 pub const MEMORY: u32 = 12;
+// 13 and 14 are what `embed/baybowl.c` says of pointers and lengths.
+/// A block is none of this version, or is cut off.
+pub const BLOCK: u32 = 15;
 
 /// Why a call has no answer.
 #[derive(Clone, Copy)]
@@ -57,6 +60,8 @@ pub(crate) enum Trouble {
     Caps,
     /// No memory was left.
     Memory,
+    /// A block is none of this version, or is cut off.
+    Block,
 }
 
 impl Trouble {
@@ -76,6 +81,7 @@ impl Trouble {
             Trouble::Head => HEAD,
             Trouble::Caps => CAPS,
             Trouble::Memory => MEMORY,
+            Trouble::Block => BLOCK,
         }
     }
 

@@ -1,0 +1,151 @@
+-- The grants of the entries of a block, one by one.
+use Rattle.std.proofs.Common.{◌≡◌, ℕ, ◌+◌, ◌<◌, ◌≤◌, suc, Bool, true, false, ltb, Some, None, List, [], ◌∷◌, ◌++◌, length, take, drop, get_or, refl, sym, ap, ◌∙◌, arith, inl, inr}
+use Rattle.std.specs.Prelude.{position}
+use Rattle.std.specs.List.{list_any, position_or_len}
+use Rattle.std.proofs.lemmas.Bool.{or_parts, lt-ltb}
+use Rattle.std.proofs.lemmas.Bool.Decides.{nat_tests}
+use Rattle.std.proofs.lemmas.List.{take_more, drop_more, append-nil, length-append, length-take-le, take-append-drop, take_all}
+use Rattle.std.proofs.lemmas.List.Elements.{filter_map-append}
+use Rattle.capspec.specs.declared.grant.Grant.{Grant}
+use Rattle.capgrant.specs.declared.rule.Rule.{Rule}
+use Rattle.capspec.proofs.Fronts.{which}
+use Rattle.capgrant.specs.Failing.{first_failing, fails_fsname, fails_uid, fails_gids, fails_path, fails_no_write, fails_root_squash, fails_no_p, fails_no_s, fails_not_owner, fails_not_own_group, fails_mode_bits}
+use Rattle.capgrant.specs.Question.{Question}
+use Rattle.capgrant.specs.Verdict.{allows, first_failures}
+use Rattle.capffi.specs.declared.block.Entry.{Entry}
+use Rattle.capffi.specs.ByBlock.{with_groups}
+use Rattle.capffi.specs.Blocks.{grant_of, path_in, fs_in, behind, grants_in}
+
+-- what stands behind the texts of entries
+abbrev pub rest_of : List Entry → List ℕ → List ℕ
+rest_of [] text = text
+rest_of (e ∷ entries) text = rest_of entries (behind e text)
+
+-- the grant of an entry whose texts stand at the front
+abbrev pub first_of : Entry → List ℕ → Grant
+first_of e text = grant_of e (path_in e text) (fs_in e text)
+
+grants-append : (xs ys : List Entry) (text : List ℕ) → grants_in (xs ++ ys) text ≡ grants_in xs text ++ grants_in ys (rest_of xs text)
+grants-append [] ys text = refl
+grants-append (x ∷ xs) ys text = ap (λ (gs : List Grant). first_of x text ∷ gs) (grants-append xs ys (behind x text))
+
+rest-append : (xs ys : List Entry) (text : List ℕ) → rest_of (xs ++ ys) text ≡ rest_of ys (rest_of xs text)
+rest-append [] ys text = refl
+rest-append (x ∷ xs) ys text = rest-append xs ys (behind x text)
+
+length-grants : (entries : List Entry) (text : List ℕ) → length (grants_in entries text) ≡ length entries
+length-grants [] text = refl
+length-grants (e ∷ entries) text = ap suc (length-grants entries (behind e text))
+
+-- ---- where the first of some things stands
+
+place_of : {X : Type 0} (p : X → Bool) (xs : List X) (x : X) (ys : List X) → list_any p xs ≡ false → p x ≡ true → position_or_len p (xs ++ x ∷ ys) ≡ length xs
+place_of p [] x ys none passes = rw passes refl
+place_of p (w ∷ xs) x ys none passes =
+    let parts = or_parts (p w) (list_any p xs) none in
+    let rest : 1 + position_or_len p (xs ++ x ∷ ys) ≡ suc (length xs) = omega (arith, place_of p xs x ys parts.1 passes) in
+    rw parts.0 rest
+
+place_none : {X : Type 0} (p : X → Bool) (xs : List X) → list_any p xs ≡ false → position_or_len p xs ≡ length xs
+place_none p [] none = refl
+place_none p (w ∷ xs) none =
+    let parts = or_parts (p w) (list_any p xs) none in
+    let rest : 1 + position_or_len p xs ≡ suc (length xs) = omega (arith, place_none p xs parts.1) in
+    rw parts.0 rest
+
+found : {X : Type 0} (p : X → Bool) (xs : List X) (x : X) (ys : List X) → list_any p xs ≡ false → p x ≡ true → Some (length xs) ≡ position p (xs ++ x ∷ ys)
+found p xs x ys none passes =
+    let within : ltb (length xs) (length (xs ++ x ∷ ys)) ≡ true = lt-ltb (length xs) (length (xs ++ x ∷ ys)) (simp length-append (omega arith)) in
+    rw (place_of p xs x ys none passes, within) refl
+
+found_none : {X : Type 0} (p : X → Bool) (xs : List X) → list_any p xs ≡ false → None ≡ position p xs
+found_none p xs none = rw (place_none p xs none) (grind (arith, nat_tests))
+
+any_more : {X : Type 0} (p : X → Bool) (xs : List X) (x : X) → list_any p xs ≡ false → p x ≡ false → list_any p (xs ++ x ∷ []) ≡ false
+any_more p [] x none fails = rw fails refl
+any_more p (w ∷ xs) x none fails = let parts = or_parts (p w) (list_any p xs) none in rw parts.0 (any_more p xs x parts.1 fails)
+
+-- ---- one entry more
+
+abbrev pub at : List Entry → ℕ → Entry → Entry
+at entries i d = get_or entries i d
+
+pub rest_more : (entries : List Entry) (i : ℕ) (d : Entry) (text rest : List ℕ) → i < length entries → rest ≡ rest_of (take i entries) text → behind (at entries i d) rest ≡ rest_of (take (i + 1) entries) text
+rest_more entries i d text rest within so = rw (take_more entries i d within, rest-append (take i entries) (at entries i d ∷ []) text) (ap (behind (at entries i d)) so)
+
+grants_more : (entries : List Entry) (i : ℕ) (d : Entry) (text rest : List ℕ) → i < length entries → rest ≡ rest_of (take i entries) text → grants_in (take (i + 1) entries) text ≡ grants_in (take i entries) text ++ first_of (at entries i d) rest ∷ []
+grants_more entries i d text rest within so =
+    ap (λ (es : List Entry). grants_in es text) (take_more entries i d within) ∙ grants-append (take i entries) (at entries i d ∷ []) text
+    ∙ ap (λ (r : List ℕ). grants_in (take i entries) text ++ first_of (at entries i d) r ∷ []) (sym so)
+
+pub none_more : (q : Question) (entries : List Entry) (i : ℕ) (d : Entry) (text rest : List ℕ) (g : Grant) → i < length entries → rest ≡ rest_of (take i entries) text → g ≡ first_of (at entries i d) rest → list_any (allows q) (grants_in (take i entries) text) ≡ false → allows q g ≡ false → list_any (allows q) (grants_in (take (i + 1) entries) text) ≡ false
+none_more q entries i d text rest g within so grant none fails =
+    ap (list_any (allows q)) (grants_more entries i d text rest within so)
+    ∙ any_more (allows q) (grants_in (take i entries) text) (first_of (at entries i d) rest) none (ap (allows q) (sym grant) ∙ fails)
+
+failures_more : (q : Question) (entries : List Entry) (i : ℕ) (d : Entry) (text rest : List ℕ) (g : Grant) → i < length entries → rest ≡ rest_of (take i entries) text → g ≡ first_of (at entries i d) rest → first_failures q (grants_in (take (i + 1) entries) text) ≡ first_failures q (grants_in (take i entries) text) ++ first_failures q (g ∷ [])
+failures_more q entries i d text rest g within so grant =
+    ap (first_failures q) (grants_more entries i d text rest within so) ∙ filter_map-append (first_failing q) (grants_in (take i entries) text) (first_of (at entries i d) rest ∷ [])
+    ∙ ap (λ (x : Grant). first_failures q (grants_in (take i entries) text) ++ first_failures q (x ∷ [])) (sym grant)
+
+pub one_more_fails : (q : Question) (entries : List Entry) (i : ℕ) (d : Entry) (text rest : List ℕ) (g : Grant) (rule : Rule) → i < length entries → rest ≡ rest_of (take i entries) text → g ≡ first_of (at entries i d) rest → first_failing q g ≡ Some rule → first_failures q (grants_in (take (i + 1) entries) text) ≡ first_failures q (grants_in (take i entries) text) ++ rule ∷ []
+one_more_fails q entries i d text rest g rule within so grant fails = failures_more q entries i d text rest g within so grant ∙ rw fails refl
+
+pub one_more_allows : (q : Question) (entries : List Entry) (i : ℕ) (d : Entry) (text rest : List ℕ) (g : Grant) → i < length entries → rest ≡ rest_of (take i entries) text → g ≡ first_of (at entries i d) rest → first_failing q g ≡ None → first_failures q (grants_in (take (i + 1) entries) text) ≡ first_failures q (grants_in (take i entries) text)
+one_more_allows q entries i d text rest g within so grant passes = failures_more q entries i d text rest g within so grant ∙ rw passes (append-nil (first_failures q (grants_in (take i entries) text)))
+
+-- the entries before a place, the one there, and those behind it
+here : (entries : List Entry) (i : ℕ) (d : Entry) → i < length entries → entries ≡ take i entries ++ at entries i d ∷ drop (i + 1) entries
+here entries i d within = sym (take-append-drop i entries) ∙ ap (λ (es : List Entry). take i entries ++ es) (drop_more entries i d within)
+
+pub found_here : (q : Question) (entries : List Entry) (i : ℕ) (d : Entry) (text rest : List ℕ) (g : Grant) → i < length entries → rest ≡ rest_of (take i entries) text → g ≡ first_of (at entries i d) rest → list_any (allows q) (grants_in (take i entries) text) ≡ false → allows q g ≡ true → Some i ≡ position (allows q) (grants_in entries text)
+found_here q entries i d text rest g within so grant none passes =
+    let behind_it : List Grant = grants_in (drop (i + 1) entries) (behind (at entries i d) rest) in
+    let parts : grants_in entries text ≡ grants_in (take i entries) text ++ first_of (at entries i d) rest ∷ behind_it =
+    ap (λ (es : List Entry). grants_in es text) (here entries i d within) ∙ grants-append (take i entries) (at entries i d ∷ drop (i + 1) entries) text
+    ∙ ap (λ (r : List ℕ). grants_in (take i entries) text ++ first_of (at entries i d) r ∷ grants_in (drop (i + 1) entries) (behind (at entries i d) r)) (sym so) in
+    let count : length (grants_in (take i entries) text) ≡ i = length-grants (take i entries) text ∙ length-take-le i entries (omega (arith, within)) in
+    ap (λ (n : ℕ). Some n) (sym count) ∙ found (allows q) (grants_in (take i entries) text) (first_of (at entries i d) rest) behind_it none (ap (allows q) (sym grant) ∙ passes)
+    ∙ ap (position (allows q)) (sym parts)
+
+pub found_nowhere : (q : Question) (entries : List Entry) (i : ℕ) (text : List ℕ) → length entries ≤ i → list_any (allows q) (grants_in (take i entries) text) ≡ false → None ≡ position (allows q) (grants_in entries text)
+found_nowhere q entries i text past none = found_none (allows q) (grants_in entries text) (ap (λ (es : List Entry). list_any (allows q) (grants_in es text)) (sym (take_all i entries past)) ∙ none)
+
+-- ---- grants for everybody
+
+pub no_grant_beside : (q : Question) (g : Grant) → fails_path q g ≡ true → allows q g ≡ false
+unfolding first_failing
+no_grant_beside q g path = elim (which (fails_fsname q g)) [
+  | inl e ↦ rw e refl
+  | inr e ↦ elim (which (fails_uid q g)) [
+    | inl f ↦ rw (e, f) refl
+    | inr f ↦ elim (which (fails_gids q g)) [
+      | inl h ↦ rw (e, f, h) refl
+      | inr h ↦ rw (e, f, h, path) refl
+    ]
+  ]
+]
+
+no_uid : (q : Question) (g : Grant) → g.uid ≡ None → (fails_uid q g ≡ false) × (fails_not_owner q g ≡ false) × (fails_not_own_group q g ≡ false) × (fails_mode_bits q g ≡ false)
+unfolding fails_uid fails_not_owner fails_not_own_group fails_mode_bits
+no_uid q g is = rw is (refl, refl, refl, refl)
+
+no_gids : (q : Question) (g : Grant) → g.gids ≡ [] → fails_gids q g ≡ false
+unfolding fails_gids
+no_gids q g is = rw is refl
+
+pub grant_for_all : (q : Question) (g : Grant) → fails_fsname q g ≡ false → g.uid ≡ None → g.gids ≡ [] → fails_path q g ≡ false → fails_no_write q g ≡ false → fails_root_squash q g ≡ false → fails_no_p q g ≡ false → fails_no_s q g ≡ false → allows q g ≡ true
+unfolding first_failing
+grant_for_all q g fsname uid gids path w squash p s =
+    let all = no_uid q g uid in
+    rw (fsname, all.0, no_gids q g gids, path, w, squash, p, s, all.1, all.2, all.3) refl
+
+-- the same for a caller with any groups
+
+pub no_grant_beside_any : (q : Question) (g : Grant) → fails_path q g ≡ true → (groups : List ℕ) → allows (with_groups q groups) g ≡ false
+unfolding fails_path
+no_grant_beside_any q g path groups = no_grant_beside (with_groups q groups) g path
+
+pub grant_for_any : (q : Question) (g : Grant) → fails_fsname q g ≡ false → g.uid ≡ None → g.gids ≡ [] → fails_path q g ≡ false → fails_no_write q g ≡ false → fails_root_squash q g ≡ false → fails_no_p q g ≡ false → fails_no_s q g ≡ false → (groups : List ℕ) → allows (with_groups q groups) g ≡ true
+unfolding fails_fsname fails_path fails_no_write fails_root_squash fails_no_p fails_no_s
+grant_for_any q g fsname uid gids path w squash p s groups = grant_for_all (with_groups q groups) g fsname uid gids path w squash p s

@@ -1,0 +1,142 @@
+-- Paths as texts: where the names of one are the first of another's.
+use Rattle.std.proofs.Common.{◌≡◌, ℕ, ◌<◌, ◌≤◌, Bool, true, false, ◌&&◌, ◌≢◌, eqb, List, [], ◌∷◌, length, take, get_or, refl, sym, ap, ◌∙◌, inl, inr, arith}
+use Rattle.std.specs.Prelude.{◌↔◌, ◌==◌, IsTrue, bytes_eq}
+use Rattle.std.specs.List.{starts_with, slice_split, onto_first}
+use Rattle.std.proofs.lemmas.Bool.{eqb-true, ne_eqb}
+use Rattle.std.proofs.lemmas.Bool.Decides.{same_from_decides}
+use Rattle.std.proofs.lemmas.Slice.Eq.{bytes_eq-Decides}
+use Rattle.std.proofs.lemmas.List.Splits.{slice_split-cons_yes, slice_split-cons_no, length-slice_split}
+use Rattle.capspec.proofs.Fronts.{which}
+use Rattle.capspec.proofs.Paths.{is_slash}
+use Rattle.capffi.specs.Blocks.{path_names}
+
+-- the text `to` is `dir`, or goes on behind it with a slash
+abbrev leads : List ℕ → List ℕ → Bool
+leads [] [] = true
+leads [] (c ∷ to) = is_slash c
+leads (b ∷ dir) [] = false
+leads (b ∷ dir) (c ∷ to) = eqb b c && leads dir to
+
+-- the first parts are these
+abbrev begin : List (List ℕ) → List (List ℕ) → Bool
+begin parts firsts = starts_with bytes_eq parts firsts
+
+some_part : (bytes : List ℕ) → 0 < length (slice_split is_slash bytes)
+some_part bytes = let count = length-slice_split is_slash bytes in omega arith
+
+none_behind : (parts : List (List ℕ)) → 0 < length parts → begin ([] ∷ []) ([] ∷ parts) ≡ false
+none_behind [] some = absurd (omega arith)
+none_behind (part ∷ parts) some = refl
+
+empty_first : (c : ℕ) (parts firsts : List (List ℕ)) → begin (onto_first c parts) ([] ∷ firsts) ≡ false
+empty_first c [] firsts = refl
+empty_first c (part ∷ parts) firsts = refl
+
+empty_part : (b : ℕ) (parts firsts : List (List ℕ)) → begin ([] ∷ parts) (onto_first b firsts) ≡ false
+empty_part b parts [] = refl
+empty_part b parts (first ∷ firsts) = refl
+
+and_more : (a b c : Bool) → ((a && b) && c) ≡ (a && (b && c))
+and_more true b c = refl
+and_more false b c = refl
+
+onto_both : (b c : ℕ) (parts firsts : List (List ℕ)) → 0 < length parts → 0 < length firsts → begin (onto_first c parts) (onto_first b firsts) ≡ (eqb b c && begin parts firsts)
+onto_both b c [] firsts some others = absurd (omega arith)
+onto_both b c (part ∷ parts) [] some others = absurd (omega arith)
+onto_both b c (part ∷ parts) (first ∷ firsts) some others = and_more (eqb b c) (bytes_eq first part) (begin parts firsts)
+
+-- two bytes, of which one alone is a slash
+differ : (b c : ℕ) (one other : Bool) → one ≢ other → is_slash b ≡ one → is_slash c ≡ other → eqb b c ≡ false
+differ b c one other unlike e f = elim (which (eqb b c)) [ inl same ↦ absurd (unlike (sym e ∙ ap is_slash (eqb-true b c same) ∙ f)) | inr differs ↦ differs ]
+
+-- the parts between the slashes of one text are the first of another's where it leads there
+begin_is : (dir to : List ℕ) → begin (slice_split is_slash to) (slice_split is_slash dir) ≡ leads dir to
+begin_is [] [] = refl
+begin_is [] (c ∷ to) = elim (which (is_slash c)) [
+  | inl e ↦ rw (slice_split-cons_yes is_slash c to e, e) refl
+  | inr e ↦ rw (slice_split-cons_no is_slash c to e, e) (empty_first c (slice_split is_slash to) [])
+]
+begin_is (b ∷ dir) [] = elim (which (is_slash b)) [
+  | inl e ↦ rw (slice_split-cons_yes is_slash b dir e) (none_behind (slice_split is_slash dir) (some_part dir))
+  | inr e ↦ rw (slice_split-cons_no is_slash b dir e) (empty_part b [] (slice_split is_slash dir))
+]
+begin_is (b ∷ dir) (c ∷ to) = elim (which (is_slash b)) [
+  | inl e ↦ elim (which (is_slash c)) [
+    | inl f ↦
+        let same : eqb b c ≡ true = rw (eqb-true b 47 e, eqb-true c 47 f) refl in
+        rw (slice_split-cons_yes is_slash b dir e, slice_split-cons_yes is_slash c to f, same) (begin_is dir to)
+    | inr f ↦
+        rw (slice_split-cons_yes is_slash b dir e, slice_split-cons_no is_slash c to f, differ b c true false (λ t. cc) e f) (empty_first c (slice_split is_slash to) (slice_split is_slash dir))
+  ]
+  | inr e ↦ elim (which (is_slash c)) [
+    | inl f ↦
+        rw (slice_split-cons_no is_slash b dir e, slice_split-cons_yes is_slash c to f, differ b c false true (λ t. cc) e f) (empty_part b (slice_split is_slash to) (slice_split is_slash dir))
+    | inr f ↦
+        rw (slice_split-cons_no is_slash b dir e, slice_split-cons_no is_slash c to f)
+        (onto_both b c (slice_split is_slash to) (slice_split is_slash dir) (some_part to) (some_part dir) ∙ ap (λ (t : Bool). eqb b c && t) (begin_is dir to))
+  ]
+]
+
+-- ---- how a text leads to another, by its length
+
+eq_turns : (b c : ℕ) → eqb b c ≡ eqb c b
+eq_turns b c = elim (which (eqb b c)) [
+  | inl e ↦ rw (eqb-true b c e) refl
+  | inr e ↦ elim (which (eqb c b)) [
+    | inl f ↦ rw (eqb-true c b f) refl
+    | inr f ↦ e ∙ sym f
+  ]
+]
+
+and_false : (a : Bool) → (a && false) ≡ false
+and_false true = refl
+and_false false = refl
+
+leads_past : (dir to : List ℕ) → length to ≤ length dir → bytes_eq dir to ≡ leads dir to
+leads_past [] [] past = refl
+leads_past [] (c ∷ to) past = absurd (omega (arith, past))
+leads_past (b ∷ dir) [] past = refl
+leads_past (b ∷ dir) (c ∷ to) past = ap (λ (t : Bool). eqb b c && t) (leads_past dir to (omega (arith, past)))
+
+leads_slash : (dir to : List ℕ) → length dir < length to → get_or to (length dir) 0 ≡ 47 → bytes_eq (take (length dir) to) dir ≡ leads dir to
+leads_slash [] [] within is = absurd (omega (arith, within))
+leads_slash [] (c ∷ to) within is = rw is refl
+leads_slash (b ∷ dir) [] within is = absurd (omega (arith, within))
+leads_slash (b ∷ dir) (c ∷ to) within is = rw (eq_turns c b) (ap (λ (t : Bool). eqb b c && t) (leads_slash dir to (omega (arith, within)) is))
+
+leads_other : (dir to : List ℕ) → length dir < length to → get_or to (length dir) 0 ≢ 47 → false ≡ leads dir to
+leads_other [] [] within other = absurd (omega (arith, within))
+leads_other [] (c ∷ to) within other = sym (ne_eqb c 47 other)
+leads_other (b ∷ dir) [] within other = absurd (omega (arith, within))
+leads_other (b ∷ dir) (c ∷ to) within other = sym (and_false (eqb b c)) ∙ ap (λ (t : Bool). eqb b c && t) (leads_other dir to (omega (arith, within)) other)
+
+-- ---- the same of the parts
+
+pub begin_past : (dir to : List ℕ) → length to ≤ length dir → bytes_eq dir to ≡ starts_with bytes_eq (slice_split (λ b. b == 47) to) (slice_split (λ b. b == 47) dir)
+begin_past dir to past = leads_past dir to past ∙ sym (begin_is dir to)
+
+pub begin_slash : (dir to : List ℕ) → length dir < length to → get_or to (length dir) 0 ≡ 47 → bytes_eq (take (length dir) to) dir ≡ starts_with bytes_eq (slice_split (λ b. b == 47) to) (slice_split (λ b. b == 47) dir)
+begin_slash dir to within is = leads_slash dir to within is ∙ sym (begin_is dir to)
+
+pub begin_other : (dir to : List ℕ) → length dir < length to → get_or to (length dir) 0 ≢ 47 → false ≡ starts_with bytes_eq (slice_split (λ b. b == 47) to) (slice_split (λ b. b == 47) dir)
+begin_other dir to within other = leads_other dir to within other ∙ sym (begin_is dir to)
+
+not_all : (parts : List (List ℕ)) → 0 < length parts → false ≡ begin [] parts
+not_all [] some = absurd (omega arith)
+not_all (part ∷ parts) some = refl
+
+-- a root has no names, and a directory that is not the root has some
+pub root_below : (dir to : List ℕ) → 0 < length dir → length to ≡ 0 → false ≡ begin (path_names to) (path_names dir)
+root_below [] to some none = absurd (omega (arith, some))
+root_below (b ∷ dir) [] some none = not_all (slice_split is_slash dir) (some_part dir)
+root_below (b ∷ dir) (c ∷ to) some none = absurd (omega (arith, none))
+
+-- what tells whether two texts are the same is their comparison
+pub same_is : (r : Bool) (xs ys : List ℕ) → (IsTrue r ↔ (xs ≡ ys)) → r ≡ bytes_eq xs ys
+same_is r xs ys told = same_from_decides r (bytes_eq xs ys) told (bytes_eq-Decides xs ys)
+
+pub other_length : (xs ys : List ℕ) → length xs ≢ length ys → false ≡ bytes_eq xs ys
+other_length xs ys other = elim (which (bytes_eq xs ys)) [
+  | inl e ↦ absurd (other (ap length ((bytes_eq-Decides xs ys).0 e)))
+  | inr e ↦ sym e
+]

@@ -1,0 +1,4 @@
+pub mod Leads
+pub mod Entries
+pub mod Filled
+pub mod Slashes

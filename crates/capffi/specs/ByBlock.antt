@@ -1,0 +1,61 @@
+-- What the grants of a block say to a question.
+use Rattle.std.specs.Prelude.{◌≡◌, ◌<◌, ◌≤◌, ◌⊎◌, ℕ, List, length, IsTrue, IsFalse, Some, None, Result, Ok, MatchResult}
+use Rattle.capspec.specs.Names.{names_of, are_few_and_short}
+use Rattle.capgrant.specs.declared.access.Access.{Access}
+use Rattle.capgrant.specs.declared.answer.Verdict.{Verdict}
+use Rattle.capgrant.specs.declared.answer.Verdict.TheVariants.{Allowed}
+use Rattle.capgrant.specs.Question.{question}
+use Rattle.capgrant.specs.Question.{Question as Asked}
+use Rattle.capgrant.specs.Verdict.{verdict_of}
+use Rattle.capffi.specs.declared.block.Block.{Block}
+use Rattle.capffi.specs.declared.passed.Question.{Question}
+use Rattle.capffi.specs.declared.trouble.Trouble.{Trouble}
+use Rattle.capffi.specs.declared.trouble.Trouble.TheVariants as troubles
+use Rattle.capffi.specs.Asking.{access_of}
+use Rattle.capffi.specs.Blocks.{IsBlock, block_fs, block_grants}
+
+-- what is asked of each grant: who the caller is and whose the inode is, by numbers
+abbrev pub case_of : List ℕ → List (List ℕ) → List ℕ → Question → Access → Asked
+case_of fs path groups q access = question fs (record { uid = q.uid; gid = q.gid; groups = groups }) path (record { uid = q.owner; gid = q.group; mode = q.mode }) access
+
+-- the verdict of the grants of the block, on the file system of the block
+abbrev pub IsVerdictOf : Block → List ℕ → List (List ℕ) → List ℕ → Question → Verdict → Type 0
+IsVerdictOf block text path groups q verdict =
+    (access : Access) × (q.mode ≤ 4095) × (access_of q.access q.number ≡ Some access) × (verdict ≡ verdict_of (case_of (block_fs block text) path groups q access) (block_grants block text))
+
+-- the mode is too great, or else the number of the access is none
+abbrev pub IsNumberTrouble : Question → Trouble → Type 0
+IsNumberTrouble q troubles.Mode = 4095 < q.mode
+IsNumberTrouble q troubles.Access = (q.mode ≤ 4095) × (access_of q.access q.number ≡ None)
+IsNumberTrouble q trouble = ⊥
+
+-- what is said of the names of a path
+abbrev pub IsSaidOf : Block → List ℕ → List (List ℕ) → List ℕ → Question → Result Verdict Trouble → Type 0
+IsSaidOf block text path groups q said = MatchResult said (IsVerdictOf block text path groups q) (IsNumberTrouble q)
+
+-- the first of the values that means nothing is told: the block, the groups, the path, or one of the numbers
+abbrev pub IsBlockTrouble : Block → List ℕ → List ℕ → List ℕ → Question → Trouble → Type 0
+IsBlockTrouble block text path groups q troubles.Block = ¬ IsBlock block text
+IsBlockTrouble block text path groups q troubles.Groups = IsBlock block text × (16 < length groups)
+IsBlockTrouble block text path groups q troubles.Path = IsBlock block text × (length groups ≤ 16) × IsFalse (are_few_and_short (names_of path))
+IsBlockTrouble block text path groups q troubles.Memory = Unit {0}
+IsBlockTrouble block text path groups q trouble = IsBlock block text × (length groups ≤ 16) × IsTrue (are_few_and_short (names_of path)) × IsNumberTrouble q trouble
+
+-- what is said of the path of a text, or why there is no verdict
+abbrev pub IsSaid : Block → List ℕ → List ℕ → List ℕ → Question → Result Verdict Trouble → Type 0
+IsSaid block text path groups q said =
+    MatchResult said
+    (λ verdict. IsBlock block text × (length groups ≤ 16) × IsTrue (are_few_and_short (names_of path)) × IsVerdictOf block text (names_of path) groups q verdict)
+    (IsBlockTrouble block text path groups q)
+
+-- the verdict is that the grant allows, whatever the groups of the caller
+abbrev pub IsAllowedFor : Block → List ℕ → List ℕ → Question → ℕ → Type 0
+IsAllowedFor block text path q grant = (groups : List ℕ) → length groups ≤ 16 → IsSaid block text path groups q (Ok (Allowed grant))
+
+-- the number is that of such a grant, or 0, which says nothing
+abbrev pub IsAllowing : Block → List ℕ → List ℕ → Question → ℕ → Type 0
+IsAllowing block text path q told = (told ≡ 0) ⊎ IsAllowedFor block text path q told
+
+-- the same question of a caller with other groups
+abbrev pub with_groups : Asked → List ℕ → Asked
+with_groups q groups = question q.fs (record { uid = q.caller.uid; gid = q.caller.gid; groups = groups }) q.path q.attr q.access
