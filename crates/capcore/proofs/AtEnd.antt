@@ -3,6 +3,7 @@ use Rattle.std.proofs.Common.{◌≡◌, ℕ, zero, suc, ◌<◌, Bool, true, fa
 use Rattle.std.specs.Prelude.{All, IfSome, ◌==◌}
 use Rattle.std.specs.List.{find, list_any, fold, AllByRecursion, IsDistinct}
 use Rattle.std.specs.FinMap as map
+use Rattle.std.specs.FinSet as set
 use Rattle.std.proofs.lemmas.List.Elements.{All-contains, All-from_recursion, recursion_from_All}
 use Rattle.std.proofs.lemmas.Map.Keys.{apart_from_distinct}
 use Rattle.capbits.specs.declared.ids.ClientId.{ClientId}
@@ -23,6 +24,7 @@ use Rattle.lockmachine.specs.declared.states.InodeLocks.{InodeLocks}
 use Rattle.lockmachine.specs.Inodes.{StateMap}
 use Rattle.lockmachine.specs.Scene.{Scene}
 use Rattle.capcore.specs.Finishing.{due_under, told_at, numbered_as, entry_under, entry_by}
+use Rattle.capcore.specs.InoSets.{InoSet}
 use Rattle.capcore.specs.Touching.{forget_at, forget_among}
 use Rattle.capcore.specs.Serves.{is_touched}
 use Rattle.capcore.proofs.Leaving.{found-contains}
@@ -107,8 +109,8 @@ entry-alike known first fs tree sessions locks states row same_known is =
     λ i. numbered_as (same_known i) (told_at fs tree sessions (is i) row) (due_under fs tree sessions (is i) row) row
 
 -- first the others are forgotten, and then the inode of the event: the strays of all that are touched
-pub forget-all : (ino : ℕ) (touched : StateMap) (s : Scene) → forget_at ino (forget_among (map.contains_key touched) s) ≡ forget_among (is_touched ino touched) s
+pub forget-all : (ino : ℕ) (touched : InoSet) (s : Scene) → forget_at ino (forget_among (set.contains touched) s) ≡ forget_among (is_touched ino touched) s
 forget-all ino touched s =
-    sym (forget-one ino (forget_among (map.contains_key touched) s))
-    ∙ forget-twice (map.contains_key touched) (λ n. n == ino) s
-    ∙ forget-same (λ n. map.contains_key touched n || (n == ino)) (is_touched ino touched) s (λ n. or_turned (map.contains_key touched n) (n == ino))
+    sym (forget-one ino (forget_among (set.contains touched) s))
+    ∙ forget-twice (set.contains touched) (λ n. n == ino) s
+    ∙ forget-same (λ n. set.contains touched n || (n == ino)) (is_touched ino touched) s (λ n. or_turned (set.contains touched n) (n == ino))

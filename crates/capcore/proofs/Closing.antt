@@ -83,12 +83,6 @@ module _ (from : ℕ → Bool) (old touched : State) (sound : IsSound old) (touc
       touches-all (λ row. IsTrue (has_session touched.scene.sessions row.holder.client.0)) (λ row entry. entry.of_session)
       (λ row was off entry. let same = touches.same in ap is_some (same.sessions row was off) ∙ entry.of_session)
 
-  -- each is on an inode that has locks
-  pub touches-locked : All (λ row. IsTrue (map.contains_key touched.scene.locks.states row.holder.ino.0)) rows
-  touches-locked =
-      touches-all (λ row. IsTrue (map.contains_key touched.scene.locks.states row.holder.ino.0)) (λ row entry. touches.locked row.holder.ino.0 ∙ entry.on_inode)
-      (λ row was off entry. touches.locked row.holder.ino.0 ∙ touches.known row.holder.ino.0 ∙ entry.on_inode)
-
 -- ---- what touches one inode
 
 -- it touches the inodes of which there is but this one
@@ -134,9 +128,6 @@ module _ (old : State) (e : Event) (k : Holder) (about : touched_by e ≡ Some k
 
   pub first-clients : All (λ row. IsTrue (has_session first.sessions row.holder.client.0)) first.table.rows
   first-clients = touches-clients from old (with_scene old first) sound touches
-
-  pub first-locked : All (λ row. IsTrue (map.contains_key first.locks.states row.holder.ino.0)) first.table.rows
-  first-locked = touches-locked from old (with_scene old first) sound touches
 
   -- ---- the end of the step
 

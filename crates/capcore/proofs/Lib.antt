@@ -19,7 +19,8 @@ pub mod Judging
 pub mod Leaving
 pub mod Memory
 pub mod ManyInodes
-pub mod Kept
+pub mod InoSets
+pub mod Adding
 pub mod Moved
 pub mod Numbered
 pub mod EndsThere

@@ -1,13 +1,10 @@
 -- The end of a step at several inodes: one after another, each once, they are finished as if all at once.
-use Rattle.std.proofs.Common.{◌≡◌, ℕ, Bool, true, false, cond, ◌||◌, ◌&&◌, List, [], ◌∷◌, filter, map as each, ◌++◌, append-nil, append_assoc, eq-eqb, refl, sym, ap, subst, ◌∙◌}
-use Rattle.std.specs.Prelude.{T, All, ◌==◌}
-use Rattle.std.specs.declared.cmp.Ordering.{Ordering}
-use Rattle.std.specs.declared.cmp.Ordering.TheVariants.{Less, Equal, Greater}
+use Rattle.std.proofs.Common.{◌≡◌, ℕ, Bool, true, false, cond, ◌||◌, List, [], ◌∷◌, filter, map as each, ◌++◌, append-nil, append_assoc, eq-eqb, refl, sym, ap, subst, ◌∙◌}
+use Rattle.std.specs.Prelude.{All, ◌==◌}
 use Rattle.std.specs.Cmp.{unsigned_tied}
-use Rattle.std.specs.FinMap as map
-use Rattle.std.specs.FinMap.Entries.{below_all}
+use Rattle.std.specs.FinSet as set
 use Rattle.std.specs.List.{find, list_any, AllByRecursion, IsDistinct}
-use Rattle.std.specs.Ordering.{nat_cmp, eq_by_cmp, is_eq, is_lt}
+use Rattle.std.specs.Ordering.{nat_cmp, eq_by_cmp}
 use Rattle.std.proofs.lemmas.Bool.{eqb-true}
 use Rattle.std.proofs.lemmas.List.Elements.{All-map, All-weaker}
 use Rattle.capbits.specs.declared.ids.Ino.{Ino}
@@ -22,39 +19,13 @@ use Rattle.captable.specs.Calls.{is_of_inode, entries_on}
 use Rattle.captable.specs.Many.{changed_where, remade}
 use Rattle.captable.specs.Table.{same, is_row_of}
 use Rattle.captable.proofs.OneByOne.{same_holder}
+use Rattle.capcore.specs.InoSets.{InoSet, IsListOf}
 use Rattle.capcore.specs.Known.{KeptAnew}
 use Rattle.capcore.proofs.KeptSets.{kept-nobody, kept-same, kept-then, kept-not, found-stays}
-
--- ---- the inodes of a map are named once
 
 -- the same number
 abbrev pub same_number : ℕ → ℕ → Bool
 same_number = eq_by_cmp nat_cmp
-
-both_T : (a b : Bool) → T (a && b) → T a × T b
-both_T true b h = (tt, h)
-both_T false b h = absurd h
-
-less_T : (r : Ordering) → T (is_lt r) → r ≡ Less
-less_T Less h = refl
-less_T Equal h = absurd h
-less_T Greater h = absurd h
-
-keys_above : {X : Type 0} (k : ℕ) (es : List (ℕ × X)) → T (below_all nat_cmp k es) → AllByRecursion (λ q. same_number k q ≡ false) (each (λ e. e.0) es)
-keys_above k [] h = tt
-keys_above k (e ∷ es) h =
-    let parts = both_T _ _ h in
-    (ap is_eq (less_T _ parts.0), keys_above k es parts.1)
-
-keys_once : {X : Type 0} (es : List (ℕ × X)) → T (map.is_sorted nat_cmp es) → IsDistinct same_number (each (λ e. e.0) es)
-unfolding IsDistinct
-keys_once [] h = tt
-keys_once (e ∷ es) h =
-    let parts = both_T _ _ h in
-    (keys_above e.0 es parts.0, keys_once es parts.1)
-
-pub distinct-keys : {X : Type 0} (m : map.FinMap nat_cmp X) → IsDistinct same_number (map.keys m)
-distinct-keys m = keys_once (map.entries m) (map.entries_sorted m)
 
 -- ---- entries of some inodes change
 
@@ -219,14 +190,14 @@ next-finished g f t was all k left mid sets h now then once so_far step alike ke
         ap (λ b. list_any (same_number n) so_far.done || b) (sym (unsigned_tied n k) ∙ sym (or_false (same_number n k)))
         ∙ sym (list_any-append (same_number n) so_far.done (k ∷ []))
 
--- at the end all inodes of a map are
-pub all-finished : {S X : Type 0} (g : EntryRow → Entry) (f : EntryRow → Caps) (t : Table) (was : HashMap Holder Caps S) (m : map.FinMap nat_cmp X) (now : Table) (sets : HashMap Holder Caps S)
-    → IsFinishing g f t was (map.keys m) [] now sets
-    → (now ≡ changed_where (on (map.contains_key m)) g t) × KeptAnew (λ k. map.contains_key m k.ino.0) f t was sets
-all-finished g f t was m now sets so_far = (
-  so_far.finished ∙ ap (λ (rows : List EntryRow). record t { rows = rows }) (same_tests (λ n. list_any (same_number n) so_far.done) (map.contains_key m) tests g t.rows),
-  kept-same (λ k. list_any (same_number k.ino.0) so_far.done) (λ k. map.contains_key m k.ino.0) f t was sets (λ k. tests k.ino.0) so_far.kept,
+-- at the end all inodes of a set are
+pub all-finished : {S : Type 0} (g : EntryRow → Entry) (f : EntryRow → Caps) (t : Table) (was : HashMap Holder Caps S) (inos : InoSet) (all : List ℕ) (now : Table) (sets : HashMap Holder Caps S)
+    → IsListOf inos all → IsFinishing g f t was all [] now sets
+    → (now ≡ changed_where (on (set.contains inos)) g t) × KeptAnew (λ k. set.contains inos k.ino.0) f t was sets
+all-finished g f t was inos all now sets lists so_far = (
+  so_far.finished ∙ ap (λ (rows : List EntryRow). record t { rows = rows }) (same_tests (λ n. list_any (same_number n) so_far.done) (set.contains inos) tests g t.rows),
+  kept-same (λ k. list_any (same_number k.ino.0) so_far.done) (λ k. set.contains inos k.ino.0) f t was sets (λ k. tests k.ino.0) so_far.kept,
 )
   where
-    tests : (n : ℕ) → list_any (same_number n) so_far.done ≡ map.contains_key m n
-    tests n = ap (list_any (same_number n)) (sym (append-nil so_far.done) ∙ so_far.named) ∙ sym (map.contains_key-keys m n)
+    tests : (n : ℕ) → list_any (same_number n) so_far.done ≡ set.contains inos n
+    tests n = ap (list_any (same_number n)) (sym (append-nil so_far.done) ∙ so_far.named) ∙ sym (lists.among n)

@@ -16,7 +16,7 @@ use Rattle.locktable.specs.Rows.{row_of}
 use Rattle.captable.specs.declared.entry.EntryRow.{EntryRow}
 use Rattle.captable.specs.Calls.{is_of_inode}
 use Rattle.lockmachine.specs.Locks.{lock_at}
-use Rattle.lockmachine.specs.Scene.{Scene, outside, against_lock, against_part, against_locks, against_policy, against}
+use Rattle.lockmachine.specs.Scene.{Scene, outside, against_lock, against_part, against_locks, against_policy, against, told_set}
 use Rattle.lockmachine.specs.Rows.{IsInRowOf, IsInRow}
 use Rattle.lockmachine.specs.Policy.{permitted}
 use Rattle.capcore.specs.Headline.{IsTakenBack, IsInPlace, AreRevoked}
@@ -76,7 +76,22 @@ placed-in_row s row part (Some (Gather from to)) place = place.0
 
 -- ---- what is not permitted
 
-pub all-revoked : (s : Scene) → AreRevoked s
-all-revoked s row cap found held out =
+revoked-lost : (s : Scene) (row : EntryRow) (cap : Cap) → has row.entry.held cap ≡ true → has (permitted s.fs s.tree s.sessions row.holder) cap ≡ false → has (against s row) cap ≡ true
+revoked-lost s row cap held out =
     has-union (against_locks s row) (against_policy s row) cap
     ∙ second_true _ _ (has-minus row.entry.held (permitted s.fs s.tree s.sessions row.holder) cap ∙ (λ i. held i && not (out i)))
+
+pub all-revoked : (s : Scene) → AreRevoked s
+all-revoked s row cap found = revoked-lost s row cap
+
+-- so what a client is to know that it holds is permitted
+pub told-permitted : (s : Scene) (row : EntryRow) (cap : Cap) → has (told_set s row) cap ≡ true → has (permitted s.fs s.tree s.sessions row.holder) cap ≡ true
+told-permitted s row cap told = by_test (has (permitted s.fs s.tree s.sessions row.holder) cap) (has row.entry.held cap) refl refl
+  where
+    is : (has row.entry.held cap && not (has (against s row) cap)) ≡ true
+    is = sym (has-minus row.entry.held (against s row) cap) ∙ told
+
+    by_test : (p h : Bool) → has (permitted s.fs s.tree s.sessions row.holder) cap ≡ p → has row.entry.held cap ≡ h → p ≡ true
+    by_test true h may held = refl
+    by_test false true out held = absurd (true≢false (sym is ∙ (λ i. held i && not (revoked-lost s row cap held out i))))
+    by_test false false out held = absurd (true≢false (sym is ∙ ap (λ b. b && not (has (against s row) cap)) held))

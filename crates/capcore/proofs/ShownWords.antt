@@ -31,9 +31,10 @@ use Rattle.capcore.specs.Headline.{holds}
 use Rattle.capcore.specs.Judge.{judged, revoked_of}
 use Rattle.capcore.specs.declared.history.Row.{Row}
 use Rattle.capcore.specs.State.{State}
-use Rattle.capcore.specs.Shown.{AreShown, ShowsWhatIsTold, TakesUnshown, shown_of}
+use Rattle.capcore.specs.Shown.{AreShown, ShowsWhatIsTold, ShowsOnlyPermitted, TakesUnshown, shown_of}
 use Rattle.capcore.specs.Sound.{IsSound, IsSoundEntry}
 use Rattle.capcore.proofs.Leaving.{found-contains}
+use Rattle.capcore.proofs.Placed.{told-permitted}
 use Rattle.capcore.proofs.Revoking.{revoked-found}
 use Rattle.capcore.proofs.ShownSteps.{at, entry_found}
 use Rattle.capcore.proofs.Touched.{touched-tests}
@@ -47,6 +48,11 @@ shows-told rows s sound was k e there none_due =
     let above : e.seq ≤ e.told_seq = ltb-false e.told_seq e.seq none_due in
     let is = was k e there in
     is.current (omega (arith, below, above))
+
+-- so what was shown is permitted
+pub shows-permitted : (rows : List Row) (s : Scene) → ShowsWhatIsTold rows s → ShowsOnlyPermitted rows s
+shows-permitted rows s shows k e cap there none_due was =
+    told-permitted s (record { holder = k; entry = e }) cap (ap (λ (caps : Caps). has caps cap) (sym (shows k e there none_due)) ∙ was)
 
 -- ---- an acknowledgement
 

@@ -1,7 +1,8 @@
 -- Where the settling of a step has come to, between two servings.
-use Rattle.std.proofs.Common.{◌≡◌, ◌≢◌, ◌+◌, ℕ, Bool, true, false, inl, inr, Some, is_some, List, [], ◌∷◌, ◌++◌, length, map as each, refl, sym, ap, subst, ◌∙◌, Contains, append-nil, arith, true≢false}
+use Rattle.std.proofs.Common.{◌≡◌, ◌≢◌, ◌+◌, ℕ, Bool, true, false, inl, inr, Some, List, [], ◌∷◌, ◌++◌, length, map as each, refl, sym, ap, subst, ◌∙◌, Contains, append-nil, arith, true≢false}
 use Rattle.std.specs.Option.{option_map}
 use Rattle.std.specs.FinMap as map
+use Rattle.std.specs.FinSet as set
 use Rattle.std.proofs.lemmas.Bool.{eqb-true}
 use Rattle.std.proofs.lemmas.List.{length-append}
 use Rattle.std.proofs.lemmas.List.Elements.{All-contains, filter_map-append, filter_passes}
@@ -14,7 +15,7 @@ use Rattle.captable.specs.declared.entry.EntryRow.{EntryRow}
 use Rattle.captable.specs.Calls.{is_of_inode, entries_on}
 use Rattle.lockmachine.specs.declared.request.Request.{Request}
 use Rattle.lockmachine.specs.declared.moves.Move.TheVariants.{Serve, Settled}
-use Rattle.lockmachine.specs.Inodes.{StateMap, lock_in}
+use Rattle.lockmachine.specs.Inodes.{lock_in}
 use Rattle.lockmachine.specs.Requests.{first_for}
 use Rattle.lockmachine.specs.Locks.{IsLockMap, lock_at, request_at, without_request}
 use Rattle.lockmachine.specs.Wants.{want_of, in_all}
@@ -28,11 +29,12 @@ use Rattle.lockmachine.proofs.SameBut.{begin-alike, first-moved}
 use Rattle.lockmachine.proofs.Turns.{served-ends, ends-turn}
 use Rattle.lockmachine.proofs.Waiting.{quiet-waits-at, waits-wider, waits-less-at, served-at}
 use Rattle.capcore.specs.declared.outcome.Ended.{Ended}
+use Rattle.capcore.specs.InoSets.{InoSet}
 use Rattle.capcore.specs.Served.{is_rename}
 use Rattle.capcore.specs.Serves.{Serves, SettlesWith, is_touched}
 use Rattle.capcore.specs.Serving.{tree_after}
 use Rattle.capcore.specs.Settle.{Made, Began, Gathered, Served, Makes, MakesAll, ended_by, ended_in, sized_by, sized_in}
-use Rattle.capcore.specs.Sweep.{AreStill, IsSwept, IsTurnOfLeast, Keeps, Covers, Reaches}
+use Rattle.capcore.specs.Sweep.{AreStill, IsSwept, IsTurnOfLeast, Widens, Covers, Reaches}
 use Rattle.capcore.specs.Touching.{IsSameOff}
 use Rattle.capcore.proofs.Among.{untouched, not-touched, more-touched}
 use Rattle.capcore.proofs.Moved.{makes-append}
@@ -42,8 +44,8 @@ use Rattle.capcore.proofs.SameOff.{off-refl, off-trans, off-wider}
 use Rattle.capcore.proofs.Sweeping.{still-kept}
 
 -- these moves were made and these requests ended; nothing changed but at the inodes that are touched, among which are those of the
--- event, and of which all but the one have their locks from before kept; elsewhere nothing moves, and who waits there is held up
-pub record IsSoFar (ino : ℕ) (from : ℕ → Bool) (touched : StateMap) (first now : Scene) (told : List Ended) (sized : List Ino) : Type 0 where
+-- event; elsewhere nothing moves, and who waits there is held up
+pub record IsSoFar (ino : ℕ) (from : ℕ → Bool) (touched : InoSet) (first now : Scene) (told : List Ended) (sized : List Ino) : Type 0 where
   pub moves : List Made
   pub made : MakesAll first moves now
   pub ended_is : told ≡ ended_in moves
@@ -51,18 +53,16 @@ pub record IsSoFar (ino : ℕ) (from : ℕ → Bool) (touched : StateMap) (first
   pub among : (other : ℕ) → from other ≡ true → is_touched ino touched other ≡ true
   pub same : IsSameOff (is_touched ino touched) first now
   pub states : (other : ℕ) → is_touched ino touched other ≡ false → map.get now.locks.states other ≡ map.get first.locks.states other
-  pub apart : map.contains_key touched ino ≡ false
-  pub before : (other : ℕ) → map.contains_key touched other ≡ true → map.get touched other ≡ map.get first.locks.states other
+  pub apart : set.contains touched ino ≡ false
   pub still : AreStill (is_touched ino touched) now
   pub waits : WaitAt (is_touched ino touched) now
   pub count : length told + length now.locks.queue ≡ length first.locks.queue
 
 -- ---- at first
 
-pub so-far-begins : (ino : ℕ) (touched : StateMap) (first : Scene) → IsQuietOutside (is_touched ino touched) first → map.contains_key touched ino ≡ false
-    → ((other : ℕ) → map.contains_key touched other ≡ true → map.get touched other ≡ map.get first.locks.states other)
+pub so-far-begins : (ino : ℕ) (touched : InoSet) (first : Scene) → IsQuietOutside (is_touched ino touched) first → set.contains touched ino ≡ false
     → IsSoFar ino (is_touched ino touched) touched first first [] []
-so-far-begins ino touched first quiet apart before = record {
+so-far-begins ino touched first quiet apart = record {
   moves = [];
   made = refl;
   ended_is = refl;
@@ -71,7 +71,6 @@ so-far-begins ino touched first quiet apart before = record {
   same = off-refl (is_touched ino touched) first;
   states = λ other off. refl;
   apart = apart;
-  before = before;
   still = record {
     ends = λ other part off. ends_not first (other, part) (lock_at first.locks other part) (quiet.each_other other part off);
     begins = λ other part off. begins_not first (other, part) (lock_at first.locks other part) (quiet.each_other other part off);
@@ -91,7 +90,7 @@ none-sized (Served q o ∷ moves) none = absurd (cc)
 pub turn-of_least : (at : ℕ → Bool) (s : Scene) → AreStill at s → NothingEnds s → IsTurnOfLeast at s
 turn-of_least at s still ends a least = ends-turn s a ends (λ other part below. still.begins other part (least.least other below))
 
-module _ (ino : ℕ) (from : ℕ → Bool) (touched : StateMap) (first now : Scene) (told : List Ended) (sized : List Ino) (so : IsSoFar ino from touched first now told sized) where
+module _ (ino : ℕ) (from : ℕ → Bool) (touched : InoSet) (first now : Scene) (told : List Ended) (sized : List Ino) (so : IsSoFar ino from touched first now told sized) where
   -- ---- gathers began and ended
 
   module _ (new : Scene) (swept : IsSwept (is_touched ino touched) now new) where
@@ -129,7 +128,6 @@ module _ (ino : ℕ) (from : ℕ → Bool) (touched : StateMap) (first now : Sce
       same = by_left (IsSameOff (is_touched ino touched) first) (off-trans (is_touched ino touched) first now left so.same swept_off);
       states = λ other off. swept.states other off ∙ so.states other off;
       apart = so.apart;
-      before = so.before;
       still = by_left (AreStill (is_touched ino touched)) (still-kept (is_touched ino touched) now new.locks so.still swept.queue swept.states);
       waits = swept.waits;
       count = ap (λ (q : List Request). length told + length q) swept.queue ∙ so.count;
@@ -150,8 +148,8 @@ module _ (ino : ℕ) (from : ℕ → Bool) (touched : StateMap) (first now : Sce
 
   -- ---- a request was served
 
-  module _ (ticket : Ticket) (ended : Ended) (new : Scene) (kept : StateMap) (order : IsLockMap now.locks) (tree : IsTree now.tree) (move : first_move now ≡ Serve ticket)
-      (serves : Serves now ticket ended new) (reaches : Reaches serves.request ino now.tree new.tree now.table now.locks.states touched kept) where
+  module _ (ticket : Ticket) (ended : Ended) (new : Scene) (kept : InoSet) (order : IsLockMap now.locks) (tree : IsTree now.tree) (move : first_move now ≡ Serve ticket)
+      (serves : Serves now ticket ended new) (reaches : Reaches serves.request ino now.tree new.tree now.table touched kept) where
     abbrev q : Request
     q = serves.request
 
@@ -186,33 +184,22 @@ module _ (ino : ℕ) (from : ℕ → Bool) (touched : StateMap) (first now : Sce
 
     -- ---- which inodes it touches
 
-    abbrev more : Keeps ino now.locks.states touched kept
-    more = reaches.keeps
+    abbrev more : Widens ino touched kept
+    more = reaches.widens
 
-    still_kept : (other : ℕ) → map.contains_key touched other ≡ true → map.contains_key kept other ≡ true
-    still_kept other was = ap is_some (more.before other was) ∙ was
-
-    not_before : (other : ℕ) → map.contains_key kept other ≡ false → map.contains_key touched other ≡ false
-    not_before other none = elim (map.contains_key touched other) as (λ b. map.contains_key touched other ≡ b → b ≡ false) [
-      | true ↦ λ was. absurd (true≢false (sym (still_kept other was) ∙ none))
+    not_before : (other : ℕ) → set.contains kept other ≡ false → set.contains touched other ≡ false
+    not_before other none = elim (set.contains touched other) as (λ b. set.contains touched other ≡ b → b ≡ false) [
+      | true ↦ λ was. absurd (true≢false (sym (more.stay other was) ∙ none))
       | false ↦ λ was. refl
     ] refl
 
     wider : (other : ℕ) → is_touched ino kept other ≡ false → is_touched ino touched other ≡ false
     wider other off = (let un = untouched ino kept other off in not-touched ino touched other un.0 (not_before other un.1))
 
-    apart_now : map.contains_key kept ino ≡ false
-    apart_now = elim (map.contains_key kept ino) as (λ b. map.contains_key kept ino ≡ b → b ≡ false) [
-      | true ↦ λ is. (let new = more.besides ino so.apart is in absurd (new.0 refl))
+    apart_now : set.contains kept ino ≡ false
+    apart_now = elim (set.contains kept ino) as (λ b. set.contains kept ino ≡ b → b ≡ false) [
+      | true ↦ λ is. (absurd (more.besides ino so.apart is refl))
       | false ↦ λ is. refl
-    ] refl
-
-    before_now : (other : ℕ) → map.contains_key kept other ≡ true → map.get kept other ≡ map.get first.locks.states other
-    before_now other is = elim (map.contains_key touched other) as (λ b. map.contains_key touched other ≡ b → map.get kept other ≡ map.get first.locks.states other) [
-      | true ↦ λ was. more.before other was ∙ so.before other was
-      | false ↦ λ was.
-          let new = more.besides other was is in
-          new.1 ∙ so.states other (not-touched ino touched other new.0 was)
     ] refl
 
     -- an inode that is not touched is another than that of the request
@@ -229,7 +216,7 @@ module _ (ino : ℕ) (from : ℕ → Bool) (touched : StateMap) (first now : Sce
           alike-apart now q ended.outcome row.holder.ino.0 tree serves.may (another row.holder.ino.0 off) (λ moves. not_within covers moves un.1 un.0)
     ]
       where
-        not_within : Covers q ino now.tree now.table kept → is_rename q.ask ≡ true → map.contains_key kept row.holder.ino.0 ≡ false → row.holder.ino.0 ≢ ino
+        not_within : Covers q ino now.tree now.table kept → is_rename q.ask ≡ true → set.contains kept row.holder.ino.0 ≡ false → row.holder.ino.0 ≢ ino
             → is_within now.tree.nodes row.holder.ino.0 q.ino.0 ≡ false
         not_within covers moves none other =
             elim (is_within now.tree.nodes row.holder.ino.0 q.ino.0) as (λ b. is_within now.tree.nodes row.holder.ino.0 q.ino.0 ≡ b → b ≡ false) [
@@ -308,12 +295,11 @@ module _ (ino : ℕ) (from : ℕ → Bool) (touched : StateMap) (first now : Sce
       sized_is =
           ap (λ inos. inos ++ sized_in (Served q ended.outcome ∷ [])) so.sized_is
           ∙ sym (filter_map-append sized_by so.moves (Served q ended.outcome ∷ []));
-      among = λ other is. more-touched ino touched kept still_kept other (so.among other is);
+      among = λ other is. more-touched ino touched kept more.stay other (so.among other is);
       same = by_after (IsSameOff (is_touched ino kept) first)
           (off-trans (is_touched ino kept) first now after (off-wider (is_touched ino touched) (is_touched ino kept) first now wider so.same) served_off);
       states = λ other off. ap (λ (s : Scene). map.get s.locks.states other) is_after ∙ so.states other (wider other off);
       apart = apart_now;
-      before = before_now;
       still = by_after (AreStill (is_touched ino kept)) still_after;
       waits = by_after (WaitAt (is_touched ino kept))
           (waits-wider (is_touched ino touched) (is_touched ino kept) after wider (waits-less-at (is_touched ino touched) now (tree_after now.tree q ended.outcome) q.ticket.0 so.waits));

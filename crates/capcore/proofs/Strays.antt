@@ -5,6 +5,7 @@ use Rattle.std.specs.List.{fold, list_any}
 use Rattle.std.specs.Option.{option_map}
 use Rattle.std.specs.Ordering.{nat_cmp}
 use Rattle.std.specs.FinMap as map
+use Rattle.std.specs.FinSet as set
 use Rattle.std.proofs.lemmas.Bool.{or_right, ne_eqb}
 use Rattle.std.proofs.lemmas.List.Folds.{list_any_at}
 use Rattle.inotree.specs.declared.node.Node.{Node}
@@ -20,6 +21,7 @@ use Rattle.captable.specs.declared.entry.EntryRow.{EntryRow}
 use Rattle.captable.specs.Calls.{is_of_inode}
 use Rattle.lockmachine.specs.Locks.{without_ino}
 use Rattle.lockmachine.specs.Scene.{Scene}
+use Rattle.capcore.specs.InoSets.{InoSet, IsListOf}
 use Rattle.capcore.specs.Finish.{is_kept}
 use Rattle.capcore.specs.Touching.{stays, forget_at, forget_among}
 use Rattle.capcore.proofs.Finishing.{same_kept}
@@ -185,7 +187,5 @@ fold_forget (k ∷ ks) s =
     ∙ forget-same (λ n. (n == k) || list_any (same_number n) ks) (λ n. list_any (same_number n) (k ∷ ks)) s
     (λ n. ap (λ b. b || list_any (same_number n) ks) (sym (unsigned_tied n k)))
 
-pub forget-keys : {X : Type 0} (m : map.FinMap nat_cmp X) (s : Scene) → fold forget_on s (map.keys m) ≡ forget_among (map.contains_key m) s
-forget-keys m s =
-    fold_forget (map.keys m) s
-    ∙ forget-same (λ n. list_any (same_number n) (map.keys m)) (map.contains_key m) s (λ n. sym (map.contains_key-keys m n))
+pub forget-all_of : (inos : InoSet) (numbers : List ℕ) (s : Scene) → IsListOf inos numbers → fold forget_on s numbers ≡ forget_among (set.contains inos) s
+forget-all_of inos numbers s lists = fold_forget numbers s ∙ forget-same (λ n. list_any (same_number n) numbers) (set.contains inos) s (λ n. sym (lists.among n))

@@ -5,10 +5,11 @@ use Rattle.std.specs.Ordering.{nat_cmp, eq_by_cmp}
 use Rattle.std.specs.Cmp.{unsigned_tied}
 use Rattle.std.specs.Option.{option_map}
 use Rattle.std.specs.FinMap as map
+use Rattle.std.specs.FinSet as set
 use Rattle.std.proofs.lemmas.Bool.{ltb-true, lt-ltb, le-ltb}
 use Rattle.std.proofs.lemmas.List.Sums.{sum_by-cons}
 use Rattle.lockmachine.proofs.Rest.{same_key}
-use Rattle.lockmachine.specs.Inodes.{StateMap}
+use Rattle.capcore.specs.InoSets.{InoSet}
 use Rattle.capcore.specs.Serves.{is_touched}
 use Rattle.capbits.specs.declared.cap.Part.{Part}
 use Rattle.capbits.specs.declared.cap.Part.TheVariants.{A, L, X, F}
@@ -128,8 +129,8 @@ last-turn at s here still turn done beyond = turn-rests s here turn done (λ oth
 -- ---- how many inodes are left
 
 -- how many of the touched inodes are behind this one
-abbrev pub behind : ℕ → StateMap → ℕ → ℕ
-behind ino touched here = count_by (nat_lt here) (ino ∷ map.keys touched)
+abbrev pub behind : ℕ → InoSet → ℕ → ℕ
+behind ino touched here = count_by (nat_lt here) (ino ∷ set.items touched)
 
 one_no_more : (a b x : ℕ) → a < b → cond (nat_lt b x) 1 0 ≤ cond (nat_lt a x) 1 0
 one_no_more a b x less = elim (nat_lt b x) as (λ p. nat_lt b x ≡ p → cond p 1 0 ≤ cond (nat_lt a x) 1 0) [
@@ -156,9 +157,9 @@ fewer a b less (x ∷ xs) among = elim (eq_by_cmp nat_cmp b x) as (λ e. eq_by_c
 ] refl among
 
 -- with each that is done, there are fewer
-pub fewer_behind : (ino : ℕ) (touched : StateMap) (here : ℕ) (next : Ino) → IsNextOf (is_touched ino touched) here (Some next) → behind ino touched next.0 < behind ino touched here
-fewer_behind ino touched here next (less, is, between) = fewer here next.0 less (ino ∷ map.keys touched) (
-    ap (λ b. b || list_any (eq_by_cmp nat_cmp next.0) (map.keys touched)) (unsigned_tied next.0 ino)
-    ∙ ap (λ b. (next.0 == ino) || b) (sym (map.contains_key-keys touched next.0))
+pub fewer_behind : (ino : ℕ) (touched : InoSet) (here : ℕ) (next : Ino) → IsNextOf (is_touched ino touched) here (Some next) → behind ino touched next.0 < behind ino touched here
+fewer_behind ino touched here next (less, is, between) = fewer here next.0 less (ino ∷ set.items touched) (
+    ap (λ b. b || list_any (eq_by_cmp nat_cmp next.0) (set.items touched)) (unsigned_tied next.0 ino)
+    ∙ ap (λ b. (next.0 == ino) || b) (sym (set.contains-items touched next.0))
     ∙ is
     )

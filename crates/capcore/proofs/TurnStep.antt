@@ -2,7 +2,6 @@
 use Rattle.std.proofs.Common.{◌==◌, ◌≡◌, ◌≤◌, ◌<◌, ◌^◌, ◌-◌, ℕ, ◌+◌, ◌++◌, true, false, not, Bool, Option, Some, None, is_some, List, [], Contains, length, refl, sym, ap, subst, ◌∙◌, arith}
 use Rattle.std.specs.Prelude.{IsTrue, All}
 use Rattle.std.specs.Option.{option_map}
-use Rattle.std.specs.FinMap as map
 use Rattle.std.specs.HashMap.{HashMap}
 use Rattle.capbits.specs.Caps.{Caps}
 use Rattle.captable.specs.declared.entry.Entry.{Entry}
@@ -10,26 +9,23 @@ use Rattle.captable.specs.declared.entry.Holder.{Holder}
 use Rattle.std.proofs.lemmas.Bool.{eqb-true}
 use Rattle.captable.specs.Calls.{without_client}
 use Rattle.std.proofs.lemmas.List.Sums.{length-filter, count_by-le-length}
-use Rattle.std.proofs.lemmas.List.Elements.{All-weaker, All-contains_itself}
+use Rattle.std.proofs.lemmas.List.Elements.{All-weaker}
 use Rattle.capbits.specs.declared.ids.ClientId.{ClientId}
 use Rattle.capbits.specs.declared.ids.Ino.{Ino}
 use Rattle.capbits.specs.declared.refusal.Refusal.{Refusal}
 use Rattle.capbits.specs.Refusal.{first_failing}
-use Rattle.locktable.specs.declared.states.LockState.{LockState}
 use Rattle.sessiontab.specs.Calls.{has_session}
 use Rattle.captable.specs.declared.entry.EntryRow.{EntryRow}
 use Rattle.captable.specs.Table.{Table, IsTable, entry_at}
 use Rattle.captable.proofs.ByHolder.{entry_at-without_client, entry_at-without_client_other}
 use Rattle.lockmachine.specs.declared.request.Request.{Request}
-use Rattle.lockmachine.specs.declared.states.InodeLocks.{InodeLocks}
-use Rattle.lockmachine.specs.Inodes.{StateMap, lock_in}
 use Rattle.lockmachine.specs.Locks.{LockMap, IsLockMap}
-use Rattle.lockmachine.specs.Requests.{part_of_ask, is_of_client}
-use Rattle.lockmachine.specs.Moves.{IsAtRest, IsQuietOutside}
+use Rattle.lockmachine.specs.Requests.{is_of_client}
+use Rattle.lockmachine.specs.Moves.{IsQuietOutside}
 use Rattle.lockmachine.specs.Scene.{Scene}
 use Rattle.lockmachine.proofs.Queue.{without_requests_of-kept}
 use Rattle.lockmachine.proofs.SameOutside.{rest-outside}
-use Rattle.lockmachine.proofs.Waiting.{quiet-waits-at}
+use Rattle.capcore.specs.InoSets.{InoSet}
 use Rattle.capcore.specs.declared.client.Turn.{Turn}
 use Rattle.capcore.specs.declared.client.Turn.TheVariants.{Close, Stale, Renew, Regrant, Evict}
 use Rattle.capcore.specs.declared.event.Event.{Event}
@@ -50,7 +46,7 @@ use Rattle.capcore.specs.Step.{earlier, all_ended, state_at_end}
 use Rattle.capcore.specs.Touching.{Touches, SettlesAt, Knows, finished_at}
 use Rattle.capcore.specs.Known.{known_in, AreKnown, StillKept}
 use Rattle.capcore.specs.Turn.{ReachesClient, turn_event, turn_tests, is_end, table_left, locks_left, messages_left, dropped_by, turned}
-use Rattle.capcore.proofs.Closing.{told-all, touches-clients, touches-locked}
+use Rattle.capcore.proofs.Closing.{told-all, touches-clients}
 use Rattle.capcore.proofs.EndKnown.{ends-known}
 use Rattle.capcore.proofs.Knowing.{HoldAlike, alike-less, still-knows}
 use Rattle.capcore.proofs.ShownSteps.{apart_client}
@@ -73,21 +69,6 @@ turn-stop s client turn = before-turn s client turn ∙ by_test (first_failing (
     by_test : (o : Option Refusal) → first_failing (turn_tests s.sessions client turn) ≡ o → stop s (turn_tests s.sessions client turn) [] [] ≡ option_map ByTest o
     by_test (Some r) is = rw is refl
     by_test None is = rw is refl
-
--- ---- who waits, waits for a lock that is there
-
-pub waiting-locked : (s : Scene) → IsAtRest s → All (λ q. IsTrue (map.contains_key s.locks.states q.ino.0)) s.locks.queue
-waiting-locked s rest =
-    All-weaker (Contains s.locks.queue) (λ q. IsTrue (map.contains_key s.locks.states q.ino.0)) each_one s.locks.queue (All-contains_itself s.locks.queue)
-  where
-    there : (q : Request) (o : Option InodeLocks) (lock : LockState) → option_map (lock_in (part_of_ask q.ask)) o ≡ Some lock → is_some o ≡ true
-    there q None lock is = absurd (cc)
-    there q (Some locks) lock is = refl
-
-    each_one : (q : Request) → Contains s.locks.queue q → IsTrue (map.contains_key s.locks.states q.ino.0)
-    each_one q inside =
-        let held = quiet-waits-at (λ _. false) s (record { each_other = λ other part off. rest.each other part }) q inside refl in
-        there q (map.get s.locks.states q.ino.0) _ held.gathers
 
 -- ---- no more are left than there were
 
@@ -122,7 +103,7 @@ left-alike true t client k e there = by_client (k.client.0 == client.0) refl
 -- ---- an event that nothing stops, and the state that it leads to by itself
 
 module _ (old : State) (client : ClientId) (turn : Turn) (passed : judged old.scene (turn_event client turn) ≡ None) (sound : IsSound old) (table : IsTable old.scene.table)
-    (ino : ℕ) (others : StateMap) (reaches : ReachesClient ino client old.scene.table old.scene.locks others) where
+    (ino : ℕ) (others : InoSet) (reaches : ReachesClient ino client old.scene.table old.scene.locks others) where
   abbrev e : Event
   e = turn_event client turn
 
@@ -154,9 +135,6 @@ module _ (old : State) (client : ClientId) (turn : Turn) (passed : judged old.sc
 
   pub turn-quiet : IsQuietOutside from touched.scene
   turn-quiet = let t = touches in rest-outside from old.scene touched.scene sound.at_rest t.same
-
-  pub turn-locked : All (λ row. IsTrue (map.contains_key touched.scene.locks.states row.holder.ino.0)) touched.scene.table.rows
-  turn-locked = touches-locked from old touched sound touches
 
   pub turn-clients : All (λ row. IsTrue (has_session touched.scene.sessions row.holder.client.0)) touched.scene.table.rows
   turn-clients = touches-clients from old touched sound touches

@@ -30,7 +30,7 @@ use Rattle.capcore.specs.Step.{earlier}
 use Rattle.capcore.proofs.Asked.{asking-touches, asking-direct, asking-stop, order-of_ask}
 use Rattle.capcore.proofs.EndKnown.{ends-known}
 use Rattle.capcore.proofs.Knowing.{HoldAlike, alike-less, still-there, still-knows}
-use Rattle.capcore.proofs.Closing.{told-own_numbers, told-but_own, touches-one, touches-locked, closed}
+use Rattle.capcore.proofs.Closing.{told-own_numbers, told-but_own, touches-one, closed}
 use Rattle.capcore.proofs.Stops.{touched-asks}
 use Rattle.capcore.specs.declared.event.Event.{Event}
 use Rattle.capcore.specs.declared.event.Event.TheVariants as event
@@ -77,9 +77,6 @@ module _ (old : State) (k : Holder) (ask : Ask) (sound : IsSound old) (table : I
 
   pub wait-quiet : IsQuietOutside from first
   wait-quiet = let t = touches in rest-outside from old.scene first sound.at_rest t.same
-
-  pub wait-locked : All (λ row. IsTrue (map.contains_key first.locks.states row.holder.ino.0)) first.table.rows
-  wait-locked = touches-locked from old (with_scene old first) sound touches
 
   order-then : IsLockMap locks
   order-then = subst IsLockMap (sym queued) (order-of_ask old.scene k ask order free)

@@ -1,5 +1,5 @@
--- What a step does once the locks have settled: where a size was changed, it is to be told; then it issues what may be held, forgets strays that nobody has an entry on,
--- and numbers what changed.
+-- What a step does once the locks have settled: where a size was changed, it is to be told; then it issues what may be held,
+-- forgets strays that nobody has an entry on, and numbers what changed.
 use Rattle.std.specs.Prelude.{ℕ, Bool, true, not, ◌||◌, List, [], ◌∷◌, map, Option, Some, None, if◌then◌else◌}
 use Rattle.std.specs.List.{find, list_any}
 use Rattle.std.specs.FinMap as finite

@@ -2,6 +2,7 @@
 use Rattle.std.specs.Prelude.{ℕ, Bool, List, [], ◌∷◌, Option, map as each}
 use Rattle.std.specs.Option.{option_map}
 use Rattle.std.specs.FinMap as map
+use Rattle.std.specs.FinSet as set
 use Rattle.capbits.specs.declared.cap.Cap.TheVariants.{P}
 use Rattle.capbits.specs.declared.cap.Part.{Part}
 use Rattle.capbits.specs.declared.cap.Part.TheVariants.{A, L, X, F}
@@ -20,6 +21,7 @@ use Rattle.lockmachine.specs.Scene.{against_lock}
 use Rattle.lockmachine.specs.Policy.{permitted}
 use Rattle.lockmachine.specs.Wants.{effective_want}
 use Rattle.capcore.specs.Finish.{allowed_by}
+use Rattle.capcore.specs.InoSets.{InoSet}
 
 -- the clients of these entries
 abbrev pub clients_of : List EntryRow → List ℕ
@@ -76,5 +78,5 @@ abbrev pub entry_by : (Holder → Caps) → List ℕ → Nodes → SessionTable 
 entry_by known fs tree sessions states row = entry_under known fs tree sessions (map.get states row.holder.ino.0) row
 
 -- whether the row is an entry on one of these inodes
-abbrev pub is_on : StateMap → EntryRow → Bool
-is_on states row = map.contains_key states row.holder.ino.0
+abbrev pub is_on : InoSet → EntryRow → Bool
+is_on inos row = set.contains inos row.holder.ino.0

@@ -20,6 +20,7 @@ pub mod Headline
 pub mod Sound
 pub mod Leaving
 pub mod Answered
+pub mod InoSets
 pub mod Serves
 pub mod Sweep
 pub mod SameEvents

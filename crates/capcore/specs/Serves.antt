@@ -1,6 +1,6 @@
 -- One serving by its number, and a settling with all that it served.
 use Rattle.std.specs.Prelude.{◌≡◌, ℕ, Bool, ◌||◌, ◌==◌, List, Some}
-use Rattle.std.specs.FinMap as map
+use Rattle.std.specs.FinSet as set
 use Rattle.std.specs.HashMap.{HashMap}
 use Rattle.capbits.specs.declared.ids.Ino.{Ino}
 use Rattle.capbits.specs.declared.ids.Ticket.{Ticket}
@@ -8,12 +8,12 @@ use Rattle.capbits.specs.Caps.{Caps}
 use Rattle.captable.specs.declared.entry.Holder.{Holder}
 use Rattle.inotree.specs.Tree.{IsTree}
 use Rattle.lockmachine.specs.declared.request.Request.{Request}
-use Rattle.lockmachine.specs.Inodes.{StateMap}
 use Rattle.lockmachine.specs.Locks.{request_at, without_request}
 use Rattle.lockmachine.specs.Scene.{Scene}
 use Rattle.capcore.specs.declared.outcome.Ended.{Ended}
 use Rattle.capcore.specs.Serving.{MayEndAs, tree_after}
 use Rattle.capcore.specs.Finish.{sizes_owed}
+use Rattle.capcore.specs.InoSets.{InoSet}
 use Rattle.capcore.specs.Settle.{Made, ended_in, sized_in}
 use Rattle.capcore.specs.Touching.{SettlesAt, told_then, finished_at}
 use Rattle.capcore.specs.Known.{known_in, KeptAnew}
@@ -26,9 +26,9 @@ pub record Serves (old : Scene) (ticket : Ticket) (ended : Ended) (new : Scene) 
   pub ended_is : ended ≡ record { client = request.client; ticket = request.ticket; outcome = ended.outcome }
   pub is : new ≡ record old { tree = tree_after old.tree request ended.outcome; locks = without_request old.locks ticket.0 }
 
--- the inode, or one whose locks from before were kept: another of the event, or one that was moved
-abbrev pub is_touched : ℕ → StateMap → ℕ → Bool
-is_touched ino touched other = (other == ino) || map.contains_key touched other
+-- the inode, or one of the others: another of the event, or one that was moved
+abbrev pub is_touched : ℕ → InoSet → ℕ → Bool
+is_touched ino others other = (other == ino) || set.contains others other
 
 -- by some moves the locks settle, nothing changes but at these inodes, among which are those of the event, these requests end, in
 -- this order, and the sizes of these inodes change

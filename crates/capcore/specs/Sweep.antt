@@ -1,6 +1,7 @@
 -- How the locks of several inodes settle: in the order of their numbers, and anew once a request was served.
 use Rattle.std.specs.Prelude.{◌≡◌, ◌≢◌, ◌<◌, ℕ, Bool, true, false, ◌⊎◌, List, [], Option, Some, None, Contains}
 use Rattle.std.specs.FinMap as map
+use Rattle.std.specs.FinSet as set
 use Rattle.capbits.specs.declared.cap.Part.{Part}
 use Rattle.capbits.specs.declared.ids.Ino.{Ino}
 use Rattle.capbits.specs.declared.ids.Ticket.{Ticket}
@@ -9,10 +10,10 @@ use Rattle.captable.specs.declared.entry.EntryRow.{EntryRow}
 use Rattle.captable.specs.Table.{Table}
 use Rattle.lockmachine.specs.declared.request.Request.{Request}
 use Rattle.lockmachine.specs.declared.moves.Move.TheVariants.{Serve, Settled}
-use Rattle.lockmachine.specs.Inodes.{StateMap}
 use Rattle.lockmachine.specs.Scene.{Scene}
 use Rattle.lockmachine.specs.Moves.{first_move, may_end, may_begin}
 use Rattle.lockmachine.specs.Turns.{IsTurnOf, WaitAt}
+use Rattle.capcore.specs.InoSets.{InoSet}
 use Rattle.capcore.specs.Served.{is_rename}
 use Rattle.capcore.specs.Settle.{Made, MakesAll, ended_in}
 
@@ -51,20 +52,18 @@ abbrev pub GoesOn : Scene → Option Ticket → Type 0
 GoesOn s None = first_move s ≡ Settled
 GoesOn s (Some ticket) = first_move s ≡ Serve ticket
 
--- if the request moves its inode, the locks are kept of every inode at or below it that somebody has an entry on, but for this one
-abbrev pub Covers : Request → ℕ → Nodes → Table → StateMap → Type 0
-Covers q ino tree table kept =
+-- if the request moves its inode, every inode at or below it that somebody has an entry on is one of these, but for this one
+abbrev pub Covers : Request → ℕ → Nodes → Table → InoSet → Type 0
+Covers q ino tree table others =
     is_rename q.ask ≡ true → (row : EntryRow) → Contains table.rows row → row.holder.ino.0 ≢ ino →
-    is_within tree.nodes row.holder.ino.0 q.ino.0 ≡ true → map.contains_key kept row.holder.ino.0 ≡ true
+    is_within tree.nodes row.holder.ino.0 q.ino.0 ≡ true → set.contains others row.holder.ino.0 ≡ true
 
--- locks of other inodes than this one are kept besides, as they are now
-pub record Keeps (ino : ℕ) (states old new : StateMap) : Type 0 where
-  pub before : (other : ℕ) → map.contains_key old other ≡ true → map.get new other ≡ map.get old other
-  pub besides : (other : ℕ) → map.contains_key old other ≡ false → map.contains_key new other ≡ true →
-      (other ≢ ino) × (map.get new other ≡ map.get states other)
+-- inodes other than this one come besides
+pub record Widens (ino : ℕ) (old new : InoSet) : Type 0 where
+  pub stay : (other : ℕ) → set.contains old other ≡ true → set.contains new other ≡ true
+  pub besides : (other : ℕ) → set.contains old other ≡ false → set.contains new other ≡ true → other ≢ ino
 
--- when the request is served, locks of other inodes than this one are kept besides; they cover what it moves, or the tree stays
--- as it was
-pub record Reaches (q : Request) (ino : ℕ) (tree after : Nodes) (table : Table) (states old new : StateMap) : Type 0 where
-  pub keeps : Keeps ino states old new
+-- when the request is served, inodes other than this one come besides; they cover what it moves, or the tree stays as it was
+pub record Reaches (q : Request) (ino : ℕ) (tree after : Nodes) (table : Table) (old new : InoSet) : Type 0 where
+  pub widens : Widens ino old new
   pub covers : (after ≡ tree) ⊎ Covers q ino tree table new

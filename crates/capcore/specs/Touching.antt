@@ -141,8 +141,8 @@ is_listing (event.Poll client max) = true
 
 -- ---- what they leave
 
--- an entry on the inode, as the event leaves it: what every state keeps of one, but that what is due is held; and the pin, if it
--- is not held, is due
+-- an entry on the inode, as the event leaves it: all that every state keeps of one, but that what is due need not be held yet; the
+-- pin, where it is not held, is due
 pub record IsTouchedEntry (s : Scene) (row : EntryRow) : Type 0 where
   pub of_session : IsTrue (has_session s.sessions row.holder.client.0)
   pub on_inode : IsTrue (map.contains_key s.tree.nodes row.holder.ino.0)

@@ -1,6 +1,6 @@
 -- What becomes of a client's session, and what goes with it.
 use Rattle.std.specs.Prelude.{◌≡◌, ℕ, Bool, true, false, not, List, [], ◌∷◌, map as each, filter, Contains, if◌then◌else◌}
-use Rattle.std.specs.FinMap as map
+use Rattle.std.specs.FinSet as set
 use Rattle.capbits.specs.declared.ids.ClientId.{ClientId}
 use Rattle.capbits.specs.Refusal.{Test}
 use Rattle.sessiontab.specs.declared.session.Status.TheVariants as status
@@ -11,7 +11,6 @@ use Rattle.captable.specs.declared.entry.EntryRow.{EntryRow}
 use Rattle.captable.specs.Table.{Table}
 use Rattle.captable.specs.Calls.{is_of_client, without_client}
 use Rattle.lockmachine.specs.declared.request.Request.{Request}
-use Rattle.lockmachine.specs.Inodes.{StateMap}
 use Rattle.lockmachine.specs.Locks.{LockMap, requests_of, without_requests_of}
 use Rattle.lockmachine.specs.Requests.{is_of_client as is_asked_by}
 use Rattle.capcore.specs.declared.client.Turn.{Turn}
@@ -20,6 +19,7 @@ use Rattle.capcore.specs.declared.event.Event.{Event}
 use Rattle.capcore.specs.declared.event.Event.TheVariants as event
 use Rattle.capcore.specs.declared.outcome.Ended.{Ended}
 use Rattle.capcore.specs.Direct.{dropped_of}
+use Rattle.capcore.specs.InoSets.{InoSet}
 use Rattle.capcore.specs.Messages.{is_to}
 use Rattle.capcore.specs.Serves.{is_touched}
 use Rattle.capcore.specs.State.{State}
@@ -84,10 +84,8 @@ turned s client turn = record {
 
 -- ---- where the client is
 
--- each inode that the client has an entry on or waits for is this one, or its locks are kept as they are; those of this one
--- are not
-pub record ReachesClient (ino : ℕ) (client : ClientId) (table : Table) (locks : LockMap) (others : StateMap) : Type 0 where
+-- each inode that the client has an entry on or waits for is this one, or one of the others; this one is none of them
+pub record ReachesClient (ino : ℕ) (client : ClientId) (table : Table) (locks : LockMap) (others : InoSet) : Type 0 where
   pub entries : (row : EntryRow) → Contains table.rows row → is_of_client client row ≡ true → is_touched ino others row.holder.ino.0 ≡ true
   pub requests : (q : Request) → Contains locks.queue q → is_asked_by client q ≡ true → is_touched ino others q.ino.0 ≡ true
-  pub apart : map.contains_key others ino ≡ false
-  pub before : (other : ℕ) → map.contains_key others other ≡ true → map.get others other ≡ map.get locks.states other
+  pub apart : set.contains others ino ≡ false

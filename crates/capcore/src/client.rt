@@ -1,6 +1,5 @@
 //! Steps by which a client's session ends, becomes stale, is open again or has other grants.
 ghost use Rattle.std.specs.Prelude.{Some, ◌≡◌, ◌+◌, ◌≤◌, ◌++◌, true, [], ◌∷◌, None, All, IsTrue, Contains, length, map as each, IfOk, IfErr, OnOk, OnErr, vec_capacity};
-ghost use Rattle.std.specs.FinMap as map;
 ghost use Rattle.std.specs.HashMap.{get};
 ghost use Rattle.capbits.specs.Refusal.{first_failing};
 ghost use Rattle.sessiontab.specs.Calls.{with_grants};
@@ -17,16 +16,16 @@ ghost use Rattle.capcore.specs.Answered.{IsAnswered};
 ghost use Rattle.capcore.specs.Direct.{dropped_of};
 ghost use Rattle.capcore.specs.Serves.{is_touched};
 ghost use Rattle.capcore.specs.Sound.{NumbersLeft};
-ghost use Rattle.capcore.specs.Sweep.{Keeps};
+ghost use Rattle.capcore.specs.Sweep.{Widens};
 ghost use Rattle.capcore.specs.Turn.{ReachesClient, turn_event, turn_tests, turned_sessions, is_end};
 ghost use Rattle.capcore.specs.Turn as words;
 
 use crate::ended::close_dropped;
 use crate::history::Stop;
+use crate::ino_set::InoSet;
 use crate::known::Known;
 use crate::messages::{Endings, Messages};
 use crate::outcome::{Ended, Outcome};
-use crate::reach::keep;
 use crate::reply::{Reply, Said};
 use crate::settle::end_at;
 use crate::world::World;
@@ -34,7 +33,7 @@ use capbits::{ClientId, Ino, Refusal};
 use capspec::Grants;
 use captable::CapTable;
 use inotree::ROOT;
-use lockmachine::{Locks, States};
+use lockmachine::Locks;
 use sessiontab::Sessions;
 use std::alloc::{AllocError, Global};
 
@@ -56,8 +55,8 @@ pub(crate) enum Turn<'a> {
 // What the step takes, made before anything changes.
 #[derive(Drop)]
 struct Room {
-    // The locks of each inode that the client has an entry on or waits for, but for the root's.
-    others: States,
+    // Each inode that the client has an entry on or waits for, but for the root.
+    others: InoSet,
     // Lists with a place for each request that waits: of those that are served,
     endings: Endings,
     // and of those that are dropped, of which nobody is told.
@@ -214,15 +213,13 @@ fn drop_requests(locks: &mut Locks, client: ClientId, dropped: &mut Messages)
 // ---- room
 
 impl Room {
-    // The locks of all inodes where the client is, and room for each request that waits.
+    // All inodes where the client is, and room for each request that waits.
     fn new(
         alloc: Global,
         table: &CapTable,
         locks: &Locks,
         client: ClientId,
     ) -> Result<Room, AllocError>
-        requires locked { All (λ row. IsTrue (map.contains_key locks.now.states row.holder.ino.0)) table.now.rows }
-        requires waiting { All (λ q. IsTrue (map.contains_key locks.now.states q.ino.0)) locks.now.queue }
         ensures reaches { IfOk result (λ room. ReachesClient 1 client table.now locks.now room.others) }
         ensures told { IfOk result (λ room. (room.endings.told.items ≡ []) × (length locks.now.queue ≤ room.endings.told.room)) }
         ensures kept { IfOk result (λ room. (room.endings.kept.items ≡ []) × (length locks.now.queue ≤ room.endings.kept.room)) }
@@ -249,65 +246,59 @@ impl Room {
     }
 }
 
-// The locks, as they are, of each inode that the client has an entry on or waits for, but for the root's.
+// Each inode that the client has an entry on or waits for, but for the root.
 fn reach_client(
     alloc: Global,
     table: &CapTable,
     locks: &Locks,
     client: ClientId,
-) -> Result<States, AllocError>
-    requires locked { All (λ row. IsTrue (map.contains_key locks.now.states row.holder.ino.0)) table.now.rows }
-    requires waiting { All (λ q. IsTrue (map.contains_key locks.now.states q.ino.0)) locks.now.queue }
+) -> Result<InoSet, AllocError>
     ensures { IfOk result (λ others. ReachesClient 1 client table.now locks.now others) }
 {
-    let mut others = States::new(alloc);
-    reach_entries(table, locks, client, &mut others)?;
+    let mut others = InoSet::new(alloc);
+    reach_entries(table, client, &mut others)?;
     reach_requests(locks, client, &mut others)?;
     Ok(others)
 }
 
-// Keeps the locks of each inode that the client has an entry on, but for the root's.
+// Adds each inode that the client has an entry on, but for the root.
 fn reach_entries(
     table: &CapTable,
-    locks: &Locks,
     client: ClientId,
-    others: &mut States,
+    others: &mut InoSet,
 ) -> Result<(), AllocError>
-    requires locked { All (λ row. IsTrue (map.contains_key locks.now.states row.holder.ino.0)) table.now.rows }
-    ensures keeps { Keeps 1 locks.now.states others.old others.new }
+    ensures widens { Widens 1 others.old others.new }
     ensures reaches { OnOk result ((row : EntryRow) → Contains table.now.rows row → is_of_client client row ≡ true
         → is_touched 1 others.new row.holder.ino.0 ≡ true) }
 {
     let mut walk = table.entries_of(client);
     'rows: while let Some(row) = walk.next() {
-        keep_other(locks, row.holder.ino, others)?;
+        add_other(row.holder.ino, others)?;
     }
     Ok(())
 }
 
-// Keeps the locks of each inode that the client waits for, but for the root's.
-fn reach_requests(locks: &Locks, client: ClientId, others: &mut States) -> Result<(), AllocError>
-    requires waiting { All (λ q. IsTrue (map.contains_key locks.now.states q.ino.0)) locks.now.queue }
-    ensures keeps { Keeps 1 locks.now.states others.old others.new }
+// Adds each inode that the client waits for, but for the root.
+fn reach_requests(locks: &Locks, client: ClientId, others: &mut InoSet) -> Result<(), AllocError>
+    ensures widens { Widens 1 others.old others.new }
     ensures reaches { OnOk result ((q : Request) → Contains locks.now.queue q → is_asked_by client q ≡ true
         → is_touched 1 others.new q.ino.0 ≡ true) }
 {
     for request in locks.requests() {
         if request.client.0 == client.0 {
-            keep_other(locks, request.ino, others)?;
+            add_other(request.ino, others)?;
         }
     }
     Ok(())
 }
 
-// Keeps the locks of the inode as they are, if it is not the root.
-fn keep_other(locks: &Locks, ino: Ino, others: &mut States) -> Result<(), AllocError>
-    requires locked { map.contains_key locks.now.states ino.0 ≡ true }
-    ensures keeps { Keeps 1 locks.now.states others.old others.new }
+// Adds the inode, if it is not the root.
+fn add_other(ino: Ino, others: &mut InoSet) -> Result<(), AllocError>
+    ensures widens { Widens 1 others.old others.new }
     ensures reaches { OnOk result (is_touched 1 others.new ino.0 ≡ true) }
 {
     if ino == ROOT {
         return Ok(());
     }
-    keep(locks, ino, others)
+    others.insert(ino)
 }

@@ -45,8 +45,8 @@ pub enum Event {
         /// The client.
         client: ClientId,
     },
-    /// An administrator replaces the grants of a client, whose session is open or stale and goes on. What it holds it still
-    /// holds; all else is decided by the new grants from now on.
+    /// An administrator replaces the grants of a client, whose session is open or stale and goes on. All is decided by
+    /// the new grants from now on: what it holds and they do not permit is being revoked.
     Regrant {
         /// The client.
         client: ClientId,

@@ -2,7 +2,7 @@
 ghost use Rattle.std.specs.Prelude.{◌≡◌, ◌==◌, ◌<◌, ◌^◌, ◌-◌, ℕ, List, true, false, Some, IsTrue, All, IsSome, IfSome};
 ghost use Rattle.std.specs.HashMap.{get};
 ghost use Rattle.std.specs.List.{find, list_any};
-ghost use Rattle.std.specs.FinMap as map;
+ghost use Rattle.std.specs.FinSet as set;
 ghost use Rattle.sessiontab.specs.Table.{SessionTable};
 ghost use Rattle.sessiontab.specs.Calls.{has_session};
 ghost use Rattle.captable.specs.Table.{IsTable, same, is_row_of, entry_at};
@@ -16,6 +16,7 @@ ghost use Rattle.capcore.specs.Known.{AreKnown, HaveRoom, KeptAnew, known_in};
 ghost use Rattle.capcore.specs.Touching.{forget_at, forget_among, finished_at, told_then};
 ghost use Rattle.capcore.specs.Serves.{is_touched};
 
+use crate::ino_set::InoSet;
 use crate::known::Known;
 use crate::reply::Reply;
 use crate::told::{lock_under, told_under};
@@ -24,7 +25,7 @@ use capbits::{Cap, CapSet, ClientId, Ino, Part};
 use capspec::FsName;
 use captable::{CapTable, Entry, EntryRow, Holder};
 use inotree::{Place, Tree};
-use lockmachine::{InodeLocks, Locks, States, permitted, want_of_permitted};
+use lockmachine::{InodeLocks, Locks, permitted, want_of_permitted};
 use locktable::allowed;
 use sessiontab::{MAX_SESSIONS, Sessions};
 
@@ -40,9 +41,9 @@ pub(crate) fn finish(
     known: &mut Known,
     locks: &mut Locks,
     ino: Ino,
-    touched: &States,
+    touched: &InoSet,
 )
-    requires apart { map.contains_key touched.now ino.0 ≡ false }
+    requires apart { set.contains touched.now ino.0 ≡ false }
     requires numbers { All (λ row. row.entry.seq < 2 ^ 64 - 1) table.old.rows }
     requires clients { All (λ row. IsTrue (has_session sessions.now row.holder.client.0)) table.old.rows }
     requires room { HaveRoom known.old.sets table.old }
@@ -68,17 +69,17 @@ fn finish_touched(
     table: &mut CapTable,
     known: &mut Known,
     locks: &Locks,
-    touched: &States,
+    touched: &InoSet,
 )
     requires numbers { All (λ row. row.entry.seq < 2 ^ 64 - 1) table.old.rows }
     requires clients { All (λ row. IsTrue (has_session sessions.now row.holder.client.0)) table.old.rows }
     requires room { HaveRoom known.old.sets table.old }
     ensures table { table.new
         ≡ changed_where (words.is_on touched.now) (words.entry_by (known_in known.old.sets) fs.now tree.now sessions.now locks.now.states) table.old }
-    ensures known { KeptAnew (λ k. map.contains_key touched.now k.ino.0) (words.told_by fs.now tree.now sessions.now locks.now.states)
+    ensures known { KeptAnew (λ k. set.contains touched.now k.ino.0) (words.told_by fs.now tree.now sessions.now locks.now.states)
         table.old known.old.sets known.new.sets }
 {
-    for number in touched.inos() {
+    for number in touched.numbers() {
         let ino = Ino(*number);
         let now = locks.of_ino(ino);
         finish_entries(fs, tree, sessions, table, known, ino, &now);
@@ -86,12 +87,12 @@ fn finish_touched(
 }
 
 // Forgets those that are strays that nobody has an entry on.
-fn forget_touched(tree: &mut Tree, table: &CapTable, locks: &mut Locks, touched: &States)
+fn forget_touched(tree: &mut Tree, table: &CapTable, locks: &mut Locks, touched: &InoSet)
     ensures left { (fs : List ℕ) (sessions : SessionTable) → scene fs tree.new sessions table.now locks.new
-        ≡ forget_among (map.contains_key touched.now) (scene fs tree.old sessions table.now locks.old) }
+        ≡ forget_among (set.contains touched.now) (scene fs tree.old sessions table.now locks.old) }
     ensures queue { locks.new.queue ≡ locks.old.queue }
 {
-    for number in touched.inos() {
+    for number in touched.numbers() {
         forget_unheld(tree, table, locks, Ino(*number));
     }
 }

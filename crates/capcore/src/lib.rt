@@ -12,6 +12,7 @@ mod finish;
 mod flushing;
 mod giving;
 mod history;
+mod ino_set;
 mod judge;
 mod known;
 mod laws;

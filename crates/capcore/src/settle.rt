@@ -1,6 +1,6 @@
 //! The locks settle at the inodes that a step touches, and who waits for them is served.
 ghost use Rattle.std.specs.Prelude.{◌≡◌, ◌==◌, ◌≤◌, ◌<◌, ◌^◌, ◌-◌, ◌+◌, ◌++◌, ◌∷◌, [], true, false, length, ℕ, List, Some, All, IsTrue, vec_capacity};
-ghost use Rattle.std.specs.FinMap as map;
+ghost use Rattle.std.specs.FinSet as set;
 ghost use Rattle.capbits.specs.declared.cap.Part.{Part};
 ghost use Rattle.inotree.specs.Tree.{Nodes};
 ghost use Rattle.sessiontab.specs.Table.{SessionTable};
@@ -19,6 +19,7 @@ ghost use Rattle.capcore.specs.Sweep.{AreStill, GoesOn, IsTurnOfLeast, IsLeastOf
 ghost use Rattle.capcore.specs.Untold.{HasRoom};
 
 use crate::finish::finish;
+use crate::ino_set::InoSet;
 use crate::known::Known;
 use crate::messages::Endings;
 use crate::outcome::Outcome;
@@ -29,7 +30,7 @@ use capbits::{Ino, Part, Ticket};
 use capspec::FsName;
 use captable::CapTable;
 use inotree::{Setting, Tree};
-use lockmachine::{Ask, Change, Locks, Move, Request, States};
+use lockmachine::{Ask, Change, Locks, Move, Request};
 use sessiontab::Sessions;
 
 // Lets the locks settle after an event about one inode, and ends the step. The locks of every other inode are quiet.
@@ -50,7 +51,6 @@ pub(crate) fn end_at_one(
     requires kept { HasRoom endings.old.kept locks.old }
     requires sized { length endings.old.sized.items + length locks.old.queue ≤ vec_capacity endings.old.sized }
     requires same { endings.old.kept.items ≡ endings.old.told.items }
-    requires locked { All (λ row. IsTrue (map.contains_key locks.old.states row.holder.ino.0)) table.old.rows }
     requires numbers { All (λ row. row.entry.seq < 2 ^ 64 - 1) table.old.rows }
     requires clients { All (λ row. IsTrue (has_session sessions.now row.holder.client.0)) table.old.rows }
     requires room { HaveRoom known.old.sets table.old }
@@ -61,14 +61,14 @@ pub(crate) fn end_at_one(
     ensures count { length endings.new.told.items + length locks.new.queue ≡ length locks.old.queue }
     ensures table { IsTable table.new }
 {
-    let others = States::new(endings.alloc());
+    let others = InoSet::new(endings.alloc());
     end_at(
         fs, tree, sessions, table, known, locks, ino, others, endings,
     );
 }
 
-// Lets the locks settle after an event, and ends the step. The event was about one inode and those whose locks are kept as they
-// are; the locks of every other inode are quiet.
+// Lets the locks settle after an event, and ends the step. The event was about one inode and the others; the locks of all
+// besides are quiet.
 pub(crate) fn end_at(
     fs: &FsName,
     tree: &mut Tree,
@@ -77,20 +77,17 @@ pub(crate) fn end_at(
     known: &mut Known,
     locks: &mut Locks,
     ino: Ino,
-    others: States,
+    others: InoSet,
     endings: &mut Endings,
 )
     requires quiet { IsQuietOutside (is_touched ino.0 others) (scene fs.now tree.old sessions.now table.old locks.old) }
-    requires apart { map.contains_key others ino.0 ≡ false }
-    requires before { (other : ℕ) → map.contains_key others other ≡ true
-        → map.get others other ≡ map.get locks.old.states other }
+    requires apart { set.contains others ino.0 ≡ false }
     requires none { endings.old.told.items ≡ [] }
     requires no_sizes { endings.old.sized.items ≡ [] }
     requires told { HasRoom endings.old.told locks.old }
     requires kept { HasRoom endings.old.kept locks.old }
     requires sized { length endings.old.sized.items + length locks.old.queue ≤ vec_capacity endings.old.sized }
     requires same { endings.old.kept.items ≡ endings.old.told.items }
-    requires locked { All (λ row. IsTrue (map.contains_key locks.old.states row.holder.ino.0)) table.old.rows }
     requires numbers { All (λ row. row.entry.seq < 2 ^ 64 - 1) table.old.rows }
     requires clients { All (λ row. IsTrue (has_session sessions.now row.holder.client.0)) table.old.rows }
     requires room { HaveRoom known.old.sets table.old }
@@ -111,7 +108,7 @@ pub(crate) fn end_at(
 }
 
 // Makes the moves, always the first that applies, until none does. Each request that is served ends, once for its client and
-// once for the history. It answers the locks that the other inodes of the event had, and those that were moved with one of them.
+// once for the history. It answers the other inodes of the event, and those that were moved with one of them.
 fn settle(
     fs: &FsName,
     tree: &mut Tree,
@@ -119,28 +116,23 @@ fn settle(
     table: &CapTable,
     locks: &mut Locks,
     ino: Ino,
-    others: States,
+    others: InoSet,
     endings: &mut Endings,
-) -> States
+) -> InoSet
     requires quiet { IsQuietOutside (is_touched ino.0 others) (scene fs.now tree.old sessions.now table.now locks.old) }
-    requires apart { map.contains_key others ino.0 ≡ false }
-    requires before { (other : ℕ) → map.contains_key others other ≡ true
-        → map.get others other ≡ map.get locks.old.states other }
+    requires apart { set.contains others ino.0 ≡ false }
     requires none { endings.old.told.items ≡ [] }
     requires no_sizes { endings.old.sized.items ≡ [] }
     requires told { HasRoom endings.old.told locks.old }
     requires kept { HasRoom endings.old.kept locks.old }
     requires sized { length endings.old.sized.items + length locks.old.queue ≤ vec_capacity endings.old.sized }
     requires same { endings.old.kept.items ≡ endings.old.told.items }
-    requires locked { All (λ row. IsTrue (map.contains_key locks.old.states row.holder.ino.0)) table.now.rows }
     ensures settles { SettlesWith (is_touched ino.0 result) (is_touched ino.0 others)
         (scene fs.now tree.old sessions.now table.now locks.old)
         (scene fs.now tree.new sessions.now table.now locks.new) endings.new.told.items endings.new.sized.items }
     ensures kept { endings.new.kept.items ≡ endings.new.told.items }
     ensures count { length endings.new.told.items + length locks.new.queue ≡ length locks.old.queue }
-    ensures apart { map.contains_key result ino.0 ≡ false }
-    ensures before { (other : ℕ) → map.contains_key result other ≡ true
-        → map.get result other ≡ map.get locks.old.states other }
+    ensures apart { set.contains result ino.0 ≡ false }
 {
     let mut touched = others;
     end_gathers(table, locks, ino, &touched);
@@ -165,7 +157,7 @@ fn settle(
 // ---- moves of locks
 
 // Ends the gathers of the touched inodes that may end, one inode after the other. No gather of another inode may.
-fn end_gathers(table: &CapTable, locks: &mut Locks, ino: Ino, touched: &States)
+fn end_gathers(table: &CapTable, locks: &mut Locks, ino: Ino, touched: &InoSet)
     requires elsewhere { (other : ℕ) (part : Part) → is_touched ino.0 touched.now other ≡ false
         → may_end_by table.now locks.old (other, part) ≡ false }
     ensures ends { (other : ℕ) (part : Part) → may_end_by table.now locks.new (other, part) ≡ false }
@@ -194,7 +186,7 @@ fn sweep(
     table: &CapTable,
     locks: &mut Locks,
     ino: Ino,
-    touched: &States,
+    touched: &InoSet,
 ) -> Option<Ticket>
     requires turn { IsTurnOfLeast (is_touched ino.0 touched.now) (scene fs.now tree.now sessions.now table.now locks.old) }
     requires still { AreStill (is_touched ino.0 touched.now) (scene fs.now tree.now sessions.now table.now locks.old) }
@@ -216,7 +208,7 @@ fn sweep(
 }
 
 // The least of the touched inodes.
-fn lowest(touched: &States, ino: Ino) -> Ino
+fn lowest(touched: &InoSet, ino: Ino) -> Ino
     ensures { IsLeastOf (is_touched ino.0 touched.now) result.0 }
 {
     match touched.next(Ino(0)) {
@@ -226,7 +218,7 @@ fn lowest(touched: &States, ino: Ino) -> Ino
 }
 
 // The next of them behind this one.
-fn next_touched(touched: &States, ino: Ino, at: Ino) -> Option<Ino>
+fn next_touched(touched: &InoSet, ino: Ino, at: Ino) -> Option<Ino>
     ensures { IsNextOf (is_touched ino.0 touched.now) at.0 result }
 {
     match touched.after(at) {
@@ -238,8 +230,8 @@ fn next_touched(touched: &States, ino: Ino, at: Ino) -> Option<Ino>
 
 // ---- servings
 
-// Serves the request with this number. If it moves its inode, the locks are kept that each inode but the one has which is at or
-// below it and has entries; for want of memory for that it ends so.
+// Serves the request with this number. If it moves its inode, each inode but the one that is at or below it and has entries is
+// touched; for want of memory for that it ends so.
 fn serve_next(
     fs: &FsName,
     tree: &mut Tree,
@@ -248,11 +240,10 @@ fn serve_next(
     locks: &mut Locks,
     ino: Ino,
     ticket: Ticket,
-    touched: &mut States,
+    touched: &mut InoSet,
     endings: &mut Endings,
 )
     requires waits { (q : Request) × (request_at locks.old ticket.0 ≡ Some q) }
-    requires locked { All (λ row. IsTrue (map.contains_key locks.old.states row.holder.ino.0)) table.now.rows }
     requires told { length endings.old.told.items < endings.old.told.room }
     requires kept { length endings.old.kept.items < endings.old.kept.room }
     requires sized { length endings.old.sized.items < vec_capacity endings.old.sized }
@@ -263,14 +254,14 @@ fn serve_next(
         × ((q : Request) → request_at locks.old ticket.0 ≡ Some q
         → endings.new.sized.items ≡ endings.old.sized.items ++ sized_in (Serving q ended.outcome ∷ [])) }
     ensures reached { (q : Request) → request_at locks.old ticket.0 ≡ Some q
-        → Reaches q ino.0 tree.old tree.new table.now locks.old.states touched.old touched.new }
+        → Reaches q ino.0 tree.old tree.new table.now touched.old touched.new }
     ensures room { (endings.old.told.room ≤ endings.new.told.room) × (endings.old.kept.room ≤ endings.new.kept.room)
         × (vec_capacity endings.old.sized ≤ vec_capacity endings.new.sized) }
 {
     let Some(request) = locks.apply_move(Move::Serve(ticket)) else {
         unreachable!()
     };
-    let reached = reach(endings.alloc(), tree, table, locks, &request, ino, touched);
+    let reached = reach(endings.alloc(), tree, table, &request, ino, touched);
     let served = serve(
         endings.alloc(),
         fs,

@@ -6,7 +6,7 @@ ghost use Rattle.capcore.specs.Direct.{direct};
 ghost use Rattle.capcore.specs.Sound.{IsSound};
 ghost use Rattle.capcore.specs.Headline.{DeniedExactly, DeniesByName, ServedDenied, ServedByName, EachServing, ByMoves, AreBounded, OtherLocksStay};
 ghost use Rattle.capcore.specs.Headline.{IssuesExactly, AreInPlace, AreRevoked, NoneConflict, is_stop};
-ghost use Rattle.capcore.specs.Shown.{ShowsWhatIsTold, TakesUnshown, TakesOnlySo};
+ghost use Rattle.capcore.specs.Shown.{ShowsWhatIsTold, ShowsOnlyPermitted, TakesUnshown, TakesOnlySo};
 ghost use Rattle.sessiontab.specs.Calls.{status_of};
 ghost use Rattle.captable.specs.Table.{holder, entry_at};
 ghost use Rattle.lockmachine.specs.Locks.{lock_at};
@@ -87,9 +87,11 @@ impl Core {
         ensures in_place { OnOk result (AreInPlace self.new.state.scene) }
         ensures lost { OnOk result (AreRevoked self.new.state.scene) }
         ensures apart { OnOk result (NoneConflict self.new.state.scene) }
-        // Where no message is due for an entry, its client was last shown just what it is to know. What an acknowledgement takes was
-        // missing from what was shown; and nothing else takes what is held, but a release and the end of a session.
+        // Where no message is due for an entry, its client was last shown just what it is to know, and that is permitted. What an
+        // acknowledgement takes was missing from what was shown; and nothing else takes what is held, but a release and the end of
+        // a session.
         ensures shown { OnOk result (ShowsWhatIsTold self.new.rows self.new.state.scene) }
+        ensures shown_permitted { OnOk result (ShowsOnlyPermitted self.new.rows self.new.state.scene) }
         ensures unshown { OnOk result (TakesUnshown self.old.rows self.old.state.scene event
             (direct self.old.state event).state.scene) }
         ensures only_so { OnOk result (TakesOnlySo self.old.state.scene event self.new.state.scene) }

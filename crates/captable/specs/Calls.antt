@@ -87,7 +87,8 @@ is_due row = is_due_entry row.entry
 abbrev pub released : Table → Holder → Caps → Table
 released table k caps = if has caps P then without table k else changed table k (given_back caps)
 
--- the table after an acknowledgement, where these are being revoked: with the pin the whole entry goes
+-- the table after an acknowledgement, where these are being revoked: with the pin among them the whole entry goes, whatever else
+-- it holds
 abbrev pub acked : Table → Holder → Caps → Table
 acked table k against = if has against P then without table k else changed table k (taken against)
 

@@ -223,8 +223,8 @@ impl CapTable {
     }
 
     /// Takes an acknowledgement, which names the message with the number `seq`: the client gives back the capabilities
-    /// of `against`, which are being revoked, and no longer holds any of them. With the pin among them, all that it holds
-    /// is being revoked, and its whole entry goes, from both orders.
+    /// of `against`, which are being revoked, and no longer holds any of them. With the pin among them its whole entry
+    /// goes, whatever else it holds, from both orders.
     pub fn ack(&mut self, client: ClientId, ino: Ino, seq: u64, against: CapSet)
         requires passed { first_failing (ack_tests self.old (holder client ino) seq against) ≡ None }
         ensures { self.new ≡ acked self.old (holder client ino) against }

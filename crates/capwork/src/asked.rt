@@ -2,7 +2,8 @@
 
 use crate::fault::Fault;
 use crate::inodes::{
-    creation_of, directory_of_number, mode_of, regrant_to_read, session_below, session_of,
+    creation_of, directory_of_number, mode_of, regrant_to_nothing, regrant_to_read, session_below,
+    session_by_mode, session_of,
 };
 use capbits::{Cap, CapSet, ClientId, Ino, Part};
 use capcore::{Event, Message, OpenMode, Outcome, Reply};
@@ -20,6 +21,8 @@ pub(crate) enum Asked {
     Session(ClientId),
     /// A session, in which it may do all below the directory in the root whose name has this number.
     SessionBelow(ClientId, u64),
+    /// A session, in which it may do what modes allow its user.
+    SessionByMode(ClientId),
     /// To make a directory in the root, whose name has this number.
     Directory(u64),
     /// To make the file, whose name has this number.
@@ -42,6 +45,10 @@ pub(crate) enum Asked {
     Read(ClientId, Part),
     /// To move it into the other directory.
     Move(ClientId),
+    /// To move the directory that it is made in into the other directory.
+    Carry(ClientId),
+    /// To move that directory into the root.
+    CarryBack(ClientId),
     /// Its messages.
     Poll(ClientId),
     /// So many entries back.
@@ -54,13 +61,15 @@ pub(crate) enum Asked {
     Renew(ClientId),
     /// That it may read, and nothing else.
     Regrant(ClientId),
+    /// That it may do nothing.
+    GrantNothing(ClientId),
     /// That it be thrown out.
     Evict(ClientId),
     /// That it be let in again.
     Unblock(ClientId),
 }
 
-/// The file that is asked about, the directory that it is made in, and one that it can be moved into.
+/// The file that is asked about, the directory that it is made in, and one that both can be moved into.
 #[derive(Clone, Copy)]
 pub(crate) struct Places {
     pub(crate) file: Ino,
@@ -99,6 +108,8 @@ pub(crate) enum Answer {
     EndedNoMemory,
     /// There is one message, that something is asked back.
     AskedBack,
+    /// There are so many messages, or there is one of another kind.
+    Messages(usize),
     /// So many entries are asked back.
     Recalled(usize),
     /// Anything else.
@@ -111,6 +122,7 @@ pub(crate) fn event(alloc: Global, places: Places, asked: Asked) -> Result<Event
     Ok(match asked {
         Asked::Session(client) => session_of(alloc, client)?,
         Asked::SessionBelow(client, number) => session_below(alloc, client, number)?,
+        Asked::SessionByMode(client) => session_by_mode(alloc, client)?,
         Asked::Directory(number) => directory_of_number(alloc, ROOT, number)?,
         Asked::Make(number) => creation_of(alloc, places.here, number)?,
         Asked::Open(client, mode) => Event::Open { client, ino, mode },
@@ -122,12 +134,15 @@ pub(crate) fn event(alloc: Global, places: Places, asked: Asked) -> Result<Event
         Asked::NoAttribute(client, name) => altering(client, ino, remove_attribute(alloc, name)?),
         Asked::Read(client, part) => Event::Get { client, ino, part },
         Asked::Move(client) => moving(alloc, client, ino, places.there)?,
+        Asked::Carry(client) => moving(alloc, client, places.here, places.there)?,
+        Asked::CarryBack(client) => moving(alloc, client, places.here, ROOT)?,
         Asked::Poll(client) => polling(client),
         Asked::Recall(count) => Event::Recall { count },
         Asked::Close(client) => Event::CloseSession { client },
         Asked::Stale(client) => Event::Stale { client },
         Asked::Renew(client) => Event::Renew { client },
         Asked::Regrant(client) => regrant_to_read(alloc, client)?,
+        Asked::GrantNothing(client) => regrant_to_nothing(alloc, client)?,
         Asked::Evict(client) => Event::Evict { client },
         Asked::Unblock(client) => Event::Unblock { client },
     })
@@ -210,7 +225,7 @@ fn read_messages(messages: &[Message]) -> Answer {
         [Message::Caps { seq, .. }] => Answer::Message(*seq),
         [Message::Ended { outcome, .. }] => read_outcome(outcome),
         [Message::Recall { .. }] => Answer::AskedBack,
-        _ => Answer::Other,
+        _ => Answer::Messages(messages.len()),
     }
 }
 

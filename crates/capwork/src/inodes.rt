@@ -5,7 +5,7 @@ use crate::fault::Fault;
 use crate::work::{Layout, TreeShape};
 use capbits::{Caller, ClientId, Groups, Ino, Mode, PassId};
 use capcore::{Core, Event, Reply, Stop};
-use capspec::read_grants;
+use capspec::{Grants, read_grants};
 use inotree::{MAX_INODES, ROOT};
 use lockmachine::Bytes;
 use std::alloc::Global;
@@ -200,6 +200,12 @@ pub(crate) fn session_below(alloc: Global, client: ClientId, place: u64) -> Resu
     session_by(alloc, client, grants.as_bytes())
 }
 
+// The event by which a client gets a session in which it may do what modes allow its user.
+pub(crate) fn session_by_mode(alloc: Global, client: ClientId) -> Result<Event, Fault> {
+    let grants = format!(in alloc; "allow rw uid={USER}")?;
+    session_by(alloc, client, grants.as_bytes())
+}
+
 // The event by which a client gets a session with these grants.
 fn session_by(alloc: Global, client: ClientId, grants: &[u8]) -> Result<Event, Fault> {
     Ok(Event::Session {
@@ -216,6 +222,12 @@ fn session_by(alloc: Global, client: ClientId, grants: &[u8]) -> Result<Event, F
 /// The event by which a client may read everywhere from then on, and nothing else.
 pub(crate) fn regrant_to_read(alloc: Global, client: ClientId) -> Result<Event, Fault> {
     let grants = read_grants(alloc, b"allow r")?;
+    Ok(Event::Regrant { client, grants })
+}
+
+/// The event by which a client may do nothing from then on.
+pub(crate) fn regrant_to_nothing(alloc: Global, client: ClientId) -> Result<Event, Fault> {
+    let grants = Grants::none(alloc)?;
     Ok(Event::Regrant { client, grants })
 }
 

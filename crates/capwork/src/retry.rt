@@ -1,5 +1,5 @@
-//! The work that asks again: clients share files, and an event that finds no memory is asked for once more; and so is a request
-//! that found none when it was served.
+//! The work that asks again: clients share files, wait for one and lose what they hold, and an event that finds no memory is
+//! asked for once more; and so is a request that found none when it was served.
 
 use crate::asked::{Answer, Asked, Places, event, read_reply};
 use crate::digest::digest_of;
@@ -17,12 +17,22 @@ const OTHER: ClientId = ClientId(2);
 /// Who may do all below one directory alone.
 const TENANT: ClientId = ClientId(3);
 
+/// Whose grant is for its user alone, so that the mode of a file counts.
+const ONE_USER: ClientId = ClientId(4);
+
 /// The numbers in the names of that directory and of another, and in that of the file that requests wait for.
 const TENANT_NUMBER: u64 = 1_000_000;
 
 const OTHER_NUMBER: u64 = 2_000_000;
 
 const WAITING_NUMBER: u64 = 3_000_000;
+
+/// The numbers in the names of the directory that is moved with open files in it, and of these.
+const MOVED_NUMBER: u64 = 4_000_000;
+
+const BESIDE_NUMBER: u64 = 5_000_000;
+
+const LOSING_NUMBER: u64 = 6_000_000;
 
 const SESSIONS: &[(Asked, Answer)] = &[
     (Asked::Session(CLIENT), Answer::Done),
@@ -77,6 +87,91 @@ const WAITING: &[(Asked, Answer)] = &[
     (Asked::Poll(OTHER), Answer::Message(7)),
 ];
 
+// The directory goes to where the third client may do all, and there it and another have one of the files open.
+const BESIDE: &[(Asked, Answer)] = &[
+    (Asked::Carry(CLIENT), Answer::Done),
+    (Asked::Open(TENANT, OpenMode::Read), Answer::Change(1)),
+    (Asked::Open(OTHER, OpenMode::Read), Answer::Change(1)),
+];
+
+// Both have the other file open too. The directory is moved out, so that the third loses all on both files, and back in, which
+// returns what it did not acknowledge; then out again, and it acknowledges, for which a change of the mode has waited.
+const LOSING_BY_MOVES: &[(Asked, Answer)] = &[
+    (Asked::Open(TENANT, OpenMode::ReadWrite), Answer::Change(1)),
+    (
+        Asked::Want(TENANT, &[Cap::As, Cap::Fr, Cap::Fw]),
+        Answer::Change(2),
+    ),
+    (Asked::Open(OTHER, OpenMode::Read), Answer::Change(1)),
+    (Asked::Poll(TENANT), Answer::Message(3)),
+    (Asked::Ack(TENANT, 3), Answer::Done),
+    (Asked::Poll(OTHER), Answer::Message(2)),
+    (Asked::CarryBack(CLIENT), Answer::Done),
+    (Asked::Poll(TENANT), Answer::Messages(2)),
+    (Asked::Carry(CLIENT), Answer::Done),
+    (Asked::Poll(TENANT), Answer::Messages(2)),
+    (Asked::Ack(TENANT, 5), Answer::Done),
+    (Asked::Poll(TENANT), Answer::Message(6)),
+    (Asked::CarryBack(CLIENT), Answer::Done),
+    (Asked::Mode(CLIENT, 0o640), Answer::Waits),
+    (Asked::Poll(TENANT), Answer::Messages(2)),
+    (Asked::Ack(TENANT, 7), Answer::Done),
+    (Asked::Poll(CLIENT), Answer::EndedDone),
+    (Asked::Poll(OTHER), Answer::Message(3)),
+    (Asked::Open(TENANT, OpenMode::Read), Answer::Denied),
+];
+
+// The fourth client loses all by a mode, and gets it back by another before it acknowledges. Then a change that waits for what
+// another client caches takes from it that it writes, which it gives back by itself.
+const LOSING_BY_MODES: &[(Asked, Answer)] = &[
+    (Asked::SessionByMode(ONE_USER), Answer::Done),
+    (
+        Asked::Open(ONE_USER, OpenMode::ReadWrite),
+        Answer::Change(1),
+    ),
+    (Asked::Poll(OTHER), Answer::Message(4)),
+    (Asked::Ack(OTHER, 4), Answer::Done),
+    (Asked::Poll(ONE_USER), Answer::Message(2)),
+    (Asked::Mode(CLIENT, 0o000), Answer::Done),
+    (Asked::Poll(ONE_USER), Answer::Message(3)),
+    (Asked::Mode(CLIENT, 0o600), Answer::Done),
+    (Asked::Poll(ONE_USER), Answer::Message(4)),
+    (Asked::Ack(ONE_USER, 4), Answer::Done),
+    (Asked::Poll(ONE_USER), Answer::Message(5)),
+    (Asked::Want(OTHER, &[Cap::As, Cap::Fr]), Answer::Change(5)),
+    (Asked::Mode(CLIENT, 0o400), Answer::Waits),
+    (Asked::Poll(OTHER), Answer::Message(6)),
+    (Asked::Ack(OTHER, 6), Answer::Done),
+    (Asked::Poll(CLIENT), Answer::EndedDone),
+    (Asked::Poll(ONE_USER), Answer::Message(6)),
+    (Asked::Release(ONE_USER, &[Cap::Fw]), Answer::Done),
+    (Asked::Poll(ONE_USER), Answer::Message(7)),
+    (Asked::Poll(OTHER), Answer::Message(7)),
+];
+
+// The directory is moved in once more, which returns what the third still holds of the one file, and it opens the other. Its
+// grants go, and with them all of both files, of which new ones return what it may read. At last they go again, and its session
+// ends before it acknowledges.
+const LOSING_BY_GRANTS: &[(Asked, Answer)] = &[
+    (Asked::Carry(CLIENT), Answer::Done),
+    (Asked::Open(TENANT, OpenMode::ReadWrite), Answer::Change(1)),
+    (Asked::Poll(TENANT), Answer::Message(5)),
+    (Asked::Poll(ONE_USER), Answer::Message(8)),
+    (Asked::Ack(ONE_USER, 8), Answer::Done),
+    (Asked::Poll(TENANT), Answer::Message(2)),
+    (Asked::GrantNothing(TENANT), Answer::Done),
+    (Asked::Poll(TENANT), Answer::Messages(2)),
+    (Asked::Regrant(TENANT), Answer::Done),
+    (Asked::Poll(TENANT), Answer::Messages(2)),
+    (Asked::Ack(TENANT, 4), Answer::Done),
+    (Asked::Poll(TENANT), Answer::Message(5)),
+    (Asked::Poll(ONE_USER), Answer::Message(9)),
+    (Asked::GrantNothing(TENANT), Answer::Done),
+    (Asked::Close(TENANT), Answer::Done),
+    (Asked::Poll(OTHER), Answer::NoMessage),
+    (Asked::Poll(ONE_USER), Answer::NoMessage),
+];
+
 // What was left alone longest is asked back. Then the first client is thrown out while two changes wait for what it holds, of
 // which one is its own, and the other's may not be made any more; it comes back, is stale for a while, in which it gets other
 // grants, and the other ends its session.
@@ -101,8 +196,8 @@ const ENDING: &[(Asked, Answer)] = &[
     (Asked::Poll(OTHER), Answer::NoMessage),
 ];
 
-/// Has two clients share so many files, one after another, then wait for one more, and end their sessions. The sum is the hash
-/// of the core in the end.
+/// Has two clients share so many files, one after another, then wait for one more, lose what they hold of others, and end
+/// their sessions. The sum is the hash of the core in the end.
 pub(crate) fn retry(alloc: Global, core: &mut Core, times: u32) -> Result<Tally, Fault> {
     let mut tally = Tally::of(0);
     let at_root = Places {
@@ -126,7 +221,8 @@ pub(crate) fn retry(alloc: Global, core: &mut Core, times: u32) -> Result<Tally,
     Ok(tally)
 }
 
-// Has the clients wait for a file, in a directory that it is moved out of, and end their sessions.
+// Has the clients wait for a file, in a directory that it is moved out of, lose what they hold of others, and end their
+// sessions.
 fn wait(alloc: Global, core: &mut Core, at_root: Places, tally: &mut Tally) -> Result<(), Fault> {
     let here = made(alloc, core, at_root, Asked::Directory(TENANT_NUMBER), tally)?;
     let there = made(alloc, core, at_root, Asked::Directory(OTHER_NUMBER), tally)?;
@@ -137,7 +233,36 @@ fn wait(alloc: Global, core: &mut Core, at_root: Places, tally: &mut Tally) -> R
     };
     let file = made(alloc, core, places, Asked::Make(WAITING_NUMBER), tally)?;
     play(alloc, core, Places { file, ..places }, WAITING, tally)?;
+    lose(alloc, core, here, tally)?;
     play(alloc, core, Places { file, ..places }, ENDING, tally)
+}
+
+// Has clients lose what they hold, by moves in and out of the third client's directory, by modes and by grants.
+fn lose(alloc: Global, core: &mut Core, tenants: Ino, tally: &mut Tally) -> Result<(), Fault> {
+    let places = made_to_lose(alloc, core, tenants, tally)?;
+    play(alloc, core, places, LOSING_BY_MOVES, tally)?;
+    play(alloc, core, places, LOSING_BY_MODES, tally)?;
+    play(alloc, core, places, LOSING_BY_GRANTS, tally)
+}
+
+// Makes a directory with two files, and has one of them opened. The other is the one that is then asked about.
+fn made_to_lose(
+    alloc: Global,
+    core: &mut Core,
+    tenants: Ino,
+    tally: &mut Tally,
+) -> Result<Places, Fault> {
+    let at_root = Places {
+        file: ROOT,
+        here: ROOT,
+        there: tenants,
+    };
+    let here = made(alloc, core, at_root, Asked::Directory(MOVED_NUMBER), tally)?;
+    let places = Places { here, ..at_root };
+    let file = made(alloc, core, places, Asked::Make(BESIDE_NUMBER), tally)?;
+    play(alloc, core, Places { file, ..places }, BESIDE, tally)?;
+    let file = made(alloc, core, places, Asked::Make(LOSING_NUMBER), tally)?;
+    Ok(Places { file, ..places })
 }
 
 // Asks for all that the script asks for, of one file.

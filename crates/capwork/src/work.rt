@@ -29,7 +29,7 @@ pub enum Work {
     Rename(Size),
     /// Have a core move a directory with so many open files to and fro.
     Carry(Size),
-    /// Have two clients share files, and ask a core again for what it finds no memory for.
+    /// Have clients share files and lose what they hold, and ask a core again for what it finds no memory for.
     Retry,
 }
 

@@ -5,7 +5,6 @@ pub mod Exact
 pub mod Queue
 pub mod Permitting
 pub mod Finding
-pub mod Least
 pub mod Places
 pub mod Moving
 pub mod Ending

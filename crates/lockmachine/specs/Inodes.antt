@@ -1,11 +1,10 @@
 -- The locks of each inode.
-use Rattle.std.specs.Prelude.{◌≡◌, ℕ, ◌<◌, ◌≤◌, true, false, Option, Some, None}
+use Rattle.std.specs.Prelude.{ℕ}
 use Rattle.std.specs.Ordering.{nat_cmp}
 use Rattle.std.specs.FinMap as map
 use Rattle.std.specs.FinMap.{FinMap}
 use Rattle.capbits.specs.declared.cap.Part.{Part}
 use Rattle.capbits.specs.declared.cap.Part.TheVariants.{A, L, X, F}
-use Rattle.capbits.specs.declared.ids.Ino.{Ino}
 use Rattle.locktable.specs.declared.states.State.TheVariants.{Sync}
 use Rattle.locktable.specs.declared.states.LockState.{LockState}
 use Rattle.locktable.specs.declared.states.LockState.TheVariants.{Stable}
@@ -31,14 +30,3 @@ with_lock_in F state locks = record locks { file = state }
 -- the locks of a new inode
 abbrev pub in_sync : InodeLocks
 in_sync = record { auth = Stable Sync; link = Stable Sync; xattr = Stable Sync; file = Stable Sync }
-
--- the inode has locks and a number of at least this one, and none between has locks
-pub record IsLeastFrom (states : StateMap) (from ino : ℕ) : Type 0 where
-  pub has : map.contains_key states ino ≡ true
-  pub reached : from ≤ ino
-  pub least : (k : ℕ) → from ≤ k → k < ino → map.contains_key states k ≡ false
-
--- the least inode that has locks and a number of at least this one, if there is one
-abbrev pub IsNext : StateMap → ℕ → Option Ino → Type 0
-IsNext states from None = (k : ℕ) → from ≤ k → map.contains_key states k ≡ false
-IsNext states from (Some ino) = IsLeastFrom states from ino.0

@@ -22,5 +22,5 @@ pub use laws::{
 pub use locks::{Locks, MAX_WAITING};
 pub use moves::Move;
 pub use request::{Ask, Change, Request};
-pub use states::{InodeLocks, States};
+pub use states::InodeLocks;
 pub use wants::{Wants, effective_want, permitted, want_of_permitted, wants_on};

@@ -1,10 +1,9 @@
 //! The locks of each inode.
-ghost use Rattle.std.specs.Prelude.{◌≡◌, ◌+◌, OnOk, OnErr};
+ghost use Rattle.std.specs.Prelude.{◌≡◌, OnOk, OnErr};
 ghost use Rattle.std.specs.Option.{option_copied};
 ghost use Rattle.std.specs.FinMap as map;
 ghost use Rattle.capbits.specs.Maps.{change_at};
 ghost use Rattle.lockmachine.specs.Inodes as words;
-ghost use Rattle.lockmachine.specs.Inodes.{IsNext};
 
 use capbits::{Ino, Part};
 use locktable::{LockState, State};
@@ -12,7 +11,6 @@ use std::alloc::{AllocError, Global};
 use std::collections::BTreeMap;
 use std::collections::btree_map::Keys;
 use std::marker::Model;
-use std::ops::Bound;
 
 /// The four locks of an inode, one for each part.
 #[derive(Clone, Copy, Debug, PartialEq, Eq)]
@@ -66,9 +64,9 @@ impl InodeLocks {
     }
 }
 
-/// The locks of each inode that has any.
+// The locks of each inode that has any.
 #[derive(Debug, Drop)]
-pub struct States {
+pub(crate) struct States {
     // By the inode's number.
     locks: BTreeMap<u64, InodeLocks>,
 }
@@ -86,8 +84,8 @@ impl Model for States {
 }
 
 impl States {
-    /// Of no inode.
-    pub fn new(alloc: Global) -> States
+    // Of no inode.
+    pub(crate) fn new(alloc: Global) -> States
         ensures { result ≡ map.empty }
     {
         States {
@@ -95,41 +93,15 @@ impl States {
         }
     }
 
-    /// The locks of an inode, where it has any.
-    pub fn get(&self, ino: Ino) -> Option<&InodeLocks>
+    // The locks of an inode, where it has any.
+    pub(crate) fn get(&self, ino: Ino) -> Option<&InodeLocks>
         ensures { option_copied result ≡ map.get self.now ino.0 }
     {
         self.locks.get(&ino.0)
     }
 
-    /// Whether an inode has locks.
-    pub fn contains(&self, ino: Ino) -> bool
-        ensures { result ≡ map.contains_key self.now ino.0 }
-    {
-        self.locks.contains_key(&ino.0)
-    }
-
-    /// The least inode that has locks and a number of at least this one. It is searched for, and not walked to.
-    pub fn next(&self, from: Ino) -> Option<Ino>
-        ensures { IsNext self.now from.0 result }
-    {
-        let (number, _) = self.locks.range(from.0..).next()?;
-        Some(Ino(*number))
-    }
-
-    /// The least inode behind this one that has locks.
-    pub fn after(&self, ino: Ino) -> Option<Ino>
-        ensures { IsNext self.now (ino.0 + 1) result }
-    {
-        let (number, _) = self
-            .locks
-            .range((Bound::Excluded(ino.0), Bound::Unbounded))
-            .next()?;
-        Some(Ino(*number))
-    }
-
-    /// The inodes that have locks, in the order of their numbers.
-    pub fn inos(&self) -> Keys<'_, u64, InodeLocks>
+    // The inodes that have locks, in the order of their numbers.
+    pub(crate) fn inos(&self) -> Keys<'_, u64, InodeLocks>
         ensures { result ≡ map.keys self.now }
     {
         // For what it says of the order.
@@ -137,8 +109,8 @@ impl States {
         self.locks.keys()
     }
 
-    /// Gives an inode these locks. For want of memory nothing changes.
-    pub fn insert(&mut self, ino: Ino, locks: InodeLocks) -> Result<(), AllocError>
+    // Gives an inode these locks. For want of memory nothing changes.
+    pub(crate) fn insert(&mut self, ino: Ino, locks: InodeLocks) -> Result<(), AllocError>
         ensures ok { OnOk result (self.new ≡ map.insert self.old ino.0 locks) }
         ensures err { OnErr result (self.new ≡ self.old) }
     {

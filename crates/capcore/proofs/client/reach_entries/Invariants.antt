@@ -1,6 +1,6 @@
 use Rattle.std.proofs.Common.{Contains, length}
 use Rattle.captable.specs.declared.entry.EntryRow.{EntryRow}
-use Rattle.capcore.specs.Sweep.{Keeps}
+use Rattle.capcore.specs.Sweep.{Widens}
 use Rattle.capcore.proofs.Reaching.{AreReached}
 use Rattle.capcore.proofs.client.reach_entries.Given as goal
 
@@ -9,7 +9,7 @@ decreases-rows l = length l.walk
 
 abbrev pub invariant-rows : goal.invariant-rows
 invariant-rows l = record {
-  keeps : Keeps 1 l.locks.states l.fn.others l.others;
+  widens : Widens 1 l.fn.others l.others;
   reached : AreReached 1 l.others l.initial.walk l.walk;
   among : (row : EntryRow) → Contains l.walk row → Contains l.table.rows row;
 }

@@ -1,9 +1,9 @@
 use Rattle.std.proofs.Common.{◌≡◌, ◌<◌, ◌||◌, ◌==◌, ℕ, Bool, true, false, Option, sym, refl, ap, subst, ◌∙◌}
 use Rattle.std.specs.Prelude.{IsTrue, All}
 use Rattle.std.specs.FinMap as map
+use Rattle.std.specs.FinSet as set
 use Rattle.std.specs.HashMap.{get}
 use Rattle.std.specs.List.{find}
-use Rattle.std.specs.Ordering.{nat_cmp}
 use Rattle.std.specs.Option.{unwrap_or}
 use Rattle.std.proofs.lemmas.Bool.{eqb-true}
 use Rattle.std.proofs.lemmas.List.Elements.{All-filter}
@@ -19,6 +19,7 @@ use Rattle.captable.specs.Many.{changed_where}
 use Rattle.lockmachine.specs.declared.states.InodeLocks.{InodeLocks}
 use Rattle.lockmachine.specs.Scene.{Scene, scene}
 use Rattle.capcore.specs.Finishing.{told_at, told_by, entry_under, entry_by, is_on}
+use Rattle.capcore.specs.InoSets.{InoSet}
 use Rattle.capcore.specs.Known.{known_in, HaveRoom}
 use Rattle.capcore.specs.Serves.{is_touched}
 use Rattle.capcore.specs.Touching.{forget_at, forget_among}
@@ -34,24 +35,24 @@ finish_entries-requires c =
     let f : EntryRow → Caps = told_by c.args.fs.now c.args.tree.now c.args.sessions.now c.args.locks.now.states in
     record {
       numbers = subst (All (λ (row : EntryRow). row.entry.seq < 18446744073709551615))
-          (sym (ap (λ (t : Table). entries_on t c.args.ino) c.finish_touched.ensures.table ∙ entries_on-stay (map.contains_key c.args.touched.now) g c.args.ino c.requires.apart t))
+          (sym (ap (λ (t : Table). entries_on t c.args.ino) c.finish_touched.ensures.table ∙ entries_on-stay (set.contains c.args.touched.now) g c.args.ino c.requires.apart t))
           (All-filter (is_of_inode c.args.ino) (λ row. row.entry.seq < 18446744073709551615) t.rows c.requires.numbers);
       clients = subst (λ (t : Table). All (λ row. IsTrue (has_session c.args.sessions.now row.holder.client.0)) t.rows) (sym c.finish_touched.ensures.table)
           (holders-stay (is_on c.args.touched.now) g (λ h. IsTrue (has_session c.args.sessions.now h.client.0)) t c.requires.clients);
       room = subst (HaveRoom c.finish_touched.new.known.sets) (sym c.finish_touched.ensures.table)
-          (room-still (λ k. map.contains_key c.args.touched.now k.ino.0) f t c.args.known.now.sets c.finish_touched.new.known.sets (is_on c.args.touched.now) g c.finish_touched.ensures.known c.requires.room);
+          (room-still (λ k. set.contains c.args.touched.now k.ino.0) f t c.args.known.now.sets c.finish_touched.new.known.sets (is_on c.args.touched.now) g c.finish_touched.ensures.known c.requires.room);
     }
 
 -- an inode that was touched beside the one is another
-beside : (touched : map.FinMap nat_cmp InodeLocks) (ino n : ℕ) → map.contains_key touched ino ≡ false → map.contains_key touched n ≡ true → (n == ino) ≡ false
+beside : (touched : InoSet) (ino n : ℕ) → set.contains touched ino ≡ false → set.contains touched n ≡ true → (n == ino) ≡ false
 beside touched ino n apart there = by_test (n == ino) refl
   where
     by_test : (b : Bool) → (n == ino) ≡ b → b ≡ false
     by_test false e = refl
-    by_test true e = sym there ∙ ap (map.contains_key touched) (eqb-true n ino e) ∙ apart
+    by_test true e = sym there ∙ ap (set.contains touched) (eqb-true n ino e) ∙ apart
 
-none_here : (touched : map.FinMap nat_cmp InodeLocks) (ino n : ℕ) → map.contains_key touched ino ≡ false → (n == ino) ≡ true → map.contains_key touched n ≡ false
-none_here touched ino n apart is = ap (map.contains_key touched) (eqb-true n ino is) ∙ apart
+none_here : (touched : InoSet) (ino n : ℕ) → set.contains touched ino ≡ false → (n == ino) ≡ true → set.contains touched n ≡ false
+none_here touched ino n apart is = ap (set.contains touched) (eqb-true n ino is) ∙ apart
 
 pub returns-clause-finished : goal.returns-clause-finished
 returns-clause-finished c =
@@ -69,12 +70,12 @@ returns-clause-finished c =
     ∙ ap (λ (t : Table). forget_among (is_touched c.args.ino.0 touched) (scene fs tree sessions t c.args.locks.now))
     (c.finish_entries.ensures.table
     ∙ ap (changed_where (is_of_inode c.args.ino) h) c.finish_touched.ensures.table
-    ∙ changed-twice_where (map.contains_key touched) (λ n. n == c.args.ino.0) (is_touched c.args.ino.0 touched) g h g (λ n there. beside touched c.args.ino.0 n c.requires.apart there)
-    (λ n. or_turned (map.contains_key touched n) (n == c.args.ino.0)) (λ row e. refl)
+    ∙ changed-twice_where (set.contains touched) (λ n. n == c.args.ino.0) (is_touched c.args.ino.0 touched) g h g (λ n there. beside touched c.args.ino.0 n c.requires.apart there)
+    (λ n. or_turned (set.contains touched n) (n == c.args.ino.0)) (λ row e. refl)
     (λ row is.
     entry-alike (known_in c.finish_touched.new.known.sets) (known_in c.args.known.now.sets) fs tree sessions c.of_ino-now.result c.args.locks.now.states row
     (ap (λ (o : Option Caps). unwrap_or o no_caps)
-    (kept-not (λ k. map.contains_key touched k.ino.0) (told_by fs tree sessions c.args.locks.now.states) t c.args.known.now.sets c.finish_touched.new.known.sets c.finish_touched.ensures.known row.holder (none_here touched c.args.ino.0 row.holder.ino.0 c.requires.apart is)))
+    (kept-not (λ k. set.contains touched k.ino.0) (told_by fs tree sessions c.args.locks.now.states) t c.args.known.now.sets c.finish_touched.new.known.sets c.finish_touched.ensures.known row.holder (none_here touched c.args.ino.0 row.holder.ino.0 c.requires.apart is)))
     (c.of_ino-now.ensures ∙ sym (ap (map.get c.args.locks.now.states) (eqb-true row.holder.ino.0 c.args.ino.0 is)))) t)
 
 pub returns-clause-known : goal.returns-clause-known
@@ -86,10 +87,10 @@ returns-clause-known c =
     let t : Table = c.args.table.now in
     let g : EntryRow → Entry = entry_by (known_in c.args.known.now.sets) fs tree sessions c.args.locks.now.states in
     let f : EntryRow → Caps = told_by fs tree sessions c.args.locks.now.states in
-    kept-same (λ k. map.contains_key touched k.ino.0 || (k.ino.0 == c.args.ino.0)) (λ k. is_touched c.args.ino.0 touched k.ino.0) f t c.args.known.now.sets c.finish_entries.new.known.sets (λ k. or_turned (map.contains_key touched k.ino.0) (k.ino.0 == c.args.ino.0))
-    (kept-then (λ k. map.contains_key touched k.ino.0) (λ k. k.ino.0 == c.args.ino.0) f t c.finish_touched.new.table c.args.known.now.sets c.finish_touched.new.known.sets c.finish_entries.new.known.sets c.finish_touched.ensures.known
+    kept-same (λ k. set.contains touched k.ino.0 || (k.ino.0 == c.args.ino.0)) (λ k. is_touched c.args.ino.0 touched k.ino.0) f t c.args.known.now.sets c.finish_entries.new.known.sets (λ k. or_turned (set.contains touched k.ino.0) (k.ino.0 == c.args.ino.0))
+    (kept-then (λ k. set.contains touched k.ino.0) (λ k. k.ino.0 == c.args.ino.0) f t c.finish_touched.new.table c.args.known.now.sets c.finish_touched.new.known.sets c.finish_entries.new.known.sets c.finish_touched.ensures.known
     (kept-as (λ k. k.ino.0 == c.args.ino.0) (told_at fs tree sessions c.of_ino-now.result) f c.finish_touched.new.table c.finish_touched.new.known.sets c.finish_entries.new.known.sets
     (λ row is. ap (λ (o : Option InodeLocks). told_at fs tree sessions o row) (c.of_ino-now.ensures ∙ sym (ap (map.get c.args.locks.now.states) (eqb-true row.holder.ino.0 c.args.ino.0 is))))
     c.finish_entries.ensures.known)
     (λ k is. ap (λ (u : Table). find (is_row_of k) u.rows) c.finish_touched.ensures.table
-    ∙ found-stays (is_on touched) g t k (λ row mine. ap (λ (h : Holder). map.contains_key touched h.ino.0) (sym mine) ∙ none_here touched c.args.ino.0 k.ino.0 c.requires.apart is)))
+    ∙ found-stays (is_on touched) g t k (λ row mine. ap (λ (h : Holder). set.contains touched h.ino.0) (sym mine) ∙ none_here touched c.args.ino.0 k.ino.0 c.requires.apart is)))

@@ -17,22 +17,18 @@ use Rattle.captable.specs.Table.{Table}
 use Rattle.captable.specs.Calls.{is_of_inode, entries_on}
 use Rattle.lockmachine.specs.declared.states.InodeLocks.{InodeLocks}
 use Rattle.capcore.specs.Finishing.{told_at, told_by, entry_under, entry_by}
+use Rattle.capcore.specs.InoSets.{InoSet, IsListOf}
 use Rattle.capcore.specs.Known.{known_in, HaveRoom}
 use Rattle.capcore.proofs.AtEnd.{entry-alike}
 use Rattle.capcore.proofs.KeptSets.{kept-as, room-still}
-use Rattle.capcore.proofs.ManyInodes.{same_number, on, IsFinishing, none-finished, next-finished, next-apart, all-finished, distinct-keys, holders-stay, entries_on-stay}
+use Rattle.capcore.proofs.ManyInodes.{same_number, on, IsFinishing, none-finished, next-finished, next-apart, all-finished, holders-stay, entries_on-stay}
 use Rattle.capcore.proofs.finish.finish_touched.Goals as goal
 
 pub loop-number-init : goal.loop-number-init
 loop-number-init c =
     let g : EntryRow → Entry = entry_by (known_in c.args.known.now.sets) c.args.fs.now c.args.tree.now c.args.sessions.now c.args.locks.now.states in
     let f : EntryRow → Caps = told_by c.args.fs.now c.args.tree.now c.args.sessions.now c.args.locks.now.states in
-    let all : c.into_iter-number-iterator.result ≡ map.keys c.args.touched.now = c.into_iter-number-iterator.ensures.into_iter_gives ∙ c.inos-number-items.ensures in
-    record {
-      so_far =
-          subst (λ (left : List ℕ). IsFinishing g f c.args.table.now c.args.known.now.sets (map.keys c.args.touched.now) left c.args.table.now c.args.known.now.sets) (sym all)
-          (none-finished g f c.args.table.now c.args.known.now.sets (map.keys c.args.touched.now));
-    }
+    record { so_far = none-finished g f c.args.table.now c.args.known.now.sets c.into_iter-number-iterator.result }
 
 pub finish_entries-requires : goal.finish_entries-requires
 finish_entries-requires c =
@@ -43,8 +39,9 @@ finish_entries-requires c =
     let ks : List ℕ = c.next.new.self in
     let rest : c.loop-number.number-iterator ≡ k ∷ ks = rest_more deref _ _ _ _ c.in-Some.is c.next.ensures.steps in
     let s = c.loop-number.invariant.so_far in
-    let once : IsDistinct same_number (map.keys c.args.touched.now) = distinct-keys c.args.touched.now in
-    let apart = next-apart s.done k ks (subst (IsDistinct same_number) (sym s.named ∙ ap (λ left. s.done ++ left) rest) once) in
+    let all : List ℕ = c.into_iter-number-iterator.result in
+    let lists : IsListOf c.args.touched.now all = subst (IsListOf c.args.touched.now) (sym c.into_iter-number-iterator.ensures.into_iter_gives) c.numbers-number-items.ensures in
+    let apart = next-apart s.done k ks (subst (IsDistinct same_number) (sym s.named ∙ ap (λ left. s.done ++ left) rest) lists.once) in
     record {
       numbers = subst (All (λ (row : EntryRow). row.entry.seq < 18446744073709551615))
           (sym (ap (λ (u : Table). entries_on u (record { 0 = k })) s.finished ∙ entries_on-stay (λ n. list_any (same_number n) s.done) g (record { 0 = k }) (apart k (eq-eqb k k refl)) t))
@@ -63,12 +60,14 @@ loop-number-preserved c =
     let k : ℕ = c.in-Some.number.now in
     let ks : List ℕ = c.next.new.self in
     let rest : c.loop-number.number-iterator ≡ k ∷ ks = rest_more deref _ _ _ _ c.in-Some.is c.next.ensures.steps in
+    let all : List ℕ = c.into_iter-number-iterator.result in
+    let lists : IsListOf c.args.touched.now all = subst (IsListOf c.args.touched.now) (sym c.into_iter-number-iterator.ensures.into_iter_gives) c.numbers-number-items.ensures in
     let h : EntryRow → Entry = entry_under (known_in c.loop-number.known.sets) c.args.fs.now c.args.tree.now c.args.sessions.now c.of_ino-now.result in
     record {
       so_far =
-          next-finished g f t c.args.known.now.sets (map.keys c.args.touched.now) k ks c.loop-number.table c.loop-number.known.sets h c.finish_entries.new.table c.finish_entries.new.known.sets
-          (distinct-keys c.args.touched.now)
-          (subst (λ (left : List ℕ). IsFinishing g f t c.args.known.now.sets (map.keys c.args.touched.now) left c.loop-number.table c.loop-number.known.sets) rest c.loop-number.invariant.so_far)
+          next-finished g f t c.args.known.now.sets all k ks c.loop-number.table c.loop-number.known.sets h c.finish_entries.new.table c.finish_entries.new.known.sets
+          lists.once
+          (subst (λ (left : List ℕ). IsFinishing g f t c.args.known.now.sets all left c.loop-number.table c.loop-number.known.sets) rest c.loop-number.invariant.so_far)
           c.finish_entries.ensures.table
           (λ row is kept.
           entry-alike (known_in c.loop-number.known.sets) (known_in c.args.known.now.sets) c.args.fs.now c.args.tree.now c.args.sessions.now c.of_ino-now.result c.args.locks.now.states row
@@ -82,7 +81,10 @@ pub returns : goal.returns
 returns c =
     let g : EntryRow → Entry = entry_by (known_in c.args.known.now.sets) c.args.fs.now c.args.tree.now c.args.sessions.now c.args.locks.now.states in
     let f : EntryRow → Caps = told_by c.args.fs.now c.args.tree.now c.args.sessions.now c.args.locks.now.states in
+    let inos : InoSet = c.args.touched.now in
+    let all : List ℕ = c.into_iter-number-iterator.result in
+    let lists : IsListOf inos all = subst (IsListOf inos) (sym c.into_iter-number-iterator.ensures.into_iter_gives) c.numbers-number-items.ensures in
     let none : c.loop-number.number-iterator ≡ [] = rest_all deref _ _ _ c.in-None.is c.next.ensures.steps in
-    let all = all-finished g f c.args.table.now c.args.known.now.sets c.args.touched.now c.loop-number.table c.loop-number.known.sets
-    (subst (λ (left : List ℕ). IsFinishing g f c.args.table.now c.args.known.now.sets (map.keys c.args.touched.now) left c.loop-number.table c.loop-number.known.sets) none c.loop-number.invariant.so_far) in
-    record { table = all.0; known = all.1 }
+    let done = all-finished g f c.args.table.now c.args.known.now.sets inos all c.loop-number.table c.loop-number.known.sets lists
+    (subst (λ (left : List ℕ). IsFinishing g f c.args.table.now c.args.known.now.sets all left c.loop-number.table c.loop-number.known.sets) none c.loop-number.invariant.so_far) in
+    record { table = done.0; known = done.1 }

@@ -1,4 +1,3 @@
-use Rattle.std.specs.FinMap as map
 use Rattle.capcore.specs.Finishing.{told_by, entry_by}
 use Rattle.capcore.specs.Known.{known_in}
 use Rattle.capcore.proofs.ManyInodes.{IsFinishing}
@@ -7,5 +6,5 @@ use Rattle.capcore.proofs.finish.finish_touched.Given as goal
 abbrev pub invariant-loop-number : goal.invariant-loop-number
 invariant-loop-number l = record {
   so_far : IsFinishing (entry_by (known_in l.fn.known.sets) l.fs l.tree l.sessions l.locks.states) (told_by l.fs l.tree l.sessions l.locks.states) l.fn.table l.fn.known.sets
-      (map.keys l.touched) l.number-iterator l.table l.known.sets;
+      l.initial.number-iterator l.number-iterator l.table l.known.sets;
 }

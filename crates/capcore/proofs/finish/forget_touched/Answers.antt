@@ -1,19 +1,14 @@
-use Rattle.std.proofs.Common.{◌≡◌, ℕ, List, [], ◌∷◌, refl, sym, ap, ◌∙◌}
-use Rattle.std.specs.FinMap as map
+use Rattle.std.proofs.Common.{◌≡◌, ℕ, List, [], ◌∷◌, refl, sym, ap, subst, ◌∙◌}
 use Rattle.std.specs.List.{fold}
 use Rattle.std.specs.Map.Iter.{deref}
 use Rattle.std.proofs.lemmas.Map.Iter.{rest_more, rest_all}
 use Rattle.lockmachine.specs.Scene.{Scene, scene}
-use Rattle.capcore.proofs.Strays.{forget_on, forget-keys}
+use Rattle.capcore.specs.InoSets.{IsListOf}
+use Rattle.capcore.proofs.Strays.{forget_on, forget-all_of}
 use Rattle.capcore.proofs.finish.forget_touched.Goals as goal
 
 pub loop-number-init : goal.loop-number-init
-loop-number-init c =
-    let all : c.into_iter-number-iterator.result ≡ map.keys c.args.touched.now = c.into_iter-number-iterator.ensures.into_iter_gives ∙ c.inos-number-items.ensures in
-    record {
-      left = λ fs sessions. ap (fold forget_on (scene fs c.args.tree.now sessions c.args.table.now c.args.locks.now)) all;
-      queue = refl;
-    }
+loop-number-init c = record { left = λ fs sessions. refl; queue = refl }
 
 pub loop-number-preserved : goal.loop-number-preserved
 loop-number-preserved c =
@@ -30,7 +25,8 @@ loop-number-preserved c =
 
 pub returns-clause-left : goal.returns-clause-left
 returns-clause-left c = λ fs sessions.
+    let lists : IsListOf c.args.touched.now c.into_iter-number-iterator.result = subst (IsListOf c.args.touched.now) (sym c.into_iter-number-iterator.ensures.into_iter_gives) c.numbers-number-items.ensures in
     let none : c.loop-number.number-iterator ≡ [] = rest_all deref _ _ _ c.in-None.is c.next.ensures.steps in
     ap (fold forget_on (scene fs c.loop-number.tree sessions c.args.table.now c.loop-number.locks)) (sym none)
     ∙ c.loop-number.invariant.left fs sessions
-    ∙ forget-keys c.args.touched.now (scene fs c.args.tree.now sessions c.args.table.now c.args.locks.now)
+    ∙ forget-all_of c.args.touched.now c.into_iter-number-iterator.result (scene fs c.args.tree.now sessions c.args.table.now c.args.locks.now) lists

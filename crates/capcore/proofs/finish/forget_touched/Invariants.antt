@@ -1,5 +1,4 @@
 use Rattle.std.proofs.Common.{◌≡◌, ℕ, List}
-use Rattle.std.specs.FinMap as map
 use Rattle.std.specs.List.{fold}
 use Rattle.sessiontab.specs.Table.{SessionTable}
 use Rattle.lockmachine.specs.Scene.{scene}
@@ -10,6 +9,6 @@ use Rattle.capcore.proofs.finish.forget_touched.Given as goal
 abbrev pub invariant-loop-number : goal.invariant-loop-number
 invariant-loop-number l = record {
   left : (fs : List ℕ) (sessions : SessionTable) → fold forget_on (scene fs l.tree sessions l.table l.locks) l.number-iterator
-      ≡ fold forget_on (scene fs l.fn.tree sessions l.table l.fn.locks) (map.keys l.touched);
+      ≡ fold forget_on (scene fs l.fn.tree sessions l.table l.fn.locks) l.initial.number-iterator;
   queue : l.locks.queue ≡ l.fn.locks.queue;
 }

@@ -1,8 +1,9 @@
-use Rattle.std.proofs.Common.{sym, ap, ◌∙◌, true≢false}
-use Rattle.std.specs.FinMap as map
-use Rattle.lockmachine.specs.Inodes.{StateMap}
+use Rattle.std.proofs.Common.{ap, ◌∙◌}
+use Rattle.std.specs.FinSet as set
 use Rattle.lockmachine.specs.Scene.{scene}
-use Rattle.capcore.proofs.Among.{quiet-among, ends-one, none-kept}
+use Rattle.capcore.specs.InoSets.{InoSet}
+use Rattle.capcore.proofs.Among.{quiet-among, ends-one}
+use Rattle.capcore.proofs.InoSets.{none-there}
 use Rattle.capcore.proofs.settle.end_at_one.Goals as goal
 
 pub end_at-requires-clause-quiet : goal.end_at-requires-clause-quiet
@@ -10,11 +11,7 @@ end_at-requires-clause-quiet c =
     quiet-among c.args.ino.0 c.new-others.result (scene c.args.fs.now c.args.tree.now c.args.sessions.now c.args.table.now c.args.locks.now) c.requires.quiet
 
 pub end_at-requires-clause-apart : goal.end_at-requires-clause-apart
-end_at-requires-clause-apart c = ap (λ (m : StateMap). map.contains_key m c.args.ino.0) c.new-others.ensures ∙ none-kept c.args.ino.0
-
-pub end_at-requires-clause-before : goal.end_at-requires-clause-before
-end_at-requires-clause-before c = λ other kept.
-    absurd (true≢false (sym kept ∙ ap (λ (m : StateMap). map.contains_key m other) c.new-others.ensures ∙ none-kept other))
+end_at-requires-clause-apart c = ap (λ (inos : InoSet). set.contains inos c.args.ino.0) c.new-others.ensures ∙ none-there c.args.ino.0
 
 pub returns-clause-ends : goal.returns-clause-ends
 returns-clause-ends c =

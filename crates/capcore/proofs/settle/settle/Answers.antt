@@ -1,10 +1,6 @@
 use Rattle.std.proofs.Common.{◌≡◌, ◌<◌, ◌≤◌, ◌+◌, ◌++◌, ◌∷◌, [], ℕ, Bool, true, false, cond, ◌&&◌, length, List, Option, Some, None, Contains, sym, ap, subst, ◌∙◌, arith}
 use Rattle.std.specs.List.{filter_map}
-use Rattle.std.specs.Prelude.{All, IsTrue}
-use Rattle.std.specs.FinMap as map
 use Rattle.std.proofs.lemmas.List.{length-append}
-use Rattle.std.proofs.lemmas.List.Elements.{All-weaker}
-use Rattle.captable.specs.declared.entry.EntryRow.{EntryRow}
 use Rattle.capbits.specs.declared.ids.Ino.{Ino}
 use Rattle.lockmachine.specs.declared.request.Request.{Request}
 use Rattle.lockmachine.specs.declared.moves.Move.TheVariants.{Serve}
@@ -18,7 +14,6 @@ use Rattle.capcore.specs.declared.outcome.Outcome.{Outcome}
 use Rattle.capcore.specs.Serves.{Serves, is_touched}
 use Rattle.capcore.specs.Settle.{Served, sets_size, is_done, sized_in}
 use Rattle.capcore.specs.Sweep.{GoesOn, IsSwept, IsTurnOfLeast, Reaches}
-use Rattle.capcore.proofs.Moved.{moved-all}
 use Rattle.capcore.proofs.SoFar.{IsSoFar, so-far-begins, so-far-served, so-far-settled, so-far-swept, turn-of_least, turn-served}
 use Rattle.capcore.proofs.settle.settle.Goals as goal
 use Rattle.capcore.proofs.settle.settle.Goals.{After-last-last, After-serve_next}
@@ -33,7 +28,7 @@ servings-init c =
     let first : Scene = scene c.args.fs.now c.args.tree.now c.args.sessions.now c.args.table.now c.args.locks.now in
     let now : Scene = scene c.args.fs.now c.args.tree.now c.args.sessions.now c.args.table.now c.end_gathers.new.locks in
     let at : ℕ → Bool = is_touched c.args.ino.0 c.args.others in
-    let begun = so-far-begins c.args.ino.0 c.args.others first c.requires.quiet c.requires.apart c.requires.before in
+    let begun = so-far-begins c.args.ino.0 c.args.others first c.requires.quiet c.requires.apart in
     let swept : IsSwept at first now = c.end_gathers.ensures.swept c.args.fs.now c.args.tree.now c.args.sessions.now begun.waits in
     let so : IsSoFar c.args.ino.0 at c.args.others first now [] [] = so-far-swept c.args.ino.0 at c.args.others first first [] [] begun now swept in
     let queue : length c.end_gathers.new.locks.queue ≡ length c.args.locks.now.queue = ap length swept.queue in
@@ -73,15 +68,6 @@ module _ (c : After-last-last) where
   swept : IsSoFar c.args.ino.0 (from c) c.servings.touched first mid c.servings.endings.told.items c.servings.endings.sized.items
   swept = so-far-swept c.args.ino.0 (is_touched c.args.ino.0 c.args.others) c.servings.touched first now c.servings.endings.told.items c.servings.endings.sized.items c.servings.invariant.so_far mid c.sweep.ensures.swept
 
-  -- where each entry's inode had locks, it has some
-  locked : All (λ (row : EntryRow). IsTrue (map.contains_key c.args.locks.now.states row.holder.ino.0)) c.args.table.now.rows
-      → All (λ (row : EntryRow). IsTrue (map.contains_key c.sweep.new.locks.states row.holder.ino.0)) c.args.table.now.rows
-  locked all =
-      let so = swept in
-      let moved = moved-all first so.moves mid so.made in
-      All-weaker (λ (row : EntryRow). IsTrue (map.contains_key c.args.locks.now.states row.holder.ino.0)) (λ (row : EntryRow). IsTrue (map.contains_key c.sweep.new.locks.states row.holder.ino.0))
-      (λ row has. moved.states row.holder.ino.0 ∙ has) c.args.table.now.rows all
-
   move : first_move mid ≡ Serve c.in-Some.ticket
   move = subst (GoesOn mid) c.in-Some.is c.sweep.ensures.next
 
@@ -100,9 +86,6 @@ module _ (c : After-last-last) where
 
 pub serve_next-requires-clause-waits : goal.serve_next-requires-clause-waits
 serve_next-requires-clause-waits c = (let found = here (goal.at.serve_next-requires-clause-waits c).After-last-last in (found.0, found.1))
-
-pub serve_next-requires-clause-locked : goal.serve_next-requires-clause-locked
-serve_next-requires-clause-locked c = locked (goal.at.serve_next-requires-clause-locked c).After-last-last c.requires.locked
 
 pub serve_next-requires-clause-told : goal.serve_next-requires-clause-told
 serve_next-requires-clause-told c = let some = some_wait (goal.at.serve_next-requires-clause-told c).After-last-last in omega (arith, some, c.servings.invariant.told)
@@ -126,7 +109,7 @@ module _ (c : After-serve_next) where
   abbrev serves : Serves (mid (before_serving c)) c.in-Some.ticket ended new
   serves = c.serve_next.ensures.served.1 c.args.table.now
 
-  abbrev reaches : Reaches serves.request c.args.ino.0 c.servings.tree c.serve_next.new.tree c.args.table.now c.sweep.new.locks.states c.servings.touched c.serve_next.new.touched
+  abbrev reaches : Reaches serves.request c.args.ino.0 c.servings.tree c.serve_next.new.tree c.args.table.now c.servings.touched c.serve_next.new.touched
   reaches = c.serve_next.ensures.reached serves.request serves.waits
 
   served : IsSoFar c.args.ino.0 (from (before_serving c)) c.serve_next.new.touched (first (before_serving c)) new (c.servings.endings.told.items ++ ended ∷ []) (c.servings.endings.sized.items ++ sized_in (Served serves.request ended.outcome ∷ []))

@@ -7,7 +7,7 @@ use Rattle.capcore.specs.Answered.{IsAnswered}
 use Rattle.capcore.specs.Direct.{direct}
 use Rattle.capcore.specs.Headline.{DeniedExactly, DeniesByName, ServedDenied, ServedByName, EachServing, ByMoves, AreBounded, OtherLocksStay, IssuesExactly, is_stop}
 use Rattle.capcore.specs.History.{Told, told, InItsRow, Replays}
-use Rattle.capcore.specs.Shown.{TakesUnshown, TakesOnlySo}
+use Rattle.capcore.specs.Shown.{ShowsWhatIsTold, TakesUnshown, TakesOnlySo}
 use Rattle.capcore.specs.Sound.{IsSound}
 use Rattle.capcore.specs.Step.{Step}
 use Rattle.capcore.proofs.Apart.{held-apart}
@@ -19,7 +19,7 @@ use Rattle.capcore.proofs.Growing.{more-told, replays-more}
 use Rattle.capcore.proofs.Placed.{all-revoked}
 use Rattle.capcore.proofs.HeldOn.{takes-only_so}
 use Rattle.capcore.proofs.ShownSteps.{step-shown}
-use Rattle.capcore.proofs.ShownWords.{shows-told, all-takes_unshown}
+use Rattle.capcore.proofs.ShownWords.{shows-told, shows-permitted, all-takes_unshown}
 use Rattle.capcore.proofs.step.Core.apply.Goals as goal
 use Rattle.capcore.proofs.step.Core.apply.Goals.{After-add_row}
 
@@ -133,12 +133,17 @@ returns-clause-unchanged c =
     subst (λ (t : Told). IsTrue (is_stop c.in_ok-reply.field-0.reply) → c.step.new.self ≡ t.state) c.self.view_is
     (stopped-unchanged c.self.inside.world c.args.event c.in_ok-reply.field-0.reply c.in_ok-reply.field-0.ended c.step.new.self (step_of c) c.self.invariant.sound c.in_ok-reply.ensures.locks c.in_ok-reply.ensures.table)
 
+shows_told : (c : After-add_row) → ShowsWhatIsTold (c.self.inside.rows.items ++ row_of c ∷ []) c.step.new.self.scene
+shows_told c =
+    shows-told (c.self.inside.rows.items ++ row_of c ∷ []) c.step.new.self (next c)
+    (step-shown c.self.inside.world c.step.new.self c.self.inside.rows.items (row_of c) c.self.invariant.sound c.in_ok-reply.ensures.table c.self.invariant.shown (kept_step c))
+
 pub returns-clause-shown : goal.returns-clause-shown
-returns-clause-shown c =
-    let row : Row = row_of c in
-    rw (c.add_row.ensures, c.make_room.ensures.items)
-    (shows-told (c.self.inside.rows.items ++ row ∷ []) c.step.new.self (next c)
-    (step-shown c.self.inside.world c.step.new.self c.self.inside.rows.items row c.self.invariant.sound c.in_ok-reply.ensures.table c.self.invariant.shown (kept_step c)))
+returns-clause-shown c = rw (c.add_row.ensures, c.make_room.ensures.items) (shows_told c)
+
+pub returns-clause-shown_permitted : goal.returns-clause-shown_permitted
+returns-clause-shown_permitted c =
+    rw (c.add_row.ensures, c.make_room.ensures.items) (shows-permitted (c.self.inside.rows.items ++ row_of c ∷ []) c.step.new.self.scene (shows_told c))
 
 pub returns-clause-unshown : goal.returns-clause-unshown
 returns-clause-unshown c =

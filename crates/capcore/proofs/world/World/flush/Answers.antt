@@ -16,7 +16,7 @@ use Rattle.capcore.specs.Touching.{Knows}
 use Rattle.capcore.specs.Serves.{EndsWith}
 use Rattle.capcore.specs.Sound.{IsSound}
 use Rattle.capcore.specs.Step.{earlier}
-use Rattle.capcore.proofs.Closing.{first-quiet, first-locked, told-all, closed-known, closed}
+use Rattle.capcore.proofs.Closing.{first-quiet, told-all, closed-known, closed}
 use Rattle.capcore.proofs.Knowing.{HoldAlike, alike-less, still-there, still-room, still-knows}
 use Rattle.capcore.proofs.OfInode.{event-table}
 use Rattle.capcore.proofs.Flushed.{flush-calls, flush-direct}
@@ -90,11 +90,6 @@ pub end_at_one-requires-clause-quiet : goal.end_at_one-requires-clause-quiet
 end_at_one-requires-clause-quiet g =
     let c = (goal.at.end_at_one-requires-clause-quiet g).After-touch in
     first-quiet (old c) (e c) (k c) refl (passed c) c.self.invariant.0 c.oldest-oldest.ensures.sound (first c) (is c)
-
-pub end_at_one-requires-clause-locked : goal.end_at_one-requires-clause-locked
-end_at_one-requires-clause-locked g =
-    let c = (goal.at.end_at_one-requires-clause-locked g).After-touch in
-    first-locked (old c) (e c) (k c) refl (passed c) c.self.invariant.0 c.oldest-oldest.ensures.sound (first c) (is c)
 
 -- ---- the end of the step
 

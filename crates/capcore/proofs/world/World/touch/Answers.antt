@@ -18,7 +18,7 @@ use Rattle.capcore.specs.Serves.{EndsWith}
 use Rattle.capcore.specs.Sound.{IsSound, NumbersLeft}
 use Rattle.capcore.specs.Step.{earlier}
 use Rattle.capcore.specs.Touch.{touch_event, touch_tests, touch_answer}
-use Rattle.capcore.proofs.Closing.{first-quiet, first-numbers, first-clients, first-locked, told-all, closed-known, closed}
+use Rattle.capcore.proofs.Closing.{first-quiet, first-numbers, first-clients, told-all, closed-known, closed}
 use Rattle.capcore.proofs.Knowing.{held_at, HoldAlike, known-alike, still-room, still-knows, still-all}
 use Rattle.capcore.proofs.OfInode.{event-table}
 use Rattle.capcore.proofs.Stops.{stopped-answered}
@@ -109,11 +109,6 @@ pub end_at_one-requires-clause-clients : goal.end_at_one-requires-clause-clients
 end_at_one-requires-clause-clients g =
     let c = (goal.at.end_at_one-requires-clause-clients g).In_default-touch_entry in
     first-clients (old c) (e c) (k c) (touched-by c.args.client c.args.ino c.args.touch) (passed c) c.self.invariant.0 c.oldest-oldest.ensures.sound (first c) (is c)
-
-pub end_at_one-requires-clause-locked : goal.end_at_one-requires-clause-locked
-end_at_one-requires-clause-locked g =
-    let c = (goal.at.end_at_one-requires-clause-locked g).In_default-touch_entry in
-    first-locked (old c) (e c) (k c) (touched-by c.args.client c.args.ino c.args.touch) (passed c) c.self.invariant.0 c.oldest-oldest.ensures.sound (first c) (is c)
 
 -- ---- the end of the step
 

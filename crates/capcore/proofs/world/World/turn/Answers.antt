@@ -17,7 +17,7 @@ use Rattle.capcore.specs.Serves.{EndsWith, is_touched}
 use Rattle.capcore.specs.Sound.{IsSound, NumbersLeft}
 use Rattle.capcore.specs.Turn.{turn_event, turned, is_end, dropped_by}
 use Rattle.capcore.proofs.Stops.{stopped-answered}
-use Rattle.capcore.proofs.TurnStep.{turn-stop, waiting-locked, few-waiting, few-messages, turn-quiet, turn-locked, turn-clients, turn-numbers, turn-alike, turn-known, turn-closed}
+use Rattle.capcore.proofs.TurnStep.{turn-stop, few-waiting, few-messages, turn-quiet, turn-clients, turn-numbers, turn-alike, turn-known, turn-closed}
 use Rattle.capcore.proofs.Knowing.{HoldAlike, still-there, still-room}
 use Rattle.capcore.proofs.world.World.turn.Goals as goal
 use Rattle.capcore.proofs.world.World.turn.Goals.{After-leave, After-close_dropped}
@@ -32,12 +32,6 @@ returns-in-Some-clause-answered c =
     stopped-answered s (turn_event c.args.client c.args.turn) (ByTest c.in-Some.refusal) c.alone.result known.0 known.1
     (ap (λ (w : State). judged w.scene (turn_event c.args.client c.args.turn)) (sym c.self.view_is) ∙ turn-stop inside.scene c.args.client c.args.turn ∙ ap (option_map ByTest) (sym c.turn_refusal.ensures ∙ c.in-Some.is))
     c.alone.ensures.reply (c.alone.ensures.kept ∙ sym c.alone.ensures.reply) c.alone.ensures.ended
-
-pub new-requires-clause-waiting : goal.new-requires-clause-waiting
-new-requires-clause-waiting c =
-    let s : Scene = record { fs = c.self.inside.fs; tree = c.self.inside.tree; sessions = c.self.inside.sessions; table = c.self.inside.table; locks = c.self.inside.locks } in
-    let sound = c.self.invariant.0 in
-    waiting-locked s sound.at_rest
 
 -- ---- one that nothing stops, by itself
 
@@ -103,12 +97,6 @@ end_at-requires-clause-sized g =
     let sized = c.in_ok-room.ensures.sized in
     let none = ap length sized.0 in
     omega (arith, none, sized.1, fewer c)
-
-pub end_at-requires-clause-locked : goal.end_at-requires-clause-locked
-end_at-requires-clause-locked g =
-    let c = (goal.at.end_at-requires-clause-locked g).After-leave in
-    subst (λ (s : Scene). All (λ row. IsTrue (map.contains_key s.locks.states row.holder.ino.0)) s.table.rows) (sym (is c))
-    (turn-locked (old c) c.args.client c.args.turn (passed c) c.self.invariant.0 c.oldest-oldest.ensures.sound 1 c.in_ok-room.room.others c.in_ok-room.ensures.reaches)
 
 pub end_at-requires-clause-numbers : goal.end_at-requires-clause-numbers
 end_at-requires-clause-numbers g =

@@ -13,7 +13,7 @@ use Rattle.capcore.specs.Judge.{stop, asking_tests, waiting_tests}
 use Rattle.capcore.specs.Touching.{asks_for}
 use Rattle.capcore.specs.Untold.{but_for}
 use Rattle.capcore.proofs.Asked.{asking-room}
-use Rattle.capcore.proofs.Waits.{some-asking, room-left, few-others, wait-quiet, wait-locked, wait-differ, wait-known, wait-answered}
+use Rattle.capcore.proofs.Waits.{some-asking, room-left, few-others, wait-quiet, wait-differ, wait-known, wait-answered}
 use Rattle.capcore.proofs.world.World.wait.Goals as goal
 use Rattle.capcore.proofs.world.World.wait.Goals.{After-oldest-oldest, After-close_with}
 
@@ -42,11 +42,6 @@ pub end_at_one-requires-clause-quiet : goal.end_at_one-requires-clause-quiet
 end_at_one-requires-clause-quiet g =
     let c = (goal.at.end_at_one-requires-clause-quiet g).After-oldest-oldest in
     wait-quiet (old c) (k c) g.args.ask g.self.invariant.0 g.oldest-oldest.ensures.sound g.waiting-waiting.ensures.sound (free c) g.enqueue-ticket.new.self g.enqueue-ticket.ensures.queued
-
-pub end_at_one-requires-clause-locked : goal.end_at_one-requires-clause-locked
-end_at_one-requires-clause-locked g =
-    let c = (goal.at.end_at_one-requires-clause-locked g).After-oldest-oldest in
-    wait-locked (old c) (k c) g.args.ask g.self.invariant.0 g.oldest-oldest.ensures.sound g.waiting-waiting.ensures.sound (free c) g.enqueue-ticket.new.self g.enqueue-ticket.ensures.queued
 
 pub end_at_one-requires-clause-room : goal.end_at_one-requires-clause-room
 end_at_one-requires-clause-room g = λ j f there. ap is_some (g.self.invariant.2 j f there)

@@ -1,0 +1,32 @@
+-- Inodes that are taken in one after another.
+use Rattle.std.proofs.Common.{◌≡◌, ◌≢◌, ℕ, Bool, true, false, not, List, ◌+◌, ◌<◌, length, get_or, refl, ap, subst, sym, ◌∙◌, eq-eqb, true≢false}
+use Rattle.std.specs.Prelude.{◌==◌}
+use Rattle.std.specs.FinSet as set
+use Rattle.std.specs.List.{list_any, AllWithin}
+use Rattle.std.proofs.lemmas.Bool.{eqb-true}
+use Rattle.std.proofs.lemmas.List.{get_or_default}
+use Rattle.std.proofs.lemmas.List.Elements.{AllWithin-more}
+use Rattle.capbits.specs.declared.ids.Ino.{Ino}
+use Rattle.captable.specs.declared.entry.EntryRow.{EntryRow}
+use Rattle.captable.specs.Calls.{is_of_inode}
+use Rattle.capcore.specs.InoSets.{InoSet}
+
+pub differ : (a b : ℕ) → not (a == b) ≡ true → a ≢ b
+differ a b e = λ same. true≢false (sym e ∙ ap not (eq-eqb a b same))
+
+pub same-one : (a b : ℕ) → not (a == b) ≡ false → a ≡ b
+same-one a b e = by_test (a == b) refl e
+  where
+    by_test : (t : Bool) → (a == b) ≡ t → not t ≡ false → a ≡ b
+    by_test true is e = eqb-true a b is
+    by_test false is e = absurd (true≢false e)
+
+-- unless it is this one, the inode is among them, if somebody has an entry on it
+abbrev pub IsAdded : List EntryRow → ℕ → InoSet → Ino → Type 0
+IsAdded rows ino kept other = other.0 ≢ ino → list_any (is_of_inode other) rows ≡ true → set.contains kept other.0 ≡ true
+
+pub added-more : (rows : List EntryRow) (ino : ℕ) (now new : InoSet) (inos : List Ino) (i : ℕ) (d : Ino) → i < length inos → ((other : ℕ) → set.contains now other ≡ true → set.contains new other ≡ true)
+    → AllWithin (IsAdded rows ino now) inos 0 i → IsAdded rows ino new (get_or inos i d) → AllWithin (IsAdded rows ino new) inos 0 (i + 1)
+added-more rows ino now new inos i d within stays all here =
+    AllWithin-more (IsAdded rows ino new) inos 0 i (λ k e low below apart held. stays (get_or inos k e).0 (all k e low below apart held))
+    (λ e. subst (IsAdded rows ino new) (get_or_default inos i d e within) here)
