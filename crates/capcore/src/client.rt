@@ -262,11 +262,7 @@ fn reach_client(
 }
 
 // Adds each inode that the client has an entry on, but for the root.
-fn reach_entries(
-    table: &CapTable,
-    client: ClientId,
-    others: &mut InoSet,
-) -> Result<(), AllocError>
+fn reach_entries(table: &CapTable, client: ClientId, others: &mut InoSet) -> Result<(), AllocError>
     ensures widens { Widens 1 others.old others.new }
     ensures reaches { OnOk result ((row : EntryRow) → Contains table.now.rows row → is_of_client client row ≡ true
         → is_touched 1 others.new row.holder.ino.0 ≡ true) }
