@@ -15,7 +15,7 @@ use Rattle.captable.specs.declared.entry.Entry.{Entry}
 use Rattle.captable.specs.declared.entry.EntryRow.{EntryRow}
 use Rattle.captable.specs.declared.entry.Holder.{Holder}
 use Rattle.captable.specs.Table.{Table, same, holder, is_row_of, entry_of, entry_at}
-use Rattle.captable.specs.Calls.{change_rows, changed, is_of_inode, entries_on}
+use Rattle.captable.specs.Calls.{is_of_inode, entries_on}
 use Rattle.captable.specs.Many.{changed_by}
 use Rattle.captable.proofs.Tables.{same_equiv, same-is}
 use Rattle.captable.proofs.ByHolder.{entry_at-changed_other}
@@ -67,18 +67,6 @@ entry-on P t client ino all = by_case (find (is_row_of (holder client ino)) t.ro
         let mine : holder client ino ≡ row.holder = same-is (holder client ino) row.holder (find_passes (is_row_of (holder client ino)) t.rows row found) in
         All-contains (λ row. is_of_inode ino row ≡ true → P row.entry) t.rows row each_on (found-contains (is_row_of (holder client ino)) t.rows row found)
         (eq-eqb row.holder.ino.0 ino.0 (ap (λ (h : Holder). h.ino.0) (sym mine)))
-
-rows_twice : (rows : List EntryRow) (k : Holder) (f g : Entry → Entry) → change_rows (change_rows rows k f) k g ≡ change_rows rows k (λ e. g (f e))
-rows_twice [] k f g = refl
-rows_twice (row ∷ rows) k f g =
-    elim (is_row_of k row) as (λ b. is_row_of k row ≡ b → change_rows (cond b (record row { entry = f row.entry } ∷ rows) (row ∷ change_rows rows k f)) k g ≡ cond b (record row { entry = g (f row.entry) } ∷ rows) (row ∷ change_rows rows k (λ e. g (f e)))) [
-      | true ↦ λ e. ap (λ b. cond b (record row { entry = g (f row.entry) } ∷ rows) (record row { entry = f row.entry } ∷ change_rows rows k g)) e
-      | false ↦ λ e. ap (λ b. cond b (record row { entry = g row.entry } ∷ change_rows rows k f) (row ∷ change_rows (change_rows rows k f) k g)) e ∙ ap (λ rest. row ∷ rest) (rows_twice rows k f g)
-    ] refl
-
--- one change after another, of one holder's entry
-pub changed-twice : (t : Table) (k : Holder) (f g : Entry → Entry) → changed (changed t k f) k g ≡ changed t k (λ e. g (f e))
-changed-twice t k f g = ap (λ (rows : List EntryRow). record t { rows = rows }) (rows_twice t.rows k f g)
 
 -- ---- one entry after another
 

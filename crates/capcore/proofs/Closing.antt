@@ -1,7 +1,6 @@
 -- What the calls of the step of an event about one inode come to.
 use Rattle.std.proofs.Common.{◌≡◌, ◌≤◌, ◌<◌, ◌^◌, ◌-◌, ℕ, ◌+◌, ◌++◌, ◌==◌, Bool, true, false, Some, None, is_some, List, Contains, refl, sym, ap, subst, ◌∙◌, arith}
 use Rattle.std.specs.Prelude.{IsTrue, All}
-use Rattle.std.specs.FinMap as map
 use Rattle.std.specs.HashMap.{HashMap}
 use Rattle.capbits.specs.Caps.{Caps}
 use Rattle.std.proofs.lemmas.Bool.{eqb-true}

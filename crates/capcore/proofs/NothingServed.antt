@@ -1,5 +1,5 @@
 -- Where all who wait are held up, no move serves anybody, and the tree stays.
-use Rattle.std.proofs.Common.{◌≡◌, ℕ, Contains, Bool, true, false, List, [], ◌∷◌, refl, sym, ap, ◌∙◌, true≢false}
+use Rattle.std.proofs.Common.{◌≡◌, ℕ, Contains, Bool, false, List, [], ◌∷◌, refl, sym, ap, ◌∙◌, true≢false}
 use Rattle.std.proofs.lemmas.List.Elements.{All-contains}
 use Rattle.capbits.specs.declared.cap.Cap.TheVariants.{P}
 use Rattle.capbits.specs.Caps.{has}

@@ -1,6 +1,5 @@
 -- Entries on several inodes that are to be told a size, one inode after another: as all at once, since being told twice is being told.
 use Rattle.std.proofs.Common.{◌≡◌, Bool, true, false, cond, ◌||◌, List, [], ◌∷◌, ◌++◌, map, refl, sym, ap, ◌∙◌}
-use Rattle.std.specs.List.{list_any}
 use Rattle.std.proofs.lemmas.List.Folds.{list_any-append}
 use Rattle.capbits.specs.declared.cap.Cap.TheVariants.{Fc}
 use Rattle.capbits.specs.declared.ids.Ino.{Ino}

@@ -1,5 +1,5 @@
 -- A sound state stays sound after the step of an event that touched some inodes.
-use Rattle.std.proofs.Common.{◌≡◌, ◌≤◌, ℕ, ◌+◌, ◌==◌, Bool, true, false, ◌||◌, Some, None, is_some, List, refl, sym, ap, subst, ◌∙◌, ◌&&◌, ◌++◌, Contains, arith}
+use Rattle.std.proofs.Common.{◌≡◌, ◌≤◌, ℕ, ◌+◌, ◌==◌, Bool, true, false, ◌||◌, Some, None, is_some, List, refl, sym, ap, subst, ◌∙◌, ◌++◌, Contains, arith}
 use Rattle.std.specs.Prelude.{IsTrue, All, nat_le}
 use Rattle.std.specs.List.{find, list_any}
 use Rattle.std.specs.Option.{option_map}

@@ -1,8 +1,6 @@
 -- The step of a request that waits, as its calls go.
 use Rattle.std.proofs.Common.{is_some, ◌≡◌, ◌<◌, ◌≤◌, ℕ, Bool, ◌+◌, ◌==◌, not, cond, Some, None, List, ◌++◌, length, refl, sym, ap, subst, ◌∙◌, arith}
-use Rattle.std.specs.Prelude.{IsTrue, All}
 use Rattle.std.specs.List.{count_by, find}
-use Rattle.std.specs.FinMap as map
 use Rattle.std.specs.HashMap.{HashMap}
 use Rattle.capbits.specs.Caps.{Caps}
 use Rattle.std.proofs.lemmas.Bool.{lt-leb}

@@ -198,8 +198,8 @@ fn finish_entry(
         let permitted = permitted(fs, tree, sessions, holder.client, holder.ino);
         let due = want_of_permitted(sessions, row, permitted).meet(allowed_under(&row, locks));
         let told = told_under(&with_issued(&row, due), permitted, locks);
-        issue(table, &row, due, known.of(holder), told);
-        known.put(holder, told);
+        let before = known.put(holder, told);
+        issue(table, &row, due, before, told);
     }
 }
 
@@ -211,8 +211,7 @@ fn issue(table: &mut CapTable, row: &EntryRow, due: CapSet, known: CapSet, told:
 {
     let (client, ino) = (row.holder.client, row.holder.ino);
     let before = known.meet(row.entry.held);
-    table.issue(client, ino, due);
-    table.renumber(client, ino, before, told);
+    table.issue_numbered(client, ino, due, before, told);
 }
 
 // The entry, with more held.

@@ -36,14 +36,16 @@ impl Known {
         }
     }
 
-    // Keeps this of the holder, of whom something is kept already. It takes no memory.
-    pub(crate) fn put(&mut self, holder: Holder, caps: CapSet)
+    // Keeps this of the holder, of whom something is kept already, and answers what was kept. It takes no memory.
+    pub(crate) fn put(&mut self, holder: Holder, caps: CapSet) -> CapSet
         requires there { IsSome (get same self.old.sets holder) }
+        ensures was { result ≡ known_in self.old.sets holder }
         ensures own { get same self.new.sets holder ≡ Some caps }
         ensures others { (k : Holder) → k ≢ holder → get same self.new.sets k ≡ get same self.old.sets k }
     {
         match self.sets.insert(holder, caps) {
-            Ok(_old) => {}
+            Ok(Some(was)) => was,
+            Ok(None) => CapSet::empty(),
             Err(_pair) => unreachable!(),
         }
     }

@@ -20,7 +20,6 @@ pub const MAX_ENTRIES: usize = MAX_NODES;
 /// The entries of all clients on all inodes, at most `MAX_ENTRIES`, one for each client on an inode. They have two
 /// orders: the order of making, which stays, and the order of recall, in which clients are asked to give capabilities
 /// back: the entry that was left alone longest is the oldest, and comes first.
-#[derive(Drop)]
 pub struct CapTable {
     alloc: Global,
     lists: TripleLists<Slot>,
@@ -46,6 +45,19 @@ impl Model for CapTable {
     ghost view = { λ t. table_of t.lists t.made };
 
     ghost invariant = { λ t. Kept t.lists t.keys t.made × AreQuiet t.lists t.quiet × ArePlaced t.lists t.quiet };
+}
+
+// By hand, so that a caller which lets one go has one call to prove, and no step for each of its parts.
+impl Drop for CapTable {
+    fn drop(self) {
+        let CapTable {
+            alloc: _alloc,
+            lists: _lists,
+            keys: _keys,
+            quiet: _quiet,
+            made: _made,
+        } = self;
+    }
 }
 
 // All but the places: they are no part of what the table keeps, but for how far polls have come.
@@ -246,6 +258,25 @@ impl CapTable {
     {
         if let Some(entry) = self.find(client, ino) {
             self.put(Holder { client, ino }, entry.renumbered(before, after));
+        }
+    }
+
+    /// Issues these capabilities, and then numbers the change of what the client is to know, as `issue` and `renumber` do
+    /// one after the other.
+    pub fn issue_numbered(
+        &mut self,
+        client: ClientId,
+        ino: Ino,
+        caps: CapSet,
+        before: CapSet,
+        after: CapSet,
+    )
+        requires { IfSome (entry_at self.old (holder client ino)) (λ entry. entry.seq < 2 ^ 64 - 1) }
+        ensures { self.new ≡ changed self.old (holder client ino) (λ entry. renumbered before after (issued caps entry)) }
+    {
+        if let Some(entry) = self.find(client, ino) {
+            let issued = entry.issued(caps);
+            self.put(Holder { client, ino }, issued.renumbered(before, after));
         }
     }
 

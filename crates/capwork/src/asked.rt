@@ -108,12 +108,12 @@ pub(crate) enum Answer {
     EndedNoMemory,
     /// There is one message, that something is asked back.
     AskedBack,
+    /// There is one message, that a request ended otherwise.
+    EndedOtherwise,
     /// There are so many messages, or there is one of another kind.
     Messages(usize),
     /// So many entries are asked back.
     Recalled(usize),
-    /// Anything else.
-    Other,
 }
 
 /// The event by which it is asked for.
@@ -196,7 +196,7 @@ fn moving(alloc: Global, client: ClientId, ino: Ino, dir: Ino) -> Result<Event, 
     })
 }
 
-fn polling(client: ClientId) -> Event {
+pub(crate) fn polling(client: ClientId) -> Event {
     Event::Poll {
         client,
         max: MESSAGES,
@@ -234,6 +234,6 @@ fn read_outcome(outcome: &Outcome) -> Answer {
         Outcome::Done => Answer::EndedDone,
         Outcome::Denied { .. } => Answer::EndedDenied,
         Outcome::OutOfMemory => Answer::EndedNoMemory,
-        Outcome::Values(_) | Outcome::Refused(_) | Outcome::Dropped => Answer::Other,
+        Outcome::Values(_) | Outcome::Refused(_) | Outcome::Dropped => Answer::EndedOtherwise,
     }
 }

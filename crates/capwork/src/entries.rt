@@ -2,11 +2,12 @@
 ghost use Rattle.std.specs.Prelude.{◌≡◌, ◌↔◌, ◌<◌, ◌≤◌, Err, IsTrue};
 ghost use Rattle.capwork.specs.declared.fault.Fault.TheVariants as faults;
 
+use crate::asked::{Answer, polling};
 use crate::fault::Fault;
 use crate::inodes::{Asking, CLIENT, ask, ask_core, build, inode_at, open_session, spread};
 use crate::work::{Layout, Size, TreeShape};
 use capbits::{Cap, CapSet, ClientId, Ino};
-use capcore::{Core, Event, Message, OpenMode, Reply};
+use capcore::{Core, Event, OpenMode};
 use inotree::ROOT;
 use std::alloc::Global;
 
@@ -18,9 +19,6 @@ const READER: ClientId = ClientId(2);
 
 /// Who has an entry on each inode of the tree.
 pub(crate) const HOLDER: ClientId = ClientId(3);
-
-/// How many messages a client takes at most.
-const MESSAGES: u32 = 9;
 
 /// Opens so many files that nobody has open, and returns the sum of the numbers of the changes that are shown.
 pub(crate) fn open(alloc: Global, core: &mut Core, size: Size, times: u32) -> Result<u64, Fault>
@@ -226,7 +224,7 @@ fn release(client: ClientId, ino: Ino, caps: CapSet) -> Event {
 // The number of the last change of what the core shows.
 pub(crate) fn shown(core: &mut Core, event: Event) -> Result<u64, Fault> {
     match ask_core(core, event)? {
-        Reply::Opened { seq, .. } => Ok(seq),
+        Answer::Change(seq) => Ok(seq),
         _ => Err(Fault::Refused),
     }
 }
@@ -234,38 +232,30 @@ pub(crate) fn shown(core: &mut Core, event: Event) -> Result<u64, Fault> {
 // Has an event done that is answered by nothing else.
 pub(crate) fn done(core: &mut Core, event: Event) -> Result<(), Fault> {
     match ask_core(core, event)? {
-        Reply::Done => Ok(()),
+        Answer::Done => Ok(()),
         _ => Err(Fault::Refused),
-    }
-}
-
-fn polling(client: ClientId) -> Event {
-    Event::Poll {
-        client,
-        max: MESSAGES,
     }
 }
 
 // How many messages a client is given.
 fn messages_given(core: &mut Core, client: ClientId) -> Result<u64, Fault> {
     match ask_core(core, polling(client))? {
-        Reply::Messages(list) => Ok(list.as_slice().len() as u64),
+        Answer::NoMessage => Ok(0),
+        Answer::Messages(count) => Ok(count as u64),
+        Answer::Message(_)
+        | Answer::AskedBack
+        | Answer::EndedDone
+        | Answer::EndedDenied
+        | Answer::EndedNoMemory
+        | Answer::EndedOtherwise => Ok(1),
         _ => Err(Fault::Refused),
     }
 }
 
-// The number of the one change that a client is told of.
+// The number of the one change that a client is told of, where it is the only message.
 fn change_told(core: &mut Core, client: ClientId) -> Result<u64, Fault> {
     match ask_core(core, polling(client))? {
-        Reply::Messages(list) => seq_of(list.as_slice()),
-        _ => Err(Fault::Refused),
-    }
-}
-
-// The number of the change, where it is the only message.
-fn seq_of(messages: &[Message]) -> Result<u64, Fault> {
-    match messages {
-        [Message::Caps { seq, .. }] => Ok(*seq),
+        Answer::Message(seq) => Ok(seq),
         _ => Err(Fault::Refused),
     }
 }

@@ -1,10 +1,11 @@
 //! The work on inodes: events of one client, which may do all, on the tree of a core.
 ghost use Rattle.std.specs.Prelude.{◌↔◌, ◌+◌, ◌<◌, ◌≤◌, IsTrue};
 
+use crate::asked::{Answer, read_reply};
 use crate::fault::Fault;
 use crate::work::{Layout, TreeShape};
 use capbits::{Caller, ClientId, Groups, Ino, Mode, PassId};
-use capcore::{Core, Event, Reply, Stop};
+use capcore::{Core, Event, Stop};
 use capspec::{Grants, read_grants};
 use inotree::{MAX_INODES, ROOT};
 use lockmachine::Bytes;
@@ -170,15 +171,17 @@ pub(crate) fn mode_of(bits: u16) -> Result<Mode, Fault> {
     Mode::new(bits).ok_or(Fault::Refused)
 }
 
-/// Asks the core. No other function does: what the core promises of an answer is dear to carry along, and stays behind here.
-pub(crate) fn ask_core(core: &mut Core, event: Event) -> Result<Reply, Stop> {
-    core.apply(PASS, event)
+/// Asks the core, and reads what it answers. No other function does: what the core promises of a reply is dear to carry along, and
+/// a reply to let go. Both stay behind here.
+pub(crate) fn ask_core(core: &mut Core, event: Event) -> Result<Answer, Stop> {
+    let reply = core.apply(PASS, event)?;
+    Ok(read_reply(&reply))
 }
 
 // The number of the inode that the core answers with.
 pub(crate) fn answer(core: &mut Core, event: Event) -> Result<u64, Fault> {
     match ask_core(core, event)? {
-        Reply::Ino(ino) => Ok(ino.0),
+        Answer::Inode(number) => Ok(number),
         _ => Err(Fault::Refused),
     }
 }

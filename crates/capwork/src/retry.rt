@@ -1,13 +1,13 @@
 //! The work that asks again: clients share files, wait for one and lose what they hold, and an event that finds no memory is
 //! asked for once more; and so is a request that found none when it was served.
 
-use crate::asked::{Answer, Asked, Places, event, read_reply};
+use crate::asked::{Answer, Asked, Places, event};
 use crate::digest::digest_of;
 use crate::fault::Fault;
 use crate::inodes::{CLIENT, ask_core};
 use crate::tally::Tally;
 use capbits::{Cap, ClientId, Ino, Part};
-use capcore::{Core, OpenMode, Reply, Stop};
+use capcore::{Core, OpenMode, Stop};
 use inotree::ROOT;
 use std::alloc::Global;
 
@@ -331,7 +331,7 @@ fn answer_once(
 ) -> Result<Answer, Fault> {
     let before = digest_of(core);
     match ask_core(core, event(alloc, places, asked)?) {
-        Ok(reply) => return Ok(answer_of(reply)),
+        Ok(answer) => return Ok(answer),
         Err(Stop::NoMemory) => (),
         Err(stop) => return Err(Fault::Stopped(stop)),
     }
@@ -339,10 +339,5 @@ fn answer_once(
         return Err(Fault::Changed);
     }
     tally.stops = tally.stops.wrapping_add(1);
-    let reply = ask_core(core, event(alloc, places, asked)?)?;
-    Ok(answer_of(reply))
-}
-
-fn answer_of(reply: Reply) -> Answer {
-    read_reply(&reply)
+    Ok(ask_core(core, event(alloc, places, asked)?)?)
 }

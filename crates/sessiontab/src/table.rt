@@ -20,7 +20,7 @@ pub const MAX_BLOCKED: usize = 1024;
 
 /// The sessions of the connected clients, at most `MAX_SESSIONS`, and the blocklist of the clients that were thrown
 /// out, at most `MAX_BLOCKED`. No client is in both.
-#[derive(Debug, Drop)]
+#[derive(Debug)]
 pub struct Sessions {
     connected: Connected,
     blocklist: Blocklist,
@@ -36,6 +36,16 @@ impl Model for Sessions {
     ghost view = { λ s. record { sessions = s.connected; blocked = s.blocklist } };
 
     ghost invariant = { λ s. IsSound (record { sessions = s.connected; blocked = s.blocklist }) };
+}
+
+// By hand, so that a caller which lets one go has one call to prove, and no step for each of its parts.
+impl Drop for Sessions {
+    fn drop(self) {
+        let Sessions {
+            connected: _connected,
+            blocklist: _blocklist,
+        } = self;
+    }
 }
 
 impl Sessions {

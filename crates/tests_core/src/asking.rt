@@ -36,44 +36,76 @@ pub enum Act {
 pub type Ask = (u32, Act, u64, &'static [u8]);
 
 fn event(alloc: Global, (client, act, number, name): Ask) -> Result<Event, Fail> {
-    let client = ClientId(client);
-    let ino = Ino(number);
-    let text = Bytes::read(alloc, name)?;
-    let event = match act {
-        Act::Open => Event::Session {
-            client,
-            caller: caller(number)?,
-            grants: grants(alloc, name)?,
-        },
-        Act::Lookup => Event::Lookup {
-            client,
-            dir: ino,
-            name: text,
-        },
-        Act::Create(mode) => Event::Create {
-            client,
-            dir: ino,
-            name: text,
-            mode: Mode::new(mode).ok_or("no mode")?,
-        },
-        Act::Mkdir(mode) => Event::Mkdir {
-            client,
-            dir: ino,
-            name: text,
-            mode: Mode::new(mode).ok_or("no mode")?,
-        },
-        Act::MakeSnapshot => Event::MakeSnapshot {
-            client,
-            ino,
-            name: text,
-        },
-        Act::RemoveSnapshot => Event::RemoveSnapshot {
-            client,
-            ino,
-            name: text,
-        },
-    };
-    Ok(event)
+    let (client, ino) = (ClientId(client), Ino(number));
+    match act {
+        Act::Open => session(alloc, client, number, name),
+        Act::Lookup => lookup(alloc, client, ino, name),
+        Act::Create(mode) => creation(alloc, client, ino, name, mode_of(mode)?),
+        Act::Mkdir(mode) => directory(alloc, client, ino, name, mode_of(mode)?),
+        Act::MakeSnapshot => snapshot(alloc, client, ino, name),
+        Act::RemoveSnapshot => no_snapshot(alloc, client, ino, name),
+    }
+}
+
+fn mode_of(bits: u16) -> Result<Mode, Fail> {
+    Ok(Mode::new(bits).ok_or("no mode")?)
+}
+
+fn session(alloc: Global, client: ClientId, number: u64, text: &[u8]) -> Result<Event, Fail> {
+    let caller = caller(number)?;
+    let grants = grants(alloc, text)?;
+    Ok(Event::Session {
+        client,
+        caller,
+        grants,
+    })
+}
+
+fn lookup(alloc: Global, client: ClientId, dir: Ino, name: &[u8]) -> Result<Event, Fail> {
+    let name = Bytes::read(alloc, name)?;
+    Ok(Event::Lookup { client, dir, name })
+}
+
+fn creation(
+    alloc: Global,
+    client: ClientId,
+    dir: Ino,
+    name: &[u8],
+    mode: Mode,
+) -> Result<Event, Fail> {
+    let name = Bytes::read(alloc, name)?;
+    Ok(Event::Create {
+        client,
+        dir,
+        name,
+        mode,
+    })
+}
+
+fn directory(
+    alloc: Global,
+    client: ClientId,
+    dir: Ino,
+    name: &[u8],
+    mode: Mode,
+) -> Result<Event, Fail> {
+    let name = Bytes::read(alloc, name)?;
+    Ok(Event::Mkdir {
+        client,
+        dir,
+        name,
+        mode,
+    })
+}
+
+fn snapshot(alloc: Global, client: ClientId, ino: Ino, name: &[u8]) -> Result<Event, Fail> {
+    let name = Bytes::read(alloc, name)?;
+    Ok(Event::MakeSnapshot { client, ino, name })
+}
+
+fn no_snapshot(alloc: Global, client: ClientId, ino: Ino, name: &[u8]) -> Result<Event, Fail> {
+    let name = Bytes::read(alloc, name)?;
+    Ok(Event::RemoveSnapshot { client, ino, name })
 }
 
 fn caller(number: u64) -> Result<Caller, Fail> {

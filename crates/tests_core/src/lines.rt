@@ -2,26 +2,37 @@
 
 use crate::asserting::same;
 use crate::telling::event_text;
+use capbits::ClientId;
 use capcore::Event;
 use capscript::{LineFault, ScriptFault, read_line};
-use std::alloc::Global;
+use std::alloc::{AllocError, Global};
 use std::process::Abort;
 use std::test::Fail;
 
+// What an event says, and whether it is about a client as it should be.
+fn told(
+    rt: &(impl AllocGlobal + Abort),
+    line: &str,
+    client: Option<ClientId>,
+    event: &Event,
+) -> Result<String, AllocError> {
+    // A recall alone is about no client.
+    let about = !matches!(event, Event::Recall { .. });
+    same(rt, client.is_some(), about, line);
+    event_text(rt.alloc(), event)
+}
+
+fn fault_text(alloc: Global, fault: ScriptFault) -> Result<String, AllocError> {
+    format!(in alloc; "{fault}")
+}
+
 // What a line says, in words.
-fn said(rt: &(impl AllocGlobal + Abort), line: &str) -> Result<String, Fail> {
-    let alloc = rt.alloc();
-    let text = match read_line(alloc, 7, line.as_bytes()) {
-        Ok(None) => String::from_str(alloc, "skipped")?,
-        Ok(Some((client, event))) => {
-            // A recall alone is about no client.
-            let about = !matches!(event, Event::Recall { .. });
-            same(rt, client.is_some(), about, line);
-            event_text(alloc, &event)?
-        }
-        Err(fault) => format!(in alloc; "{fault}")?,
-    };
-    Ok(text)
+fn said(rt: &(impl AllocGlobal + Abort), line: &str) -> Result<String, AllocError> {
+    match read_line(rt.alloc(), 7, line.as_bytes()) {
+        Ok(None) => String::from_str(rt.alloc(), "skipped"),
+        Ok(Some((client, event))) => told(rt, line, client, &event),
+        Err(fault) => fault_text(rt.alloc(), fault),
+    }
 }
 
 // Compares what the lines say.

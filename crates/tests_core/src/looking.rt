@@ -30,8 +30,14 @@ pub enum Look {
     Inode(u64),
 }
 
+// Small readers, each with the text of what it reads: a match with a text made in each arm is dear to prove.
+
 fn row_count(core: &Core) -> usize {
     core.history().len()
+}
+
+fn rows(alloc: Global, core: &Core) -> Result<String, AllocError> {
+    format!(in alloc; "{}", row_count(core))
 }
 
 fn row(alloc: Global, core: &Core, place: usize) -> Result<String, AllocError> {
@@ -52,28 +58,40 @@ fn auth(core: &Core, number: u64) -> Option<LockState> {
     core.lock_state(Ino(number), Part::A)
 }
 
-fn last(core: &Core) -> u64 {
+fn last_number(core: &Core) -> u64 {
     core.tree().last().0
 }
 
-fn child(core: &Core, dir: u64, name: &[u8]) -> Option<u64> {
+fn last(alloc: Global, core: &Core) -> Result<String, AllocError> {
+    format!(in alloc; "{}", last_number(core))
+}
+
+fn child_number(core: &Core, dir: u64, name: &[u8]) -> Option<u64> {
     core.tree().child(Ino(dir), name).map(|ino| ino.0)
 }
 
-fn session(core: &Core, client: u32) -> Option<Status> {
+fn child(alloc: Global, core: &Core, dir: u64, name: &[u8]) -> Result<String, AllocError> {
+    format!(in alloc; "{:?}", child_number(core, dir, name))
+}
+
+fn status(core: &Core, client: u32) -> Option<Status> {
     core.session(ClientId(client))
+}
+
+fn session(alloc: Global, core: &Core, client: u32) -> Result<String, AllocError> {
+    format!(in alloc; "{:?}", status(core, client))
 }
 
 /// What is seen there, as a text.
 pub fn seen(alloc: Global, core: &Core, look: Look) -> Result<String, AllocError> {
     match look {
-        Look::Rows => format!(in alloc; "{}", row_count(core)),
+        Look::Rows => rows(alloc, core),
         Look::Row(place) => row(alloc, core, place),
         Look::Audit(place) => audit(alloc, core, place),
         Look::Auth(number) => lock_text(alloc, auth(core, number)),
-        Look::Last => format!(in alloc; "{}", last(core)),
-        Look::Child(dir, name) => format!(in alloc; "{:?}", child(core, dir, name)),
-        Look::Session(client) => format!(in alloc; "{:?}", session(core, client)),
+        Look::Last => last(alloc, core),
+        Look::Child(dir, name) => child(alloc, core, dir, name),
+        Look::Session(client) => session(alloc, core, client),
         Look::Inode(number) => inode_text(alloc, core, number),
     }
 }

@@ -1,8 +1,8 @@
 //! The texts by which tests tell events, replies and rows.
 
-use capbits::{Caller, CapSet, ClientId, Ino, Mode};
-use capcore::{Core, Ended, Event, Outcome, Reply, Row, Stop};
-use capgrant::Rules;
+use capbits::{Caller, CapSet, ClientId, Ino, Mode, Part, Refusal, Ticket};
+use capcore::{Core, Ended, Event, MessageList, OpenMode, Outcome, PartValues, Reply, Row, Stop};
+use capgrant::{Access, Rules};
 use capspec::Grants;
 use captable::Holders;
 use inotree::Setting;
@@ -27,30 +27,56 @@ fn holders_text(alloc: Global, holders: &Holders) -> Result<String, AllocError> 
     Ok(text)
 }
 
+// ---- what is answered: each kind in a function of its own, since a match with a text made in each arm is dear to prove
+
+fn made_inode_text(alloc: Global, ino: Ino) -> Result<String, AllocError> {
+    format!(in alloc; "ino {ino}")
+}
+
+fn opened_text(alloc: Global, seq: u64, caps: CapSet) -> Result<String, AllocError> {
+    let caps = caps.bits();
+    format!(in alloc; "opened {seq} {caps}")
+}
+
+fn values_text(alloc: Global, values: &PartValues) -> Result<String, AllocError> {
+    format!(in alloc; "values {values:?}")
+}
+
+fn messages_text(alloc: Global, messages: &MessageList) -> Result<String, AllocError> {
+    let count = messages.as_slice().len();
+    format!(in alloc; "messages {count}")
+}
+
+fn recalled_text(alloc: Global, holders: &Holders) -> Result<String, AllocError> {
+    let named = holders_text(alloc, holders)?;
+    format!(in alloc; "recalled{named}")
+}
+
+fn waiting_text(alloc: Global, ticket: Ticket) -> Result<String, AllocError> {
+    format!(in alloc; "waiting {ticket:?}")
+}
+
+fn denied_text(alloc: Global, access: Access, rules: &Rules) -> Result<String, AllocError> {
+    let rules = rules_text(alloc, rules)?;
+    format!(in alloc; "denied {access:?}{rules}")
+}
+
+fn refused_text(alloc: Global, refusal: Refusal) -> Result<String, AllocError> {
+    format!(in alloc; "refused {refusal}")
+}
+
 /// What a reply says.
 pub fn reply_text(alloc: Global, reply: &Reply) -> Result<String, AllocError> {
     match reply {
         Reply::Done => String::from_str(alloc, "done"),
-        Reply::Ino(ino) => format!(in alloc; "ino {ino}"),
-        Reply::Opened { seq, caps } => {
-            let caps = caps.bits();
-            format!(in alloc; "opened {seq} {caps}")
-        }
-        Reply::Values(values) => format!(in alloc; "values {values:?}"),
-        Reply::Messages(messages) => {
-            let count = messages.as_slice().len();
-            format!(in alloc; "messages {count}")
-        }
-        Reply::Recalled(holders) => {
-            let named = holders_text(alloc, holders)?;
-            format!(in alloc; "recalled{named}")
-        }
-        Reply::Waiting(ticket) => format!(in alloc; "waiting {ticket:?}"),
-        Reply::Denied { access, rules } => {
-            let rules = rules_text(alloc, rules)?;
-            format!(in alloc; "denied {access:?}{rules}")
-        }
-        Reply::Refused(refusal) => format!(in alloc; "refused {refusal}"),
+        Reply::Ino(ino) => made_inode_text(alloc, *ino),
+        Reply::Opened { seq, caps } => opened_text(alloc, *seq, *caps),
+        Reply::Values(values) => values_text(alloc, values),
+        Reply::Messages(messages) => messages_text(alloc, messages),
+        Reply::Recalled(holders) => recalled_text(alloc, holders),
+        Reply::Waiting(ticket) => waiting_text(alloc, *ticket),
+        Reply::Denied { access, rules } => denied_text(alloc, *access, rules),
+        Reply::Refused(refusal) => refused_text(alloc, *refusal),
         Reply::OutOfMemory => String::from_str(alloc, "out of memory"),
     }
 }
@@ -59,12 +85,9 @@ pub fn reply_text(alloc: Global, reply: &Reply) -> Result<String, AllocError> {
 fn outcome_text(alloc: Global, outcome: &Outcome) -> Result<String, AllocError> {
     match outcome {
         Outcome::Done => String::from_str(alloc, "done"),
-        Outcome::Values(values) => format!(in alloc; "values {values:?}"),
-        Outcome::Denied { access, rules } => {
-            let rules = rules_text(alloc, rules)?;
-            format!(in alloc; "denied {access:?}{rules}")
-        }
-        Outcome::Refused(refusal) => format!(in alloc; "refused {refusal}"),
+        Outcome::Values(values) => values_text(alloc, values),
+        Outcome::Denied { access, rules } => denied_text(alloc, *access, rules),
+        Outcome::Refused(refusal) => refused_text(alloc, *refusal),
         Outcome::OutOfMemory => String::from_str(alloc, "out of memory"),
         Outcome::Dropped => String::from_str(alloc, "dropped"),
     }
@@ -78,26 +101,85 @@ pub fn answer_text(alloc: Global, answer: Result<Reply, Stop>) -> Result<String,
     }
 }
 
+// ---- what is asked
+
+// What is set, and to what number.
+fn set_text(alloc: Global, word: &str, number: u64) -> Result<String, AllocError> {
+    format!(in alloc; "{word} {number}")
+}
+
+fn setting_text(alloc: Global, setting: Setting) -> Result<String, AllocError> {
+    match setting {
+        Setting::Mode(mode) => set_text(alloc, "mode", u64::from(mode.bits())),
+        Setting::Uid(uid) => set_text(alloc, "owner", u64::from(uid)),
+        Setting::Gid(gid) => set_text(alloc, "group", u64::from(gid)),
+        Setting::Size(size) => set_text(alloc, "size", size),
+        Setting::Time(time) => set_text(alloc, "time", time),
+    }
+}
+
+fn attribute_text(alloc: Global, name: &Bytes, value: &Bytes) -> Result<String, AllocError> {
+    let (name, value) = (name.as_slice(), value.as_slice());
+    format!(in alloc; "{name:?} to {value:?}")
+}
+
+fn no_attribute_text(alloc: Global, name: &Bytes) -> Result<String, AllocError> {
+    let name = name.as_slice();
+    format!(in alloc; "without {name:?}")
+}
+
 // What a change sets, and to what.
 fn change_text(alloc: Global, change: &Change) -> Result<String, AllocError> {
     match change {
-        Change::Set(Setting::Mode(mode)) => {
-            let mode = mode.bits();
-            format!(in alloc; "mode {mode}")
-        }
-        Change::Set(Setting::Uid(uid)) => format!(in alloc; "owner {uid}"),
-        Change::Set(Setting::Gid(gid)) => format!(in alloc; "group {gid}"),
-        Change::Set(Setting::Size(size)) => format!(in alloc; "size {size}"),
-        Change::Set(Setting::Time(time)) => format!(in alloc; "time {time}"),
-        Change::SetXattr { name, value } => {
-            let (name, value) = (name.as_slice(), value.as_slice());
-            format!(in alloc; "{name:?} to {value:?}")
-        }
-        Change::RemoveXattr { name } => {
-            let name = name.as_slice();
-            format!(in alloc; "without {name:?}")
-        }
+        Change::Set(setting) => setting_text(alloc, *setting),
+        Change::SetXattr { name, value } => attribute_text(alloc, name, value),
+        Change::RemoveXattr { name } => no_attribute_text(alloc, name),
     }
+}
+
+// A word and a client.
+fn client_text(alloc: Global, word: &str, client: ClientId) -> Result<String, AllocError> {
+    format!(in alloc; "{word} {client}")
+}
+
+fn regrant_text(alloc: Global, client: ClientId, grants: &Grants) -> Result<String, AllocError> {
+    let count = grants.len();
+    format!(in alloc; "regrant {client} {count}")
+}
+
+fn recall_text(alloc: Global, count: u32) -> Result<String, AllocError> {
+    format!(in alloc; "recall {count}")
+}
+
+fn poll_text(alloc: Global, client: ClientId, max: u32) -> Result<String, AllocError> {
+    format!(in alloc; "poll {client} {max}")
+}
+
+fn open_text(
+    alloc: Global,
+    client: ClientId,
+    ino: Ino,
+    mode: OpenMode,
+) -> Result<String, AllocError> {
+    format!(in alloc; "open {client} {ino} {mode:?}")
+}
+
+fn ack_text(alloc: Global, client: ClientId, ino: Ino, seq: u64) -> Result<String, AllocError> {
+    format!(in alloc; "ack {client} {ino} {seq}")
+}
+
+fn get_text(alloc: Global, client: ClientId, ino: Ino, part: Part) -> Result<String, AllocError> {
+    format!(in alloc; "get {client} {ino} {part:?}")
+}
+
+// A word, a client and an inode.
+fn removed_text(
+    alloc: Global,
+    word: &str,
+    client: ClientId,
+    ino: Ino,
+) -> Result<String, AllocError> {
+    format!(in alloc; "{word} {client} {ino}")
 }
 
 // A word, a client, an inode and the bytes of a name.
@@ -182,16 +264,13 @@ pub fn event_text(alloc: Global, event: &Event) -> Result<String, AllocError> {
             caller,
             grants,
         } => session_text(alloc, *client, caller, grants),
-        Event::CloseSession { client } => format!(in alloc; "close {client}"),
-        Event::Stale { client } => format!(in alloc; "stale {client}"),
-        Event::Renew { client } => format!(in alloc; "renew {client}"),
-        Event::Regrant { client, grants } => {
-            let count = grants.len();
-            format!(in alloc; "regrant {client} {count}")
-        }
-        Event::Evict { client } => format!(in alloc; "evict {client}"),
-        Event::Unblock { client } => format!(in alloc; "unblock {client}"),
-        Event::Recall { count } => format!(in alloc; "recall {count}"),
+        Event::CloseSession { client } => client_text(alloc, "close", *client),
+        Event::Stale { client } => client_text(alloc, "stale", *client),
+        Event::Renew { client } => client_text(alloc, "renew", *client),
+        Event::Regrant { client, grants } => regrant_text(alloc, *client, grants),
+        Event::Evict { client } => client_text(alloc, "evict", *client),
+        Event::Unblock { client } => client_text(alloc, "unblock", *client),
+        Event::Recall { count } => recall_text(alloc, *count),
         Event::Lookup { client, dir, name } => named_text(alloc, "lookup", *client, *dir, name),
         Event::Create {
             client,
@@ -211,18 +290,18 @@ pub fn event_text(alloc: Global, event: &Event) -> Result<String, AllocError> {
         Event::RemoveSnapshot { client, ino, name } => {
             named_text(alloc, "rmsnap", *client, *ino, name)
         }
-        Event::Open { client, ino, mode } => format!(in alloc; "open {client} {ino} {mode:?}"),
+        Event::Open { client, ino, mode } => open_text(alloc, *client, *ino, *mode),
         Event::Want { client, ino, caps } => caps_text(alloc, "want", *client, *ino, *caps),
-        Event::Ack { client, ino, seq } => format!(in alloc; "ack {client} {ino} {seq}"),
+        Event::Ack { client, ino, seq } => ack_text(alloc, *client, *ino, *seq),
         Event::Release { client, ino, caps } => caps_text(alloc, "release", *client, *ino, *caps),
-        Event::Get { client, ino, part } => format!(in alloc; "get {client} {ino} {part:?}"),
+        Event::Get { client, ino, part } => get_text(alloc, *client, *ino, *part),
         Event::Alter {
             client,
             ino,
             change,
         } => changed_text(alloc, "alter", *client, *ino, change),
-        Event::Unlink { client, ino } => format!(in alloc; "unlink {client} {ino}"),
-        Event::Rmdir { client, ino } => format!(in alloc; "rmdir {client} {ino}"),
+        Event::Unlink { client, ino } => removed_text(alloc, "unlink", *client, *ino),
+        Event::Rmdir { client, ino } => removed_text(alloc, "rmdir", *client, *ino),
         Event::Rename {
             client,
             ino,
@@ -234,7 +313,7 @@ pub fn event_text(alloc: Global, event: &Event) -> Result<String, AllocError> {
             ino,
             change,
         } => changed_text(alloc, "flush", *client, *ino, change),
-        Event::Poll { client, max } => format!(in alloc; "poll {client} {max}"),
+        Event::Poll { client, max } => poll_text(alloc, *client, *max),
     }
 }
 

@@ -1,4 +1,4 @@
-use Rattle.std.proofs.Common.{Contains, List, zero, suc, refl, sym, subst, arith}
+use Rattle.std.proofs.Common.{Contains, List, suc, sym, subst, arith}
 use Rattle.captable.specs.declared.entry.EntryRow.{EntryRow}
 use Rattle.captable.specs.Calls.{is_of_client}
 use Rattle.lockmachine.proofs.Finding.{contains-filter, filter-contains}

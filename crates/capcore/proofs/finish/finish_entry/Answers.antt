@@ -20,8 +20,8 @@ issue-requires c =
       room = subst (λ (o : Option Entry). IfSome o (λ e. e.seq < 18446744073709551615)) found c.requires.number;
     }
 
-pub put-requires : goal.put-requires
-put-requires c =
+pub put-before-requires : goal.put-before-requires
+put-before-requires c =
     let found : entry_at c.args.table.now c.args.holder ≡ Some c.in-Some.entry = cc in
     record { there = c.requires.room (ap is_some found) }
 
@@ -36,9 +36,9 @@ returns-in-Some-clause-table c =
     let told : c.told_under-told.result ≡ words.told_at c.args.fs.now c.args.tree.now c.args.sessions.now c.args.locks.now row =
     c.told_under-told.ensures ∙ (λ i. words.told_under (c.permitted-permitted.ensures i) c.args.locks.now ((c.with_issued.ensures ∙ ap (λ caps. words.with_issued caps row) due) i)) in
     c.issue.ensures
-    ∙ put_found t k c.in-Some.entry (words.numbered_as c.of.result c.told_under-told.result c.meet-due.result row)
+    ∙ put_found t k c.in-Some.entry (words.numbered_as c.put-before.result c.told_under-told.result c.meet-due.result row)
     (λ e. words.entry_under (known_in c.args.known.now.sets) c.args.fs.now c.args.tree.now c.args.sessions.now c.args.locks.now (record { holder = k; entry = e })) found
-    (λ i. words.numbered_as (c.of.ensures i) (told i) (due i) row)
+    (λ i. words.numbered_as (c.put-before.ensures.was i) (told i) (due i) row)
 
 pub returns-in-Some-clause-known : goal.returns-in-Some-clause-known
 returns-in-Some-clause-known c =
@@ -50,7 +50,7 @@ returns-in-Some-clause-known c =
     c.meet-due.ensures ∙ (λ i. meet ((c.want_of_permitted.ensures ∙ ap (λ may. want_of_permitted c.args.sessions.now may row) c.permitted-permitted.ensures) i) (c.allowed_under.ensures i)) in
     let told : c.told_under-told.result ≡ words.told_at c.args.fs.now c.args.tree.now c.args.sessions.now c.args.locks.now row =
     c.told_under-told.ensures ∙ (λ i. words.told_under (c.permitted-permitted.ensures i) c.args.locks.now ((c.with_issued.ensures ∙ ap (λ caps. words.with_issued caps row) due) i)) in
-    kept-one (words.told_at c.args.fs.now c.args.tree.now c.args.sessions.now c.args.locks.now) t c.args.known.now.sets c.put.new.self.sets k c.in-Some.entry found (c.put.ensures.own ∙ ap Some told) c.put.ensures.others
+    kept-one (words.told_at c.args.fs.now c.args.tree.now c.args.sessions.now c.args.locks.now) t c.args.known.now.sets c.put-before.new.self.sets k c.in-Some.entry found (c.put-before.ensures.own ∙ ap Some told) c.put-before.ensures.others
 
 pub returns-in_default-clause-table : goal.returns-in_default-clause-table
 returns-in_default-clause-table c =

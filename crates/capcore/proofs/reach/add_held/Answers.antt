@@ -1,4 +1,4 @@
-use Rattle.std.proofs.Common.{◌≡◌, ◌≢◌, ℕ, ◌+◌, get_or, List, sym, subst, ◌∙◌, true≢false}
+use Rattle.std.proofs.Common.{◌≢◌, ℕ, ◌+◌, get_or, List, sym, subst, ◌∙◌, true≢false}
 use Rattle.std.specs.List.{AllWithin}
 use Rattle.capbits.specs.declared.ids.Ino.{Ino}
 use Rattle.captable.specs.declared.entry.EntryRow.{EntryRow}

@@ -1,4 +1,4 @@
-use Rattle.std.proofs.Common.{◌≡◌, Bool, true, false, cond, Some, None, sym, ap, ◌∙◌}
+use Rattle.std.proofs.Common.{◌≡◌, true, false, cond, Some, None, sym, ap, ◌∙◌}
 use Rattle.capbits.specs.declared.cap.Cap.TheVariants.{Fc}
 use Rattle.capbits.specs.Caps.{has}
 use Rattle.captable.specs.declared.entry.Entry.{Entry}

@@ -1,4 +1,4 @@
-use Rattle.std.proofs.Common.{◌≡◌, None, sym, ap, ◌∙◌, cond}
+use Rattle.std.proofs.Common.{None, sym, ap, ◌∙◌, cond}
 use Rattle.std.specs.HashMap.{get}
 use Rattle.captable.specs.Table.{same}
 use Rattle.captable.proofs.ByHolder.{same-apart}
