@@ -14,8 +14,8 @@ use std::thread::{Threads, yield_now};
 // So often a call gives way to the others.
 const TURNS: u32 = 16;
 
-// So often it looks round in between, which takes longer than a thread takes to start.
-const LOOKS: u32 = 10_000;
+// So often it looks round in between, so that twenty calls take longer than a thread takes to start while others run.
+const LOOKS: u32 = 200_000;
 
 // What calls see of each other.
 #[derive(Drop)]
