@@ -1,0 +1,104 @@
+//! Directories with many open files, which an administrator moves out of where their clients may work, and back: the awkward case,
+//! since each move is looked at for all that stands below.
+
+use crate::fault::Fault;
+use crate::talk::Talk;
+use capcore::Core;
+
+/// How many clients have files open.
+const CLIENTS: u64 = 20;
+
+/// How many directories are moved.
+const FOLDERS: u64 = 40;
+
+/// How many files each has.
+const FILES: u64 = 100;
+
+/// How many clients listen after a move.
+const LISTENERS: u64 = 4;
+
+/// A directory that is moved, and where it stands.
+#[derive(Clone, Copy)]
+struct Folder {
+    ino: u64,
+    first: u64,
+    is_inside: bool,
+}
+
+/// Makes the directories, lets the clients in, and moves for so many rounds.
+pub(crate) fn move_about(core: &mut Core, talk: &mut Talk, count: u32) -> Result<(), Fault> {
+    let _done = talk.say(core, "session 1 0 0 - allow rwps")?;
+    let inside = talk.make(core, "mkdir 1 1 inside 0777")?;
+    let outside = talk.make(core, "mkdir 1 1 outside 0777")?;
+    for client in 2..CLIENTS + 2 {
+        let _done = talk.say(
+            core,
+            format_args!(
+                "session {client} {client} {client} - allow r path=/pub, allow rw path=/inside"
+            ),
+        )?;
+    }
+    let mut folders = Vec::new(talk.alloc());
+    for name in 0..FOLDERS {
+        folders.push(make_folder(core, talk, inside, name)?)?;
+    }
+    for _ in 0..count {
+        let place = talk.below(FOLDERS);
+        if let Some(folder) = folders.get_mut(place as usize) {
+            move_folder(core, talk, folder, inside, outside)?;
+        }
+    }
+    Ok(())
+}
+
+// Makes a directory with its files, each of which three clients open to read.
+fn make_folder(core: &mut Core, talk: &mut Talk, inside: u64, name: u64) -> Result<Folder, Fault> {
+    let ino = talk.make(core, format_args!("mkdir 1 {inside} folder{name} 0777"))?;
+    for file in 0..FILES {
+        let made = talk.make(core, format_args!("create 1 {ino} file{file} 0666"))?;
+        open_file(core, talk, made, 3)?;
+    }
+    Ok(Folder {
+        ino,
+        first: ino.saturating_add(1),
+        is_inside: true,
+    })
+}
+
+// So many clients open the file to read.
+fn open_file(core: &mut Core, talk: &mut Talk, ino: u64, count: u64) -> Result<(), Fault> {
+    for _ in 0..count {
+        let client = talk.among(2, CLIENTS);
+        let _opened = talk.say(core, format_args!("open {client} {ino} r"))?;
+    }
+    Ok(())
+}
+
+// Moves a directory to where it is not. Some clients listen; and where it is back, its files are opened again.
+fn move_folder(
+    core: &mut Core,
+    talk: &mut Talk,
+    folder: &mut Folder,
+    inside: u64,
+    outside: u64,
+) -> Result<(), Fault> {
+    let Folder {
+        ino,
+        first,
+        is_inside,
+    } = *folder;
+    let target = if is_inside { outside } else { inside };
+    let _moved = talk.say(core, format_args!("rename 1 {ino} {target} folder{ino}"))?;
+    folder.is_inside = !is_inside;
+    for _ in 0..LISTENERS {
+        let client = talk.among(2, CLIENTS);
+        talk.listen(core, client)?;
+    }
+    if is_inside {
+        return Ok(());
+    }
+    for file in 0..FILES {
+        open_file(core, talk, first.saturating_add(file), 2)?;
+    }
+    Ok(())
+}

@@ -1,0 +1,167 @@
+//! Whole scripts, run and served as `capd` does it.
+
+use crate::fault::Fault;
+use crate::talk::Talk;
+use capjobs::serve;
+use capscript::{Watched, run};
+use std::alloc::Global;
+use std::fmt::Display;
+use std::hash::{DefaultHasher, Hasher};
+use std::io::Write;
+use std::sync::Wait;
+use std::thread::Threads;
+
+/// How many directories stand in each other.
+const DEPTH: u64 = 28;
+
+/// How many clients are served by threads.
+const THREADS: u64 = 8;
+
+/// How many files each of them has.
+const FILES: u64 = 64;
+
+/// Runs a script of so many rounds, and returns the digest of its transcript.
+pub(crate) fn run_script(alloc: Global, count: u32, seed: u32) -> Result<u64, Fault> {
+    let mut talk = Talk::new(alloc, seed);
+    let script = ingest(alloc, &mut talk, count)?;
+    let mut written = Vec::new(alloc);
+    let mut reader = script.as_slice();
+    run(
+        alloc,
+        &mut Watched::new(&mut reader),
+        &mut Watched::new(&mut written),
+    )?;
+    let mut digest = DefaultHasher::new();
+    digest.write(written.as_slice());
+    Ok(digest.finish())
+}
+
+/// Serves a script of so many rounds, and returns a digest of the rows of its history that is the same in whatever order the threads
+/// were served.
+pub(crate) fn serve_script<T: Threads + Wait + Sync>(
+    rt: &T,
+    alloc: Global,
+    count: u32,
+    seed: u32,
+) -> Result<u64, Fault> {
+    let mut talk = Talk::new(alloc, seed);
+    let script = jobs(alloc, &mut talk, count)?;
+    let mut written = Vec::new(alloc);
+    let mut reader = script.as_slice();
+    serve(
+        rt,
+        alloc,
+        &mut Watched::new(&mut reader),
+        &mut Watched::new(&mut written),
+    )?;
+    Ok(sum_of_lines(written.as_slice()))
+}
+
+// The sum of the digests of the lines.
+fn sum_of_lines(text: &[u8]) -> u64 {
+    let mut sum: u64 = 0;
+    for line in text.split(|byte| *byte == b'\n') {
+        sum = sum.wrapping_add(digest_of(line));
+    }
+    sum
+}
+
+// The digest of a line, which has the pass of its client, and its number among that client's.
+fn digest_of(line: &[u8]) -> u64 {
+    let mut digest = DefaultHasher::new();
+    digest.write(line);
+    digest.finish()
+}
+
+fn add<D: Display + Drop>(text: &mut Vec<u8>, line: D) -> Result<(), Fault> {
+    text.write_fmt(line).map_err(|_| Fault::NoMemory)
+}
+
+// A client fills a deep chain of directories with files, and looks at them; another opens what it finds there.
+fn ingest(alloc: Global, talk: &mut Talk, count: u32) -> Result<Vec<u8>, Fault> {
+    let mut script = Vec::new(alloc);
+    add(&mut script, "session 1 10 10 - allow rw\n")?;
+    add(
+        &mut script,
+        "session 2 20 20 - allow r path=/pub, allow r\n",
+    )?;
+    for level in 0..DEPTH {
+        let inside = level + 1;
+        add(
+            &mut script,
+            format_args!("mkdir 1 {inside} level{level} 0755\n"),
+        )?;
+    }
+    for round in 0..u64::from(count) {
+        add_file(talk, &mut script, round)?;
+    }
+    Ok(script)
+}
+
+// The lines of one more file, which gets the next number, and of one that is there.
+fn add_file(talk: &mut Talk, script: &mut Vec<u8>, round: u64) -> Result<(), Fault> {
+    let folder = talk.among(1, DEPTH + 1);
+    let made = round.saturating_add(DEPTH + 2);
+    let any = talk.among(DEPTH + 2, round.saturating_add(1));
+    add(
+        script,
+        format_args!("create 1 {folder} upload{round} 0644\n"),
+    )?;
+    add(script, format_args!("open 1 {made} w\n"))?;
+    add(script, format_args!("flush 1 {made} size {round}\n"))?;
+    add(script, format_args!("lookup 2 {folder} upload{round}\n"))?;
+    add(script, format_args!("release 1 {made} p\n"))?;
+    add(script, format_args!("open 2 {any} r\n"))?;
+    add(script, format_args!("release 2 {any} p\n"))?;
+    add(script, format_args!("alter 1 {any} chmod 0640\n"))
+}
+
+// Clients that each work on files of their own, from threads of their own.
+fn jobs(alloc: Global, talk: &mut Talk, count: u32) -> Result<Vec<u8>, Fault> {
+    let mut script = Vec::new(alloc);
+    for client in 1..=THREADS {
+        add_client(&mut script, client)?;
+    }
+    add(&mut script, "threads\n")?;
+    for round in 0..count {
+        for client in 1..=THREADS {
+            add_job(talk, &mut script, client, round)?;
+        }
+    }
+    Ok(script)
+}
+
+// A client with its directory and its files: the directory of client 1 is inode 2, and its files follow it.
+fn add_client(script: &mut Vec<u8>, client: u64) -> Result<(), Fault> {
+    let home = home_of(client);
+    add(script, format_args!("session {client} 10 10 - allow rw\n"))?;
+    add(script, format_args!("mkdir {client} 1 home{client} 0755\n"))?;
+    for file in 0..FILES {
+        add(
+            script,
+            format_args!("create {client} {home} file{file} 0644\n"),
+        )?;
+    }
+    Ok(())
+}
+
+fn home_of(client: u64) -> u64 {
+    client
+        .saturating_sub(1)
+        .saturating_mul(FILES + 1)
+        .saturating_add(2)
+}
+
+fn add_job(talk: &mut Talk, script: &mut Vec<u8>, client: u64, round: u32) -> Result<(), Fault> {
+    let home = home_of(client);
+    let file = talk.below(FILES);
+    let ino = home.saturating_add(1).saturating_add(file);
+    match talk.below(6) {
+        0 => add(script, format_args!("open {client} {ino} rw\n")),
+        1 => add(script, format_args!("alter {client} {ino} size {round}\n")),
+        2 => add(script, format_args!("get {client} {ino} F\n")),
+        3 => add(script, format_args!("release {client} {ino} p\n")),
+        4 => add(script, format_args!("want {client} {ino} pFscr\n")),
+        _ => add(script, format_args!("lookup {client} {home} file{file}\n")),
+    }
+}

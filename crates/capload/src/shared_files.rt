@@ -1,0 +1,118 @@
+//! Clients that all work on the same files: what one writes is revoked from the others, sessions become stale, are thrown out and
+//! come back, and entries are asked back.
+
+use crate::fault::Fault;
+use crate::talk::Talk;
+use capcore::Core;
+
+/// How many clients there are.
+const CLIENTS: u64 = 40;
+
+/// How many directories the files stand in.
+const FOLDERS: u64 = 10;
+
+/// How many files there are in each.
+const FILES: u64 = 40;
+
+/// Makes the files, lets all clients in, and has them work for so many rounds.
+pub(crate) fn share(core: &mut Core, talk: &mut Talk, count: u32) -> Result<(), Fault> {
+    for client in 1..=CLIENTS {
+        let_in(core, talk, client)?;
+    }
+    let mut files = Vec::new(talk.alloc());
+    for number in 0..FOLDERS {
+        let folder = talk.make(core, format_args!("mkdir 1 1 folder{number} 0755"))?;
+        make_files(core, talk, folder, &mut files)?;
+    }
+    for _ in 0..count {
+        work(core, talk, files.as_slice())?;
+    }
+    Ok(())
+}
+
+fn make_files(
+    core: &mut Core,
+    talk: &mut Talk,
+    folder: u64,
+    files: &mut Vec<u64>,
+) -> Result<(), Fault> {
+    for name in 0..FILES {
+        files.push(talk.make(core, format_args!("create 1 {folder} file{name} 0644"))?)?;
+    }
+    Ok(())
+}
+
+// Gives a client its session; every fifth may only read.
+fn let_in(core: &mut Core, talk: &mut Talk, client: u64) -> Result<(), Fault> {
+    let _done = match client % 5 {
+        0 => talk.say(
+            core,
+            format_args!("session {client} {client} {client} - allow r"),
+        )?,
+        _ => talk.say(
+            core,
+            format_args!("session {client} {client} {client} - allow rw"),
+        )?,
+    };
+    Ok(())
+}
+
+// One round: a client asks for something of a file, and one listens.
+fn work(core: &mut Core, talk: &mut Talk, files: &[u64]) -> Result<(), Fault> {
+    let client = talk.among(1, CLIENTS);
+    let dice = talk.below(1000);
+    let place = talk.below(files.len() as u64);
+    let Some(ino) = files.get(place as usize).copied() else {
+        return Err(Fault::Unexpected);
+    };
+    if dice < 990 {
+        use_file(core, talk, client, ino, dice)?;
+    } else {
+        disturb(core, talk, client, dice)?;
+    }
+    let listener = talk.among(1, CLIENTS);
+    talk.listen(core, listener)
+}
+
+fn use_file(
+    core: &mut Core,
+    talk: &mut Talk,
+    client: u64,
+    ino: u64,
+    dice: u64,
+) -> Result<(), Fault> {
+    let _heard = match dice {
+        0..450 => talk.say(core, format_args!("open {client} {ino} r"))?,
+        450..550 => talk.say(core, format_args!("open {client} {ino} w"))?,
+        550..650 => talk.say(core, format_args!("open {client} {ino} rw"))?,
+        650..750 => talk.say(core, format_args!("want {client} {ino} pFscr"))?,
+        750..900 => talk.say(core, format_args!("release {client} {ino} p"))?,
+        900..930 => talk.say(core, format_args!("get {client} {ino} F"))?,
+        930..960 => talk.say(core, format_args!("alter {client} {ino} size {dice}"))?,
+        _ => talk.say(core, format_args!("alter {client} {ino} chmod 0644"))?,
+    };
+    Ok(())
+}
+
+// What happens to sessions, and what the server does by itself.
+fn disturb(core: &mut Core, talk: &mut Talk, client: u64, dice: u64) -> Result<(), Fault> {
+    match dice {
+        990..993 => {
+            let _heard = talk.say(core, format_args!("stale {client}"))?;
+            let _heard = talk.say(core, format_args!("renew {client}"))?;
+        }
+        993..995 => {
+            let _heard = talk.say(core, format_args!("evict {client}"))?;
+            let _heard = talk.say(core, format_args!("unblock {client}"))?;
+            let_in(core, talk, client)?;
+        }
+        995..998 => {
+            let _heard = talk.say(core, format_args!("regrant {client} allow r"))?;
+            let _heard = talk.say(core, format_args!("regrant {client} allow rw"))?;
+        }
+        _ => {
+            let _heard = talk.say(core, "recall 100")?;
+        }
+    }
+    Ok(())
+}

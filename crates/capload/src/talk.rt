@@ -1,0 +1,161 @@
+//! Clients that talk to a core in the lines of a script, and a digest of all that they are answered.
+
+use crate::fault::Fault;
+use capbits::PassId;
+use capcore::{Core, Event, Message, Reply};
+use capexplain::reply_lines;
+use capscript::read_line;
+use rand_core::Rng;
+use rand_pcg::Pcg32;
+use std::alloc::Global;
+use std::fmt::Display;
+use std::hash::{DefaultHasher, Hasher};
+use std::io::Write;
+
+const PASS: PassId = PassId(1);
+
+/// The stream of the generator.
+const STREAM: u64 = 54;
+
+/// How many messages a client takes at once.
+const MESSAGES: u32 = 64;
+
+/// A change that a client was told of.
+#[derive(Clone, Copy)]
+struct Told {
+    ino: u64,
+    seq: u64,
+}
+
+/// What was answered, as far as a client needs it.
+#[derive(Clone, Copy, PartialEq, Eq)]
+pub(crate) enum Heard {
+    /// An inode was found or made.
+    Ino(u64),
+    /// It was done, or it was answered otherwise.
+    Done,
+    /// It was denied or refused, or it waits.
+    NotDone,
+}
+
+/// The talk of all clients, with what it is made from.
+#[derive(Drop)]
+pub(crate) struct Talk {
+    alloc: Global,
+    random: Pcg32,
+    digest: DefaultHasher,
+    line: Vec<u8>,
+    told: Vec<Told>,
+}
+
+impl Talk {
+    /// The talk that a seed makes.
+    pub(crate) fn new(alloc: Global, seed: u32) -> Talk {
+        Talk {
+            alloc,
+            random: Pcg32::new(u64::from(seed), STREAM),
+            digest: DefaultHasher::new(),
+            line: Vec::new(alloc),
+            told: Vec::new(alloc),
+        }
+    }
+
+    /// Where memory comes from.
+    pub(crate) fn alloc(&self) -> Global {
+        self.alloc
+    }
+
+    /// A number below the bound, or 0 where that is 0.
+    pub(crate) fn below(&mut self, bound: u64) -> u64 {
+        match u64::from(self.random.next_u32()).checked_rem(bound) {
+            Some(number) => number,
+            None => 0,
+        }
+    }
+
+    /// One of so many numbers, of which this is the first.
+    pub(crate) fn among(&mut self, first: u64, count: u64) -> u64 {
+        self.below(count).saturating_add(first)
+    }
+
+    /// The digest of all answers until now.
+    pub(crate) fn digest(&self) -> u64 {
+        self.digest.finish()
+    }
+
+    /// Says a line, and hears what is answered.
+    pub(crate) fn say<D: Display + Drop>(
+        &mut self,
+        core: &mut Core,
+        line: D,
+    ) -> Result<Heard, Fault> {
+        self.line.clear();
+        self.line.write_fmt(line).map_err(|_| Fault::NoMemory)?;
+        self.ask(core)
+    }
+
+    /// Says a line that has to be answered with an inode.
+    pub(crate) fn make<D: Display + Drop>(
+        &mut self,
+        core: &mut Core,
+        line: D,
+    ) -> Result<u64, Fault> {
+        match self.say(core, line)? {
+            Heard::Ino(ino) => Ok(ino),
+            _ => Err(Fault::Unexpected),
+        }
+    }
+
+    /// A client asks for its messages, and acknowledges each change that it is told of.
+    pub(crate) fn listen(&mut self, core: &mut Core, client: u64) -> Result<(), Fault> {
+        let _heard = self.say(core, format_args!("poll {client} {MESSAGES}"))?;
+        for place in 0..self.told.len() {
+            let Some(Told { ino, seq }) = self.told.get(place).copied() else {
+                break;
+            };
+            let _heard = self.say(core, format_args!("ack {client} {ino} {seq}"))?;
+        }
+        self.told.clear();
+        Ok(())
+    }
+
+    // Asks the core what the line says.
+    fn ask(&mut self, core: &mut Core) -> Result<Heard, Fault> {
+        let event = self.event()?;
+        let reply = core.apply(PASS, event)?;
+        self.hear(&reply)
+    }
+
+    // The event that the line says.
+    fn event(&self) -> Result<Event, Fault> {
+        match read_line(self.alloc, 1, self.line.as_slice())? {
+            Some((_, event)) => Ok(event),
+            None => Err(Fault::Unexpected),
+        }
+    }
+
+    // Takes an answer in.
+    fn hear(&mut self, reply: &Reply) -> Result<Heard, Fault> {
+        let text = reply_lines(self.alloc, reply)?;
+        self.digest.write(text.as_slice());
+        match reply {
+            Reply::Ino(ino) => Ok(Heard::Ino(ino.0)),
+            Reply::Messages(messages) => self.note(messages.as_slice()),
+            Reply::Denied { .. } | Reply::Refused(_) | Reply::Waiting(_) => Ok(Heard::NotDone),
+            _ => Ok(Heard::Done),
+        }
+    }
+
+    // Keeps which changes were told.
+    fn note(&mut self, messages: &[Message]) -> Result<Heard, Fault> {
+        for message in messages {
+            if let Message::Caps { ino, seq, .. } = message {
+                self.told.push(Told {
+                    ino: ino.0,
+                    seq: *seq,
+                })?;
+            }
+        }
+        Ok(Heard::Done)
+    }
+}

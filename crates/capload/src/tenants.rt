@@ -1,0 +1,196 @@
+//! Tenants that each have a directory of their own, in which they make, open, change and close files; now and then one tries what
+//! is not its own.
+
+use crate::fault::Fault;
+use crate::talk::{Heard, Talk};
+use capcore::Core;
+
+/// How many tenants there are.
+const TENANTS: u64 = 48;
+
+/// How many directories each makes in its own.
+const FOLDERS: u64 = 8;
+
+/// The client that makes the directories of the tenants.
+const ADMINISTRATOR: u64 = 1;
+
+/// A tenant, with what it made.
+#[derive(Drop)]
+struct Tenant {
+    client: u64,
+    folders: Vec<u64>,
+    files: Vec<File>,
+}
+
+/// A file of a tenant.
+#[derive(Clone, Copy)]
+struct File {
+    ino: u64,
+    folder: u64,
+    name: u64,
+}
+
+/// Gives each tenant its directory, and has them work for so many rounds.
+pub(crate) fn serve_tenants(core: &mut Core, talk: &mut Talk, count: u32) -> Result<(), Fault> {
+    let _done = talk.say(core, "session 1 0 0 - allow rwps")?;
+    let mut tenants = Vec::new(talk.alloc());
+    for number in 0..TENANTS {
+        tenants.push(let_in(core, talk, number)?)?;
+    }
+    for turn in 0..u64::from(count) {
+        let place = talk.below(TENANTS);
+        if let Some(tenant) = tenants.get_mut(place as usize) {
+            work(core, talk, tenant, turn)?;
+        }
+    }
+    Ok(())
+}
+
+// Lets a tenant in: its directory is made, and it makes some in that.
+fn let_in(core: &mut Core, talk: &mut Talk, number: u64) -> Result<Tenant, Fault> {
+    let client = number.saturating_add(2);
+    let user = number.saturating_add(1000);
+    let home = talk.make(
+        core,
+        format_args!("mkdir {ADMINISTRATOR} 1 tenant{number} 0777"),
+    )?;
+    let _done = match number % 3 {
+        0 => talk.say(
+            core,
+            format_args!("session {client} {user} {user} - allow rw path=/tenant{number}"),
+        )?,
+        1 => talk.say(
+            core,
+            format_args!(
+                "session {client} {user} {user} 100,200 allow r path=/pub, allow rw path=/tenant{number} uid={user} gids={user},100"
+            ),
+        )?,
+        _ => talk.say(
+            core,
+            format_args!(
+                "session {client} {user} {user} 100 allow r path=/pub, allow rw path=/scratch root_squash, allow rwps path=/tenant{number}"
+            ),
+        )?,
+    };
+    let mut folders = Vec::new(talk.alloc());
+    for name in 0..FOLDERS {
+        let folder = talk.make(
+            core,
+            format_args!("mkdir {client} {home} folder{name} 0755"),
+        )?;
+        folders.push(folder)?;
+    }
+    Ok(Tenant {
+        client,
+        folders,
+        files: Vec::new(talk.alloc()),
+    })
+}
+
+// One round of a tenant: one request or a few, and what it is told of then.
+fn work(core: &mut Core, talk: &mut Talk, tenant: &mut Tenant, turn: u64) -> Result<(), Fault> {
+    let dice = talk.below(100);
+    let place = talk.below(tenant.files.len() as u64) as usize;
+    match tenant.files.get(place).copied() {
+        Some(file) if dice == 82 => move_file(core, talk, tenant, place, file)?,
+        Some(file) if dice < 85 => use_file(core, talk, tenant.client, file, dice)?,
+        _ => make_file(core, talk, tenant, turn)?,
+    }
+    if dice % 4 == 0 {
+        talk.listen(core, tenant.client)?;
+    }
+    Ok(())
+}
+
+fn any_folder(talk: &mut Talk, tenant: &Tenant) -> u64 {
+    let place = talk.below(FOLDERS);
+    match tenant.folders.get(place as usize) {
+        Some(folder) => *folder,
+        None => 1,
+    }
+}
+
+// Makes a file, and opens it to write.
+fn make_file(
+    core: &mut Core,
+    talk: &mut Talk,
+    tenant: &mut Tenant,
+    name: u64,
+) -> Result<(), Fault> {
+    let client = tenant.client;
+    let folder = any_folder(talk, tenant);
+    let heard = talk.say(
+        core,
+        format_args!("create {client} {folder} file{name} 0644"),
+    )?;
+    if let Heard::Ino(ino) = heard {
+        tenant.files.push(File { ino, folder, name })?;
+        let _opened = talk.say(core, format_args!("open {client} {ino} rw"))?;
+    }
+    Ok(())
+}
+
+// Uses a file of its own, or now and then one that is not.
+fn use_file(
+    core: &mut Core,
+    talk: &mut Talk,
+    client: u64,
+    file: File,
+    dice: u64,
+) -> Result<(), Fault> {
+    let File { ino, folder, name } = file;
+    let _heard = match dice {
+        0..25 => talk.say(core, format_args!("lookup {client} {folder} file{name}"))?,
+        25..45 => talk.say(core, format_args!("open {client} {ino} r"))?,
+        45..50 => talk.say(core, format_args!("open {client} {ino} rw"))?,
+        50..60 => talk.say(core, format_args!("want {client} {ino} pAsLsXsFsr"))?,
+        60..70 => talk.say(core, format_args!("release {client} {ino} p"))?,
+        70..80 => return change_file(core, talk, client, ino, dice),
+        80..82 => talk.say(core, format_args!("get {client} {ino} A"))?,
+        83 => talk.say(core, format_args!("open {client} {} r", ino / 2))?,
+        _ => talk.say(core, format_args!("alter {client} 1 chmod 0700"))?,
+    };
+    Ok(())
+}
+
+fn change_file(
+    core: &mut Core,
+    talk: &mut Talk,
+    client: u64,
+    ino: u64,
+    dice: u64,
+) -> Result<(), Fault> {
+    let value = talk.below(1 << 20);
+    let _heard = match dice % 4 {
+        0 => talk.say(core, format_args!("alter {client} {ino} size {value}"))?,
+        1 => talk.say(core, format_args!("alter {client} {ino} times {value}"))?,
+        2 => talk.say(core, format_args!("alter {client} {ino} chmod 0664"))?,
+        _ => talk.say(
+            core,
+            format_args!("alter {client} {ino} setx user.mark{} 0123abcd", value % 8),
+        )?,
+    };
+    Ok(())
+}
+
+// Moves a file into another directory of the tenant's.
+fn move_file(
+    core: &mut Core,
+    talk: &mut Talk,
+    tenant: &mut Tenant,
+    place: usize,
+    file: File,
+) -> Result<(), Fault> {
+    let client = tenant.client;
+    let folder = any_folder(talk, tenant);
+    let File { ino, name, .. } = file;
+    let heard = talk.say(
+        core,
+        format_args!("rename {client} {ino} {folder} file{name}"),
+    )?;
+    match tenant.files.get_mut(place) {
+        Some(file) if heard == Heard::Done => file.folder = folder,
+        _ => {}
+    }
+    Ok(())
+}
