@@ -3,6 +3,9 @@ ghost use Rattle.std.specs.Prelude.{◌≡◌, ◌==◌, ◌<◌, ◌^◌, ◌-�
 ghost use Rattle.std.specs.HashMap.{get};
 ghost use Rattle.std.specs.List.{find, list_any};
 ghost use Rattle.std.specs.FinSet as set;
+ghost use Rattle.std.specs.FinMap as map;
+ghost use Rattle.std.specs.Option.{option_copied};
+ghost use Rattle.inotree.specs.Tree.{path_of};
 ghost use Rattle.sessiontab.specs.Table.{SessionTable};
 ghost use Rattle.sessiontab.specs.Calls.{has_session};
 ghost use Rattle.captable.specs.Table.{IsTable, same, is_row_of, entry_at};
@@ -24,8 +27,8 @@ use arrayvec::ArrayVec;
 use capbits::{Cap, CapSet, ClientId, Ino, Part};
 use capspec::FsName;
 use captable::{CapTable, Entry, EntryRow, Holder};
-use inotree::{Place, Tree};
-use lockmachine::{InodeLocks, Locks, permitted, want_of_permitted};
+use inotree::{Names, Node, Place, Tree};
+use lockmachine::{InodeLocks, Locks, permitted_by, want_of_permitted};
 use locktable::allowed;
 use sessiontab::{MAX_SESSIONS, Sessions};
 
@@ -117,12 +120,14 @@ fn finish_entries(
     ensures known { KeptAnew (λ k. k.ino.0 == ino.0) (words.told_at fs.now tree.now sessions.now locks.now)
         table.old known.old.sets known.new.sets }
 {
+    // The names up to the root are looked up once, and not for each entry.
+    let (path, node) = (tree.path_of(ino), tree.node(ino));
     let clients = clients_on(sessions, table, ino);
     let numbers = clients.as_slice();
     for number in numbers {
         let client = ClientId(*number);
         let holder = Holder { client, ino };
-        finish_entry(fs, tree, sessions, table, known, holder, locks);
+        finish_entry(fs, tree, sessions, table, known, holder, &path, node, locks);
     }
 }
 
@@ -177,7 +182,8 @@ pub(crate) fn is_held(table: &CapTable, ino: Ino) -> bool
 
 // ---- of one entry
 
-// Issues what is due to the holder, numbers what its client is to know of, and keeps that.
+// Issues what is due to the holder, whose inode has this path and this node in the tree, numbers what its client is to know of, and
+// keeps that.
 fn finish_entry(
     fs: &FsName,
     tree: &Tree,
@@ -185,8 +191,12 @@ fn finish_entry(
     table: &mut CapTable,
     known: &mut Known,
     holder: Holder,
+    path: &Option<Names<'_>>,
+    node: Option<&Node>,
     locks: &Option<InodeLocks>,
 )
+    requires path { path.now ≡ path_of tree.now.nodes holder.ino.0 }
+    requires node { option_copied node ≡ map.get tree.now.nodes holder.ino.0 }
     requires number { IfSome (entry_at table.old holder) (λ entry. entry.seq < 2 ^ 64 - 1) }
     requires room { IsSome (entry_at table.old holder) → IsSome (get same known.old.sets holder) }
     ensures table { table.new
@@ -195,7 +205,7 @@ fn finish_entry(
 {
     if let Some(entry) = table.find(holder.client, holder.ino) {
         let row = EntryRow { holder, entry };
-        let permitted = permitted(fs, tree, sessions, holder.client, holder.ino);
+        let permitted = permitted_by(fs, sessions, holder.client, path, node);
         let due = want_of_permitted(sessions, row, permitted).meet(allowed_under(&row, locks));
         let told = told_under(&with_issued(&row, due), permitted, locks);
         let before = known.put(holder, told);

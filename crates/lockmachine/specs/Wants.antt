@@ -1,6 +1,7 @@
 -- What clients want of an inode, so far as it counts.
 use Rattle.std.specs.Prelude.{ℕ, Bool, not, List, [], ◌∷◌, Option, Some, None, filter, map as each, if◌then◌else◌}
 use Rattle.std.specs.List.{fold}
+use Rattle.std.specs.FinMap as map
 use Rattle.capbits.specs.declared.cap.Cap.TheVariants.{P}
 use Rattle.capbits.specs.declared.ids.ClientId.{ClientId}
 use Rattle.capbits.specs.declared.ids.Ino.{Ino}
@@ -9,6 +10,7 @@ use Rattle.capbits.specs.Sets.{no_caps, caps_in, is_empty, union, meet, minus}
 use Rattle.sessiontab.specs.Table.{SessionTable}
 use Rattle.sessiontab.specs.Calls.{status_of}
 use Rattle.sessiontab.specs.Tests.{is_open}
+use Rattle.inotree.specs.declared.node.Node.{Node}
 use Rattle.inotree.specs.Tree.{Nodes}
 use Rattle.captable.specs.declared.entry.EntryRow.{EntryRow}
 use Rattle.captable.specs.Table.{Table}
@@ -16,7 +18,7 @@ use Rattle.captable.specs.Calls.{entries_on}
 use Rattle.lockmachine.specs.declared.wants.Wants.{Wants}
 use Rattle.lockmachine.specs.declared.wants.Wanting.{Wanting}
 use Rattle.lockmachine.specs.declared.wants.Wanting.TheVariants.{Nobody, One, Several}
-use Rattle.lockmachine.specs.Policy.{permitted}
+use Rattle.lockmachine.specs.Policy.{permitted, permitted_to, subject_of}
 
 -- what the entry's client wants of these, which it is permitted, if its session is open
 abbrev pub want_of_permitted : SessionTable → Caps → EntryRow → Caps
@@ -36,6 +38,11 @@ want_of fs tree sessions row = (row.holder.client, effective_want fs tree sessio
 -- what the clients with an entry on an inode effectively want of it
 abbrev pub wants_on : List ℕ → Nodes → SessionTable → Table → Ino → List Want
 wants_on fs tree sessions table ino = each (want_of fs tree sessions) (entries_on table ino)
+
+-- the same of an entry on an inode with this path, of which the tree keeps this
+abbrev pub want_by : List ℕ → SessionTable → Option (List (List ℕ)) → Option Node → EntryRow → Want
+want_by fs sessions path node row =
+    (row.holder.client, want_of_permitted sessions (permitted_to fs (subject_of (map.get sessions.sessions row.holder.client.0) path node)) row)
 
 -- what somebody wants, of these
 abbrev pub union_of : List Want → Caps

@@ -23,4 +23,4 @@ pub use locks::{Locks, MAX_WAITING};
 pub use moves::Move;
 pub use request::{Ask, Change, Request};
 pub use states::InodeLocks;
-pub use wants::{Wants, effective_want, permitted, want_of_permitted, wants_on};
+pub use wants::{Wants, effective_want, permitted, permitted_by, want_of_permitted, wants_on};

@@ -10,7 +10,7 @@ ghost use Rattle.sessiontab.specs.Table.{SessionTable};
 ghost use Rattle.lockmachine.specs.declared.moves.Move.TheVariants.{Settled};
 ghost use Rattle.lockmachine.specs.Locks as words;
 ghost use Rattle.lockmachine.specs.Requests as requests;
-ghost use Rattle.lockmachine.specs.Scene.{scene, head_in, target_by};
+ghost use Rattle.lockmachine.specs.Scene.{wanted_in_all, scene, head_in, target_by};
 ghost use Rattle.lockmachine.specs.Moves as moves;
 ghost use Rattle.lockmachine.specs.Moves.{first_move, moved, handed};
 ghost use Rattle.lockmachine.specs.Runs.{MoveLittle, EndLittle, ChangesLocksOf};
@@ -217,14 +217,23 @@ impl Locks {
         requires turn { IsTurnOf (scene fs.now tree.now sessions.now table.now self.now) ino.0 }
         ensures { IsNextAt (scene fs.now tree.now sessions.now table.now self.now) ino.0 result }
     {
+        self.next_move_by(table, ino, &wants_on(fs, tree, sessions, table, ino))
+    }
+
+    // The same, where this is wanted of the inode.
+    fn next_move_by(&self, table: &CapTable, ino: Ino, wants: &Wants) -> Move
+        ensures { (fs : List ℕ) (tree : Nodes) (sessions : SessionTable)
+            → IsTurnOf (scene fs tree sessions table.now self.now) ino.0
+            → wants.now ≡ wanted_in_all (scene fs tree sessions table.now self.now) ino.0
+            → IsNextAt (scene fs tree sessions table.now self.now) ino.0 result }
+    {
         if let Some(part) = self.first_end(table, ino) {
             return Move::End { ino, part };
         }
         if let Some(served) = self.first_served() {
             return Move::Serve(served);
         }
-        let wants = wants_on(fs, tree, sessions, table, ino);
-        self.first_begin(ino, &wants).unwrap_or(Move::Settled)
+        self.first_begin(ino, wants).unwrap_or(Move::Settled)
     }
 
     /// The oldest request that may be served. It looks at the locks and the queue alone.
@@ -480,8 +489,10 @@ impl Locks {
         ensures turn { IsTurnOf (scene fs.now tree.now sessions.now table.now self.new) ino.0 }
         ensures elsewhere { ChangesLocksOf ino.0 self.old self.new }
     {
+        // A move of a lock changes nothing of what is wanted.
+        let wanted = wants_on(fs, tree, sessions, table, ino);
         'moves: loop {
-            match self.next_move_at(table, sessions, tree, fs, ino) {
+            match self.next_move_by(table, ino, &wanted) {
                 Move::Settled => return None,
                 Move::Serve(ticket) => return Some(ticket),
                 step => self.make(step),

@@ -1,5 +1,7 @@
 //! What clients want of an inode, so far as it counts.
 ghost use Rattle.std.specs.Prelude.{◌≡◌, List, [], ◌∷◌};
+ghost use Rattle.std.specs.Option.{option_copied};
+ghost use Rattle.std.specs.FinMap as map;
 ghost use Rattle.captable.specs.Table.{holder};
 ghost use Rattle.lockmachine.specs.Policy as policy;
 ghost use Rattle.lockmachine.specs.Wants as words;
@@ -7,7 +9,7 @@ ghost use Rattle.lockmachine.specs.Wants as words;
 use capbits::{Cap, CapSet, ClientId, Ino};
 use capspec::FsName;
 use captable::{CapTable, EntryRow};
-use inotree::Tree;
+use inotree::{Names, Node, Tree};
 use sessiontab::{Sessions, Status};
 
 /// What the clients with an entry on an inode effectively want of it.
@@ -23,12 +25,15 @@ pub struct Wants {
 pub fn wants_on(fs: &FsName, tree: &Tree, sessions: &Sessions, table: &CapTable, ino: Ino) -> Wants
     ensures { result ≡ words.in_all (words.wants_on fs.now tree.now sessions.now table.now ino) }
 {
+    // The names up to the root are looked up once, and not for each entry.
+    let (path, node) = (tree.path_of(ino), tree.node(ino));
     let mut wanted = CapSet::empty();
     let mut wanting = Wanting::Nobody;
     let mut walk = table.holders_of(ino);
     'rows: while let Some(row) = walk.next() {
         let client = row.holder.client;
-        let want = effective_want(fs, tree, sessions, row);
+        let permitted = permitted_by(fs, sessions, client, &path, node);
+        let want = want_of_permitted(sessions, row, permitted);
         wanted = wanted.union(want);
         if is_more(want) {
             wanting = wanting.and(client, want);
@@ -66,11 +71,24 @@ pub fn permitted(
 ) -> CapSet
     ensures { result ≡ policy.permitted fs.now tree.now sessions.now (holder client ino) }
 {
+    permitted_by(fs, sessions, client, &tree.path_of(ino), tree.node(ino))
+}
+
+/// The same, by the path of the inode and what the tree keeps of it.
+pub fn permitted_by(
+    fs: &FsName,
+    sessions: &Sessions,
+    client: ClientId,
+    path: &Option<Names<'_>>,
+    node: Option<&Node>,
+) -> CapSet
+    ensures { result ≡ policy.permitted_to fs.now (policy.subject_of (map.get sessions.now.sessions client.0) path.now (option_copied node.entry)) }
+{
     let (Some(grants), Some(caller)) = (sessions.grants_of(client), sessions.caller_of(client))
     else {
         return CapSet::of(&[Cap::P]);
     };
-    let (Some(path), Some(node)) = (tree.path_of(ino), tree.node(ino)) else {
+    let (Some(path), Some(node)) = (path, node) else {
         return CapSet::of(&[Cap::P]);
     };
     capgrant::permitted(grants, fs, caller, path.as_slice(), &node.attr)

@@ -51,6 +51,8 @@ finish_entry-requires c =
     let not_among : is_among (take i ks) k ≡ false = ap (is_among (take i ks)) (sym here) ∙ not-yet ks i k apart inside in
     let kept : get same c.loop-number.known.sets k ≡ get same c.args.known.now.sets k = kept-not (is_among (take i ks)) f t c.args.known.now.sets c.loop-number.known.sets c.loop-number.invariant.known k not_among in
     record {
+      path = c.path_of-path.ensures.path;
+      node = c.node-node.ensures.node;
       number = subst (λ (o : Option Entry). IfSome o (λ e. e.seq < 18446744073709551615)) (sym was) (entry-on (λ e. e.seq < 18446744073709551615) t k.client c.args.ino c.requires.numbers);
       room = λ there. ap is_some kept ∙ room-of c.args.known.now.sets t k c.requires.room (sym (ap is_some was) ∙ there);
     }

@@ -1,11 +1,13 @@
 use Rattle.std.proofs.Common.{◌≡◌, ◌<◌, Option, Some, None, is_some, refl, ap, subst, ◌∙◌}
 use Rattle.std.specs.Prelude.{IfSome}
+use Rattle.std.specs.FinMap as map
 use Rattle.capbits.specs.Sets.{meet}
 use Rattle.captable.specs.declared.entry.Entry.{Entry}
 use Rattle.captable.specs.declared.entry.EntryRow.{EntryRow}
 use Rattle.captable.specs.declared.entry.Holder.{Holder}
 use Rattle.captable.specs.Table.{Table, entry_at}
 use Rattle.captable.proofs.Changes.{put_found, none_found}
+use Rattle.lockmachine.specs.Policy.{permitted, permitted_to, subject_of}
 use Rattle.lockmachine.specs.Wants.{want_of_permitted}
 use Rattle.capcore.specs.Finishing as words
 use Rattle.capcore.specs.Known.{known_in}
@@ -31,10 +33,13 @@ returns-in-Some-clause-table c =
     let k : Holder = c.args.holder in
     let row : EntryRow = record { holder = k; entry = c.in-Some.entry } in
     let found : entry_at t k ≡ Some c.in-Some.entry = cc in
+    let is_permitted : c.permitted_by-permitted.result ≡ permitted c.args.fs.now c.args.tree.now c.args.sessions.now k =
+    c.permitted_by-permitted.ensures
+    ∙ (λ i. permitted_to c.args.fs.now (subject_of (map.get c.args.sessions.now.sessions k.client.0) (c.requires.path i) (c.requires.node i))) in
     let due : c.meet-due.result ≡ words.due_under c.args.fs.now c.args.tree.now c.args.sessions.now c.args.locks.now row =
-    c.meet-due.ensures ∙ (λ i. meet ((c.want_of_permitted.ensures ∙ ap (λ may. want_of_permitted c.args.sessions.now may row) c.permitted-permitted.ensures) i) (c.allowed_under.ensures i)) in
+    c.meet-due.ensures ∙ (λ i. meet ((c.want_of_permitted.ensures ∙ ap (λ may. want_of_permitted c.args.sessions.now may row) is_permitted) i) (c.allowed_under.ensures i)) in
     let told : c.told_under-told.result ≡ words.told_at c.args.fs.now c.args.tree.now c.args.sessions.now c.args.locks.now row =
-    c.told_under-told.ensures ∙ (λ i. words.told_under (c.permitted-permitted.ensures i) c.args.locks.now ((c.with_issued.ensures ∙ ap (λ caps. words.with_issued caps row) due) i)) in
+    c.told_under-told.ensures ∙ (λ i. words.told_under (is_permitted i) c.args.locks.now ((c.with_issued.ensures ∙ ap (λ caps. words.with_issued caps row) due) i)) in
     c.issue.ensures
     ∙ put_found t k c.in-Some.entry (words.numbered_as c.put-before.result c.told_under-told.result c.meet-due.result row)
     (λ e. words.entry_under (known_in c.args.known.now.sets) c.args.fs.now c.args.tree.now c.args.sessions.now c.args.locks.now (record { holder = k; entry = e })) found
@@ -46,10 +51,13 @@ returns-in-Some-clause-known c =
     let k : Holder = c.args.holder in
     let row : EntryRow = record { holder = k; entry = c.in-Some.entry } in
     let found : entry_at t k ≡ Some c.in-Some.entry = cc in
+    let is_permitted : c.permitted_by-permitted.result ≡ permitted c.args.fs.now c.args.tree.now c.args.sessions.now k =
+    c.permitted_by-permitted.ensures
+    ∙ (λ i. permitted_to c.args.fs.now (subject_of (map.get c.args.sessions.now.sessions k.client.0) (c.requires.path i) (c.requires.node i))) in
     let due : c.meet-due.result ≡ words.due_under c.args.fs.now c.args.tree.now c.args.sessions.now c.args.locks.now row =
-    c.meet-due.ensures ∙ (λ i. meet ((c.want_of_permitted.ensures ∙ ap (λ may. want_of_permitted c.args.sessions.now may row) c.permitted-permitted.ensures) i) (c.allowed_under.ensures i)) in
+    c.meet-due.ensures ∙ (λ i. meet ((c.want_of_permitted.ensures ∙ ap (λ may. want_of_permitted c.args.sessions.now may row) is_permitted) i) (c.allowed_under.ensures i)) in
     let told : c.told_under-told.result ≡ words.told_at c.args.fs.now c.args.tree.now c.args.sessions.now c.args.locks.now row =
-    c.told_under-told.ensures ∙ (λ i. words.told_under (c.permitted-permitted.ensures i) c.args.locks.now ((c.with_issued.ensures ∙ ap (λ caps. words.with_issued caps row) due) i)) in
+    c.told_under-told.ensures ∙ (λ i. words.told_under (is_permitted i) c.args.locks.now ((c.with_issued.ensures ∙ ap (λ caps. words.with_issued caps row) due) i)) in
     kept-one (words.told_at c.args.fs.now c.args.tree.now c.args.sessions.now c.args.locks.now) t c.args.known.now.sets c.put-before.new.self.sets k c.in-Some.entry found (c.put-before.ensures.own ∙ ap Some told) c.put-before.ensures.others
 
 pub returns-in_default-clause-table : goal.returns-in_default-clause-table
