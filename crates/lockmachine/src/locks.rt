@@ -291,10 +291,12 @@ impl Locks {
     fn first_end(&self, table: &CapTable, ino: Ino) -> Option<Part>
         ensures { result ≡ find (λ part. moves.may_end_by table.now self.now (ino.0, part)) moves.parts }
     {
+        // The inode's locks are looked up once, and not for each part.
+        let four = self.states.get(ino)?;
         PARTS
             .iter()
             .copied()
-            .find(|part| self.may_end(table, ino, *part))
+            .find(|part| may_end(table, ino, *part, four.of_part(*part)))
     }
 
     // The beginning of the first lock of an inode that may begin.
@@ -310,31 +312,19 @@ impl Locks {
     fn first_to_begin(&self, ino: Ino, wants: &Wants) -> Option<Part>
         ensures { result ≡ find (λ part. moves.may_begin_by self.now wants.now (ino.0, part)) moves.parts }
     {
-        PARTS
-            .iter()
-            .copied()
-            .find(|part| self.may_begin(ino, *part, wants))
+        let four = self.states.get(ino)?;
+        PARTS.iter().copied().find(|part| self.may_begin(ino, *part, four.of_part(*part), wants))
     }
 
     // ---- at one lock
 
-    // Whether the lock is in a gather that is not open.
-    fn may_end(&self, table: &CapTable, ino: Ino, part: Part) -> bool
-        ensures { result ≡ moves.may_end_by table.now self.now (ino.0, part) }
+    // Whether the lock of the part, which is in this state, is stable, and not at its target.
+    fn may_begin(&self, ino: Ino, part: Part, lock: LockState, wants: &Wants) -> bool
+        ensures { result ≡ moves.may_begin_in self.now.queue wants.now (ino.0, part) (Some lock) }
     {
-        match self.state(ino, part) {
-            Some(LockState::Gather { to, .. }) => !is_held_outside(table, ino, part, to),
-            Some(LockState::Stable(_)) | None => false,
-        }
-    }
-
-    // Whether the lock is stable, and not at its target.
-    fn may_begin(&self, ino: Ino, part: Part, wants: &Wants) -> bool
-        ensures { result ≡ moves.may_begin_by self.now wants.now (ino.0, part) }
-    {
-        match self.state(ino, part) {
-            Some(LockState::Stable(state)) => { self.target(ino, part, state, wants) != state }
-            Some(LockState::Gather { .. }) | None => false,
+        match lock {
+            LockState::Stable(state) => self.target(ino, part, state, wants) != state,
+            LockState::Gather { .. } => false,
         }
     }
 
@@ -511,10 +501,24 @@ impl Locks {
         ensures done { (part : Part) → moves.may_end_by table.now self.new (ino.0, part) ≡ false }
         ensures elsewhere { ChangesLocksOf ino.0 self.old self.new }
     {
+        // At most inodes no gather may end, which one look at the locks tells.
+        if self.first_end(table, ino).is_none() {
+            return;
+        }
         for part in &PARTS {
-            if self.may_end(table, ino, *part) {
+            if self.may_end_at(table, ino, *part) {
                 self.make(Move::End { ino, part: *part });
             }
+        }
+    }
+
+    // Whether the lock of an inode's part is in a gather that is not open.
+    fn may_end_at(&self, table: &CapTable, ino: Ino, part: Part) -> bool
+        ensures { result ≡ moves.may_end_by table.now self.now (ino.0, part) }
+    {
+        match self.state(ino, part) {
+            Some(lock) => may_end(table, ino, part, lock),
+            None => false,
         }
     }
 
@@ -523,5 +527,15 @@ impl Locks {
         ensures { self.new ≡ moved self.old step }
     {
         let _nobody = self.apply_move(step);
+    }
+}
+
+// Whether the lock of the part, which is in this state, is in a gather that is not open.
+fn may_end(table: &CapTable, ino: Ino, part: Part, lock: LockState) -> bool
+    ensures { result ≡ moves.may_end_in table.now (ino.0, part) (Some lock) }
+{
+    match lock {
+        LockState::Gather { to, .. } => !is_held_outside(table, ino, part, to),
+        LockState::Stable(_) => false,
     }
 }
