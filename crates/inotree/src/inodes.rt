@@ -1,5 +1,7 @@
 //! The inodes, by number.
-ghost use Rattle.std.specs.Prelude.{◌≡◌, IfOk, OnOk, OnErr};
+ghost use Rattle.std.specs.Prelude.{◌≡◌, ℕ, Some, is_some, All, IfOk, OnOk, OnErr};
+ghost use Rattle.std.specs.List.{list_any};
+ghost use Rattle.std.specs.Ordering.{nat_cmp, eq_by_cmp};
 ghost use Rattle.std.specs.Option.{option_copied, option_map};
 ghost use Rattle.std.specs.FinMap as map;
 ghost use Rattle.capbits.specs.Maps.{change_at};
@@ -13,13 +15,13 @@ use crate::names::{MAX_NAMES, Names};
 use crate::node::{Node, Setting, Site};
 use capbits::Ino;
 use std::alloc::{AllocError, Global};
-use std::collections::{BTreeMap, btree_map};
+use std::collections::{HashMap, hash_map};
 use std::marker::Model;
 
 // The inodes, by number.
 #[derive(Debug, Drop)]
 pub(crate) struct Inodes {
-    nodes: BTreeMap<u64, Node>,
+    nodes: HashMap<u64, Node>,
 }
 
 impl Model for Inodes {
@@ -39,13 +41,14 @@ impl Inodes {
         ensures { result ≡ map.empty }
     {
         Inodes {
-            nodes: BTreeMap::new(alloc),
+            nodes: HashMap::new(alloc),
         }
     }
 
-    // The inodes with their numbers, in the order of the numbers.
-    pub(crate) fn iter(&self) -> btree_map::Iter<'_, u64, Node>
-        ensures { result ≡ map.entries self.now }
+    // The inodes with their numbers, in no order that is promised.
+    fn iter(&self) -> hash_map::Iter<'_, u64, Node>
+        ensures found { All (λ e. map.get self.now e.0 ≡ Some e.1) result }
+        ensures all { (q : ℕ) → is_some (map.get self.now q) ≡ list_any (λ e. eq_by_cmp nat_cmp q e.0) result }
     {
         self.nodes.iter()
     }

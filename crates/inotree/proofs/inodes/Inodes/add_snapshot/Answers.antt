@@ -1,10 +1,9 @@
 use Rattle.std.proofs.Common.{ℕ, IsSome, OnOk, OnErr, refl, sym, ap, subst, ◌∙◌}
-use Rattle.std.specs.Cmp.{nat_cmp_total}
 use Rattle.std.specs.FinMap as map
 use Rattle.inotree.specs.declared.node.Node.{Node}
 use Rattle.capbits.specs.Maps.{change_at}
 use Rattle.inotree.specs.Inodes.{InodeMap, with_snapshot}
-use Rattle.capbits.proofs.Entries.{change-entries, change-no_entry, same-entries}
+use Rattle.capbits.proofs.Hashed.{change-hashed, change-no_hashed, same-hashed}
 use Rattle.inotree.proofs.Results.{on_ok, on_err, ok_of, err_of}
 use Rattle.inotree.proofs.inodes.Inodes.add_snapshot.Goals as goal
 use Rattle.inotree.proofs.inodes.Inodes.add_snapshot.Goals.{in-Some, in-None}
@@ -20,13 +19,13 @@ returns-clause-ok c =
           let written : Node = record was { snapshots = w.insert.new.self } in
           subst (λ r. OnOk r _) (sym w.result-is) (on_ok _ w.insert.ensures.ok (λ done.
           ap (λ i. map.from_entries i.nodes.entries) w.self-inside-is
-          ∙ change-entries nat_cmp_total map.nat_cmp-IsAntisymmetric f c.self.inside.nodes.entries _ ino was written (ap (λ m. record was { snapshots = m }) done) (sym here) ((c.get_mut.follows.holds written).3 (subst IsSome here refl)).0
+          ∙ change-hashed f c.self.inside.nodes.entries _ ino was written (ap (λ m. record was { snapshots = m }) done) (sym here) ((c.get_mut.follows.holds written).3 (subst IsSome here refl)).0
           ∙ ap (λ (m : InodeMap). change_at f m ino) c.self.view_is))
       | in-None w ↦
           ok_of _ (
           ap (λ i. map.from_entries i.nodes.entries) w.self-inside-is
           ∙ ap (λ m. map.from_entries m.entries) c.get_mut.follows.holds-at-none
-          ∙ change-no_entry nat_cmp_total map.nat_cmp-IsAntisymmetric f c.self.inside.nodes.entries ino (sym w.in-None.ensures.value)
+          ∙ change-no_hashed f c.self.inside.nodes.entries ino (sym w.in-None.ensures.value)
           ∙ ap (λ (m : InodeMap). change_at f m ino) c.self.view_is)
     ]
 
@@ -39,7 +38,7 @@ returns-clause-err c =
           let written : Node = record was { snapshots = w.insert.new.self } in
           subst (λ r. OnErr r _) (sym w.result-is) (on_err _ w.insert.ensures.err (λ same.
           ap (λ i. map.from_entries i.nodes.entries) w.self-inside-is
-          ∙ same-entries nat_cmp_total map.nat_cmp-IsAntisymmetric c.self.inside.nodes.entries _ c.args.ino was written (ap (λ m. record was { snapshots = m }) same) (sym here) ((c.get_mut.follows.holds written).3 (subst IsSome here refl)).0
+          ∙ same-hashed c.self.inside.nodes.entries _ c.args.ino was written (ap (λ m. record was { snapshots = m }) same) (sym here) ((c.get_mut.follows.holds written).3 (subst IsSome here refl)).0
           ∙ c.self.view_is))
       | in-None w ↦ err_of _ (ap (λ i. map.from_entries i.nodes.entries) w.self-inside-is ∙ ap (λ m. map.from_entries m.entries) c.get_mut.follows.holds-at-none ∙ c.self.view_is)
     ]

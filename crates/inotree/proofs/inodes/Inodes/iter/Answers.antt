@@ -1,9 +1,19 @@
-use Rattle.std.proofs.Common.{sym, ap, ◌∙◌}
+use Rattle.std.proofs.Common.{◌≡◌, ℕ, Some, is_some, sym, ap, subst, ◌∙◌}
 use Rattle.std.specs.FinMap as map
-use Rattle.capbits.proofs.Entries.{entries-entries}
-use Rattle.std.specs.Cmp.{nat_cmp_total}
+use Rattle.std.specs.List.{All, list_any}
+use Rattle.std.specs.Ordering.{nat_cmp, eq_by_cmp}
+use Rattle.inotree.specs.declared.node.Node.{Node}
+use Rattle.inotree.specs.Inodes.{InodeMap}
+use Rattle.capbits.proofs.Hashed.{made, found-hashed, keys-hashed}
 use Rattle.inotree.proofs.inodes.Inodes.iter.Goals as goal
 
-pub returns : goal.returns
-returns c =
-    c.iter.ensures.rest ∙ sym (entries-entries nat_cmp_total map.nat_cmp-IsAntisymmetric c.self.inside.nodes.entries c.iter.ensures.ordered) ∙ ap map.entries c.self.view_is
+pub returns-clause-found : goal.returns-clause-found
+returns-clause-found c =
+    subst (λ (m : InodeMap). All (λ (e : ℕ × Node). map.get m e.0 ≡ Some e.1) c.iter.result) c.self.view_is
+    (subst (All (λ (e : ℕ × Node). map.get (made c.self.inside.nodes.entries) e.0 ≡ Some e.1)) (sym c.iter.ensures.rest)
+    (found-hashed c.self.inside.nodes.entries c.iter.ensures.found))
+
+pub returns-clause-all : goal.returns-clause-all
+returns-clause-all c q =
+    ap (λ (m : InodeMap). is_some (map.get m q)) (sym c.self.view_is) ∙ keys-hashed c.self.inside.nodes.entries q
+    ∙ ap (list_any (λ (e : ℕ × Node). eq_by_cmp nat_cmp q e.0)) (sym c.iter.ensures.rest)

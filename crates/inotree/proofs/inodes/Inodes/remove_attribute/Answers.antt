@@ -1,10 +1,9 @@
 use Rattle.std.proofs.Common.{ℕ, IsSome, refl, sym, ap, subst, ◌∙◌}
-use Rattle.std.specs.Cmp.{nat_cmp_total}
 use Rattle.std.specs.FinMap as map
 use Rattle.inotree.specs.declared.node.Node.{Node}
 use Rattle.capbits.specs.Maps.{change_at}
 use Rattle.inotree.specs.Inodes.{InodeMap, without_attribute}
-use Rattle.capbits.proofs.Entries.{change-entries, change-no_entry}
+use Rattle.capbits.proofs.Hashed.{change-hashed, change-no_hashed}
 use Rattle.inotree.proofs.inodes.Inodes.remove_attribute.Goals as goal
 use Rattle.inotree.proofs.inodes.Inodes.remove_attribute.Goals.{in-Some, in_default}
 
@@ -18,11 +17,11 @@ returns c =
           let was : Node = w.in-Some.node.now in
           let written : Node = record was { attributes = w.remove.new.self } in
           ap (λ i. map.from_entries i.nodes.entries) w.self-inside-is
-          ∙ change-entries nat_cmp_total map.nat_cmp-IsAntisymmetric f c.self.inside.nodes.entries _ ino was written (ap (λ m. record was { attributes = m }) w.remove.ensures) (sym here) ((c.get_mut.follows.holds written).3 (subst IsSome here refl)).0
+          ∙ change-hashed f c.self.inside.nodes.entries _ ino was written (ap (λ m. record was { attributes = m }) w.remove.ensures) (sym here) ((c.get_mut.follows.holds written).3 (subst IsSome here refl)).0
           ∙ ap (λ (m : InodeMap). change_at f m ino) c.self.view_is
       | in_default w ↦
           ap (λ i. map.from_entries i.nodes.entries) w.self-inside-is
           ∙ ap (λ m. map.from_entries m.entries) c.get_mut.follows.holds-at-none
-          ∙ change-no_entry nat_cmp_total map.nat_cmp-IsAntisymmetric f c.self.inside.nodes.entries ino (sym w.in_default.ensures.value)
+          ∙ change-no_hashed f c.self.inside.nodes.entries ino (sym w.in_default.ensures.value)
           ∙ ap (λ (m : InodeMap). change_at f m ino) c.self.view_is
     ]

@@ -1,10 +1,9 @@
 use Rattle.std.proofs.Common.{ℕ, IsSome, refl, sym, ap, subst, ◌∙◌}
-use Rattle.std.specs.Cmp.{nat_cmp_total}
 use Rattle.std.specs.FinMap as map
 use Rattle.inotree.specs.declared.node.Node.{Node}
 use Rattle.capbits.specs.Maps.{change_at}
 use Rattle.inotree.specs.Inodes.{InodeMap, with_setting}
-use Rattle.capbits.proofs.Entries.{change-entries, change-no_entry}
+use Rattle.capbits.proofs.Hashed.{change-hashed, change-no_hashed}
 use Rattle.inotree.proofs.inodes.Inodes.set.Goals as goal
 use Rattle.inotree.proofs.inodes.Inodes.set.Goals.{in-Some, in_default}
 
@@ -18,11 +17,11 @@ returns c =
           let was : Node = w.in-Some.node.now in
           let written : Node = w.set.new.self in
           ap (λ i. map.from_entries i.nodes.entries) w.self-inside-is
-          ∙ change-entries nat_cmp_total map.nat_cmp-IsAntisymmetric f c.self.inside.nodes.entries _ ino was written (w.set.ensures) (sym here) ((c.get_mut.follows.holds written).3 (subst IsSome here refl)).0
+          ∙ change-hashed f c.self.inside.nodes.entries _ ino was written (w.set.ensures) (sym here) ((c.get_mut.follows.holds written).3 (subst IsSome here refl)).0
           ∙ ap (λ (m : InodeMap). change_at f m ino) c.self.view_is
       | in_default w ↦
           ap (λ i. map.from_entries i.nodes.entries) w.self-inside-is
           ∙ ap (λ m. map.from_entries m.entries) c.get_mut.follows.holds-at-none
-          ∙ change-no_entry nat_cmp_total map.nat_cmp-IsAntisymmetric f c.self.inside.nodes.entries ino (sym w.in_default.ensures.value)
+          ∙ change-no_hashed f c.self.inside.nodes.entries ino (sym w.in_default.ensures.value)
           ∙ ap (λ (m : InodeMap). change_at f m ino) c.self.view_is
     ]
