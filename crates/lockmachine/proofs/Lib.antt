@@ -3,7 +3,6 @@ pub mod Idle
 pub mod Rest
 pub mod Exact
 pub mod Queue
-pub mod Permitting
 pub mod Finding
 pub mod Places
 pub mod Moving

@@ -84,13 +84,10 @@ pub fn permitted_by(
 ) -> CapSet
     ensures { result ≡ policy.permitted_to fs.now (policy.subject_of (map.get sessions.now.sessions client.0) path.now (option_copied node.entry)) }
 {
-    let (Some(grants), Some(caller)) = (sessions.grants_of(client), sessions.caller_of(client))
-    else {
+    let (Some(session), Some(path), Some(node)) = (sessions.session(client), path, node) else {
         return CapSet::of(&[Cap::P]);
     };
-    let (Some(path), Some(node)) = (path, node) else {
-        return CapSet::of(&[Cap::P]);
-    };
+    let (grants, caller) = (&session.grants, &session.caller);
     capgrant::permitted(grants, fs, caller, path.as_slice(), &node.attr)
 }
 

@@ -242,6 +242,13 @@ impl Sessions {
         Some(&session.grants)
     }
 
+    /// The session of a client, where it has one.
+    pub fn session(&self, client: ClientId) -> Option<&Session>
+        ensures { option_copied result ≡ map.get self.now.sessions client.0 }
+    {
+        self.connected.get(client)
+    }
+
     /// The caller of a client, where it has a session.
     pub fn caller_of(&self, client: ClientId) -> Option<&Caller>
         ensures { option_copied result ≡ option_map (λ s. s.caller) (map.get self.now.sessions client.0) }
