@@ -10,7 +10,8 @@ ghost use Rattle.lockmachine.specs.declared.request.Request.{Request};
 ghost use Rattle.lockmachine.specs.Locks.{request_at};
 ghost use Rattle.lockmachine.specs.Scene.{scene};
 ghost use Rattle.lockmachine.specs.Moves.{may_end_by, IsQuietOutside};
-ghost use Rattle.lockmachine.specs.Turns.{WaitAt};
+ghost use Rattle.lockmachine.specs.Runs.{MoveLittle, ChangesLocksOf};
+ghost use Rattle.lockmachine.specs.Turns.{IsTurnOf, IsDue, WaitAt};
 ghost use Rattle.capcore.specs.declared.outcome.Ended.{Ended};
 ghost use Rattle.capcore.specs.Known.{HaveRoom};
 ghost use Rattle.capcore.specs.Serves.{Serves, SettlesWith, EndsWith, is_touched};
@@ -197,13 +198,40 @@ fn sweep(
 {
     let mut at = lowest(touched, ino);
     'inodes: loop {
-        if let Some(ticket) = locks.advance_at(table, sessions, tree, fs, at) {
+        if let Some(ticket) = advance(fs, tree, sessions, table, locks, ino, touched, at) {
             return Some(ticket);
         }
         match next_touched(touched, ino, at) {
             Some(next) => at = next,
             None => return None,
         }
+    }
+}
+
+// Lets the locks of one of the touched inodes move, until a request is to be served, whose number it answers, or the inode is done.
+// Where it is the only one, the requests for others need not be looked at.
+fn advance(
+    fs: &FsName,
+    tree: &Tree,
+    sessions: &Sessions,
+    table: &CapTable,
+    locks: &mut Locks,
+    ino: Ino,
+    touched: &InoSet,
+    at: Ino,
+) -> Option<Ticket>
+    requires turn { IsTurnOf (scene fs.now tree.now sessions.now table.now locks.old) at.0 }
+    requires waits { WaitAt (is_touched ino.0 touched.now) (scene fs.now tree.now sessions.now table.now locks.old) }
+    requires here { is_touched ino.0 touched.now at.0 ≡ true }
+    ensures moves { MoveLittle (scene fs.now tree.now sessions.now table.now locks.old)
+        (scene fs.now tree.now sessions.now table.now locks.new) }
+    ensures due { IsDue (scene fs.now tree.now sessions.now table.now locks.new) at.0 result }
+    ensures turn { IsTurnOf (scene fs.now tree.now sessions.now table.now locks.new) at.0 }
+    ensures elsewhere { ChangesLocksOf at.0 locks.old locks.new }
+{
+    match touched.next(Ino(0)) {
+        None => locks.advance_alone_at(table, sessions, tree, fs, at),
+        Some(_) => locks.advance_at(table, sessions, tree, fs, at),
     }
 }
 

@@ -18,3 +18,4 @@ pub mod SameBut
 pub mod Told
 pub mod Turns
 pub mod OneInode
+pub mod Alone

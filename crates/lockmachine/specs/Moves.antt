@@ -124,6 +124,11 @@ abbrev pub beginning : LockMap → Wants → LockPlace → Move
 beginning locks wants at =
     Begin (record { 0 = at.0 }) at.1 (target_by locks.queue wants at.0 at.1 (present_state (lock_at locks at.0 at.1)))
 
+-- the same, where these requests wait
+abbrev pub beginning_by : List Request → LockMap → Wants → LockPlace → Move
+beginning_by queue locks wants at =
+    Begin (record { 0 = at.0 }) at.1 (target_by queue wants at.0 at.1 (present_state (lock_at locks at.0 at.1)))
+
 abbrev pub begin_or_rest : Scene → Option LockPlace → Move
 begin_or_rest s None = Settled
 begin_or_rest s (Some at) = beginning s.locks (wanted_in_all s at.0) at

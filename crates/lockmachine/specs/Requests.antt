@@ -61,6 +61,10 @@ head_of (Some q) = head_of_ask q.client q.ask
 abbrev pub is_for : ℕ → Part → Request → Bool
 is_for ino part q = (q.ino.0 == ino) && same_part (part_of_ask q.ask) part
 
+-- it waits for a lock of this inode
+abbrev pub waits_for : ℕ → Request → Bool
+waits_for ino q = q.ino.0 == ino
+
 -- the request that waits longest for the lock: a queue has the oldest first
 abbrev pub first_for : List Request → ℕ → Part → Option Request
 first_for queue ino part = find (is_for ino part) queue

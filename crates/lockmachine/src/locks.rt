@@ -1,6 +1,6 @@
 //! The locks by inode, the queue, and the moves of both.
-ghost use Rattle.std.specs.Prelude.{◌≡◌, ◌+◌, ◌-◌, ◌<◌, ◌^◌, ℕ, List, None, false, length, position, IfOk, OnOk, OnErr, MatchOption};
-ghost use Rattle.std.specs.List.{find};
+ghost use Rattle.std.specs.Prelude.{◌≡◌, ◌==◌, ◌&&◌, ◌+◌, ◌-◌, ◌<◌, ◌^◌, ℕ, List, None, false, length, position, IfOk, OnOk, OnErr, MatchOption};
+ghost use Rattle.std.specs.List.{find, list_any};
 ghost use Rattle.std.specs.Option.{option_map, option_copied};
 ghost use Rattle.std.specs.FinMap as map;
 ghost use Rattle.capbits.specs.Refusal.{first_failing};
@@ -10,11 +10,12 @@ ghost use Rattle.sessiontab.specs.Table.{SessionTable};
 ghost use Rattle.lockmachine.specs.declared.moves.Move.TheVariants.{Settled};
 ghost use Rattle.lockmachine.specs.Locks as words;
 ghost use Rattle.lockmachine.specs.Requests as requests;
+ghost use Rattle.lockmachine.specs.Requests.{waits_for};
 ghost use Rattle.lockmachine.specs.Scene.{wanted_in_all, scene, head_in, target_by};
 ghost use Rattle.lockmachine.specs.Moves as moves;
 ghost use Rattle.lockmachine.specs.Moves.{first_move, moved, handed};
 ghost use Rattle.lockmachine.specs.Runs.{MoveLittle, EndLittle, ChangesLocksOf};
-ghost use Rattle.lockmachine.specs.Turns.{IsTurnOf, IsNextAt, IsDue};
+ghost use Rattle.lockmachine.specs.Turns.{IsTurnOf, IsNextAt, IsDue, WaitAt};
 
 use crate::moves::Move;
 use crate::request::{Ask, Request};
@@ -304,53 +305,25 @@ impl Locks {
         ensures { result ≡ option_map (λ part. moves.beginning self.now wants.now (ino.0, part))
             (find (λ part. moves.may_begin_by self.now wants.now (ino.0, part)) moves.parts) }
     {
-        let part = self.first_to_begin(ino, wants)?;
-        Some(self.beginning(ino, part, wants))
+        self.first_begin_by(self.requests(), ino, wants)
+    }
+
+    // The same, where these requests wait.
+    fn first_begin_by(&self, queue: &[Request], ino: Ino, wants: &Wants) -> Option<Move>
+        ensures { result ≡ option_map (λ part. moves.beginning_by queue.now self.now wants.now (ino.0, part))
+            (find (λ part. moves.may_begin_in queue.now wants.now (ino.0, part) (words.lock_at self.now ino.0 part)) moves.parts) }
+    {
+        let part = self.first_to_begin(queue, ino, wants)?;
+        let to = target_for(queue, ino, part, self.present_state(ino, part), wants);
+        Some(Move::Begin { ino, part, to })
     }
 
     // The first part of an inode whose lock may begin.
-    fn first_to_begin(&self, ino: Ino, wants: &Wants) -> Option<Part>
-        ensures { result ≡ find (λ part. moves.may_begin_by self.now wants.now (ino.0, part)) moves.parts }
+    fn first_to_begin(&self, queue: &[Request], ino: Ino, wants: &Wants) -> Option<Part>
+        ensures { result ≡ find (λ part. moves.may_begin_in queue.now wants.now (ino.0, part) (words.lock_at self.now ino.0 part)) moves.parts }
     {
         let four = self.states.get(ino)?;
-        PARTS.iter().copied().find(|part| self.may_begin(ino, *part, four.of_part(*part), wants))
-    }
-
-    // ---- at one lock
-
-    // Whether the lock of the part, which is in this state, is stable, and not at its target.
-    fn may_begin(&self, ino: Ino, part: Part, lock: LockState, wants: &Wants) -> bool
-        ensures { result ≡ moves.may_begin_in self.now.queue wants.now (ino.0, part) (Some lock) }
-    {
-        match lock {
-            LockState::Stable(state) => self.target(ino, part, state, wants) != state,
-            LockState::Gather { .. } => false,
-        }
-    }
-
-    // The beginning of a gather that brings the lock to its target.
-    fn beginning(&self, ino: Ino, part: Part, wants: &Wants) -> Move
-        ensures { result ≡ moves.beginning self.now wants.now (ino.0, part) }
-    {
-        let to = self.target(ino, part, self.present_state(ino, part), wants);
-        Move::Begin { ino, part, to }
-    }
-
-    // Where the lock is to go, stable in this state.
-    fn target(&self, ino: Ino, part: Part, state: State, wants: &Wants) -> State
-        ensures { result ≡ target_by self.now.queue wants.now ino.0 part state }
-    {
-        target(part, state, self.head(ino, part), wants.loner, wants.wanted)
-    }
-
-    // What stands first in the queue of a lock.
-    fn head(&self, ino: Ino, part: Part) -> Head
-        ensures { result ≡ head_in self.now.queue ino.0 part }
-    {
-        match self.first_for(ino, part) {
-            None => Head::Empty,
-            Some(request) => request.ask.head(request.client),
-        }
+        PARTS.iter().copied().find(|part| may_begin(queue, ino, *part, four.of_part(*part), wants))
     }
 
     // ---- at one request
@@ -376,17 +349,26 @@ impl Locks {
     fn is_first(&self, request: &Request) -> bool
         ensures { result ≡ moves.is_first self.now.queue request.now }
     {
-        match self.first_for(request.ino, request.ask.part()) {
+        match first_for(self.requests(), request.ino, request.ask.part()) {
             Some(first) => first.ticket.0 == request.ticket.0,
             None => false,
         }
     }
 
-    // The request that waits longest for the lock.
-    fn first_for(&self, ino: Ino, part: Part) -> Option<&Request>
-        ensures { option_copied result ≡ requests.first_for self.now.queue ino.0 part }
+    // Whether a request waits for a lock of this inode.
+    fn waits_at(&self, ino: Ino) -> bool
+        ensures { result ≡ list_any (waits_for ino.0) self.now.queue }
     {
-        self.queue.iter().find(|request| request.is_for(ino, part))
+        self.queue.iter().any(|request| request.ino.0 == ino.0)
+    }
+
+    // The oldest request for a lock of this inode that may be served.
+    fn first_served_at(&self, ino: Ino) -> Option<Ticket>
+        ensures { result ≡ option_map (λ q. q.ticket) (find (λ q. waits_for ino.0 q && moves.may_serve self.now q) self.now.queue) }
+    {
+        let served = self.queue.iter().find(|request| request.ino.0 == ino.0
+            && self.may_serve(request))?;
+        Some(served.ticket)
     }
 
     // ---- making moves
@@ -490,6 +472,62 @@ impl Locks {
         }
     }
 
+    /// The same, where each request for another inode waits for a gather that is open. It looks at the requests for this inode alone.
+    pub fn advance_alone_at(
+        &mut self,
+        table: &CapTable,
+        sessions: &Sessions,
+        tree: &Tree,
+        fs: &FsName,
+        ino: Ino,
+    ) -> Option<Ticket>
+        requires turn { IsTurnOf (scene fs.now tree.now sessions.now table.now self.old) ino.0 }
+        requires waits { WaitAt (λ other. other == ino.0) (scene fs.now tree.now sessions.now table.now self.old) }
+
+        // Each lock begins at most one gather and ends at most two.
+        ensures moves { MoveLittle (scene fs.now tree.now sessions.now table.now self.old)
+            (scene fs.now tree.now sessions.now table.now self.new) }
+        ensures due { IsDue (scene fs.now tree.now sessions.now table.now self.new) ino.0 result }
+        ensures turn { IsTurnOf (scene fs.now tree.now sessions.now table.now self.new) ino.0 }
+        ensures elsewhere { ChangesLocksOf ino.0 self.old self.new }
+    {
+        // A move of a lock changes nothing of what is wanted, nor of who waits.
+        let wishes = wants_on(fs, tree, sessions, table, ino);
+        let waits = self.waits_at(ino);
+        'moves: loop {
+            match self.next_move_alone(table, ino, &wishes, waits) {
+                Move::Settled => return None,
+                Move::Serve(served) => return Some(served),
+                other => self.make(other),
+            }
+        }
+    }
+
+    // What is next at an inode, where this is wanted of it, and whether a request waits there is known.
+    fn next_move_alone(&self, table: &CapTable, ino: Ino, wants: &Wants, waits: bool) -> Move
+        ensures { (fs : List ℕ) (tree : Nodes) (sessions : SessionTable)
+            → IsTurnOf (scene fs tree sessions table.now self.now) ino.0
+            → WaitAt (λ other. other == ino.0) (scene fs tree sessions table.now self.now)
+            → wants.now ≡ wanted_in_all (scene fs tree sessions table.now self.now) ino.0
+            → waits ≡ list_any (waits_for ino.0) self.now.queue
+            → IsNextAt (scene fs tree sessions table.now self.now) ino.0 result }
+    {
+        if let Some(part) = self.first_end(table, ino) {
+            return Move::End { ino, part };
+        }
+        if !waits {
+            // So no request may be served, and nothing stands first in a queue of the inode.
+            return self
+                .first_begin_by(&[], ino, wants)
+                .unwrap_or(Move::Settled);
+        }
+        if let Some(served) = self.first_served_at(ino) {
+            return Move::Serve(served);
+        }
+        let beginning = self.first_begin(ino, wants);
+        beginning.unwrap_or(Move::Settled)
+    }
+
     /// Where no gather of a lower inode may end, ends those of an inode that may, in the order of the parts. It looks at
     /// the entries of this inode alone, and takes no memory.
     pub fn end_gathers_at(&mut self, table: &CapTable, ino: Ino)
@@ -538,4 +576,44 @@ fn may_end(table: &CapTable, ino: Ino, part: Part, lock: LockState) -> bool
         LockState::Gather { to, .. } => !is_held_outside(table, ino, part, to),
         LockState::Stable(_) => false,
     }
+}
+
+// Whether the lock of the part, which is in this state, is stable, and not at its target, where these requests wait.
+fn may_begin(queue: &[Request], ino: Ino, part: Part, lock: LockState, wants: &Wants) -> bool
+    ensures { result ≡ moves.may_begin_in queue.now wants.now (ino.0, part) (Some lock) }
+{
+    match lock {
+        LockState::Stable(state) => target_for(queue, ino, part, state, wants) != state,
+        LockState::Gather { .. } => false,
+    }
+}
+
+// Where the lock is to go, stable in this state.
+fn target_for(queue: &[Request], ino: Ino, part: Part, state: State, wants: &Wants) -> State
+    ensures { result ≡ target_by queue.now wants.now ino.0 part state }
+{
+    target(
+        part,
+        state,
+        head(queue, ino, part),
+        wants.loner,
+        wants.wanted,
+    )
+}
+
+// What stands first in the queue of a lock.
+fn head(queue: &[Request], ino: Ino, part: Part) -> Head
+    ensures { result ≡ head_in queue.now ino.0 part }
+{
+    match first_for(queue, ino, part) {
+        None => Head::Empty,
+        Some(request) => request.ask.head(request.client),
+    }
+}
+
+// The request that waits longest for the lock.
+fn first_for(queue: &[Request], ino: Ino, part: Part) -> Option<&Request>
+    ensures { option_copied result ≡ requests.first_for queue.now ino.0 part }
+{
+    queue.iter().find(|request| request.is_for(ino, part))
 }

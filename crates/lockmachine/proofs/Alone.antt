@@ -1,0 +1,70 @@
+-- One inode where each request for another is held up: who is served is found among its own requests, and where it has none, nothing
+-- stands first in its queues.
+use Rattle.std.proofs.Common.{◌≡◌, ℕ, zero, suc, Bool, true, false, cond, not, ◌&&◌, ◌||◌, ◌==◌, Option, Some, None, List, [], ◌∷◌, refl, sym, ap, ◌∙◌, Contains, arith}
+use Rattle.std.specs.List.{find, list_any}
+use Rattle.std.specs.Option.{option_map}
+use Rattle.capbits.specs.declared.cap.Part.{Part}
+use Rattle.locktable.specs.Targets.{target_of}
+use Rattle.locktable.specs.declared.states.State.{State}
+use Rattle.locktable.specs.declared.states.LockState.{LockState}
+use Rattle.locktable.specs.declared.states.LockState.TheVariants.{Stable, Gather}
+use Rattle.lockmachine.specs.declared.moves.Move.TheVariants.{Begin}
+use Rattle.lockmachine.specs.declared.request.Request.{Request}
+use Rattle.lockmachine.specs.declared.wants.Wants.{Wants}
+use Rattle.lockmachine.specs.Requests.{first_for, head_of, part_of_ask, same_part, waits_for}
+use Rattle.lockmachine.specs.Locks.{LockMap, lock_at}
+use Rattle.lockmachine.specs.Scene.{Scene, target_by}
+use Rattle.lockmachine.specs.Moves.{same_state, parts, may_begin_in, may_begin_by, may_serve, beginning, beginning_by, present_state}
+use Rattle.lockmachine.specs.Turns.{WaitAt}
+use Rattle.lockmachine.proofs.Finding.{find_none}
+use Rattle.lockmachine.proofs.Waiting.{held-up-unserved}
+
+neither : (a b : Bool) → (a || b) ≡ false → (a ≡ false) × (b ≡ false)
+neither true b e = absurd (cc)
+neither false b e = (refl, e)
+
+none_any : {T : Type 0} (p : T → Bool) (xs : List T) → list_any p xs ≡ false → (x : T) → Contains xs x → p x ≡ false
+none_any p [] none x (k, room, at) = absurd (omega arith)
+none_any p (y ∷ ys) none x (zero, room, at) = let e : y ≡ x = at in ap p (sym e) ∙ (neither (p y) (list_any p ys) none).0
+none_any p (y ∷ ys) none x (suc k, room, at) = none_any p ys (neither (p y) (list_any p ys) none).1 x (k, omega arith, at)
+
+find_same : {T : Type 0} (p r : T → Bool) (xs : List T) → ((x : T) → Contains xs x → p x ≡ r x) → find p xs ≡ find r xs
+find_same p r [] same = refl
+find_same p r (y ∷ ys) same =
+    ap (λ b. cond b (Some y) (find p ys)) (same y (zero, omega arith, refl))
+    ∙ ap (λ o. cond (r y) (Some y) o) (find_same p r ys (λ x (inside : Contains ys x). same x (suc inside.0, omega (arith, inside.1), inside.2)))
+
+-- where no request waits at the inode
+
+none-first : (queue : List Request) (ino : ℕ) → list_any (waits_for ino) queue ≡ false → (part : Part) → first_for queue ino part ≡ None
+none-first [] ino none part = refl
+none-first (q ∷ queue) ino none part =
+    ap (λ b. cond (b && same_part (part_of_ask q.ask) part) (Some q) (first_for queue ino part)) (neither (waits_for ino q) (list_any (waits_for ino) queue) none).0
+    ∙ none-first queue ino (neither (waits_for ino q) (list_any (waits_for ino) queue) none).1 part
+
+same-target : (queue : List Request) (wants : Wants) (ino : ℕ) → list_any (waits_for ino) queue ≡ false → (part : Part) (state : State) → target_by [] wants ino part state ≡ target_by queue wants ino part state
+same-target queue wants ino none part state = ap (λ o. target_of part state (head_of o) wants.loner wants.wanted) (sym (none-first queue ino none part))
+
+same-begin : (queue : List Request) (wants : Wants) (ino : ℕ) → list_any (waits_for ino) queue ≡ false → (part : Part) (lock : Option LockState) → may_begin_in [] wants (ino, part) lock ≡ may_begin_in queue wants (ino, part) lock
+same-begin queue wants ino none part None = refl
+same-begin queue wants ino none part (Some (Stable state)) = ap (λ to. not (same_state to state)) (same-target queue wants ino none part state)
+same-begin queue wants ino none part (Some (Gather from to)) = refl
+
+pub same-beginning : (locks : LockMap) (wants : Wants) (ino : ℕ) → list_any (waits_for ino) locks.queue ≡ false
+    → option_map (λ part. beginning_by [] locks wants (ino, part)) (find (λ part. may_begin_in [] wants (ino, part) (lock_at locks ino part)) parts)
+    ≡ option_map (λ part. beginning locks wants (ino, part)) (find (λ part. may_begin_by locks wants (ino, part)) parts)
+same-beginning locks wants ino none k =
+    option_map (λ part. Begin (record { 0 = ino }) part (same-target locks.queue wants ino none part (present_state (lock_at locks ino part)) k))
+    (find (λ part. same-begin locks.queue wants ino none part (lock_at locks ino part) k) parts)
+
+-- where each request for another inode is held up
+
+pub none-served : (s : Scene) (ino : ℕ) → WaitAt (λ other. other == ino) s → list_any (waits_for ino) s.locks.queue ≡ false → find (may_serve s.locks) s.locks.queue ≡ None
+none-served s ino wait none = find_none (may_serve s.locks) s.locks.queue (λ q inside. held-up-unserved s q (wait q inside (none_any (waits_for ino) s.locks.queue none q inside)))
+
+by_place : (s : Scene) (q : Request) (b : Bool) → (b ≡ false → may_serve s.locks q ≡ false) → (b && may_serve s.locks q) ≡ may_serve s.locks q
+by_place s q true held = refl
+by_place s q false held = sym (held refl)
+
+pub served-here : (s : Scene) (ino : ℕ) → WaitAt (λ other. other == ino) s → find (λ q. waits_for ino q && may_serve s.locks q) s.locks.queue ≡ find (may_serve s.locks) s.locks.queue
+served-here s ino wait = find_same _ _ s.locks.queue (λ q inside. by_place s q (waits_for ino q) (λ away. held-up-unserved s q (wait q inside away)))

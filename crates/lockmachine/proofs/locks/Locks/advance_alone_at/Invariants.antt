@@ -1,0 +1,9 @@
+use Rattle.lockmachine.specs.Scene.{scene}
+use Rattle.lockmachine.proofs.Settling.{SoFar, moves_left}
+use Rattle.lockmachine.proofs.locks.Locks.advance_alone_at.Given as goal
+
+abbrev pub decreases-moves : goal.decreases-moves
+decreases-moves l = moves_left (scene l.fs l.tree l.sessions l.table l.self) l.ino.0
+
+abbrev pub invariant-moves : goal.invariant-moves
+invariant-moves l = SoFar (scene l.fs l.tree l.sessions l.table l.fn.self) (scene l.fs l.tree l.sessions l.table l.self) l.ino.0
