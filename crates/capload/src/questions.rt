@@ -14,33 +14,104 @@ const NAMES: u64 = 4;
 /// How many users there are.
 const USERS: u64 = 6;
 
+/// What can be asked for.
+const ACCESSES: &[&str] = &["read", "write", "vxattr", "snapshot", "chmod", "chown:1002"];
+
+/// How many texts of grants, and how many paths, are made before the first question.
+const TEXTS: u64 = 1024;
+
+/// What questions are put together from.
+#[derive(Drop)]
+struct Texts {
+    grants: Vec<Vec<u8>>,
+    paths: Vec<Vec<u8>>,
+    users: Vec<Vec<u8>>,
+    modes: Vec<Vec<u8>>,
+    accesses: Vec<Vec<u8>>,
+}
+
 /// Answers so many questions, and returns the digest of the answers.
 pub(crate) fn ask_all(alloc: Global, count: u32, seed: u32) -> Result<u64, Fault> {
     let mut talk = Talk::new(alloc, seed);
     let mut digest = DefaultHasher::new();
+    let texts = make_texts(alloc, &mut talk)?;
+    let mut values = blank(alloc);
     for _ in 0..count {
-        let values = values(alloc, &mut talk)?;
+        choose(&texts, &mut talk, &mut values)?;
         let line = Question::read(alloc, &values)?.answer(alloc)?;
         digest.write(line.as_slice());
     }
     Ok(digest.finish())
 }
 
-// The values of one question.
-fn values(alloc: Global, talk: &mut Talk) -> Result<Values, Fault> {
-    let mode = talk.below(8);
-    Ok(Values {
-        grants: grants(alloc, talk)?,
-        fs: text(alloc, "cephfs")?,
-        uid: user(alloc, talk)?,
-        gid: user(alloc, talk)?,
-        groups: Some(user(alloc, talk)?),
-        path: path(alloc, talk)?,
-        owner: user(alloc, talk)?,
-        group: user(alloc, talk)?,
-        mode: text(alloc, format_args!("0{mode}4{mode}"))?,
-        access: access(alloc, talk)?,
-    })
+fn make_texts(alloc: Global, talk: &mut Talk) -> Result<Texts, Fault> {
+    let mut texts = Texts {
+        grants: Vec::new(alloc),
+        paths: Vec::new(alloc),
+        users: Vec::new(alloc),
+        modes: Vec::new(alloc),
+        accesses: Vec::new(alloc),
+    };
+    for _ in 0..TEXTS {
+        texts.grants.push(grants(alloc, talk)?)?;
+        texts.paths.push(path(alloc, talk)?)?;
+    }
+    for user in 0..USERS {
+        texts.users.push(text(alloc, user.saturating_add(1000))?)?;
+    }
+    for mode in 0..8 {
+        texts
+            .modes
+            .push(text(alloc, format_args!("0{mode}4{mode}"))?)?;
+    }
+    for access in ACCESSES {
+        texts.accesses.push(text(alloc, *access)?)?;
+    }
+    Ok(texts)
+}
+
+// Values without a byte.
+fn blank(alloc: Global) -> Values {
+    Values {
+        grants: Vec::new(alloc),
+        fs: Vec::new(alloc),
+        uid: Vec::new(alloc),
+        gid: Vec::new(alloc),
+        groups: Some(Vec::new(alloc)),
+        path: Vec::new(alloc),
+        owner: Vec::new(alloc),
+        group: Vec::new(alloc),
+        mode: Vec::new(alloc),
+        access: Vec::new(alloc),
+    }
+}
+
+// Puts one question together.
+fn choose(texts: &Texts, talk: &mut Talk, values: &mut Values) -> Result<(), Fault> {
+    take(&texts.grants, talk, &mut values.grants)?;
+    take(&texts.paths, talk, &mut values.path)?;
+    take(&texts.modes, talk, &mut values.mode)?;
+    take(&texts.accesses, talk, &mut values.access)?;
+    take(&texts.users, talk, &mut values.uid)?;
+    take(&texts.users, talk, &mut values.gid)?;
+    take(&texts.users, talk, &mut values.owner)?;
+    take(&texts.users, talk, &mut values.group)?;
+    if let Some(groups) = &mut values.groups {
+        take(&texts.users, talk, groups)?;
+    }
+    values.fs.clear();
+    values.fs.extend_from_slice(b"cephfs")?;
+    Ok(())
+}
+
+// One of the texts, in the place of another.
+fn take(texts: &Vec<Vec<u8>>, talk: &mut Talk, place: &mut Vec<u8>) -> Result<(), Fault> {
+    place.clear();
+    let number = talk.below(texts.len() as u64);
+    if let Some(text) = texts.get(number as usize) {
+        place.extend_from_slice(text.as_slice())?;
+    }
+    Ok(())
 }
 
 fn text<D: Display + Drop>(alloc: Global, value: D) -> Result<Vec<u8>, Fault> {
@@ -51,11 +122,6 @@ fn text<D: Display + Drop>(alloc: Global, value: D) -> Result<Vec<u8>, Fault> {
 
 fn add<D: Display + Drop>(text: &mut Vec<u8>, value: D) -> Result<(), Fault> {
     text.write_fmt(value).map_err(|_| Fault::NoMemory)
-}
-
-fn user(alloc: Global, talk: &mut Talk) -> Result<Vec<u8>, Fault> {
-    let user = talk.among(1000, USERS);
-    text(alloc, user)
 }
 
 // One to sixteen grants, most of them few.
@@ -98,15 +164,4 @@ fn add_path(talk: &mut Talk, text: &mut Vec<u8>) -> Result<(), Fault> {
         add(text, format_args!("/directory{name}"))?;
     }
     Ok(())
-}
-
-fn access(alloc: Global, talk: &mut Talk) -> Result<Vec<u8>, Fault> {
-    match talk.below(6) {
-        0 => text(alloc, "write"),
-        1 => text(alloc, "vxattr"),
-        2 => text(alloc, "snapshot"),
-        3 => text(alloc, "chmod"),
-        4 => text(alloc, "chown:1002"),
-        _ => text(alloc, "read"),
-    }
 }
