@@ -116,7 +116,8 @@ fn add_file(talk: &mut Talk, script: &mut Vec<u8>, round: u64) -> Result<(), Fau
     add(script, format_args!("alter 1 {any} chmod 0640\n"))
 }
 
-// Clients that each work on files of their own, from threads of their own.
+// Clients that each work on files of their own, from threads of their own. Nothing that they ask for waits, since the number of a
+// request that waits depends on when its thread was served.
 fn jobs(alloc: Global, talk: &mut Talk, count: u32) -> Result<Vec<u8>, Fault> {
     let mut script = Vec::new(alloc);
     for client in 1..=THREADS {
@@ -158,8 +159,8 @@ fn add_job(talk: &mut Talk, script: &mut Vec<u8>, client: u64, round: u32) -> Re
     let ino = home.saturating_add(1).saturating_add(file);
     match talk.below(6) {
         0 => add(script, format_args!("open {client} {ino} rw\n")),
-        1 => add(script, format_args!("alter {client} {ino} size {round}\n")),
-        2 => add(script, format_args!("get {client} {ino} F\n")),
+        1 => add(script, format_args!("flush {client} {ino} size {round}\n")),
+        2 => add(script, format_args!("get {client} {ino} A\n")),
         3 => add(script, format_args!("release {client} {ino} p\n")),
         4 => add(script, format_args!("want {client} {ino} pFscr\n")),
         _ => add(script, format_args!("lookup {client} {home} file{file}\n")),
