@@ -1,11 +1,14 @@
-use Rattle.std.proofs.Common.{◌≡◌, ◌<◌, Option, sym, ap, subst, ◌∙◌}
+use Rattle.std.proofs.Common.{◌≡◌, ◌<◌, Option, true, true≢false, refl, sym, ap, subst, ◌∙◌}
 use Rattle.std.specs.Prelude.{IfSome}
+use Rattle.capbits.specs.Caps.{Caps}
+use Rattle.capbits.specs.Sets.{no_caps, is_empty, union, meet, minus, same_caps, has-union, has-none}
 use Rattle.captable.specs.declared.entry.Entry.{Entry}
 use Rattle.captable.specs.declared.entry.Holder.{Holder}
 use Rattle.captable.specs.Table.{Table}
 use Rattle.captable.specs.Calls.{issued, renumbered}
-use Rattle.captable.proofs.Changes.{put_found}
+use Rattle.captable.proofs.Changes.{put_found, left_found}
 use Rattle.capcore.specs.Finishing as words
+use Rattle.capcore.proofs.Finishing.{or_inside}
 use Rattle.capcore.proofs.finish.issue.Goals as goal
 
 pub issue_numbered-requires : goal.issue_numbered-requires
@@ -20,3 +23,20 @@ returns c =
     let is : words.numbered_as c.args.known c.args.told c.args.due c.args.row.now ≡ number e = sym (ap (λ caps. renumbered caps c.args.told (issued c.args.due e)) c.meet-before.ensures) in
     c.issue_numbered.ensures
     ∙ sym (put_found t k e (words.numbered_as c.args.known c.args.told c.args.due c.args.row.now) number c.requires.there is)
+
+union-none : (caps : Caps) → union caps no_caps ≡ caps
+union-none caps = same_caps _ _ (λ c. has-union caps no_caps c ∙ or_inside _ _ (λ yes. absurd (true≢false (sym yes ∙ has-none c))))
+
+unchanged : (before after : Caps) (e : Entry) → is_empty (minus before after) ≡ true → is_empty (minus after before) ≡ true → renumbered before after e ≡ e
+unchanged before after e lost gained = rw lost (rw gained refl)
+
+pub returns-then-is_empty-3 : goal.returns-then-is_empty-3
+returns-then-is_empty-3 c =
+    let e : Entry = c.args.row.now.entry in
+    let held : union e.held c.args.due ≡ e.held = ap (union e.held) (c.is_empty.ensures.none.0 c.if-is_empty.true) ∙ union-none e.held in
+    let lost : is_empty (minus (meet c.args.known e.held) c.args.told) ≡ true =
+    ap (λ b. is_empty (minus b c.args.told)) (sym c.meet-before.ensures) ∙ ap is_empty (sym c.minus-lost.ensures) ∙ sym c.is_empty-then-is_empty.ensures.value ∙ c.if-is_empty-2.true in
+    let gained : is_empty (minus c.args.told (meet c.args.known e.held)) ≡ true =
+    ap (λ b. is_empty (minus c.args.told b)) (sym c.meet-before.ensures) ∙ ap is_empty (sym c.minus-gained.ensures) ∙ sym c.is_empty-then-is_empty-2.ensures.value ∙ c.if-is_empty-3.true in
+    left_found c.args.table.now c.args.row.now.holder e (λ _. words.numbered_as c.args.known c.args.told c.args.due c.args.row.now) c.requires.there
+    (unchanged (meet c.args.known e.held) c.args.told (issued c.args.due e) lost gained ∙ (λ i. record e { held = held i }))
