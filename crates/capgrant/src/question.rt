@@ -38,7 +38,7 @@ impl Question<'_> {
     ghost use Rattle.capgrant.specs.Question.{class_of};
     ghost use Rattle.capgrant.specs.Failing.{fails_fsname, fails_uid, fails_gids, fails_path, fails_no_write, fails_root_squash, fails_no_p, fails_no_s, fails_not_owner, fails_not_own_group, fails_mode_bits, fails, first_failing};
     ghost use Rattle.capgrant.specs.Rule.{attr_rules};
-    ghost use Rattle.capgrant.specs.Verdict.{allows, first_failures};
+    ghost use Rattle.capgrant.specs.Verdict.{allows, granted, first_failures};
 
     /// The place of the first grant that allows the access.
     pub(crate) fn first_allowing(&self, grants: &[Grant]) -> Option<usize>
@@ -67,8 +67,33 @@ impl Question<'_> {
     fn allows(&self, grant: &Grant) -> bool
         ensures { result ≡ allows self.now grant.now }
     {
-        let is_below = self.is_below(grant);
+        self.allows_where(grant, self.is_below(grant))
+    }
+
+    // The same, where it is known whether the inode lies at or below the grant's path.
+    #[inline(always)]
+    #[tactic(auto, unfolding(crate::specs::Failing::first_failing))]
+    fn allows_where(&self, grant: &Grant, is_below: bool) -> bool
+        requires { is_below ≡ not (fails_path self.now grant.now) }
+        ensures { result ≡ allows self.now grant.now }
+    {
         is_below && self.first_failing(grant, is_below).is_none()
+    }
+
+    /// Whether some grant allows what is asked, and whether some grant allows the other access, to the same inode. Each grant's path
+    /// is tested once.
+    pub(crate) fn both_granted(&self, other: &Question<'_>, grants: &[Grant]) -> (bool, bool)
+        requires { other.now.path ≡ self.now.path }
+        ensures one { result.0 ≡ granted self.now grants.now }
+        ensures other { result.1 ≡ granted other.now grants.now }
+    {
+        let (mut one, mut two) = (false, false);
+        for grant in grants {
+            let is_below = self.is_below(grant);
+            one |= self.allows_where(grant, is_below);
+            two |= other.allows_where(grant, is_below);
+        }
+        (one, two)
     }
 
     // The first rule by which the grant fails, if it does not allow the access. Whether the inode lies at or below its path
