@@ -8,8 +8,8 @@ ghost use Rattle.lockmachine.specs.Inodes as words;
 use capbits::{Ino, Part};
 use locktable::{LockState, State};
 use std::alloc::{AllocError, Global};
-use std::collections::BTreeMap;
-use std::collections::btree_map::Keys;
+use std::collections::btree_set::Iter;
+use std::collections::{BTreeSet, HashMap};
 use std::marker::Model;
 
 /// The four locks of an inode, one for each part.
@@ -68,7 +68,9 @@ impl InodeLocks {
 #[derive(Debug, Drop)]
 pub(crate) struct States {
     // By the inode's number.
-    locks: BTreeMap<u64, InodeLocks>,
+    locks: HashMap<u64, InodeLocks>,
+    // The numbers once more, in their order, for who goes through all of them.
+    numbers: BTreeSet<u64>,
 }
 
 impl Model for States {
@@ -80,7 +82,15 @@ impl Model for States {
 
     ghost coded = { state_map_code };
 
+    ghost use Rattle.std.specs.Prelude.{◌≡◌, ℕ, is_some, nat_eq};
+    ghost use Rattle.std.specs.Ordering.{nat_cmp};
+    ghost use Rattle.std.specs.BTreeSet.{contains};
+    ghost use Rattle.std.specs.HashMap.{get};
+
     ghost view = { λ s. map.from_entries s.locks.entries };
+
+    // Both have the same numbers.
+    ghost invariant = { λ s. (q : ℕ) → contains nat_cmp s.numbers q ≡ is_some (get nat_eq s.locks q) };
 }
 
 impl States {
@@ -89,7 +99,8 @@ impl States {
         ensures { result ≡ map.empty }
     {
         States {
-            locks: BTreeMap::new(alloc),
+            locks: HashMap::new(alloc),
+            numbers: BTreeSet::new(alloc),
         }
     }
 
@@ -101,12 +112,10 @@ impl States {
     }
 
     // The inodes that have locks, in the order of their numbers.
-    pub(crate) fn inos(&self) -> Keys<'_, u64, InodeLocks>
+    pub(crate) fn inos(&self) -> Iter<'_, u64>
         ensures { result ≡ map.keys self.now }
     {
-        // For what it says of the order.
-        let _count = self.locks.len();
-        self.locks.keys()
+        self.numbers.iter()
     }
 
     // Gives an inode these locks. For want of memory nothing changes.
@@ -114,8 +123,13 @@ impl States {
         ensures ok { OnOk result (self.new ≡ map.insert self.old ino.0 locks) }
         ensures err { OnErr result (self.new ≡ self.old) }
     {
-        self.locks.insert(ino.0, locks)?;
-        Ok(())
+        // Room comes first, since a number that was added stays.
+        self.locks.reserve(1)?;
+        self.numbers.insert(ino.0)?;
+        match self.locks.insert(ino.0, locks) {
+            Ok(_old) => Ok(()),
+            Err(_pair) => unreachable!(),
+        }
     }
 
     // Takes the locks of an inode away.
@@ -123,6 +137,7 @@ impl States {
         ensures { self.new ≡ map.remove self.old ino.0 }
     {
         self.locks.remove(&ino.0);
+        self.numbers.remove(&ino.0);
     }
 
     // Puts the lock of an inode's part, if it has one, in another state.
