@@ -28,7 +28,7 @@ use capbits::{Cap, CapSet, ClientId, Ino, Part};
 use capspec::FsName;
 use captable::{CapTable, Entry, EntryRow, Holder};
 use inotree::{Names, Node, Place, Tree};
-use lockmachine::{InodeLocks, Locks, permitted_by, want_of_permitted};
+use lockmachine::{InodeLocks, Locks, permitted_and_wanted};
 use locktable::allowed;
 use sessiontab::{MAX_SESSIONS, Sessions};
 
@@ -205,8 +205,8 @@ fn finish_entry(
 {
     if let Some(entry) = table.find(holder.client, holder.ino) {
         let row = EntryRow { holder, entry };
-        let permitted = permitted_by(fs, sessions, holder.client, path, node);
-        let due = want_of_permitted(sessions, row, permitted).meet(allowed_under(&row, locks));
+        let (permitted, wanted) = permitted_and_wanted(fs, sessions, row, path, node);
+        let due = wanted.meet(allowed_under(&row, locks));
         let told = told_under(&with_issued(&row, due), permitted, locks);
         let before = known.put(holder, told);
         issue(table, &row, due, before, told);

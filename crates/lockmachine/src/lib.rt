@@ -23,4 +23,7 @@ pub use locks::{Locks, MAX_WAITING};
 pub use moves::Move;
 pub use request::{Ask, Change, Request};
 pub use states::InodeLocks;
-pub use wants::{Wants, effective_want, permitted, permitted_by, want_of_permitted, wants_on};
+pub use wants::{
+    Wants, effective_want, permitted, permitted_and_wanted, permitted_by, want_of_permitted,
+    wants_on,
+};

@@ -1,5 +1,7 @@
 //! What clients want of an inode, so far as it counts.
-ghost use Rattle.std.specs.Prelude.{◌≡◌, List, [], ◌∷◌};
+ghost use Rattle.std.specs.Prelude.{◌≡◌, Some, List, [], ◌∷◌, if◌then◌else◌};
+ghost use Rattle.capbits.specs.Sets.{no_caps, meet};
+ghost use Rattle.sessiontab.specs.Tests.{is_open};
 ghost use Rattle.std.specs.Option.{option_copied};
 ghost use Rattle.std.specs.FinMap as map;
 ghost use Rattle.captable.specs.Table.{holder};
@@ -10,7 +12,7 @@ use capbits::{Cap, CapSet, ClientId, Ino};
 use capspec::FsName;
 use captable::{CapTable, EntryRow};
 use inotree::{Names, Node, Tree};
-use sessiontab::{Sessions, Status};
+use sessiontab::{Session, Sessions, Status};
 
 /// What the clients with an entry on an inode effectively want of it.
 #[derive(Clone, Copy, Debug, PartialEq, Eq)]
@@ -32,8 +34,7 @@ pub fn wants_on(fs: &FsName, tree: &Tree, sessions: &Sessions, table: &CapTable,
     let mut walk = table.holders_of(ino);
     'rows: while let Some(row) = walk.next() {
         let client = row.holder.client;
-        let permitted = permitted_by(fs, sessions, client, &path, node);
-        let want = want_of_permitted(sessions, row, permitted);
+        let (_permitted, want) = permitted_and_wanted(fs, sessions, row, &path, node);
         wanted = wanted.union(want);
         if is_more(want) {
             wanting = wanting.and(client, want);
@@ -55,7 +56,14 @@ pub fn effective_want(fs: &FsName, tree: &Tree, sessions: &Sessions, row: EntryR
 pub fn want_of_permitted(sessions: &Sessions, row: EntryRow, permitted: CapSet) -> CapSet
     ensures { result ≡ words.want_of_permitted sessions.now permitted row }
 {
-    match sessions.status(row.holder.client) {
+    wanted_while(sessions.status(row.holder.client), row, permitted)
+}
+
+// The same, in a session of this status.
+fn wanted_while(status: Option<Status>, row: EntryRow, permitted: CapSet) -> CapSet
+    ensures { result ≡ (if is_open status then meet row.entry.want permitted else no_caps) }
+{
+    match status {
         Some(Status::Open) => row.entry.want.meet(permitted),
         Some(Status::Stale) | None => CapSet::empty(),
     }
@@ -84,7 +92,42 @@ pub fn permitted_by(
 ) -> CapSet
     ensures { result ≡ policy.permitted_to fs.now (policy.subject_of (map.get sessions.now.sessions client.0) path.now (option_copied node.entry)) }
 {
-    let (Some(session), Some(path), Some(node)) = (sessions.session(client), path, node) else {
+    match sessions.session(client) {
+        Some(session) => permitted_for(fs, session, path, node),
+        None => CapSet::of(&[Cap::P]),
+    }
+}
+
+/// What the entry's client is permitted to hold, and what it effectively wants, by the path of the inode and what the tree keeps of
+/// it. The client's session is looked up once.
+pub fn permitted_and_wanted(
+    fs: &FsName,
+    sessions: &Sessions,
+    row: EntryRow,
+    path: &Option<Names<'_>>,
+    node: Option<&Node>,
+) -> (CapSet, CapSet)
+    ensures permitted { result.0 ≡ policy.permitted_to fs.now (policy.subject_of (map.get sessions.now.sessions row.holder.client.0) path.now (option_copied node.entry)) }
+    ensures wanted { result.1 ≡ words.want_of_permitted sessions.now result.0 row }
+{
+    let Some(session) = sessions.session(row.holder.client) else {
+        return (CapSet::of(&[Cap::P]), CapSet::empty());
+    };
+    let permitted = permitted_for(fs, session, path, node);
+    let wanted = wanted_while(Some(session.status), row, permitted);
+    (permitted, wanted)
+}
+
+// What the client of a session is permitted to hold.
+fn permitted_for(
+    fs: &FsName,
+    session: &Session,
+    path: &Option<Names<'_>>,
+    node: Option<&Node>,
+) -> CapSet
+    ensures { result ≡ policy.permitted_to fs.now (policy.subject_of (Some session.now) path.now (option_copied node.entry)) }
+{
+    let (Some(path), Some(node)) = (path, node) else {
         return CapSet::of(&[Cap::P]);
     };
     let (grants, caller) = (&session.grants, &session.caller);

@@ -33,11 +33,11 @@ returns-in-Some-clause-table c =
     let k : Holder = c.args.holder in
     let row : EntryRow = record { holder = k; entry = c.in-Some.entry } in
     let found : entry_at t k ≡ Some c.in-Some.entry = cc in
-    let is_permitted : c.permitted_by-permitted.result ≡ permitted c.args.fs.now c.args.tree.now c.args.sessions.now k =
-    c.permitted_by-permitted.ensures
+    let is_permitted : c.permitted_and_wanted.result.0 ≡ permitted c.args.fs.now c.args.tree.now c.args.sessions.now k =
+    c.permitted_and_wanted.ensures.permitted
     ∙ (λ i. permitted_to c.args.fs.now (subject_of (map.get c.args.sessions.now.sessions k.client.0) (c.requires.path i) (c.requires.node i))) in
     let due : c.meet-due.result ≡ words.due_under c.args.fs.now c.args.tree.now c.args.sessions.now c.args.locks.now row =
-    c.meet-due.ensures ∙ (λ i. meet ((c.want_of_permitted.ensures ∙ ap (λ may. want_of_permitted c.args.sessions.now may row) is_permitted) i) (c.allowed_under.ensures i)) in
+    c.meet-due.ensures ∙ (λ i. meet ((c.permitted_and_wanted.ensures.wanted ∙ ap (λ may. want_of_permitted c.args.sessions.now may row) is_permitted) i) (c.allowed_under.ensures i)) in
     let told : c.told_under-told.result ≡ words.told_at c.args.fs.now c.args.tree.now c.args.sessions.now c.args.locks.now row =
     c.told_under-told.ensures ∙ (λ i. words.told_under (is_permitted i) c.args.locks.now ((c.with_issued.ensures ∙ ap (λ caps. words.with_issued caps row) due) i)) in
     c.issue.ensures
@@ -51,11 +51,11 @@ returns-in-Some-clause-known c =
     let k : Holder = c.args.holder in
     let row : EntryRow = record { holder = k; entry = c.in-Some.entry } in
     let found : entry_at t k ≡ Some c.in-Some.entry = cc in
-    let is_permitted : c.permitted_by-permitted.result ≡ permitted c.args.fs.now c.args.tree.now c.args.sessions.now k =
-    c.permitted_by-permitted.ensures
+    let is_permitted : c.permitted_and_wanted.result.0 ≡ permitted c.args.fs.now c.args.tree.now c.args.sessions.now k =
+    c.permitted_and_wanted.ensures.permitted
     ∙ (λ i. permitted_to c.args.fs.now (subject_of (map.get c.args.sessions.now.sessions k.client.0) (c.requires.path i) (c.requires.node i))) in
     let due : c.meet-due.result ≡ words.due_under c.args.fs.now c.args.tree.now c.args.sessions.now c.args.locks.now row =
-    c.meet-due.ensures ∙ (λ i. meet ((c.want_of_permitted.ensures ∙ ap (λ may. want_of_permitted c.args.sessions.now may row) is_permitted) i) (c.allowed_under.ensures i)) in
+    c.meet-due.ensures ∙ (λ i. meet ((c.permitted_and_wanted.ensures.wanted ∙ ap (λ may. want_of_permitted c.args.sessions.now may row) is_permitted) i) (c.allowed_under.ensures i)) in
     let told : c.told_under-told.result ≡ words.told_at c.args.fs.now c.args.tree.now c.args.sessions.now c.args.locks.now row =
     c.told_under-told.ensures ∙ (λ i. words.told_under (is_permitted i) c.args.locks.now ((c.with_issued.ensures ∙ ap (λ caps. words.with_issued caps row) due) i)) in
     kept-one (words.told_at c.args.fs.now c.args.tree.now c.args.sessions.now c.args.locks.now) t c.args.known.now.sets c.put-before.new.self.sets k c.in-Some.entry found (c.put-before.ensures.own ∙ ap Some told) c.put-before.ensures.others
