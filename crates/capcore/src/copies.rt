@@ -2,7 +2,7 @@
 ghost use Rattle.std.specs.Prelude.{◌≡◌, false, IfOk};
 ghost use Rattle.capcore.specs.Direct.{has_list};
 
-use crate::outcome::{Outcome, PartValues};
+use crate::outcome::{Message, MessageList, Outcome, PartValues};
 use crate::reply::Reply;
 use arrayvec::ArrayVec;
 use capbits::{Caller, Groups};
@@ -62,6 +62,41 @@ pub(crate) fn copy_of_outcome(alloc: Global, outcome: &Outcome) -> Result<Outcom
         Outcome::Refused(refusal) => Ok(Outcome::Refused(*refusal)),
         Outcome::OutOfMemory => Ok(Outcome::OutOfMemory),
         Outcome::Dropped => Ok(Outcome::Dropped),
+    }
+}
+
+// The same messages once more.
+pub(crate) fn copy_of_messages(
+    alloc: Global,
+    messages: &[Message],
+) -> Result<MessageList, AllocError>
+    ensures { IfOk result (λ copy. copy ≡ messages.now) }
+{
+    let mut copy = MessageList::new(alloc);
+    for message in messages {
+        copy.push(copy_of_message(alloc, message)?)?;
+    }
+    Ok(copy)
+}
+
+// The same message once more. A list of attributes alone takes memory.
+fn copy_of_message(alloc: Global, message: &Message) -> Result<Message, AllocError>
+    ensures { IfOk result (λ copy. copy ≡ message.now) }
+{
+    match message {
+        Message::Ended { ticket, outcome } => {
+            let (ticket, outcome) = (*ticket, copy_of_outcome(alloc, outcome)?);
+            Ok(Message::Ended { ticket, outcome })
+        }
+        Message::Caps { ino, seq, caps } => {
+            let (ino, seq, caps) = (*ino, *seq, *caps);
+            Ok(Message::Caps { ino, seq, caps })
+        }
+        Message::Size { ino, size } => {
+            let (ino, size) = (*ino, *size);
+            Ok(Message::Size { ino, size })
+        }
+        Message::Recall { ino } => Ok(Message::Recall { ino: *ino }),
     }
 }
 

@@ -22,7 +22,7 @@ ghost use Rattle.capbits.specs.Refusal.{first_failing};
 ghost use Rattle.capcore.specs.declared.event.Event.TheVariants as event;
 
 use crate::client::Turn;
-use crate::copies::{copy_of_caller, copy_of_reply};
+use crate::copies::{copy_of_caller, copy_of_messages, copy_of_reply};
 use crate::ended::close;
 use crate::event::{Event, OpenMode};
 use crate::history::{EndedList, Stop};
@@ -230,7 +230,7 @@ impl World {
         let ended = self.messages.as_slice();
         let (tree, table, known) = (&self.tree, &self.table, &self.known);
         let given = due_messages(alloc, ended, tree, table, known, client, max)?;
-        let kept = due_messages(alloc, ended, tree, table, known, client, max)?;
+        let kept = copy_of_messages(alloc, given.as_slice())?;
         give(&mut self.table, client, given.as_slice());
         self.table.skip_quiet(client);
         self.messages.remove_given(client, given.as_slice());

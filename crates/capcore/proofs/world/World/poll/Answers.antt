@@ -53,13 +53,13 @@ module _ (c : After-new) where
   first = c.in_ok-given.ensures old refl refl c.self.invariant.2 (sym c.as_slice-ended.ensures)
 
   same : c.in_ok-kept.kept ≡ c.in_ok-given.given
-  same = c.in_ok-kept.ensures old refl refl c.self.invariant.2 (sym c.as_slice-ended.ensures) ∙ sym first
+  same = c.in_ok-kept.ensures ∙ c.as_slice.ensures
 
   kept_items : c.remove_given.new.self.items ≡ filter (is_left c.args.client c.in_ok-given.given) old.messages
-  kept_items = c.remove_given.ensures.items ∙ ap (λ (given : List Message). filter (is_left c.args.client given) old.messages) c.as_slice-2.ensures
+  kept_items = c.remove_given.ensures.items ∙ ap (λ (given : List Message). filter (is_left c.args.client given) old.messages) c.as_slice-3.ensures
 
   told : c.skip_quiet.new.self ≡ changed_where (is_of_client c.args.client) (after_messages c.in_ok-given.given) old.scene.table
-  told = c.skip_quiet.ensures ∙ c.give.ensures ∙ ap (λ (given : List Message). changed_where (is_of_client c.args.client) (after_messages given) old.scene.table) c.as_slice.ensures
+  told = c.skip_quiet.ensures ∙ c.give.ensures ∙ ap (λ (given : List Message). changed_where (is_of_client c.args.client) (after_messages given) old.scene.table) c.as_slice-2.ensures
 
   left : with_given old c.args.client (first_messages old c.args.client c.args.max) ≡ new
   left = polled-new old c.self.invariant.0 c.oldest-oldest.ensures.sound c.args.client c.args.max c.in_ok-given.given c.skip_quiet.new.self c.remove_given.new.self.items first told kept_items
