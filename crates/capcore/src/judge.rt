@@ -44,13 +44,13 @@ fn verdict_on(
     ensures rules { IfDenied result (λ rules. rules ≡ failures fs.now tree.now sessions.now holder access) }
 {
     let (client, ino) = (holder.client, holder.ino);
-    let (Some(grants), Some(caller)) = (sessions.grants_of(client), sessions.caller_of(client))
-    else {
+    let Some(session) = sessions.session(client) else {
         return no_grant();
     };
     let (Some(path), Some(node)) = (tree.path_of(ino), tree.node(ino)) else {
         return no_grant();
     };
+    let (grants, caller) = (&session.grants, &session.caller);
     verdict(grants, fs, caller, path.as_slice(), &node.attr, access)
 }
 
