@@ -120,10 +120,13 @@ fn finish_entries(
     ensures known { KeptAnew (λ k. k.ino.0 == ino.0) (words.told_at fs.now tree.now sessions.now locks.now)
         table.old known.old.sets known.new.sets }
 {
-    // The names up to the root are looked up once, and not for each entry.
-    let (path, node) = (tree.path_of(ino), tree.node(ino));
     let clients = clients_on(sessions, table, ino);
     let numbers = clients.as_slice();
+    if numbers.is_empty() {
+        return;
+    }
+    // The names up to the root are looked up once, and not for each entry.
+    let (path, node) = (tree.path_of(ino), tree.node(ino));
     for number in numbers {
         let client = ClientId(*number);
         let holder = Holder { client, ino };

@@ -27,11 +27,15 @@ pub struct Wants {
 pub fn wants_on(fs: &FsName, tree: &Tree, sessions: &Sessions, table: &CapTable, ino: Ino) -> Wants
     ensures { result ≡ words.in_all (words.wants_on fs.now tree.now sessions.now table.now ino) }
 {
-    // The names up to the root are looked up once, and not for each entry.
-    let (path, node) = (tree.path_of(ino), tree.node(ino));
     let mut wanted = CapSet::empty();
     let mut wanting = Wanting::Nobody;
     let mut walk = table.holders_of(ino);
+    if walk.is_done() {
+        let loner = wanting.loner();
+        return Wants { wanted, loner };
+    }
+    // The names up to the root are looked up once, and not for each entry.
+    let (path, node) = (tree.path_of(ino), tree.node(ino));
     'rows: while let Some(row) = walk.next() {
         let client = row.holder.client;
         let (_permitted, want) = permitted_and_wanted(fs, sessions, row, &path, node);

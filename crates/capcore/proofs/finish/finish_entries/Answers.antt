@@ -1,9 +1,10 @@
-use Rattle.std.proofs.Common.{◌≡◌, ◌<◌, ◌≤◌, ℕ, ◌+◌, false, ◌||◌, Option, is_some, List, [], ◌∷◌, ◌++◌, length, take, get_or, refl, sym, ap, subst, ◌∙◌, arith}
+use Rattle.std.proofs.Common.{◌≡◌, ◌<◌, ◌≤◌, ℕ, ◌+◌, true, false, ◌||◌, Option, is_some, List, [], ◌∷◌, ◌++◌, length, take, get_or, refl, sym, ap, subst, ◌∙◌, arith}
 use Rattle.std.specs.Prelude.{IfSome}
 use Rattle.std.specs.HashMap.{get}
 use Rattle.std.specs.List.{fold, IsDistinct}
 use Rattle.std.specs.Option.{unwrap_or}
-use Rattle.std.proofs.lemmas.List.{length-map, get_or-map, take_more, take_all}
+use Rattle.std.proofs.lemmas.List.{length-map, nil_from_length, get_or-map, take_more, take_all}
+use Rattle.std.proofs.lemmas.Bool.{eqb-true}
 use Rattle.std.proofs.lemmas.List.Folds.{list_any_more}
 use Rattle.std.proofs.lemmas.List.Sums.{fold-append}
 use Rattle.capbits.specs.Caps.{Caps}
@@ -22,6 +23,27 @@ use Rattle.capcore.proofs.AtEnd.{entry-on, yet-unchanged}
 use Rattle.capcore.proofs.Counting.{named, named-clients, distinct-on}
 use Rattle.capcore.proofs.KeptSets.{kept-same, kept-then, kept-not, kept-on, kept-nobody, found-as, not-yet, room-of}
 use Rattle.capcore.proofs.finish.finish_entries.Goals as goal
+
+-- nobody has an entry on the inode
+nobody : (c : goal.Then-is_empty) → [] ≡ holders_of_rows (entries_on c.args.table.now c.args.ino)
+nobody c =
+    let cs : List ℕ = c.as_slice-numbers.result.now in
+    let empty : cs ≡ [] = nil_from_length cs (eqb-true (length cs) 0 (sym c.is_empty.ensures ∙ c.if-is_empty.true)) in
+    ap (named c.args.ino) (sym empty ∙ c.as_slice-numbers.ensures.value ∙ c.clients_on-clients.ensures.clients) ∙ named-clients c.args.ino c.args.table.now.rows
+
+pub returns-then-is_empty-clause-table : goal.returns-then-is_empty-clause-table
+returns-then-is_empty-clause-table c =
+    let t : Table = c.args.table.now in
+    let g : EntryRow → Entry = entry_under (known_in c.args.known.now.sets) c.args.fs.now c.args.tree.now c.args.sessions.now c.args.locks.now in
+    ap (fold (changed_by g) t) (nobody c) ∙ fold-on_inode g t c.args.ino c.clients_on-clients.ensures.sound
+
+pub returns-then-is_empty-clause-known : goal.returns-then-is_empty-clause-known
+returns-then-is_empty-clause-known c =
+    let t : Table = c.args.table.now in
+    let f : EntryRow → Caps = told_at c.args.fs.now c.args.tree.now c.args.sessions.now c.args.locks.now in
+    kept-on c.args.ino f t c.args.known.now.sets c.args.known.now.sets
+    (kept-same (is_among []) (is_among (holders_of_rows (entries_on t c.args.ino))) f t c.args.known.now.sets c.args.known.now.sets (λ j. ap (λ (hs : List Holder). is_among hs j) (nobody c))
+    (kept-nobody f t c.args.known.now.sets))
 
 pub loop-number-init : goal.loop-number-init
 loop-number-init c = record {

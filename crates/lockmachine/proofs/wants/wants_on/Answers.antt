@@ -16,8 +16,8 @@ returns c =
     let wanted : c.rows.wanted ≡ words.union_of (wants (entries_on c.args.table.now c.args.ino)) =
     ap (λ walk. fold (λ caps want. union caps want.1) c.rows.wanted (wants walk)) (sym ended) ∙ c.rows.invariant.wanted
     ∙ ap (λ rows. words.union_of (wants rows)) c.holders_of-walk.ensures.rows in
-    let loner : c.loner-loner.result ≡ words.loner_of (wants (entries_on c.args.table.now c.args.ino)) =
-    c.loner-loner.ensures ∙ ap (λ walk. words.loner_with c.rows.wanting (filter (λ want. words.is_more want.1) (wants walk))) (sym ended) ∙ c.rows.invariant.loner
+    let loner : c.loner-loner-2.result ≡ words.loner_of (wants (entries_on c.args.table.now c.args.ino)) =
+    c.loner-loner-2.ensures ∙ ap (λ walk. words.loner_with c.rows.wanting (filter (λ want. words.is_more want.1) (wants walk))) (sym ended) ∙ c.rows.invariant.loner
     ∙ ap (λ rows. words.loner_of (wants rows)) c.holders_of-walk.ensures.rows in
     (λ k. record { wanted = wanted k; loner = loner k }) ∙ ap words.in_all
     (ap (λ path. each (words.want_by c.args.fs.now c.args.sessions.now path (option_copied c.node-node.result)) (entries_on c.args.table.now c.args.ino)) c.path_of-path.ensures.path
