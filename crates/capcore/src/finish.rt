@@ -125,12 +125,14 @@ fn finish_entries(
     if numbers.is_empty() {
         return;
     }
-    // The names up to the root are looked up once, and not for each entry.
-    let (path, node) = (tree.path_of(ino), tree.node(ino));
+    // The names from the root are looked up once, and not for each entry.
+    let mut names = Names::new();
+    let path = tree.read_path(ino, &mut names).then_some(&names);
+    let node = tree.node(ino);
     for number in numbers {
         let client = ClientId(*number);
         let holder = Holder { client, ino };
-        finish_entry(fs, tree, sessions, table, known, holder, &path, node, locks);
+        finish_entry(fs, tree, sessions, table, known, holder, path, node, locks);
     }
 }
 
@@ -194,11 +196,11 @@ fn finish_entry(
     table: &mut CapTable,
     known: &mut Known,
     holder: Holder,
-    path: &Option<Names<'_>>,
+    path: Option<&Names<'_>>,
     node: Option<&Node>,
     locks: &Option<InodeLocks>,
 )
-    requires path { path.now ≡ path_of tree.now.nodes holder.ino.0 }
+    requires path { option_copied path ≡ path_of tree.now.nodes holder.ino.0 }
     requires node { option_copied node ≡ map.get tree.now.nodes holder.ino.0 }
     requires number { IfSome (entry_at table.old holder) (λ entry. entry.seq < 2 ^ 64 - 1) }
     requires room { IsSome (entry_at table.old holder) → IsSome (get same known.old.sets holder) }

@@ -13,7 +13,7 @@ use capbits::Refusal;
 use capgrant::{Access, Rules, Verdict, verdict};
 use capspec::FsName;
 use captable::Holder;
-use inotree::Tree;
+use inotree::{Names, Tree};
 use sessiontab::Sessions;
 
 // The denial of an access that no grant of the client allows.
@@ -47,7 +47,9 @@ fn verdict_on(
     let Some(session) = sessions.session(client) else {
         return no_grant();
     };
-    let (Some(path), Some(node)) = (tree.path_of(ino), tree.node(ino)) else {
+    let mut names = Names::new();
+    let path = tree.read_path(ino, &mut names).then_some(&names);
+    let (Some(path), Some(node)) = (path, tree.node(ino)) else {
         return no_grant();
     };
     let (grants, caller) = (&session.grants, &session.caller);

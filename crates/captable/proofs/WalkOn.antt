@@ -1,5 +1,5 @@
 -- The rows from a place of a list on.
-use Rattle.std.proofs.Common.{◌≡◌, ℕ, ◌+◌, arith, Bool, true, false, cond, ◌||◌, Option, Some, None, List, [], ◌∷◌, length, map, not, is_some, refl, sym, ap, ◌∙◌, nat_eq, slice_get}
+use Rattle.std.proofs.Common.{◌≡◌, ℕ, arith, Bool, true, false, cond, ◌||◌, Option, Some, None, List, [], ◌∷◌, length, map, not, is_some, refl, sym, ap, ◌∙◌, nat_eq, slice_get}
 use Rattle.std.specs.Prelude.{◌==◌, suc}
 use Rattle.std.specs.List.{AllByRecursion, IsDistinct}
 use Rattle.std.specs.Option.{option_map_or, option_and_then}

@@ -7,6 +7,7 @@ pub mod Gathering
 pub mod Growing
 pub mod Inner
 pub mod Leading
+pub mod Lent
 pub mod Maps
 pub mod Moving
 pub mod Named

@@ -1,5 +1,5 @@
 //! The inodes, by number.
-ghost use Rattle.std.specs.Prelude.{◌≡◌, ℕ, Some, is_some, All, IfOk, OnOk, OnErr};
+ghost use Rattle.std.specs.Prelude.{◌≡◌, ℕ, Some, [], is_some, All, IfOk, OnOk, OnErr};
 ghost use Rattle.std.specs.List.{list_any};
 ghost use Rattle.std.specs.Ordering.{nat_cmp, eq_by_cmp};
 ghost use Rattle.std.specs.Option.{option_copied, option_map};
@@ -127,11 +127,11 @@ impl Inodes {
         at == above
     }
 
-    // The names from the inode up to the root, or as far as they lead.
-    pub(crate) fn names_up(&self, ino: u64) -> Names<'_>
-        ensures { result ≡ names_up MAX_NAMES self.now ino }
+    // Reads the names from the inode up to the root, or as far as they lead, into a list that has no name yet.
+    pub(crate) fn read_names_up<'a>(&'a self, ino: u64, names: &mut Names<'a>)
+        requires { names.old ≡ [] }
+        ensures { names.new ≡ names_up MAX_NAMES self.now ino }
     {
-        let mut names = Names::new();
         let mut at = ino;
         for _ in 0..MAX_NAMES {
             let Some(node) = self.get(at) else {
@@ -143,7 +143,6 @@ impl Inodes {
             names.push(name.as_bytes());
             at = dir.0;
         }
-        names
     }
 
     // Takes the inode of this number out.

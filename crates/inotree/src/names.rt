@@ -1,5 +1,5 @@
 //! The path of an inode, as a list of names that the tree lends.
-ghost use Rattle.std.specs.Prelude.{◌≡◌, ◌<◌, ◌≤◌, [], ◌∷◌, ◌++◌, length, reverse, map};
+ghost use Rattle.std.specs.Prelude.{◌≡◌, ◌==◌, ◌<◌, ◌≤◌, [], ◌∷◌, ◌++◌, length, reverse, map};
 
 use arrayvec::ArrayVec;
 use std::marker::Model;
@@ -22,8 +22,8 @@ impl<'a> Model for Names<'a> {
 }
 
 impl<'a> Names<'a> {
-    // No names.
-    pub(crate) fn new() -> Names<'a>
+    /// No names.
+    pub fn new() -> Names<'a>
         ensures { result ≡ [] }
     {
         Names {
@@ -52,6 +52,13 @@ impl<'a> Names<'a> {
         ensures fits { result ≤ MAX_NAMES }
     {
         self.names.len()
+    }
+
+    /// Whether there are none.
+    pub fn is_empty(&self) -> bool
+        ensures { result ≡ (length self.now == 0) }
+    {
+        self.names.is_empty()
     }
 
     /// The names.

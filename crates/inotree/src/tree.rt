@@ -1,5 +1,5 @@
 //! The tree of inodes.
-ghost use Rattle.std.specs.Prelude.{◌≡◌, ℕ, ◌+◌, ◌≤◌, ◌&&◌, true, not, nat_le, [], ◌∷◌, is_some, IfOk, IfSome, OnOk, OnErr, All, Contains, IsTrue, map as each};
+ghost use Rattle.std.specs.Prelude.{◌≡◌, ℕ, ◌+◌, ◌≤◌, ◌&&◌, true, not, nat_le, [], ◌∷◌, Some, None, is_some, if◌then◌else◌, IfOk, IfSome, OnOk, OnErr, All, Contains, IsTrue, map as each};
 ghost use Rattle.std.specs.Option.{option_copied, option_map};
 ghost use Rattle.std.specs.FinMap as map;
 ghost use Rattle.capspec.specs.Names.{is_name};
@@ -164,14 +164,28 @@ impl Tree {
         // Each has a byte and no slash.
         ensures names { IfSome result (λ names. All (λ name. IsTrue (is_name name)) names) }
     {
-        match self.place(ino) {
-            Place::NoIno | Place::Gone => None,
-            Place::Here => {
-                let mut names = self.inodes.names_up(ino.0);
-                names.reverse();
-                Some(names)
-            }
+        let _last = self.last;
+        let mut names = Names::new();
+        if self.read_path(ino, &mut names) {
+            Some(names)
+        } else {
+            None
         }
+    }
+
+    /// Reads the names from the root to an inode into a list that has no name yet, and answers whether it has a path. No name is
+    /// copied, nor is the list.
+    pub fn read_path<'a>(&'a self, ino: Ino, names: &mut Names<'a>) -> bool
+        requires { names.old ≡ [] }
+        ensures { path_of self.now.nodes ino.0 ≡ (if result then Some names.new else None) }
+    {
+        self.inodes.read_names_up(ino.0, names);
+        if names.is_empty() {
+            // It is the root, or has no path.
+            return matches!(self.place(ino), Place::Here);
+        }
+        names.reverse();
+        true
     }
 
     /// The inode and all that lie below it, in no order that is promised; the inode itself also where the tree does not
@@ -205,7 +219,9 @@ impl Tree {
         ensures value { result ≡ depth self.now.nodes ino.0 }
         ensures fits { result ≤ MAX_NAMES }
     {
-        self.inodes.names_up(ino.0).len()
+        let mut names = Names::new();
+        self.inodes.read_names_up(ino.0, &mut names);
+        names.len()
     }
 
     // Whether something lies so many steps below an inode.

@@ -34,11 +34,13 @@ pub fn wants_on(fs: &FsName, tree: &Tree, sessions: &Sessions, table: &CapTable,
         let loner = wanting.loner();
         return Wants { wanted, loner };
     }
-    // The names up to the root are looked up once, and not for each entry.
-    let (path, node) = (tree.path_of(ino), tree.node(ino));
+    // The names from the root are looked up once, and not for each entry.
+    let mut names = Names::new();
+    let path = tree.read_path(ino, &mut names).then_some(&names);
+    let node = tree.node(ino);
     'rows: while let Some(row) = walk.next() {
         let client = row.holder.client;
-        let (_permitted, want) = permitted_and_wanted(fs, sessions, row, &path, node);
+        let (_permitted, want) = permitted_and_wanted(fs, sessions, row, path, node);
         wanted = wanted.union(want);
         if is_more(want) {
             wanting = wanting.and(client, want);
@@ -83,7 +85,9 @@ pub fn permitted(
 ) -> CapSet
     ensures { result ≡ policy.permitted fs.now tree.now sessions.now (holder client ino) }
 {
-    permitted_by(fs, sessions, client, &tree.path_of(ino), tree.node(ino))
+    let mut names = Names::new();
+    let path = tree.read_path(ino, &mut names).then_some(&names);
+    permitted_by(fs, sessions, client, path, tree.node(ino))
 }
 
 /// The same, by the path of the inode and what the tree keeps of it.
@@ -91,10 +95,10 @@ pub fn permitted_by(
     fs: &FsName,
     sessions: &Sessions,
     client: ClientId,
-    path: &Option<Names<'_>>,
+    path: Option<&Names<'_>>,
     node: Option<&Node>,
 ) -> CapSet
-    ensures { result ≡ policy.permitted_to fs.now (policy.subject_of (map.get sessions.now.sessions client.0) path.now (option_copied node.entry)) }
+    ensures { result ≡ policy.permitted_to fs.now (policy.subject_of (map.get sessions.now.sessions client.0) (option_copied path.entry) (option_copied node.entry)) }
 {
     match sessions.session(client) {
         Some(session) => permitted_for(fs, session, path, node),
@@ -108,10 +112,10 @@ pub fn permitted_and_wanted(
     fs: &FsName,
     sessions: &Sessions,
     row: EntryRow,
-    path: &Option<Names<'_>>,
+    path: Option<&Names<'_>>,
     node: Option<&Node>,
 ) -> (CapSet, CapSet)
-    ensures permitted { result.0 ≡ policy.permitted_to fs.now (policy.subject_of (map.get sessions.now.sessions row.holder.client.0) path.now (option_copied node.entry)) }
+    ensures permitted { result.0 ≡ policy.permitted_to fs.now (policy.subject_of (map.get sessions.now.sessions row.holder.client.0) (option_copied path.entry) (option_copied node.entry)) }
     ensures wanted { result.1 ≡ words.want_of_permitted sessions.now result.0 row }
 {
     let Some(session) = sessions.session(row.holder.client) else {
@@ -126,10 +130,10 @@ pub fn permitted_and_wanted(
 fn permitted_for(
     fs: &FsName,
     session: &Session,
-    path: &Option<Names<'_>>,
+    path: Option<&Names<'_>>,
     node: Option<&Node>,
 ) -> CapSet
-    ensures { result ≡ policy.permitted_to fs.now (policy.subject_of (Some session.now) path.now (option_copied node.entry)) }
+    ensures { result ≡ policy.permitted_to fs.now (policy.subject_of (Some session.now) (option_copied path.entry) (option_copied node.entry)) }
 {
     let (Some(path), Some(node)) = (path, node) else {
         return CapSet::of(&[Cap::P]);

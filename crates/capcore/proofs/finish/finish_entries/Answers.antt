@@ -2,13 +2,14 @@ use Rattle.std.proofs.Common.{◌≡◌, ◌<◌, ◌≤◌, ℕ, ◌+◌, true,
 use Rattle.std.specs.Prelude.{IfSome}
 use Rattle.std.specs.HashMap.{get}
 use Rattle.std.specs.List.{fold, IsDistinct}
-use Rattle.std.specs.Option.{unwrap_or}
+use Rattle.std.specs.Option.{unwrap_or, option_copied}
 use Rattle.std.proofs.lemmas.List.{length-map, nil_from_length, get_or-map, take_more, take_all}
 use Rattle.std.proofs.lemmas.Bool.{eqb-true}
 use Rattle.std.proofs.lemmas.List.Folds.{list_any_more}
 use Rattle.std.proofs.lemmas.List.Sums.{fold-append}
 use Rattle.capbits.specs.Caps.{Caps}
 use Rattle.capbits.specs.Sets.{no_caps}
+use Rattle.inotree.proofs.Lent.{lent-where}
 use Rattle.captable.specs.declared.entry.Entry.{Entry}
 use Rattle.captable.specs.declared.entry.EntryRow.{EntryRow}
 use Rattle.captable.specs.declared.entry.Holder.{Holder}
@@ -73,7 +74,7 @@ finish_entry-requires c =
     let not_among : is_among (take i ks) k ≡ false = ap (is_among (take i ks)) (sym here) ∙ not-yet ks i k apart inside in
     let kept : get same c.loop-number.known.sets k ≡ get same c.args.known.now.sets k = kept-not (is_among (take i ks)) f t c.args.known.now.sets c.loop-number.known.sets c.loop-number.invariant.known k not_among in
     record {
-      path = c.path_of-path.ensures.path;
+      path = ap option_copied c.then_some-path.ensures ∙ lent-where c.read_path.result _ ∙ sym c.read_path.ensures;
       node = c.node-node.ensures.node;
       number = subst (λ (o : Option Entry). IfSome o (λ e. e.seq < 18446744073709551615)) (sym was) (entry-on (λ e. e.seq < 18446744073709551615) t k.client c.args.ino c.requires.numbers);
       room = λ there. ap is_some kept ∙ room-of c.args.known.now.sets t k c.requires.room (sym (ap is_some was) ∙ there);

@@ -5,4 +5,4 @@ use Rattle.lockmachine.proofs.wants.permitted_by.Goals as goal
 
 pub returns-in-Some : goal.returns-in-Some
 returns-in-Some c =
-    c.permitted_for.ensures ∙ ap (λ session. permitted_to c.args.fs.now (subject_of session c.args.path.now (option_copied c.args.node))) c.in-Some.ensures
+    c.permitted_for.ensures ∙ ap (λ session. permitted_to c.args.fs.now (subject_of session (option_copied c.args.path) (option_copied c.args.node))) c.in-Some.ensures

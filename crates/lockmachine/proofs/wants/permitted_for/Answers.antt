@@ -7,7 +7,7 @@ use Rattle.lockmachine.proofs.wants.permitted_for.Goals as goal
 
 pub returns : goal.returns
 returns c =
-    let path = sym c.in-Some-Some.is-0 in
+    let path = sym (ap option_copied c.in-Some-Some.is-0) in
     let node = sym (ap option_copied c.in-Some-Some.is-1) in
     c.permitted.ensures
     ∙ ap (λ path. permitted_of (question c.args.fs.now c.args.session.now.caller path c.in-Some-Some.node.now.attr) c.args.session.now.grants) c.as_slice.ensures

@@ -10,6 +10,6 @@ decreases-rows l = length l.walk
 
 abbrev pub invariant-rows : goal.invariant-rows
 invariant-rows l = record {
-  wanted : fold (λ caps want. union caps want.1) l.wanted (each (want_by l.fs l.sessions l.path (option_copied l.node)) l.walk) ≡ union_of (each (want_by l.fs l.sessions l.path (option_copied l.node)) l.initial.walk);
-  loner : loner_with l.wanting (filter (λ want. is_more want.1) (each (want_by l.fs l.sessions l.path (option_copied l.node)) l.walk)) ≡ loner_of (each (want_by l.fs l.sessions l.path (option_copied l.node)) l.initial.walk);
+  wanted : fold (λ caps want. union caps want.1) l.wanted (each (want_by l.fs l.sessions (option_copied l.path) (option_copied l.node)) l.walk) ≡ union_of (each (want_by l.fs l.sessions (option_copied l.path) (option_copied l.node)) l.initial.walk);
+  loner : loner_with l.wanting (filter (λ want. is_more want.1) (each (want_by l.fs l.sessions (option_copied l.path) (option_copied l.node)) l.walk)) ≡ loner_of (each (want_by l.fs l.sessions (option_copied l.path) (option_copied l.node)) l.initial.walk);
 }

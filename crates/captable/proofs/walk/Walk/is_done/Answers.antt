@@ -1,6 +1,6 @@
-use Rattle.std.proofs.Common.{◌≡◌, length, ap, ◌∙◌}
+use Rattle.std.proofs.Common.{length, ap, ◌∙◌}
 use Rattle.std.specs.Prelude.{◌==◌}
-use Rattle.captable.specs.Walks.{name_of, rows_from}
+use Rattle.captable.specs.Walks.{name_of}
 use Rattle.captable.proofs.WalkOn.{ended-where}
 use Rattle.captable.proofs.walk.Walk.is_done.Goals as goal
 

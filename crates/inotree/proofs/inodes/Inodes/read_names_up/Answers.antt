@@ -5,7 +5,7 @@ use Rattle.inotree.specs.declared.node.Site.TheVariants.{Under}
 use Rattle.std.proofs.lemmas.List.{append-nil}
 use Rattle.inotree.specs.Tree.{site_of, dir_at, upward, names_up}
 use Rattle.inotree.proofs.Walks.{names_up-none, names_up-step, no_dir, not_under}
-use Rattle.inotree.proofs.inodes.Inodes.names_up.Goals as goal
+use Rattle.inotree.proofs.inodes.Inodes.read_names_up.Goals as goal
 
 pub loop-preserved : goal.loop-preserved
 loop-preserved c =
