@@ -14,14 +14,18 @@ use crate::name::Name;
 use crate::names::{MAX_NAMES, Names};
 use crate::node::{Node, Setting, Site};
 use capbits::Ino;
+use indexmap::IndexMap;
+use indexmap::map::Iter;
 use std::alloc::{AllocError, Global};
-use std::collections::{HashMap, hash_map};
 use std::marker::Model;
 
 // The inodes, by number.
 #[derive(Debug, Drop)]
 pub(crate) struct Inodes {
-    nodes: HashMap<u64, Node>,
+    nodes: IndexMap<u64, Node>,
+    // For each place among them, a guess at the place of the directory in which the inode there stands. A climb that goes by guesses
+    // searches for no number, and looks at each place whose it is; where a guess fails, it searches.
+    guesses: Vec<usize>,
 }
 
 impl Model for Inodes {
@@ -41,12 +45,13 @@ impl Inodes {
         ensures { result ≡ map.empty }
     {
         Inodes {
-            nodes: HashMap::new(alloc),
+            nodes: IndexMap::new(alloc),
+            guesses: Vec::new(alloc),
         }
     }
 
     // The inodes with their numbers, in no order that is promised.
-    fn iter(&self) -> hash_map::Iter<'_, u64, Node>
+    fn iter(&self) -> Iter<'_, u64, Node>
         ensures found { All (λ e. map.get self.now e.0 ≡ Some e.1) result }
         ensures all { (q : ℕ) → is_some (map.get self.now q) ≡ list_any (λ e. eq_by_cmp nat_cmp q e.0) result }
     {
@@ -84,7 +89,47 @@ impl Inodes {
         ensures err { OnErr result (self.new ≡ self.old) }
     {
         self.nodes.insert(ino, node)?;
+        self.guess(ino);
         Ok(())
+    }
+
+    // Guesses where the directory of an inode stands. A guess that finds no room is left out.
+    fn guess(&mut self, ino: u64)
+        ensures { self.new ≡ self.old }
+    {
+        let Some((place, _number, node)) = self.nodes.get_full(&ino) else {
+            return;
+        };
+        let above = match &node.site {
+            Site::Under { dir, .. } => self.nodes.get_index_of(&dir.0).unwrap_or(0),
+            Site::Root | Site::Stray => 0,
+        };
+        match self.guesses.get_mut(place) {
+            Some(kept) => *kept = above,
+            None => {
+                let _kept = self.guesses.push(above);
+            }
+        }
+    }
+
+    // The guess for a place.
+    fn guess_at(&self, place: usize) -> usize {
+        self.guesses.get(place).copied().unwrap_or(0)
+    }
+
+    // The inode of this number with its place, which may be the one that is guessed.
+    fn get_near(&self, ino: u64, guess: usize) -> Option<(usize, &Node)>
+        ensures { option_map (λ found. found.1.now) result ≡ map.get self.now ino }
+    {
+        if let Some((number, node)) = self.nodes.get_index(guess) {
+            if *number == ino {
+                return Some((guess, node));
+            }
+        }
+        match self.nodes.get_full(&ino) {
+            Some((place, _number, node)) => Some((place, node)),
+            None => None,
+        }
     }
 
     // Where the inode's name stands, if it has one.
@@ -132,16 +177,16 @@ impl Inodes {
         requires { names.old ≡ [] }
         ensures { names.new ≡ names_up MAX_NAMES self.now ino }
     {
-        let mut at = ino;
+        let (mut at, mut guess) = (ino, usize::MAX);
         for _ in 0..MAX_NAMES {
-            let Some(node) = self.get(at) else {
+            let Some((place, node)) = self.get_near(at, guess) else {
                 break;
             };
             let Site::Under { dir, name } = &node.site else {
                 break;
             };
             names.push(name.as_bytes());
-            at = dir.0;
+            (at, guess) = (dir.0, self.guess_at(place));
         }
     }
 
@@ -149,7 +194,19 @@ impl Inodes {
     pub(crate) fn remove(&mut self, ino: u64)
         ensures { self.new ≡ map.remove self.old ino }
     {
-        self.nodes.remove(&ino);
+        self.drop_guess(ino);
+        self.nodes.swap_remove(&ino);
+    }
+
+    // Drops the guess for an inode, to whose place the last one is to move.
+    fn drop_guess(&mut self, ino: u64)
+        ensures { self.new ≡ self.old }
+    {
+        if let Some(place) = self.nodes.get_index_of(&ino) {
+            if place < self.guesses.len() {
+                self.guesses.swap_remove(place);
+            }
+        }
     }
 
     // Moves an inode, if there is one of this number.
@@ -159,6 +216,7 @@ impl Inodes {
         if let Some(node) = self.nodes.get_mut(&ino) {
             node.site = site;
         }
+        self.guess(ino);
     }
 
     // Sets a field of an inode, if there is one of this number.

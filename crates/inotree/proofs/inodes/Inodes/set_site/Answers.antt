@@ -1,4 +1,4 @@
-use Rattle.std.proofs.Common.{ℕ, IsSome, refl, sym, ap, subst, ◌∙◌}
+use Rattle.std.proofs.Common.{◌≡◌, ℕ, IsSome, refl, sym, ap, subst, ◌∙◌}
 use Rattle.std.specs.FinMap as map
 use Rattle.inotree.specs.declared.node.Node.{Node}
 use Rattle.capbits.specs.Maps.{change_at}
@@ -11,7 +11,7 @@ pub returns : goal.returns
 returns c =
     let ino : ℕ = c.args.ino in
     let f : Node → Node = with_site c.args.site in
-    elim c.match-get_mut.branch [
+    let set : map.from_entries c.match-get_mut.self-inside.nodes.entries ≡ change_at f c.args.self.now ino = elim c.match-get_mut.branch [
       | in-Some w ↦
           let here = w.in-Some.ensures.value in
           let was : Node = w.in-Some.node.now in
@@ -24,4 +24,5 @@ returns c =
           ∙ ap (λ m. map.from_entries m.entries) c.get_mut.follows.holds-at-none
           ∙ change-no_hashed f c.self.inside.nodes.entries ino (sym w.in_default.ensures.value)
           ∙ ap (λ (m : InodeMap). change_at f m ino) c.self.view_is
-    ]
+    ] in
+    c.guess.ensures ∙ set
