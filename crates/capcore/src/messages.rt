@@ -120,7 +120,9 @@ impl Messages {
     pub(crate) fn into_list(self) -> EndedList
         ensures { result ≡ self.items }
     {
-        let Messages { items } = self;
+        let Messages { mut items } = self;
+        // The history keeps the list for good, but not the room for all who waited.
+        items.shrink_to_fit();
         EndedList::from(items)
     }
 
