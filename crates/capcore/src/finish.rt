@@ -129,10 +129,14 @@ fn finish_entries(
     let mut names = Names::new();
     let path = tree.read_path(ino, &mut names).then_some(&names);
     let node = tree.node(ino);
+    let mut place = table.first_place(ino);
     for number in numbers {
         let client = ClientId(*number);
         let holder = Holder { client, ino };
-        finish_entry(fs, tree, sessions, table, known, holder, path, node, locks);
+        finish_entry(
+            fs, tree, sessions, table, known, holder, place, path, node, locks,
+        );
+        place = table.place_after(place);
     }
 }
 
@@ -188,7 +192,7 @@ pub(crate) fn is_held(table: &CapTable, ino: Ino) -> bool
 // ---- of one entry
 
 // Issues what is due to the holder, whose inode has this path and this node in the tree, numbers what its client is to know of, and
-// keeps that.
+// keeps that. The place is a guess at where its entry stands.
 fn finish_entry(
     fs: &FsName,
     tree: &Tree,
@@ -196,6 +200,7 @@ fn finish_entry(
     table: &mut CapTable,
     known: &mut Known,
     holder: Holder,
+    place: usize,
     path: Option<&Names<'_>>,
     node: Option<&Node>,
     locks: &Option<InodeLocks>,
@@ -208,7 +213,7 @@ fn finish_entry(
         ≡ changed_by (words.entry_under (known_in known.old.sets) fs.now tree.now sessions.now locks.now) table.old holder }
     ensures known { KeptAnew (λ k. same k holder) (words.told_at fs.now tree.now sessions.now locks.now) table.old known.old.sets known.new.sets }
 {
-    if let Some(entry) = table.find(holder.client, holder.ino) {
+    if let Some(entry) = table.find_near(holder.client, holder.ino, place) {
         let row = EntryRow { holder, entry };
         let (permitted, wanted) = permitted_and_wanted(fs, sessions, row, path, node);
         let due = wanted.meet(allowed_under(&row, locks));

@@ -117,6 +117,28 @@ impl CapTable {
         Some(node.value.entry)
     }
 
+    /// The same, where the entry is guessed to stand at a place. If it does, it is not searched for.
+    pub fn find_near(&self, client: ClientId, ino: Ino, place: usize) -> Option<Entry>
+        ensures { result ≡ entry_at self.now (holder client ino) }
+    {
+        if let Some(node) = self.lists.get(place) {
+            if node.client.0 == client.0 && node.ino.0 == ino.0 {
+                return Some(node.value.entry);
+            }
+        }
+        self.find(client, ino)
+    }
+
+    /// The place of the first entry on an inode, in the order of making, for `find_near`; any place where there is none.
+    pub fn first_place(&self, ino: Ino) -> usize {
+        self.lists.first_of_ino(ino).unwrap_or(0)
+    }
+
+    /// The place of the entry on the same inode that was made next; any place where there is none.
+    pub fn place_after(&self, place: usize) -> usize {
+        self.lists.next_of_ino(place).unwrap_or(0)
+    }
+
     // ---- what would be refused
 
     /// Why no entry can be made: there are as many as there may be.

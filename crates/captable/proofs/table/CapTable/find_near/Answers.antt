@@ -1,0 +1,18 @@
+use Rattle.std.proofs.Common.{◌≡◌, Some, sym, ap, ◌∙◌}
+use Rattle.std.specs.Option.{option_map}
+use Rattle.cap_arena.specs.Lists.{node_at}
+use Rattle.captable.specs.declared.entry.Holder.{Holder}
+use Rattle.captable.specs.Nodes.{holder_of}
+use Rattle.captable.specs.Table.{holder, entry_at}
+use Rattle.captable.proofs.Reading.{entry-found}
+use Rattle.captable.proofs.table.CapTable.find_near.Goals as goal
+
+-- the node that stands at the place is the holder's, so the holder's key is this place
+pub returns-then-node-ino : goal.returns-then-node-ino
+returns-then-node-ino c =
+    let h : Holder = holder c.args.client c.args.ino in
+    let there : node_at c.self.inside.lists c.args.place ≡ Some c.in-Some.node = sym c.in-Some.ensures.node in
+    let mine : holder_of c.in-Some.node ≡ h = λ i. holder (record { 0 = c.if-node-client.true i }) (record { 0 = c.if-node-ino.true i }) in
+    let key = c.self.invariant.0.keyed.to_key h c.args.place (ap (option_map holder_of) there ∙ ap Some mine) in
+    sym (entry-found c.self.inside.lists c.self.inside.keys c.self.inside.made c.self.invariant.0 h c.args.place c.in-Some.node key there)
+    ∙ ap (λ t. entry_at t h) c.self.view_is
