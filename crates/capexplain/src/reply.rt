@@ -10,11 +10,14 @@ use capgrant::{Access, Rule, Rules};
 use captable::Holder;
 use std::alloc::{AllocError, Global};
 
+// How many bytes most replies have at the most. A list for one grows but once.
+const USUAL_LINE: usize = 64;
+
 /// The text of a reply: a line, with its line feed; behind that of messages one more for each of them.
 pub fn reply_lines(alloc: Global, reply: &Reply) -> Result<Vec<u8>, AllocError>
     ensures { IfOk result (λ text. text.items ≡ reply_text reply.now) }
 {
-    let mut text = Vec::new(alloc);
+    let mut text = Vec::with_capacity(alloc, USUAL_LINE)?;
     print_reply(&mut text, reply)?;
     text.push(b'\n')?;
     if let Reply::Messages(messages) = reply {
