@@ -1,5 +1,5 @@
 -- The locks of each inode.
-use Rattle.std.specs.Prelude.{ℕ}
+use Rattle.std.specs.Prelude.{ℕ, Bool, true, false, ◌||◌}
 use Rattle.std.specs.Ordering.{nat_cmp}
 use Rattle.std.specs.FinMap as map
 use Rattle.std.specs.FinMap.{FinMap}
@@ -7,7 +7,7 @@ use Rattle.capbits.specs.declared.cap.Part.{Part}
 use Rattle.capbits.specs.declared.cap.Part.TheVariants.{A, L, X, F}
 use Rattle.locktable.specs.declared.states.State.TheVariants.{Sync}
 use Rattle.locktable.specs.declared.states.LockState.{LockState}
-use Rattle.locktable.specs.declared.states.LockState.TheVariants.{Stable}
+use Rattle.locktable.specs.declared.states.LockState.TheVariants.{Stable, Gather}
 use Rattle.lockmachine.specs.declared.states.InodeLocks.{InodeLocks}
 
 -- the locks of each inode, by its number
@@ -30,3 +30,12 @@ with_lock_in F state locks = record locks { file = state }
 -- the locks of a new inode
 abbrev pub in_sync : InodeLocks
 in_sync = record { auth = Stable Sync; link = Stable Sync; xattr = Stable Sync; file = Stable Sync }
+
+-- a lock is in a gather
+abbrev pub is_gather : LockState → Bool
+is_gather (Stable state) = false
+is_gather (Gather from to) = true
+
+-- one of the four is
+abbrev pub is_gathering : InodeLocks → Bool
+is_gathering locks = is_gather locks.auth || (is_gather locks.link || (is_gather locks.xattr || is_gather locks.file))

@@ -292,8 +292,11 @@ impl Locks {
     fn first_end(&self, table: &CapTable, ino: Ino) -> Option<Part>
         ensures { result ≡ find (λ part. moves.may_end_by table.now self.now (ino.0, part)) moves.parts }
     {
-        // The inode's locks are looked up once, and not for each part.
+        // The inode's locks are looked up once, and not for each part. Mostly none of them is in a gather.
         let four = self.states.get(ino)?;
+        if !four.is_gathering() {
+            return None;
+        }
         PARTS
             .iter()
             .copied()

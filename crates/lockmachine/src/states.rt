@@ -51,6 +51,16 @@ impl InodeLocks {
         }
     }
 
+    // Whether one of them is in a gather.
+    pub(crate) fn is_gathering(&self) -> bool
+        ensures { result ≡ words.is_gathering self.now }
+    {
+        is_gather(self.auth)
+            || is_gather(self.link)
+            || is_gather(self.xattr)
+            || is_gather(self.file)
+    }
+
     // The lock of a part is in another state.
     pub(crate) fn set(&mut self, part: Part, state: LockState)
         ensures { self.new ≡ words.with_lock_in part state self.old }
@@ -61,6 +71,16 @@ impl InodeLocks {
             Part::X => self.xattr = state,
             Part::F => self.file = state,
         }
+    }
+}
+
+// Whether a lock is in a gather.
+fn is_gather(lock: LockState) -> bool
+    ensures { result ≡ words.is_gather lock }
+{
+    match lock {
+        LockState::Gather { .. } => true,
+        LockState::Stable(_) => false,
     }
 }
 
