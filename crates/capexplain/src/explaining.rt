@@ -7,6 +7,9 @@ use crate::text::print;
 use capgrant::{Access, Rule, Verdict};
 use std::alloc::{AllocError, Global};
 
+// How many bytes most lines have at the most. A list for one grows but once.
+const USUAL_LINE: usize = 128;
+
 /// The line that says what the verdict is on the access to the inode with these names from the root down, and by which
 /// grant or rules: each grant has its number, from 1. It has no line feed. Only memory can be missing.
 pub fn explain_line(
@@ -17,7 +20,7 @@ pub fn explain_line(
 ) -> Result<Vec<u8>, AllocError>
     ensures { IfOk result (λ line. line.items ≡ explain_text access (map (λ name. name.now) path.now) verdict.now) }
 {
-    let mut line = Vec::new(alloc);
+    let mut line = Vec::with_capacity(alloc, USUAL_LINE)?;
     match verdict {
         Verdict::Allowed { grant } => {
             print(&mut line, format_args!("allowed {access} "))?;
