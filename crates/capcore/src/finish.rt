@@ -232,8 +232,9 @@ fn issue(table: &mut CapTable, row: &EntryRow, due: CapSet, known: CapSet, told:
     let (client, ino) = (row.holder.client, row.holder.ino);
     let before = known.meet(row.entry.held);
     // Most entries of an inode stay as they are.
+    let unheld = due.minus(row.entry.held);
     let (lost, gained) = (before.minus(told), told.minus(before));
-    if due.is_empty() && lost.is_empty() && gained.is_empty() {
+    if unheld.is_empty() && lost.is_empty() && gained.is_empty() {
         return;
     }
     table.issue_numbered(client, ino, due, before, told);

@@ -1,7 +1,7 @@
-use Rattle.std.proofs.Common.{◌≡◌, ◌<◌, Option, true, true≢false, refl, sym, ap, subst, ◌∙◌}
+use Rattle.std.proofs.Common.{◌≡◌, ◌<◌, Bool, true, false, ◌&&◌, not, Option, true≢false, refl, sym, ap, subst, ◌∙◌}
 use Rattle.std.specs.Prelude.{IfSome}
-use Rattle.capbits.specs.Caps.{Caps}
-use Rattle.capbits.specs.Sets.{no_caps, is_empty, union, meet, minus, same_caps, has-union, has-none}
+use Rattle.capbits.specs.Caps.{Caps, has}
+use Rattle.capbits.specs.Sets.{no_caps, is_empty, union, meet, minus, same_caps, has-union, has-minus, has-none}
 use Rattle.captable.specs.declared.entry.Entry.{Entry}
 use Rattle.captable.specs.declared.entry.Holder.{Holder}
 use Rattle.captable.specs.Table.{Table}
@@ -24,8 +24,14 @@ returns c =
     c.issue_numbered.ensures
     ∙ sym (put_found t k e (words.numbered_as c.args.known c.args.told c.args.due c.args.row.now) number c.requires.there is)
 
-union-none : (caps : Caps) → union caps no_caps ≡ caps
-union-none caps = same_caps _ _ (λ c. has-union caps no_caps c ∙ or_inside _ _ (λ yes. absurd (true≢false (sym yes ∙ has-none c))))
+both : (a b : Bool) → (a && not b) ≡ false → a ≡ true → b ≡ true
+both true true none here = refl
+both true false none here = absurd (true≢false none)
+both false b none here = cc
+
+-- what is due and held already adds nothing
+union-held : (held due : Caps) → minus due held ≡ no_caps → union held due ≡ held
+union-held held due none = same_caps _ _ (λ c. has-union held due c ∙ or_inside _ _ (both (has due c) (has held c) (sym (has-minus due held c) ∙ ap (λ caps. has caps c) none ∙ has-none c)))
 
 unchanged : (before after : Caps) (e : Entry) → is_empty (minus before after) ≡ true → is_empty (minus after before) ≡ true → renumbered before after e ≡ e
 unchanged before after e lost gained = rw lost (rw gained refl)
@@ -33,7 +39,7 @@ unchanged before after e lost gained = rw lost (rw gained refl)
 pub returns-then-is_empty-3 : goal.returns-then-is_empty-3
 returns-then-is_empty-3 c =
     let e : Entry = c.args.row.now.entry in
-    let held : union e.held c.args.due ≡ e.held = ap (union e.held) (c.is_empty.ensures.none.0 c.if-is_empty.true) ∙ union-none e.held in
+    let held : union e.held c.args.due ≡ e.held = union-held e.held c.args.due (sym c.minus-unheld.ensures ∙ c.is_empty.ensures.none.0 c.if-is_empty.true) in
     let lost : is_empty (minus (meet c.args.known e.held) c.args.told) ≡ true =
     ap (λ b. is_empty (minus b c.args.told)) (sym c.meet-before.ensures) ∙ ap is_empty (sym c.minus-lost.ensures) ∙ sym c.is_empty-then-is_empty.ensures.value ∙ c.if-is_empty-2.true in
     let gained : is_empty (minus c.args.told (meet c.args.known e.held)) ≡ true =
