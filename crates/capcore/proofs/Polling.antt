@@ -1,5 +1,5 @@
 -- The messages that a walk over a client's entries lists, and what giving them leaves.
-use Rattle.std.proofs.Common.{Contains, Option, ◌≡◌, ◌≤◌, ℕ, zero, suc, Bool, true, false, cond, ◌&&◌, ◌||◌, List, [], ◌∷◌, ◌++◌, length, take, filter, map, refl, sym, ap, subst, ◌∙◌, append_assoc, append-nil, arith}
+use Rattle.std.proofs.Common.{Contains, Option, ◌≡◌, ◌≤◌, ◌-◌, ℕ, zero, suc, Bool, true, false, cond, ◌&&◌, ◌||◌, List, [], ◌∷◌, ◌++◌, length, take, filter, map, refl, sym, ap, subst, ◌∙◌, append_assoc, append-nil, arith}
 use Rattle.std.specs.Prelude.{◌==◌, nat_lt}
 use Rattle.std.specs.List.{list_any, flat_map, IsDistinct}
 use Rattle.std.specs.Cmp.{nat_eq_equiv}
@@ -98,6 +98,18 @@ due-rows s (row ∷ rows) = by_test (is_due row) refl (due-rows s rows)
         λ i. cond (p.0 i) (message.Caps row.holder.ino row.entry.seq (told_set s row) ∷ []) []
         ++ cond (q.0 i) (size_message row.holder.ino (finite.get s.tree.nodes row.holder.ino.0)) [] ++ cond (q.1 i) (message.Recall row.holder.ino ∷ []) [] in
         rest ∙ ap (λ ms. ms ++ due_of s rows) (sym none)
+
+-- nor do those that are left, where none of them is due
+pub listed-done : (max : ℕ) (s : Scene) (first : List Message) (rows left : List EntryRow) (listed : List Message) → filter is_due left ≡ [] → IsListed max s first rows listed left → IsListed max s first rows listed []
+listed-done max s first rows left listed none so_far = record { is = ap (λ ms. take max (listed ++ ms)) (sym (sym (due-rows s left) ∙ ap (due_of s) none)) ∙ so_far.is }
+
+-- how many are due behind one
+pub left-behind : (row : EntryRow) (rows : List EntryRow) (n : ℕ) → n ≡ length (filter is_due (row ∷ rows)) → cond (is_due row) (n - 1) n ≡ length (filter is_due rows)
+left-behind row rows n is = by_test (is_due row) is
+  where
+    by_test : (b : Bool) → n ≡ length (cond b (row ∷ filter is_due rows) (filter is_due rows)) → cond b (n - 1) n ≡ length (filter is_due rows)
+    by_test true is = omega (arith, is)
+    by_test false is = is
 
 -- what a walk over those of the client's entries that are due has listed
 pub listed-first : (s : State) (client : ClientId) (max : ℕ) (t : Table) (ended : List Ended) (rows : List EntryRow) (listed : List Message) → filter is_due rows ≡ filter is_due (filter (is_of_client client) t.rows) → s.scene.table ≡ t → s.messages ≡ ended

@@ -1,6 +1,6 @@
 //! The messages that a client is given when it asks for them.
-ghost use Rattle.std.specs.Prelude.{◌≡◌, ◌≤◌, ◌++◌, [], ◌∷◌, true, nat_lt, length, take, IfOk, OnOk};
-ghost use Rattle.captable.specs.Calls.{is_of_client};
+ghost use Rattle.std.specs.Prelude.{◌≡◌, ◌≤◌, ◌-◌, ◌++◌, [], ◌∷◌, true, nat_lt, length, take, if◌then◌else◌, IfOk, OnOk};
+ghost use Rattle.captable.specs.Calls.{is_of_client, is_due};
 ghost use Rattle.captable.specs.Many.{changed_where};
 ghost use Rattle.lockmachine.specs.Scene.{Scene, told_set};
 ghost use Rattle.capcore.specs.Known.{AreKnown, known_in};
@@ -30,14 +30,34 @@ pub(crate) fn due_messages(
         → due ≡ first_messages s client max) }
 {
     let mut due = ended_messages(alloc, ended, client, max)?;
+    let mut left = table.due_count(client);
+    if left == 0 {
+        return Ok(due);
+    }
     let mut walk = table.due_of(client);
     'rows: while let Some(row) = walk.next() {
         add_due(&mut due, max, tree, known, &row)?;
+        left = left_behind(left, &row);
+        // Behind the last that is due the walk would come to nothing.
+        if left == 0 {
+            return Ok(due);
+        }
         if due.as_slice().len() >= max as usize {
             return Ok(due);
         }
     }
     Ok(due)
+}
+
+// How many entries that are due come behind this one, where so many come from it on.
+fn left_behind(left: usize, row: &EntryRow) -> usize
+    ensures { result ≡ (if is_due row.now then left - 1 else left) }
+{
+    if row.entry.is_due() {
+        left.saturating_sub(1)
+    } else {
+        left
+    }
 }
 
 // The first messages of a client's requests that ended, at most so many.

@@ -2,6 +2,8 @@ pub mod Absent
 pub mod ByHolder
 pub mod ByInode
 pub mod Changes
+pub mod Counting
+pub mod Counted
 pub mod Empty
 pub mod Keeping
 pub mod Moves

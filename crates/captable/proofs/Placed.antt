@@ -21,12 +21,12 @@ abbrev has_first : List ℕ → Bool
 has_first ks = is_some (slice_get ks 0)
 
 -- a place that changed is one still
-pub still : (f : Option ℕ → Option ℕ) (b : Bool) (o : Option (Option ℕ)) → is_some (cond b (option_map f o) o) ≡ is_some o
+pub still : {V : Type 0} (f : V → V) (b : Bool) (o : Option V) → is_some (cond b (option_map f o) o) ≡ is_some o
 still f true None = refl
 still f true (Some place) = refl
 still f false o = refl
 
-has-first : (ks : List ℕ) (key : ℕ) → is_among ks key ≡ true → has_first ks ≡ true
+pub has-first : (ks : List ℕ) (key : ℕ) → is_among ks key ≡ true → has_first ks ≡ true
 has-first [] key there = absurd (cc)
 has-first (k ∷ ks) key there = refl
 
@@ -50,30 +50,29 @@ without-other (k ∷ ks) key none = by_test (nat_eq key k) refl (without-other k
 
 -- ---- the same lists
 
-pub placed-alike : {S : Type 0} (t t' : Lists Slot) (places places' : HashMap ClientId (Option ℕ) S) → ((q : ClientId) → keys t' (OfClient q) ≡ keys t (OfClient q))
+pub placed-alike : {V S : Type 0} (t t' : Lists Slot) (places places' : HashMap ClientId V S) → ((q : ClientId) → keys t' (OfClient q) ≡ keys t (OfClient q))
     → ((q : ClientId) → is_some (get same_client places' q) ≡ is_some (get same_client places q)) → ArePlaced t places → ArePlaced t' places'
 placed-alike t t' places places' lists alike all q = alike q ∙ all q ∙ ap has_first (sym (lists q))
 
-pub placed-set : {S : Type 0} (t t' : Lists Slot) (key : ℕ) (x : Entry) → SetsEntry t t' key x → (client : ClientId) (f : Option ℕ → Option ℕ) (places places' : HashMap ClientId (Option ℕ) S)
+pub placed-set : {V S : Type 0} (t t' : Lists Slot) (key : ℕ) (x : Entry) → SetsEntry t t' key x → (client : ClientId) (f : V → V) (places places' : HashMap ClientId V S)
     → ((q : ClientId) → get same_client places' q ≡ cond (same_client client q) (option_map f (get same_client places q)) (get same_client places q)) → ArePlaced t places → ArePlaced t' places'
 placed-set t t' key x sets client f places places' updates all =
     placed-alike t t' places places' (λ q. sets.lists (OfClient q)) (λ q. ap is_some (updates q) ∙ still f (same_client client q) (get same_client places q)) all
 
-pub placed-touched : {S : Type 0} (t t' : Lists Slot) (key : ℕ) → Touches t t' key → (places : HashMap ClientId (Option ℕ) S) → ArePlaced t places → ArePlaced t' places
+pub placed-touched : {V S : Type 0} (t t' : Lists Slot) (key : ℕ) → Touches t t' key → (places : HashMap ClientId V S) → ArePlaced t places → ArePlaced t' places
 placed-touched t t' key touches places all = placed-alike t t' places places (λ q. touches.clients q) (λ q. refl) all
 
-pub ArePlaced-empty : {S : Type 0} (t : Lists Slot) (places : HashMap ClientId (Option ℕ) S) → t ≡ empty → places.entries ≡ [] → ArePlaced t places
+pub ArePlaced-empty : {V S : Type 0} (t : Lists Slot) (places : HashMap ClientId V S) → t ≡ empty → places.entries ≡ [] → ArePlaced t places
 ArePlaced-empty t places nodes none client =
     ap (λ es. is_some (lookup (same_client client) es)) none ∙ ap (λ (t : Lists Slot). has_first (keys t (OfClient client))) (sym nodes)
 
 -- ---- the same places, as behind a reserve
 
-module _ {S : Type 0} (t : Lists Slot) (places places' : HashMap ClientId (Option ℕ) S) (same : (q : ClientId) → get same_client places' q ≡ get same_client places q) where
-  pub quiet-same : AreQuiet t places → AreQuiet t places'
-  quiet-same all q place e = all q place (sym (same q) ∙ e)
+pub quiet-same : {S : Type 0} (t : Lists Slot) (places places' : HashMap ClientId (Option ℕ) S) → ((q : ClientId) → get same_client places' q ≡ get same_client places q) → AreQuiet t places → AreQuiet t places'
+quiet-same t places places' same all q place e = all q place (sym (same q) ∙ e)
 
-  pub placed-same : ArePlaced t places → ArePlaced t places'
-  placed-same all q = ap is_some (same q) ∙ all q
+pub placed-same : {V S : Type 0} (t : Lists Slot) (places places' : HashMap ClientId V S) → ((q : ClientId) → get same_client places' q ≡ get same_client places q) → ArePlaced t places → ArePlaced t places'
+placed-same t places places' same all q = ap is_some (same q) ∙ all q
 
 -- ---- one node more
 
@@ -91,17 +90,20 @@ module _ {S : Type 0} (t : Lists Slot) (client : ClientId) (places places' : Has
       by_test true e = own (get same_client places q) refl e
       by_test false e = all q place e
 
-  pub placed-begun : (t' : Lists Slot) (key : ℕ) (x : Node Slot) → Adds t t' key x → x.client ≡ client → ArePlaced t places → ArePlaced t' places'
-  placed-begun t' key x adds of all q =
-      ap is_some (updates q) ∙ by_test (same_client client q) ∙ ap has_first (sym (adds.lists (OfClient q) ∙ ap (λ c. cond (same_client c q) (keys t (OfClient q) ++ key ∷ []) (keys t (OfClient q))) of))
-    where
-      one : (o : Option (Option ℕ)) → is_some (begun o) ≡ true
-      one None = refl
-      one (Some p) = refl
+-- what is kept of the node's client is there then
+pub placed-begun : {V S : Type 0} (t : Lists Slot) (client : ClientId) (g : Option V → Option V) → ((o : Option V) → is_some (g o) ≡ true) → (places places' : HashMap ClientId V S)
+    → ((q : ClientId) → get same_client places' q ≡ cond (same_client client q) (g (get same_client places q)) (get same_client places q))
+    → (t' : Lists Slot) (key : ℕ) (x : Node Slot) → Adds t t' key x → x.client ≡ client → ArePlaced t places → ArePlaced t' places'
+placed-begun t client g there places places' updates t' key x adds of all q =
+    ap is_some (updates q) ∙ by_test (same_client client q) ∙ ap has_first (sym (adds.lists (OfClient q) ∙ ap (λ c. cond (same_client c q) (keys t (OfClient q) ++ key ∷ []) (keys t (OfClient q))) of))
+  where
+    by_test : (b : Bool) → is_some (cond b (g (get same_client places q)) (get same_client places q)) ≡ has_first (cond b (keys t (OfClient q) ++ key ∷ []) (keys t (OfClient q)))
+    by_test true = there (get same_client places q) ∙ sym (has-more (keys t (OfClient q)) key)
+    by_test false = all q
 
-      by_test : (b : Bool) → is_some (cond b (begun (get same_client places q)) (get same_client places q)) ≡ has_first (cond b (keys t (OfClient q) ++ key ∷ []) (keys t (OfClient q)))
-      by_test true = one (get same_client places q) ∙ sym (has-more (keys t (OfClient q)) key)
-      by_test false = all q
+pub begun-there : (o : Option (Option ℕ)) → is_some (begun o) ≡ true
+begun-there None = refl
+begun-there (Some p) = refl
 
 -- ---- one node less
 
@@ -116,22 +118,24 @@ module _ {S : Type 0} (t : Lists Slot) (client : ClientId) (first : Option ℕ) 
       by_test true (Some k) e = all q place e
       by_test false o e = all q place e
 
-  pub placed-removed : (was : Lists Slot) (key : ℕ) → Removes was t key → IsLists was → (n : Node Slot) → node_at was key ≡ Some n → n.client ≡ client → first ≡ slice_get (keys t (OfClient client)) 0
-      → (f : Option ℕ → Option ℕ) (places : HashMap ClientId (Option ℕ) S) → ((q : ClientId) → get same_client moved q ≡ cond (same_client client q) (option_map f (get same_client places q)) (get same_client places q))
-      → ArePlaced was places → ArePlaced t places'
-  placed-removed was key removes sound n there of first_is f places moves all q = ap is_some (ends q) ∙ by_test (same_client client q) refl
-    where
-      had : is_some (get same_client moved q) ≡ has_first (keys was (OfClient q))
-      had = ap is_some (moves q) ∙ still f (same_client client q) (get same_client places q) ∙ all q
+pub placed-removed : {V S : Type 0} (t : Lists Slot) (client : ClientId) (first : Option ℕ) (moved places' : HashMap ClientId V S)
+    → ((q : ClientId) → get same_client places' q ≡ cond (same_client client q) (left first (get same_client moved q)) (get same_client moved q))
+    → (was : Lists Slot) (key : ℕ) → Removes was t key → IsLists was → (n : Node Slot) → node_at was key ≡ Some n → n.client ≡ client → first ≡ slice_get (keys t (OfClient client)) 0
+    → (f : V → V) (places : HashMap ClientId V S) → ((q : ClientId) → get same_client moved q ≡ cond (same_client client q) (option_map f (get same_client places q)) (get same_client places q))
+    → ArePlaced was places → ArePlaced t places'
+placed-removed t client first moved places' ends was key removes sound n there of first_is f places moves all q = ap is_some (ends q) ∙ by_test (same_client client q) refl
+  where
+    had : is_some (get same_client moved q) ≡ has_first (keys was (OfClient q))
+    had = ap is_some (moves q) ∙ still f (same_client client q) (get same_client places q) ∙ all q
 
-      own : (o : Option ℕ) → is_some (get same_client moved q) ≡ true → is_some (left o (get same_client moved q)) ≡ is_some o
-      own None has = refl
-      own (Some k) has = has
+    own : (o : Option ℕ) → is_some (get same_client moved q) ≡ true → is_some (left o (get same_client moved q)) ≡ is_some o
+    own None has = refl
+    own (Some k) has = has
 
-      by_test : (b : Bool) → same_client client q ≡ b → is_some (cond b (left first (get same_client moved q)) (get same_client moved q)) ≡ has_first (keys t (OfClient q))
-      by_test true same =
-          let mine : belongs (OfClient q) n ≡ true = ap (λ c. same_client c q) of ∙ same in
-          let has : is_some (get same_client moved q) ≡ true = had ∙ has-first (keys was (OfClient q)) key (is_in was sound (OfClient q) key n there mine) in
-          own first has ∙ ap is_some first_is ∙ ap (λ c. has_first (keys t (OfClient c))) (clients-same client q same)
-      by_test false other =
-          had ∙ ap has_first (sym (removes.lists (OfClient q) ∙ without-other (keys was (OfClient q)) key (λ listed. elsewhere was sound key n there client q of other listed)))
+    by_test : (b : Bool) → same_client client q ≡ b → is_some (cond b (left first (get same_client moved q)) (get same_client moved q)) ≡ has_first (keys t (OfClient q))
+    by_test true same =
+        let mine : belongs (OfClient q) n ≡ true = ap (λ c. same_client c q) of ∙ same in
+        let has : is_some (get same_client moved q) ≡ true = had ∙ has-first (keys was (OfClient q)) key (is_in was sound (OfClient q) key n there mine) in
+        own first has ∙ ap is_some first_is ∙ ap (λ c. has_first (keys t (OfClient c))) (clients-same client q same)
+    by_test false other =
+        had ∙ ap has_first (sym (removes.lists (OfClient q) ∙ without-other (keys was (OfClient q)) key (λ listed. elsewhere was sound key n there client q of other listed)))

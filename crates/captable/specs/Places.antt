@@ -42,8 +42,8 @@ IsQuiet lists client place = IsQuietIn (keys lists (OfClient client)) (is_due_at
 abbrev pub AreQuiet : {S : Type 0} → Lists Slot → HashMap ClientId (Option ℕ) S → Type 0
 AreQuiet lists places = (client : ClientId) (place : Option ℕ) → get same_client places client ≡ Some place → IsQuiet lists client place
 
--- who has an entry has a place, and nobody else
-abbrev pub ArePlaced : {S : Type 0} → Lists Slot → HashMap ClientId (Option ℕ) S → Type 0
+-- who has an entry has a place, or whatever is kept of clients, and nobody else
+abbrev pub ArePlaced : {V S : Type 0} → Lists Slot → HashMap ClientId V S → Type 0
 ArePlaced lists places = (client : ClientId) → is_some (get same_client places client) ≡ is_some (slice_get (keys lists (OfClient client)) 0)
 
 -- the place that is kept; the end, where none is
@@ -59,7 +59,7 @@ begun None = Some None
 begun (Some place) = Some place
 
 -- it stays where the list has a first key
-abbrev pub left : Option ℕ → Option (Option ℕ) → Option (Option ℕ)
+abbrev pub left : {V : Type 0} → Option ℕ → Option V → Option V
 left None place = None
 left (Some first) place = place
 

@@ -69,8 +69,8 @@ impl Entry {
         }
     }
 
-    // Whether the client was not told of the last change, is still to be told the size, or is asked to give back.
-    pub(crate) fn is_due(&self) -> bool
+    /// Whether the client was not told of the last change, is still to be told the size, or is asked to give back.
+    pub fn is_due(&self) -> bool
         ensures { result ≡ words.is_due_entry self.now }
     {
         self.told_seq < self.seq || self.size_due || self.asked

@@ -3,6 +3,7 @@
 //! Public source: "Capabilities in CephFS" in the Ceph documentation.
 #![tactic(auto)]
 
+mod counts;
 mod entry;
 mod holders;
 mod laws;

@@ -129,7 +129,7 @@ pub(crate) fn quiet_place(
 }
 
 // Whether the node's entry is due.
-fn is_due_at(lists: &TripleLists<Slot>, key: usize) -> bool
+pub(crate) fn is_due_at(lists: &TripleLists<Slot>, key: usize) -> bool
     ensures { result ≡ words.is_due_at lists.now key }
 {
     match lists.get(key) {
@@ -155,7 +155,11 @@ fn first_due(lists: &TripleLists<Slot>, client: ClientId, from: Option<usize>) -
 }
 
 // The client has this place in place of its own, where it has one.
-fn set_place(places: &mut HashMap<ClientId, Option<usize>>, client: ClientId, place: Option<usize>)
+pub(crate) fn set_place(
+    places: &mut HashMap<ClientId, Option<usize>>,
+    client: ClientId,
+    place: Option<usize>,
+)
     ensures { (q : ClientId) → get same_client places.new q
         ≡ (if same_client client q then option_map (λ _. place) (get same_client places.old q) else get same_client places.old q) }
 {

@@ -1,10 +1,13 @@
 //! The table of entries.
-ghost use Rattle.std.specs.Prelude.{◌≡◌, ◌<◌, ◌^◌, ◌-◌, true, false, [], ◌∷◌, IfSome, IfOk, OnOk, OnErr, None, slice_get, take, filter};
+ghost use Rattle.std.specs.Prelude.{◌≡◌, ◌<◌, ◌^◌, ◌-◌, true, false, [], ◌∷◌, IfSome, IfOk, OnOk, OnErr, None, length, slice_get, take, filter};
 
+use crate::counts::{begin_count, count_again, count_of, end_count};
 use crate::entry::{Entry, Holder, Slot};
 use crate::holders::Holders;
 use crate::nodes::{add_node, holder_at, remove_node, set_entry, touch_node};
-use crate::places::{begin_place, end_place, lower_place, move_place, quiet_place, skip_place};
+use crate::places::{
+    begin_place, end_place, is_due_at, lower_place, move_place, quiet_place, set_place, skip_place,
+};
 use crate::walk::Walk;
 use cap_arena::{MAX_NODES, TripleLists};
 use capbits::{Cap, CapSet, ClientId, Ino, Refusal};
@@ -27,6 +30,8 @@ pub struct CapTable {
     keys: HashMap<Holder, usize>,
     // Of each client with an entry, a place in the list of its nodes, before which no entry is due.
     quiet: HashMap<ClientId, Option<usize>>,
+    // And how many of its entries are due.
+    due: HashMap<ClientId, usize>,
     // How many entries were made so far.
     made: u64,
 }
@@ -37,6 +42,7 @@ impl Model for CapTable {
     ghost use Rattle.captable.specs.Nodes.{table_of};
     ghost use Rattle.captable.specs.Kept.{Kept};
     ghost use Rattle.captable.specs.Places.{AreQuiet, ArePlaced};
+    ghost use Rattle.captable.specs.Counts.{AreCounted};
 
     ghost Value = { Table };
 
@@ -44,7 +50,8 @@ impl Model for CapTable {
 
     ghost view = { λ t. table_of t.lists t.made };
 
-    ghost invariant = { λ t. Kept t.lists t.keys t.made × AreQuiet t.lists t.quiet × ArePlaced t.lists t.quiet };
+    ghost invariant = { λ t. Kept t.lists t.keys t.made × AreQuiet t.lists t.quiet × ArePlaced t.lists t.quiet
+        × AreCounted (table_of t.lists t.made).rows t.due × ArePlaced t.lists t.due };
 }
 
 // By hand, so that a caller which lets one go has one call to prove, and no step for each of its parts.
@@ -55,6 +62,7 @@ impl Drop for CapTable {
             lists: _lists,
             keys: _keys,
             quiet: _quiet,
+            due: _due,
             made: _made,
         } = self;
     }
@@ -91,11 +99,13 @@ impl CapTable {
         let lists = TripleLists::new(alloc)?;
         let keys = HashMap::new(alloc);
         let quiet = HashMap::new(alloc);
+        let due = HashMap::new(alloc);
         Ok(CapTable {
             alloc,
             lists,
             keys,
             quiet,
+            due,
             made: 0,
         })
     }
@@ -210,9 +220,10 @@ impl CapTable {
         ensures err { OnErr result (self.new ≡ self.old) }
     {
         let holder = Holder { client, ino };
-        // Room for the key and for the client's place comes first, since a node that was added stays.
+        // Room for the key, the client's place and its count comes first, since a node that was added stays.
         self.keys.reserve(1)?;
         self.quiet.reserve(1)?;
+        self.due.reserve(1)?;
         let entry = Entry::new();
         let number = self.made;
         let slot = Slot { entry, number };
@@ -222,6 +233,7 @@ impl CapTable {
             Err(_) => unreachable!(),
         }
         begin_place(&mut self.quiet, client);
+        begin_count(&mut self.due, client);
         self.made += 1;
         Ok(())
     }
@@ -231,8 +243,11 @@ impl CapTable {
         ensures { self.new ≡ changed self.old holder (λ _. entry) }
     {
         if let Some(key) = self.keys.get(&holder) {
+            let was = is_due_at(&self.lists, *key);
+            let is = entry.is_due();
             set_entry(&mut self.lists, *key, entry);
-            if entry.is_due() {
+            count_again(&mut self.due, holder.client, was, is);
+            if is {
                 lower_place(&mut self.quiet, &self.lists, holder.client, *key);
             }
         }
@@ -390,9 +405,12 @@ impl CapTable {
     {
         if let Some(key) = self.keys.remove(&holder) {
             let next = self.lists.next_of_client(key);
+            let was = is_due_at(&self.lists, key);
             remove_node::<Brand>(&mut self.lists, key, Blank::new(1));
             move_place(&mut self.quiet, holder.client, key, next);
             end_place(&mut self.quiet, &self.lists, holder.client);
+            count_again(&mut self.due, holder.client, was, false);
+            end_count(&mut self.due, &self.lists, holder.client);
         }
     }
 
@@ -432,12 +450,23 @@ impl CapTable {
         Walk::from_place(&self.lists, client, at)
     }
 
+    /// How many of the client's entries are due.
+    pub fn due_count(&self, client: ClientId) -> usize
+        ensures { result ≡ length (filter is_due (filter (is_of_client client) self.now.rows)) }
+    {
+        count_of(&self.due, client)
+    }
+
     /// Walks over those of the client's entries that are not due, up to the first that is, so that `due_of` begins there.
     /// It takes no memory: the client has its place since it has an entry.
     pub fn skip_quiet(&mut self, client: ClientId)
         ensures { self.new ≡ self.old }
     {
-        skip_place(&mut self.quiet, &self.lists, client);
+        if count_of(&self.due, client) == 0 {
+            set_place(&mut self.quiet, client, None);
+        } else {
+            skip_place(&mut self.quiet, &self.lists, client);
+        }
     }
 
     /// The entries on the inode, in the order of making.

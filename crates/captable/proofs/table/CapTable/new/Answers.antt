@@ -1,3 +1,8 @@
+use Rattle.std.proofs.Common.{ap}
+use Rattle.cap_arena.specs.Lists.{Lists}
+use Rattle.captable.specs.declared.entry.Slot.{Slot}
+use Rattle.captable.specs.Nodes.{table_of}
+use Rattle.captable.proofs.Counting.{AreCounted-empty}
 use Rattle.captable.proofs.Empty.{Kept-empty, AreQuiet-empty}
 use Rattle.captable.proofs.Placed.{ArePlaced-empty}
 use Rattle.captable.proofs.table.CapTable.new.Goals as goal
@@ -7,4 +12,6 @@ invariant_of-result c = (
   Kept-empty c.in_ok-lists.lists c.new-keys.result c.in_ok-lists.ensures c.new-keys.ensures.empty,
   AreQuiet-empty c.in_ok-lists.lists c.new-quiet.result c.new-quiet.ensures.empty,
   ArePlaced-empty c.in_ok-lists.lists c.new-quiet.result c.in_ok-lists.ensures c.new-quiet.ensures.empty,
+  AreCounted-empty (table_of c.in_ok-lists.lists 0).rows c.new-due.result (ap (λ (t : Lists Slot). (table_of t 0).rows) c.in_ok-lists.ensures) c.new-due.ensures.empty,
+  ArePlaced-empty c.in_ok-lists.lists c.new-due.result c.in_ok-lists.ensures c.new-due.ensures.empty,
 )

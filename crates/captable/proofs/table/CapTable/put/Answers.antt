@@ -3,7 +3,10 @@ use Rattle.std.specs.HashMap.{get}
 use Rattle.cap_arena.specs.Lists.{OfClient}
 use Rattle.captable.specs.declared.entry.Holder.{Holder}
 use Rattle.captable.specs.Table.{same, entry_at}
-use Rattle.captable.specs.Nodes.{SetsEntry}
+use Rattle.captable.specs.Nodes.{SetsEntry, table_of}
+use Rattle.captable.specs.Counts.{recounted}
+use Rattle.captable.proofs.Counting.{count-fits}
+use Rattle.captable.proofs.Counted.{counted-put}
 use Rattle.captable.specs.Calls.{changed}
 use Rattle.captable.specs.Kept.{Kept}
 use Rattle.captable.specs.Places.{lowered}
@@ -14,6 +17,10 @@ use Rattle.captable.proofs.Quiet.{quiet-set, quiet-due}
 use Rattle.captable.proofs.Reading.{entry-none, node-there}
 use Rattle.captable.proofs.Setting.{Kept-put, table-put}
 use Rattle.captable.proofs.table.CapTable.put.Goals as goal
+
+pub count_again-requires : goal.count_again-requires
+count_again-requires c =
+    record { fits = count-fits (table_of c.self.inside.lists c.self.inside.made).rows c.self.inside.due c.self.invariant.0.table.room c.self.invariant.3 c.args.holder.client }
 
 pub invariant_of-self : goal.invariant_of-self
 invariant_of-self c =
@@ -30,24 +37,33 @@ invariant_of-self c =
       quiet-due t c.set_entry.new.lists key c.args.entry sets c.self.inside.quiet c.self.invariant.1 c.self.invariant.0.sound kept.ordered
           h.client o.0 o.1.there (ap (λ (q : Holder). q.client) o.2) c.lower_place.new.places c.lower_place.ensures,
       placed-set t c.set_entry.new.lists key c.args.entry sets h.client (lowered c.set_entry.new.lists key) c.self.inside.quiet c.lower_place.new.places c.lower_place.ensures c.self.invariant.2,
+      counted-put t c.set_entry.new.lists hs made h key c.self.invariant.0 found o.0 o.1.there o.2 c.self.inside.due c.count_again.new.counts c.is_due_at-was.result c.is_due-is.result
+          c.is_due_at-was.ensures c.self.invariant.4 c.count_again.ensures c.self.invariant.3 c.args.entry c.is_due-is.ensures
+          (table-put t c.set_entry.new.lists hs made h key c.args.entry c.self.invariant.0 found sets),
+      placed-set t c.set_entry.new.lists key c.args.entry sets h.client (recounted c.is_due_at-was.result c.is_due-is.result) c.self.inside.due c.count_again.new.counts c.count_again.ensures c.self.invariant.4,
     )
 
-pub invariant_of-self-else-is_due : goal.invariant_of-self-else-is_due
-invariant_of-self-else-is_due c =
+pub invariant_of-self-else-is : goal.invariant_of-self-else-is
+invariant_of-self-else-is c =
     let t = c.self.inside.lists in
     let hs = c.self.inside.keys in
     let made = c.self.inside.made in
     let h = c.args.holder in
     let key = c.in-Some.key.now in
     let found : get same hs h ≡ Some key = sym c.in-Some.ensures.value in
-    let sets : SetsEntry t c.set_entry.new.lists key c.args.entry = c.set_entry.ensures.there (node-there t hs made c.self.invariant.0 h key found) in (
+    let sets : SetsEntry t c.set_entry.new.lists key c.args.entry = c.set_entry.ensures.there (node-there t hs made c.self.invariant.0 h key found) in
+    let o = held t hs c.self.invariant.0.keyed h key found in (
       Kept-put t c.set_entry.new.lists hs made h key c.args.entry c.self.invariant.0 found sets c.set_entry.ensures.sound,
-      quiet-set t c.set_entry.new.lists key c.args.entry sets c.self.inside.quiet c.self.invariant.1 (sym c.is_due.ensures ∙ c.if-is_due.false),
+      quiet-set t c.set_entry.new.lists key c.args.entry sets c.self.inside.quiet c.self.invariant.1 (sym c.is_due-is.ensures ∙ c.if-is.false),
       placed-alike t c.set_entry.new.lists c.self.inside.quiet c.self.inside.quiet (λ q. sets.lists (OfClient q)) (λ q. refl) c.self.invariant.2,
+      counted-put t c.set_entry.new.lists hs made h key c.self.invariant.0 found o.0 o.1.there o.2 c.self.inside.due c.count_again.new.counts c.is_due_at-was.result c.is_due-is.result
+          c.is_due_at-was.ensures c.self.invariant.4 c.count_again.ensures c.self.invariant.3 c.args.entry c.is_due-is.ensures
+          (table-put t c.set_entry.new.lists hs made h key c.args.entry c.self.invariant.0 found sets),
+      placed-set t c.set_entry.new.lists key c.args.entry sets h.client (recounted c.is_due_at-was.result c.is_due-is.result) c.self.inside.due c.count_again.new.counts c.count_again.ensures c.self.invariant.4,
     )
 
-pub returns-then-is_due : goal.returns-then-is_due
-returns-then-is_due c =
+pub returns-then-is : goal.returns-then-is
+returns-then-is c =
     let t = c.self.inside.lists in
     let hs = c.self.inside.keys in
     let made = c.self.inside.made in
@@ -56,8 +72,8 @@ returns-then-is_due c =
     (c.set_entry.ensures.there (node-there t hs made c.self.invariant.0 c.args.holder c.in-Some.key.now found))
     ∙ ap (λ t. changed t c.args.holder (λ _. c.args.entry)) c.self.view_is
 
-pub returns-else-is_due : goal.returns-else-is_due
-returns-else-is_due c =
+pub returns-else-is : goal.returns-else-is
+returns-else-is c =
     let t = c.self.inside.lists in
     let hs = c.self.inside.keys in
     let made = c.self.inside.made in

@@ -1,4 +1,4 @@
-use Rattle.std.proofs.Common.{◌≡◌, true, Some, None, ◌∙◌, sym, ap, subst, refl, slice_get}
+use Rattle.std.proofs.Common.{◌≡◌, true, false, Some, None, ◌∙◌, sym, ap, subst, refl, slice_get}
 use Rattle.std.specs.HashMap.{get}
 use Rattle.std.proofs.lemmas.Bool.{eq-eqb}
 use Rattle.capbits.specs.declared.ids.ClientId.{ClientId}
@@ -7,7 +7,12 @@ use Rattle.cap_arena.specs.Lists.{OfClient, keys}
 use Rattle.captable.specs.declared.entry.Holder.{Holder}
 use Rattle.captable.specs.Table.{IsTable, same, entry_at}
 use Rattle.captable.specs.Calls.{without}
+use Rattle.captable.specs.Kept.{Kept}
+use Rattle.captable.specs.Nodes.{table_of}
 use Rattle.captable.specs.Places.{AreQuiet, moved_on}
+use Rattle.captable.specs.Counts.{recounted}
+use Rattle.captable.proofs.Counting.{count-fits}
+use Rattle.captable.proofs.Counted.{counted-gone}
 use Rattle.captable.proofs.Absent.{without-none}
 use Rattle.captable.proofs.Reading.{entry-none, node-there}
 use Rattle.captable.proofs.Keeping.{held, is_in}
@@ -19,6 +24,10 @@ use Rattle.captable.proofs.table.CapTable.remove.Goals as goal
 
 pub remove_node-requires-clause-there : goal.remove_node-requires-clause-there
 remove_node-requires-clause-there c = node-there c.self.inside.lists c.self.inside.keys c.self.inside.made c.self.invariant.0 c.args.holder c.in-Some.key (sym c.in-Some.ensures.value)
+
+pub count_again-requires : goal.count_again-requires
+count_again-requires c =
+    record { fits = count-fits (table_of c.self.inside.lists c.self.inside.made).rows c.self.inside.due c.self.invariant.0.table.room c.self.invariant.3 c.args.holder.client }
 
 pub invariant_of-self : goal.invariant_of-self
 invariant_of-self c =
@@ -34,12 +43,19 @@ invariant_of-self c =
     quiet-removed t left c.in-Some.key c.remove_node.ensures.removed c.self.invariant.0.sound client o.0 o.1.there of
     c.next_of_client-next.result (c.next_of_client-next.ensures.next ∙ next-of-client t c.self.invariant.0.sound client c.in-Some.key o.0 o.1.there listed)
     c.self.inside.quiet c.move_place.new.places c.move_place.ensures c.self.invariant.1 in
+    let kept : Kept left c.remove.new.self c.self.inside.made =
+    Kept-left t c.remove_node.new.lists c.self.inside.keys c.remove.new.self c.self.inside.made c.args.holder c.in-Some.key c.self.invariant.0
+    found c.remove_node.ensures.removed c.remove.ensures.updates.0 c.remove_node.ensures.sound in
     let first = slice_get (keys left (OfClient client)) 0 in (
-      Kept-left t c.remove_node.new.lists c.self.inside.keys c.remove.new.self c.self.inside.made c.args.holder c.in-Some.key c.self.invariant.0
-          found c.remove_node.ensures.removed c.remove.ensures.updates.0 c.remove_node.ensures.sound,
+      kept,
       quiet-ended left client first c.move_place.new.places c.end_place.new.places c.end_place.ensures moved,
       placed-removed left client first c.move_place.new.places c.end_place.new.places c.end_place.ensures t c.in-Some.key c.remove_node.ensures.removed c.self.invariant.0.sound o.0 o.1.there of refl
           (moved_on c.in-Some.key c.next_of_client-next.result) c.self.inside.quiet c.move_place.ensures c.self.invariant.2,
+      counted-gone t left c.self.inside.keys c.self.inside.made c.args.holder c.in-Some.key c.self.invariant.0 found o.0 o.1.there o.2 c.self.inside.due c.count_again.new.counts
+          c.is_due_at-was.result false c.is_due_at-was.ensures c.self.invariant.4 c.count_again.ensures c.self.invariant.3 c.remove.new.self refl
+          (table-left t left c.self.inside.keys c.remove.new.self c.self.inside.made c.args.holder c.in-Some.key c.self.invariant.0 found c.remove_node.ensures.removed) kept c.end_count.new.counts c.end_count.ensures,
+      placed-removed left client first c.count_again.new.counts c.end_count.new.counts c.end_count.ensures t c.in-Some.key c.remove_node.ensures.removed c.self.invariant.0.sound o.0 o.1.there of refl
+          (recounted c.is_due_at-was.result false) c.self.inside.due c.count_again.ensures c.self.invariant.4,
     )
 
 pub returns-in-Some : goal.returns-in-Some

@@ -1,6 +1,8 @@
 use Rattle.std.proofs.Common.{◌≡◌, None, ◌∙◌, sym, ap, subst}
 use Rattle.std.specs.HashMap.{get}
-use Rattle.captable.specs.Table.{IsTable, holder, same, entry_at}
+use Rattle.captable.specs.Counts.{AreCounted}
+use Rattle.captable.specs.Nodes.{table_of}
+use Rattle.captable.specs.Table.{Table, IsTable, holder, same, entry_at}
 use Rattle.captable.specs.Calls.{touched}
 use Rattle.captable.proofs.Absent.{touched-none}
 use Rattle.captable.proofs.Reading.{entry-none, node-there}
@@ -14,12 +16,18 @@ touch_node-requires-clause-there c =
     node-there c.self.inside.lists c.self.inside.keys c.self.inside.made c.self.invariant.0 (holder c.args.client c.args.ino) c.in-Some.key.now (sym c.in-Some.ensures.value)
 
 pub invariant_of-self : goal.invariant_of-self
-invariant_of-self c = (
-  Kept-touched c.self.inside.lists c.touch_node.new.lists c.self.inside.keys c.self.inside.made (holder c.args.client c.args.ino) c.in-Some.key.now c.self.invariant.0
-      (sym c.in-Some.ensures.value) c.touch_node.ensures.touched c.touch_node.ensures.sound,
-  quiet-touched c.self.inside.lists c.touch_node.new.lists c.in-Some.key.now c.touch_node.ensures.touched c.self.inside.quiet c.self.invariant.1,
-  placed-touched c.self.inside.lists c.touch_node.new.lists c.in-Some.key.now c.touch_node.ensures.touched c.self.inside.quiet c.self.invariant.2,
-)
+invariant_of-self c =
+    let h = holder c.args.client c.args.ino in
+    let moved : table_of c.touch_node.new.lists c.self.inside.made ≡ touched (table_of c.self.inside.lists c.self.inside.made) h =
+    table-moved c.self.inside.lists c.touch_node.new.lists c.self.inside.keys c.self.inside.made h c.in-Some.key.now c.self.invariant.0
+    (sym c.in-Some.ensures.value) c.touch_node.ensures.touched in (
+      Kept-touched c.self.inside.lists c.touch_node.new.lists c.self.inside.keys c.self.inside.made (holder c.args.client c.args.ino) c.in-Some.key.now c.self.invariant.0
+          (sym c.in-Some.ensures.value) c.touch_node.ensures.touched c.touch_node.ensures.sound,
+      quiet-touched c.self.inside.lists c.touch_node.new.lists c.in-Some.key.now c.touch_node.ensures.touched c.self.inside.quiet c.self.invariant.1,
+      placed-touched c.self.inside.lists c.touch_node.new.lists c.in-Some.key.now c.touch_node.ensures.touched c.self.inside.quiet c.self.invariant.2,
+      subst (λ (u : Table). AreCounted u.rows c.self.inside.due) (sym moved) c.self.invariant.3,
+      placed-touched c.self.inside.lists c.touch_node.new.lists c.in-Some.key.now c.touch_node.ensures.touched c.self.inside.due c.self.invariant.4,
+    )
 
 pub returns-in-Some : goal.returns-in-Some
 returns-in-Some c =
