@@ -1,12 +1,12 @@
 -- A copy of a finite map or a finite set, made entry by entry.
-use Rattle.std.proofs.Common.{◌≡◌, suc, Bool, true, false, cond, ◌||◌, List, [], ◌∷◌, ◌++◌, map as each, Option, Some, None, is_some, inl, inr, refl, sym, ap, subst, ◌∙◌, arith}
+use Rattle.std.proofs.Common.{◌≡◌, Bool, true, false, cond, ◌||◌, List, [], ◌∷◌, ◌++◌, map as each, Option, Some, None, is_some, inl, inr, refl, sym, ap, subst, ◌∙◌}
 use Rattle.std.specs.declared.cmp.Ordering.{Ordering}
 use Rattle.std.specs.Cmp.{IsTotalOrder}
 use Rattle.std.specs.FinMap as map
 use Rattle.std.specs.FinMap.{FinMap}
 use Rattle.std.specs.FinSet as set
 use Rattle.std.specs.FinSet.{FinSet}
-use Rattle.std.specs.List.{list_any, All, AllByRecursion}
+use Rattle.std.specs.List.{list_any, AllByRecursion}
 use Rattle.std.specs.Ordering.{eq_by_cmp}
 use Rattle.inotree.proofs.Found.{found}
 use Rattle.inotree.proofs.Maps.{same_or_other, insert-here, insert-other, tied_here, apart}
@@ -15,11 +15,6 @@ use Rattle.inotree.proofs.Reaching.{any-map}
 all_at : {A : Type 0} (P : A → Type 0) (xs ys : List A) (y : A) → AllByRecursion P (xs ++ y ∷ ys) → P y
 all_at P [] ys y h = h.0
 all_at P (x ∷ xs) ys y h = all_at P xs ys y h.1
-
--- what holds at each place, one after the other
-pub by_recursion : {A : Type 0} (P : A → Type 0) (xs : List A) → All P xs → AllByRecursion P xs
-by_recursion P [] h = tt
-by_recursion P (x ∷ xs) h = (h 0 x (omega arith), by_recursion P xs (λ k d less. h (suc k) d (omega (arith, less))))
 
 each-push : {A B : Type 0} (f : A → B) (xs : List A) (x : A) → each f (xs ++ x ∷ []) ≡ each f xs ++ f x ∷ []
 each-push f [] x = refl
@@ -62,23 +57,14 @@ module _ {K : Type 0} {R : K → K → Ordering} (o : IsTotalOrder R) (same : ma
     copied_all m copy whole = map.same_map o same copy m (λ q.
         whole q ∙ ap (λ b. cond b (map.get m q) None) (sym (any-map (eq_by_cmp R q) (λ (e : K × X). e.0) (map.entries m)) ∙ sym (map.contains_key-keys m q)) ∙ whole_or (map.get m q))
 
-    -- a turn of a loop over entries that are in m
-    pub listed_turn : {A : Type 0} (shows : A → K × X) (m made next : FinMap R X) (ys : List A) (y : A) (rest : List (K × X)) → AllByRecursion (λ (e : K × X). map.get m e.0 ≡ Some e.1) (each shows ys ++ shows y ∷ rest)
-        → next ≡ map.insert made (shows y).0 (shows y).1 → IsCopied m (each shows ys) made → IsCopied m (each shows (ys ++ y ∷ [])) next
-    listed_turn shows m made next ys y rest there added so_far =
-        let here : map.get m (shows y).0 ≡ Some (shows y).1 = all_at (λ (e : K × X). map.get m e.0 ≡ Some e.1) (each shows ys) rest (shows y) there in
-        subst (λ es. IsCopied m es next) (sym (each-push shows ys y))
-        (subst (IsCopied m (each shows ys ++ shows y ∷ [])) (sym added) (copied_more m made (each shows ys) (shows y) here so_far))
-
     -- a turn of a loop over the entries
     pub copied_turn : {A : Type 0} (shows : A → K × X) (m made next : FinMap R X) (ys : List A) (y : A) (rest : List (K × X)) → map.entries m ≡ each shows ys ++ shows y ∷ rest → next ≡ map.insert made (shows y).0 (shows y).1
         → IsCopied m (each shows ys) made → IsCopied m (each shows (ys ++ y ∷ [])) next
     copied_turn shows m made next ys y rest split added so_far =
-        listed_turn shows m made next ys y rest (subst (AllByRecursion (λ (e : K × X). map.get m e.0 ≡ Some e.1)) split (found o same m)) added so_far
-
-    -- entries with all the keys of m
-    pub listed_end : (m made : FinMap R X) (es : List (K × X)) → ((q : K) → is_some (map.get m q) ≡ list_any (λ (e : K × X). eq_by_cmp R q e.0) es) → IsCopied m es made → made ≡ m
-    listed_end m made es all whole = map.same_map o same made m (λ q. whole q ∙ ap (λ b. cond b (map.get m q) None) (sym (all q)) ∙ whole_or (map.get m q))
+        let P : K × X → Type 0 = λ e. map.get m e.0 ≡ Some e.1 in
+        let here : map.get m (shows y).0 ≡ Some (shows y).1 = all_at P (each shows ys) rest (shows y) (subst (AllByRecursion P) split (found o same m)) in
+        subst (λ es. IsCopied m es next) (sym (each-push shows ys y))
+        (subst (IsCopied m (each shows ys ++ shows y ∷ [])) (sym added) (copied_more m made (each shows ys) (shows y) here so_far))
 
     pub copied_end : (m made : FinMap R X) (es : List (K × X)) → es ≡ map.entries m → IsCopied m es made → made ≡ m
     copied_end m made es whole so_far = copied_all m made (subst (λ fs. IsCopied m fs made) whole so_far)

@@ -17,6 +17,7 @@ pub mod Order
 pub mod Passing
 pub mod Reaching
 pub mod Results
+pub mod Rowed
 pub mod Shape
 pub mod Slots
 pub mod Turning

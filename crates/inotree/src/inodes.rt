@@ -1,7 +1,5 @@
 //! The inodes, by number.
-ghost use Rattle.std.specs.Prelude.{◌≡◌, ℕ, Some, [], is_some, All, IfOk, OnOk, OnErr};
-ghost use Rattle.std.specs.List.{list_any};
-ghost use Rattle.std.specs.Ordering.{nat_cmp, eq_by_cmp};
+ghost use Rattle.std.specs.Prelude.{◌≡◌, [], IfOk, OnOk, OnErr};
 ghost use Rattle.std.specs.Option.{option_copied, option_map};
 ghost use Rattle.std.specs.FinMap as map;
 ghost use Rattle.capbits.specs.Maps.{change_at};
@@ -9,23 +7,26 @@ ghost use Rattle.inotree.specs.Inodes.{with_setting, with_site, with_attribute, 
 ghost use Rattle.inotree.specs.Tree.{site_of, slot_at, parent, is_within, names_up};
 
 use crate::attributes::Value;
+use crate::guesses::Guesses;
 use crate::index::Slot;
 use crate::name::Name;
 use crate::names::{MAX_NAMES, Names};
 use crate::node::{Node, Setting, Site};
+use crate::rows::{Row, add, place_of, row_near, take_out};
 use capbits::Ino;
-use indexmap::IndexMap;
-use indexmap::map::Iter;
 use std::alloc::{AllocError, Global};
+use std::collections::BTreeMap;
+use std::fmt;
 use std::marker::Model;
 
-// The inodes, by number.
-#[derive(Debug, Drop)]
+// The inodes, by number. They stand in rows, whose places are guessed first and searched for where a guess fails.
+#[derive(Drop)]
 pub(crate) struct Inodes {
-    nodes: IndexMap<u64, Node>,
-    // For each place among them, a guess at the place of the directory in which the inode there stands. A climb that goes by guesses
-    // searches for no number, and looks at each place whose it is; where a guess fails, it searches.
-    guesses: Vec<usize>,
+    // Where the row of each inode stands.
+    places: BTreeMap<u64, usize>,
+    // In no order.
+    rows: Vec<Row>,
+    guesses: Guesses,
 }
 
 impl Model for Inodes {
@@ -36,7 +37,37 @@ impl Model for Inodes {
 
     ghost coded = { inode_map_code };
 
-    ghost view = { λ i. map.from_entries i.nodes.entries };
+    ghost use Rattle.inotree.specs.Rows.{IsPlaced, inodes_of};
+
+    ghost view = { λ i. inodes_of i.rows.items };
+
+    ghost invariant = { λ i. IsPlaced i.places i.rows.items };
+}
+
+// It shows the inodes in the order of their numbers, and nothing of where they stand.
+impl fmt::Debug for Inodes {
+    fn fmt<W: fmt::Write>(&self, f: &mut fmt::Formatter<W>) -> fmt::Result {
+        f.debug_struct("Inodes")
+            .field("nodes", &ByNumber(self))
+            .finish()
+    }
+}
+
+// The inodes, as a map from their numbers.
+#[derive(Drop)]
+struct ByNumber<'a>(&'a Inodes);
+
+impl<'a> fmt::Debug for ByNumber<'a> {
+    fn fmt<W: fmt::Write>(&self, f: &mut fmt::Formatter<W>) -> fmt::Result {
+        let inodes = self.0;
+        let mut map = f.debug_map();
+        for ino in inodes.places.keys() {
+            if let Some(node) = inodes.get(*ino) {
+                map.entry(ino, node);
+            }
+        }
+        map.finish()
+    }
 }
 
 impl Inodes {
@@ -45,17 +76,10 @@ impl Inodes {
         ensures { result ≡ map.empty }
     {
         Inodes {
-            nodes: IndexMap::new(alloc),
-            guesses: Vec::new(alloc),
+            places: BTreeMap::new(alloc),
+            rows: Vec::new(alloc),
+            guesses: Guesses::new(alloc),
         }
-    }
-
-    // The inodes with their numbers, in no order that is promised.
-    fn iter(&self) -> Iter<'_, u64, Node>
-        ensures found { All (λ e. map.get self.now e.0 ≡ Some e.1) result }
-        ensures all { (q : ℕ) → is_some (map.get self.now q) ≡ list_any (λ e. eq_by_cmp nat_cmp q e.0) result }
-    {
-        self.nodes.iter()
     }
 
     // The same inodes once more.
@@ -63,8 +87,8 @@ impl Inodes {
         ensures { IfOk result (λ copy. copy ≡ self.now) }
     {
         let mut made = Inodes::new(alloc);
-        for (ino, node) in self.iter() {
-            made.insert(*ino, node.copy(alloc)?)?;
+        for row in &self.rows {
+            made.put(row.copy(alloc)?)?;
         }
         Ok(made)
     }
@@ -73,14 +97,14 @@ impl Inodes {
     pub(crate) fn len(&self) -> usize
         ensures { result ≡ map.len self.now }
     {
-        self.nodes.len()
+        self.rows.len()
     }
 
     // The inode of this number, if there is one.
     pub(crate) fn get(&self, ino: u64) -> Option<&Node>
         ensures { option_copied result ≡ map.get self.now ino }
     {
-        self.nodes.get(&ino)
+        Some(&row_near(&self.places, &self.rows, ino, self.guesses.at(ino))?.node)
     }
 
     // Puts an inode under this number.
@@ -88,48 +112,34 @@ impl Inodes {
         ensures ok { OnOk result (self.new ≡ map.insert self.old ino node) }
         ensures err { OnErr result (self.new ≡ self.old) }
     {
-        self.nodes.insert(ino, node)?;
-        self.guess(ino);
+        self.put(Row { ino, node })
+    }
+
+    // Puts in a row, in place of the one of its number if there is one.
+    fn put(&mut self, row: Row) -> Result<(), AllocError>
+        ensures ok { OnOk result (self.new ≡ map.insert self.old row.ino row.node) }
+        ensures err { OnErr result (self.new ≡ self.old) }
+    {
+        match place_of(&self.places, &self.rows, row.ino) {
+            Some(place) => {
+                self.rows[place] = row;
+                Ok(())
+            }
+            None => self.add(row),
+        }
+    }
+
+    // Puts in a row whose number no other has.
+    fn add(&mut self, row: Row) -> Result<(), AllocError>
+        requires absent { map.get self.old row.ino ≡ None }
+        ensures ok { OnOk result (self.new ≡ map.insert self.old row.ino row.node) }
+        ensures err { OnErr result (self.new ≡ self.old) }
+    {
+        let (ino, place) = (row.ino, self.rows.len());
+        add(&mut self.places, &mut self.rows, row)?;
+        self.guesses.fit(&self.rows);
+        self.guesses.note(ino, place);
         Ok(())
-    }
-
-    // Guesses where the directory of an inode stands. A guess that finds no room is left out.
-    fn guess(&mut self, ino: u64)
-        ensures { self.new ≡ self.old }
-    {
-        let Some((place, _number, node)) = self.nodes.get_full(&ino) else {
-            return;
-        };
-        let above = match &node.site {
-            Site::Under { dir, .. } => self.nodes.get_index_of(&dir.0).unwrap_or(0),
-            Site::Root | Site::Stray => 0,
-        };
-        match self.guesses.get_mut(place) {
-            Some(kept) => *kept = above,
-            None => {
-                let _kept = self.guesses.push(above);
-            }
-        }
-    }
-
-    // The guess for a place.
-    fn guess_at(&self, place: usize) -> usize {
-        self.guesses.get(place).copied().unwrap_or(0)
-    }
-
-    // The inode of this number with its place, which may be the one that is guessed.
-    fn get_near(&self, ino: u64, guess: usize) -> Option<(usize, &Node)>
-        ensures { option_map (λ found. found.1.now) result ≡ map.get self.now ino }
-    {
-        if let Some((number, node)) = self.nodes.get_index(guess) {
-            if *number == ino {
-                return Some((guess, node));
-            }
-        }
-        match self.nodes.get_full(&ino) {
-            Some((place, _number, node)) => Some((place, node)),
-            None => None,
-        }
     }
 
     // Where the inode's name stands, if it has one.
@@ -177,16 +187,16 @@ impl Inodes {
         requires { names.old ≡ [] }
         ensures { names.new ≡ names_up MAX_NAMES self.now ino }
     {
-        let (mut at, mut guess) = (ino, usize::MAX);
+        let mut at = ino;
         for _ in 0..MAX_NAMES {
-            let Some((place, node)) = self.get_near(at, guess) else {
+            let Some(node) = self.get(at) else {
                 break;
             };
             let Site::Under { dir, name } = &node.site else {
                 break;
             };
             names.push(name.as_bytes());
-            (at, guess) = (dir.0, self.guess_at(place));
+            at = dir.0;
         }
     }
 
@@ -194,17 +204,11 @@ impl Inodes {
     pub(crate) fn remove(&mut self, ino: u64)
         ensures { self.new ≡ map.remove self.old ino }
     {
-        self.drop_guess(ino);
-        self.nodes.swap_remove(&ino);
-    }
-
-    // Drops the guess for an inode, to whose place the last one is to move.
-    fn drop_guess(&mut self, ino: u64)
-        ensures { self.new ≡ self.old }
-    {
-        if let Some(place) = self.nodes.get_index_of(&ino) {
-            if place < self.guesses.len() {
-                self.guesses.swap_remove(place);
+        if let Some(place) = place_of(&self.places, &self.rows, ino) {
+            take_out(&mut self.places, &mut self.rows, place, ino);
+            self.guesses.fit(&self.rows);
+            if let Some(moved) = self.rows.get(place) {
+                self.guesses.note(moved.ino, place);
             }
         }
     }
@@ -213,18 +217,17 @@ impl Inodes {
     pub(crate) fn set_site(&mut self, ino: u64, site: Site)
         ensures { self.new ≡ change_at (with_site site) self.old ino }
     {
-        if let Some(node) = self.nodes.get_mut(&ino) {
-            node.site = site;
+        if let Some(place) = place_of(&self.places, &self.rows, ino) {
+            self.rows[place].node.site = site;
         }
-        self.guess(ino);
     }
 
     // Sets a field of an inode, if there is one of this number.
     pub(crate) fn set(&mut self, ino: u64, setting: Setting)
         ensures { self.new ≡ change_at (with_setting setting) self.old ino }
     {
-        if let Some(node) = self.nodes.get_mut(&ino) {
-            node.set(setting);
+        if let Some(place) = place_of(&self.places, &self.rows, ino) {
+            self.rows[place].node.set(setting);
         }
     }
 
@@ -238,8 +241,8 @@ impl Inodes {
         ensures ok { OnOk result (self.new ≡ change_at (with_attribute name value) self.old ino) }
         ensures err { OnErr result (self.new ≡ self.old) }
     {
-        match self.nodes.get_mut(&ino) {
-            Some(node) => node.attributes.insert(name, value),
+        match place_of(&self.places, &self.rows, ino) {
+            Some(place) => self.rows[place].node.attributes.insert(name, value),
             None => Ok(()),
         }
     }
@@ -248,8 +251,8 @@ impl Inodes {
     pub(crate) fn remove_attribute(&mut self, ino: u64, name: &Name)
         ensures { self.new ≡ change_at (without_attribute name.now) self.old ino }
     {
-        if let Some(node) = self.nodes.get_mut(&ino) {
-            node.attributes.remove(name);
+        if let Some(place) = place_of(&self.places, &self.rows, ino) {
+            self.rows[place].node.attributes.remove(name);
         }
     }
 
@@ -258,8 +261,8 @@ impl Inodes {
         ensures ok { OnOk result (self.new ≡ change_at (with_snapshot name) self.old ino) }
         ensures err { OnErr result (self.new ≡ self.old) }
     {
-        match self.nodes.get_mut(&ino) {
-            Some(node) => node.snapshots.insert(name),
+        match place_of(&self.places, &self.rows, ino) {
+            Some(place) => self.rows[place].node.snapshots.insert(name),
             None => Ok(()),
         }
     }
@@ -268,8 +271,8 @@ impl Inodes {
     pub(crate) fn remove_snapshot(&mut self, ino: u64, name: &Name)
         ensures { self.new ≡ change_at (without_snapshot name.now) self.old ino }
     {
-        if let Some(node) = self.nodes.get_mut(&ino) {
-            node.snapshots.remove(name);
+        if let Some(place) = place_of(&self.places, &self.rows, ino) {
+            self.rows[place].node.snapshots.remove(name);
         }
     }
 }

@@ -4,12 +4,14 @@
 #![tactic(auto)]
 
 mod attributes;
+mod guesses;
 mod index;
 mod inodes;
 mod laws;
 mod name;
 mod names;
 mod node;
+mod rows;
 mod snapshots;
 mod tree;
 

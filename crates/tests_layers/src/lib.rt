@@ -45,4 +45,6 @@ mod tree;
 #[cfg(test)]
 mod tree_steps;
 #[cfg(test)]
+mod tree_text;
+#[cfg(test)]
 mod triple_lists;

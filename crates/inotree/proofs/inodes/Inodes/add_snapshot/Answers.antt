@@ -1,44 +1,25 @@
-use Rattle.std.proofs.Common.{ℕ, IsSome, OnOk, OnErr, refl, sym, ap, subst, ◌∙◌}
-use Rattle.std.specs.FinMap as map
-use Rattle.inotree.specs.declared.node.Node.{Node}
+use Rattle.std.proofs.Common.{refl, ap, ◌∙◌}
 use Rattle.capbits.specs.Maps.{change_at}
+use Rattle.inotree.specs.declared.rows.Row.{Row}
 use Rattle.inotree.specs.Inodes.{InodeMap, with_snapshot}
-use Rattle.capbits.proofs.Hashed.{change-hashed, change-no_hashed, same-hashed}
-use Rattle.inotree.proofs.Results.{on_ok, on_err, ok_of, err_of}
+use Rattle.inotree.proofs.Results.{on_ok, on_err}
+use Rattle.inotree.proofs.Rowed.{inodes-change, inodes-same}
 use Rattle.inotree.proofs.inodes.Inodes.add_snapshot.Goals as goal
-use Rattle.inotree.proofs.inodes.Inodes.add_snapshot.Goals.{in-Some, in-None}
 
-pub returns-clause-ok : goal.returns-clause-ok
-returns-clause-ok c =
-    let ino : ℕ = c.args.ino in
-    let f : Node → Node = with_snapshot c.args.name in
-    elim c.match-get_mut.branch [
-      | in-Some w ↦
-          let here = w.in-Some.ensures.value in
-          let was : Node = w.in-Some.node.now in
-          let written : Node = record was { snapshots = w.insert.new.self } in
-          subst (λ r. OnOk r _) (sym w.result-is) (on_ok _ w.insert.ensures.ok (λ done.
-          ap (λ i. map.from_entries i.nodes.entries) w.self-inside-is
-          ∙ change-hashed f c.self.inside.nodes.entries _ ino was written (ap (λ m. record was { snapshots = m }) done) (sym here) ((c.get_mut.follows.holds written).3 (subst IsSome here refl)).0
-          ∙ ap (λ (m : InodeMap). change_at f m ino) c.self.view_is))
-      | in-None w ↦
-          ok_of _ (
-          ap (λ i. map.from_entries i.nodes.entries) w.self-inside-is
-          ∙ ap (λ m. map.from_entries m.entries) c.get_mut.follows.holds-at-none
-          ∙ change-no_hashed f c.self.inside.nodes.entries ino (sym w.in-None.ensures.value)
-          ∙ ap (λ (m : InodeMap). change_at f m ino) c.self.view_is)
-    ]
+pub returns-in-Some-clause-ok : goal.returns-in-Some-clause-ok
+returns-in-Some-clause-ok c =
+    let was : Row = c.index_mut.result.now in
+    let written : Row = record was { node = record was.node { snapshots = c.insert.new.self } } in
+    on_ok c.insert.result c.insert.ensures.ok (λ done.
+    inodes-change c.self.inside.rows.items c.deref.result.now c.deref.ensures.value c.in-Some.place c.args.ino c.in-Some.ensures.number c.in-Some.ensures.bound
+    was written c.index_mut.ensures.value refl c.self.inside.places c.self.invariant (with_snapshot c.args.name) (ap (λ m. record was.node { snapshots = m }) done)
+    ∙ ap (λ (m : InodeMap). change_at (with_snapshot c.args.name) m c.args.ino) c.self.view_is)
 
-pub returns-clause-err : goal.returns-clause-err
-returns-clause-err c =
-    elim c.match-get_mut.branch [
-      | in-Some w ↦
-          let here = w.in-Some.ensures.value in
-          let was : Node = w.in-Some.node.now in
-          let written : Node = record was { snapshots = w.insert.new.self } in
-          subst (λ r. OnErr r _) (sym w.result-is) (on_err _ w.insert.ensures.err (λ same.
-          ap (λ i. map.from_entries i.nodes.entries) w.self-inside-is
-          ∙ same-hashed c.self.inside.nodes.entries _ c.args.ino was written (ap (λ m. record was { snapshots = m }) same) (sym here) ((c.get_mut.follows.holds written).3 (subst IsSome here refl)).0
-          ∙ c.self.view_is))
-      | in-None w ↦ err_of _ (ap (λ i. map.from_entries i.nodes.entries) w.self-inside-is ∙ ap (λ m. map.from_entries m.entries) c.get_mut.follows.holds-at-none ∙ c.self.view_is)
-    ]
+pub returns-in-Some-clause-err : goal.returns-in-Some-clause-err
+returns-in-Some-clause-err c =
+    let was : Row = c.index_mut.result.now in
+    let written : Row = record was { node = record was.node { snapshots = c.insert.new.self } } in
+    on_err c.insert.result c.insert.ensures.err (λ same.
+    inodes-same c.self.inside.rows.items c.deref.result.now c.deref.ensures.value c.in-Some.place c.args.ino c.in-Some.ensures.number c.in-Some.ensures.bound
+    was written c.index_mut.ensures.value refl c.self.inside.places c.self.invariant (ap (λ m. record was.node { snapshots = m }) same)
+    ∙ c.self.view_is)

@@ -1,8 +1,10 @@
-use Rattle.std.proofs.Common.{sym, ap, ◌∙◌}
+use Rattle.std.proofs.Common.{List, sym, ap, ◌∙◌}
 use Rattle.std.specs.FinMap as map
-use Rattle.capbits.proofs.Hashed.{len-hashed}
+use Rattle.inotree.specs.declared.rows.Row.{Row}
+use Rattle.inotree.proofs.Rowed.{apart_from_placed, len_is}
 use Rattle.inotree.proofs.inodes.Inodes.len.Goals as goal
 
 pub returns : goal.returns
 returns c =
-    c.len.ensures.len ∙ sym (len-hashed c.self.inside.nodes.entries c.len.ensures.unique) ∙ ap map.len c.self.view_is
+    let rows : List Row = c.self.inside.rows.items in
+    c.len.ensures ∙ c.self.inside.rows.ok.0 ∙ sym (len_is rows (apart_from_placed c.self.inside.places rows c.self.invariant)) ∙ ap map.len c.self.view_is

@@ -1,9 +1,10 @@
-use Rattle.std.proofs.Common.{ap, ◌∙◌}
+use Rattle.std.proofs.Common.{◌≡◌, None, sym, ap, ◌∙◌}
 use Rattle.std.specs.FinMap as map
-use Rattle.capbits.proofs.Hashed.{remove-hashed}
+use Rattle.inotree.specs.Rows.{inodes_of}
+use Rattle.inotree.proofs.Rowed.{remove_nothing}
 use Rattle.inotree.proofs.inodes.Inodes.remove.Goals as goal
 
-pub returns : goal.returns
-returns c =
-    remove-hashed c.self.inside.nodes.entries c.swap_remove.new.self.entries c.args.ino c.swap_remove.ensures.updates.0
-    ∙ ap (λ m. map.remove m c.args.ino) (c.self.view_is ∙ c.drop_guess.ensures)
+pub returns-in_default : goal.returns-in_default
+returns-in_default c =
+    let none : map.get c.args.self.now c.args.ino ≡ None = ap (λ m. map.get m c.args.ino) (sym c.self.view_is ∙ ap inodes_of (sym c.deref.ensures.value)) ∙ c.in_default.ensures.none in
+    remove_nothing c.args.self.now c.args.ino none
