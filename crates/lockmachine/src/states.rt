@@ -8,8 +8,8 @@ ghost use Rattle.lockmachine.specs.Inodes as words;
 use capbits::{Ino, Part};
 use locktable::{LockState, State};
 use std::alloc::{AllocError, Global};
-use std::collections::btree_set::Iter;
-use std::collections::{BTreeSet, HashMap};
+use std::collections::BTreeMap;
+use std::collections::btree_map::Keys;
 use std::marker::Model;
 
 /// The four locks of an inode, one for each part.
@@ -88,9 +88,7 @@ fn is_gather(lock: LockState) -> bool
 #[derive(Debug, Drop)]
 pub(crate) struct States {
     // By the inode's number.
-    locks: HashMap<u64, InodeLocks>,
-    // The numbers once more, in their order, for who goes through all of them.
-    numbers: BTreeSet<u64>,
+    locks: BTreeMap<u64, InodeLocks>,
 }
 
 impl Model for States {
@@ -102,15 +100,7 @@ impl Model for States {
 
     ghost coded = { state_map_code };
 
-    ghost use Rattle.std.specs.Prelude.{◌≡◌, ℕ, is_some, nat_eq};
-    ghost use Rattle.std.specs.Ordering.{nat_cmp};
-    ghost use Rattle.std.specs.BTreeSet.{contains};
-    ghost use Rattle.std.specs.HashMap.{get};
-
     ghost view = { λ s. map.from_entries s.locks.entries };
-
-    // Both have the same numbers.
-    ghost invariant = { λ s. (q : ℕ) → contains nat_cmp s.numbers q ≡ is_some (get nat_eq s.locks q) };
 }
 
 impl States {
@@ -119,8 +109,7 @@ impl States {
         ensures { result ≡ map.empty }
     {
         States {
-            locks: HashMap::new(alloc),
-            numbers: BTreeSet::new(alloc),
+            locks: BTreeMap::new(alloc),
         }
     }
 
@@ -132,10 +121,12 @@ impl States {
     }
 
     // The inodes that have locks, in the order of their numbers.
-    pub(crate) fn inos(&self) -> Iter<'_, u64>
+    pub(crate) fn inos(&self) -> Keys<'_, u64, InodeLocks>
         ensures { result ≡ map.keys self.now }
     {
-        self.numbers.iter()
+        // For what it says of the order.
+        let _count = self.locks.len();
+        self.locks.keys()
     }
 
     // Gives an inode these locks. For want of memory nothing changes.
@@ -143,13 +134,8 @@ impl States {
         ensures ok { OnOk result (self.new ≡ map.insert self.old ino.0 locks) }
         ensures err { OnErr result (self.new ≡ self.old) }
     {
-        // Room comes first, since a number that was added stays.
-        self.locks.reserve(1)?;
-        self.numbers.insert(ino.0)?;
-        match self.locks.insert(ino.0, locks) {
-            Ok(_old) => Ok(()),
-            Err(_pair) => unreachable!(),
-        }
+        self.locks.insert(ino.0, locks)?;
+        Ok(())
     }
 
     // Takes the locks of an inode away.
@@ -157,7 +143,6 @@ impl States {
         ensures { self.new ≡ map.remove self.old ino.0 }
     {
         self.locks.remove(&ino.0);
-        self.numbers.remove(&ino.0);
     }
 
     // Puts the lock of an inode's part, if it has one, in another state.

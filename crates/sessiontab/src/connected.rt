@@ -9,14 +9,14 @@ use crate::session::{Session, Status};
 use capbits::ClientId;
 use capspec::Grants;
 use std::alloc::{AllocError, Global};
-use std::collections::HashMap;
+use std::collections::BTreeMap;
 use std::marker::Model;
 
 // The session of each client that is connected.
 #[derive(Debug, Drop)]
 pub(crate) struct Connected {
     // By the client's number.
-    sessions: HashMap<u32, Session>,
+    sessions: BTreeMap<u32, Session>,
 }
 
 impl Model for Connected {
@@ -36,7 +36,7 @@ impl Connected {
         ensures { result ≡ map.empty }
     {
         Connected {
-            sessions: HashMap::new(alloc),
+            sessions: BTreeMap::new(alloc),
         }
     }
 

@@ -1,9 +1,10 @@
 use Rattle.std.proofs.Common.{ap, ◌∙◌}
+use Rattle.std.specs.Cmp.{nat_cmp_total}
 use Rattle.std.specs.FinMap as map
-use Rattle.capbits.proofs.Hashed.{insert-hashed}
+use Rattle.capbits.proofs.Entries.{insert-entries}
 use Rattle.sessiontab.proofs.connected.Connected.insert.Goals as goal
 
 pub returns-clause-ok : goal.returns-clause-ok
 returns-clause-ok c =
-    insert-hashed c.self.inside.sessions.entries c.insert.new.self.entries c.args.client.0 c.args.session c.in_ok-insert.ensures.updates.0
+    insert-entries nat_cmp_total map.nat_cmp-IsAntisymmetric c.self.inside.sessions.entries c.insert.new.self.entries c.args.client.0 c.args.session c.in_ok-insert.ensures.updates.0
     ∙ ap (λ m. map.insert m c.args.client.0 c.args.session) c.self.view_is
