@@ -36,6 +36,9 @@ find_same p r (y ∷ ys) same =
 
 -- where no request waits at the inode
 
+pub none-here : (locks : LockMap) (ino : ℕ) → list_any (waits_for ino) locks.queue ≡ false → find (λ q. waits_for ino q && may_serve locks q) locks.queue ≡ None
+none-here locks ino none = find_none (λ q. waits_for ino q && may_serve locks q) locks.queue (λ q inside. ap (λ b. b && may_serve locks q) (none_any (waits_for ino) locks.queue none q inside))
+
 none-first : (queue : List Request) (ino : ℕ) → list_any (waits_for ino) queue ≡ false → (part : Part) → first_for queue ino part ≡ None
 none-first [] ino none part = refl
 none-first (q ∷ queue) ino none part =
@@ -58,9 +61,6 @@ same-beginning locks wants ino none k =
     (find (λ part. same-begin locks.queue wants ino none part (lock_at locks ino part) k) parts)
 
 -- where each request for another inode is held up
-
-pub none-served : (s : Scene) (ino : ℕ) → WaitAt (λ other. other == ino) s → list_any (waits_for ino) s.locks.queue ≡ false → find (may_serve s.locks) s.locks.queue ≡ None
-none-served s ino wait none = find_none (may_serve s.locks) s.locks.queue (λ q inside. held-up-unserved s q (wait q inside (none_any (waits_for ino) s.locks.queue none q inside)))
 
 by_place : (s : Scene) (q : Request) (b : Bool) → (b ≡ false → may_serve s.locks q ≡ false) → (b && may_serve s.locks q) ≡ may_serve s.locks q
 by_place s q true held = refl

@@ -1,5 +1,5 @@
 //! The locks by inode, the queue, and the moves of both.
-ghost use Rattle.std.specs.Prelude.{◌≡◌, ◌==◌, ◌&&◌, ◌+◌, ◌-◌, ◌<◌, ◌^◌, ℕ, List, None, false, length, position, IfOk, OnOk, OnErr, MatchOption};
+ghost use Rattle.std.specs.Prelude.{◌≡◌, ◌==◌, ◌&&◌, ◌+◌, ◌-◌, ◌<◌, ◌^◌, ℕ, List, None, false, length, position, IfOk, IfSome, OnOk, OnErr, MatchOption};
 ghost use Rattle.std.specs.List.{find, list_any};
 ghost use Rattle.std.specs.Option.{option_map, option_copied};
 ghost use Rattle.std.specs.FinMap as map;
@@ -21,7 +21,7 @@ use crate::moves::Move;
 use crate::request::{Ask, Request};
 use crate::revoked::is_held_outside;
 use crate::states::{InodeLocks, States};
-use crate::wants::{Wants, wants_on};
+use crate::wants::{Wants, known_or_found, wants_on};
 use capbits::{ClientId, Ino, Part, Refusal, Ticket};
 use capspec::FsName;
 use captable::CapTable;
@@ -218,15 +218,23 @@ impl Locks {
         requires turn { IsTurnOf (scene fs.now tree.now sessions.now table.now self.now) ino.0 }
         ensures { IsNextAt (scene fs.now tree.now sessions.now table.now self.now) ino.0 result }
     {
-        self.next_move_by(table, ino, &wants_on(fs, tree, sessions, table, ino))
+        self.next_move_by(table, sessions, tree, fs, ino, &mut None)
     }
 
-    // The same, where this is wanted of the inode.
-    fn next_move_by(&self, table: &CapTable, ino: Ino, wants: &Wants) -> Move
-        ensures { (fs : List ℕ) (tree : Nodes) (sessions : SessionTable)
-            → IsTurnOf (scene fs tree sessions table.now self.now) ino.0
-            → wants.now ≡ wanted_in_all (scene fs tree sessions table.now self.now) ino.0
-            → IsNextAt (scene fs tree sessions table.now self.now) ino.0 result }
+    // The same, where it may be known what is wanted of the inode. That is found where a gather may begin, and kept.
+    fn next_move_by(
+        &self,
+        table: &CapTable,
+        sessions: &Sessions,
+        tree: &Tree,
+        fs: &FsName,
+        ino: Ino,
+        wanted: &mut Option<Wants>,
+    ) -> Move
+        requires turn { IsTurnOf (scene fs.now tree.now sessions.now table.now self.now) ino.0 }
+        requires known { IfSome wanted.old (λ wants. wants ≡ wanted_in_all (scene fs.now tree.now sessions.now table.now self.now) ino.0) }
+        ensures next { IsNextAt (scene fs.now tree.now sessions.now table.now self.now) ino.0 result }
+        ensures known { IfSome wanted.new (λ wants. wants ≡ wanted_in_all (scene fs.now tree.now sessions.now table.now self.now) ino.0) }
     {
         if let Some(part) = self.first_end(table, ino) {
             return Move::End { ino, part };
@@ -234,7 +242,9 @@ impl Locks {
         if let Some(served) = self.first_served() {
             return Move::Serve(served);
         }
-        self.first_begin(ino, wants).unwrap_or(Move::Settled)
+        let wants = known_or_found(*wanted, fs, tree, sessions, table, ino);
+        *wanted = Some(wants);
+        self.first_begin(ino, &wants).unwrap_or(Move::Settled)
     }
 
     /// The oldest request that may be served. It looks at the locks and the queue alone.
@@ -464,10 +474,10 @@ impl Locks {
         ensures turn { IsTurnOf (scene fs.now tree.now sessions.now table.now self.new) ino.0 }
         ensures elsewhere { ChangesLocksOf ino.0 self.old self.new }
     {
-        // A move of a lock changes nothing of what is wanted.
-        let wanted = wants_on(fs, tree, sessions, table, ino);
+        // A move of a lock changes nothing of what is wanted, which is found once, and not where a request is served first.
+        let mut wanted = None;
         'moves: loop {
-            match self.next_move_by(table, ino, &wanted) {
+            match self.next_move_by(table, sessions, tree, fs, ino, &mut wanted) {
                 Move::Settled => return None,
                 Move::Serve(ticket) => return Some(ticket),
                 step => self.make(step),
@@ -495,10 +505,10 @@ impl Locks {
         ensures elsewhere { ChangesLocksOf ino.0 self.old self.new }
     {
         // A move of a lock changes nothing of what is wanted, nor of who waits.
-        let wishes = wants_on(fs, tree, sessions, table, ino);
+        let mut wanted = None;
         let waits = self.waits_at(ino);
         'moves: loop {
-            match self.next_move_alone(table, ino, &wishes, waits) {
+            match self.next_move_alone(table, sessions, tree, fs, ino, waits, &mut wanted) {
                 Move::Settled => return None,
                 Move::Serve(served) => return Some(served),
                 other => self.make(other),
@@ -506,29 +516,60 @@ impl Locks {
         }
     }
 
-    // What is next at an inode, where this is wanted of it, and whether a request waits there is known.
-    fn next_move_alone(&self, table: &CapTable, ino: Ino, wants: &Wants, waits: bool) -> Move
-        ensures { (fs : List ℕ) (tree : Nodes) (sessions : SessionTable)
-            → IsTurnOf (scene fs tree sessions table.now self.now) ino.0
-            → WaitAt (λ other. other == ino.0) (scene fs tree sessions table.now self.now)
-            → wants.now ≡ wanted_in_all (scene fs tree sessions table.now self.now) ino.0
-            → waits ≡ list_any (waits_for ino.0) self.now.queue
-            → IsNextAt (scene fs tree sessions table.now self.now) ino.0 result }
+    // What is next at an inode, where it is known whether a request waits there, and may be known what is wanted of it.
+    fn next_move_alone(
+        &self,
+        table: &CapTable,
+        sessions: &Sessions,
+        tree: &Tree,
+        fs: &FsName,
+        ino: Ino,
+        waits: bool,
+        wanted: &mut Option<Wants>,
+    ) -> Move
+        requires turn { IsTurnOf (scene fs.now tree.now sessions.now table.now self.now) ino.0 }
+        requires elsewhere { WaitAt (λ other. other == ino.0) (scene fs.now tree.now sessions.now table.now self.now) }
+        requires here { waits ≡ list_any (waits_for ino.0) self.now.queue }
+        requires known { IfSome wanted.old (λ wants. wants ≡ wanted_in_all (scene fs.now tree.now sessions.now table.now self.now) ino.0) }
+        ensures next { IsNextAt (scene fs.now tree.now sessions.now table.now self.now) ino.0 result }
+        ensures known { IfSome wanted.new (λ wants. wants ≡ wanted_in_all (scene fs.now tree.now sessions.now table.now self.now) ino.0) }
     {
         if let Some(part) = self.first_end(table, ino) {
             return Move::End { ino, part };
         }
-        if !waits {
-            // So no request may be served, and nothing stands first in a queue of the inode.
-            return self
-                .first_begin_by(&[], ino, wants)
-                .unwrap_or(Move::Settled);
-        }
-        if let Some(served) = self.first_served_at(ino) {
+        if let Some(served) = self.first_served_where(ino, waits) {
             return Move::Serve(served);
         }
-        let beginning = self.first_begin(ino, wants);
-        beginning.unwrap_or(Move::Settled)
+        let wishes = known_or_found(*wanted, fs, tree, sessions, table, ino);
+        *wanted = Some(wishes);
+        self.first_begin_where(ino, &wishes, waits)
+            .unwrap_or(Move::Settled)
+    }
+
+    // The oldest request for a lock of this inode that may be served, where it is known whether one waits.
+    fn first_served_where(&self, ino: Ino, waits: bool) -> Option<Ticket>
+        requires { waits ≡ list_any (waits_for ino.0) self.now.queue }
+        ensures { result ≡ option_map (λ q. q.ticket) (find (λ q. waits_for ino.0 q && moves.may_serve self.now q) self.now.queue) }
+    {
+        if waits {
+            self.first_served_at(ino)
+        } else {
+            None
+        }
+    }
+
+    // The beginning of the first lock of an inode that may begin, where it is known whether a request waits for one of them.
+    fn first_begin_where(&self, ino: Ino, wants: &Wants, waits: bool) -> Option<Move>
+        requires { waits ≡ list_any (waits_for ino.0) self.now.queue }
+        ensures { result ≡ option_map (λ part. moves.beginning self.now wants.now (ino.0, part))
+            (find (λ part. moves.may_begin_by self.now wants.now (ino.0, part)) moves.parts) }
+    {
+        if waits {
+            self.first_begin(ino, wants)
+        } else {
+            // Nothing stands first in a queue of the inode.
+            self.first_begin_by(&[], ino, wants)
+        }
     }
 
     /// Where no gather of a lower inode may end, ends those of an inode that may, in the order of the parts. It looks at

@@ -1,5 +1,5 @@
 //! What clients want of an inode, so far as it counts.
-ghost use Rattle.std.specs.Prelude.{◌≡◌, Some, List, [], ◌∷◌, if◌then◌else◌};
+ghost use Rattle.std.specs.Prelude.{◌≡◌, Some, IfSome, List, [], ◌∷◌, if◌then◌else◌};
 ghost use Rattle.capbits.specs.Sets.{no_caps, meet};
 ghost use Rattle.sessiontab.specs.Tests.{is_open};
 ghost use Rattle.std.specs.Option.{option_copied};
@@ -48,6 +48,24 @@ pub fn wants_on(fs: &FsName, tree: &Tree, sessions: &Sessions, table: &CapTable,
     }
     let loner = wanting.loner();
     Wants { wanted, loner }
+}
+
+// What is wanted of an inode, where it may be known.
+pub(crate) fn known_or_found(
+    known: Option<Wants>,
+    fs: &FsName,
+    tree: &Tree,
+    sessions: &Sessions,
+    table: &CapTable,
+    ino: Ino,
+) -> Wants
+    requires { IfSome known (λ wants. wants ≡ words.in_all (words.wants_on fs.now tree.now sessions.now table.now ino)) }
+    ensures { result ≡ words.in_all (words.wants_on fs.now tree.now sessions.now table.now ino) }
+{
+    match known {
+        Some(wants) => wants,
+        None => wants_on(fs, tree, sessions, table, ino),
+    }
 }
 
 /// What the entry's client wants and is permitted, if its session is open.

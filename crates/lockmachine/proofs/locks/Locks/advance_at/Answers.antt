@@ -6,15 +6,15 @@ use Rattle.lockmachine.proofs.locks.Locks.advance_at.Goals as goal
 pub moves-smaller : goal.moves-smaller
 moves-smaller c =
     let now = scene c.args.fs.now c.args.tree.now c.args.sessions.now c.args.table.now c.moves.self in
-    (one_more _ now c.args.ino.0 c.next_move_by.result c.make.new.self c.moves.invariant (c.next_move_by.ensures c.args.fs.now c.args.tree.now c.args.sessions.now c.moves.invariant.turn c.wants_on-wanted.ensures) c.in_default.not-Settled c.in_default.not-Serve c.make.ensures).fewer
+    (one_more _ now c.args.ino.0 c.next_move_by.result c.make.new.self c.moves.invariant.0 c.next_move_by.ensures.next c.in_default.not-Settled c.in_default.not-Serve c.make.ensures).fewer
 
 pub moves-preserved : goal.moves-preserved
 moves-preserved c =
     let now = scene c.args.fs.now c.args.tree.now c.args.sessions.now c.args.table.now c.moves.self in
-    (one_more _ now c.args.ino.0 c.next_move_by.result c.make.new.self c.moves.invariant (c.next_move_by.ensures c.args.fs.now c.args.tree.now c.args.sessions.now c.moves.invariant.turn c.wants_on-wanted.ensures) c.in_default.not-Settled c.in_default.not-Serve c.make.ensures).so_far
+    ((one_more _ now c.args.ino.0 c.next_move_by.result c.make.new.self c.moves.invariant.0 c.next_move_by.ensures.next c.in_default.not-Settled c.in_default.not-Serve c.make.ensures).so_far, c.next_move_by.ensures.known)
 
 pub returns-in-Settled-clause-moves : goal.returns-in-Settled-clause-moves
-returns-in-Settled-clause-moves c = (c.moves.invariant.steps, few _ _ _ c.moves.invariant.runs, c.moves.invariant.runs)
+returns-in-Settled-clause-moves c = (c.moves.invariant.0.steps, few _ _ _ c.moves.invariant.0.runs, c.moves.invariant.0.runs)
 
 pub returns-in-Serve-clause-moves : goal.returns-in-Serve-clause-moves
-returns-in-Serve-clause-moves c = (c.moves.invariant.steps, few _ _ _ c.moves.invariant.runs, c.moves.invariant.runs)
+returns-in-Serve-clause-moves c = (c.moves.invariant.0.steps, few _ _ _ c.moves.invariant.0.runs, c.moves.invariant.0.runs)

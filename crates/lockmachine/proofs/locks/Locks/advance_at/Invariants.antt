@@ -1,4 +1,5 @@
-use Rattle.lockmachine.specs.Scene.{scene}
+use Rattle.std.specs.Prelude.{◌≡◌, IfSome}
+use Rattle.lockmachine.specs.Scene.{scene, wanted_in_all}
 use Rattle.lockmachine.proofs.Settling.{SoFar, moves_left}
 use Rattle.lockmachine.proofs.locks.Locks.advance_at.Given as goal
 
@@ -7,3 +8,4 @@ decreases-moves l = moves_left (scene l.fs l.tree l.sessions l.table l.self) l.i
 
 abbrev pub invariant-moves : goal.invariant-moves
 invariant-moves l = SoFar (scene l.fs l.tree l.sessions l.table l.fn.self) (scene l.fs l.tree l.sessions l.table l.self) l.ino.0
+    × IfSome l.wanted (λ wants. wants ≡ wanted_in_all (scene l.fs l.tree l.sessions l.table l.self) l.ino.0)

@@ -1,4 +1,4 @@
 use Rattle.lockmachine.proofs.locks.Locks.next_move_at.Goals as goal
 
 pub returns : goal.returns
-returns c = c.next_move_by.ensures c.args.fs.now c.args.tree.now c.args.sessions.now c.requires.turn c.wants_on.ensures
+returns c = c.next_move_by.ensures.next
