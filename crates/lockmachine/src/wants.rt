@@ -103,9 +103,12 @@ pub fn permitted(
 ) -> CapSet
     ensures { result ≡ policy.permitted fs.now tree.now sessions.now (holder client ino) }
 {
+    let Some(session) = sessions.session(client) else {
+        return CapSet::of(&[Cap::P]);
+    };
     let mut names = Names::new();
     let path = tree.read_path(ino, &mut names).then_some(&names);
-    permitted_by(fs, sessions, client, path, tree.node(ino))
+    permitted_for(fs, session, path, tree.node(ino))
 }
 
 /// The same, by the path of the inode and what the tree keeps of it.
