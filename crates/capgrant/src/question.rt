@@ -81,7 +81,7 @@ impl Question<'_> {
     }
 
     /// Whether some grant allows what is asked, and whether some grant allows the other access, to the same inode. Each grant's path
-    /// is tested once.
+    /// is tested once, up to the grant by which both are known.
     pub(crate) fn both_granted(&self, other: &Question<'_>, grants: &[Grant]) -> (bool, bool)
         requires { other.now.path ≡ self.now.path }
         ensures one { result.0 ≡ granted self.now grants.now }
@@ -89,9 +89,12 @@ impl Question<'_> {
     {
         let (mut one, mut two) = (false, false);
         for grant in grants {
+            if one && two {
+                return (true, true);
+            }
             let is_below = self.is_below(grant);
-            one |= self.allows_where(grant, is_below);
-            two |= other.allows_where(grant, is_below);
+            one = one || self.allows_where(grant, is_below);
+            two = two || other.allows_where(grant, is_below);
         }
         (one, two)
     }

@@ -1,9 +1,27 @@
-use Rattle.std.proofs.Common.{not, sym, ap, ◌∙◌}
-use Rattle.std.specs.List.{starts_with}
+use Rattle.std.proofs.Common.{◌≡◌, not, ℕ, zero, suc, Bool, true, false, ◌||◌, List, [], ◌∷◌, take, refl, sym, ap, ◌∙◌}
+use Rattle.std.specs.List.{starts_with, list_any}
 use Rattle.std.specs.Str.{bytes_eq}
 use Rattle.capgrant.specs.Failing.{fails_path}
+use Rattle.capgrant.specs.Verdict.{allows}
 use Rattle.capgrant.proofs.question.Question.both_granted.Goals as goal
 
 pub allows_where-two-requires : goal.allows_where-two-requires
 unfolding fails_path
 allows_where-two-requires c = c.is_below-is_below.ensures ∙ ap (λ path. not (not (starts_with bytes_eq path c.grant-item.result.path))) (sym c.requires)
+
+-- what one of the first passes, one of all passes
+among_first : {T : Type 0} (p : T → Bool) (xs : List T) (n : ℕ) → list_any p (take n xs) ≡ true → list_any p xs ≡ true
+among_first p [] zero e = e
+among_first p [] (suc n) e = e
+among_first p (x ∷ xs) zero e = absurd (cc)
+among_first p (x ∷ xs) (suc n) e = by_test (p x) (among_first p xs n) e
+  where
+    by_test : (b : Bool) → (list_any p (take n xs) ≡ true → list_any p xs ≡ true) → (b || list_any p (take n xs)) ≡ true → (b || list_any p xs) ≡ true
+    by_test true rest e = refl
+    by_test false rest e = rest e
+
+pub returns-then-two-clause-one : goal.returns-then-two-clause-one
+returns-then-two-clause-one c = sym (among_first (allows c.args.self.now) c.args.grants.now c.loop-grant.grant-index (sym c.loop-grant.invariant.one ∙ c.if-one.true))
+
+pub returns-then-two-clause-other : goal.returns-then-two-clause-other
+returns-then-two-clause-other c = sym (among_first (allows c.args.other.now) c.args.grants.now c.loop-grant.grant-index (sym c.loop-grant.invariant.two ∙ c.if-two.true))
