@@ -4,14 +4,39 @@ ghost use Rattle.capbits.specs.Text.{text_of};
 
 use capbits::{CapSet, write_caps};
 use std::alloc::AllocError;
-use std::fmt::Display;
-use std::io::Write;
+use std::fmt;
+use std::fmt::{Display, Write};
+use std::mem::replace;
 
 // Appends what a value prints. Only memory can be missing.
 pub(crate) fn print<D: Display + Drop>(text: &mut Vec<u8>, more: D) -> Result<(), AllocError>
     ensures { OnOk result (IfSome (D.output more) (λ bytes. text.new.items ≡ text.old.items ++ bytes)) }
 {
-    text.write_fmt(more).map_err(|_| AllocError)
+    let none = Vec::new(*text.allocator());
+    let mut printed = Text {
+        bytes: replace(text, none),
+    };
+    let done = printed.write(more);
+    *text = printed.bytes;
+    done.map_err(|_| AllocError)
+}
+
+// A text that values print themselves into, each piece by one copy. As `io::Write` a list of bytes takes each by a loop, for a writer
+// may stop in the midst of a piece.
+#[derive(Drop)]
+struct Text {
+    bytes: Vec<u8>,
+}
+
+impl Write for Text {
+    ghost write_str_gives = { λ old piece new. new.bytes.items ≡ old.bytes.items ++ piece };
+
+    fn write_str(&mut self, piece: &str) -> fmt::Result {
+        match self.bytes.extend_from_slice(piece.as_bytes()) {
+            Ok(()) => Ok(()),
+            Err(_) => Err(fmt::Error),
+        }
+    }
 }
 
 // The one spelling of a set of capabilities.
