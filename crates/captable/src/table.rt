@@ -68,7 +68,7 @@ impl Drop for CapTable {
     }
 }
 
-// All but the places: they are no part of what the table keeps, but for how far polls have come.
+// All but the places and the counts: they are no part of what the table keeps, but for how far polls have come.
 impl fmt::Debug for CapTable {
     fn fmt<W: fmt::Write>(&self, f: &mut fmt::Formatter<W>) -> fmt::Result {
         f.debug_struct("CapTable")
