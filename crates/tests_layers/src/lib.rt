@@ -29,6 +29,8 @@ mod lock_targets;
 #[cfg(test)]
 mod locks;
 #[cfg(test)]
+mod numbered_maps;
+#[cfg(test)]
 mod numbers;
 #[cfg(test)]
 mod permitted;

@@ -1,0 +1,3 @@
+pub mod Keys
+pub mod Maps
+pub mod Rowed
