@@ -7,8 +7,8 @@ ghost use Rattle.lockmachine.specs.Inodes as words;
 
 use capbits::{Ino, Part};
 use locktable::{LockState, State};
+use numbered::Numbered;
 use std::alloc::{AllocError, Global};
-use std::collections::BTreeMap;
 use std::collections::btree_map::Keys;
 use std::marker::Model;
 
@@ -88,11 +88,10 @@ fn is_gather(lock: LockState) -> bool
 #[derive(Debug, Drop)]
 pub(crate) struct States {
     // By the inode's number.
-    locks: BTreeMap<u64, InodeLocks>,
+    locks: Numbered<InodeLocks>,
 }
 
 impl Model for States {
-    ghost use Rattle.std.specs.FinMap as map;
     ghost use Rattle.lockmachine.specs.Inodes.{StateMap};
     ghost use Rattle.lockmachine.specs.Codes.{state_map_code};
 
@@ -100,7 +99,7 @@ impl Model for States {
 
     ghost coded = { state_map_code };
 
-    ghost view = { λ s. map.from_entries s.locks.entries };
+    ghost view = { λ s. s.locks };
 }
 
 impl States {
@@ -109,7 +108,7 @@ impl States {
         ensures { result ≡ map.empty }
     {
         States {
-            locks: BTreeMap::new(alloc),
+            locks: Numbered::new(alloc),
         }
     }
 
@@ -117,15 +116,13 @@ impl States {
     pub(crate) fn get(&self, ino: Ino) -> Option<&InodeLocks>
         ensures { option_copied result ≡ map.get self.now ino.0 }
     {
-        self.locks.get(&ino.0)
+        self.locks.get(ino.0)
     }
 
     // The inodes that have locks, in the order of their numbers.
-    pub(crate) fn inos(&self) -> Keys<'_, u64, InodeLocks>
+    pub(crate) fn inos(&self) -> Keys<'_, u64, usize>
         ensures { result ≡ map.keys self.now }
     {
-        // For what it says of the order.
-        let _count = self.locks.len();
         self.locks.keys()
     }
 
@@ -134,22 +131,21 @@ impl States {
         ensures ok { OnOk result (self.new ≡ map.insert self.old ino.0 locks) }
         ensures err { OnErr result (self.new ≡ self.old) }
     {
-        self.locks.insert(ino.0, locks)?;
-        Ok(())
+        self.locks.insert(ino.0, locks)
     }
 
     // Takes the locks of an inode away.
     pub(crate) fn remove(&mut self, ino: Ino)
         ensures { self.new ≡ map.remove self.old ino.0 }
     {
-        self.locks.remove(&ino.0);
+        self.locks.remove(ino.0);
     }
 
     // Puts the lock of an inode's part, if it has one, in another state.
     pub(crate) fn set(&mut self, ino: Ino, part: Part, state: LockState)
         ensures { self.new ≡ change_at (words.with_lock_in part state) self.old ino.0 }
     {
-        if let Some(locks) = self.locks.get_mut(&ino.0) {
+        if let Some(locks) = self.locks.get_mut(ino.0) {
             locks.set(part, state);
         }
     }
