@@ -7,7 +7,7 @@ use Rattle.std.specs.Option.{option_map}
 use Rattle.inotree.specs.Inodes.{InodeMap}
 use Rattle.inotree.specs.Tree.{Nodes, IsTree}
 use Rattle.inotree.specs.declared.node.Node.{Node}
-use Rattle.inotree.proofs.Maps.{insert-here, insert-other}
+use Rattle.numbered.proofs.Maps.{insert-here, insert-other}
 use Rattle.lockmachine.specs.declared.states.InodeLocks.{InodeLocks}
 use Rattle.lockmachine.specs.Inodes.{in_sync}
 use Rattle.lockmachine.specs.Locks.{LockMap, with_ino, no_locks}

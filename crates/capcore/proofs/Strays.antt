@@ -16,7 +16,7 @@ use Rattle.inotree.specs.Calls.{forgotten}
 use Rattle.inotree.specs.Tests.{is_gone}
 use Rattle.inotree.specs.Tree.{Nodes, IsTree, IsUnder, place, place_at}
 use Rattle.inotree.proofs.Elsewhere.{path_of-kept}
-use Rattle.inotree.proofs.Maps.{same_or_other, remove-here, remove-other}
+use Rattle.numbered.proofs.Maps.{same_or_other, remove-here, remove-other}
 use Rattle.captable.specs.declared.entry.EntryRow.{EntryRow}
 use Rattle.captable.specs.Calls.{is_of_inode}
 use Rattle.lockmachine.specs.Locks.{without_ino}

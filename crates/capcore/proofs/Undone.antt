@@ -4,7 +4,7 @@ use Rattle.std.specs.Cmp.{nat_cmp_total}
 use Rattle.std.specs.FinMap as map
 use Rattle.std.specs.Option.{is_some}
 use Rattle.inotree.specs.Tree.{IsTree}
-use Rattle.inotree.proofs.Maps.{put_back}
+use Rattle.numbered.proofs.Maps.{put_back}
 use Rattle.lockmachine.specs.Inodes.{StateMap, in_sync}
 use Rattle.lockmachine.specs.Locks.{LockMap, with_ino, without_ino}
 use Rattle.capcore.specs.State.{State}

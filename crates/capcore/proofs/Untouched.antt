@@ -21,7 +21,7 @@ use Rattle.inotree.specs.declared.node.Place.TheVariants.{Gone}
 use Rattle.capbits.specs.Maps.{change_at}
 use Rattle.inotree.specs.Tree.{Nodes, IsTree, place_at}
 use Rattle.inotree.specs.Calls.{with_new, new_node, changed}
-use Rattle.inotree.proofs.Maps.{insert-other}
+use Rattle.numbered.proofs.Maps.{insert-other}
 use Rattle.inotree.proofs.Elsewhere.{field-changed, not_next}
 use Rattle.sessiontab.specs.Table.{SessionTable}
 use Rattle.sessiontab.specs.Calls.{with_session, without_blocked}

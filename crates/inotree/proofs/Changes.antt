@@ -21,7 +21,7 @@ use Rattle.inotree.specs.Inodes.{InodeMap, with_site, with_setting}
 use Rattle.inotree.specs.Index.{NameIndex, slot_cmp}
 use Rattle.inotree.specs.Tree.{IsTree, IsIndexed, IsUnder, IsChildless, Climbs, HasGoodNames, AllHaveGoodNames, site_of, kind_of, place, place_at, is_directory, is_directory_kind, depth, reaches, is_within, lies_below}
 use Rattle.inotree.specs.Calls.{first_tree, new_node}
-use Rattle.inotree.proofs.Maps.{insert-here, insert-other, remove-here, remove-other, change-is, change-none}
+use Rattle.numbered.proofs.Maps.{insert-here, insert-other, remove-here, remove-other, change-is, change-none}
 use Rattle.inotree.proofs.Inner.{some_same, good_none, moved_good, put_inner}
 use Rattle.inotree.proofs.Named.{node_of}
 use Rattle.inotree.proofs.Shape.{same_ino, slot, tree-buried, index-forgotten, index-unlinked, climb_keep, climb_split, climb_on}

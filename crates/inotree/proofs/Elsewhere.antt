@@ -14,7 +14,7 @@ use Rattle.inotree.specs.Inodes.{InodeMap}
 use Rattle.inotree.specs.Tree.{Nodes, IsTree, IsUnder, site_of, place, place_at, path_at, path_of, upward, names_up}
 use Rattle.inotree.specs.Calls.{new_node, with_new, changed, forgotten}
 use Rattle.inotree.specs.Alike.{IsAlike}
-use Rattle.inotree.proofs.Maps.{insert-here, insert-other, remove-other}
+use Rattle.numbered.proofs.Maps.{insert-here, insert-other, remove-other}
 use Rattle.inotree.proofs.Shape.{same_ino}
 
 -- Some inodes stand where they stood, and so does all above them.

@@ -15,7 +15,7 @@ use Rattle.inotree.specs.Inodes.{InodeMap, with_setting, with_site, with_attribu
 use Rattle.inotree.specs.Tree.{Nodes, IsTree, HasGoodNames, AllHaveGoodNames}
 use Rattle.inotree.specs.Tests.{test_at}
 use Rattle.inotree.proofs.Found.{both_true}
-use Rattle.inotree.proofs.Maps.{same_or_other, apart, insert-here, insert-other, remove-here, remove-other}
+use Rattle.numbered.proofs.Maps.{same_or_other, apart, insert-here, insert-other, remove-here, remove-other}
 use Rattle.inotree.proofs.Order.{name_total, name_same}
 
 pub some_same : {A : Type 0} {x y : A} → Some x ≡ Some y → x ≡ y

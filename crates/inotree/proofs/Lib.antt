@@ -8,7 +8,6 @@ pub mod Growing
 pub mod Inner
 pub mod Leading
 pub mod Lent
-pub mod Maps
 pub mod Moving
 pub mod Named
 pub mod Naming
@@ -17,7 +16,6 @@ pub mod Order
 pub mod Passing
 pub mod Reaching
 pub mod Results
-pub mod Rowed
 pub mod Shape
 pub mod Slots
 pub mod Turning

@@ -20,7 +20,7 @@ use Rattle.inotree.specs.Tests.{inode_tests, root_test, file_test, directory_tes
 use Rattle.inotree.proofs.Changes.{tree-changed, tree-unlinked, setting_kind, setting_site}
 use Rattle.inotree.proofs.Elsewhere.{path_of-kept, field-changed, alike-other}
 use Rattle.inotree.proofs.Inner.{setting_good, attribute_good, no_attribute_good}
-use Rattle.inotree.proofs.Maps.{insert-other, change-none}
+use Rattle.numbered.proofs.Maps.{insert-other, change-none}
 use Rattle.inotree.proofs.Passing.{here, or_both, childless_file, childless_empty}
 
 -- ---- which inodes there are, and the others

@@ -9,7 +9,7 @@ use Rattle.inotree.specs.declared.node.Place.TheVariants.{Here}
 use Rattle.inotree.specs.Inodes.{InodeMap}
 use Rattle.inotree.specs.Index.{NameIndex}
 use Rattle.inotree.specs.Tree.{IsTree, IsIndexed, IsUnder, Climbs, AllHaveGoodNames, site_of, kind_of, place, place_at, is_directory_kind}
-use Rattle.inotree.proofs.Maps.{same_or_other, remove-here, remove-other}
+use Rattle.numbered.proofs.Maps.{same_or_other, remove-here, remove-other}
 use Rattle.inotree.proofs.Slots.{slot_total, slot_same}
 
 pub same_ino : (i k : ℕ) → (i ≡ k) ⊎ (i ≡ k → ⊥)

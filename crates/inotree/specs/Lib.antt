@@ -1,7 +1,6 @@
 pub mod Names
 pub mod Node
 pub mod Inodes
-pub mod Rows
 pub mod Index
 pub mod Tree
 pub mod Calls

@@ -7,67 +7,29 @@ ghost use Rattle.inotree.specs.Inodes.{with_setting, with_site, with_attribute, 
 ghost use Rattle.inotree.specs.Tree.{site_of, slot_at, parent, is_within, names_up};
 
 use crate::attributes::Value;
-use crate::guesses::Guesses;
 use crate::index::Slot;
 use crate::name::Name;
 use crate::names::{MAX_NAMES, Names};
 use crate::node::{Node, Setting, Site};
-use crate::rows::{Row, add, place_of, row_near, take_out};
 use capbits::Ino;
+use numbered::Numbered;
 use std::alloc::{AllocError, Global};
-use std::collections::BTreeMap;
-use std::fmt;
 use std::marker::Model;
 
-// The inodes, by number. They stand in rows, whose places are guessed first and searched for where a guess fails.
-#[derive(Drop)]
+// The inodes, by number.
+#[derive(Debug, Drop)]
 pub(crate) struct Inodes {
-    // Where the row of each inode stands.
-    places: BTreeMap<u64, usize>,
-    // In no order.
-    rows: Vec<Row>,
-    guesses: Guesses,
+    nodes: Numbered<Node>,
 }
 
 impl Model for Inodes {
-    ghost use Rattle.std.specs.FinMap as map;
     ghost use Rattle.inotree.specs.Inodes.{InodeMap, inode_map_code};
 
     ghost Value = { InodeMap };
 
     ghost coded = { inode_map_code };
 
-    ghost use Rattle.inotree.specs.Rows.{IsPlaced, inodes_of};
-
-    ghost view = { λ i. inodes_of i.rows.items };
-
-    ghost invariant = { λ i. IsPlaced i.places i.rows.items };
-}
-
-// It shows the inodes in the order of their numbers, and nothing of where they stand.
-impl fmt::Debug for Inodes {
-    fn fmt<W: fmt::Write>(&self, f: &mut fmt::Formatter<W>) -> fmt::Result {
-        f.debug_struct("Inodes")
-            .field("nodes", &ByNumber(self))
-            .finish()
-    }
-}
-
-// The inodes, as a map from their numbers.
-#[derive(Drop)]
-struct ByNumber<'a>(&'a Inodes);
-
-impl<'a> fmt::Debug for ByNumber<'a> {
-    fn fmt<W: fmt::Write>(&self, f: &mut fmt::Formatter<W>) -> fmt::Result {
-        let inodes = self.0;
-        let mut map = f.debug_map();
-        for ino in inodes.places.keys() {
-            if let Some(node) = inodes.get(*ino) {
-                map.entry(ino, node);
-            }
-        }
-        map.finish()
-    }
+    ghost view = { λ i. i.nodes };
 }
 
 impl Inodes {
@@ -76,9 +38,7 @@ impl Inodes {
         ensures { result ≡ map.empty }
     {
         Inodes {
-            places: BTreeMap::new(alloc),
-            rows: Vec::new(alloc),
-            guesses: Guesses::new(alloc),
+            nodes: Numbered::new(alloc),
         }
     }
 
@@ -87,8 +47,10 @@ impl Inodes {
         ensures { IfOk result (λ copy. copy ≡ self.now) }
     {
         let mut made = Inodes::new(alloc);
-        for row in &self.rows {
-            made.put(row.copy(alloc)?)?;
+        for ino in self.nodes.keys() {
+            if let Some(node) = self.nodes.get(*ino) {
+                made.insert(*ino, node.copy(alloc)?)?;
+            }
         }
         Ok(made)
     }
@@ -97,14 +59,14 @@ impl Inodes {
     pub(crate) fn len(&self) -> usize
         ensures { result ≡ map.len self.now }
     {
-        self.rows.len()
+        self.nodes.len()
     }
 
     // The inode of this number, if there is one.
     pub(crate) fn get(&self, ino: u64) -> Option<&Node>
         ensures { option_copied result ≡ map.get self.now ino }
     {
-        Some(&row_near(&self.places, &self.rows, ino, self.guesses.at(ino))?.node)
+        self.nodes.get(ino)
     }
 
     // Puts an inode under this number.
@@ -112,34 +74,7 @@ impl Inodes {
         ensures ok { OnOk result (self.new ≡ map.insert self.old ino node) }
         ensures err { OnErr result (self.new ≡ self.old) }
     {
-        self.put(Row { ino, node })
-    }
-
-    // Puts in a row, in place of the one of its number if there is one.
-    fn put(&mut self, row: Row) -> Result<(), AllocError>
-        ensures ok { OnOk result (self.new ≡ map.insert self.old row.ino row.node) }
-        ensures err { OnErr result (self.new ≡ self.old) }
-    {
-        match place_of(&self.places, &self.rows, row.ino) {
-            Some(place) => {
-                self.rows[place] = row;
-                Ok(())
-            }
-            None => self.add(row),
-        }
-    }
-
-    // Puts in a row whose number no other has.
-    fn add(&mut self, row: Row) -> Result<(), AllocError>
-        requires absent { map.get self.old row.ino ≡ None }
-        ensures ok { OnOk result (self.new ≡ map.insert self.old row.ino row.node) }
-        ensures err { OnErr result (self.new ≡ self.old) }
-    {
-        let (ino, place) = (row.ino, self.rows.len());
-        add(&mut self.places, &mut self.rows, row)?;
-        self.guesses.fit(&self.rows);
-        self.guesses.note(ino, place);
-        Ok(())
+        self.nodes.insert(ino, node)
     }
 
     // Where the inode's name stands, if it has one.
@@ -204,21 +139,15 @@ impl Inodes {
     pub(crate) fn remove(&mut self, ino: u64)
         ensures { self.new ≡ map.remove self.old ino }
     {
-        if let Some(place) = place_of(&self.places, &self.rows, ino) {
-            take_out(&mut self.places, &mut self.rows, place, ino);
-            self.guesses.fit(&self.rows);
-            if let Some(moved) = self.rows.get(place) {
-                self.guesses.note(moved.ino, place);
-            }
-        }
+        self.nodes.remove(ino);
     }
 
     // Moves an inode, if there is one of this number.
     pub(crate) fn set_site(&mut self, ino: u64, site: Site)
         ensures { self.new ≡ change_at (with_site site) self.old ino }
     {
-        if let Some(place) = place_of(&self.places, &self.rows, ino) {
-            self.rows[place].node.site = site;
+        if let Some(node) = self.nodes.get_mut(ino) {
+            node.site = site;
         }
     }
 
@@ -226,8 +155,8 @@ impl Inodes {
     pub(crate) fn set(&mut self, ino: u64, setting: Setting)
         ensures { self.new ≡ change_at (with_setting setting) self.old ino }
     {
-        if let Some(place) = place_of(&self.places, &self.rows, ino) {
-            self.rows[place].node.set(setting);
+        if let Some(node) = self.nodes.get_mut(ino) {
+            node.set(setting);
         }
     }
 
@@ -241,8 +170,8 @@ impl Inodes {
         ensures ok { OnOk result (self.new ≡ change_at (with_attribute name value) self.old ino) }
         ensures err { OnErr result (self.new ≡ self.old) }
     {
-        match place_of(&self.places, &self.rows, ino) {
-            Some(place) => self.rows[place].node.attributes.insert(name, value),
+        match self.nodes.get_mut(ino) {
+            Some(node) => node.attributes.insert(name, value),
             None => Ok(()),
         }
     }
@@ -251,8 +180,8 @@ impl Inodes {
     pub(crate) fn remove_attribute(&mut self, ino: u64, name: &Name)
         ensures { self.new ≡ change_at (without_attribute name.now) self.old ino }
     {
-        if let Some(place) = place_of(&self.places, &self.rows, ino) {
-            self.rows[place].node.attributes.remove(name);
+        if let Some(node) = self.nodes.get_mut(ino) {
+            node.attributes.remove(name);
         }
     }
 
@@ -261,8 +190,8 @@ impl Inodes {
         ensures ok { OnOk result (self.new ≡ change_at (with_snapshot name) self.old ino) }
         ensures err { OnErr result (self.new ≡ self.old) }
     {
-        match place_of(&self.places, &self.rows, ino) {
-            Some(place) => self.rows[place].node.snapshots.insert(name),
+        match self.nodes.get_mut(ino) {
+            Some(node) => node.snapshots.insert(name),
             None => Ok(()),
         }
     }
@@ -271,8 +200,8 @@ impl Inodes {
     pub(crate) fn remove_snapshot(&mut self, ino: u64, name: &Name)
         ensures { self.new ≡ change_at (without_snapshot name.now) self.old ino }
     {
-        if let Some(place) = place_of(&self.places, &self.rows, ino) {
-            self.rows[place].node.snapshots.remove(name);
+        if let Some(node) = self.nodes.get_mut(ino) {
+            node.snapshots.remove(name);
         }
     }
 }

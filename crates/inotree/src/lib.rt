@@ -4,14 +4,12 @@
 #![tactic(auto)]
 
 mod attributes;
-mod guesses;
 mod index;
 mod inodes;
 mod laws;
 mod name;
 mod names;
 mod node;
-mod rows;
 mod snapshots;
 mod tree;
 

@@ -8,7 +8,7 @@ use Rattle.std.proofs.lemmas.Bool.{eqb-true, eqb-false}
 use Rattle.capbits.specs.declared.cap.Part.{Part}
 use Rattle.capbits.specs.declared.cap.Part.TheVariants.{A, L, X, F}
 use Rattle.capbits.specs.Sets.{and_parts}
-use Rattle.inotree.proofs.Maps.{insert-here, insert-other}
+use Rattle.numbered.proofs.Maps.{insert-here, insert-other}
 use Rattle.locktable.specs.declared.states.LockState.{LockState}
 use Rattle.captable.proofs.Searches.{find_passes}
 use Rattle.lockmachine.specs.declared.states.InodeLocks.{InodeLocks}

@@ -1,6 +1,9 @@
-use Rattle.std.proofs.Common.{◌≡◌, take}
-use Rattle.inotree.specs.Rows.{inodes_of}
+use Rattle.std.proofs.Common.{map}
+use Rattle.std.specs.Map.Iter.{deref}
+use Rattle.std.specs.Cmp.{nat_cmp_total}
+use Rattle.std.specs.FinMap as fin
+use Rattle.inotree.proofs.Copies.{IsCopiedAt}
 use Rattle.inotree.proofs.inodes.Inodes.copy.Given as goal
 
-abbrev pub invariant-loop-row : goal.invariant-loop-row
-invariant-loop-row l = l.made ≡ inodes_of (take l.row-index l.row-items)
+abbrev pub invariant-loop-ino : goal.invariant-loop-ino
+invariant-loop-ino l = IsCopiedAt nat_cmp_total fin.nat_cmp-IsAntisymmetric l.self (map deref l.yielded) l.made

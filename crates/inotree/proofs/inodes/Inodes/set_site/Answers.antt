@@ -1,11 +1,23 @@
-use Rattle.std.proofs.Common.{refl, ap, ◌∙◌}
+use Rattle.std.proofs.Common.{ℕ, sym, ap, ◌∙◌}
+use Rattle.std.specs.Cmp.{nat_cmp_total}
+use Rattle.std.specs.FinMap as map
 use Rattle.capbits.specs.Maps.{change_at}
+use Rattle.numbered.proofs.Maps.{change-is, change-none}
+use Rattle.inotree.specs.declared.node.Node.{Node}
 use Rattle.inotree.specs.Inodes.{InodeMap, with_site}
-use Rattle.inotree.proofs.Rowed.{inodes-change}
 use Rattle.inotree.proofs.inodes.Inodes.set_site.Goals as goal
+use Rattle.inotree.proofs.inodes.Inodes.set_site.Goals.{in-Some, in_default}
 
-pub returns-in-Some : goal.returns-in-Some
-returns-in-Some c =
-    inodes-change c.self.inside.rows.items c.deref.result.now c.deref.ensures.value c.in-Some.place c.args.ino c.in-Some.ensures.number c.in-Some.ensures.bound
-    c.index_mut.result.now _ c.index_mut.ensures.value refl c.self.inside.places c.self.invariant (with_site c.args.site) refl
-    ∙ ap (λ (m : InodeMap). change_at (with_site c.args.site) m c.args.ino) c.self.view_is
+pub returns : goal.returns
+returns c =
+    let m : InodeMap = c.self.inside.nodes in
+    let ino : ℕ = c.args.ino in
+    let f : Node → Node = with_site c.args.site in
+    elim c.match-get_mut.branch [
+      | in-Some w ↦
+          ap (λ i. i.nodes) w.self-inside-is ∙ sym (change-is nat_cmp_total map.nat_cmp-IsAntisymmetric m ino f w.in-Some.node.now (sym w.in-Some.ensures.value))
+          ∙ ap (λ (m : InodeMap). change_at f m ino) c.self.view_is
+      | in_default w ↦
+          ap (λ i. i.nodes) w.self-inside-is ∙ sym (change-none nat_cmp_total map.nat_cmp-IsAntisymmetric m ino f (sym w.in_default.ensures.value))
+          ∙ ap (λ (m : InodeMap). change_at f m ino) c.self.view_is
+    ]

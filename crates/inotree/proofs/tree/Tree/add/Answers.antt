@@ -10,7 +10,7 @@ use Rattle.capbits.specs.Refusal.{first_failing}
 use Rattle.inotree.specs.Calls.{new_node}
 use Rattle.inotree.specs.Tests.{create_tests}
 use Rattle.inotree.proofs.Changes.{kept-added, kept_at}
-use Rattle.inotree.proofs.Maps.{put_back}
+use Rattle.numbered.proofs.Maps.{put_back}
 use Rattle.inotree.proofs.Named.{child-index}
 use Rattle.inotree.proofs.Passing.{passed-create}
 use Rattle.inotree.proofs.Results.{at_ok, at_err}
