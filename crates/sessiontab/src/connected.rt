@@ -8,26 +8,25 @@ ghost use Rattle.sessiontab.specs.Connected.{change_session};
 use crate::session::{Session, Status};
 use capbits::ClientId;
 use capspec::Grants;
+use numbered::Numbered;
 use std::alloc::{AllocError, Global};
-use std::collections::BTreeMap;
 use std::marker::Model;
 
 // The session of each client that is connected.
 #[derive(Debug, Drop)]
 pub(crate) struct Connected {
     // By the client's number.
-    sessions: BTreeMap<u32, Session>,
+    sessions: Numbered<Session>,
 }
 
 impl Model for Connected {
-    ghost use Rattle.std.specs.FinMap as map;
     ghost use Rattle.sessiontab.specs.Connected.{SessionMap, session_map_code};
 
     ghost Value = { SessionMap };
 
     ghost coded = { session_map_code };
 
-    ghost view = { λ c. map.from_entries c.sessions.entries };
+    ghost view = { λ c. c.sessions };
 }
 
 impl Connected {
@@ -36,7 +35,7 @@ impl Connected {
         ensures { result ≡ map.empty }
     {
         Connected {
-            sessions: BTreeMap::new(alloc),
+            sessions: Numbered::new(alloc),
         }
     }
 
@@ -51,7 +50,7 @@ impl Connected {
     pub(crate) fn get(&self, client: ClientId) -> Option<&Session>
         ensures { option_copied result ≡ map.get self.now client.0 }
     {
-        self.sessions.get(&client.0)
+        self.sessions.get(u64::from(client.0))
     }
 
     // Gives the client this session.
@@ -59,8 +58,7 @@ impl Connected {
         ensures ok { OnOk result (self.new ≡ map.insert self.old client.0 session) }
         ensures err { OnErr result (self.new ≡ self.old) }
     {
-        self.sessions.insert(client.0, session)?;
-        Ok(())
+        self.sessions.insert(u64::from(client.0), session)
     }
 
     // Ends the client's session, and answers whether it had one.
@@ -69,14 +67,20 @@ impl Connected {
         ensures ended { self.new ≡ map.remove self.old client.0 }
         ensures kept { OnFalse result (self.new ≡ self.old) }
     {
-        self.sessions.remove(&client.0).is_some()
+        match self.get(client) {
+            Some(_session) => {
+                self.sessions.remove(u64::from(client.0));
+                true
+            }
+            None => false,
+        }
     }
 
     // Gives the client's session this status, where it has one.
     pub(crate) fn set_status(&mut self, client: ClientId, status: Status)
         ensures { self.new ≡ change_session (λ session. record session { status = status }) self.old client.0 }
     {
-        if let Some(session) = self.sessions.get_mut(&client.0) {
+        if let Some(session) = self.sessions.get_mut(u64::from(client.0)) {
             session.status = status;
         }
     }
@@ -85,7 +89,7 @@ impl Connected {
     pub(crate) fn set_grants(&mut self, client: ClientId, grants: Grants)
         ensures { self.new ≡ change_session (λ session. record session { grants = grants }) self.old client.0 }
     {
-        if let Some(session) = self.sessions.get_mut(&client.0) {
+        if let Some(session) = self.sessions.get_mut(u64::from(client.0)) {
             session.grants = grants;
         }
     }

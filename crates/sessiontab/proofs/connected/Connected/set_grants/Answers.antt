@@ -1,26 +1,24 @@
-use Rattle.std.proofs.Common.{ℕ, IsSome, refl, sym, ap, subst, ◌∙◌}
+use Rattle.std.proofs.Common.{ℕ, sym, ap, ◌∙◌}
 use Rattle.std.specs.Cmp.{nat_cmp_total}
 use Rattle.std.specs.FinMap as map
+use Rattle.numbered.proofs.Maps.{change-is, change-none}
 use Rattle.sessiontab.specs.declared.session.Session.{Session}
 use Rattle.sessiontab.specs.Connected.{SessionMap, change_session}
-use Rattle.capbits.proofs.Entries.{change-entries, change-no_entry}
 use Rattle.sessiontab.proofs.connected.Connected.set_grants.Goals as goal
 use Rattle.sessiontab.proofs.connected.Connected.set_grants.Goals.{in-Some, in_default}
 
 pub returns : goal.returns
 returns c =
-    let client : ℕ = c.args.client.0 in
+    let m : SessionMap = c.self.inside.sessions in
+    let client : ℕ = c.from.result in
     let f : Session → Session = λ session. record session { grants = c.args.grants } in
     elim c.match-get_mut.branch [
       | in-Some w ↦
-          let here = w.in-Some.ensures.value in
-          let written = c.get_mut.follows.holds (f w.in-Some.session.now) in
-          ap (λ i. map.from_entries i.sessions.entries) w.self-inside-is
-          ∙ change-entries nat_cmp_total map.nat_cmp-IsAntisymmetric f c.self.inside.sessions.entries _ client w.in-Some.session.now (f w.in-Some.session.now) refl (sym here) (written.3 (subst IsSome here refl)).0
-          ∙ ap (λ (m : SessionMap). change_session f m client) c.self.view_is
+          ap (λ i. i.sessions) w.self-inside-is
+          ∙ sym (change-is nat_cmp_total map.nat_cmp-IsAntisymmetric m client f w.in-Some.session.now (sym w.in-Some.ensures.value))
+          ∙ ap (λ (m : SessionMap). change_session f m client) c.self.view_is ∙ ap (change_session f c.args.self.now) c.from.ensures
       | in_default w ↦
-          ap (λ i. map.from_entries i.sessions.entries) w.self-inside-is
-          ∙ ap (λ m. map.from_entries m.entries) c.get_mut.follows.holds-at-none
-          ∙ change-no_entry nat_cmp_total map.nat_cmp-IsAntisymmetric f c.self.inside.sessions.entries client (sym w.in_default.ensures.value)
-          ∙ ap (λ (m : SessionMap). change_session f m client) c.self.view_is
+          ap (λ i. i.sessions) w.self-inside-is
+          ∙ sym (change-none nat_cmp_total map.nat_cmp-IsAntisymmetric m client f (sym w.in_default.ensures.value))
+          ∙ ap (λ (m : SessionMap). change_session f m client) c.self.view_is ∙ ap (change_session f c.args.self.now) c.from.ensures
     ]
