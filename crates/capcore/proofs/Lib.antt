@@ -70,6 +70,9 @@ pub mod ShownSteps
 pub mod ShownWords
 pub mod HeldOn
 pub mod NothingServed
+pub mod NobodyServed
+pub mod AloneAtEnd
+pub mod SameLocks
 pub mod Knowing
 pub mod EndKnown
 pub mod KeptSets

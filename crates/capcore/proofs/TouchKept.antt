@@ -2,22 +2,27 @@
 use Rattle.std.proofs.Common.{◌≡◌, ◌≢◌, Bool, true, false, cond, not, ◌&&◌, Option, Some, None, is_some, IsSome, [], ◌∷◌, refl, sym, ap, subst, ◌∙◌, true≢false}
 use Rattle.std.specs.HashMap.{HashMap, get}
 use Rattle.std.specs.Option.{option_map, option_map_or}
+use Rattle.std.proofs.lemmas.List.Elements.{All-contains}
 use Rattle.capbits.specs.declared.cap.Cap.{Cap}
 use Rattle.capbits.specs.declared.cap.Cap.TheVariants.{P}
 use Rattle.capbits.specs.Caps.{Caps, has}
 use Rattle.capbits.specs.Sets.{no_caps, caps_in, union, IsSubset, has-none, has-minus, and_parts}
 use Rattle.captable.specs.declared.entry.Entry.{Entry}
+use Rattle.captable.specs.declared.entry.EntryRow.{EntryRow}
 use Rattle.captable.specs.declared.entry.Holder.{Holder}
-use Rattle.captable.specs.Table.{Table, same, entry_at}
+use Rattle.captable.specs.Table.{Table, same, is_row_of, entry_at}
 use Rattle.captable.specs.Calls.{new_entry, opened, changed, wanting, taken, given_back, without}
-use Rattle.captable.proofs.ByHolder.{entry_at-changed, entry_at-changed_other, entry_at-opened, entry_at-opened_other, entry_at-without, entry_at-without_other}
+use Rattle.captable.proofs.ByHolder.{entry_at-changed, entry_at-changed_other, entry_at-opened, entry_at-opened_other, entry_at-without, entry_at-without_other, entry_at-acked_other, entry_at-released_other, row_of-entry}
 use Rattle.captable.proofs.Tables.{same-is}
 use Rattle.capcore.specs.declared.touch.Touch.{Touch}
 use Rattle.capcore.specs.declared.touch.Touch.TheVariants.{Open, Want, Ack, Release}
 use Rattle.capcore.specs.Direct.{opening_wants, with_entry, with_opening}
-use Rattle.capcore.specs.Known.{is_still_kept, StillKept}
+use Rattle.capcore.specs.Known.{is_still_kept, AreKnown, StillKept, OthersHaveAll}
+use Rattle.capcore.specs.Sound.{IsSound, IsSoundEntry}
+use Rattle.capcore.specs.State.{State}
 use Rattle.capcore.specs.Touch.{touched_table}
-use Rattle.capcore.proofs.Knowing.{held_at, HoldAlike}
+use Rattle.capcore.proofs.Knowing.{held_at, HoldAlike, still-known}
+use Rattle.capcore.proofs.Leaving.{found-contains}
 use Rattle.capcore.proofs.ShownSteps.{apart-of}
 
 -- ---- a new entry
@@ -153,3 +158,24 @@ touch-less t k revoked (Open mode) = less-alike t (with_entry t k) (with_opening
 touch-less t k revoked (Want caps) = less-changed t k (λ e. wanting (union caps (caps_in (P ∷ []))) e) (λ e c held. held)
 touch-less t k revoked (Ack seq) = less-cond (has revoked P) t k (taken revoked) (λ e c held. less-minus revoked e.held c (sym (has-minus e.held revoked c) ∙ held))
 touch-less t k revoked (Release caps) = less-cond (has caps P) t k (given_back caps) (λ e c held. less-minus caps e.held c (sym (has-minus e.held caps c) ∙ held))
+
+-- ---- the other entries
+
+-- each is as it was
+touch-others : (t : Table) (k : Holder) (revoked : Caps) (touch : Touch) (j : Holder) → j ≢ k → entry_at (touched_table t k revoked touch) j ≡ entry_at t j
+touch-others t k revoked (Open mode) j apart =
+    entry_at-changed_other (with_entry t k) k j (λ e. wanting (union e.want (opening_wants mode)) e) apart
+    ∙ elim (is_some (entry_at t k)) as (λ b. entry_at (cond b t (opened t k)) j ≡ entry_at t j) [ true ↦ refl | false ↦ entry_at-opened_other t k j apart ]
+touch-others t k revoked (Want caps) j apart = entry_at-changed_other t k j (λ e. wanting (union caps (caps_in (P ∷ []))) e) apart
+touch-others t k revoked (Ack seq) j apart = entry_at-acked_other t k j revoked apart
+touch-others t k revoked (Release caps) j apart = entry_at-released_other t k j caps apart
+
+-- and where the old state was sound, each has all still
+pub others-have_all : {S : Type 0} (was now : HashMap Holder Caps S) (old : State) (new : Table) (k : Holder) (revoked : Caps) (touch : Touch) → IsSound old → AreKnown was old.scene
+    → new ≡ touched_table old.scene.table k revoked touch → StillKept old.scene.table new was now → OthersHaveAll now (record old.scene { table = new }) k
+others-have_all was now old new k revoked touch sound known is still j e on apart there =
+    let before : entry_at old.scene.table j ≡ Some e =
+    sym (touch-others old.scene.table k revoked touch j (apart-of j k apart)) ∙ sym (ap (λ (t : Table). entry_at t j) is) ∙ there in
+    let row : EntryRow = record { holder = j; entry = e } in
+    let entry = All-contains (IsSoundEntry old.scene) old.scene.table.rows row sound.entries (found-contains (is_row_of j) old.scene.table.rows row (row_of-entry old.scene.table j e before)) in
+    (entry.has_due, still-known was now old.scene new known still j e e there before)

@@ -3,12 +3,13 @@ use Rattle.std.specs.Prelude.{◌≡◌, Bool, true, false, Option, Some, None, 
 use Rattle.std.specs.HashMap.{HashMap, get}
 use Rattle.std.specs.List.{find}
 use Rattle.capbits.specs.Caps.{Caps}
-use Rattle.capbits.specs.Sets.{no_caps}
+use Rattle.capbits.specs.Sets.{no_caps, IsSubset}
 use Rattle.captable.specs.declared.entry.Entry.{Entry}
 use Rattle.captable.specs.declared.entry.EntryRow.{EntryRow}
 use Rattle.captable.specs.declared.entry.Holder.{Holder}
 use Rattle.captable.specs.Table.{Table, same, is_row_of, entry_at}
 use Rattle.lockmachine.specs.Scene.{Scene, told_set}
+use Rattle.capcore.specs.Finish.{due}
 
 -- what is kept of a holder, and nothing where nothing is
 abbrev pub known_in : {S : Type 0} → HashMap Holder Caps S → Holder → Caps
@@ -32,6 +33,17 @@ is_still_kept None was now = IsSome now
 -- so it is of each entry of the new table
 abbrev pub StillKept : {S : Type 0} → Table → Table → HashMap Holder Caps S → HashMap Holder Caps S → Type 0
 StillKept old new was now = (k : Holder) (e : Entry) → entry_at new k ≡ Some e → is_still_kept (entry_at old k) (get same was k) (get same now k)
+
+-- ---- who has all
+
+-- all that is due to the entry is held, and what is kept of it is what its client is to know of: the end of a step leaves it so
+abbrev pub HasAll : {S : Type 0} → HashMap Holder Caps S → Scene → EntryRow → Type 0
+HasAll sets s row = IsSubset (due s row) row.entry.held × (get same sets row.holder ≡ Some (told_set s row))
+
+-- so it is of each entry on the holder's inode but its own
+abbrev pub OthersHaveAll : {S : Type 0} → HashMap Holder Caps S → Scene → Holder → Type 0
+OthersHaveAll sets s k =
+    (j : Holder) (e : Entry) → j.ino.0 ≡ k.ino.0 → same j k ≡ false → entry_at s.table j ≡ Some e → HasAll sets s (record { holder = j; entry = e })
 
 -- ---- at the end of the step
 

@@ -38,6 +38,12 @@ pub record SettlesWith (at from : ℕ → Bool) (first settled : Scene) (ended :
   pub ended_is : ended ≡ ended_in moves
   pub sized_is : sized ≡ sized_in moves
 
+-- the locks have settled and the sizes of these inodes changed: the step ends at those that it touched
+pub record EndsAt {S : Type 0} (at : ℕ → Bool) (sized : List Ino) (was now : HashMap Holder Caps S) (settled last : Scene) : Type 0 where
+  pub tree : IsTree settled.tree
+  pub finished : last ≡ finished_at at (known_in was) (sizes_owed sized settled)
+  pub kept : KeptAnew (λ k. at k.ino.0) (told_then (sizes_owed sized settled)) (sizes_owed sized settled).table was now
+
 -- the event was about these inodes: the locks settle, these requests end, and the step ends at the inodes that it touched. What
 -- was known of entries is kept in `was`, and what is known of them at the end in `now`
 pub record EndsWith {S : Type 0} (from : ℕ → Bool) (was now : HashMap Holder Caps S) (first last : Scene) (ended : List Ended) : Type 0 where

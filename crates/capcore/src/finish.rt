@@ -1,5 +1,5 @@
 //! The end of a step at the inodes that it touched.
-ghost use Rattle.std.specs.Prelude.{◌≡◌, ◌==◌, ◌<◌, ◌^◌, ◌-◌, ℕ, List, true, false, Some, IsTrue, All, IsSome, IfSome};
+ghost use Rattle.std.specs.Prelude.{◌≡◌, ◌==◌, ◌<◌, ◌^◌, ◌-◌, ℕ, List, [], true, false, Some, IsTrue, All, IsSome, IfSome};
 ghost use Rattle.std.specs.HashMap.{get};
 ghost use Rattle.std.specs.List.{find, list_any};
 ghost use Rattle.std.specs.FinSet as set;
@@ -15,9 +15,9 @@ ghost use Rattle.lockmachine.specs.Scene.{Scene, scene};
 ghost use Rattle.capcore.specs.Finish.{allowed_by};
 ghost use Rattle.capcore.specs.Finishing as words;
 ghost use Rattle.capcore.specs.Direct.{opened_as};
-ghost use Rattle.capcore.specs.Known.{AreKnown, HaveRoom, KeptAnew, known_in};
+ghost use Rattle.capcore.specs.Known.{AreKnown, HaveRoom, KeptAnew, OthersHaveAll, known_in};
 ghost use Rattle.capcore.specs.Touching.{forget_at, forget_among, finished_at, told_then};
-ghost use Rattle.capcore.specs.Serves.{is_touched};
+ghost use Rattle.capcore.specs.Serves.{EndsAt, is_touched};
 
 use crate::ino_set::InoSet;
 use crate::known::Known;
@@ -61,6 +61,34 @@ pub(crate) fn finish(
     finish_entries(fs, tree, sessions, table, known, ino, &now);
     forget_touched(tree, table, locks, touched);
     forget_unheld(tree, table, locks, ino);
+}
+
+// The same at the holder's inode alone, where each other entry on it has all that the end of the step would give it: only the
+// holder's is gone through.
+pub(crate) fn finish_alone(
+    fs: &FsName,
+    tree: &mut Tree,
+    sessions: &Sessions,
+    table: &mut CapTable,
+    known: &mut Known,
+    locks: &mut Locks,
+    holder: Holder,
+)
+    requires others { OthersHaveAll known.old.sets (scene fs.now tree.old sessions.now table.old locks.old) holder }
+    requires number { IfSome (entry_at table.old holder) (λ entry. entry.seq < 2 ^ 64 - 1) }
+    requires room { HaveRoom known.old.sets table.old }
+    ensures ends { EndsAt (λ other. other == holder.ino.0) [] known.old.sets known.new.sets
+        (scene fs.now tree.old sessions.now table.old locks.old) (scene fs.now tree.new sessions.now table.new locks.new) }
+    ensures queue { locks.new.queue ≡ locks.old.queue }
+    ensures table { IsTable table.new }
+{
+    // A look at the tree, by which the proof knows what it keeps.
+    let _last = tree.last();
+    let now = locks.of_ino(holder.ino);
+    finish_holder(fs, tree, sessions, table, known, holder, &now);
+    forget_unheld(tree, table, locks, holder.ino);
+    // And one at the entries.
+    let _oldest = table.oldest();
 }
 
 // Issues what is due on each inode that was touched beside the one, and numbers what its clients are to know of. Each is gone
@@ -191,8 +219,33 @@ pub(crate) fn is_held(table: &CapTable, ino: Ino) -> bool
 
 // ---- of one entry
 
-// Issues what is due to the holder, whose inode has this path and this node in the tree, numbers what its client is to know of, and
-// keeps that. The place is a guess at where its entry stands.
+// Issues what is due to the holder, whose inode has these locks, numbers what its client is to know of, and keeps that.
+fn finish_holder(
+    fs: &FsName,
+    tree: &Tree,
+    sessions: &Sessions,
+    table: &mut CapTable,
+    known: &mut Known,
+    holder: Holder,
+    locks: &Option<InodeLocks>,
+)
+    requires number { IfSome (entry_at table.old holder) (λ entry. entry.seq < 2 ^ 64 - 1) }
+    requires room { IsSome (entry_at table.old holder) → IsSome (get same known.old.sets holder) }
+    ensures sound { IsTable table.old }
+    ensures table { table.new
+        ≡ changed_by (words.entry_under (known_in known.old.sets) fs.now tree.now sessions.now locks.now) table.old holder }
+    ensures known { KeptAnew (λ k. same k holder) (words.told_at fs.now tree.now sessions.now locks.now) table.old known.old.sets known.new.sets }
+{
+    if let Some(entry) = table.find(holder.client, holder.ino) {
+        let mut names = Names::new();
+        let path = tree.read_path(holder.ino, &mut names).then_some(&names);
+        let node = tree.node(holder.ino);
+        let row = EntryRow { holder, entry };
+        finish_row(fs, tree, sessions, table, known, row, path, node, locks);
+    }
+}
+
+// The same, where the inode has this path and this node in the tree. The place is a guess at where the holder's entry stands.
 fn finish_entry(
     fs: &FsName,
     tree: &Tree,
@@ -215,12 +268,37 @@ fn finish_entry(
 {
     if let Some(entry) = table.find_near(holder.client, holder.ino, place) {
         let row = EntryRow { holder, entry };
-        let (permitted, wanted) = permitted_and_wanted(fs, sessions, row, path, node);
-        let due = wanted.meet(allowed_under(&row, locks));
-        let told = told_under(&with_issued(&row, due), permitted, locks);
-        let before = known.put(holder, told);
-        issue(table, &row, due, before, told);
+        finish_row(fs, tree, sessions, table, known, row, path, node, locks);
     }
+}
+
+// The same of an entry that is there.
+fn finish_row(
+    fs: &FsName,
+    tree: &Tree,
+    sessions: &Sessions,
+    table: &mut CapTable,
+    known: &mut Known,
+    row: EntryRow,
+    path: Option<&Names<'_>>,
+    node: Option<&Node>,
+    locks: &Option<InodeLocks>,
+)
+    requires there { entry_at table.old row.holder ≡ Some row.entry }
+    requires path { option_copied path ≡ path_of tree.now.nodes row.holder.ino.0 }
+    requires node { option_copied node ≡ map.get tree.now.nodes row.holder.ino.0 }
+    requires number { row.entry.seq < 2 ^ 64 - 1 }
+    requires room { IsSome (get same known.old.sets row.holder) }
+    ensures table { table.new
+        ≡ changed_by (words.entry_under (known_in known.old.sets) fs.now tree.now sessions.now locks.now) table.old row.holder }
+    ensures known { KeptAnew (λ k. same k row.holder) (words.told_at fs.now tree.now sessions.now locks.now)
+        table.old known.old.sets known.new.sets }
+{
+    let (permitted, wanted) = permitted_and_wanted(fs, sessions, row, path, node);
+    let due = wanted.meet(allowed_under(&row, locks));
+    let told = told_under(&with_issued(&row, due), permitted, locks);
+    let before = known.put(row.holder, told);
+    issue(table, &row, due, before, told);
 }
 
 // Issues this to the entry's client, and numbers what it is to know of, where that is told now and was known before the event.

@@ -1,5 +1,6 @@
 //! The locks settle at the inodes that a step touches, and who waits for them is served.
-ghost use Rattle.std.specs.Prelude.{◌≡◌, ◌==◌, ◌≤◌, ◌<◌, ◌^◌, ◌-◌, ◌+◌, ◌++◌, ◌∷◌, [], true, false, length, ℕ, List, Some, All, IsTrue, vec_capacity};
+ghost use Rattle.std.specs.Prelude.{◌≡◌, ◌==◌, ◌≤◌, ◌<◌, ◌^◌, ◌-◌, ◌+◌, ◌++◌, ◌∷◌, [], true, false, length, ℕ, List, Some, None, All, IsTrue, vec_capacity};
+ghost use Rattle.std.specs.FinMap as map;
 ghost use Rattle.std.specs.FinSet as set;
 ghost use Rattle.capbits.specs.declared.cap.Part.{Part};
 ghost use Rattle.inotree.specs.Tree.{Nodes};
@@ -13,13 +14,14 @@ ghost use Rattle.lockmachine.specs.Moves.{may_end_by, IsQuietOutside};
 ghost use Rattle.lockmachine.specs.Runs.{MoveLittle, ChangesLocksOf};
 ghost use Rattle.lockmachine.specs.Turns.{IsTurnOf, IsDue, WaitAt};
 ghost use Rattle.capcore.specs.declared.outcome.Ended.{Ended};
-ghost use Rattle.capcore.specs.Known.{HaveRoom};
-ghost use Rattle.capcore.specs.Serves.{Serves, SettlesWith, EndsWith, is_touched};
+ghost use Rattle.capcore.specs.InoSets.{IsNext};
+ghost use Rattle.capcore.specs.Known.{HaveRoom, OthersHaveAll};
+ghost use Rattle.capcore.specs.Serves.{Serves, SettlesWith, EndsAt, EndsWith, is_touched};
 ghost use Rattle.capcore.specs.Settle.{Served as Serving, sized_by, sized_in};
 ghost use Rattle.capcore.specs.Sweep.{AreStill, GoesOn, IsTurnOfLeast, IsLeastOf, IsNextOf, IsSwept, Reaches};
 ghost use Rattle.capcore.specs.Untold.{HasRoom};
 
-use crate::finish::finish;
+use crate::finish::{finish, finish_alone};
 use crate::ino_set::InoSet;
 use crate::known::Known;
 use crate::messages::Endings;
@@ -29,9 +31,9 @@ use crate::serving::{Served, serve};
 use crate::sizes::owe_sizes;
 use capbits::{Ino, Part, Ticket};
 use capspec::FsName;
-use captable::CapTable;
+use captable::{CapTable, Holder};
 use inotree::{Setting, Tree};
-use lockmachine::{Ask, Change, Locks, Move, Request};
+use lockmachine::{Ask, Change, InodeLocks, Locks, Move, Request};
 use sessiontab::Sessions;
 
 // Lets the locks settle after an event about one inode, and ends the step. The locks of every other inode are quiet.
@@ -68,6 +70,80 @@ pub(crate) fn end_at_one(
     );
 }
 
+// The same after an event that is about one entry, before which the state was sound.
+pub(crate) fn end_at_entry(
+    fs: &FsName,
+    tree: &mut Tree,
+    sessions: &Sessions,
+    table: &mut CapTable,
+    known: &mut Known,
+    locks: &mut Locks,
+    holder: Holder,
+    endings: &mut Endings,
+)
+    requires quiet { IsQuietOutside (λ other. other == holder.ino.0) (scene fs.now tree.old sessions.now table.old locks.old) }
+    // Each other entry on the inode has all, by the locks from before the settling.
+    requires others { OthersHaveAll known.old.sets (scene fs.now tree.old sessions.now table.old locks.old) holder }
+    requires none { endings.old.told.items ≡ [] }
+    requires no_sizes { endings.old.sized.items ≡ [] }
+    requires told { HasRoom endings.old.told locks.old }
+    requires kept { HasRoom endings.old.kept locks.old }
+    requires sized { length endings.old.sized.items + length locks.old.queue ≤ vec_capacity endings.old.sized }
+    requires same { endings.old.kept.items ≡ endings.old.told.items }
+    requires numbers { All (λ row. row.entry.seq < 2 ^ 64 - 1) table.old.rows }
+    requires clients { All (λ row. IsTrue (has_session sessions.now row.holder.client.0)) table.old.rows }
+    requires room { HaveRoom known.old.sets table.old }
+    ensures ends { EndsWith (λ other. other == holder.ino.0) known.old.sets known.new.sets
+        (scene fs.now tree.old sessions.now table.old locks.old)
+        (scene fs.now tree.new sessions.now table.new locks.new) endings.new.told.items }
+    ensures kept { endings.new.kept.items ≡ endings.new.told.items }
+    // As many waited as wait and have ended.
+    ensures count { length endings.new.told.items + length locks.new.queue ≡ length locks.old.queue }
+    ensures table { IsTable table.new }
+{
+    let before = locks.of_ino(holder.ino);
+    let others = InoSet::new(endings.alloc());
+    let touched = settle(
+        fs, tree, sessions, table, locks, holder.ino, others, endings,
+    );
+    // Most steps of such events leave these locks as they were, and by the same locks and the same tree the others have all still.
+    if is_as_before(locks, holder.ino, &before, &touched, endings) {
+        finish_alone(fs, tree, sessions, table, known, locks, holder);
+    } else {
+        end_settled(
+            fs,
+            tree,
+            sessions,
+            table,
+            known,
+            locks,
+            holder.ino,
+            &touched,
+            endings.sized.as_slice(),
+        );
+    }
+}
+
+// Whether the settling has left all as it was: nobody was served, by which the tree could have changed, no other inode was touched,
+// and the inode has the locks from before.
+fn is_as_before(
+    locks: &Locks,
+    ino: Ino,
+    before: &Option<InodeLocks>,
+    touched: &InoSet,
+    endings: &Endings,
+) -> bool
+    ensures { result ≡ true → (endings.now.told.items ≡ []) × (IsNext touched.now 0 None) × (map.get locks.now.states ino.0 ≡ before.now) }
+{
+    if !endings.told.as_slice().is_empty() {
+        return false;
+    }
+    match touched.next(Ino(0)) {
+        Some(_other) => false,
+        None => locks.of_ino(ino) == *before,
+    }
+}
+
 // Lets the locks settle after an event, and ends the step. The event was about one inode and the others; the locks of all
 // besides are quiet.
 pub(crate) fn end_at(
@@ -100,10 +176,44 @@ pub(crate) fn end_at(
     ensures table { IsTable table.new }
 {
     let touched = settle(fs, tree, sessions, table, locks, ino, others, endings);
-    owe_sizes(sessions, table, endings.sized.as_slice());
+    end_settled(
+        fs,
+        tree,
+        sessions,
+        table,
+        known,
+        locks,
+        ino,
+        &touched,
+        endings.sized.as_slice(),
+    );
+}
+
+// Ends the step at the inodes that it touched, whose locks have settled, where the sizes of these changed.
+fn end_settled(
+    fs: &FsName,
+    tree: &mut Tree,
+    sessions: &Sessions,
+    table: &mut CapTable,
+    known: &mut Known,
+    locks: &mut Locks,
+    ino: Ino,
+    touched: &InoSet,
+    sized: &[Ino],
+)
+    requires apart { set.contains touched.now ino.0 ≡ false }
+    requires numbers { All (λ row. row.entry.seq < 2 ^ 64 - 1) table.old.rows }
+    requires clients { All (λ row. IsTrue (has_session sessions.now row.holder.client.0)) table.old.rows }
+    requires room { HaveRoom known.old.sets table.old }
+    ensures ends { EndsAt (is_touched ino.0 touched.now) sized.now known.old.sets known.new.sets
+        (scene fs.now tree.old sessions.now table.old locks.old) (scene fs.now tree.new sessions.now table.new locks.new) }
+    ensures queue { locks.new.queue ≡ locks.old.queue }
+    ensures table { IsTable table.new }
+{
+    owe_sizes(sessions, table, sized);
     // A look at the tree, by which the proof knows what it keeps.
     let _last = tree.last();
-    finish(fs, tree, sessions, table, known, locks, ino, &touched);
+    finish(fs, tree, sessions, table, known, locks, ino, touched);
     // And one at the entries.
     let _oldest = table.oldest();
 }

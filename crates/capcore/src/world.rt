@@ -31,7 +31,7 @@ use crate::known::Known;
 use crate::messages::{Endings, Messages};
 use crate::poll::{due_messages, give};
 use crate::reply::{Reply, Said};
-use crate::settle::end_at_one;
+use crate::settle::end_at_entry;
 use crate::start::first_locks;
 use crate::stopped::Stopped;
 use crate::told::revoked_of;
@@ -200,14 +200,14 @@ impl World {
             drop(endings);
             return Err(refused.into());
         }
-        end_at_one(
+        end_at_entry(
             &self.fs,
             &mut self.tree,
             &self.sessions,
             &mut self.table,
             &mut self.known,
             &mut self.locks,
-            ino,
+            holder,
             &mut endings,
         );
         let reply = tell(&mut self.table, &self.known, holder, &touch);

@@ -1,47 +1,16 @@
-use Rattle.std.proofs.Common.{◌≡◌, ◌<◌, List, sym, ap, subst, ◌∙◌}
-use Rattle.std.specs.Prelude.{All, IsTrue}
+use Rattle.std.proofs.Common.{subst, List}
 use Rattle.capbits.specs.declared.ids.Ino.{Ino}
-use Rattle.sessiontab.specs.Calls.{has_session}
-use Rattle.captable.specs.Table.{Table}
-use Rattle.captable.specs.Many.{changed_where}
 use Rattle.lockmachine.specs.Scene.{Scene, scene}
-use Rattle.capcore.specs.Finish.{is_sized, owed}
-use Rattle.capcore.specs.Serves.{is_touched}
-use Rattle.capcore.specs.Known.{known_in, HaveRoom, KeptAnew}
-use Rattle.capcore.specs.Touching.{told_then, finished_at}
-use Rattle.capcore.proofs.KeptSets.{was-there}
-use Rattle.capcore.proofs.ManyInodes.{holders-stay}
-use Rattle.capcore.proofs.SizesOwed.{owed-numbers}
+use Rattle.capcore.specs.Serves.{EndsAt, is_touched}
+use Rattle.capcore.proofs.NobodyServed.{settled-ends}
 use Rattle.capcore.proofs.settle.end_at.Goals as goal
-
-pub finish-requires-clause-numbers : goal.finish-requires-clause-numbers
-finish-requires-clause-numbers c =
-    subst (λ (t : Table). All (λ row. row.entry.seq < 18446744073709551615) t.rows) (sym c.owe_sizes.ensures)
-    (owed-numbers (is_sized c.as_slice.result.now) (λ seq. seq < 18446744073709551615) c.args.table.now c.requires.numbers)
-
-pub finish-requires-clause-clients : goal.finish-requires-clause-clients
-finish-requires-clause-clients c =
-    subst (λ (t : Table). All (λ row. IsTrue (has_session c.args.sessions.now row.holder.client.0)) t.rows) (sym c.owe_sizes.ensures)
-    (holders-stay (is_sized c.as_slice.result.now) owed (λ h. IsTrue (has_session c.args.sessions.now h.client.0)) c.args.table.now c.requires.clients)
-
--- so each has room still
-pub finish-requires-clause-room : goal.finish-requires-clause-room
-finish-requires-clause-room c =
-    subst (HaveRoom c.args.known.now.sets) (sym c.owe_sizes.ensures)
-    (λ k e there. let was = was-there (is_sized c.as_slice.result.now) owed c.args.table.now k e there in c.requires.room k was.0 was.1)
 
 pub returns-clause-ends : goal.returns-clause-ends
 returns-clause-ends c =
     let at = is_touched c.args.ino.0 c.settle-touched.result in
-    let after : Table → Scene = λ t. scene c.args.fs.now c.settle-touched.new.tree c.args.sessions.now t c.settle-touched.new.locks in
-    let owes : c.owe_sizes.new.table ≡ changed_where (is_sized c.settle-touched.new.endings.sized.items) owed c.args.table.now =
-    c.owe_sizes.ensures ∙ ap (λ (sized : List Ino). changed_where (is_sized sized) owed c.args.table.now) c.as_slice.ensures.value in
-    record {
-      at = at;
-      settled = after c.args.table.now;
-      sized = c.settle-touched.new.endings.sized.items;
-      settles = c.settle-touched.ensures.settles;
-      tree = c.last-last.ensures.sound;
-      finished = c.finish.ensures.finished ∙ ap (λ (t : Table). finished_at at (known_in c.args.known.now.sets) (after t)) owes;
-      kept = subst (λ (t : Table). KeptAnew (λ k. at k.ino.0) (told_then (after t)) t c.args.known.now.sets c.finish.new.known.sets) owes c.finish.ensures.known;
-    }
+    let settled : Scene = scene c.args.fs.now c.settle-touched.new.tree c.args.sessions.now c.args.table.now c.settle-touched.new.locks in
+    let last : Scene = scene c.args.fs.now c.end_settled.new.tree c.args.sessions.now c.end_settled.new.table c.end_settled.new.locks in
+    settled-ends at (is_touched c.args.ino.0 c.args.others) c.args.known.now.sets c.end_settled.new.known.sets
+    (scene c.args.fs.now c.args.tree.now c.args.sessions.now c.args.table.now c.args.locks.now) settled last
+    c.settle-touched.new.endings.told.items c.settle-touched.new.endings.sized.items c.settle-touched.ensures.settles
+    (subst (λ (sized : List Ino). EndsAt at sized c.args.known.now.sets c.end_settled.new.known.sets settled last) c.as_slice.ensures.value c.end_settled.ensures.ends)

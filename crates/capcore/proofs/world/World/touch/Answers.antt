@@ -22,7 +22,7 @@ use Rattle.capcore.proofs.Closing.{first-quiet, first-numbers, first-clients, to
 use Rattle.capcore.proofs.Knowing.{held_at, HoldAlike, known-alike, still-room, still-knows, still-all}
 use Rattle.capcore.proofs.OfInode.{event-table}
 use Rattle.capcore.proofs.Stops.{stopped-answered}
-use Rattle.capcore.proofs.TouchKept.{touch-less}
+use Rattle.capcore.proofs.TouchKept.{touch-less, others-have_all}
 use Rattle.capcore.proofs.TouchWhole.{passed-of, table-of, first-is, touch-answered, touched-by, touch-reply, no_list-touch, tell-alike}
 use Rattle.capcore.proofs.Touched.{touched-tests}
 use Rattle.capcore.proofs.world.World.touch.Goals as goal
@@ -89,26 +89,32 @@ module _ (c : In_default-touch_entry) where
       (subst (λ (t : Table). (j : Holder) (f : Entry) → entry_at t j ≡ Some f → IsSubset f.held (held_at c.self.inside.table j)) (sym c.in_default-touch_entry.ensures.ok)
       (touch-less c.self.inside.table (k c) c.revoked_of-revoked.result c.args.touch))
 
-pub end_at_one-requires-clause-room : goal.end_at_one-requires-clause-room
-end_at_one-requires-clause-room g =
-    let c = (goal.at.end_at_one-requires-clause-room g).In_default-touch_entry in
+pub end_at_entry-requires-clause-room : goal.end_at_entry-requires-clause-room
+end_at_entry-requires-clause-room g =
+    let c = (goal.at.end_at_entry-requires-clause-room g).In_default-touch_entry in
     still-room c.self.inside.known.sets c.touch_entry.new.known.sets (old c).scene c.touch_entry.new.table c.self.invariant.2 c.touch_entry.ensures.known
 
-pub end_at_one-requires-clause-quiet : goal.end_at_one-requires-clause-quiet
-end_at_one-requires-clause-quiet g =
-    let c = (goal.at.end_at_one-requires-clause-quiet g).In_default-touch_entry in
+pub end_at_entry-requires-clause-quiet : goal.end_at_entry-requires-clause-quiet
+end_at_entry-requires-clause-quiet g =
+    let c = (goal.at.end_at_entry-requires-clause-quiet g).In_default-touch_entry in
     first-quiet (old c) (e c) (k c) (touched-by c.args.client c.args.ino c.args.touch) (passed c) c.self.invariant.0 c.oldest-oldest.ensures.sound (first c) (is c)
 
-pub end_at_one-requires-clause-numbers : goal.end_at_one-requires-clause-numbers
-end_at_one-requires-clause-numbers g =
-    let c = (goal.at.end_at_one-requires-clause-numbers g).In_default-touch_entry in
+pub end_at_entry-requires-clause-numbers : goal.end_at_entry-requires-clause-numbers
+end_at_entry-requires-clause-numbers g =
+    let c = (goal.at.end_at_entry-requires-clause-numbers g).In_default-touch_entry in
     first-numbers (old c) (e c) (k c) (touched-by c.args.client c.args.ino c.args.touch) (passed c) c.self.invariant.0 c.oldest-oldest.ensures.sound (first c) (is c)
     (subst NumbersLeft (sym c.self.view_is) c.requires.numbers)
 
-pub end_at_one-requires-clause-clients : goal.end_at_one-requires-clause-clients
-end_at_one-requires-clause-clients g =
-    let c = (goal.at.end_at_one-requires-clause-clients g).In_default-touch_entry in
+pub end_at_entry-requires-clause-clients : goal.end_at_entry-requires-clause-clients
+end_at_entry-requires-clause-clients g =
+    let c = (goal.at.end_at_entry-requires-clause-clients g).In_default-touch_entry in
     first-clients (old c) (e c) (k c) (touched-by c.args.client c.args.ino c.args.touch) (passed c) c.self.invariant.0 c.oldest-oldest.ensures.sound (first c) (is c)
+
+pub end_at_entry-requires-clause-others : goal.end_at_entry-requires-clause-others
+end_at_entry-requires-clause-others g =
+    let c = (goal.at.end_at_entry-requires-clause-others g).In_default-touch_entry in
+    others-have_all c.self.inside.known.sets c.touch_entry.new.known.sets (old c) c.touch_entry.new.table (k c) c.revoked_of-revoked.result c.args.touch c.self.invariant.0 c.self.invariant.2
+    c.in_default-touch_entry.ensures.ok c.touch_entry.ensures.known
 
 -- ---- the end of the step
 
@@ -116,12 +122,12 @@ pub close-requires-clause-list : goal.close-requires-clause-list
 close-requires-clause-list c =
     let b = (goal.at.close-requires-clause-list c).In_default-touch_entry in
     let st : State = record {
-      scene = record { fs = c.self.inside.fs; tree = c.end_at_one.new.tree; sessions = c.self.inside.sessions; table = c.end_at_one.new.table; locks = c.end_at_one.new.locks };
+      scene = record { fs = c.self.inside.fs; tree = c.end_at_entry.new.tree; sessions = c.self.inside.sessions; table = c.end_at_entry.new.table; locks = c.end_at_entry.new.locks };
       messages = [];
     } in
-    let known : AreKnown c.end_at_one.new.known.sets st.scene =
+    let known : AreKnown c.end_at_entry.new.known.sets st.scene =
     closed-known (old b) (e b) (k b) (touched-by c.args.client c.args.ino c.args.touch) (passed b) c.self.invariant.0 c.oldest-oldest.ensures.sound (first b) (is b)
-    c.touch_entry.new.known.sets c.end_at_one.new.known.sets c.waiting.ensures.sound (knows b) st.scene c.end_at_one.new.endings.told.items c.end_at_one.ensures.ends
+    c.touch_entry.new.known.sets c.end_at_entry.new.known.sets c.waiting.ensures.sound (knows b) st.scene c.end_at_entry.new.endings.told.items c.end_at_entry.ensures.ends
     c.self.inside.known.sets c.self.invariant.2 c.touch_entry.ensures.known in
     ap has_list (c.tell-reply.ensures.reply st refl known) ∙ no_list-touch st (holder c.args.client c.args.ino) c.args.touch
 
@@ -130,21 +136,21 @@ module _ (c : After-close) where
   before = (goal.at.invariant_of-self-2 c).In_default-touch_entry
 
   abbrev last : Scene
-  last = record { fs = c.self.inside.fs; tree = c.end_at_one.new.tree; sessions = c.self.inside.sessions; table = c.end_at_one.new.table; locks = c.end_at_one.new.locks }
+  last = record { fs = c.self.inside.fs; tree = c.end_at_entry.new.tree; sessions = c.self.inside.sessions; table = c.end_at_entry.new.table; locks = c.end_at_entry.new.locks }
 
   abbrev told : List Ended
-  told = c.end_at_one.new.endings.told.items
+  told = c.end_at_entry.new.endings.told.items
 
   abbrev new : State
   new = record { scene = record last { table = c.tell-reply.new.table }; messages = c.close.new.messages.items }
 
-  ends : EndsWith (λ other. other == c.args.ino.0) c.touch_entry.new.known.sets c.end_at_one.new.known.sets (first before) last told
-  ends = c.end_at_one.ensures.ends
+  ends : EndsWith (λ other. other == c.args.ino.0) c.touch_entry.new.known.sets c.end_at_entry.new.known.sets (first before) last told
+  ends = c.end_at_entry.ensures.ends
 
-  known-last : AreKnown c.end_at_one.new.known.sets last
+  known-last : AreKnown c.end_at_entry.new.known.sets last
   known-last =
       closed-known (old before) (e before) (k before) (touched-by c.args.client c.args.ino c.args.touch) (passed before) c.self.invariant.0 c.oldest-oldest.ensures.sound (first before) (is before)
-      c.touch_entry.new.known.sets c.end_at_one.new.known.sets c.waiting.ensures.sound (knows before) last told ends c.self.inside.known.sets c.self.invariant.2 c.touch_entry.ensures.known
+      c.touch_entry.new.known.sets c.end_at_entry.new.known.sets c.waiting.ensures.sound (knows before) last told ends c.self.inside.known.sets c.self.invariant.2 c.touch_entry.ensures.known
 
   all : earlier c.self.inside.locks.last told ≡ told
   all = let w = ends in told-all w.at (λ other. other == c.args.ino.0) (first before) w.settled told w.sized w.settles c.waiting.ensures.sound
@@ -168,19 +174,19 @@ module _ (c : After-close) where
   whole : IsAnswered (old before) (e before) c.close.result new
   whole =
       closed (old before) (e before) (k before) (touched-by c.args.client c.args.ino c.args.touch) (passed before) c.self.invariant.0 c.oldest-oldest.ensures.sound (first before) (is before)
-      c.touch_entry.new.known.sets c.end_at_one.new.known.sets c.waiting.ensures.sound (knows before) last told ends c.end_at_one.ensures.table c.close.result new
+      c.touch_entry.new.known.sets c.end_at_entry.new.known.sets c.waiting.ensures.sound (knows before) last told ends c.end_at_entry.ensures.table c.close.result new
       (c.close.ensures.reply ∙ c.tell-reply.ensures.reply closed_as refl known-last ∙ touch-reply closed_as told (k before) c.args.touch ∙ ap (reply_of closed_as told) answer)
-      (c.close.ensures.kept ∙ sym c.close.ensures.reply) (c.close.ensures.ended ∙ c.end_at_one.ensures.kept ∙ sym all) new_is
+      (c.close.ensures.kept ∙ sym c.close.ensures.reply) (c.close.ensures.ended ∙ c.end_at_entry.ensures.kept ∙ sym all) new_is
 
 pub invariant_of-self-2 : goal.invariant_of-self-2
 invariant_of-self-2 c =
     let w = whole c in
-    let items : length c.close.new.messages.items ≡ length c.self.inside.messages.items + length c.end_at_one.new.endings.told.items =
-    ap length c.close.ensures.items ∙ length-append c.self.inside.messages.items c.end_at_one.new.endings.told.items in (
+    let items : length c.close.new.messages.items ≡ length c.self.inside.messages.items + length c.end_at_entry.new.endings.told.items =
+    ap length c.close.ensures.items ∙ length-append c.self.inside.messages.items c.end_at_entry.new.endings.told.items in (
       w.sound,
-      omega (arith, items, c.close.ensures.room, c.end_at_one.ensures.count, c.self.invariant.1),
-      known-alike c.end_at_one.new.known.sets (last c) c.tell-reply.new.table
-          (subst (HoldAlike c.end_at_one.new.table) (sym (ap (λ (s : State). s.scene.table) (c.tell-reply.ensures.told (closed_as c) refl))) (tell-alike (closed_as c) (holder c.args.client c.args.ino) c.args.touch)) (known-last c),
+      omega (arith, items, c.close.ensures.room, c.end_at_entry.ensures.count, c.self.invariant.1),
+      known-alike c.end_at_entry.new.known.sets (last c) c.tell-reply.new.table
+          (subst (HoldAlike c.end_at_entry.new.table) (sym (ap (λ (s : State). s.scene.table) (c.tell-reply.ensures.told (closed_as c) refl))) (tell-alike (closed_as c) (holder c.args.client c.args.ino) c.args.touch)) (known-last c),
     )
 
 pub returns-clause-answered : goal.returns-clause-answered
