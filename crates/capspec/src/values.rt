@@ -8,7 +8,7 @@ ghost use Rattle.capspec.specs.Items.Item.{FsName as FsNameItem, Gids as GidsIte
 ghost use Rattle.capspec.specs.Words.{front_while, rest_while, is_digit, is_quote, goes_on, IsWrongPath, IsWrongValue};
 ghost use Rattle.capspec.specs.declared.items.Key.TheVariants.{FsName as FsNameKey, Uid as UidKey, Gids as GidsKey};
 
-use crate::bytes::{ByteSet, ends_word, split_while};
+use crate::bytes::{ByteSet, ends_word, split_bare_path, split_while};
 use crate::fault::SpecFaultKind;
 use crate::fsname::FsName;
 use crate::gids::Gids;
@@ -51,7 +51,7 @@ fn read_bare(text: &[u8]) -> Result<(&[u8], &[u8]), SpecFaultKind>
     ensures ok { IfOk result (λ found. TakesWord (λ value. IsPath value found.0.now) text.now found.1.now) }
     ensures err { IfErr result (IsWrongPath text.now) }
 {
-    let (path, rest) = split_while(ByteSet::BarePath, text);
+    let (path, rest) = split_bare_path(text);
     // None of its bytes is a control byte.
     if path.is_empty() || !ends_word(rest) || !has_fit_names(path) {
         return Err(SpecFaultKind::BadPath);
