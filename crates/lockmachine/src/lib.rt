@@ -24,6 +24,5 @@ pub use moves::Move;
 pub use request::{Ask, Change, Request};
 pub use states::InodeLocks;
 pub use wants::{
-    Wants, effective_want, permitted, permitted_and_wanted, permitted_by, want_of_permitted,
-    wants_on,
+    Wants, effective_want, permitted, permitted_and_wanted, want_of_permitted, wants_on,
 };

@@ -583,8 +583,11 @@ impl Locks {
         ensures done { (part : Part) → moves.may_end_by table.now self.new (ino.0, part) ≡ false }
         ensures elsewhere { ChangesLocksOf ino.0 self.old self.new }
     {
-        // At most inodes no gather may end, which one look at the locks tells.
-        if self.first_end(table, ino).is_none() {
+        // At most inodes no lock is in a gather, which one look at the four tells.
+        let Some(locks) = self.states.get(ino) else {
+            return;
+        };
+        if !locks.is_gathering() {
             return;
         }
         for part in &PARTS {

@@ -111,22 +111,6 @@ pub fn permitted(
     permitted_for(fs, session, path, tree.node(ino))
 }
 
-/// The same, by the path of the inode and what the tree keeps of it.
-pub fn permitted_by(
-    fs: &FsName,
-    sessions: &Sessions,
-    client: ClientId,
-    path: Option<&Names<'_>>,
-    node: Option<&Node>,
-) -> CapSet
-    ensures { result ≡ policy.permitted_to fs.now (policy.subject_of (map.get sessions.now.sessions client.0) (option_copied path.entry) (option_copied node.entry)) }
-{
-    match sessions.session(client) {
-        Some(session) => permitted_for(fs, session, path, node),
-        None => CapSet::of(&[Cap::P]),
-    }
-}
-
 /// What the entry's client is permitted to hold, and what it effectively wants, by the path of the inode and what the tree keeps of
 /// it. The client's session is looked up once.
 pub fn permitted_and_wanted(

@@ -36,24 +36,26 @@ impl Guesses {
         number as usize & self.slots.len().wrapping_sub(1)
     }
 
-    // Has twice as many guesses where there are more rows, and half as many where an eighth would do. For want of memory it stays.
-    pub(crate) fn fit<T>(&mut self, rows: &[Row<T>]) {
-        let slots = self.slots.len();
-        if rows.len() > slots {
-            if self
-                .slots
-                .resize(slots.max(4).saturating_mul(2), 0)
-                .is_err()
-            {
-                return;
-            }
-        } else if rows.len() < slots / 8 {
-            self.slots.truncate(slots / 2);
-            self.slots.shrink_to_fit();
-        } else {
+    // Has a guess for each row at least, where there are more rows than guesses. For want of memory it stays.
+    pub(crate) fn grow<T>(&mut self, rows: &[Row<T>]) {
+        if rows.len() <= self.slots.len() {
             return;
         }
-        self.note_all(rows);
+        // Refused before, it may be short by more than half: what is wanted is asked for at once.
+        let wanted = rows.len().checked_next_power_of_two().unwrap_or(rows.len());
+        if self.slots.resize(wanted.max(8), 0).is_ok() {
+            self.note_all(rows);
+        }
+    }
+
+    // Has half as many guesses where an eighth would do. It only gives memory back.
+    pub(crate) fn shrink<T>(&mut self, rows: &[Row<T>]) {
+        let slots = self.slots.len();
+        if rows.len() < slots / 8 {
+            self.slots.truncate(slots / 2);
+            self.slots.shrink_to_fit();
+            self.note_all(rows);
+        }
     }
 
     // Each row stands where it does.

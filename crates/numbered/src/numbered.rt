@@ -42,9 +42,9 @@ impl<T> Model for Numbered<T> {
 impl<T: fmt::Debug> fmt::Debug for Numbered<T> {
     fn fmt<W: fmt::Write>(&self, f: &mut fmt::Formatter<W>) -> fmt::Result {
         let mut map = f.debug_map();
-        for number in self.places.keys() {
-            if let Some(value) = self.get(*number) {
-                map.entry(number, value);
+        for (number, place) in &self.places {
+            if let Some(row) = self.rows.get(*place) {
+                map.entry(number, &row.value);
             }
         }
         map.finish()
@@ -85,7 +85,7 @@ impl<T: Drop> Numbered<T> {
     {
         let (number, place) = (row.number, self.rows.len());
         add(&mut self.places, &mut self.rows, row)?;
-        self.guesses.fit(&self.rows);
+        self.guesses.grow(&self.rows);
         self.guesses.note(number, place);
         Ok(())
     }
@@ -96,7 +96,7 @@ impl<T: Drop> Numbered<T> {
     {
         if let Some(place) = place_near(&self.places, &self.rows, number, self.guesses.at(number)) {
             take_out(&mut self.places, &mut self.rows, place, number);
-            self.guesses.fit(&self.rows);
+            self.guesses.shrink(&self.rows);
             if let Some(moved) = self.rows.get(place) {
                 self.guesses.note(moved.number, place);
             }

@@ -118,12 +118,13 @@ fn move_place(places: &mut BTreeMap<u64, usize>, number: u64, place: usize)
     }
 }
 
-// Gives memory back where less than a quarter of it is used, so that what is kept follows what is there.
+// Gives half of the memory back where less than a quarter of it is used, so that what is kept follows what is there. Half of it, so
+// that the room stays a power of two: rows that come double it up to what they fill, and no further.
 fn trim<T>(rows: &mut Vec<Row<T>>)
     ensures { rows.new.items ≡ rows.old.items }
 {
-    let len = rows.len();
-    if len < rows.capacity() / 4 {
-        rows.shrink_to(2 * len);
+    let room = rows.capacity();
+    if rows.len() < room / 4 {
+        rows.shrink_to(room / 2);
     }
 }
