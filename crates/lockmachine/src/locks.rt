@@ -485,7 +485,8 @@ impl Locks {
         }
     }
 
-    /// The same, where each request for another inode waits for a gather that is open. It looks at the requests for this inode alone.
+    /// The same, where each request for another inode waits for a gather that is open. It passes over the requests for others by one
+    /// comparison each, and looks at the locks of those for this inode alone.
     pub fn advance_alone_at(
         &mut self,
         table: &CapTable,
