@@ -1,16 +1,13 @@
 """The program that is measured: how it is built, and how its instructions and its memory are counted."""
 
-import os
-import re
 import subprocess
 import sys
-import tempfile
 from pathlib import Path
+
+import counting
 
 ROOT = Path(__file__).resolve().parent.parent
 PROGRAM = ROOT / "crates" / "capbench" / "out" / "capbench"
-# Words of gdb: the program stops before it ends, when all that it ever took is still told of it.
-AT_ITS_END = ["-ex", "catch syscall exit_group", "-ex", "run", "-ex", "info proc status", "-ex", "kill"]
 
 
 def build():
@@ -33,16 +30,7 @@ def be_there():
 
 def counted(work, times):
     """The instructions of the whole program."""
-    with tempfile.TemporaryDirectory() as folder:
-        out = os.path.join(folder, "callgrind.out")
-        command = ["valgrind", "--tool=callgrind", f"--callgrind-out-file={out}", str(PROGRAM), work, str(times)]
-        done = subprocess.run(command, stdout=subprocess.PIPE, stderr=subprocess.PIPE, text=True)
-        if done.returncode != 0:
-            sys.exit(f"{work} {times} failed:\n{done.stderr}")
-        found = re.search(r"Collected : (\d+)", done.stderr)
-        if found is None:
-            sys.exit(f"callgrind gave no count of {work} {times}:\n{done.stderr}")
-        return int(found.group(1))
+    return counting.counted([PROGRAM, work, times])[0]
 
 
 def of_one(work, few, many):
@@ -56,10 +44,8 @@ def peak(work, times):
 
 
 def told_peak(work, times):
-    """The same of one run, as the system tells it before the program ends."""
-    command = ["gdb", "-q", "-batch", *AT_ITS_END, "--args", str(PROGRAM), work, str(times)]
-    done = subprocess.run(command, stdin=subprocess.DEVNULL, capture_output=True, text=True)
-    found = re.search(r"VmHWM:\s+(\d+) kB", done.stdout)
-    if found is None or "sum " not in done.stdout:
-        sys.exit(f"gdb told nothing of {work} {times}:\n{done.stdout}{done.stderr}")
-    return int(found.group(1)) * 1024
+    """The same of one run."""
+    found, written = counting.told_peak([PROGRAM, work, times])
+    if "sum " not in written:
+        sys.exit(f"{work} {times} did not end:\n{written}")
+    return found

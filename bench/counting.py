@@ -1,0 +1,47 @@
+"""What the scripts that count have in common: callgrind, gdb, and one another."""
+
+import re
+import shutil
+import subprocess
+import sys
+from importlib.machinery import SourceFileLoader
+from importlib.util import module_from_spec, spec_from_loader
+from pathlib import Path
+
+sys.dont_write_bytecode = True
+HERE = Path(__file__).resolve().parent
+# All programs are counted in the same surroundings: these lie on a program's stack, and where it begins can count.
+SURROUNDINGS = {"PATH": "/usr/bin:/bin", "LC_ALL": "C"}
+# Words of gdb: the program stops before it ends, when all that it ever took is still told of it.
+AT_ITS_END = ["-ex", "catch syscall exit_group", "-ex", "run", "-ex", "info proc status", "-ex", "kill"]
+
+
+def script(name):
+    """A script of this folder as a module."""
+    loader = SourceFileLoader(name, str(HERE / name))
+    module = module_from_spec(spec_from_loader(name, loader))
+    sys.modules[name] = module
+    loader.exec_module(module)
+    return module
+
+
+def counted(words, given=""):
+    """The instructions of a whole program, and what it wrote."""
+    words = [str(it) for it in words]
+    command = [shutil.which("valgrind") or "valgrind", "--tool=callgrind", "--callgrind-out-file=/dev/null", *words]
+    done = subprocess.run(command, input=given, capture_output=True, text=True, env=SURROUNDINGS)
+    found = re.search(r"Collected : (\d+)", done.stderr)
+    if done.returncode != 0 or found is None:
+        sys.exit(f"{' '.join(words)} failed with status {done.returncode}:\n{done.stderr}")
+    return int(found.group(1)), done.stdout
+
+
+def told_peak(words):
+    """The most memory that a program had, in bytes, as the system tells it before the program ends; and what it wrote."""
+    words = [str(it) for it in words]
+    command = ["gdb", "-q", "-batch", *AT_ITS_END, "--args", *words]
+    done = subprocess.run(command, stdin=subprocess.DEVNULL, capture_output=True, text=True)
+    found = re.search(r"VmHWM:\s+(\d+) kB", done.stdout)
+    if found is None:
+        sys.exit(f"gdb told nothing of {' '.join(words)}:\n{done.stdout}{done.stderr}")
+    return int(found.group(1)) * 1024, done.stdout
