@@ -36,12 +36,22 @@ def counted(words, given=""):
     return int(found.group(1)), done.stdout
 
 
+def at_its_end(words):
+    """What a program wrote, and what the system tells of it before it ends; and what gdb complained of."""
+    command = ["gdb", "-q", "-batch", *AT_ITS_END, "--args", *(str(it) for it in words)]
+    done = subprocess.run(command, stdin=subprocess.DEVNULL, capture_output=True, text=True)
+    return done.stdout, done.stderr
+
+
+def tells_peaks():
+    """Whether there is a gdb, and it may look at what it runs."""
+    return bool(shutil.which("gdb")) and "VmHWM" in at_its_end(["true"])[0]
+
+
 def told_peak(words):
     """The most memory that a program had, in bytes, as the system tells it before the program ends; and what it wrote."""
-    words = [str(it) for it in words]
-    command = ["gdb", "-q", "-batch", *AT_ITS_END, "--args", *words]
-    done = subprocess.run(command, stdin=subprocess.DEVNULL, capture_output=True, text=True)
-    found = re.search(r"VmHWM:\s+(\d+) kB", done.stdout)
+    told, complained = at_its_end(words)
+    found = re.search(r"VmHWM:\s+(\d+) kB", told)
     if found is None:
-        sys.exit(f"gdb told nothing of {' '.join(words)}:\n{done.stdout}{done.stderr}")
-    return int(found.group(1)) * 1024, done.stdout
+        sys.exit(f"gdb told nothing of {' '.join(map(str, words))}:\n{told}{complained}")
+    return int(found.group(1)) * 1024, told
