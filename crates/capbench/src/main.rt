@@ -11,7 +11,7 @@ use std::process::ExitCode;
 fn main(rt: HostRuntime) -> ExitCode {
     let (mut writer, mut faults) = (rt.stdout(), rt.stderr());
     let status = match words(&rt, rt.alloc()) {
-        Ok(words) => dispatch(rt.alloc(), words.as_slice(), &mut writer, &mut faults),
+        Ok(words) => dispatch(&rt, rt.alloc(), words.as_slice(), &mut writer, &mut faults),
         Err(fault) => report(fault, &mut faults),
     };
     ExitCode::from(status)

@@ -2,6 +2,7 @@
 use Rattle.std.proofs.Common.{◌≡◌, ℕ, ◌+◌, ◌<◌, ◌≤◌, List, [], ◌∷◌, ◌++◌, length, Some, None, refl, sym, ap, subst, ◌∙◌, arith}
 use Rattle.inotree.specs.Tree.{Nodes}
 use Rattle.captable.specs.Table.{IsTable, entry_at}
+use Rattle.capview.specs.declared.change.ViewChange.{ViewChange}
 use Rattle.capcore.specs.declared.history.Row.{Row}
 use Rattle.capcore.specs.State.{State}
 use Rattle.capcore.specs.Step.{Step}
@@ -20,8 +21,8 @@ length-more [] row = refl
 length-more (r ∷ rows) row = let more = length-more rows row in omega (arith, more)
 
 -- a new core has the empty history
-pub first-told : (fs : List ℕ) (tree : Nodes) (s : State) (max_rows : ℕ) → HasNoStray tree → IsOpening fs tree s → IsTold (told s [] max_rows)
-first-told fs tree s max_rows none is = record {
+pub first-told : (fs : List ℕ) (tree : Nodes) (s : State) (max_rows : ℕ) (changes : List ViewChange) → HasNoStray tree → IsOpening fs tree s → IsTold (told s [] max_rows changes)
+first-told fs tree s max_rows changes none is = record {
   fs = fs;
   tree = tree;
   no_strays = none;
@@ -38,9 +39,9 @@ pub given-more : (rows : List Row) (row : Row) (new : State) → AreGiven (lengt
 given-more rows row new = subst (λ n. AreGiven n new) (sym (length-more rows row))
 
 -- one step more, with its row, to a state that is sound
-pub more-told : (t : Told) (row : Row) (new : State) → IsTold t → Step t.state row.event row.reply row.ended new → row.nth ≡ rows_of row.pass t.rows + 1 → length t.rows < t.max_rows → IsTable t.state.scene.table → IsSound new → AreGiven (length t.rows + 1) new →
-    IsTold (told new (t.rows ++ row ∷ []) t.max_rows)
-more-told t row new is step nth less table sound given = record {
+pub more-told : (t : Told) (row : Row) (new : State) (changes : List ViewChange) → IsTold t → Step t.state row.event row.reply row.ended new → row.nth ≡ rows_of row.pass t.rows + 1 → length t.rows < t.max_rows → IsTable t.state.scene.table → IsSound new → AreGiven (length t.rows + 1) new →
+    IsTold (told new (t.rows ++ row ∷ []) t.max_rows changes)
+more-told t row new changes is step nth less table sound given = record {
   fs = is.fs;
   tree = is.tree;
   no_strays = is.no_strays;

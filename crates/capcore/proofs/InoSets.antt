@@ -1,6 +1,6 @@
 -- Sets of inodes: what the numbers of a tree set say of the set that they make, the least from a number on, and what an inode more
 -- makes of it.
-use Rattle.std.proofs.Common.{◌≡◌, ◌≢◌, ℕ, ◌<◌, ◌≤◌, ◌+◌, Bool, true, false, ◌||◌, Result, Ok, Err, OnOk, OnErr, List, [], ◌∷◌, refl, sym, ap, subst, ◌∙◌, true≢false, arith}
+use Rattle.std.proofs.Common.{◌≡◌, ◌≢◌, ℕ, ◌<◌, ◌≤◌, ◌+◌, Bool, true, false, cond, ◌||◌, Result, Ok, Err, OnOk, OnErr, List, [], ◌∷◌, refl, sym, ap, subst, ◌∙◌, true≢false, arith}
 use Rattle.std.specs.declared.cmp.Ordering.TheVariants.{Less, Equal, Greater}
 use Rattle.std.specs.declared.ops.Bound.{Bound}
 use Rattle.std.specs.declared.ops.Bound.TheVariants.{Included, Excluded, Unbounded}
@@ -135,3 +135,11 @@ widens-then ino a b c first then = record {
 pub widens-tried : {A E : Type 0} (ino k : ℕ) (old new : InoSet) (r : Result A E) → k ≢ ino → OnOk r (new ≡ set.insert old k) → OnErr r (new ≡ old) → Widens ino old new
 widens-tried ino k old new (Ok x) apart ok err = widens-added k old new ok ino apart
 widens-tried ino k old new (Err e) apart ok err = subst (Widens ino old) (sym err) (widens-none ino old)
+
+-- and there is one more at most
+pub few-tried : {A E : Type 0} (k : ℕ) (old new : InoSet) (r : Result A E) → OnOk r (new ≡ set.insert old k) → OnErr r (new ≡ old) → set.len new ≤ set.len old + 1
+few-tried k old new (Ok x) ok err = elim (set.contains old k) as (λ b. set.len new ≡ cond b (set.len old) (set.len old + 1) → set.len new ≤ set.len old + 1) [
+  | true ↦ λ is. omega (arith, is)
+  | false ↦ λ is. omega (arith, is)
+] (ap (λ (s : InoSet). set.len s) ok ∙ set.len-insert nat_cmp_total old k)
+few-tried k old new (Err e) ok err = let same = ap (λ (s : InoSet). set.len s) err in omega (arith, same)

@@ -22,6 +22,7 @@ pub mod ManyInodes
 pub mod InoSets
 pub mod Adding
 pub mod Moved
+pub mod Noting
 pub mod Numbered
 pub mod EndsThere
 pub mod OneChange

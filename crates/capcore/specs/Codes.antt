@@ -10,9 +10,12 @@ use Rattle.lockmachine.specs.Codes.{lock_map_code}
 use Rattle.lockmachine.specs.Scene.{Scene}
 use Rattle.capcore.specs.declared.outcome.Ended.{Ended}
 use Rattle.capcore.specs.declared.history.Row.{Row}
+use Rattle.capview.specs.declared.change.ViewChange.{ViewChange}
+use Rattle.capview.specs.contracts.change.ViewChange as view_change
 use Rattle.capcore.specs.contracts.outcome.Ended as ended
 use Rattle.capcore.specs.contracts.history.Row as history_row
 use Rattle.capcore.specs.State.{State}
+use Rattle.capcore.specs.Noted.{Noted}
 use Rattle.capcore.specs.Untold.{Untold}
 use Rattle.capcore.specs.History.{Told, told}
 
@@ -21,6 +24,11 @@ abbrev pub untold_code : Coded Untold
 untold_code =
     code_by (List Ended × ℕ) (coded× (coded_list ended.the_row.coded) coded_ℕ)
     (λ m. (m.items, m.room)) (λ p. record { items = p.0; room = p.1 }) (λ _. refl)
+
+abbrev pub noted_code : Coded Noted
+noted_code =
+    code_by (List ViewChange × ℕ) (coded× (coded_list view_change.the_row.coded) coded_ℕ)
+    (λ n. (n.items, n.room)) (λ p. record { items = p.0; room = p.1 }) (λ _. refl)
 
 -- a state as its parts
 abbrev pub scene_code : Coded Scene
@@ -36,8 +44,9 @@ state_code =
     code_by (Scene × List Ended) (coded× scene_code (coded_list ended.the_row.coded))
     (λ s. (s.scene, s.messages)) (λ p. record { scene = p.0; messages = p.1 }) (λ _. refl)
 
--- and with its history
+-- and with its history, and what the last step changed
 abbrev pub told_code : Coded Told
 told_code =
-    code_by (State × (List Row × ℕ)) (coded× state_code (coded× (coded_list history_row.the_row.coded) coded_ℕ))
-    (λ t. (t.state, (t.rows, t.max_rows))) (λ p. told p.0 p.1.0 p.1.1) (λ _. refl)
+    code_by (State × (List Row × (ℕ × List ViewChange)))
+    (coded× state_code (coded× (coded_list history_row.the_row.coded) (coded× coded_ℕ (coded_list view_change.the_row.coded))))
+    (λ t. (t.state, (t.rows, (t.max_rows, t.changes)))) (λ p. told p.0 p.1.0 p.1.1.0 p.1.1.1) (λ _. refl)

@@ -9,6 +9,7 @@ use Rattle.inotree.specs.declared.node.Place.TheVariants.{Gone}
 use Rattle.inotree.specs.Tree.{Nodes, place}
 use Rattle.captable.specs.Table as table
 use Rattle.lockmachine.specs.Inodes.{in_sync}
+use Rattle.capview.specs.declared.change.ViewChange.{ViewChange}
 use Rattle.capcore.specs.declared.event.Event.{Event}
 use Rattle.capcore.specs.declared.history.Row.{Row}
 use Rattle.capcore.specs.declared.outcome.Ended.{Ended}
@@ -18,15 +19,16 @@ use Rattle.capcore.specs.Step.{Step}
 use Rattle.capcore.specs.Sound.{IsSound, AreGiven}
 use Rattle.capcore.specs.Shown.{AreShown}
 
--- a state, the history that led to it, and how many rows it may have
+-- a state, the history that led to it, how many rows it may have, and what the last step changed of what readers see
 pub record Told : Type 0 where
   pub state : State
   pub rows : List Row
   pub max_rows : ℕ
+  pub changes : List ViewChange
 
 -- what a core has, as one value
-abbrev pub told : State → List Row → ℕ → Told
-told state rows max_rows = record { state = state; rows = rows; max_rows = max_rows }
+abbrev pub told : State → List Row → ℕ → List ViewChange → Told
+told state rows max_rows changes = record { state = state; rows = rows; max_rows = max_rows; changes = changes }
 
 -- ---- the opening state
 

@@ -21,8 +21,10 @@ pub mod Sound
 pub mod Leaving
 pub mod Answered
 pub mod InoSets
+pub mod Noted
 pub mod Serves
 pub mod Sweep
 pub mod SameEvents
 pub mod Shown
 pub mod Known
+pub mod Promised

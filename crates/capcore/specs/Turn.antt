@@ -3,6 +3,7 @@ use Rattle.std.specs.Prelude.{◌≡◌, ℕ, Bool, true, false, not, List, [], 
 use Rattle.std.specs.FinSet as set
 use Rattle.capbits.specs.declared.ids.ClientId.{ClientId}
 use Rattle.capbits.specs.Refusal.{Test}
+use Rattle.inotree.specs.Tree.{Nodes}
 use Rattle.sessiontab.specs.declared.session.Status.TheVariants as status
 use Rattle.sessiontab.specs.Table.{SessionTable}
 use Rattle.sessiontab.specs.Calls.{without_session, with_status, with_grants, with_evicted}
@@ -13,6 +14,8 @@ use Rattle.captable.specs.Calls.{is_of_client, without_client}
 use Rattle.lockmachine.specs.declared.request.Request.{Request}
 use Rattle.lockmachine.specs.Locks.{LockMap, requests_of, without_requests_of}
 use Rattle.lockmachine.specs.Requests.{is_of_client as is_asked_by}
+use Rattle.capview.specs.declared.change.ViewChange.{ViewChange}
+use Rattle.capview.specs.Changes.{AreChanges}
 use Rattle.capcore.specs.declared.client.Turn.{Turn}
 use Rattle.capcore.specs.declared.client.Turn.TheVariants.{Close, Stale, Renew, Regrant, Evict}
 use Rattle.capcore.specs.declared.event.Event.{Event}
@@ -21,6 +24,7 @@ use Rattle.capcore.specs.declared.outcome.Ended.{Ended}
 use Rattle.capcore.specs.Direct.{dropped_of}
 use Rattle.capcore.specs.InoSets.{InoSet}
 use Rattle.capcore.specs.Messages.{is_to}
+use Rattle.capcore.specs.Noted.{view}
 use Rattle.capcore.specs.Serves.{is_touched}
 use Rattle.capcore.specs.State.{State}
 
@@ -47,6 +51,11 @@ turned_sessions sessions client Stale = with_status sessions client.0 status.Sta
 turned_sessions sessions client Renew = with_status sessions client.0 status.Open
 turned_sessions sessions client (Regrant grants) = with_grants sessions client.0 grants.now
 turned_sessions sessions client Evict = with_evicted sessions client.0
+
+-- these changes tell readers of it, whatever the tree
+pub record Notes (changes : List ViewChange) (client : ClientId) (turn : Turn) : Type 0 where
+  pub lead : (tree : Nodes) (sessions : SessionTable)
+      → AreChanges changes (view tree sessions.sessions) (view tree (turned_sessions sessions client turn).sessions)
 
 -- the session ends
 abbrev pub is_end : Turn → Bool

@@ -5,6 +5,8 @@ ghost use Rattle.captable.specs.Table.{holder};
 ghost use Rattle.lockmachine.specs.declared.request.Ask.TheVariants as ask_kind;
 ghost use Rattle.capcore.specs.declared.event.Event.{Event};
 ghost use Rattle.capcore.specs.Answered.{IsAnswered};
+ghost use Rattle.capcore.specs.Noted.{view_of};
+ghost use Rattle.capview.specs.Changes.{AreChanges};
 ghost use Rattle.capcore.specs.Asks.{ask_needs};
 ghost use Rattle.capcore.specs.Judge.{asking_tests, waiting_tests, stop};
 ghost use Rattle.capcore.specs.Sound.{NumbersLeft};
@@ -31,6 +33,7 @@ impl World {
     pub(crate) fn ask(&mut self, client: ClientId, ino: Ino, ask: Ask) -> Result<Said, Stop>
         requires numbers { NumbersLeft self.old }
         ensures answered { IfOk result (λ said. (e : Event) → asks_for e ≡ Some (holder client ino, ask) → IsAnswered self.old e said self.new) }
+        ensures changes { IfOk result (λ said. AreChanges said.changes.items (view_of self.old) (view_of self.new)) }
         ensures err { OnErr result (self.new ≡ self.old) }
         ensures memory { IfErr result (λ stop. stop ≡ Stop.NoMemory) }
     {
@@ -53,6 +56,7 @@ impl World {
         requires numbers { NumbersLeft self.old }
         ensures answered { IfOk result (λ said. (e : Event) → asks_for e ≡ Some (holder client ino, ask_kind.Alter change.now)
             → IsAnswered self.old e said self.new) }
+        ensures changes { IfOk result (λ said. AreChanges said.changes.items (view_of self.old) (view_of self.new)) }
         ensures err { OnErr result (self.new ≡ self.old) }
         ensures memory { IfErr result (λ stop. stop ≡ Stop.NoMemory) }
     {
@@ -76,6 +80,7 @@ impl World {
         requires numbers { NumbersLeft self.old }
         ensures answered { IfOk result (λ said. (e : Event) → asks_for e ≡ Some (holder client ino, ask_kind.Rename dir name.now)
             → IsAnswered self.old e said self.new) }
+        ensures changes { IfOk result (λ said. AreChanges said.changes.items (view_of self.old) (view_of self.new)) }
         ensures err { OnErr result (self.new ≡ self.old) }
         ensures memory { IfErr result (λ stop. stop ≡ Stop.NoMemory) }
     {
@@ -95,13 +100,14 @@ impl World {
         requires passed { stop self.old.scene (asking_tests self.old.scene client ino.0 ask) (ask_needs self.old.scene client ino.0 ask)
             (waiting_tests self.old.scene ino.0 ask) ≡ None }
         ensures answered { IfOk result (λ said. (e : Event) → asks_for e ≡ Some (holder client ino, ask) → IsAnswered self.old e said self.new) }
+        ensures changes { IfOk result (λ said. AreChanges said.changes.items (view_of self.old) (view_of self.new)) }
         ensures err { OnErr result (self.new ≡ self.old) }
         ensures memory { IfErr result (λ stop. stop ≡ Stop.NoMemory) }
     {
         // A look at the tree and at the entries, by which the proof knows what they keep.
         let (_last, _oldest) = (self.tree.last(), self.table.oldest());
         let waiting = self.locks.waiting() + 1;
-        let Ok(mut endings) = Endings::with_room(self.alloc(), waiting) else {
+        let Ok(mut endings) = Endings::with_room(self.alloc(), waiting, waiting + 1) else {
             drop(ask);
             return Err(Stop::NoMemory);
         };

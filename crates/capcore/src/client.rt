@@ -1,5 +1,5 @@
 //! Steps by which a client's session ends, becomes stale, is open again or has other grants.
-ghost use Rattle.std.specs.Prelude.{Some, ◌≡◌, ◌+◌, ◌≤◌, ◌++◌, true, [], ◌∷◌, None, All, IsTrue, Contains, length, map as each, IfOk, IfErr, OnOk, OnErr, vec_capacity};
+ghost use Rattle.std.specs.Prelude.{Some, ◌≡◌, ◌+◌, ◌≤◌, ◌<◌, ◌++◌, true, [], ◌∷◌, None, All, IsTrue, Contains, length, map as each, IfOk, IfErr, OnOk, OnErr, vec_capacity};
 ghost use Rattle.std.specs.HashMap.{get};
 ghost use Rattle.capbits.specs.Refusal.{first_failing};
 ghost use Rattle.sessiontab.specs.Calls.{with_grants};
@@ -13,13 +13,16 @@ ghost use Rattle.lockmachine.specs.declared.request.Request.{Request};
 ghost use Rattle.lockmachine.specs.Locks.{requests_of, without_requests_of};
 ghost use Rattle.lockmachine.specs.Requests.{is_of_client as is_asked_by};
 ghost use Rattle.capcore.specs.Answered.{IsAnswered};
+ghost use Rattle.capcore.specs.Noted.{HavePlaces, view_of};
+ghost use Rattle.capview.specs.Changes.{AreChanges};
 ghost use Rattle.capcore.specs.Direct.{dropped_of};
 ghost use Rattle.capcore.specs.Serves.{is_touched};
 ghost use Rattle.capcore.specs.Sound.{NumbersLeft};
 ghost use Rattle.capcore.specs.Sweep.{Widens};
-ghost use Rattle.capcore.specs.Turn.{ReachesClient, turn_event, turn_tests, turned_sessions, is_end};
+ghost use Rattle.capcore.specs.Turn.{Notes, ReachesClient, turn_event, turn_tests, turned_sessions, is_end};
 ghost use Rattle.capcore.specs.Turn as words;
 
+use crate::changes::ChangeList;
 use crate::ended::close_dropped;
 use crate::history::Stop;
 use crate::ino_set::InoSet;
@@ -32,6 +35,7 @@ use crate::world::World;
 use capbits::{ClientId, Ino, Refusal};
 use capspec::Grants;
 use captable::CapTable;
+use capview::ViewChange;
 use inotree::ROOT;
 use lockmachine::Locks;
 use sessiontab::Sessions;
@@ -57,7 +61,7 @@ pub(crate) enum Turn<'a> {
 struct Room {
     // Each inode that the client has an entry on or waits for, but for the root.
     others: InoSet,
-    // Lists with a place for each request that waits: of those that are served,
+    // Lists with a place for each request that waits: of those that are served, where it is noted what becomes of the session,
     endings: Endings,
     // and of those that are dropped, of which nobody is told.
     dropped: Messages,
@@ -70,6 +74,7 @@ impl World {
     pub(crate) fn turn(&mut self, client: ClientId, turn: Turn) -> Result<Said, Stop>
         requires numbers { NumbersLeft self.old }
         ensures answered { IfOk result (λ said. IsAnswered self.old (turn_event client turn.entry) said self.new) }
+        ensures changes { IfOk result (λ said. AreChanges said.changes.items (view_of self.old) (view_of self.new)) }
         ensures err { OnErr result (self.new ≡ self.old) }
         ensures memory { IfErr result (λ stop. stop ≡ Stop.NoMemory) }
     {
@@ -78,7 +83,7 @@ impl World {
         if let Some(refusal) = turn_refusal(&self.sessions, client, turn) {
             return Ok(Said::alone(self.alloc(), Reply::Refused(refusal)));
         }
-        let mut room = Room::new(self.alloc(), &self.table, &self.locks, client)?;
+        let mut room = Room::new(self.alloc(), &self.table, &self.locks, client, turn)?;
         if let Err(refused) = turn_session(&mut self.sessions, client, turn) {
             drop(room);
             return Err(refused.into());
@@ -219,15 +224,19 @@ impl Room {
         table: &CapTable,
         locks: &Locks,
         client: ClientId,
+        turn: Turn,
     ) -> Result<Room, AllocError>
         ensures reaches { IfOk result (λ room. ReachesClient 1 client table.now locks.now room.others) }
         ensures told { IfOk result (λ room. (room.endings.told.items ≡ []) × (length locks.now.queue ≤ room.endings.told.room)) }
         ensures kept { IfOk result (λ room. (room.endings.kept.items ≡ []) × (length locks.now.queue ≤ room.endings.kept.room)) }
         ensures sized { IfOk result (λ room. (room.endings.sized.items ≡ []) × (length locks.now.queue ≤ vec_capacity room.endings.sized)) }
         ensures dropped { IfOk result (λ room. (room.dropped.items ≡ []) × (length locks.now.queue ≤ room.dropped.room)) }
+        ensures places { IfOk result (λ room. HavePlaces room.endings.changes locks.now room.others) }
+        ensures lead { IfOk result (λ room. Notes room.endings.changes.items client turn.entry) }
     {
         let others = reach_client(alloc, table, locks, client)?;
-        let Ok(endings) = Endings::with_room(alloc, locks.waiting()) else {
+        let places = locks.waiting() + others.len() + 2;
+        let Ok(endings) = endings_of(alloc, locks.waiting(), places, client, turn) else {
             drop(others);
             return Err(AllocError);
         };
@@ -244,6 +253,47 @@ impl Room {
             }
         }
     }
+}
+
+// No request that ended, and room for so many; and it is noted what becomes of the session, with room for so many changes.
+fn endings_of(
+    alloc: Global,
+    waiting: usize,
+    places: usize,
+    client: ClientId,
+    turn: Turn,
+) -> Result<Endings, AllocError>
+    requires place { 1 ≤ places }
+    ensures told { IfOk result (λ endings. (endings.told.items ≡ []) × (waiting ≤ endings.told.room)) }
+    ensures kept { IfOk result (λ endings. (endings.kept.items ≡ []) × (waiting ≤ endings.kept.room)) }
+    ensures sized { IfOk result (λ endings. (endings.sized.items ≡ []) × (waiting ≤ vec_capacity endings.sized)) }
+    ensures places { IfOk result (λ endings. (length endings.changes.items ≤ 1) × (places ≤ endings.changes.room)) }
+    ensures lead { IfOk result (λ endings. Notes endings.changes.items client turn.entry) }
+{
+    let mut endings = Endings::with_room(alloc, waiting, places)?;
+    match note_turn(&mut endings.changes, client, turn) {
+        Ok(()) => Ok(endings),
+        Err(refused) => {
+            drop(endings);
+            Err(refused)
+        }
+    }
+}
+
+// Notes what becomes of the session. Other grants are copied, which takes memory.
+fn note_turn(changes: &mut ChangeList, client: ClientId, turn: Turn) -> Result<(), AllocError>
+    requires none { changes.old.items ≡ [] }
+    requires place { length changes.old.items < changes.old.room }
+    ensures lead { OnOk result (Notes changes.new.items client turn.entry) }
+    ensures count { length changes.new.items ≤ 1 }
+    ensures room { changes.old.room ≤ changes.new.room }
+{
+    match turn {
+        Turn::Close | Turn::Evict => changes.push(ViewChange::Ended { client }),
+        Turn::Stale | Turn::Renew => {}
+        Turn::Regrant(grants) => changes.push(ViewChange::of_regrant(client, grants)?),
+    }
+    Ok(())
 }
 
 // Each inode that the client has an entry on or waits for, but for the root.

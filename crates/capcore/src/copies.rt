@@ -5,23 +5,8 @@ ghost use Rattle.capcore.specs.Direct.{has_list};
 use crate::outcome::{Message, MessageList, Outcome, PartValues};
 use crate::reply::Reply;
 use arrayvec::ArrayVec;
-use capbits::{Caller, Groups};
 use capgrant::Rules;
 use std::alloc::{AllocError, Global};
-
-// The same caller once more.
-pub(crate) fn copy_of_caller(caller: &Caller) -> Caller
-    ensures { result ≡ caller.now }
-{
-    let Ok(groups) = ArrayVec::try_from(caller.groups.as_slice()) else {
-        unreachable!()
-    };
-    Caller {
-        uid: caller.uid,
-        gid: caller.gid,
-        groups: Groups::from(groups),
-    }
-}
 
 // The same rules once more.
 pub(crate) fn copy_of_rules(rules: &Rules) -> Rules

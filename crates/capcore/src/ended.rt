@@ -21,13 +21,24 @@ pub(crate) fn close(messages: &mut Messages, reply: Reply, endings: Endings) -> 
     ensures reply { result.reply ≡ reply }
     ensures kept { result.kept ≡ reply }
     ensures ended { result.ended ≡ endings.kept.items }
+    ensures changes { result.changes ≡ endings.changes }
 {
-    let Endings { told, kept, sized } = endings;
+    let Endings {
+        told,
+        kept,
+        sized,
+        changes,
+    } = endings;
     drop(sized);
     messages.append(told);
     let ended = kept.into_list();
     let kept = copy_of_reply(&reply);
-    Said { reply, kept, ended }
+    Said {
+        reply,
+        kept,
+        ended,
+        changes,
+    }
 }
 
 // That it is done, and the requests that the step ended: those that were dropped, of which nobody is told, and those that were served.
@@ -39,8 +50,14 @@ pub(crate) fn close_dropped(messages: &mut Messages, dropped: Messages, endings:
     ensures reply { result.reply ≡ reply.Done }
     ensures kept { result.kept ≡ reply.Done }
     ensures ended { result.ended ≡ dropped.items ++ endings.kept.items }
+    ensures changes { result.changes ≡ endings.changes }
 {
-    let Endings { told, kept, sized } = endings;
+    let Endings {
+        told,
+        kept,
+        sized,
+        changes,
+    } = endings;
     drop(sized);
     messages.append(told);
     let mut all = dropped;
@@ -49,6 +66,7 @@ pub(crate) fn close_dropped(messages: &mut Messages, dropped: Messages, endings:
         reply: Reply::Done,
         kept: Reply::Done,
         ended: all.into_list(),
+        changes,
     }
 }
 
@@ -62,11 +80,13 @@ pub(crate) fn close_with(messages: &mut Messages, ticket: Ticket, endings: Endin
     ensures reply { result.reply ≡ awaited_as ticket (find (is_of_ticket ticket) endings.told.items) }
     ensures kept { result.kept ≡ result.reply }
     ensures ended { result.ended ≡ but_for ticket endings.told.items }
+    ensures changes { result.changes ≡ endings.changes }
 {
     let Endings {
         mut told,
         mut kept,
         sized,
+        changes,
     } = endings;
     drop(sized);
     let reply = awaited(ticket, told.take(ticket));
@@ -77,6 +97,7 @@ pub(crate) fn close_with(messages: &mut Messages, ticket: Ticket, endings: Endin
         reply,
         kept: kept_reply,
         ended,
+        changes,
     }
 }
 

@@ -1,5 +1,5 @@
 //! The end of a step at the inodes that it touched.
-ghost use Rattle.std.specs.Prelude.{◌≡◌, ◌==◌, ◌<◌, ◌^◌, ◌-◌, ℕ, List, [], true, false, Some, IsTrue, All, IsSome, IfSome};
+ghost use Rattle.std.specs.Prelude.{◌≡◌, ◌==◌, ◌≤◌, ◌<◌, ◌^◌, ◌-◌, ◌+◌, length, ℕ, List, [], true, false, Some, IsTrue, All, IsSome, IfSome};
 ghost use Rattle.std.specs.HashMap.{get};
 ghost use Rattle.std.specs.List.{find, list_any};
 ghost use Rattle.std.specs.FinSet as set;
@@ -18,7 +18,9 @@ ghost use Rattle.capcore.specs.Direct.{opened_as};
 ghost use Rattle.capcore.specs.Known.{AreKnown, HaveRoom, KeptAnew, OthersHaveAll, known_in};
 ghost use Rattle.capcore.specs.Touching.{forget_at, forget_among, finished_at, told_then};
 ghost use Rattle.capcore.specs.Serves.{EndsAt, is_touched};
+ghost use Rattle.capcore.specs.Noted.{LeadOn};
 
+use crate::changes::ChangeList;
 use crate::ino_set::InoSet;
 use crate::known::Known;
 use crate::reply::Reply;
@@ -27,6 +29,7 @@ use arrayvec::ArrayVec;
 use capbits::{Cap, CapSet, ClientId, Ino, Part};
 use capspec::FsName;
 use captable::{CapTable, Entry, EntryRow, Holder};
+use capview::ViewChange;
 use inotree::{Names, Node, Place, Tree};
 use lockmachine::{InodeLocks, Locks, permitted_and_wanted};
 use locktable::allowed;
@@ -45,8 +48,10 @@ pub(crate) fn finish(
     locks: &mut Locks,
     ino: Ino,
     touched: &InoSet,
+    changes: &mut ChangeList,
 )
     requires apart { set.contains touched.now ino.0 ≡ false }
+    requires places { length changes.old.items + set.len touched.now + 1 ≤ changes.old.room }
     requires numbers { All (λ row. row.entry.seq < 2 ^ 64 - 1) table.old.rows }
     requires clients { All (λ row. IsTrue (has_session sessions.now row.holder.client.0)) table.old.rows }
     requires room { HaveRoom known.old.sets table.old }
@@ -55,12 +60,13 @@ pub(crate) fn finish(
     ensures known { KeptAnew (λ k. is_touched ino.0 touched.now k.ino.0) (told_then (scene fs.now tree.old sessions.now table.old locks.old))
         table.old known.old.sets known.new.sets }
     ensures queue { locks.new.queue ≡ locks.old.queue }
+    ensures lead { LeadOn changes.old.items changes.new.items tree.old tree.new }
 {
     finish_touched(fs, tree, sessions, table, known, locks, touched);
     let now = locks.of_ino(ino);
     finish_entries(fs, tree, sessions, table, known, ino, &now);
-    forget_touched(tree, table, locks, touched);
-    forget_unheld(tree, table, locks, ino);
+    forget_touched(tree, table, locks, touched, changes);
+    forget_unheld(tree, table, locks, ino, changes);
 }
 
 // The same at the holder's inode alone, where each other entry on it has all that the end of the step would give it: only the
@@ -73,20 +79,23 @@ pub(crate) fn finish_alone(
     known: &mut Known,
     locks: &mut Locks,
     holder: Holder,
+    changes: &mut ChangeList,
 )
     requires others { OthersHaveAll known.old.sets (scene fs.now tree.old sessions.now table.old locks.old) holder }
+    requires place { length changes.old.items < changes.old.room }
     requires number { IfSome (entry_at table.old holder) (λ entry. entry.seq < 2 ^ 64 - 1) }
     requires room { HaveRoom known.old.sets table.old }
     ensures ends { EndsAt (λ other. other == holder.ino.0) [] known.old.sets known.new.sets
         (scene fs.now tree.old sessions.now table.old locks.old) (scene fs.now tree.new sessions.now table.new locks.new) }
     ensures queue { locks.new.queue ≡ locks.old.queue }
+    ensures lead { LeadOn changes.old.items changes.new.items tree.old tree.new }
     ensures table { IsTable table.new }
 {
     // A look at the tree, by which the proof knows what it keeps.
     let _last = tree.last();
     let now = locks.of_ino(holder.ino);
     finish_holder(fs, tree, sessions, table, known, holder, &now);
-    forget_unheld(tree, table, locks, holder.ino);
+    forget_unheld(tree, table, locks, holder.ino, changes);
     // And one at the entries.
     let _oldest = table.oldest();
 }
@@ -118,13 +127,23 @@ fn finish_touched(
 }
 
 // Forgets those that are strays that nobody has an entry on.
-fn forget_touched(tree: &mut Tree, table: &CapTable, locks: &mut Locks, touched: &InoSet)
+fn forget_touched(
+    tree: &mut Tree,
+    table: &CapTable,
+    locks: &mut Locks,
+    touched: &InoSet,
+    changes: &mut ChangeList,
+)
+    requires places { length changes.old.items + set.len touched.now ≤ changes.old.room }
     ensures left { (fs : List ℕ) (sessions : SessionTable) → scene fs tree.new sessions table.now locks.new
         ≡ forget_among (set.contains touched.now) (scene fs tree.old sessions table.now locks.old) }
     ensures queue { locks.new.queue ≡ locks.old.queue }
+    ensures lead { LeadOn changes.old.items changes.new.items tree.old tree.new }
+    ensures count { length changes.new.items ≤ length changes.old.items + set.len touched.now }
+    ensures room { changes.old.room ≤ changes.new.room }
 {
     for number in touched.numbers() {
-        forget_unheld(tree, table, locks, Ino(*number));
+        forget_unheld(tree, table, locks, Ino(*number), changes);
     }
 }
 
@@ -189,17 +208,28 @@ pub(crate) fn clients_on(
     clients
 }
 
-// Forgets the inode and its locks, if it is a stray that nobody has an entry on.
-fn forget_unheld(tree: &mut Tree, table: &CapTable, locks: &mut Locks, ino: Ino)
+// Forgets the inode and its locks, if it is a stray that nobody has an entry on, and notes that.
+fn forget_unheld(
+    tree: &mut Tree,
+    table: &CapTable,
+    locks: &mut Locks,
+    ino: Ino,
+    changes: &mut ChangeList,
+)
+    requires place { length changes.old.items < changes.old.room }
     ensures left { (fs : List ℕ) (sessions : SessionTable) → scene fs tree.new sessions table.now locks.new
         ≡ forget_at ino.0 (scene fs tree.old sessions table.now locks.old) }
     ensures queue { locks.new.queue ≡ locks.old.queue }
+    ensures lead { LeadOn changes.old.items changes.new.items tree.old tree.new }
+    ensures count { length changes.new.items ≤ length changes.old.items + 1 }
+    ensures room { changes.old.room ≤ changes.new.room }
 {
     match tree.place(ino) {
         Place::Gone => {
             if !is_held(table, ino) {
                 tree.forget(ino);
                 locks.drop_ino(ino);
+                changes.push(ViewChange::Forgotten { ino });
             }
         }
         Place::NoIno | Place::Here => {}

@@ -4,6 +4,8 @@ ghost use Rattle.capbits.specs.Refusal.{first_failing};
 ghost use Rattle.captable.specs.Table.{holder};
 ghost use Rattle.capcore.specs.declared.event.Event.TheVariants as event;
 ghost use Rattle.capcore.specs.Answered.{IsAnswered};
+ghost use Rattle.capcore.specs.Noted.{view_of};
+ghost use Rattle.capview.specs.Changes.{AreChanges};
 ghost use Rattle.capcore.specs.Asks as words;
 ghost use Rattle.capcore.specs.Judge.{judged, flush_tests};
 ghost use Rattle.capcore.specs.Sound.{NumbersLeft};
@@ -31,6 +33,7 @@ impl World {
     ) -> Result<Said, Stop>
         requires numbers { NumbersLeft self.old }
         ensures answered { IfOk result (λ said. IsAnswered self.old (event.Flush client ino change.now) said self.new) }
+        ensures changes { IfOk result (λ said. AreChanges said.changes.items (view_of self.old) (view_of self.new)) }
         ensures err { OnErr result (self.new ≡ self.old) }
         ensures memory { IfErr result (λ stop. stop ≡ Stop.NoMemory) }
     {
@@ -39,11 +42,13 @@ impl World {
         if let Some(stopped) = self.flush_stop(client, ino, change) {
             return Ok(Said::alone(self.alloc(), stopped.into()));
         }
-        let mut endings = Endings::with_room(self.alloc(), self.locks.waiting())?;
+        let waiting = self.locks.waiting();
+        let mut endings = Endings::with_room(self.alloc(), waiting, waiting + 2)?;
         if let Err(refused) = alter(&mut self.tree, ino, change) {
             drop(endings);
             return Err(refused.into());
         }
+        endings.changes.note_change(&self.tree, ino, change);
         self.table.touch(client, ino);
         end_at_one(
             &self.fs,

@@ -1,5 +1,5 @@
 //! Sets of inodes.
-ghost use Rattle.std.specs.Prelude.{◌≡◌, ◌+◌, OnOk, OnErr};
+ghost use Rattle.std.specs.Prelude.{◌≡◌, ◌+◌, ◌<◌, ◌^◌, length, OnOk, OnErr};
 ghost use Rattle.std.specs.FinSet as set;
 ghost use Rattle.capcore.specs.InoSets.{IsListOf, IsNext};
 
@@ -57,9 +57,18 @@ impl InoSet {
         Some(Ino(*number))
     }
 
+    // How many they are.
+    pub(crate) fn len(&self) -> usize
+        ensures len { result ≡ set.len self.now }
+        ensures small { result < 2 ^ 63 }
+    {
+        self.numbers.len()
+    }
+
     // Their numbers, each once.
     pub(crate) fn numbers(&self) -> Iter<'_, u64>
-        ensures { IsListOf self.now result }
+        ensures list { IsListOf self.now result }
+        ensures count { length result ≡ set.len self.now }
     {
         self.numbers.iter()
     }

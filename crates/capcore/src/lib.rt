@@ -4,6 +4,7 @@
 #![tactic(auto)]
 
 mod asking;
+mod changes;
 mod client;
 mod copies;
 mod ended;
@@ -37,6 +38,7 @@ mod touch_laws;
 mod world;
 
 pub use capbits::Refusal;
+pub use capview::ViewChange;
 pub use event::{Event, OpenMode};
 pub use giving::{a_recall_leaves_all_but_the_marks, telling_leaves_all_but_what_was_told};
 pub use history::{EndedList, Row, Stop};

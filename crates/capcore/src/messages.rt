@@ -5,6 +5,7 @@ ghost use Rattle.capcore.specs.Direct.{is_of_ticket};
 ghost use Rattle.capcore.specs.Messages.{is_to, is_left, is_end_of};
 ghost use Rattle.capcore.specs.Untold.{HaveOwnNumbers, but_for};
 
+use crate::changes::ChangeList;
 use crate::history::EndedList;
 use crate::outcome::{Ended, Message};
 use crate::serving::Served;
@@ -143,32 +144,44 @@ impl Messages {
     }
 }
 
-// The requests that a step ends: once to be told to their clients, and once for the history; and the inodes whose sizes they
-// changed.
+// The requests that a step ends: once to be told to their clients, and once for the history; the inodes whose sizes they
+// changed; and what the step changes of what readers see.
 #[derive(Drop)]
 pub(crate) struct Endings {
     pub(crate) told: Messages,
     pub(crate) kept: Messages,
     pub(crate) sized: Vec<Ino>,
+    pub(crate) changes: ChangeList,
 }
 
 impl Endings {
-    // No request, and room for so many.
-    pub(crate) fn with_room(alloc: Global, room: usize) -> Result<Endings, AllocError>
+    // No request and no change, and room for so many requests, and for so many changes.
+    pub(crate) fn with_room(
+        alloc: Global,
+        room: usize,
+        places: usize,
+    ) -> Result<Endings, AllocError>
         ensures told { IfOk result (λ endings. (endings.told.items ≡ []) × (room ≤ endings.told.room)) }
         ensures kept { IfOk result (λ endings. (endings.kept.items ≡ []) × (room ≤ endings.kept.room)) }
         ensures sized { IfOk result (λ endings. (endings.sized.items ≡ []) × (room ≤ vec_capacity endings.sized)) }
+        ensures changes { IfOk result (λ endings. (endings.changes.items ≡ []) × (places ≤ endings.changes.room)) }
     {
         let mut sized = Vec::new(alloc);
         sized.reserve(room)?;
-        let (Ok(told), Ok(kept)) = (
+        let (Ok(told), Ok(kept), Ok(changes)) = (
             Messages::with_room(alloc, room),
             Messages::with_room(alloc, room),
+            ChangeList::with_room(alloc, places),
         ) else {
             drop(sized);
             return Err(AllocError);
         };
-        Ok(Endings { told, kept, sized })
+        Ok(Endings {
+            told,
+            kept,
+            sized,
+            changes,
+        })
     }
 
     // The allocator of the lists.
@@ -192,6 +205,7 @@ impl Endings {
         ensures sized { self.new.sized.items ≡ self.old.sized.items ++ filter_map (λ ino. ino) (sized ∷ []) }
         ensures room { (self.old.told.room ≤ self.new.told.room) × (self.old.kept.room ≤ self.new.kept.room)
             × (vec_capacity self.old.sized ≤ vec_capacity self.new.sized) }
+        ensures changes { self.new.changes ≡ self.old.changes }
     {
         let Served { outcome, kept } = served;
         self.told.push(Ended {

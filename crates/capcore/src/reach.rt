@@ -1,11 +1,12 @@
 //! What a request that moves its inode reaches: the inodes below that somebody has an entry on.
-ghost use Rattle.std.specs.Prelude.{◌≡◌, ◌≢◌, true, Contains, OnOk, OnErr};
+ghost use Rattle.std.specs.Prelude.{◌≡◌, ◌≢◌, ◌≤◌, ◌+◌, true, Contains, OnOk, OnErr};
 ghost use Rattle.std.specs.List.{list_any};
 ghost use Rattle.std.specs.FinSet as set;
 ghost use Rattle.captable.specs.Calls.{is_of_inode};
 ghost use Rattle.capcore.specs.Served.{is_rename};
 ghost use Rattle.capcore.specs.Sweep.{Covers, Widens};
 
+use crate::changes::ChangeList;
 use crate::finish::is_held;
 use crate::ino_set::InoSet;
 use capbits::Ino;
@@ -14,7 +15,8 @@ use inotree::Tree;
 use lockmachine::{Ask, Request};
 use std::alloc::{AllocError, Global};
 
-// If the request moves its inode, adds every inode at or below it that somebody has an entry on, but for this one.
+// If the request moves its inode, adds every inode at or below it that somebody has an entry on, but for this one, with a place
+// for the change of each.
 pub(crate) fn reach(
     alloc: Global,
     tree: &Tree,
@@ -22,15 +24,20 @@ pub(crate) fn reach(
     request: &Request,
     ino: Ino,
     touched: &mut InoSet,
+    changes: &mut ChangeList,
 ) -> Result<(), AllocError>
     ensures widens { Widens ino.0 touched.old touched.new }
     ensures covers { OnOk result (Covers request.now ino.0 tree.now table.now touched.new) }
     ensures memory { OnErr result (is_rename request.now.ask ≡ true) }
+    // There is a place more for each.
+    ensures items { changes.new.items ≡ changes.old.items }
+    ensures places { changes.old.room + set.len touched.new ≤ changes.new.room + set.len touched.old }
+    ensures room { changes.old.room ≤ changes.new.room }
 {
     match request.ask {
         Ask::Rename { .. } => {
             let inos = tree.within(alloc, request.ino)?;
-            add_held(table, ino, inos.as_slice(), touched)
+            add_held(table, ino, inos.as_slice(), touched, changes)
         }
         Ask::Get(_) | Ask::Alter(_) | Ask::Unlink | Ask::Rmdir => Ok(()),
     }
@@ -42,15 +49,31 @@ fn add_held(
     ino: Ino,
     inos: &[Ino],
     touched: &mut InoSet,
+    changes: &mut ChangeList,
 ) -> Result<(), AllocError>
     ensures widens { Widens ino.0 touched.old touched.new }
     ensures covers { OnOk result ((other : Ino) → Contains inos.now other → other.0 ≢ ino.0
         → list_any (is_of_inode other) table.now.rows ≡ true → set.contains touched.new other.0 ≡ true) }
+    ensures items { changes.new.items ≡ changes.old.items }
+    ensures places { changes.old.room + set.len touched.new ≤ changes.new.room + set.len touched.old }
+    ensures room { changes.old.room ≤ changes.new.room }
 {
     for other in inos {
         if *other != ino && is_held(table, *other) {
-            touched.insert(*other)?;
+            add(*other, touched, changes)?;
         }
     }
     Ok(())
+}
+
+// Adds the inode, with a place for its change. For want of memory it is not added.
+fn add(ino: Ino, touched: &mut InoSet, changes: &mut ChangeList) -> Result<(), AllocError>
+    ensures ok { OnOk result (touched.new ≡ set.insert touched.old ino.0) }
+    ensures err { OnErr result (touched.new ≡ touched.old) }
+    ensures items { changes.new.items ≡ changes.old.items }
+    ensures places { changes.old.room + set.len touched.new ≤ changes.new.room + set.len touched.old }
+    ensures room { changes.old.room ≤ changes.new.room }
+{
+    changes.add_place()?;
+    touched.insert(ino)
 }

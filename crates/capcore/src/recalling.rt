@@ -2,7 +2,10 @@
 ghost use Rattle.std.specs.Prelude.{◌≡◌, IfOk, IfErr, OnErr};
 ghost use Rattle.capcore.specs.declared.event.Event.TheVariants as event;
 ghost use Rattle.capcore.specs.Answered.{IsAnswered};
+ghost use Rattle.capcore.specs.Noted.{view_of};
+ghost use Rattle.capview.specs.Changes.{AreChanges};
 
+use crate::changes::ChangeList;
 use crate::history::{EndedList, Stop};
 use crate::reply::{Reply, Said};
 use crate::world::World;
@@ -11,6 +14,7 @@ impl World {
     // A step that marks the first entries in the order of recall as asked for, and names them. It moves none.
     pub(crate) fn recall(&mut self, count: u32) -> Result<Said, Stop>
         ensures answered { IfOk result (λ said. IsAnswered self.old (event.Recall count) said self.new) }
+        ensures changes { IfOk result (λ said. AreChanges said.changes.items (view_of self.old) (view_of self.new)) }
         ensures err { OnErr result (self.new ≡ self.old) }
         ensures memory { IfErr result (λ stop. stop ≡ Stop.NoMemory) }
     {
@@ -21,6 +25,7 @@ impl World {
             reply: Reply::Recalled(named),
             kept: Reply::Recalled(kept),
             ended: EndedList::new(self.alloc()),
+            changes: ChangeList::new(self.alloc()),
         })
     }
 }

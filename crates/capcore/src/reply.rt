@@ -2,6 +2,7 @@
 ghost use Rattle.std.specs.Prelude.{◌≡◌, false, []};
 ghost use Rattle.capcore.specs.Direct.{has_list};
 
+use crate::changes::ChangeList;
 use crate::copies::copy_of_reply;
 use crate::history::EndedList;
 use crate::outcome::{MessageList, PartValues};
@@ -53,24 +54,43 @@ impl fmt::Debug for Reply {
     }
 }
 
-// What a step says: its reply, the same once more for the history, and the requests of earlier steps that it ended.
+// What a step says: its reply, the same once more for the history, the requests of earlier steps that it ended, and what it
+// changed of what readers see.
 #[derive(Drop)]
 pub(crate) struct Said {
     pub(crate) reply: Reply,
     pub(crate) kept: Reply,
     pub(crate) ended: EndedList,
+    pub(crate) changes: ChangeList,
 }
 
 impl Said {
-    // A reply that has no list, of a step that ended no request.
+    // A reply that has no list, of a step that ended no request and changed nothing.
     pub(crate) fn alone(alloc: Global, reply: Reply) -> Said
         requires { has_list reply ≡ false }
         ensures reply { result.reply ≡ reply }
         ensures kept { result.kept ≡ reply }
         ensures ended { result.ended ≡ [] }
+        ensures changes { result.changes.items ≡ [] }
+    {
+        Said::with_changes(alloc, reply, ChangeList::new(alloc))
+    }
+
+    // A reply that has no list, of a step that ended no request and made these changes.
+    pub(crate) fn with_changes(alloc: Global, reply: Reply, changes: ChangeList) -> Said
+        requires { has_list reply ≡ false }
+        ensures reply { result.reply ≡ reply }
+        ensures kept { result.kept ≡ reply }
+        ensures ended { result.ended ≡ [] }
+        ensures changes { result.changes ≡ changes }
     {
         let kept = copy_of_reply(&reply);
         let ended = EndedList::new(alloc);
-        Said { reply, kept, ended }
+        Said {
+            reply,
+            kept,
+            ended,
+            changes,
+        }
     }
 }

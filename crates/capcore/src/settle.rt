@@ -16,11 +16,13 @@ ghost use Rattle.lockmachine.specs.Turns.{IsTurnOf, IsDue, WaitAt};
 ghost use Rattle.capcore.specs.declared.outcome.Ended.{Ended};
 ghost use Rattle.capcore.specs.InoSets.{IsNext};
 ghost use Rattle.capcore.specs.Known.{HaveRoom, OthersHaveAll};
+ghost use Rattle.capcore.specs.Noted.{HavePlaces, LeadOn};
 ghost use Rattle.capcore.specs.Serves.{Serves, SettlesWith, EndsAt, EndsWith, is_touched};
 ghost use Rattle.capcore.specs.Settle.{Served as Serving, sized_by, sized_in};
 ghost use Rattle.capcore.specs.Sweep.{AreStill, GoesOn, IsTurnOfLeast, IsLeastOf, IsNextOf, IsSwept, Reaches};
 ghost use Rattle.capcore.specs.Untold.{HasRoom};
 
+use crate::changes::ChangeList;
 use crate::finish::{finish, finish_alone};
 use crate::ino_set::InoSet;
 use crate::known::Known;
@@ -54,12 +56,14 @@ pub(crate) fn end_at_one(
     requires kept { HasRoom endings.old.kept locks.old }
     requires sized { length endings.old.sized.items + length locks.old.queue ≤ vec_capacity endings.old.sized }
     requires same { endings.old.kept.items ≡ endings.old.told.items }
+    requires places { length endings.old.changes.items + length locks.old.queue + 1 ≤ endings.old.changes.room }
     requires numbers { All (λ row. row.entry.seq < 2 ^ 64 - 1) table.old.rows }
     requires clients { All (λ row. IsTrue (has_session sessions.now row.holder.client.0)) table.old.rows }
     requires room { HaveRoom known.old.sets table.old }
     ensures ends { EndsWith (λ other. other == ino.0) known.old.sets known.new.sets (scene fs.now tree.old sessions.now table.old locks.old)
         (scene fs.now tree.new sessions.now table.new locks.new) endings.new.told.items }
     ensures kept { endings.new.kept.items ≡ endings.new.told.items }
+    ensures lead { LeadOn endings.old.changes.items endings.new.changes.items tree.old tree.new }
     // As many waited as wait and have ended.
     ensures count { length endings.new.told.items + length locks.new.queue ≡ length locks.old.queue }
     ensures table { IsTable table.new }
@@ -90,6 +94,7 @@ pub(crate) fn end_at_entry(
     requires kept { HasRoom endings.old.kept locks.old }
     requires sized { length endings.old.sized.items + length locks.old.queue ≤ vec_capacity endings.old.sized }
     requires same { endings.old.kept.items ≡ endings.old.told.items }
+    requires places { length endings.old.changes.items + length locks.old.queue + 1 ≤ endings.old.changes.room }
     requires numbers { All (λ row. row.entry.seq < 2 ^ 64 - 1) table.old.rows }
     requires clients { All (λ row. IsTrue (has_session sessions.now row.holder.client.0)) table.old.rows }
     requires room { HaveRoom known.old.sets table.old }
@@ -97,6 +102,7 @@ pub(crate) fn end_at_entry(
         (scene fs.now tree.old sessions.now table.old locks.old)
         (scene fs.now tree.new sessions.now table.new locks.new) endings.new.told.items }
     ensures kept { endings.new.kept.items ≡ endings.new.told.items }
+    ensures lead { LeadOn endings.old.changes.items endings.new.changes.items tree.old tree.new }
     // As many waited as wait and have ended.
     ensures count { length endings.new.told.items + length locks.new.queue ≡ length locks.old.queue }
     ensures table { IsTable table.new }
@@ -108,7 +114,8 @@ pub(crate) fn end_at_entry(
     );
     // Most steps of such events leave these locks as they were, and by the same locks and the same tree the others have all still.
     if is_as_before(locks, holder.ino, &before, &touched, endings) {
-        finish_alone(fs, tree, sessions, table, known, locks, holder);
+        let changes = &mut endings.changes;
+        finish_alone(fs, tree, sessions, table, known, locks, holder, changes);
     } else {
         end_settled(
             fs,
@@ -120,6 +127,7 @@ pub(crate) fn end_at_entry(
             holder.ino,
             &touched,
             endings.sized.as_slice(),
+            &mut endings.changes,
         );
     }
 }
@@ -165,12 +173,14 @@ pub(crate) fn end_at(
     requires kept { HasRoom endings.old.kept locks.old }
     requires sized { length endings.old.sized.items + length locks.old.queue ≤ vec_capacity endings.old.sized }
     requires same { endings.old.kept.items ≡ endings.old.told.items }
+    requires places { HavePlaces endings.old.changes locks.old others }
     requires numbers { All (λ row. row.entry.seq < 2 ^ 64 - 1) table.old.rows }
     requires clients { All (λ row. IsTrue (has_session sessions.now row.holder.client.0)) table.old.rows }
     requires room { HaveRoom known.old.sets table.old }
     ensures ends { EndsWith (is_touched ino.0 others) known.old.sets known.new.sets (scene fs.now tree.old sessions.now table.old locks.old)
         (scene fs.now tree.new sessions.now table.new locks.new) endings.new.told.items }
     ensures kept { endings.new.kept.items ≡ endings.new.told.items }
+    ensures lead { LeadOn endings.old.changes.items endings.new.changes.items tree.old tree.new }
     // As many waited as wait and have ended.
     ensures count { length endings.new.told.items + length locks.new.queue ≡ length locks.old.queue }
     ensures table { IsTable table.new }
@@ -186,6 +196,7 @@ pub(crate) fn end_at(
         ino,
         &touched,
         endings.sized.as_slice(),
+        &mut endings.changes,
     );
 }
 
@@ -200,20 +211,25 @@ fn end_settled(
     ino: Ino,
     touched: &InoSet,
     sized: &[Ino],
+    changes: &mut ChangeList,
 )
     requires apart { set.contains touched.now ino.0 ≡ false }
+    requires places { length changes.old.items + set.len touched.now + 1 ≤ changes.old.room }
     requires numbers { All (λ row. row.entry.seq < 2 ^ 64 - 1) table.old.rows }
     requires clients { All (λ row. IsTrue (has_session sessions.now row.holder.client.0)) table.old.rows }
     requires room { HaveRoom known.old.sets table.old }
     ensures ends { EndsAt (is_touched ino.0 touched.now) sized.now known.old.sets known.new.sets
         (scene fs.now tree.old sessions.now table.old locks.old) (scene fs.now tree.new sessions.now table.new locks.new) }
     ensures queue { locks.new.queue ≡ locks.old.queue }
+    ensures lead { LeadOn changes.old.items changes.new.items tree.old tree.new }
     ensures table { IsTable table.new }
 {
     owe_sizes(sessions, table, sized);
     // A look at the tree, by which the proof knows what it keeps.
     let _last = tree.last();
-    finish(fs, tree, sessions, table, known, locks, ino, touched);
+    finish(
+        fs, tree, sessions, table, known, locks, ino, touched, changes,
+    );
     // And one at the entries.
     let _oldest = table.oldest();
 }
@@ -238,12 +254,15 @@ fn settle(
     requires kept { HasRoom endings.old.kept locks.old }
     requires sized { length endings.old.sized.items + length locks.old.queue ≤ vec_capacity endings.old.sized }
     requires same { endings.old.kept.items ≡ endings.old.told.items }
+    requires places { HavePlaces endings.old.changes locks.old others }
     ensures settles { SettlesWith (is_touched ino.0 result) (is_touched ino.0 others)
         (scene fs.now tree.old sessions.now table.now locks.old)
         (scene fs.now tree.new sessions.now table.now locks.new) endings.new.told.items endings.new.sized.items }
     ensures kept { endings.new.kept.items ≡ endings.new.told.items }
     ensures count { length endings.new.told.items + length locks.new.queue ≡ length locks.old.queue }
     ensures apart { set.contains result ino.0 ≡ false }
+    ensures lead { LeadOn endings.old.changes.items endings.new.changes.items tree.old tree.new }
+    ensures places { HavePlaces endings.new.changes locks.new result }
 {
     let mut touched = others;
     end_gathers(table, locks, ino, &touched);
@@ -368,8 +387,8 @@ fn next_touched(touched: &InoSet, ino: Ino, at: Ino) -> Option<Ino>
 
 // ---- servings
 
-// Serves the request with this number. If it moves its inode, each inode but the one that is at or below it and has entries is
-// touched; for want of memory for that it ends so.
+// Serves the request with this number, and notes what that changes for readers. If it moves its inode, each inode but the one
+// that is at or below it and has entries is touched; for want of memory for that it ends so.
 fn serve_next(
     fs: &FsName,
     tree: &mut Tree,
@@ -385,6 +404,7 @@ fn serve_next(
     requires told { length endings.old.told.items < endings.old.told.room }
     requires kept { length endings.old.kept.items < endings.old.kept.room }
     requires sized { length endings.old.sized.items < vec_capacity endings.old.sized }
+    requires place { length endings.old.changes.items < endings.old.changes.room }
     ensures served { (ended : Ended) × ((some : Table) → Serves (scene fs.now tree.old sessions.now some locks.old) ticket ended
         (scene fs.now tree.new sessions.now some locks.new))
         × (endings.new.told.items ≡ endings.old.told.items ++ ended ∷ [])
@@ -395,19 +415,18 @@ fn serve_next(
         → Reaches q ino.0 tree.old tree.new table.now touched.old touched.new }
     ensures room { (endings.old.told.room ≤ endings.new.told.room) × (endings.old.kept.room ≤ endings.new.kept.room)
         × (vec_capacity endings.old.sized ≤ vec_capacity endings.new.sized) }
+    // At most one change is noted, and there is a place more for each inode that is touched besides.
+    ensures lead { LeadOn endings.old.changes.items endings.new.changes.items tree.old tree.new }
+    ensures noted { length endings.new.changes.items ≤ length endings.old.changes.items + 1 }
+    ensures places { endings.old.changes.room + set.len touched.new ≤ endings.new.changes.room + set.len touched.old }
 {
     let Some(request) = locks.apply_move(Move::Serve(ticket)) else {
         unreachable!()
     };
-    let reached = reach(endings.alloc(), tree, table, &request, ino, touched);
-    let served = serve(
-        endings.alloc(),
-        fs,
-        tree,
-        sessions,
-        &request,
-        reached.is_ok(),
-    );
+    let (alloc, changes) = (endings.alloc(), &mut endings.changes);
+    let reached = reach(alloc, tree, table, &request, ino, touched, changes);
+    let served = serve(alloc, fs, tree, sessions, &request, reached.is_ok());
+    changes.note_served(tree, &request, &served.outcome);
     let (client, ticket) = (request.client, request.ticket);
     let sized = sized_by(&request, &served);
     // The request goes before its end is told, so that the proof has to follow it but once.

@@ -1,18 +1,13 @@
 //! The core and its steps.
-ghost use Rattle.std.specs.Prelude.{◌≡◌, ◌↔◌, ◌+◌, ◌≤◌, ◌<◌, ◌^◌, ◌++◌, [], ◌∷◌, length, vec_len, vec_capacity, Err, IsTrue, IfOk, OnOk, OnErr};
-ghost use Rattle.capcore.specs.History.{HasNoStray, IsOpening, IsNext, IsTold, InItsRow, Replays, rows_of, AreNumbered};
-ghost use Rattle.capcore.specs.State.{State};
-ghost use Rattle.capcore.specs.Direct.{direct};
-ghost use Rattle.capcore.specs.Sound.{IsSound};
-ghost use Rattle.capcore.specs.Headline.{DeniedExactly, DeniesByName, ServedDenied, ServedByName, EachServing, ByMoves, AreBounded, OtherLocksStay};
-ghost use Rattle.capcore.specs.Headline.{IssuesExactly, AreInPlace, AreRevoked, NoneConflict, is_stop};
-ghost use Rattle.capcore.specs.Shown.{ShowsWhatIsTold, ShowsOnlyPermitted, TakesUnshown, TakesOnlySo};
+ghost use Rattle.std.specs.Prelude.{◌≡◌, ◌↔◌, ◌+◌, ◌≤◌, ◌<◌, ◌^◌, ◌++◌, [], ◌∷◌, length, vec_len, vec_capacity, Err, IfOk, OnOk, OnErr};
+ghost use Rattle.capcore.specs.History.{HasNoStray, IsOpening, IsTold, rows_of, AreNumbered};
+ghost use Rattle.capcore.specs.Promised.{IsPromised};
 ghost use Rattle.sessiontab.specs.Calls.{status_of};
 ghost use Rattle.captable.specs.Table.{holder, entry_at};
 ghost use Rattle.lockmachine.specs.Locks.{lock_at};
-ghost use Rattle.lockmachine.specs.Moves.{IsAtRest};
 ghost use Rattle.capcore.specs.declared.history.Stop.TheVariants as stop_kind;
 
+use crate::changes::ChangeList;
 use crate::event::Event;
 use crate::history::{Row, Stop};
 use crate::reply::{Reply, Said};
@@ -20,9 +15,10 @@ use crate::world::World;
 use capbits::{ClientId, Ino, Part, PassId};
 use capspec::FsName;
 use captable::Entry;
+use capview::ViewChange;
 use inotree::Tree;
 use locktable::LockState;
-use sessiontab::Status;
+use sessiontab::{Sessions, Status};
 use std::alloc::{AllocError, Global};
 use std::marker::Model;
 
@@ -32,6 +28,8 @@ pub struct Core {
     world: World,
     rows: Vec<Row>,
     max_rows: u32,
+    // What the last step changed of what readers see.
+    changes: ChangeList,
 }
 
 impl Model for Core {
@@ -42,9 +40,9 @@ impl Model for Core {
 
     ghost coded = { told_code };
 
-    ghost view = { λ c. told c.world c.rows.items c.max_rows };
+    ghost view = { λ c. told c.world c.rows.items c.max_rows c.changes.items };
 
-    ghost invariant = { λ c. IsTold (told c.world c.rows.items c.max_rows) };
+    ghost invariant = { λ c. IsTold (told c.world c.rows.items c.max_rows c.changes.items) };
 }
 
 // By hand, so that a caller which lets one go has one call to prove, and no step for each of its parts.
@@ -54,6 +52,7 @@ impl Drop for Core {
             world: _world,
             rows: _rows,
             max_rows: _max_rows,
+            changes: _changes,
         } = self;
     }
 }
@@ -65,60 +64,31 @@ impl Core {
         ensures opening { IfOk result (λ core. IsOpening fs tree core.state) }
         ensures rows { IfOk result (λ core. core.rows ≡ []) }
         ensures max_rows { IfOk result (λ core. core.max_rows ≡ max_rows) }
+        ensures changes { IfOk result (λ core. core.changes ≡ []) }
     {
         Ok(Core {
             world: World::new(alloc, fs, tree)?,
             rows: Vec::new(alloc),
             max_rows,
+            changes: ChangeList::new(alloc),
         })
     }
 
     /// Takes one event, called by a pass: makes the step, adds its row to the history and says what is answered.
     pub fn apply(&mut self, pass: PassId, event: Event) -> Result<Reply, Stop>
-        // One step of the rules, and one row.
-        ensures next { IfOk result (λ answer. IsNext self.old pass event answer self.new) }
-        // A request is denied exactly if it passes the tests that stand before policy and an access that it needs has no grant,
-        // and each denial names the rule by which each grant fails.
-        ensures denied { IfOk result (λ answer. DeniedExactly self.old.state.scene event answer) }
-        ensures named { IfOk result (λ answer. DeniesByName self.old.state.scene event answer) }
-        // So are the requests that wait, when they are served. At most as many are served as wait, and between two of them each
-        // lock begins at most one gather and ends at most two.
-        ensures served_denied { IfOk result (λ answer. InItsRow self.old.rows self.new.rows
-            (λ ended. ByMoves (EachServing ServedDenied) self.old.state event answer ended self.new.state)) }
-        ensures served_named { IfOk result (λ answer. InItsRow self.old.rows self.new.rows
-            (λ ended. ByMoves (EachServing ServedByName) self.old.state event answer ended self.new.state)) }
-        ensures bounded { IfOk result (λ answer. InItsRow self.old.rows self.new.rows
-            (λ ended. ByMoves AreBounded self.old.state event answer ended self.new.state)) }
-        // Locks change by these moves alone.
-        ensures other_locks { IfOk result (λ answer. InItsRow self.old.rows self.new.rows
-            (λ ended. ByMoves (OtherLocksStay self.new.state.scene.locks) self.old.state event answer ended self.new.state)) }
-        // What is issued is what is wanted, permitted and allowed. What is held outside its lock's row is being revoked under an
-        // open gather, and what is held and not permitted is being revoked; and no two clients hold what may not be held together.
-        ensures issued { OnOk result (IssuesExactly (direct self.old.state event).state.scene self.new.state.scene) }
-        ensures in_place { OnOk result (AreInPlace self.new.state.scene) }
-        ensures lost { OnOk result (AreRevoked self.new.state.scene) }
-        ensures apart { OnOk result (NoneConflict self.new.state.scene) }
-        // Where no message is due for an entry, its client was last shown just what it is to know, and that is permitted. What an
-        // acknowledgement takes was missing from what was shown; and nothing else takes what is held, but a release and the end of
-        // a session.
-        ensures shown { OnOk result (ShowsWhatIsTold self.new.rows self.new.state.scene) }
-        ensures shown_permitted { OnOk result (ShowsOnlyPermitted self.new.rows self.new.state.scene) }
-        ensures unshown { OnOk result (TakesUnshown self.old.rows self.old.state.scene event
-            (direct self.old.state event).state.scene) }
-        ensures only_so { OnOk result (TakesOnlySo self.old.state.scene event self.new.state.scene) }
-        // All that the state speaks of is there, and nothing is left to do.
-        ensures sound { OnOk result (IsSound self.new.state) }
-        // Locks are at rest, and a denial or a refusal changes nothing but the history.
-        ensures at_rest { OnOk result (IsAtRest self.new.state.scene) }
-        ensures unchanged { IfOk result (λ answer. IsTrue (is_stop answer) → self.new.state ≡ self.old.state) }
-        // Wherever the history began, it goes on from there.
-        ensures legal { OnOk result ((first : State) → Replays first self.old.rows self.old.state
-            → Replays first self.new.rows self.new.state) }
+        // A step of the rules with its row, and all else that holds of an event that is answered.
+        ensures promised { IfOk result (λ answer. IsPromised self.old pass event answer self.new) }
+        // Else nothing has changed. The history is full exactly where it has as many rows as it may have.
         ensures full { (result ≡ Err stop_kind.Full) ↔ (length self.old.rows ≡ self.old.max_rows) }
         ensures err { OnErr result (self.new ≡ self.old) }
     {
         let nth = make_room(&mut self.rows, self.max_rows, pass)?;
-        let Said { reply, kept, ended } = self.world.step(&event)?;
+        let Said {
+            reply,
+            kept,
+            ended,
+            changes,
+        } = self.world.step(&event)?;
         let row = Row {
             pass,
             nth,
@@ -126,6 +96,7 @@ impl Core {
             reply: kept,
             ended,
         };
+        self.changes = changes;
         add_row(&mut self.rows, row);
         Ok(reply)
     }
@@ -151,6 +122,13 @@ impl Core {
         self.world.tree()
     }
 
+    /// The sessions of today.
+    pub fn sessions(&self) -> &Sessions
+        ensures { result.now ≡ self.now.state.scene.sessions }
+    {
+        self.world.sessions()
+    }
+
     /// A client's session, open or stale, where it has one.
     pub fn session(&self, client: ClientId) -> Option<Status>
         ensures { result ≡ status_of self.now.state.scene.sessions client.0 }
@@ -165,6 +143,14 @@ impl Core {
         ensures told { IsTold self.now }
     {
         self.rows.as_slice()
+    }
+
+    /// What the last step changed of what readers see, the first change first: none where none was made yet. A step that is not
+    /// answered changes nothing, and leaves this as it was.
+    pub fn last_changes(&self) -> &[ViewChange]
+        ensures { result.now ≡ self.now.changes }
+    {
+        self.changes.as_slice()
     }
 }
 

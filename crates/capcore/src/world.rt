@@ -8,21 +8,26 @@ ghost use Rattle.capcore.specs.Touch.{touch_event};
 ghost use Rattle.capcore.specs.Touching.{touched_by, turned_by, is_listing};
 ghost use Rattle.captable.specs.Table.{IsTable, holder, entry_at};
 ghost use Rattle.lockmachine.specs.Locks.{lock_at};
-ghost use Rattle.sessiontab.specs.Calls.{status_of};
+ghost use Rattle.sessiontab.specs.Calls.{status_of, with_session};
+ghost use Rattle.sessiontab.specs.Tests.{new_session_tests};
 ghost use Rattle.capcore.specs.Judge.{judged, stop, before, asked_tests, connected_tests, opening_needs, opening_tests, room_for};
 ghost use Rattle.capcore.specs.Needs.{need};
 ghost use Rattle.captable.specs.Tests.{entry_test};
 ghost use Rattle.std.specs.FinMap as map;
-ghost use Rattle.capcore.specs.Direct.{Says, IsDirect, direct, has_list, made_event, owned_by, with_birth};
+ghost use Rattle.capcore.specs.Direct.{Says, IsDirect, direct, has_list, made_event, owned_by, with_birth, with_sessions};
 ghost use Rattle.capcore.specs.History.{IsOpening, HasNoStray};
 ghost use Rattle.capcore.specs.Headline.{IssuesExactly};
 ghost use Rattle.capcore.specs.Answered.{IsAnswered};
+ghost use Rattle.capcore.specs.Noted.{view_of};
+ghost use Rattle.capview.specs.Changes.{AreChanges};
+ghost use Rattle.capview.specs.Sight.{Shows};
 ghost use Rattle.lockmachine.specs.Locks.{IsLockMap};
 ghost use Rattle.capbits.specs.Refusal.{first_failing};
 ghost use Rattle.capcore.specs.declared.event.Event.TheVariants as event;
 
+use crate::changes::ChangeList;
 use crate::client::Turn;
-use crate::copies::{copy_of_caller, copy_of_messages, copy_of_reply};
+use crate::copies::{copy_of_messages, copy_of_reply};
 use crate::ended::close;
 use crate::event::{Event, OpenMode};
 use crate::history::{EndedList, Stop};
@@ -40,6 +45,7 @@ use capbits::{Caller, CapSet, ClientId, Ino, Mode, Part, Refusal};
 use capgrant::{Access, Attr};
 use capspec::{FsName, Grants};
 use captable::{CapTable, Entry, Holder};
+use capview::ViewChange;
 use inotree::{Kind, Tree};
 use lockmachine::{Ask, Locks};
 use locktable::LockState;
@@ -114,6 +120,7 @@ impl World {
     pub(crate) fn step(&mut self, event: &Event) -> Result<Said, Stop>
         requires numbers { NumbersLeft self.old }
         ensures answered { IfOk result (λ said. IsAnswered self.old event.now said self.new) }
+        ensures changes { IfOk result (λ said. AreChanges said.changes.items (view_of self.old) (view_of self.new)) }
         // The entries were a table, and the locks had their requests in order.
         ensures table { OnOk result (IsTable self.old.scene.table) }
         ensures locks { OnOk result (IsLockMap self.old.scene.locks) }
@@ -171,19 +178,22 @@ impl World {
         requires lists { is_listing event.now ≡ false }
         requires turns { turned_by event.now ≡ None }
         ensures answered { IfOk result (λ said. IsAnswered self.old event.now said self.new) }
+        ensures changes { IfOk result (λ said. AreChanges said.changes.items (view_of self.old) (view_of self.new)) }
         ensures err { OnErr result (self.new ≡ self.old) }
         ensures memory { IfErr result (λ stop. stop ≡ Stop.NoMemory) }
     {
         // A look at the tree and at the entries, by which the proof knows what they keep.
         let (_last, _oldest) = (self.tree.last(), self.table.oldest());
-        let reply = self.act(event)?;
-        Ok(Said::alone(self.alloc(), reply))
+        let mut changes = ChangeList::new(self.alloc());
+        let reply = self.act(event, &mut changes)?;
+        Ok(Said::with_changes(self.alloc(), reply, changes))
     }
 
     // A step that is about one entry: what is asked of it is done, the locks of what the step touches settle, and it ends there.
     fn touch(&mut self, client: ClientId, ino: Ino, touch: Touch) -> Result<Said, Stop>
         requires numbers { NumbersLeft self.old }
         ensures answered { IfOk result (λ said. IsAnswered self.old (touch_event client ino touch) said self.new) }
+        ensures changes { IfOk result (λ said. AreChanges said.changes.items (view_of self.old) (view_of self.new)) }
         ensures err { OnErr result (self.new ≡ self.old) }
         ensures memory { IfErr result (λ stop. stop ≡ Stop.NoMemory) }
     {
@@ -194,7 +204,8 @@ impl World {
             return Ok(Said::alone(self.alloc(), stopped.into()));
         }
         let revoked = revoked_of(&self.table, &self.known, holder);
-        let mut endings = Endings::with_room(self.alloc(), self.locks.waiting())?;
+        let waiting = self.locks.waiting();
+        let mut endings = Endings::with_room(self.alloc(), waiting, waiting + 1)?;
         let (table, known) = (&mut self.table, &mut self.known);
         if let Err(refused) = touch_entry(table, known, holder, revoked, &touch) {
             drop(endings);
@@ -217,6 +228,7 @@ impl World {
     // A step that gives a client the first messages that are due to it.
     fn poll(&mut self, client: ClientId, max: u32) -> Result<Said, Stop>
         ensures answered { IfOk result (λ said. IsAnswered self.old (event.Poll client max) said self.new) }
+        ensures changes { IfOk result (λ said. AreChanges said.changes.items (view_of self.old) (view_of self.new)) }
         ensures err { OnErr result (self.new ≡ self.old) }
         ensures memory { IfErr result (λ stop. stop ≡ Stop.NoMemory) }
     {
@@ -238,6 +250,7 @@ impl World {
             reply: Reply::Messages(given),
             kept: Reply::Messages(kept),
             ended: EndedList::new(alloc),
+            changes: ChangeList::new(alloc),
         })
     }
 
@@ -246,12 +259,14 @@ impl World {
         self.messages.alloc()
     }
 
-    // The event by itself.
-    fn act(&mut self, event: &Event) -> Result<Reply, Stop>
+    // The event by itself, of which nothing was noted yet.
+    fn act(&mut self, event: &Event, changes: &mut ChangeList) -> Result<Reply, Stop>
+        requires none { changes.old.items ≡ [] }
         requires touches { touched_by event.now ≡ None }
         requires lists { is_listing event.now ≡ false }
         requires turns { turned_by event.now ≡ None }
         ensures direct { IfOk result (λ reply. IsDirect self.old event.now reply self.new) }
+        ensures changes { OnOk result (AreChanges changes.new.items (view_of self.old) (view_of self.new)) }
         ensures err { OnErr result (self.new ≡ self.old) }
         ensures memory { IfErr result (λ stop. stop ≡ Stop.NoMemory) }
     {
@@ -260,7 +275,7 @@ impl World {
                 client,
                 caller,
                 grants,
-            } => self.open_session(*client, caller, grants),
+            } => self.open_session(*client, caller, grants, changes),
             Event::Unblock { client } => Ok(self.unblock(*client)),
             Event::Lookup { client, dir, name } => {
                 Ok(self.lookup(*client, *dir, name.as_slice()))
@@ -270,13 +285,20 @@ impl World {
                 dir,
                 name,
                 mode,
-            } => self.make(Kind::File, *client, *dir, name.as_slice(), *mode),
+            } => self.make(Kind::File, *client, *dir, name.as_slice(), *mode, changes),
             Event::Mkdir {
                 client,
                 dir,
                 name,
                 mode,
-            } => self.make(Kind::Directory, *client, *dir, name.as_slice(), *mode),
+            } => self.make(
+                Kind::Directory,
+                *client,
+                *dir,
+                name.as_slice(),
+                *mode,
+                changes,
+            ),
             Event::MakeSnapshot { client, ino, name } => {
                 self.make_snapshot(*client, *ino, name.as_slice())
             }
@@ -308,24 +330,46 @@ impl World {
         client: ClientId,
         caller: &Caller,
         grants: &Grants,
+        changes: &mut ChangeList,
     ) -> Result<Reply, Stop>
+        requires none { changes.old.items ≡ [] }
         ensures direct { IfOk result (λ reply. IsDirect self.old (event.Session client caller.now grants.now) reply self.new) }
+        ensures changes { OnOk result (AreChanges changes.new.items (view_of self.old) (view_of self.new)) }
         ensures err { OnErr result (self.new ≡ self.old) }
         ensures memory { IfErr result (λ stop. stop ≡ Stop.NoMemory) }
     {
         if let Some(refusal) = self.sessions.open_refusal(client) {
             return Ok(Reply::Refused(refusal));
         }
-        let Ok(grants) = grants.copy() else {
-            return Err(Stop::NoMemory);
-        };
-        let caller = copy_of_caller(caller);
-        self.sessions.open_session(client, caller, grants)?;
+        changes.add_place()?;
+        let opening = ViewChange::of_opening(client, caller, grants)?;
+        if let Err(refused) = self.connect(client, caller, grants) {
+            drop(opening);
+            return Err(refused.into());
+        }
+        changes.push(opening);
         Ok(Reply::Done)
     }
 
+    // The client has an open session, with copies of these. For want of memory nothing changes.
+    fn connect(
+        &mut self,
+        client: ClientId,
+        caller: &Caller,
+        grants: &Grants,
+    ) -> Result<(), AllocError>
+        requires passed { first_failing (new_session_tests self.old.scene.sessions client.0) ≡ None }
+        ensures ok { OnOk result (self.new ≡ with_sessions self.old (with_session self.old.scene.sessions client.0 caller.now grants.now)) }
+        ensures err { OnErr result (self.new ≡ self.old) }
+    {
+        let grants = grants.copy()?;
+        self.sessions.open_session(client, caller.copy(), grants)?;
+        Ok(())
+    }
+
     fn unblock(&mut self, client: ClientId) -> Reply
-        ensures { IsDirect self.old (event.Unblock client) result self.new }
+        ensures direct { IsDirect self.old (event.Unblock client) result self.new }
+        ensures seen { Shows (view_of self.old) (view_of self.new) }
     {
         if let Some(refusal) = self.sessions.unblock_refusal(client) {
             return Reply::Refused(refusal);
@@ -360,8 +404,11 @@ impl World {
         dir: Ino,
         name: &[u8],
         mode: Mode,
+        changes: &mut ChangeList,
     ) -> Result<Reply, Stop>
+        requires none { changes.old.items ≡ [] }
         ensures direct { IfOk result (λ reply. IsDirect self.old (made_event kind client dir name.now mode) reply self.new) }
+        ensures changes { OnOk result (AreChanges changes.new.items (view_of self.old) (view_of self.new)) }
         ensures err { OnErr result (self.new ≡ self.old) }
         ensures memory { IfErr result (λ stop. stop ≡ Stop.NoMemory) }
     {
@@ -371,8 +418,10 @@ impl World {
         if let Some(refusal) = self.tree.new_inode_refusal(dir, name) {
             return Ok(Reply::Refused(refusal));
         }
+        changes.add_place()?;
         let attr = self.owned_by(client, mode);
         let ino = self.add(kind, dir, name, attr)?;
+        changes.note_birth(self.tree(), ino);
         Ok(Reply::Ino(ino))
     }
 
@@ -397,6 +446,7 @@ impl World {
 
     fn make_snapshot(&mut self, client: ClientId, ino: Ino, name: &[u8]) -> Result<Reply, Stop>
         ensures direct { IfOk result (λ reply. IsDirect self.old (event.MakeSnapshot client ino name.now) reply self.new) }
+        ensures seen { OnOk result (Shows (view_of self.old) (view_of self.new)) }
         ensures err { OnErr result (self.new ≡ self.old) }
         ensures memory { IfErr result (λ stop. stop ≡ Stop.NoMemory) }
     {
@@ -412,6 +462,7 @@ impl World {
 
     fn remove_snapshot(&mut self, client: ClientId, ino: Ino, name: &[u8]) -> Result<Reply, Stop>
         ensures direct { IfOk result (λ reply. IsDirect self.old (event.RemoveSnapshot client ino name.now) reply self.new) }
+        ensures seen { OnOk result (Shows (view_of self.old) (view_of self.new)) }
         ensures err { OnErr result (self.new ≡ self.old) }
         ensures memory { IfErr result (λ stop. stop ≡ Stop.NoMemory) }
     {
@@ -430,6 +481,13 @@ impl World {
         ensures { result.now ≡ self.now.scene.tree }
     {
         &self.tree
+    }
+
+    // The sessions.
+    pub(crate) fn sessions(&self) -> &Sessions
+        ensures { result.now ≡ self.now.scene.sessions }
+    {
+        &self.sessions
     }
 
     // A client's session.

@@ -1,5 +1,5 @@
 -- What a script that is served leaves, and what is written of it.
-use Rattle.std.specs.Prelude.{◌≡◌, ℕ, List, [], ◌++◌, Result, Ok, Err, length, codes}
+use Rattle.std.specs.Prelude.{◌≡◌, ◌≤◌, ℕ, List, [], ◌++◌, Result, Ok, Err, length, codes}
 use Rattle.std.specs.List.{flat_map}
 use Rattle.inotree.specs.Calls.{first_tree}
 use Rattle.capcore.specs.declared.history.Row.{Row}
@@ -36,14 +36,19 @@ pub record IsServed (script : List (List ℕ)) (text : List ℕ) : Type 0 where
   pub history : IsHistory work rows last
   pub text_is : text ≡ audit_lines rows
 
--- Why a script is not served: its first line that has a fault; or memory was missing; or all lines were taken, and the history was full.
+-- how many rows the history takes at most
+abbrev pub most_rows : ℕ
+most_rows = 4294967295
+
+-- Why a script is not served: its first line that has a fault; or memory was missing; or all lines were taken, and the history was full:
+-- then they say at least as many events as it has rows.
 abbrev pub IsUnserved : List (List ℕ) → ServeFault → Type 0
 IsUnserved script (Script (stops.LineFault line kind)) = StopsAt no_work 1 script (Script (stops.LineFault line kind))
 IsUnserved script (Script stops.NoMemory) = Unit {0}
 IsUnserved script (Script stops.ReadFault) = ⊥
 IsUnserved script (Script stops.WriteFault) = ⊥
 IsUnserved script (Clients line) = StopsAt no_work 1 script (Clients line)
-IsUnserved script HistoryFull = (work : Work) × TakesAll no_work script work
+IsUnserved script HistoryFull = (work : Work) × TakesAll no_work script work × (most_rows ≤ event_count work)
 
 -- What was written of a script, by how serving it ended: all that there is to write, a beginning of it where a write failed, or nothing.
 abbrev pub IsWritten : {T : Type 0} → List (List ℕ) → Result T ServeFault → List ℕ → Type 0

@@ -1,29 +1,36 @@
 //! The calls of a plan, each client's by a thread and a pass of its own.
-ghost use Rattle.std.specs.Prelude.{◌≡◌, ◌+◌, length, vec_len, IfOk, IsTrue};
+ghost use Rattle.std.specs.Prelude.{◌≡◌, ◌≤◌, ◌+◌, length, vec_len, IfOk, IsTrue};
 ghost use Rattle.std.specs.List.{sum_by};
 ghost use Rattle.capserver.specs.Passes.{AllNew};
 ghost use Rattle.capjobs.specs.Jobs.{work_of, event_count};
 
 use crate::plan::{Job, Plan};
-use capcore::{Event, Stop};
+use capcore::Event;
 use capserver::{CapServer, Gate, Pass, Server};
 use std::alloc::{AllocError, Global};
 use std::sync::Wait;
 use std::thread::{Promise, PromisedHandle, Scope, Threads, scope, scope_env};
 
-// Calls all events of a plan: the first ones by the first pass, then each client's in a thread of its own. The passes come back with as
-// many calls as there are events. Else it says why a call was not answered, of those with a fault the one of the lowest pass.
+// The passes when all calls were made, and whether each event was answered.
+pub(crate) struct Called<L: Server> {
+    pub passes: Vec<Pass<L>>,
+    pub answered: bool,
+}
+
+// Calls all events of a plan: the first ones by the first pass, then each client's in a thread of its own. All passes come back, with as
+// many calls as there are events, or with fewer where one was not answered. At an error memory was missing for that, or a thread.
 pub(crate) fn call_all<L: Server + Send + Sync, G: Gate + Send + Sync, T: Threads + Wait + Sync>(
     rt: &T,
     alloc: Global,
     server: &CapServer<G, L>,
     passes: Vec<Pass<L>>,
     plan: Plan,
-) -> Result<Vec<Pass<L>>, Stop>
+) -> Result<Called<L>, AllocError>
     requires many { vec_len passes ≡ vec_len plan.jobs + 1 }
     requires new { AllNew 0 passes.items }
-    ensures many { IfOk result (λ passes_back. vec_len passes_back ≡ vec_len passes) }
-    ensures calls { IfOk result (λ passes_back. sum_by (λ p. p.calls) passes_back.items ≡ event_count (work_of plan)) }
+    ensures many { IfOk result (λ called. vec_len called.passes ≡ vec_len passes) }
+    ensures most { IfOk result (λ called. sum_by (λ p. p.calls) called.passes.items ≤ event_count (work_of plan)) }
+    ensures all { IfOk result (λ called. IsTrue called.answered → sum_by (λ p. p.calls) called.passes.items ≡ event_count (work_of plan)) }
 {
     let Plan {
         first,
@@ -32,11 +39,18 @@ pub(crate) fn call_all<L: Server + Send + Sync, G: Gate + Send + Sync, T: Thread
     } = plan;
     let mut passes = passes;
     let first_pass = passes.remove(0);
-    let first_pass = call_events(rt, server, first_pass, first)?;
+    let Back { pass, answered } = call_events(rt, server, first_pass, first);
+    if !answered {
+        passes.push(pass)?;
+        return Ok(Called { passes, answered });
+    }
     let tasks = tasks_of(alloc, passes, jobs)?;
-    let mut passes = call_tasks(rt, alloc, server, tasks)?;
-    passes.push(first_pass)?;
-    Ok(passes)
+    let Called {
+        mut passes,
+        answered,
+    } = call_tasks(rt, alloc, server, tasks)?;
+    passes.push(pass)?;
+    Ok(Called { passes, answered })
 }
 
 // What a thread is to call, by a pass that has called nothing yet.
@@ -79,35 +93,47 @@ fn tasks_of<L: Server>(
     Ok(tasks)
 }
 
-// Calls the events one after the other, up to the first that is not answered. The pass comes back where all were.
+// A pass that comes back, and whether all its events were answered.
+#[derive(Drop)]
+struct Back<L: Server> {
+    pass: Pass<L>,
+    answered: bool,
+}
+
+// Calls the events one after the other, up to the first that is not answered.
 fn call_events<L: Server, G: Gate, T: Wait>(
     rt: &T,
     server: &CapServer<G, L>,
     pass: Pass<L>,
     events: Vec<Event>,
-) -> Result<Pass<L>, Stop>
-    ensures { IfOk result (λ back. back.calls ≡ pass.calls + length events.items) }
+) -> Back<L>
+    ensures most { result.pass.calls ≤ pass.calls + length events.items }
+    ensures all { IsTrue result.answered → result.pass.calls ≡ pass.calls + length events.items }
 {
     let mut pass = pass;
     for event in events {
-        server.call(rt, &mut pass, event)?;
+        let Ok(_answer) = server.call(rt, &mut pass, event) else {
+            let answered = false;
+            return Back { pass, answered };
+        };
     }
-    Ok(pass)
+    let answered = true;
+    Back { pass, answered }
 }
 
-// What a thread promises: that its pass comes back with so many calls.
+// What a thread promises: that its pass comes back with so many calls, or fewer where one was not answered.
 #[derive(Drop)]
 struct CallsBack(usize);
 
-impl<L: Server> Promise<Result<Pass<L>, Stop>> for CallsBack {
-    ghost use Rattle.std.specs.Prelude.{◌≡◌, IfOk};
+impl<L: Server> Promise<Back<L>> for CallsBack {
+    ghost use Rattle.std.specs.Prelude.{◌≡◌, ◌≤◌, IsTrue};
 
-    ghost kept_by = { λ promise ended. IfOk ended (λ pass. pass.calls ≡ promise.0) };
+    ghost kept_by = { λ promise back. (back.pass.calls ≤ promise.0) × (IsTrue back.answered → back.pass.calls ≡ promise.0) };
 }
 
 // Threads that were started, that of the lowest pass first, and whether all were.
 struct Started<L: Server> {
-    threads: Vec<PromisedHandle<Result<Pass<L>, Stop>, CallsBack>>,
+    threads: Vec<PromisedHandle<Back<L>, CallsBack>>,
     all: bool,
 }
 
@@ -117,9 +143,10 @@ fn call_tasks<L: Server + Send + Sync, G: Gate + Send + Sync, T: Threads + Wait 
     alloc: Global,
     server: &CapServer<G, L>,
     tasks: Vec<Task<L>>,
-) -> Result<Vec<Pass<L>>, Stop>
-    ensures many { IfOk result (λ passes. vec_len passes ≡ vec_len tasks) }
-    ensures calls { IfOk result (λ passes. sum_by (λ p. p.calls) passes.items ≡ sum_by (λ t. length t.events.items) tasks.items) }
+) -> Result<Called<L>, AllocError>
+    ensures many { IfOk result (λ called. vec_len called.passes ≡ vec_len tasks) }
+    ensures most { IfOk result (λ called. sum_by (λ p. p.calls) called.passes.items ≤ sum_by (λ t. length t.events.items) tasks.items) }
+    ensures all { IfOk result (λ called. IsTrue called.answered → sum_by (λ p. p.calls) called.passes.items ≡ sum_by (λ t. length t.events.items) tasks.items) }
 {
     scope(scope_env(), rt, |scope| {
         let started = start_all(scope, rt, alloc, server, tasks);
@@ -159,19 +186,30 @@ fn start_all<'s, E, L: Server + Send + Sync, G: Gate + Send + Sync, T: Threads +
     Started { threads, all: true }
 }
 
-// Waits for the threads, and takes their passes back.
+// Waits for the threads, and takes their passes back, where each task had a thread.
 fn join_all<L: Server, T: Threads>(
     rt: &T,
     alloc: Global,
     started: Started<L>,
-) -> Result<Vec<Pass<L>>, Stop>
-    ensures many { IfOk result (λ passes. IsTrue started.all × (vec_len passes ≡ vec_len started.threads)) }
-    ensures calls { IfOk result (λ passes. sum_by (λ p. p.calls) passes.items ≡ sum_by (λ h. h.promise.0) started.threads.items) }
+) -> Result<Called<L>, AllocError>
+    ensures many { IfOk result (λ called. IsTrue started.all × (vec_len called.passes ≡ vec_len started.threads)) }
+    ensures most { IfOk result (λ called. sum_by (λ p. p.calls) called.passes.items ≤ sum_by (λ h. h.promise.0) started.threads.items) }
+    ensures all { IfOk result (λ called. IsTrue called.answered → sum_by (λ p. p.calls) called.passes.items ≡ sum_by (λ h. h.promise.0) started.threads.items) }
 {
     let Started { threads, all } = started;
     let mut passes = Vec::new(alloc);
+    let mut answered = true;
     for thread in threads {
-        passes.push(thread.join(rt)?)?;
+        let Back {
+            pass,
+            answered: all_answered,
+        } = thread.join(rt);
+        passes.push(pass)?;
+        answered &= all_answered;
     }
-    if all { Ok(passes) } else { Err(Stop::NoMemory) }
+    if all {
+        Ok(Called { passes, answered })
+    } else {
+        Err(AllocError)
+    }
 }

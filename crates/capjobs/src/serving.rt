@@ -2,26 +2,31 @@
 ghost use Rattle.std.specs.Prelude.{◌≡◌, ◌≢◌, ◌<◌, ◌≤◌, ◌+◌, ◌⊎◌, ◌↔◌, ℕ, List, Err, length, vec_len, IfOk, IfErr, IfSome, OnErr, IsTrue, IsFalse};
 ghost use Rattle.std.specs.Io.KnownBytes.{Appends, Keeps};
 ghost use Rattle.capcore.specs.History.{IsLegal};
+ghost use Rattle.capcore.specs.declared.history.Stop.TheVariants as stop_kind;
+ghost use Rattle.capserver.specs.Opened.{opened};
 ghost use Rattle.capscript.specs.Lines.{lines, longest_script};
 ghost use Rattle.capscript.specs.declared.fault.ScriptFault.TheVariants as stops;
 ghost use Rattle.capscript.specs.Watched.{inner_of, has_failed, has_ended};
 ghost use Rattle.capjobs.specs.declared.fault.ServeFault.TheVariants as faults;
 ghost use Rattle.capjobs.specs.Jobs.{work_of, event_count};
-ghost use Rattle.capjobs.specs.Served.{IsHistory, IsServed, IsUnserved, IsWritten};
+ghost use Rattle.capjobs.specs.Served.{IsHistory, IsServed, IsUnserved, IsWritten, most_rows};
 
 use crate::audit::audit_lines;
-use crate::calling::call_all;
+use crate::calling::{Called, call_all};
 use crate::fault::ServeFault;
 use crate::plan::{Plan, read_plan};
 use capcore::{Core, Stop};
 use capscript::{Watched, file_system, read_script, write_text};
-use capserver::{CapServer, Gate, NoGate, Opening, Server};
+use capserver::{CapServer, Closed, Gate, NoGate, Opening, Server};
 use std::alloc::Global;
 use std::io::{Read, Write};
 use std::marker::Brand;
 use std::sync::Wait;
 use std::sync::ledger::Blank;
 use std::thread::Threads;
+
+// How many rows the history of a script takes at most.
+const MAX_ROWS: u32 = u32::MAX;
 
 /// Reads a whole script, serves it on a root alone, and writes the line of each row of the history, in order. Where a line has a fault
 /// nothing is called, and where an event is not answered nothing is written.
@@ -107,10 +112,11 @@ pub fn serve_plan<T: Threads + Wait + Sync, G: Gate + Send + Sync>(
 ) -> Result<Core, ServeFault>
     requires few { vec_len plan.jobs ≤ 31 }
     ensures served { IfOk result (λ core. IsHistory (work_of plan) core.rows core.state) }
-    ensures err { OnErr result ((result ≡ Err (faults.Script stops.NoMemory)) ⊎ (result ≡ Err faults.HistoryFull)) }
+    ensures err { OnErr result ((result ≡ Err (faults.Script stops.NoMemory))
+        ⊎ ((result ≡ Err faults.HistoryFull) × (most_rows ≤ event_count (work_of plan)))) }
 {
     let (fs, tree) = file_system(alloc)?;
-    let opening = Opening::new(alloc, fs, tree, u32::MAX)?;
+    let opening = Opening::new(alloc, fs, tree, MAX_ROWS)?;
     // One pass more than there are clients.
     let count = plan.jobs.len() as u32 + 1;
     let core = served::<Brand, G, T>(rt, alloc, opening, Blank::new(32), count, gate, plan)?;
@@ -126,23 +132,42 @@ fn served<L: Server + Send + Sync, G: Gate + Send + Sync, T: Threads + Wait + Sy
     gate: G,
     plan: Plan,
 ) -> Result<Core, Stop>
-    requires opening { opening ≡ L.opening }
+    requires opening { opening ≡ opened L.opening L.max_rows L.history }
     requires name { blank.name ≡ L.name }
     requires parts { (blank.parts ≡ L.parts) × (L.parts ≡ 32) }
     requires passes { count ≡ L.passes }
     requires many { count ≡ vec_len plan.jobs + 1 }
     ensures legal { IfOk result (λ core. IsLegal L.opening core.rows core.state) }
     ensures counted { IfOk result (λ core. length core.rows ≡ event_count (work_of plan)) }
+    ensures full { IfErr result (λ stop. stop ≡ stop_kind.Full → most_rows ≤ event_count (work_of plan)) }
 {
     let Ok((server, passes)) = CapServer::<G, L>::start(rt, opening, blank, count, gate) else {
         return Err(Stop::NoMemory);
     };
     match call_all(rt, alloc, &server, passes, plan) {
-        Ok(passes) => Ok(server.close(rt, passes).core),
-        Err(stop) => {
+        Ok(Called { passes, answered }) => {
+            let Closed { core } = server.close(rt, passes);
+            if answered {
+                Ok(core)
+            } else {
+                Err(why_stopped(core))
+            }
+        }
+        Err(_) => {
             let closed = server.close(rt, Vec::new(alloc));
             drop(closed);
-            Err(stop)
+            Err(Stop::NoMemory)
         }
+    }
+}
+
+// Why not all events were answered: the history has as many rows as it may have, or memory was missing.
+fn why_stopped(core: Core) -> Stop
+    ensures { result ≡ stop_kind.Full → most_rows ≤ length core.rows }
+{
+    if core.history().len() >= MAX_ROWS as usize {
+        Stop::Full
+    } else {
+        Stop::NoMemory
     }
 }

@@ -1,9 +1,22 @@
 -- What stands under the lock.
-use Rattle.std.specs.Prelude.{◌≡◌, ℕ, length}
+use Rattle.std.specs.Prelude.{◌≡◌, ◌≤◌, ℕ, false, length}
+use mathlib.Core.List.{IsPrefix}
 use Rattle.capcore.specs.State.{State}
 use Rattle.capcore.specs.History.{Told, Replays}
+use Rattle.capview.specs.Sight.{Shows}
+use Rattle.capcore.specs.Noted.{view_of}
+use Rattle.published.specs.Publishing.{Publishing}
 
--- the history leads from the opening state to that of the core, and as many calls were counted as it has rows
-pub record IsHeld (opening : State) (core : Told) (calls : ℕ) : Type 0 where
+-- the history leads from the opening state to that of the core, and takes as many rows as the opening said
+pub record IsLed (opening : State) (max_rows : ℕ) (core : Told) : Type 0 where
   pub replays : Replays opening core.rows core.state
+  pub max_rows_is : core.max_rows ≡ max_rows
+
+-- As many calls were counted as the history has rows. The rows that are in the book begin it. Unless a stage was lost, they are the
+-- whole history, and what readers are to see next shows the state of the core.
+pub record IsHeld (core : Told) (calls : ℕ) (next : Publishing) : Type 0 where
   pub counted : calls ≡ length core.rows
+  pub room : core.max_rows ≤ 4294967295
+  pub begins : IsPrefix next.rows core.rows
+  pub whole : next.lost ≡ false → next.rows ≡ core.rows
+  pub shows : next.lost ≡ false → Shows next.view (view_of core.state)

@@ -3,7 +3,7 @@
 use capcore::Reply;
 use std::sync::Wait;
 
-/// Where a call pauses, behind its event and while it still holds the lock. A test waits here for another thread.
+/// Where a call pauses while it holds the lock, behind its event and before it publishes. A test waits here for another thread.
 pub trait Gate: Drop {
     /// Returns when the call may go on.
     fn pause<R: Wait>(&self, rt: &R);
@@ -22,4 +22,6 @@ impl Gate for NoGate {
 pub struct Answer {
     /// What the core answered to the event.
     pub reply: Reply,
+    /// Whether the event is published. Then the pass knows its row.
+    pub fresh: bool,
 }

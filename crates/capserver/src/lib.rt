@@ -1,16 +1,17 @@
-//! One core for many threads: each calls through a pass of its own, and the events are made one after the other under a lock.
+//! One core for many threads: each calls through a pass of its own, and the events are made one after the other under a lock. What
+//! is published of them answers questions on policy beside the lock.
 #![tactic(auto)]
 
 mod gate;
-mod ledger;
 mod locked;
 mod opening;
 mod pass;
 mod server;
 
+pub use capview::{Question, Unknown};
 pub use gate::{Answer, Gate, NoGate};
-pub use ledger::Server;
 pub use locked::Locked;
 pub use opening::Opening;
 pub use pass::Pass;
+pub use published::Server;
 pub use server::{CapServer, Closed, MAX_PASSES, StartFault};

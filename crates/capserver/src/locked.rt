@@ -1,37 +1,41 @@
 //! What stands under the lock.
-ghost use Rattle.std.specs.Prelude.{◌≡◌, ◌+◌, ◌↔◌, [], Err, length, IsTrue, IfOk, OnOk, OnErr};
-ghost use Rattle.capcore.specs.State.{State};
-ghost use Rattle.capcore.specs.Direct.{direct};
-ghost use Rattle.capcore.specs.History.{InItsRow, IsNext, IsLegal, Replays};
-ghost use Rattle.capcore.specs.Headline.{DeniedExactly, DeniesByName, ServedDenied, ServedByName, EachServing, ByMoves, AreBounded};
-ghost use Rattle.capcore.specs.Headline.{IssuesExactly, AreInPlace, NoneConflict, is_stop};
-ghost use Rattle.capcore.specs.Sound.{IsSound};
-ghost use Rattle.lockmachine.specs.Moves.{IsAtRest};
+ghost use Rattle.std.specs.Prelude.{◌≡◌, ◌≤◌, ◌+◌, ◌↔◌, [], false, Err, Some, length, IsTrue, IfOk, IfSome, OnOk, OnErr};
+ghost use mathlib.Core.List.{IsPrefix};
+ghost use Rattle.capcore.specs.History.{IsNext, IsLegal};
+ghost use Rattle.capcore.specs.Promised.{IsPromised};
 ghost use Rattle.capcore.specs.declared.history.Stop.TheVariants as stop_kind;
+ghost use Rattle.capcore.specs.Noted.{view_of};
+ghost use Rattle.published.specs.Rows.{Legal};
+ghost use Rattle.capserver.specs.Fresh.{IsFresh};
+ghost use Rattle.capserver.specs.Held.{IsLed};
 ghost use Rattle.capserver.specs.Passes.{pass_id};
 
 use crate::gate::{Answer, Gate};
-use crate::ledger::Server;
 use crate::pass::Pass;
 use capcore::{Core, Event, Reply, Stop};
+use published::{Beginning, Publisher, Recorder, Server};
 use std::marker::Model;
+use std::mem::replace;
 use std::sync::Wait;
 use std::sync::ledger::{Book, Share};
 
-/// The core, with the book that counts the calls of all passes. To contracts it is the core. It keeps that the history leads from the
-/// server's opening state to the present one, and that the book has counted as many calls as the history has rows.
+/// The core, with the book that counts the calls of all passes and who publishes. To contracts it is the core. It keeps that the
+/// history leads from the server's opening state to the present one and takes as many rows as the opening said, that the book has
+/// counted as many calls as it has rows, and that what is published next is all of that history and a view of that state.
 pub struct Locked<L: Server> {
     core: Core,
     calls: Book<L>,
     // The parts of the ledger that no pass has.
     rest: Share<L>,
+    // Who publishes. It is out only while it does.
+    publisher: Option<Publisher<L>>,
 }
 
 impl<L: Server> Model for Locked<L> {
-    ghost use Rattle.std.specs.Prelude.{◌≡◌, ◌+◌};
+    ghost use Rattle.std.specs.Prelude.{◌≡◌, ◌+◌, MatchOption};
     ghost use Rattle.capcore.specs.History.{Told};
     ghost use Rattle.capcore.specs.Codes.{told_code};
-    ghost use Rattle.capserver.specs.Held.{IsHeld};
+    ghost use Rattle.capserver.specs.Held.{IsHeld, IsLed};
 
     ghost Value = { Told };
 
@@ -39,48 +43,60 @@ impl<L: Server> Model for Locked<L> {
 
     ghost view = { λ s. s.core };
 
-    ghost invariant = { λ s. (s.rest.parts + L.passes ≡ L.parts) × (s.rest.amount ≡ 0) × IsHeld L.opening s.core s.calls.total };
+    ghost invariant = { λ s. (s.rest.parts + L.passes ≡ L.parts) × (s.rest.amount ≡ 0) × IsLed L.opening L.max_rows s.core × MatchOption s.publisher ⊥ (IsHeld s.core s.calls.total) };
 }
 
 impl<L: Server> Locked<L> {
     // What stands under a new lock.
-    pub(crate) fn new(core: Core, calls: Book<L>, rest: Share<L>) -> Locked<L>
+    pub(crate) fn new(
+        core: Core,
+        calls: Book<L>,
+        rest: Share<L>,
+        publisher: Publisher<L>,
+    ) -> Locked<L>
         requires opening { core.state ≡ L.opening }
         requires rows { core.rows ≡ [] }
+        requires max_rows { core.max_rows ≡ L.max_rows }
+        requires room { core.max_rows ≤ 4294967295 }
         requires calls { calls.total ≡ 0 }
         requires rest { (rest.parts + L.passes ≡ L.parts) × (rest.amount ≡ 0) }
+        requires publisher { publisher ≡ record { rows = []; lost = false; view = view_of L.opening } }
     {
-        Locked { core, calls, rest }
+        Locked {
+            core,
+            calls,
+            rest,
+            publisher: Some(publisher),
+        }
     }
 
-    /// Makes an event, called by a pass, and counts the call. It promises what the core promises of an event, by the pass's number.
+    /// Makes an event, called by a pass, and counts the call. What it changed is published next. It promises what the core promises of
+    /// an event, by the pass's number.
     pub fn step(&mut self, pass: &mut Pass<L>, event: Event) -> Result<Reply, Stop>
-        ensures next { IfOk result (λ answer. IsNext self.old (pass_id pass.old) event answer self.new) }
-        ensures denied { IfOk result (λ answer. DeniedExactly self.old.state.scene event answer) }
-        ensures named { IfOk result (λ answer. DeniesByName self.old.state.scene event answer) }
-        ensures served_denied { IfOk result (λ answer. InItsRow self.old.rows self.new.rows
-            (λ ended. ByMoves (EachServing ServedDenied) self.old.state event answer ended self.new.state)) }
-        ensures served_named { IfOk result (λ answer. InItsRow self.old.rows self.new.rows
-            (λ ended. ByMoves (EachServing ServedByName) self.old.state event answer ended self.new.state)) }
-        ensures bounded { IfOk result (λ answer. InItsRow self.old.rows self.new.rows
-            (λ ended. ByMoves AreBounded self.old.state event answer ended self.new.state)) }
-        ensures issued { OnOk result (IssuesExactly (direct self.old.state event).state.scene self.new.state.scene) }
-        ensures in_place { OnOk result (AreInPlace self.new.state.scene) }
-        ensures apart { OnOk result (NoneConflict self.new.state.scene) }
-        ensures sound { OnOk result (IsSound self.new.state) }
-        ensures at_rest { OnOk result (IsAtRest self.new.state.scene) }
-        ensures unchanged { IfOk result (λ answer. IsTrue (is_stop answer) → self.new.state ≡ self.old.state) }
+        ensures promised { IfOk result (λ answer. IsPromised self.old (pass_id pass.old) event answer self.new) }
         ensures full { (result ≡ Err stop_kind.Full) ↔ (length self.old.rows ≡ self.old.max_rows) }
+        ensures led { IsLed L.opening L.max_rows self.old }
         // The call is counted where it was answered. Where it wasn't, nothing has changed.
         ensures calls { OnOk result (pass.new ≡ record pass.old { calls = pass.old.calls + 1 }) }
         ensures err { OnErr result ((self.new ≡ self.old) × (pass.new ≡ pass.old)) }
     {
-        let reply = self.core.apply(pass.number(), event)?;
-        pass.count(&mut self.calls);
+        let Locked {
+            core,
+            calls,
+            rest: _,
+            publisher,
+        } = self;
+        let Some(publisher) = publisher.as_mut() else {
+            unreachable!()
+        };
+        let reply = core.apply(pass.number(), event)?;
+        pass.count(calls);
+        publisher.follow(core.history(), core.last_changes());
         Ok(reply)
     }
 
-    // Makes an event, and pauses behind it.
+    // Makes an event and publishes it, with a pause between. First the pass comes to know what was published before: so where it knows
+    // this event too, it knows more than it did.
     pub(crate) fn answer<R: Wait, G: Gate>(
         &mut self,
         rt: &R,
@@ -88,24 +104,73 @@ impl<L: Server> Locked<L> {
         pass: &mut Pass<L>,
         event: Event,
     ) -> Result<Answer, Stop>
-        ensures calls { OnOk result (pass.new ≡ record pass.old { calls = pass.old.calls + 1 }) }
+        ensures next { IfOk result (λ answer. IsNext self.old (pass_id pass.old) event answer.reply self.new) }
+        ensures full { (result ≡ Err stop_kind.Full) ↔ (length self.old.rows ≡ self.old.max_rows) }
+        ensures led { IsLed L.opening L.max_rows self.old }
+        ensures calls { OnOk result (pass.new ≡ record pass.old { calls = pass.old.calls + 1; known = pass.new.known }) }
+        ensures known { IsPrefix pass.old.known pass.new.known }
+        ensures legal { OnOk result (Legal L.opening pass.new.known) }
+        ensures fresh { IfOk result (λ answer. IsTrue answer.fresh → IsFresh pass.old pass.new event answer.reply) }
         ensures stop { OnErr result (pass.new ≡ pass.old) }
     {
         let reply = self.step(pass, event)?;
+        pass.look();
         gate.pause(rt);
-        Ok(Answer { reply })
+        let Some(rows) = self.publish(rt) else {
+            let fresh = false;
+            return Ok(Answer { reply, fresh });
+        };
+        let fresh = pass.catch_up(&rows);
+        Ok(Answer { reply, fresh })
     }
 
-    // Hands out what stood under the lock.
-    pub(crate) fn end(self) -> (Core, Book<L>, Share<L>)
+    // Publishes the whole history, and gives its rows. At None memory was refused, and it is published the next time.
+    fn publish<R: Wait>(&mut self, rt: &R) -> Option<Beginning<L>>
+        ensures same { self.new ≡ self.old }
+        ensures all { IfSome result (λ rows. rows ≡ self.old.rows) }
+    {
+        let Some(mut publisher) = self.publisher.take() else {
+            unreachable!()
+        };
+        publisher.mend(self.core.history(), self.core.tree(), self.core.sessions());
+        let (publisher, rows) = publisher.publish(rt);
+        put_back(rt, &mut self.publisher, publisher);
+        rows
+    }
+
+    // Ends who publishes, and hands out the rest of what stood under the lock, with who added rows to the book.
+    pub(crate) fn end<R: Wait>(self, rt: &R) -> (Core, Book<L>, Share<L>, Recorder<L>)
         ensures core { result.0 ≡ self }
         ensures legal { IsLegal L.opening self.rows self.state }
+        ensures max_rows { self.max_rows ≡ L.max_rows }
         ensures calls { result.1.total ≡ length self.rows }
         ensures rest { (result.2.parts + L.passes ≡ L.parts) × (result.2.amount ≡ 0) }
+        ensures rows { IsPrefix result.3 self.rows }
     {
-        let Locked { core, calls, rest } = self;
+        let Locked {
+            core,
+            calls,
+            rest,
+            publisher,
+        } = self;
+        let Some(publisher) = publisher else {
+            unreachable!()
+        };
+        let recorder = publisher.end(rt);
         // What the history is told to be, it is.
         let _rows = core.history();
-        (core, calls, rest)
+        (core, calls, rest, recorder)
+    }
+}
+
+// Puts who publishes into its empty place. It is not `Drop`, so what stood there is ended.
+fn put_back<L: Server, R: Wait>(rt: &R, place: &mut Option<Publisher<L>>, publisher: Publisher<L>)
+    ensures { place.new ≡ Some publisher }
+{
+    match replace(place, Some(publisher)) {
+        None => {}
+        Some(other) => {
+            other.end(rt);
+        }
     }
 }

@@ -1,17 +1,28 @@
 //! One server for many threads.
-ghost use Rattle.std.specs.Prelude.{◌≡◌, ◌≤◌, ◌<◌, ◌+◌, Err, length, IfOk, IfErr, OnOk, OnErr, vec_len};
+ghost use Rattle.std.specs.Prelude.{◌≡◌, ◌≢◌, ◌⊎◌, ◌≤◌, ◌<◌, ◌+◌, [], Err, length, IsTrue, IfOk, IfErr, OnOk, OnErr, vec_len};
 ghost use Rattle.std.specs.List.{sum_by};
+ghost use mathlib.Core.List.{IsPrefix};
 ghost use Rattle.capcore.specs.History.{IsLegal};
+ghost use Rattle.capcore.specs.declared.history.Stop.TheVariants as stop_kind;
+ghost use Rattle.capview.specs.declared.answer.Unknown.TheVariants as unknown;
+ghost use Rattle.published.specs.Answers.{IsAnswered};
+ghost use Rattle.published.specs.Rows.{Legal};
 ghost use Rattle.capserver.specs.declared.server.StartFault.TheVariants as faults;
-ghost use Rattle.capserver.specs.Passes.{AllNew, IsStartFault};
+ghost use Rattle.capserver.specs.Called.{IsStep, IsFull};
+ghost use Rattle.capserver.specs.Fresh.{IsFresh};
+ghost use Rattle.capserver.specs.Opened.{opened};
+ghost use Rattle.capserver.specs.Passes.{AllNew, AllBegin, IsStartFault, pass_id};
 
 use crate::gate::{Answer, Gate};
-use crate::ledger::Server;
 use crate::locked::Locked;
-use crate::opening::Opening;
+use crate::opening::{Opening, Parts};
 use crate::pass::Pass;
 use capbits::PassId;
 use capcore::{Core, Event, Stop};
+use capgrant::Verdict;
+use capspec::FsName;
+use capview::{Question, Unknown};
+use published::{Publisher, Recorder, Server};
 use std::alloc::Global;
 use std::marker::Model;
 use std::sync::ledger::{Blank, Share};
@@ -30,6 +41,9 @@ pub enum StartFault {
     /// No memory was left.
     #[error("no memory")]
     NoMemory,
+    /// No memory was left for the place from which a pass reads.
+    #[error("no reader")]
+    NoReader,
 }
 
 /// A core that many threads call, each through a pass of its own. To contracts it is the number of its passes.
@@ -37,6 +51,8 @@ pub struct CapServer<G: Gate, L: Server> {
     locked: Mutex<Locked<L>>,
     gate: G,
     count: u32,
+    // The name of the file system, which never changes: questions need no lock for it.
+    fs: FsName,
 }
 
 impl<G: Gate, L: Server> Model for CapServer<G, L> {
@@ -46,7 +62,7 @@ impl<G: Gate, L: Server> Model for CapServer<G, L> {
 
     ghost view = { λ s. s.count };
 
-    ghost invariant = { λ s. s.count ≡ L.passes };
+    ghost invariant = { λ s. (s.count ≡ L.passes) × (s.fs ≡ L.opening.scene.fs) };
 }
 
 /// What a server leaves.
@@ -60,13 +76,13 @@ impl<G: Gate, L: Server> CapServer<G, L> {
     /// A server that begins with this opening, and its passes, numbered from 1 on. The caller picks what L stands for: the ledger of the
     /// blank, with all its 32 parts, the opening, and the number of passes.
     pub fn start<R: Wait>(
-        _rt: &R,
+        rt: &R,
         opening: Opening,
         blank: Blank,
         count: u32,
         gate: G,
     ) -> Result<(CapServer<G, L>, Vec<Pass<L>>), StartFault>
-        requires opening { opening ≡ L.opening }
+        requires opening { opening ≡ opened L.opening L.max_rows L.history }
         requires name { blank.name ≡ L.name }
         requires parts { (blank.parts ≡ L.parts) × (L.parts ≡ 32) }
         requires passes { count ≡ L.passes }
@@ -77,23 +93,46 @@ impl<G: Gate, L: Server> CapServer<G, L> {
         if count == 0 || count > MAX_PASSES {
             return Err(StartFault::BadCount);
         }
-        let (core, alloc) = opening.into_parts();
-        let (calls, mut rest) = blank.open::<L>();
-        let passes = make_passes(alloc, &mut rest, count)?;
-        let locked = Mutex::new(Locked::new(core, calls, rest));
-        let server = CapServer {
-            locked,
-            gate,
-            count,
+        let Parts {
+            core,
+            fs,
+            rows,
+            alloc,
+        } = opening.into_parts();
+        let Ok(publisher) = Publisher::<L>::new(alloc, rows, core.tree(), core.sessions()) else {
+            return Err(StartFault::NoMemory);
         };
-        Ok((server, passes))
+        let (calls, mut rest) = blank.open::<L>();
+        match make_passes(alloc, &publisher, &mut rest, count) {
+            Ok(passes) => {
+                let locked = Mutex::new(Locked::new(core, calls, rest, publisher));
+                let server = CapServer {
+                    locked,
+                    gate,
+                    count,
+                    fs,
+                };
+                Ok((server, passes))
+            }
+            Err(fault) => {
+                publisher.end(rt);
+                Err(fault)
+            }
+        }
     }
 
-    /// Makes an event when its turn comes: it waits for the lock, and pauses at the gate before it lets it go. What happens under the lock
-    /// is `Locked::step`.
+    /// Makes an event when its turn comes: it waits for the lock, pauses at the gate and publishes the event before it lets the lock go.
+    /// What happens under the lock is `Locked::step`. Where the answer is fresh, the pass knows a row of its own for it.
     pub fn call<R: Wait>(&self, rt: &R, pass: &mut Pass<L>, event: Event) -> Result<Answer, Stop>
-        ensures calls { OnOk result (pass.new ≡ record pass.old { calls = pass.old.calls + 1 }) }
+        ensures calls { OnOk result (pass.new ≡ record pass.old { calls = pass.old.calls + 1; known = pass.new.known }) }
+        ensures known { IsPrefix pass.old.known pass.new.known }
+        ensures legal { OnOk result (Legal L.opening pass.new.known) }
+        ensures fresh { IfOk result (λ answer. IsTrue answer.fresh → IsFresh pass.old pass.new event answer.reply) }
         ensures stop { OnErr result (pass.new ≡ pass.old) }
+        // The reply is that of a step by this pass with this event, from some state that the opening leads to.
+        ensures answered { IfOk result (λ answer. IsStep L.opening L.max_rows (pass_id pass.old) event answer.reply) }
+        // Full comes of a history that is full, and of no other.
+        ensures full { result ≡ Err stop_kind.Full → IsFull L.opening L.max_rows }
     {
         let mut guard = self.locked.lock(rt);
         let answer = guard.answer(rt, &self.gate, pass, event);
@@ -101,44 +140,74 @@ impl<G: Gate, L: Server> CapServer<G, L> {
         answer
     }
 
-    /// Ends the server and hands out the core, whose history is legal from the opening on. Where all passes are handed in, it has
-    /// as many rows as their calls together.
-    pub fn close<R: Wait>(self, _rt: &R, passes: Vec<Pass<L>>) -> Closed
+    /// Answers a question on policy by what is published. It takes no lock and no memory, and waits for nobody. The pass knows
+    /// afterwards by which rows it was answered, its own fresh calls among them.
+    pub fn explain(&self, pass: &mut Pass<L>, question: &Question) -> Result<Verdict, Unknown>
+        ensures same { pass.new ≡ record pass.old { known = pass.new.known } }
+        ensures known { IsPrefix pass.old.known pass.new.known }
+        ensures legal { Legal L.opening pass.new.known }
+        ensures answer { result ≢ Err unknown.NoView → IsAnswered L.opening pass.new.known question.now result }
+        ensures no_view { result ≡ Err unknown.NoView → pass.new ≡ pass.old }
+    {
+        pass.explain(&self.fs, question)
+    }
+
+    /// Ends the server and hands out the core, whose history is legal from the opening on, takes as many rows as the opening said, and
+    /// begins with what each pass knows. Where all passes are handed in, it has as many rows as their calls together.
+    pub fn close<R: Wait>(self, rt: &R, passes: Vec<Pass<L>>) -> Closed
         ensures legal { IsLegal L.opening result.core.rows result.core.state }
+        ensures max_rows { result.core.max_rows ≡ L.max_rows }
+        ensures known { AllBegin result.core.rows passes.items }
         ensures rows { vec_len passes ≡ self → length result.core.rows ≡ sum_by (λ p. p.calls) passes.items }
     {
         let CapServer {
             locked,
             gate: _,
             count: _,
+            fs: _,
         } = self;
-        let (core, mut calls, mut rest) = locked.into_inner().end();
+        let (core, mut calls, mut rest, mut recorder) = locked.into_inner().end(rt);
+        audit_all(&mut recorder, passes.as_slice());
         merge_all(&mut rest, passes);
         calls.audit(&mut rest);
         Closed { core }
     }
 }
 
-// A pass for each number from 1 to `count`, each with one part of the ledger.
+// A pass for each number from 1 to `count`, each with one part of the ledger and a place of its own to read from.
 fn make_passes<L: Server>(
     alloc: Global,
+    publisher: &Publisher<L>,
     rest: &mut Share<L>,
     count: u32,
 ) -> Result<Vec<Pass<L>>, StartFault>
-    requires { (count ≤ rest.old.parts) × (rest.old.amount ≡ 0) }
+    requires share { (count ≤ rest.old.parts) × (rest.old.amount ≡ 0) }
+    requires publisher { publisher.now.rows ≡ [] }
     ensures parts { OnOk result ((rest.new.parts + count ≡ rest.old.parts) × (rest.new.amount ≡ 0)) }
     ensures all { IfOk result (λ v. AllNew 0 v.items × (vec_len v ≡ count)) }
-    ensures err { OnErr result (result ≡ Err faults.NoMemory) }
+    ensures err { OnErr result ((result ≡ Err faults.NoMemory) ⊎ (result ≡ Err faults.NoReader)) }
 {
     let mut passes = Vec::new(alloc);
     for at in 0..count {
         if passes.reserve(1).is_err() {
             return Err(StartFault::NoMemory);
         }
+        let Ok(witness) = publisher.witness() else {
+            return Err(StartFault::NoReader);
+        };
         let share = rest.split_off(1, 0);
-        passes.push_reserved(Pass::new(PassId(at + 1), share));
+        passes.push_reserved(Pass::new(PassId(at + 1), share, witness));
     }
     Ok(passes)
+}
+
+// What each pass knows begins the rows of the book.
+fn audit_all<L: Server>(recorder: &mut Recorder<L>, passes: &[Pass<L>])
+    ensures { AllBegin recorder.old passes.now }
+{
+    for pass in passes {
+        pass.audit(recorder);
+    }
 }
 
 // Gives the parts of the passes back to what is left of the ledger, with their calls.

@@ -30,8 +30,10 @@ const WORKS: &str = "WORK is one of
   alter-T            change the mode of one of T inodes that are open
   rename-T           move a directory with a hundred open files to and fro, beside T inodes that are open
   carry-T            move a directory with T open files to and fro
+  explain-N-T        have N threads ask questions on T inodes each, while another thread changes modes
+  locked-N-T         the same, with a lock for each question and each change
   retry              have clients share a file, wait for one and lose what they hold, and ask again for all that finds no memory
-with G of 1, 4 or 16, D of 1, 8 or 32, and T of 100, 1000, 10000 or 60000";
+with G of 1, 4 or 16, D of 1, 8 or 32, N of 1, 2 or 4, and T of 100, 1000, 10000 or 60000";
 
 const WRONG_WORK: &str = "there is no such WORK: --help lists them";
 

@@ -4,6 +4,7 @@ ghost use Rattle.capwork.specs.Status.{status_of};
 
 use crate::command_line::{Task, parse};
 use crate::core_work::{CoreWork, on_a_core};
+use crate::explaining::explain;
 use crate::fault::Fault;
 use crate::judging::{judge, read};
 use crate::tally::Tally;
@@ -11,6 +12,8 @@ use crate::work::Work;
 use clap::error::ErrorKind;
 use std::alloc::Global;
 use std::io::Write;
+use std::sync::Wait;
+use std::thread::Threads;
 
 /// The work was done, or the help was shown.
 pub const DONE: u8 = 0;
@@ -22,7 +25,8 @@ pub const FAILED: u8 = 1;
 pub const USAGE: u8 = 2;
 
 /// Does what the words ask for, of which the first is the program's own name, and returns the status.
-pub fn dispatch(
+pub fn dispatch<T: Threads + Wait + Sync>(
+    rt: &T,
     alloc: Global,
     words: &[String],
     writer: &mut impl Write,
@@ -34,7 +38,7 @@ pub fn dispatch(
         Ok(task) => task,
         Err(error) => return show(&error, writer, faults),
     };
-    match run(alloc, task, writer) {
+    match run(rt, alloc, task, writer) {
         Ok(()) => DONE,
         Err(fault) => report(fault, faults),
     }
@@ -42,12 +46,17 @@ pub fn dispatch(
 
 // Does the work and writes the sum over its answers, as a line, and one more where something was asked for again, or was served
 // without memory.
-fn run(alloc: Global, task: Task, writer: &mut impl Write) -> Result<(), Fault> {
+fn run<T: Threads + Wait + Sync>(
+    rt: &T,
+    alloc: Global,
+    task: Task,
+    writer: &mut impl Write,
+) -> Result<(), Fault> {
     let Tally {
         sum,
         stops,
         starved,
-    } = tally_of(alloc, task)?;
+    } = tally_of(rt, alloc, task)?;
     writeln!(writer, "sum {sum}").map_err(|_| Fault::WriteFailed)?;
     if stops > 0 {
         writeln!(writer, "stops {stops}").map_err(|_| Fault::WriteFailed)?;
@@ -59,7 +68,7 @@ fn run(alloc: Global, task: Task, writer: &mut impl Write) -> Result<(), Fault> 
 }
 
 // What a task comes to.
-fn tally_of(alloc: Global, task: Task) -> Result<Tally, Fault> {
+fn tally_of<T: Threads + Wait + Sync>(rt: &T, alloc: Global, task: Task) -> Result<Tally, Fault> {
     match task.work {
         Work::Verdict(shape) => Ok(Tally::of(judge(alloc, shape, task.times)?)),
         Work::Parse(shape) => Ok(Tally::of(read(alloc, shape, task.times)?)),
@@ -74,6 +83,7 @@ fn tally_of(alloc: Global, task: Task) -> Result<Tally, Fault> {
         Work::Alter(size) => on_a_core(alloc, CoreWork::Alter(size), task.times),
         Work::Rename(size) => on_a_core(alloc, CoreWork::Rename(size), task.times),
         Work::Carry(size) => on_a_core(alloc, CoreWork::Carry(size), task.times),
+        Work::Explain(shape) => Ok(Tally::of(explain(rt, alloc, shape, task.times)?)),
         Work::Retry => on_a_core(alloc, CoreWork::Retry, task.times),
     }
 }

@@ -2,18 +2,13 @@
 
 use crate::entries::{open, poll, reopen, revoke, share_inodes, want_to_write};
 use crate::fault::Fault;
-use crate::inodes::{USER, create, look_up, mode};
+use crate::inodes::{create, look_up, root_tree};
 use crate::moving::{alter, carry, rename};
 use crate::retry::retry;
 use crate::tally::Tally;
 use crate::work::{Size, TreeShape};
 use capcore::Core;
-use capgrant::Attr;
-use capspec::FsName;
-use inotree::Tree;
 use std::alloc::Global;
-
-const FS: &[u8] = b"cephfs";
 
 // What is done with a core.
 #[derive(Clone, Copy)]
@@ -71,14 +66,6 @@ fn work_on(alloc: Global, core: &mut Core, work: CoreWork, times: u32) -> Result
 
 // A core on a tree that has its root alone.
 fn fresh(alloc: Global) -> Result<Core, Fault> {
-    let fs = FsName::read(FS).ok_or(Fault::Refused)?;
-    let attr = Attr {
-        uid: USER,
-        gid: USER,
-        mode: mode()?,
-    };
-    let Ok(tree) = Tree::new(alloc, attr) else {
-        return Err(Fault::NoMemory);
-    };
+    let (fs, tree) = root_tree(alloc)?;
     Ok(Core::new(alloc, fs, tree, u32::MAX)?)
 }

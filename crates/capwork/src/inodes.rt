@@ -1,13 +1,15 @@
 //! The work on inodes: events of one client, which may do all, on the tree of a core.
-ghost use Rattle.std.specs.Prelude.{◌↔◌, ◌+◌, ◌<◌, ◌≤◌, IsTrue};
+ghost use Rattle.std.specs.Prelude.{◌↔◌, ◌+◌, ◌<◌, ◌≤◌, IfOk, IsTrue};
+ghost use Rattle.capcore.specs.History.{HasNoStray};
 
 use crate::asked::{Answer, read_reply};
 use crate::fault::Fault;
 use crate::work::{Layout, TreeShape};
 use capbits::{Caller, ClientId, Groups, Ino, Mode, PassId};
 use capcore::{Core, Event, Stop};
-use capspec::{Grants, read_grants};
-use inotree::{MAX_INODES, ROOT};
+use capgrant::Attr;
+use capspec::{FsName, Grants, read_grants};
+use inotree::{MAX_INODES, ROOT, Tree};
 use lockmachine::Bytes;
 use std::alloc::Global;
 
@@ -18,6 +20,8 @@ const PASS: PassId = PassId(1);
 pub(crate) const USER: u32 = 1000;
 
 const MODE: u16 = 0o755;
+
+const FS: &[u8] = b"cephfs";
 
 /// How many directories a chain has.
 const CHAIN: u64 = 16;
@@ -150,6 +154,20 @@ fn directory_for(shape: TreeShape, turn: u32) -> Ino {
     }
 }
 
+/// A file system of a name, and a tree that has its root alone.
+pub(crate) fn root_tree(alloc: Global) -> Result<(FsName, Tree), Fault>
+    ensures { IfOk result (λ r. HasNoStray r.1) }
+{
+    let fs = FsName::read(FS).ok_or(Fault::Refused)?;
+    let attr = Attr {
+        uid: USER,
+        gid: USER,
+        mode: mode()?,
+    };
+    let tree = Tree::new(alloc, attr)?;
+    Ok((fs, tree))
+}
+
 // The number of the inode that was made at this place, the root's being the first number.
 pub(crate) fn inode_at(place: u64) -> Ino
     requires { place ≤ 60000 }
@@ -245,7 +263,7 @@ pub(crate) fn build(alloc: Global, core: &mut Core, shape: TreeShape) -> Result<
 }
 
 // The event that makes the inode at this place.
-fn birth(alloc: Global, layout: Layout, place: u64) -> Result<Event, Fault>
+pub(crate) fn birth(alloc: Global, layout: Layout, place: u64) -> Result<Event, Fault>
     requires { place ≤ 60000 }
 {
     let dir = directory_of(layout, place);

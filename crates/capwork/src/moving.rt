@@ -108,7 +108,8 @@ fn move_of(alloc: Global, ino: Ino, dir: Ino) -> Result<Event, Fault> {
     })
 }
 
-fn mode_change(ino: Ino, mode: Mode) -> Event {
+// The event by which the client changes a mode.
+pub(crate) fn mode_change(ino: Ino, mode: Mode) -> Event {
     Event::Alter {
         client: CLIENT,
         ino,
@@ -117,7 +118,7 @@ fn mode_change(ino: Ino, mode: Mode) -> Event {
 }
 
 // One of two modes in turn.
-fn mode_at(turn: u32) -> Result<Mode, Fault> {
+pub(crate) fn mode_at(turn: u32) -> Result<Mode, Fault> {
     if turn % 2 == 0 {
         mode_of(OTHER_MODE)
     } else {

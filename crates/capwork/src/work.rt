@@ -29,8 +29,41 @@ pub enum Work {
     Rename(Size),
     /// Have a core move a directory with so many open files to and fro.
     Carry(Size),
+    /// Have threads ask questions on policy, while another thread calls events.
+    Explain(AskShape),
     /// Have clients share files and lose what they hold, and ask a core again for what it finds no memory for.
     Retry,
+}
+
+/// How questions on policy are asked.
+#[derive(Clone, Copy, Debug, PartialEq, Eq)]
+pub struct AskShape {
+    /// How many threads ask.
+    pub readers: Readers,
+    /// How many inodes the tree has beside its root, in chains.
+    pub size: Size,
+    /// Whether they wait for the thread that calls.
+    pub way: Way,
+}
+
+/// How many threads ask.
+#[derive(Clone, Copy, Debug, PartialEq, Eq)]
+pub enum Readers {
+    /// One alone.
+    One,
+    /// Two.
+    Two,
+    /// Four.
+    Four,
+}
+
+/// How threads ask beside one that calls events.
+#[derive(Clone, Copy, Debug, PartialEq, Eq)]
+pub enum Way {
+    /// They ask the server, which takes no lock for a question.
+    Beside,
+    /// They take a lock for each question, as the thread does that calls for each event.
+    Locked,
 }
 
 /// What a grant text is like.
@@ -99,6 +132,8 @@ impl Work {
             }
             "lookup" => Some(Work::Lookup(TreeShape::read(shape)?)),
             "create" => Some(Work::Create(TreeShape::read(shape)?)),
+            "explain" => Some(Work::Explain(AskShape::read(shape, Way::Beside)?)),
+            "locked" => Some(Work::Explain(AskShape::read(shape, Way::Locked)?)),
             _ => Work::of_size(kind, Size::read(shape)?),
         }
     }
@@ -116,6 +151,42 @@ impl Work {
             "rename" => Some(Work::Rename(size)),
             "carry" => Some(Work::Carry(size)),
             _ => None,
+        }
+    }
+}
+
+impl AskShape {
+    // The shape with this number of threads and inodes, as `4-1000`.
+    fn read(text: &str, way: Way) -> Option<AskShape> {
+        let (readers, size) = text.split_once('-')?;
+        Some(AskShape {
+            readers: Readers::read(readers)?,
+            size: Size::read(size)?,
+            way,
+        })
+    }
+}
+
+impl Readers {
+    ghost use Rattle.std.specs.Prelude.{◌≤◌};
+
+    fn read(text: &str) -> Option<Readers> {
+        match text {
+            "1" => Some(Readers::One),
+            "2" => Some(Readers::Two),
+            "4" => Some(Readers::Four),
+            _ => None,
+        }
+    }
+
+    /// The number of threads.
+    pub fn number(self) -> u32
+        ensures { result ≤ 4 }
+    {
+        match self {
+            Readers::One => 1,
+            Readers::Two => 2,
+            Readers::Four => 4,
         }
     }
 }

@@ -1,13 +1,13 @@
 -- What lies below an inode: a walk down is a climb back up, and a child is what stands under its name.
-use Rattle.std.proofs.Common.{◌≡◌, ℕ, zero, suc, ◌+◌, ◌-◌, ◌<◌, ◌≤◌, true, ◌&&◌, ◌↔◌, List, [], ◌∷◌, ◌++◌, length, Some, inl, inr, refl, sym, ap, subst, ◌∙◌, length-append, arith}
+use Rattle.std.proofs.Common.{◌≡◌, ℕ, zero, suc, ◌+◌, ◌-◌, ◌<◌, ◌≤◌, true, false, ◌&&◌, ◌↔◌, List, [], ◌∷◌, ◌++◌, length, Some, inl, inr, refl, sym, ap, subst, ◌∙◌, length-append, arith}
 use Rattle.std.specs.Cmp.{nat_cmp_total}
 use Rattle.std.proofs.lemmas.Bool.{cases_lt}
 use Rattle.std.specs.FinMap as map
 use Rattle.std.specs.Option.{option_map}
 use Rattle.inotree.specs.declared.node.Node.{Node}
 use Rattle.inotree.specs.Inodes.{InodeMap}
-use Rattle.inotree.specs.Tree.{Nodes, IsTree, IsUnder, Climbs, is_at, is_in, child, depth, reaches}
-use Rattle.inotree.proofs.Found.{both_true, and_true, any_some, found, any_found}
+use Rattle.inotree.specs.Tree.{Nodes, IsTree, IsUnder, IsChildless, Climbs, is_at, is_in, child, depth, reaches}
+use Rattle.numbered.proofs.Found.{both_true, and_true, any_some, found, any_found}
 use Rattle.inotree.proofs.Leading.{child-is}
 use Rattle.inotree.proofs.Named.{first_some, node_of, at_under, in_under}
 use Rattle.inotree.proofs.Shape.{climb_on}
@@ -35,6 +35,18 @@ module _ (m : InodeMap) where
       let same : length rest.1 ≡ n = rest.3 in
       let long : length (rest.1 ++ s.0 ∷ []) ≡ suc n = omega (arith, length-append rest.1 (s.0 ∷ [])) in
       (rest.0, rest.1 ++ s.0 ∷ [], climb_on m rest.0 rest.1 at.0.0 (s.0 ∷ []) i rest.2 (i, u, refl), long)
+
+  -- nothing is reached below an inode in which none stands
+  no_step : (k below : ℕ) (up : List (List ℕ)) → IsChildless m k → Climbs m below up k → length up ≡ 1 → ⊥
+  no_step k below [] childless climb one = absurd (omega (arith, one))
+  no_step k below (a ∷ []) childless climb one = childless below a (subst (λ d. IsUnder m below d a) climb.2 climb.1)
+  no_step k below (a ∷ b ∷ up) childless climb one = absurd (omega (arith, one))
+
+  pub childless-reaches : (k : ℕ) → IsChildless m k → reaches 1 m k ≡ false
+  childless-reaches k childless = elim (reaches 1 m k) as (λ b. reaches 1 m k ≡ b → b ≡ false) [
+    | true ↦ λ e. let r = climb_back 1 k e in absurd (no_step k r.0 r.1 childless r.2 r.3)
+    | false ↦ λ e. refl
+  ] refl
 
   one_more : (n i d : ℕ) (a : List ℕ) → IsUnder m i d a → reaches n m i ≡ true → reaches (suc n) m d ≡ true
   unfolding reaches

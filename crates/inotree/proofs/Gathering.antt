@@ -9,7 +9,7 @@ use Rattle.inotree.specs.declared.index.Slot.{Slot}
 use Rattle.inotree.specs.Inodes.{InodeMap}
 use Rattle.inotree.specs.Index.{NameIndex, names_in, gathered}
 use Rattle.inotree.specs.Tree.{Nodes, IsTree, IsIndexed, IsUnder, Climbs, is_within}
-use Rattle.inotree.proofs.Found.{both_true, and_true, any_some, any-filter, found, any_found}
+use Rattle.numbered.proofs.Found.{both_true, and_true, any_some, any-filter, found, any_found}
 use Rattle.inotree.proofs.Growing.{last_step}
 use Rattle.inotree.proofs.Shape.{climb_on}
 use Rattle.inotree.proofs.Slots.{slot_total, slot_same}

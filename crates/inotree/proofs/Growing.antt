@@ -10,7 +10,7 @@ use Rattle.inotree.specs.Names.{is_bad_name}
 use Rattle.inotree.specs.Inodes.{InodeMap}
 use Rattle.inotree.specs.Index.{NameIndex}
 use Rattle.inotree.specs.Tree.{IsTree, IsIndexed, IsUnder, Climbs, AllHaveGoodNames, site_of, kind_of, place, place_at, is_directory, is_directory_kind, is_in, upward, names_up, lies_below, depth, reaches}
-use Rattle.inotree.proofs.Found.{and_true, any_found}
+use Rattle.numbered.proofs.Found.{and_true, any_found}
 use Rattle.numbered.proofs.Maps.{same_or_other, insert-here, insert-other, remove-here, remove-other}
 use Rattle.inotree.proofs.Named.{node_of}
 use Rattle.inotree.proofs.Shape.{same_ino, slot, one_dir, one_name}

@@ -5,16 +5,17 @@ use Rattle.std.specs.Cmp.{nat_cmp_total}
 use Rattle.std.specs.FinMap as map
 use Rattle.std.specs.FinSet as set
 use Rattle.std.specs.Option.{option_map_or}
+use Rattle.capgrant.specs.declared.access.Attr.{Attr}
 use Rattle.inotree.specs.declared.node.Node.{Node}
 use Rattle.inotree.specs.declared.node.Site.{Site}
 use Rattle.inotree.specs.declared.node.Setting.{Setting}
 use Rattle.inotree.specs.declared.node.Setting.TheVariants.{Mode, Uid, Gid, Size, Time}
 use Rattle.inotree.specs.Names.{name_cmp, is_bad_name, is_bad_attribute, is_dots, has_byte}
 use Rattle.inotree.specs.Node.{AttributeMap, NameSet}
-use Rattle.inotree.specs.Inodes.{InodeMap, with_setting, with_site, with_attribute, without_attribute, with_snapshot, without_snapshot}
+use Rattle.inotree.specs.Inodes.{InodeMap, with_setting, with_attr, with_site, with_attribute, without_attribute, with_snapshot, without_snapshot}
 use Rattle.inotree.specs.Tree.{Nodes, IsTree, HasGoodNames, AllHaveGoodNames}
 use Rattle.inotree.specs.Tests.{test_at}
-use Rattle.inotree.proofs.Found.{both_true}
+use Rattle.numbered.proofs.Found.{both_true}
 use Rattle.numbered.proofs.Maps.{same_or_other, apart, insert-here, insert-other, remove-here, remove-other}
 use Rattle.inotree.proofs.Order.{name_total, name_same}
 
@@ -30,6 +31,9 @@ good_none n p q = record {
 
 pub moved_good : (s : Site) (n : Node) → HasGoodNames n → HasGoodNames (with_site s n)
 moved_good s n h = record { attributes = h.attributes; snapshots = h.snapshots }
+
+pub attr_good : (attr : Attr) (n : Node) → HasGoodNames n → HasGoodNames (with_attr attr n)
+attr_good attr n h = record { attributes = h.attributes; snapshots = h.snapshots }
 
 pub setting_good : (s : Setting) (n : Node) → HasGoodNames n → HasGoodNames (with_setting s n)
 setting_good (Mode mode) n h = record { attributes = h.attributes; snapshots = h.snapshots }

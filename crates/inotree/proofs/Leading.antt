@@ -9,7 +9,7 @@ use Rattle.inotree.specs.declared.node.Node.{Node}
 use Rattle.inotree.specs.declared.node.Place.{Place}
 use Rattle.inotree.specs.declared.node.Place.TheVariants.{NoIno, Gone, Here}
 use Rattle.inotree.specs.Tree.{Nodes, IsTree, IsUnder, Climbs, place, path_at, path_of, names_up, is_at, child, follow}
-use Rattle.inotree.proofs.Found.{found, any_found}
+use Rattle.numbered.proofs.Found.{found, any_found}
 use Rattle.inotree.proofs.Growing.{climb-names}
 use Rattle.inotree.proofs.Named.{first_some, first_none, node_of, at_under, under_at}
 

@@ -1,8 +1,6 @@
 pub mod Below
 pub mod Changes
-pub mod Copies
 pub mod Elsewhere
-pub mod Found
 pub mod Gathering
 pub mod Growing
 pub mod Inner

@@ -13,7 +13,7 @@ use Rattle.inotree.specs.declared.node.Place.TheVariants.{NoIno, Here}
 use Rattle.inotree.specs.Inodes.{InodeMap}
 use Rattle.inotree.specs.Index.{NameIndex, index_reaches, AreInodes}
 use Rattle.inotree.specs.Tree.{IsTree, IsIndexed, IsUnder, site_of, place, place_at, is_at, is_in, child, first_where, reaches}
-use Rattle.inotree.proofs.Found.{both_true, and_true, same_bool, all_map, any_some, any-filter, found, any_found}
+use Rattle.numbered.proofs.Found.{both_true, and_true, same_bool, all_map, any_some, any-filter, found, any_found}
 use Rattle.numbered.proofs.Maps.{tied, tied_here}
 use Rattle.inotree.proofs.Order.{name_total, name_same}
 use Rattle.inotree.proofs.Slots.{slot_total, slot_same}

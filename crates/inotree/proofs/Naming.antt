@@ -9,7 +9,7 @@ use Rattle.inotree.specs.declared.node.Site.{Site}
 use Rattle.inotree.specs.declared.node.Site.TheVariants.{Root, Under, Stray}
 use Rattle.inotree.specs.Names.{is_dots, has_byte, is_bad_name}
 use Rattle.inotree.specs.Tree.{Nodes, IsTree, site_of, upward, names_up}
-use Rattle.inotree.proofs.Found.{and_true}
+use Rattle.numbered.proofs.Found.{and_true}
 
 abbrev pub IsName : List ℕ → Type 0
 IsName name = IsTrue (is_name name)

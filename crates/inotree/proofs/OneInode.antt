@@ -5,8 +5,8 @@ use Rattle.std.specs.FinMap as map
 use Rattle.std.specs.FinSet as set
 use Rattle.std.specs.Option.{option_map, option_map_or}
 use Rattle.capbits.specs.declared.refusal.Refusal.TheVariants as refusal
-use Rattle.capbits.specs.Refusal.{first_failing}
-use Rattle.capbits.proofs.Tests.{passed-if}
+use Rattle.capbits.specs.Refusal.{refused_if, first_failing}
+use Rattle.capbits.proofs.Tests.{passed-if, passed-both, pass-both}
 use Rattle.inotree.specs.declared.node.Node.{Node}
 use Rattle.inotree.specs.declared.node.Setting.{Setting}
 use Rattle.inotree.specs.declared.node.Site.TheVariants.{Root, Stray}
@@ -16,7 +16,8 @@ use Rattle.inotree.specs.Inodes.{InodeMap, with_site, with_setting, with_attribu
 use Rattle.inotree.specs.Tree.{Nodes, IsTree, IsChildless, HasGoodNames, site_of, place, place_at, path_of, is_directory, reaches}
 use Rattle.inotree.specs.Calls.{changed, unlinked}
 use Rattle.inotree.specs.Alike.{IsAlike}
-use Rattle.inotree.specs.Tests.{inode_tests, root_test, file_test, directory_test, empty_test, new_attribute_tests, is_root_site, test_at}
+use Rattle.inotree.specs.Tests.{inode_tests, root_test, file_test, directory_test, childless_test, empty_test, new_attribute_tests, unlink_tests, rmdir_tests, detach_tests, is_root_site, test_at}
+use Rattle.inotree.proofs.Below.{childless-reaches}
 use Rattle.inotree.proofs.Changes.{tree-changed, tree-unlinked, setting_kind, setting_site}
 use Rattle.inotree.proofs.Elsewhere.{path_of-kept, field-changed, alike-other}
 use Rattle.inotree.proofs.Inner.{setting_good, attribute_good, no_attribute_good}
@@ -71,11 +72,14 @@ pub childless-file : (tree : Nodes) (ino : ℕ) → IsTree tree → first_failin
 childless-file tree ino sound passed = childless_file tree.nodes tree.last ino sound (passed-if (is_directory tree.nodes ino) refusal.IsDir _ passed).0
 
 -- nor has an empty directory
-pub childless-empty : (tree : Nodes) (ino : ℕ) → first_failing (directory_test tree ino ∷ empty_test tree ino ∷ []) ≡ None → IsChildless tree.nodes ino
-childless-empty tree ino passed =
+shallow-empty : (tree : Nodes) (ino : ℕ) → first_failing (directory_test tree ino ∷ empty_test tree ino ∷ []) ≡ None → reaches 1 tree.nodes ino ≡ false
+shallow-empty tree ino passed =
     let dir = passed-if (not (is_directory tree.nodes ino)) refusal.NotDir _ passed in
     let empty = passed-if (reaches 1 tree.nodes ino || test_at (λ n. nat_lt 0 (set.len n.snapshots)) tree ino) refusal.NotEmpty _ dir.1 in
-    childless_empty tree.nodes ino (or_both (reaches 1 tree.nodes ino) _ empty.0).0
+    (or_both (reaches 1 tree.nodes ino) _ empty.0).0
+
+pub childless-empty : (tree : Nodes) (ino : ℕ) → first_failing (directory_test tree ino ∷ empty_test tree ino ∷ []) ≡ None → IsChildless tree.nodes ino
+childless-empty tree ino passed = childless_empty tree.nodes ino (shallow-empty tree ino passed)
 
 -- ---- what every tree keeps
 
@@ -111,6 +115,21 @@ sound-unlinked tree ino sound passed childless = sound-any tree (with_site Stray
 -- the tests of what leaves its place, as they are made: of the inode and the root first
 leaving : (tree : Nodes) (ino : ℕ) → first_failing (inode_tests tree ino ++ root_test tree ino ∷ []) ≡ None → first_failing (root_test tree ino ∷ []) ≡ None
 leaving tree ino passed = (here tree ino _ passed).1
+
+-- so what may be unlinked or removed may be detached
+detaching : (tree : Nodes) (ino : ℕ) → first_failing (inode_tests tree ino ++ root_test tree ino ∷ []) ≡ None → reaches 1 tree.nodes ino ≡ false → first_failing (detach_tests tree ino) ≡ None
+detaching tree ino front shallow =
+    pass-both (inode_tests tree ino ++ root_test tree ino ∷ []) (childless_test tree ino ∷ []) front (ap (λ b. first_failing (refused_if b refusal.NotEmpty ∷ [])) shallow)
+
+pub detach-unlink : (tree : Nodes) (ino : ℕ) → IsTree tree → first_failing (unlink_tests tree ino) ≡ None → first_failing (detach_tests tree ino) ≡ None
+detach-unlink tree ino sound passed =
+    let parts = passed-both (inode_tests tree ino ++ root_test tree ino ∷ []) (file_test tree ino ∷ []) passed in
+    detaching tree ino parts.0 (childless-reaches tree.nodes ino (childless-file tree ino sound parts.1))
+
+pub detach-rmdir : (tree : Nodes) (ino : ℕ) → first_failing (rmdir_tests tree ino) ≡ None → first_failing (detach_tests tree ino) ≡ None
+detach-rmdir tree ino passed =
+    let parts = passed-both (inode_tests tree ino ++ root_test tree ino ∷ []) (directory_test tree ino ∷ empty_test tree ino ∷ []) passed in
+    detaching tree ino parts.0 (shallow-empty tree ino parts.1)
 
 pub sound-unlink : (tree : Nodes) (ino : ℕ) → IsTree tree → first_failing (inode_tests tree ino ++ root_test tree ino ∷ []) ≡ None → first_failing (file_test tree ino ∷ []) ≡ None → IsTree (unlinked tree ino)
 sound-unlink tree ino sound passed file = sound-unlinked tree ino sound (leaving tree ino passed) (childless-file tree ino sound file)

@@ -1,5 +1,5 @@
 -- What the tests of a call that were passed say of the tree.
-use Rattle.std.proofs.Common.{◌≡◌, ℕ, ◌-◌, Bool, true, false, not, nat_le, nat_lt, ◌<◌, ◌≤◌, ◌||◌, ◌==◌, List, [], ◌∷◌, length, Option, Some, None, is_some, ◌⊎◌, inl, inr, refl, ◌∙◌, arith}
+use Rattle.std.proofs.Common.{◌≡◌, ℕ, ◌-◌, Bool, true, false, not, nat_le, ◌<◌, ◌≤◌, ◌||◌, ◌==◌, List, [], ◌∷◌, length, Option, Some, None, is_some, ◌⊎◌, inl, inr, refl, ◌∙◌, arith}
 use Rattle.std.specs.Prelude.{if◌then◌else◌}
 use Rattle.std.specs.Option.{option_map}
 use Rattle.std.proofs.lemmas.Bool.{cases_lt}
@@ -20,7 +20,7 @@ use Rattle.inotree.specs.Names.{is_bad_name, is_bad_attribute}
 use Rattle.inotree.specs.Inodes.{InodeMap}
 use Rattle.inotree.specs.Index.{NameIndex}
 use Rattle.inotree.specs.Tree.{Nodes, IsTree, IsIndexed, IsChildless, site_of, place, place_at, path_at, slot_at, is_directory, child, depth, reaches, is_within}
-use Rattle.inotree.specs.Tests.{is_no_ino, is_gone, is_root_site, test_at, create_tests, unlink_tests, rmdir_tests, rename_tests, set_xattr_tests, remove_xattr_tests, snap_add_tests, snap_remove_tests}
+use Rattle.inotree.specs.Tests.{is_no_ino, is_gone, is_root_site, test_at, create_tests, detach_tests, rename_tests, set_xattr_tests, remove_xattr_tests, snap_add_tests, snap_remove_tests}
 use Rattle.inotree.proofs.Growing.{reach_up}
 use Rattle.inotree.proofs.Inner.{long_name, no_long_attribute, no_long_snapshot}
 use Rattle.inotree.proofs.Named.{child-index}
@@ -133,17 +133,10 @@ leaves t i rest passed =
     let root = passed-if (is_root_site (site_of t.nodes i)) refusal.Root rest at.1 in
     (stands (site_of t.nodes i) at.0 root.0, root.1)
 
-pub passed-unlink : (t : Nodes) (i : ℕ) → first_failing (unlink_tests t i) ≡ None → ((slot : Slot) × (slot_at (site_of t.nodes i) ≡ Some slot)) × (is_directory t.nodes i ≡ false)
-passed-unlink t i passed =
+pub passed-detach : (t : Nodes) (i : ℕ) → first_failing (detach_tests t i) ≡ None → ((slot : Slot) × (slot_at (site_of t.nodes i) ≡ Some slot)) × (reaches 1 t.nodes i ≡ false)
+passed-detach t i passed =
     let p = leaves t i _ passed in
-    (p.0, (passed-if (is_directory t.nodes i) refusal.IsDir _ p.1).0)
-
-pub passed-rmdir : (t : Nodes) (i : ℕ) → first_failing (rmdir_tests t i) ≡ None → ((slot : Slot) × (slot_at (site_of t.nodes i) ≡ Some slot)) × (reaches 1 t.nodes i ≡ false)
-passed-rmdir t i passed =
-    let p = leaves t i _ passed in
-    let dir = passed-if (not (is_directory t.nodes i)) refusal.NotDir _ p.1 in
-    let empty = passed-if (reaches 1 t.nodes i || test_at (λ n. nat_lt 0 (set.len n.snapshots)) t i) refusal.NotEmpty _ dir.1 in
-    (p.0, (or_both (reaches 1 t.nodes i) _ empty.0).0)
+    (p.0, (passed-if (reaches 1 t.nodes i) refusal.NotEmpty _ p.1).0)
 
 pub passed-rename : (t : Nodes) (i d : ℕ) (a : List ℕ) → first_failing (rename_tests t i d a) ≡ None →
     ((slot : Slot) × (slot_at (site_of t.nodes i) ≡ Some slot)) × Placeable t.nodes d a × (is_within t.nodes d i ≡ false) × (reaches (32 - depth t.nodes d) t.nodes i ≡ false)

@@ -1,5 +1,5 @@
 -- What a walk down the index says step by step.
-use Rattle.std.proofs.Common.{◌≡◌, ℕ, ◌-◌, suc, zero, Bool, true, false, List, [], ◌∷◌, ◌++◌, ◌||◌, map, refl, sym, ap, ◌∙◌, subst, arith}
+use Rattle.std.proofs.Common.{◌≡◌, ℕ, ◌-◌, suc, zero, Bool, true, false, List, [], ◌∷◌, ◌++◌, ◌||◌, refl, sym, ap, ◌∙◌, subst, arith}
 use Rattle.std.specs.List.{list_any}
 use Rattle.inotree.specs.Index.{NameIndex, names_in, index_reaches}
 
@@ -11,10 +11,6 @@ pub reaches-step : (n : ℕ) (index : NameIndex) (dir : ℕ) → (n ≡ 0 → �
 unfolding index_reaches
 reaches-step zero index dir h = absurd (h refl)
 reaches-step (suc n) index dir h = let e : suc n - 1 ≡ n = omega arith in ap (λ k. list_any (λ e. index_reaches k index e.1) (names_in dir index)) (sym e)
-
-pub any-map : {A B : Type 0} (p : B → Bool) (f : A → B) (xs : List A) → list_any p (map f xs) ≡ list_any (λ x. p (f x)) xs
-any-map p f [] = refl
-any-map p f (x ∷ xs) = ap (λ b. p (f x) || b) (any-map p f xs)
 
 or_true : (b : Bool) → (b || true) ≡ true
 or_true true = refl

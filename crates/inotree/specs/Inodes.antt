@@ -5,6 +5,7 @@ use Rattle.std.specs.Ordering.{nat_cmp}
 use Rattle.std.specs.FinMap as map
 use Rattle.std.specs.FinMap.{FinMap}
 use Rattle.std.specs.FinSet as set
+use Rattle.capgrant.specs.declared.access.Attr.{Attr}
 use Rattle.inotree.specs.declared.node.Node.{Node}
 use Rattle.inotree.specs.declared.node.Site.{Site}
 use Rattle.inotree.specs.declared.node.Setting.{Setting}
@@ -26,6 +27,10 @@ with_setting (Uid uid) n = record n { attr = record n.attr { uid = uid } }
 with_setting (Gid gid) n = record n { attr = record n.attr { gid = gid } }
 with_setting (Size size) n = record n { size = size }
 with_setting (Time time) n = record n { time = time }
+
+-- the inode with this owner, group and mode
+abbrev pub with_attr : Attr → Node → Node
+with_attr attr n = record n { attr = attr }
 
 -- the inode at another place
 abbrev pub with_site : Site → Node → Node

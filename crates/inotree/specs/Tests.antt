@@ -61,6 +61,10 @@ file_test tree ino = refused_if (is_directory tree.nodes ino) refusal.IsDir
 abbrev pub test_at : (Node → Bool) → Nodes → ℕ → Bool
 test_at test tree ino = option_map_or test (map.get tree.nodes ino) false
 
+-- nothing stands in the inode
+abbrev pub childless_test : Nodes → ℕ → Test
+childless_test tree ino = refused_if (reaches 1 tree.nodes ino) refusal.NotEmpty
+
 -- the directory is empty
 abbrev pub empty_test : Nodes → ℕ → Test
 empty_test tree ino = refused_if (reaches 1 tree.nodes ino || test_at (λ n. nat_lt 0 (set.len n.snapshots)) tree ino) refusal.NotEmpty
@@ -141,6 +145,9 @@ unlink_tests tree ino = inode_tests tree ino ++ root_test tree ino ∷ file_test
 
 abbrev pub rmdir_tests : Nodes → ℕ → List Test
 rmdir_tests tree ino = inode_tests tree ino ++ root_test tree ino ∷ directory_test tree ino ∷ empty_test tree ino ∷ []
+
+abbrev pub detach_tests : Nodes → ℕ → List Test
+detach_tests tree ino = inode_tests tree ino ++ root_test tree ino ∷ childless_test tree ino ∷ []
 
 abbrev pub rename_tests : Nodes → ℕ → ℕ → List ℕ → List Test
 rename_tests tree ino dir name = inode_tests tree ino ++ root_test tree ino ∷ inode_tests tree dir ++ new_place_tests tree ino dir name

@@ -3,7 +3,7 @@ ghost use Rattle.std.specs.Prelude.{◌≡◌, [], IfOk, OnOk, OnErr};
 ghost use Rattle.std.specs.Option.{option_copied, option_map};
 ghost use Rattle.std.specs.FinMap as map;
 ghost use Rattle.capbits.specs.Maps.{change_at};
-ghost use Rattle.inotree.specs.Inodes.{with_setting, with_site, with_attribute, without_attribute, with_snapshot, without_snapshot};
+ghost use Rattle.inotree.specs.Inodes.{with_setting, with_attr, with_site, with_attribute, without_attribute, with_snapshot, without_snapshot};
 ghost use Rattle.inotree.specs.Tree.{site_of, slot_at, parent, is_within, names_up};
 
 use crate::attributes::Value;
@@ -12,6 +12,7 @@ use crate::name::Name;
 use crate::names::{MAX_NAMES, Names};
 use crate::node::{Node, Setting, Site};
 use capbits::Ino;
+use capgrant::Attr;
 use numbered::Numbered;
 use std::alloc::{AllocError, Global};
 use std::marker::Model;
@@ -157,6 +158,15 @@ impl Inodes {
     {
         if let Some(node) = self.nodes.get_mut(ino) {
             node.set(setting);
+        }
+    }
+
+    // Gives an inode another owner, group and mode, if there is one of this number.
+    pub(crate) fn settle(&mut self, ino: u64, attr: Attr)
+        ensures { self.new ≡ change_at (with_attr attr) self.old ino }
+    {
+        if let Some(node) = self.nodes.get_mut(ino) {
+            node.attr = attr;
         }
     }
 

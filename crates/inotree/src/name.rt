@@ -55,8 +55,8 @@ impl Name {
         }
     }
 
-    // The same name once more, which takes no memory.
-    pub(crate) fn copy(&self) -> Name
+    /// The same name once more, which takes no memory.
+    pub fn copy(&self) -> Name
         ensures { result ≡ self.now }
     {
         Name::of(self.bytes.as_slice())

@@ -3,11 +3,11 @@ ghost use Rattle.std.specs.Prelude.{◌≡◌, ℕ, ◌+◌, ◌≤◌, ◌&&◌
 ghost use Rattle.std.specs.Option.{option_copied, option_map};
 ghost use Rattle.std.specs.FinMap as map;
 ghost use Rattle.capspec.specs.Names.{is_name};
-ghost use Rattle.inotree.specs.Inodes.{with_setting, with_attribute, without_attribute, with_snapshot, without_snapshot};
+ghost use Rattle.inotree.specs.Inodes.{with_setting, with_attr, with_attribute, without_attribute, with_snapshot, without_snapshot};
 ghost use Rattle.capbits.specs.Refusal.{first_failing};
 ghost use Rattle.inotree.specs.Tree.{IsTree, place, parent, child, follow, path_of, is_directory, is_within, depth, reaches};
-ghost use Rattle.inotree.specs.Tests.{known_test, inode_tests, root_test, file_test, directory_test, empty_test, name_tests, new_inode_tests, new_place_tests, setting_tests, test_at, new_attribute_tests, old_attribute_tests, new_snapshot_tests, old_snapshot_tests};
-ghost use Rattle.inotree.specs.Tests.{create_tests, unlink_tests, rmdir_tests, rename_tests, set_tests, set_xattr_tests, remove_xattr_tests, snap_add_tests, snap_remove_tests};
+ghost use Rattle.inotree.specs.Tests.{known_test, inode_tests, root_test, file_test, directory_test, childless_test, empty_test, name_tests, new_inode_tests, new_place_tests, setting_tests, test_at, new_attribute_tests, old_attribute_tests, new_snapshot_tests, old_snapshot_tests};
+ghost use Rattle.inotree.specs.Tests.{create_tests, unlink_tests, rmdir_tests, detach_tests, rename_tests, set_tests, set_xattr_tests, remove_xattr_tests, snap_add_tests, snap_remove_tests};
 ghost use Rattle.inotree.specs.Calls.{first_tree, with_new, changed, unlinked, moved, forgotten};
 
 use crate::attributes::{Attributes, MAX_ATTRIBUTES, MAX_VALUE, Value};
@@ -275,6 +275,16 @@ impl Tree {
         }
     }
 
+    /// Why an inode can't be detached: something stands in it.
+    pub fn childless_refusal(&self, ino: Ino) -> Option<Refusal>
+        ensures { result ≡ first_failing (childless_test self.now ino.0 ∷ []) }
+    {
+        if self.reaches(ino, 1) {
+            return Some(Refusal::NotEmpty);
+        }
+        None
+    }
+
     /// Why an inode can't be removed as an empty directory.
     pub fn empty_refusal(&self, ino: Ino) -> Option<Refusal>
         ensures { result ≡ first_failing (directory_test self.now ino.0 ∷ empty_test self.now ino.0 ∷ []) }
@@ -482,11 +492,8 @@ impl Tree {
         requires passed { first_failing (unlink_tests self.old ino.0) ≡ None }
         ensures { self.new ≡ unlinked self.old ino.0 }
     {
-        let Some(slot) = self.inodes.slot_of(ino.0) else {
-            unreachable!()
-        };
-        self.names.remove(&slot);
-        self.inodes.set_site(ino.0, Site::Stray);
+        let _last = self.last;
+        self.detach(ino);
     }
 
     /// Removes an empty directory, which stays as a stray until it is forgotten.
@@ -494,10 +501,19 @@ impl Tree {
         requires passed { first_failing (rmdir_tests self.old ino.0) ≡ None }
         ensures { self.new ≡ unlinked self.old ino.0 }
     {
-        let Some(entry) = self.inodes.slot_of(ino.0) else {
+        self.detach(ino);
+    }
+
+    /// Makes a stray of an inode in which nothing stands, a file or a directory. Unlike `rmdir` it takes a directory that
+    /// has snapshots too: where a tree follows another one without its snapshots, it may have some that are gone there.
+    pub fn detach(&mut self, ino: Ino)
+        requires passed { first_failing (detach_tests self.old ino.0) ≡ None }
+        ensures { self.new ≡ unlinked self.old ino.0 }
+    {
+        let Some(slot) = self.inodes.slot_of(ino.0) else {
             unreachable!()
         };
-        self.names.remove(&entry);
+        self.names.remove(&slot);
         self.inodes.set_site(ino.0, Site::Stray);
     }
 
@@ -532,6 +548,14 @@ impl Tree {
         ensures { self.new ≡ changed (with_setting setting) self.old ino.0 }
     {
         self.inodes.set(ino.0, setting);
+    }
+
+    /// Gives an inode another owner, group and mode at once.
+    pub fn settle(&mut self, ino: Ino, attr: Attr)
+        requires passed { first_failing (inode_tests self.old ino.0) ≡ None }
+        ensures { self.new ≡ changed (with_attr attr) self.old ino.0 }
+    {
+        self.inodes.settle(ino.0, attr);
     }
 
     /// Gives an attribute of an inode a value, in place of the one that it may have.

@@ -1,5 +1,5 @@
 //! The sessions, by client.
-ghost use Rattle.std.specs.Prelude.{◌≡◌, IsTrue, OnOk, OnErr};
+ghost use Rattle.std.specs.Prelude.{◌≡◌, IsTrue, IfOk, OnOk, OnErr};
 ghost use Rattle.std.specs.Bool.{OnFalse};
 ghost use Rattle.std.specs.Option.{option_copied};
 ghost use Rattle.std.specs.FinMap as map;
@@ -12,11 +12,12 @@ use numbered::Numbered;
 use std::alloc::{AllocError, Global};
 use std::marker::Model;
 
-// The session of each client that is connected.
+/// The session of each client that is connected.
 #[derive(Debug, Drop)]
-pub(crate) struct Connected {
+pub struct Connected {
     // By the client's number.
     sessions: Numbered<Session>,
+    alloc: Global,
 }
 
 impl Model for Connected {
@@ -30,13 +31,30 @@ impl Model for Connected {
 }
 
 impl Connected {
-    // Nobody is connected.
-    pub(crate) fn new(alloc: Global) -> Connected
+    /// Nobody is connected.
+    pub fn new(alloc: Global) -> Connected
         ensures { result ≡ map.empty }
     {
         Connected {
             sessions: Numbered::new(alloc),
+            alloc,
         }
+    }
+
+    /// The same sessions once more.
+    pub fn copy(&self) -> Result<Connected, AllocError>
+        ensures { IfOk result (λ copy. copy ≡ self.now) }
+    {
+        let mut made = Numbered::new(self.alloc);
+        for client in self.sessions.keys() {
+            if let Some(session) = self.sessions.get(*client) {
+                made.insert(*client, session.copy()?)?;
+            }
+        }
+        Ok(Connected {
+            sessions: made,
+            alloc: self.alloc,
+        })
     }
 
     // How many clients are connected.
@@ -46,23 +64,23 @@ impl Connected {
         self.sessions.len()
     }
 
-    // The client's session, where it has one.
-    pub(crate) fn get(&self, client: ClientId) -> Option<&Session>
+    /// The client's session, where it has one.
+    pub fn get(&self, client: ClientId) -> Option<&Session>
         ensures { option_copied result ≡ map.get self.now client.0 }
     {
         self.sessions.get(u64::from(client.0))
     }
 
-    // Gives the client this session.
-    pub(crate) fn insert(&mut self, client: ClientId, session: Session) -> Result<(), AllocError>
+    /// Gives the client this session, in place of the one that it may have.
+    pub fn insert(&mut self, client: ClientId, session: Session) -> Result<(), AllocError>
         ensures ok { OnOk result (self.new ≡ map.insert self.old client.0 session) }
         ensures err { OnErr result (self.new ≡ self.old) }
     {
         self.sessions.insert(u64::from(client.0), session)
     }
 
-    // Ends the client's session, and answers whether it had one.
-    pub(crate) fn remove(&mut self, client: ClientId) -> bool
+    /// Ends the client's session, and answers whether it had one.
+    pub fn remove(&mut self, client: ClientId) -> bool
         ensures had { result ≡ map.contains_key self.old client.0 }
         ensures ended { self.new ≡ map.remove self.old client.0 }
         ensures kept { OnFalse result (self.new ≡ self.old) }
@@ -85,8 +103,8 @@ impl Connected {
         }
     }
 
-    // Gives the client's session these grants, where it has one.
-    pub(crate) fn set_grants(&mut self, client: ClientId, grants: Grants)
+    /// Gives the client's session these grants, where it has one.
+    pub fn set_grants(&mut self, client: ClientId, grants: Grants)
         ensures { self.new ≡ change_session (λ session. record session { grants = grants }) self.old client.0 }
     {
         if let Some(session) = self.sessions.get_mut(u64::from(client.0)) {

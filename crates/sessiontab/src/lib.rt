@@ -9,6 +9,7 @@ mod laws;
 mod session;
 mod table;
 
+pub use connected::Connected;
 pub use laws::a_new_session_leaves_the_others;
 pub use session::{NoSession, Session, Status};
 pub use table::{MAX_BLOCKED, MAX_SESSIONS, Sessions};

@@ -1,7 +1,10 @@
 //! The session of one client.
 
+ghost use Rattle.std.specs.Prelude.{◌≡◌, IfOk};
+
 use capbits::Caller;
 use capspec::Grants;
+use std::alloc::AllocError;
 
 /// Whether a client is still heard of.
 #[derive(Clone, Copy, Debug, PartialEq, Eq)]
@@ -25,4 +28,18 @@ pub struct Session {
     pub caller: Caller,
     /// What the client may do, and where.
     pub grants: Grants,
+}
+
+impl Session {
+    // The same session once more.
+    pub(crate) fn copy(&self) -> Result<Session, AllocError>
+        ensures { IfOk result (λ copy. copy ≡ self.now) }
+    {
+        let grants = self.grants.copy()?;
+        Ok(Session {
+            status: self.status,
+            caller: self.caller.copy(),
+            grants,
+        })
+    }
 }

@@ -218,6 +218,13 @@ impl Sessions {
         self.blocklist.remove(client);
     }
 
+    /// The sessions of the connected clients.
+    pub fn connected(&self) -> &Connected
+        ensures { result.now ≡ self.now.sessions }
+    {
+        &self.connected
+    }
+
     /// Whether the client's session is open or stale; none where it has no session.
     pub fn status(&self, client: ClientId) -> Option<Status>
         ensures status { result ≡ status_of self.now client.0 }

@@ -2,7 +2,7 @@
 
 use crate::asserting::same;
 use crate::looking::{Look, seen};
-use crate::steps::{Step, take_steps};
+use crate::steps::{Step, Told, take_steps, take_told};
 use crate::telling::answer_text;
 use capbits::{Caller, ClientId, Groups, Ino, Mode, PassId};
 use capcore::{Core, Event};
@@ -182,18 +182,33 @@ fn steps_on(
     Ok(())
 }
 
-// Plays the scripts, each by its pass, then takes the steps, and looks at the core in the end.
+// Takes the steps of which it is compared what they change for readers, a part after the other.
+fn tells_on(
+    rt: &impl Abort,
+    alloc: Global,
+    core: &mut Core,
+    parts: &[&[Told]],
+) -> Result<(), Fail> {
+    for part in parts {
+        take_told(rt, alloc, core, part)?;
+    }
+    Ok(())
+}
+
+// Plays the scripts, each by its pass, then takes the steps of both kinds, and looks at the core in the end.
 fn uses(
     rt: &(impl AllocGlobal + Abort),
     core: &mut Core,
     scripts: &[(u32, &[(Ask, &str)])],
     steps: &[&[Step]],
+    told: &[&[Told]],
     shown: &[(Look, &str)],
 ) -> Result<(), Fail> {
     for (pass, script) in scripts {
         plays(rt, rt.alloc(), core, *pass, script)?;
     }
     steps_on(rt, rt.alloc(), core, steps)?;
+    tells_on(rt, rt.alloc(), core, told)?;
     shows(rt, rt.alloc(), core, shown)
 }
 
@@ -204,10 +219,11 @@ fn owner(
     max_rows: u32,
     scripts: &[(u32, &[(Ask, &str)])],
     steps: &[&[Step]],
+    told: &[&[Told]],
     shown: &[(Look, &str)],
 ) -> Result<(), Fail> {
     let mut core = fresh(rt.alloc(), max_rows)?;
-    let used = uses(rt, &mut core, scripts, steps, shown);
+    let used = uses(rt, &mut core, scripts, steps, told, shown);
     drop(core);
     used
 }
@@ -220,12 +236,12 @@ pub fn works(
     scripts: &[(u32, &[(Ask, &str)])],
     shown: &[(Look, &str)],
 ) -> Result<(), Fail> {
-    owner(rt, max_rows, scripts, &[], shown)
+    owner(rt, max_rows, scripts, &[], &[], shown)
 }
 
 /// Takes the steps on a fresh core, a part after the other.
 pub fn goes(rt: &(impl AllocGlobal + Abort), steps: &[&[Step]]) -> Result<(), Fail> {
-    owner(rt, 100, &[], steps, &[])
+    owner(rt, 100, &[], steps, &[], &[])
 }
 
 /// Takes the steps on a fresh core, and compares what is seen in it after them.
@@ -234,5 +250,10 @@ pub fn leaves(
     steps: &[&[Step]],
     shown: &[(Look, &str)],
 ) -> Result<(), Fail> {
-    owner(rt, 100, &[], steps, shown)
+    owner(rt, 100, &[], steps, &[], shown)
+}
+
+/// Takes the steps on a fresh core, a part after the other, and compares what each of them changes for readers.
+pub fn tells(rt: &(impl AllocGlobal + Abort), steps: &[&[Told]]) -> Result<(), Fail> {
+    owner(rt, 100, &[], &[], steps, &[])
 }

@@ -39,6 +39,8 @@ mod telling;
 #[cfg(test)]
 mod texts;
 #[cfg(test)]
+mod viewing;
+#[cfg(test)]
 mod waiting;
 #[cfg(test)]
 mod waits;

@@ -2,6 +2,7 @@
 
 use crate::steps::lock_text;
 use crate::telling::{inode_text, row_text};
+use crate::viewing::changes_text;
 use capbits::{ClientId, Ino, Part};
 use capcore::Core;
 use capexplain::audit_line;
@@ -28,6 +29,8 @@ pub enum Look {
     Session(u32),
     /// What an inode is like.
     Inode(u64),
+    /// What the last step changed of what readers see.
+    Changes,
 }
 
 // Small readers, each with the text of what it reads: a match with a text made in each arm is dear to prove.
@@ -93,5 +96,6 @@ pub fn seen(alloc: Global, core: &Core, look: Look) -> Result<String, AllocError
         Look::Child(dir, name) => child(alloc, core, dir, name),
         Look::Session(client) => session(alloc, core, client),
         Look::Inode(number) => inode_text(alloc, core, number),
+        Look::Changes => changes_text(alloc, core),
     }
 }

@@ -1,6 +1,7 @@
 //! Steps of a server: each line of a script with its answer, and with what is seen in the core after it.
 
 use crate::asserting::same;
+use crate::viewing::changes_text;
 use capbits::{CapSet, ClientId, Ino, Part, PassId, write_caps};
 use capcore::{Core, Event};
 use capexplain::reply_lines;
@@ -14,6 +15,9 @@ use std::test::Fail;
 /// A line, the lines that are answered, and what is seen at inode 2 then: its file lock, and what the clients 1 and 2 hold
 /// of it with the number of the last change, and `due` where they are not told of it yet.
 pub type Step = (&'static str, &'static str, &'static str);
+
+/// A line, the lines that are answered, and what the step says that it changed of what readers see.
+pub type Told = (&'static str, &'static str, &'static str);
 
 fn state_text(alloc: Global, state: State) -> Result<String, AllocError> {
     match state {
@@ -102,6 +106,22 @@ pub fn take_steps(
         same(rt, text.as_str(), *wanted, *line);
         let text = seen_text(alloc, file_lock(core), [entry(core, 1), entry(core, 2)])?;
         same(rt, text.as_str(), *shown, *line);
+    }
+    Ok(())
+}
+
+/// Takes the steps one by one, and compares what is answered and what is said of changes.
+pub fn take_told(
+    rt: &impl Abort,
+    alloc: Global,
+    core: &mut Core,
+    steps: &[Told],
+) -> Result<(), Fail> {
+    for (line, wanted, changed) in steps {
+        let text = answer(alloc, core, line)?;
+        same(rt, text.as_str(), *wanted, *line);
+        let text = changes_text(alloc, core)?;
+        same(rt, text.as_str(), *changed, *line);
     }
     Ok(())
 }

@@ -29,6 +29,10 @@ fn greatest(groups: &Groups) -> Option<u32> {
     groups.iter().copied().max()
 }
 
+fn copy_of(caller: &Caller) -> Caller {
+    caller.copy()
+}
+
 fn has_gid(caller: &Caller, gid: u32) -> bool {
     caller.has_gid(gid)
 }
@@ -56,11 +60,13 @@ const GIDS: &[(u32, bool)] = &[
 ];
 
 #[test]
-fn a_caller_has_its_first_group_and_sixteen_more(rt: HostRuntime) {
+fn a_copy_of_a_caller_has_its_first_group_and_sixteen_more(rt: HostRuntime) {
     let groups = sixteen_groups(&rt);
     same(&rt, count(&groups), 16, "len");
     same(&rt, greatest(&groups), Some(115), "max");
-    let caller = caller_of(groups);
+    let source = caller_of(groups);
+    let caller = copy_of(&source);
+    same(&rt, caller.uid, 10, "uid");
     for row in GIDS {
         let (gid, wanted) = *row;
         same(&rt, has_gid(&caller, gid), wanted, ("has", gid));

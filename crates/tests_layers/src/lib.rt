@@ -50,3 +50,5 @@ mod tree_steps;
 mod tree_text;
 #[cfg(test)]
 mod triple_lists;
+#[cfg(test)]
+mod views;

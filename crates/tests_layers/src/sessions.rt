@@ -1,9 +1,9 @@
-//! Worked runs: clients that connect, go stale, leave, are thrown out, and come back.
+//! Worked runs: clients that connect, go stale, leave, are thrown out, and come back; and after each round, a copy of the sessions.
 
 use crate::asserting::same;
 use capbits::{Caller, ClientId, Groups, Refusal};
 use capspec::{Flags4, Grants, read_grants};
-use sessiontab::{MAX_BLOCKED, MAX_SESSIONS, NoSession, Sessions, Status};
+use sessiontab::{Connected, MAX_BLOCKED, MAX_SESSIONS, NoSession, Sessions, Status};
 use std::alloc::{AllocError, Global};
 use std::process::Abort;
 use std::test::Fail;
@@ -214,6 +214,28 @@ fn see(rt: &impl Abort, sessions: &Sessions, look: Look, at: At) {
     }
 }
 
+fn copied(connected: &Connected) -> Result<Connected, AllocError> {
+    connected.copy()
+}
+
+// Sees that a copy has the same clients, each with the same in each field of its session.
+fn same_in_a_copy(
+    rt: &impl Abort,
+    alloc: Global,
+    connected: &Connected,
+    at: At,
+) -> Result<(), AllocError> {
+    let copy = copied(connected)?;
+    let found = format!(in alloc; "{copy:?}")?;
+    let wanted = format!(in alloc; "{connected:?}")?;
+    same(rt, found.as_str(), wanted.as_str(), at);
+    Ok(())
+}
+
+fn connected(sessions: &Sessions) -> &Connected {
+    sessions.connected()
+}
+
 // ---- whole runs
 
 // Asks, and sees that the answer is the wanted one.
@@ -285,7 +307,7 @@ fn play(
     for (nth, look) in looks.iter().enumerate() {
         see(rt, sessions, *look, (title, number, nth));
     }
-    Ok(())
+    same_in_a_copy(rt, alloc, connected(sessions), (title, number, asks.len()))
 }
 
 fn play_all(

@@ -4,6 +4,7 @@ use crate::asserting::same;
 use crate::tree_steps::Ask::*;
 use crate::tree_steps::Look::*;
 use crate::tree_steps::{Case, Round, made, run_all, runs_on};
+use crate::tree_text::inodes_text;
 use capbits::Refusal;
 use inotree::{Kind, Place, Tree};
 use std::alloc::{AllocError, Global};
@@ -86,6 +87,46 @@ const A_SNAPSHOT: &[Round] = &[
     (&[(SnapAdd(1, b".."), Err(Refusal::NameBad))], &[]),
 ];
 
+const DETACHED: &[Round] = &[
+    (
+        &[
+            (Mkdir(1, b"d"), Ok(2)),
+            (Mkdir(2, b"e"), Ok(3)),
+            (Create(1, b"f"), Ok(4)),
+            (SnapAdd(3, b"s"), Ok(0)),
+            (Detach(1), Err(Refusal::Root)),
+            (Detach(2), Err(Refusal::NotEmpty)),
+            (Rmdir(3), Err(Refusal::NotEmpty)),
+            (Detach(3), Ok(0)),
+            (Detach(3), Err(Refusal::Gone)),
+            (Detach(4), Ok(0)),
+            (Detach(9), Err(Refusal::NoIno)),
+        ],
+        &[
+            At(3, Place::Gone),
+            At(4, Place::Gone),
+            Child(2, b"e", None),
+            Child(1, b"f", None),
+        ],
+    ),
+    (
+        &[(Forget(3), Ok(0)), (Detach(2), Ok(0))],
+        &[At(2, Place::Gone), At(3, Place::NoIno)],
+    ),
+];
+
+const SETTLED: &[Round] = &[(
+    &[
+        (Mkdir(1, b"d"), Ok(2)),
+        (Create(2, b"f"), Ok(3)),
+        (Settle(2, (5, 6, 0o640)), Ok(0)),
+        (Settle(9, (5, 6, 0o640)), Err(Refusal::NoIno)),
+        (Unlink(3), Ok(0)),
+        (Settle(3, (5, 6, 0o640)), Err(Refusal::Gone)),
+    ],
+    &[Owner(2, (5, 6, 0o640)), Owner(3, (10, 10, 0o755))],
+)];
+
 const THREE_NAMES: &[Round] = &[(
     &[
         (Mkdir(1, b"a"), Ok(2)),
@@ -103,6 +144,11 @@ const CASES: &[Case] = &[
     ("an inode moves only into a directory", INTO_A_FILE),
     ("an unlinked file is a stray until it is forgotten", A_STRAY),
     ("a directory with a snapshot is not empty", A_SNAPSHOT),
+    (
+        "what nothing stands in is detached with its snapshots",
+        DETACHED,
+    ),
+    ("the owner, the group and the mode are set at once", SETTLED),
     ("a path has its names from the root down", THREE_NAMES),
 ];
 
@@ -228,9 +274,23 @@ fn runs_on_two(rt: &impl Abort, source: &mut Tree, copy: &mut Tree) -> Result<()
     runs_on(rt, copy, ("the copy", COPY))
 }
 
+// Sees that the trees have the same inodes, each with the same in each of its fields.
+fn same_inodes(
+    rt: &impl Abort,
+    alloc: Global,
+    copy: &Tree,
+    source: &Tree,
+) -> Result<(), AllocError> {
+    let found = inodes_text(alloc, copy)?;
+    let wanted = inodes_text(alloc, source)?;
+    same(rt, found.as_str(), wanted.as_str(), "all inodes");
+    Ok(())
+}
+
 // Plays a case on the tree, and one on a copy that was made before.
-fn runs_on_a_copy(rt: &impl Abort, tree: &mut Tree) -> Result<(), AllocError> {
+fn runs_on_a_copy(rt: &impl Abort, alloc: Global, tree: &mut Tree) -> Result<(), AllocError> {
     let mut copy = copied(tree)?;
+    same_inodes(rt, alloc, &copy, tree)?;
     let end = runs_on_two(rt, tree, &mut copy);
     drop(copy);
     end
@@ -239,7 +299,7 @@ fn runs_on_a_copy(rt: &impl Abort, tree: &mut Tree) -> Result<(), AllocError> {
 fn runs_and_copies(rt: &(impl Abort + AllocGlobal)) -> Result<(), AllocError> {
     let mut tree = made(rt.alloc())?;
     runs_on(rt, &mut tree, ("before the copy", KEPT))?;
-    runs_on_a_copy(rt, &mut tree)
+    runs_on_a_copy(rt, rt.alloc(), &mut tree)
 }
 
 #[test]

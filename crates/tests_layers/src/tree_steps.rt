@@ -14,6 +14,8 @@ pub(crate) enum Ask {
     Create(u64, &'static [u8]),
     Unlink(u64),
     Rmdir(u64),
+    // It becomes a stray, whatever snapshots it has.
+    Detach(u64),
     Rename(u64, u64, &'static [u8]),
     // A field of an inode is set. A mode is given by its bits.
     SetMode(u64, u16),
@@ -21,6 +23,8 @@ pub(crate) enum Ask {
     SetGid(u64, u32),
     SetSize(u64, u64),
     SetTime(u64, u64),
+    // Its owner, its group and the bits of its mode are set at once.
+    Settle(u64, (u32, u32, u16)),
     SetXattr(u64, &'static [u8], &'static [u8]),
     RemoveXattr(u64, &'static [u8]),
     SnapAdd(u64, &'static [u8]),
@@ -104,12 +108,14 @@ pub(crate) fn asked(tree: &mut Tree, ask: Ask) -> Answered {
         Create(dir, name) => create(tree, dir, name),
         Unlink(ino) => Ok(unlink(tree, ino)),
         Rmdir(ino) => Ok(rmdir(tree, ino)),
+        Detach(ino) => Ok(detach(tree, ino)),
         Rename(ino, dir, name) => rename(tree, ino, dir, name),
         SetMode(ino, bits) => Ok(set_mode(tree, ino, bits)),
         SetUid(ino, uid) => Ok(set(tree, ino, Setting::Uid(uid))),
         SetGid(ino, gid) => Ok(set(tree, ino, Setting::Gid(gid))),
         SetSize(ino, size) => Ok(set(tree, ino, Setting::Size(size))),
         SetTime(ino, time) => Ok(set(tree, ino, Setting::Time(time))),
+        Settle(ino, to) => Ok(settle(tree, ino, to)),
         SetXattr(ino, name, value) => set_xattr(tree, ino, name, value),
         RemoveXattr(ino, name) => Ok(remove_xattr(tree, ino, name)),
         SnapAdd(ino, name) => snap_add(tree, ino, name),
@@ -214,6 +220,20 @@ fn rmdir(tree: &mut Tree, ino: u64) -> Answer {
     Ok(0)
 }
 
+fn detach(tree: &mut Tree, ino: u64) -> Answer {
+    if let Some(refusal) = tree.inode_refusal(Ino(ino)) {
+        return Err(refusal);
+    }
+    if let Some(refusal) = tree.root_refusal(Ino(ino)) {
+        return Err(refusal);
+    }
+    if let Some(refusal) = tree.childless_refusal(Ino(ino)) {
+        return Err(refusal);
+    }
+    tree.detach(Ino(ino));
+    Ok(0)
+}
+
 fn rename(tree: &mut Tree, ino: u64, dir: u64, name: &[u8]) -> Answered {
     if let Some(refusal) = tree.inode_refusal(Ino(ino)) {
         return Ok(Err(refusal));
@@ -247,6 +267,20 @@ fn set(tree: &mut Tree, ino: u64, setting: Setting) -> Answer {
 fn set_mode(tree: &mut Tree, ino: u64, bits: u16) -> Answer {
     match Mode::new(bits) {
         Some(mode) => set(tree, ino, Setting::Mode(mode)),
+        // No test asks for more bits than a mode has.
+        None => Err(Refusal::Limit),
+    }
+}
+
+fn settle(tree: &mut Tree, ino: u64, (uid, gid, bits): (u32, u32, u16)) -> Answer {
+    if let Some(refusal) = tree.inode_refusal(Ino(ino)) {
+        return Err(refusal);
+    }
+    match Mode::new(bits) {
+        Some(mode) => {
+            tree.settle(Ino(ino), Attr { uid, gid, mode });
+            Ok(0)
+        }
         // No test asks for more bits than a mode has.
         None => Err(Refusal::Limit),
     }

@@ -37,6 +37,12 @@ fn kept_before(alloc: Global, tree: &Tree) -> Result<before::Tree<'_>, AllocErro
     Ok(before::Tree { inodes })
 }
 
+/// All inodes of a tree with all that is kept of each, and nothing of how they are kept.
+pub(crate) fn inodes_text(alloc: Global, tree: &Tree) -> Result<String, AllocError> {
+    let before = kept_before(alloc, tree)?;
+    format!(in alloc; "{before:?}")
+}
+
 // Whether a text begins as another does up to its end, and goes on with the names.
 fn begins_so(text: &str, other: &str, end: &str, names: &str) -> bool {
     let Some(start) = other.strip_suffix(end) else {

@@ -9,11 +9,15 @@ mod asserting;
 #[cfg(test)]
 mod gates;
 #[cfg(test)]
+mod held_questions;
+#[cfg(test)]
 mod lines;
 #[cfg(test)]
 mod measured_work;
 #[cfg(test)]
 mod passes;
+#[cfg(test)]
+mod questions;
 #[cfg(test)]
 mod runs;
 #[cfg(test)]

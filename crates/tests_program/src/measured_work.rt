@@ -1,10 +1,15 @@
 //! Words, grants and sums.
 
 use crate::asserting::same;
-use capwork::{Callers, GrantShape, Layout, Size, TreeShape, Work, dispatch, grants_text};
+use capwork::{
+    AskShape, Callers, GrantShape, Layout, Readers, Size, TreeShape, Way, Work, dispatch,
+    grants_text,
+};
 use std::alloc::Global;
 use std::process::Abort;
+use std::sync::Wait;
 use std::test::Fail;
+use std::thread::Threads;
 
 fn grants(grants: u32, depth: u32, callers: Callers) -> GrantShape {
     GrantShape {
@@ -14,12 +19,16 @@ fn grants(grants: u32, depth: u32, callers: Callers) -> GrantShape {
     }
 }
 
+fn asked(readers: Readers, size: Size, way: Way) -> AskShape {
+    AskShape { readers, size, way }
+}
+
 fn tree(size: Size, layout: Layout) -> TreeShape {
     TreeShape { size, layout }
 }
 
 // Words, and the work that each names.
-fn works() -> [(&'static str, Work); 20] {
+fn works() -> [(&'static str, Work); 22] {
     use Callers::{Any, OneUser};
     use Layout::{Deep, Flat};
     use Size::{Hundred, SixtyThousand, TenThousand, Thousand};
@@ -43,6 +52,14 @@ fn works() -> [(&'static str, Work); 20] {
         ("alter-10000", Work::Alter(TenThousand)),
         ("rename-100", Work::Rename(Hundred)),
         ("carry-60000", Work::Carry(SixtyThousand)),
+        (
+            "explain-4-1000",
+            Work::Explain(asked(Readers::Four, Thousand, Way::Beside)),
+        ),
+        (
+            "locked-1-100",
+            Work::Explain(asked(Readers::One, Hundred, Way::Locked)),
+        ),
         ("retry", Work::Retry),
     ]
 }
@@ -55,7 +72,7 @@ fn each_word_names_its_work(rt: HostRuntime) {
 }
 
 /// Words that name no work.
-const NO_WORK: [&str; 23] = [
+const NO_WORK: [&str; 26] = [
     "",
     "verdict",
     "verdict-1-plain",
@@ -78,6 +95,9 @@ const NO_WORK: [&str; 23] = [
     "alter",
     "rename-100-flat",
     "carry-200",
+    "explain-100",
+    "explain-3-100",
+    "locked-1-1",
     "retry-100",
 ];
 
@@ -122,22 +142,26 @@ fn line_of(alloc: Global, words: &[&str]) -> Result<Vec<String>, Fail> {
 }
 
 // Runs the program on a line: its status, what it prints, and whether it says nothing of faults.
-fn outcome(alloc: Global, line: &[String]) -> (u8, Vec<u8>, bool) {
+fn outcome<R: Threads + Wait + Sync>(
+    rt: &R,
+    alloc: Global,
+    line: &[String],
+) -> (u8, Vec<u8>, bool) {
     let (mut text, mut faults) = (Vec::new(alloc), Vec::new(alloc));
-    let status = dispatch(alloc, line, &mut text, &mut faults);
+    let status = dispatch(rt, alloc, line, &mut text, &mut faults);
     (status, text, faults.is_empty())
 }
 
 // Runs the program on these words and compares what it prints and its status.
-fn expect(
-    rt: &impl Abort,
+fn expect<R: Abort + Threads + Wait + Sync>(
+    rt: &R,
     alloc: Global,
     words: &[&str],
     printed: &str,
     status: u8,
 ) -> Result<(), Fail> {
     let line = line_of(alloc, words)?;
-    let (ended, text, is_quiet) = outcome(alloc, line.as_slice());
+    let (ended, text, is_quiet) = outcome(rt, alloc, line.as_slice());
     same(rt, text.as_slice(), printed.as_bytes(), ("text", words));
     same(rt, ended, status, ("status", words));
     same(rt, is_quiet, status == 0, ("no faults", words));
@@ -145,7 +169,7 @@ fn expect(
 }
 
 /// A piece of work, how many times it is done, and what is printed.
-const SUMS: [(&str, &str, &str); 20] = [
+const SUMS: [(&str, &str, &str); 22] = [
     // The last grant is the one that allows.
     ("verdict-1-1-plain", "7", "sum 7\n"),
     ("verdict-4-8-ids", "7", "sum 28\n"),
@@ -174,10 +198,18 @@ const SUMS: [(&str, &str, &str); 20] = [
     ("alter-100", "3", "sum 3\n"),
     ("rename-100", "3", "sum 3\n"),
     ("carry-100", "3", "sum 3\n"),
+    // Each question of each thread is answered with yes.
+    ("explain-4-100", "25", "sum 100\n"),
+    ("locked-2-100", "25", "sum 50\n"),
 ];
 
 // Runs the program on a piece of work twice.
-fn expect_twice(rt: &impl Abort, alloc: Global, words: &[&str], printed: &str) -> Result<(), Fail> {
+fn expect_twice<R: Abort + Threads + Wait + Sync>(
+    rt: &R,
+    alloc: Global,
+    words: &[&str],
+    printed: &str,
+) -> Result<(), Fail> {
     for _ in 0..2 {
         expect(rt, alloc, words, printed, 0)?;
     }
@@ -197,8 +229,8 @@ fn each_work_prints_its_sum_twice(rt: HostRuntime) -> Result<(), Fail> {
 #[test]
 fn what_two_clients_share_is_the_same_twice(rt: HostRuntime) -> Result<(), Fail> {
     let line = line_of(rt.alloc(), &["retry", "2"])?;
-    let (status, text, is_quiet) = outcome(rt.alloc(), line.as_slice());
-    let (_, again, _) = outcome(rt.alloc(), line.as_slice());
+    let (status, text, is_quiet) = outcome(&rt, rt.alloc(), line.as_slice());
+    let (_, again, _) = outcome(&rt, rt.alloc(), line.as_slice());
     same(&rt, status, 0, "status");
     same(&rt, is_quiet, true, "no faults");
     same(&rt, text.as_slice(), again.as_slice(), "text");

@@ -1,5 +1,6 @@
 //! Passes: how many there can be, and what the calls of two threads leave.
 ghost use Rattle.std.specs.Prelude.{◌≡◌};
+ghost use Rattle.capserver.specs.Opened.{opened};
 
 use crate::asserting::{holds, same};
 use crate::servers::{Numbers, call, count_numbered, numbers, opening};
@@ -64,7 +65,7 @@ fn served<L: Server + Send + Sync, R: Threads + Wait + Sync>(
     blank: Blank,
     count: u32,
 ) -> Result<Vec<Numbers>, StartFault>
-    requires opening { opening ≡ L.opening }
+    requires opening { opening ≡ opened L.opening L.max_rows L.history }
     requires name { blank.name ≡ L.name }
     requires parts { (blank.parts ≡ L.parts) × (L.parts ≡ 32) }
     requires passes { count ≡ L.passes }

@@ -25,6 +25,7 @@ use Rattle.capcore.specs.Touching.{forget_at, forget_among}
 use Rattle.capcore.proofs.AtEnd.{or_turned, entry-alike, forget-all}
 use Rattle.capcore.proofs.KeptSets.{kept-as, kept-same, kept-then, kept-not, found-stays, room-still}
 use Rattle.capcore.proofs.ManyInodes.{changed-twice_where, entries_on-stay, holders-stay}
+use Rattle.capcore.proofs.Noting.{leads-then}
 use Rattle.capcore.proofs.finish.finish.Goals as goal
 
 pub finish_entries-requires : goal.finish_entries-requires
@@ -93,3 +94,8 @@ returns-clause-known c =
     c.finish_entries.ensures.known)
     (λ k is. ap (λ (u : Table). find (is_row_of k) u.rows) c.finish_touched.ensures.table
     ∙ found-stays (is_on touched) g t k (λ row mine. ap (λ (h : Holder). set.contains touched h.ino.0) (sym mine) ∙ none_here touched c.args.ino.0 k.ino.0 c.requires.apart is)))
+
+pub returns-clause-lead : goal.returns-clause-lead
+returns-clause-lead c =
+    leads-then c.args.changes.now.items c.forget_touched.new.changes.items c.forget_unheld.new.changes.items c.args.tree.now c.forget_touched.new.tree c.forget_unheld.new.tree
+    c.forget_touched.ensures.lead c.forget_unheld.ensures.lead

@@ -39,7 +39,7 @@ finish_entries-requires c =
     let rest : c.loop-number.number-iterator ≡ k ∷ ks = rest_more deref _ _ _ _ c.in-Some.is c.next.ensures.steps in
     let s = c.loop-number.invariant.so_far in
     let all : List ℕ = c.into_iter-number-iterator.result in
-    let lists : IsListOf c.args.touched.now all = subst (IsListOf c.args.touched.now) (sym c.into_iter-number-iterator.ensures.into_iter_gives) c.numbers-number-items.ensures in
+    let lists : IsListOf c.args.touched.now all = subst (IsListOf c.args.touched.now) (sym c.into_iter-number-iterator.ensures.into_iter_gives) c.numbers-number-items.ensures.list in
     let apart = next-apart s.done k ks (subst (IsDistinct same_number) (sym s.named ∙ ap (λ left. s.done ++ left) rest) lists.once) in
     record {
       numbers = subst (All (λ (row : EntryRow). row.entry.seq < 18446744073709551615))
@@ -60,7 +60,7 @@ loop-number-preserved c =
     let ks : List ℕ = c.next.new.self in
     let rest : c.loop-number.number-iterator ≡ k ∷ ks = rest_more deref _ _ _ _ c.in-Some.is c.next.ensures.steps in
     let all : List ℕ = c.into_iter-number-iterator.result in
-    let lists : IsListOf c.args.touched.now all = subst (IsListOf c.args.touched.now) (sym c.into_iter-number-iterator.ensures.into_iter_gives) c.numbers-number-items.ensures in
+    let lists : IsListOf c.args.touched.now all = subst (IsListOf c.args.touched.now) (sym c.into_iter-number-iterator.ensures.into_iter_gives) c.numbers-number-items.ensures.list in
     let h : EntryRow → Entry = entry_under (known_in c.loop-number.known.sets) c.args.fs.now c.args.tree.now c.args.sessions.now c.of_ino-now.result in
     record {
       so_far =
@@ -82,7 +82,7 @@ returns c =
     let f : EntryRow → Caps = told_by c.args.fs.now c.args.tree.now c.args.sessions.now c.args.locks.now.states in
     let inos : InoSet = c.args.touched.now in
     let all : List ℕ = c.into_iter-number-iterator.result in
-    let lists : IsListOf inos all = subst (IsListOf inos) (sym c.into_iter-number-iterator.ensures.into_iter_gives) c.numbers-number-items.ensures in
+    let lists : IsListOf inos all = subst (IsListOf inos) (sym c.into_iter-number-iterator.ensures.into_iter_gives) c.numbers-number-items.ensures.list in
     let none : c.loop-number.number-iterator ≡ [] = rest_all deref _ _ _ c.in-None.is c.next.ensures.steps in
     let done = all-finished g f c.args.table.now c.args.known.now.sets inos all c.loop-number.table c.loop-number.known.sets lists
     (subst (λ (left : List ℕ). IsFinishing g f c.args.table.now c.args.known.now.sets all left c.loop-number.table c.loop-number.known.sets) none c.loop-number.invariant.so_far) in

@@ -1,7 +1,9 @@
-use Rattle.std.proofs.Common.{◌≡◌, ℕ, List}
+use Rattle.std.proofs.Common.{◌≡◌, ◌≤◌, ◌+◌, length, ℕ, List}
+use Rattle.std.specs.FinSet as set
 use Rattle.std.specs.List.{fold}
 use Rattle.sessiontab.specs.Table.{SessionTable}
 use Rattle.lockmachine.specs.Scene.{scene}
+use Rattle.capcore.specs.Noted.{LeadOn}
 use Rattle.capcore.proofs.Strays.{forget_on}
 use Rattle.capcore.proofs.finish.forget_touched.Given as goal
 
@@ -11,4 +13,7 @@ invariant-loop-number l = record {
   left : (fs : List ℕ) (sessions : SessionTable) → fold forget_on (scene fs l.tree sessions l.table l.locks) l.number-iterator
       ≡ fold forget_on (scene fs l.fn.tree sessions l.table l.fn.locks) l.initial.number-iterator;
   queue : l.locks.queue ≡ l.fn.locks.queue;
+  lead : LeadOn l.fn.changes.items l.changes.items l.fn.tree l.tree;
+  count : length l.changes.items + length l.number-iterator ≤ length l.fn.changes.items + set.len l.touched;
+  room : l.fn.changes.room ≤ l.changes.room;
 }

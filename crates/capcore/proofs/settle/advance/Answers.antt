@@ -1,7 +1,7 @@
 use Rattle.std.proofs.Common.{◌≡◌, ℕ, Bool, true, false, ◌||◌, ◌==◌, refl, sym, ap, subst, ◌∙◌, arith}
 use Rattle.std.specs.FinSet as set
 use Rattle.std.proofs.lemmas.Bool.{eqb-true}
-use Rattle.lockmachine.specs.Scene.{Scene, scene}
+use Rattle.lockmachine.specs.Scene.{scene}
 use Rattle.lockmachine.proofs.Waiting.{waits-wider}
 use Rattle.capcore.specs.InoSets.{IsNext}
 use Rattle.capcore.specs.Serves.{is_touched}

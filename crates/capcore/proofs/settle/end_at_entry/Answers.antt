@@ -1,5 +1,6 @@
-use Rattle.std.proofs.Common.{◌<◌, ◌==◌, List, [], ap, subst, ◌∙◌}
+use Rattle.std.proofs.Common.{◌<◌, ◌==◌, List, [], ap, subst, ◌∙◌, arith}
 use Rattle.std.specs.FinSet as set
+use Rattle.std.specs.Ordering.{nat_cmp}
 use Rattle.std.proofs.lemmas.List.Elements.{All-filter}
 use Rattle.capbits.specs.declared.ids.Ino.{Ino}
 use Rattle.captable.specs.Calls.{is_of_inode}
@@ -10,6 +11,7 @@ use Rattle.capcore.proofs.Among.{quiet-among, ends-one}
 use Rattle.capcore.proofs.AtEnd.{entry-on}
 use Rattle.capcore.proofs.InoSets.{none-there}
 use Rattle.capcore.proofs.NobodyServed.{settled-ends, settles-alone, still-all_there, tree-stays}
+use Rattle.capcore.proofs.Noting.{leads-then}
 use Rattle.capcore.proofs.settle.end_at_entry.Goals as goal
 
 pub settle-touched-requires-clause-quiet : goal.settle-touched-requires-clause-quiet
@@ -18,6 +20,11 @@ settle-touched-requires-clause-quiet c =
 
 pub settle-touched-requires-clause-apart : goal.settle-touched-requires-clause-apart
 settle-touched-requires-clause-apart c = ap (λ (inos : InoSet). set.contains inos c.args.holder.ino.0) c.new-others.ensures ∙ none-there c.args.holder.ino.0
+
+pub settle-touched-requires-clause-places : goal.settle-touched-requires-clause-places
+settle-touched-requires-clause-places c =
+    let none = ap (λ (inos : InoSet). set.len inos) c.new-others.ensures ∙ set.len-empty nat_cmp in
+    omega (arith, none, c.requires.places)
 
 -- ---- as before
 
@@ -51,6 +58,11 @@ returns-then-is_as_before-clause-ends c =
     c.settle-touched.ensures.settles calm.0 calm.1)
     c.finish_alone.ensures.ends
 
+pub returns-then-is_as_before-clause-lead : goal.returns-then-is_as_before-clause-lead
+returns-then-is_as_before-clause-lead c =
+    leads-then c.args.endings.now.changes.items c.settle-touched.new.endings.changes.items c.finish_alone.new.changes.items c.args.tree.now c.settle-touched.new.tree c.finish_alone.new.tree
+    c.settle-touched.ensures.lead c.finish_alone.ensures.lead
+
 -- ---- and not
 
 pub returns-clause-ends : goal.returns-clause-ends
@@ -64,3 +76,8 @@ returns-clause-ends c =
     (settled-ends at (is_touched ino c.new-others.result) c.args.known.now.sets c.end_settled.new.known.sets first settled last
     c.settle-touched.new.endings.told.items c.settle-touched.new.endings.sized.items c.settle-touched.ensures.settles
     (subst (λ (sized : List Ino). EndsAt at sized c.args.known.now.sets c.end_settled.new.known.sets settled last) c.as_slice.ensures.value c.end_settled.ensures.ends))
+
+pub returns-clause-lead : goal.returns-clause-lead
+returns-clause-lead c =
+    leads-then c.args.endings.now.changes.items c.settle-touched.new.endings.changes.items c.end_settled.new.changes.items c.args.tree.now c.settle-touched.new.tree c.end_settled.new.tree
+    c.settle-touched.ensures.lead c.end_settled.ensures.lead

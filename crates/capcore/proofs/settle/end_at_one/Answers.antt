@@ -1,5 +1,6 @@
-use Rattle.std.proofs.Common.{ap, ◌∙◌}
+use Rattle.std.proofs.Common.{ap, ◌∙◌, arith}
 use Rattle.std.specs.FinSet as set
+use Rattle.std.specs.Ordering.{nat_cmp}
 use Rattle.lockmachine.specs.Scene.{scene}
 use Rattle.capcore.specs.InoSets.{InoSet}
 use Rattle.capcore.proofs.Among.{quiet-among, ends-one}
@@ -17,3 +18,8 @@ pub returns-clause-ends : goal.returns-clause-ends
 returns-clause-ends c =
     ends-one c.args.ino.0 c.new-others.result c.args.known.now.sets c.end_at.new.known.sets (scene c.args.fs.now c.args.tree.now c.args.sessions.now c.args.table.now c.args.locks.now)
     (scene c.args.fs.now c.end_at.new.tree c.args.sessions.now c.end_at.new.table c.end_at.new.locks) c.end_at.new.endings.told.items c.end_at.ensures.ends
+
+pub end_at-requires-clause-places : goal.end_at-requires-clause-places
+end_at-requires-clause-places c =
+    let none = ap (λ (inos : InoSet). set.len inos) c.new-others.ensures ∙ set.len-empty nat_cmp in
+    omega (arith, none, c.requires.places)

@@ -14,6 +14,7 @@ use Rattle.capcore.specs.declared.outcome.Outcome.{Outcome}
 use Rattle.capcore.specs.Serves.{Serves, is_touched}
 use Rattle.capcore.specs.Settle.{Served, sets_size, is_done, sized_in}
 use Rattle.capcore.specs.Sweep.{GoesOn, IsSwept, IsTurnOfLeast, Reaches}
+use Rattle.capcore.proofs.Noting.{leads-none, leads-then}
 use Rattle.capcore.proofs.SoFar.{IsSoFar, so-far-begins, so-far-served, so-far-settled, so-far-swept, turn-of_least, turn-served}
 use Rattle.capcore.proofs.settle.settle.Goals as goal
 use Rattle.capcore.proofs.settle.settle.Goals.{After-last-last, After-serve_next}
@@ -38,6 +39,8 @@ servings-init c =
           (subst (IsSoFar c.args.ino.0 at c.args.others first now []) (sym c.requires.no_sizes) so);
       turn = turn-of_least at now so.still c.end_gathers.ensures.ends;
       same = c.requires.same;
+      lead = leads-none c.args.endings.now.changes.items c.args.tree.now;
+      places = omega (arith, queue, c.requires.places);
       told = omega (arith, queue, c.requires.told);
       kept = omega (arith, queue, c.requires.kept);
       sized = omega (arith, queue, c.requires.sized);
@@ -96,6 +99,9 @@ serve_next-requires-clause-kept c = let some = some_wait (goal.at.serve_next-req
 pub serve_next-requires-clause-sized : goal.serve_next-requires-clause-sized
 serve_next-requires-clause-sized c = let some = some_wait (goal.at.serve_next-requires-clause-sized c).After-last-last in omega (arith, some, c.servings.invariant.sized)
 
+pub serve_next-requires-clause-place : goal.serve_next-requires-clause-place
+serve_next-requires-clause-place c = omega (arith, c.servings.invariant.places)
+
 abbrev before_serving : After-serve_next → After-last-last
 before_serving c = (goal.at.servings-preserved c).After-last-last
 
@@ -151,6 +157,9 @@ servings-preserved c =
           (subst (IsSoFar c.args.ino.0 (from (before_serving c)) c.serve_next.new.touched (first (before_serving c)) (new c) (c.servings.endings.told.items ++ ended c ∷ [])) (sym sizes) (served c));
       turn = turn c;
       same = same;
+      lead = leads-then c.args.endings.now.changes.items c.servings.endings.changes.items c.serve_next.new.endings.changes.items c.args.tree.now c.servings.tree c.serve_next.new.tree
+          c.servings.invariant.lead c.serve_next.ensures.lead;
+      places = omega (arith, less, c.serve_next.ensures.noted, c.serve_next.ensures.places, c.servings.invariant.places);
       told = omega (arith, more, less, room.0, c.servings.invariant.told);
       kept = omega (arith, kept_more, less, room.1, c.servings.invariant.kept);
       sized = omega (arith, few_sizes, less, room.2, c.servings.invariant.sized);
@@ -164,3 +173,9 @@ returns-clause-settles c =
     so-far-settled c.args.ino.0 (is_touched c.args.ino.0 c.args.others) c.servings.touched first last c.servings.endings.told.items c.servings.endings.sized.items
     (so-far-swept c.args.ino.0 (is_touched c.args.ino.0 c.args.others) c.servings.touched first now c.servings.endings.told.items c.servings.endings.sized.items c.servings.invariant.so_far last c.sweep.ensures.swept)
     (subst (GoesOn last) c.in_default.is c.sweep.ensures.next)
+
+pub returns-clause-places : goal.returns-clause-places
+returns-clause-places c =
+    let swept = c.sweep.ensures.swept in
+    let queue : length c.sweep.new.locks.queue ≡ length c.servings.locks.queue = ap length swept.queue in
+    omega (arith, queue, c.servings.invariant.places)

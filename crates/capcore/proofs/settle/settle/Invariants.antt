@@ -1,6 +1,7 @@
 use Rattle.std.proofs.Common.{◌≡◌, ◌≤◌, ◌+◌, length}
 use Rattle.std.specs.Prelude.{vec_capacity}
 use Rattle.lockmachine.specs.Scene.{scene}
+use Rattle.capcore.specs.Noted.{HavePlaces, LeadOn}
 use Rattle.capcore.specs.Serves.{is_touched}
 use Rattle.capcore.specs.Sweep.{IsTurnOfLeast}
 use Rattle.capcore.specs.Untold.{HasRoom}
@@ -17,5 +18,7 @@ invariant-servings l = record {
   same : l.endings.kept.items ≡ l.endings.told.items;
   told : HasRoom l.endings.told l.locks;
   kept : HasRoom l.endings.kept l.locks;
+  lead : LeadOn l.fn.endings.changes.items l.endings.changes.items l.fn.tree l.tree;
+  places : HavePlaces l.endings.changes l.locks l.touched;
   sized : length l.endings.sized.items + length l.locks.queue ≤ vec_capacity l.endings.sized;
 }

@@ -5,9 +5,9 @@ use Rattle.capjobs.proofs.serving.serve_plan.Goals as goal
 
 pub returns-clause-served : goal.returns-clause-served
 returns-clause-served g c =
-    let opening = c.in_ok-opening.opening in record {
+    let opening = c.in_ok-opening.opening.state in record {
       opening = opening;
-      opens = subst (λ tree. IsOpening fs_name tree opening) c.in_ok-fs.ensures.tree (subst (λ fs. IsOpening fs c.in_ok-fs.tree opening) c.in_ok-fs.ensures.name c.in_ok-opening.ensures);
+      opens = subst (λ tree. IsOpening fs_name tree opening) c.in_ok-fs.ensures.tree (subst (λ fs. IsOpening fs c.in_ok-fs.tree opening) c.in_ok-fs.ensures.name c.in_ok-opening.ensures.opening);
       legal = c.in_ok-core.ensures.legal;
       counted = c.in_ok-core.ensures.counted;
     }

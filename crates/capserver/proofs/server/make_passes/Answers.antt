@@ -1,5 +1,5 @@
 use Rattle.std.proofs.Common.{◌≡◌, ◌+◌, [], ◌∷◌, length, ap, sym, ◌∙◌, subst, arith, length-append}
-use Rattle.capserver.specs.Passes.{call_count, AllNew}
+use Rattle.capserver.specs.Passes.{pass_state, AllNew}
 use Rattle.capserver.proofs.Numbering.{new_more}
 use Rattle.capserver.proofs.server.make_passes.Goals as goal
 
@@ -9,7 +9,7 @@ loop-at-preserved g c =
     let items = c.push_reserved.ensures.items in
     let same = c.reserve.ensures.items in
     let at = c.loop-at.at in
-    let pass : c.new.result ≡ call_count (at + 1) 0 = c.new.ensures ∙ ap (call_count (at + 1)) c.split_off-share.ensures.amount in
+    let pass : c.new.result ≡ pass_state (at + 1) 0 [] = c.new.ensures ∙ (λ i. pass_state (at + 1) (c.split_off-share.ensures.amount i) (c.in-Ok.ensures i)) in
     let old : AllNew 0 c.reserve.new.self.items = subst (AllNew 0) (sym same) before.new in
     let many : length c.reserve.new.self.items ≡ at = ap length same ∙ before.many in
     record {

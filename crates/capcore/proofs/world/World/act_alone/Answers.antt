@@ -1,9 +1,11 @@
-use Rattle.std.proofs.Common.{subst}
+use Rattle.std.proofs.Common.{sym, subst}
 use Rattle.inotree.specs.Tree.{IsTree}
 use Rattle.captable.specs.Table.{IsTable}
 use Rattle.capcore.specs.State.{State}
 use Rattle.capcore.specs.Sound.{IsSound}
 use Rattle.capcore.proofs.Steps.{alone-answered}
+use Rattle.capview.specs.Changes.{AreChanges}
+use Rattle.capcore.specs.Noted.{Noted, view_of}
 use Rattle.capcore.proofs.world.World.act_alone.Goals as goal
 
 pub returns-clause-answered : goal.returns-clause-answered
@@ -12,4 +14,7 @@ returns-clause-answered c =
     let known : IsSound s × IsTree s.scene.tree × IsTable s.scene.table =
     subst (λ (w : State). IsSound w × IsTree w.scene.tree × IsTable w.scene.table) c.self.view_is (c.self.invariant.0, c.last-last.ensures.sound, c.oldest-oldest.ensures.sound) in
     alone-answered s known.0 known.1 c.args.event.now (c.requires.touches, c.requires.lists, c.requires.turns) c.in_ok-reply.reply c.act.new.self c.in_ok-reply.ensures.direct
-    c.alone.result known.2 c.alone.ensures.reply c.alone.ensures.kept c.alone.ensures.ended
+    c.with_changes.result known.2 c.with_changes.ensures.reply c.with_changes.ensures.kept c.with_changes.ensures.ended
+
+pub returns-clause-changes : goal.returns-clause-changes
+returns-clause-changes c = subst (λ (n : Noted). AreChanges n.items (view_of c.args.self.now) (view_of c.act.new.self)) (sym c.with_changes.ensures.changes) c.in_ok-reply.ensures.changes

@@ -4,6 +4,8 @@ use Rattle.capcore.specs.State.{State}
 use Rattle.capcore.specs.Sound.{IsSound}
 use Rattle.capcore.proofs.Asked.{asking-stop}
 use Rattle.capcore.proofs.Stops.{stopped-answered}
+use Rattle.capcore.specs.Noted.{view_of}
+use Rattle.capcore.proofs.Noting.{changes-still}
 use Rattle.capcore.proofs.world.World.ask.Goals as goal
 
 pub returns-in-Some-clause-answered : goal.returns-in-Some-clause-answered
@@ -13,3 +15,6 @@ returns-in-Some-clause-answered c = λ e asked.
     stopped-answered s e c.in-Some.stopped c.alone.result known.0 known.1
     (asking-stop e (holder c.args.client c.args.ino) c.args.ask s.scene asked ∙ sym c.ask_stop.ensures ∙ c.in-Some.is)
     (c.alone.ensures.reply ∙ c.into.ensures) (c.alone.ensures.kept ∙ sym c.alone.ensures.reply) c.alone.ensures.ended
+
+pub returns-in-Some-clause-changes : goal.returns-in-Some-clause-changes
+returns-in-Some-clause-changes c = changes-still c.alone.result.changes.items (view_of c.args.self.now) c.alone.ensures.changes

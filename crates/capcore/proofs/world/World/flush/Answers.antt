@@ -21,6 +21,9 @@ use Rattle.capcore.proofs.Knowing.{HoldAlike, alike-less, still-there, still-roo
 use Rattle.capcore.proofs.OfInode.{event-table}
 use Rattle.capcore.proofs.Flushed.{flush-calls, flush-direct}
 use Rattle.capcore.proofs.Stops.{stopped-answered}
+use Rattle.capview.specs.Changes.{AreChanges}
+use Rattle.capcore.specs.Noted.{Noted, view_of}
+use Rattle.capcore.proofs.Noting.{changes-all, changes-still, leads-then}
 use Rattle.capcore.proofs.world.World.flush.Goals as goal
 use Rattle.capcore.proofs.world.World.flush.Goals.{After-touch, After-close}
 
@@ -110,7 +113,7 @@ module _ (c : After-close) where
   ends = c.end_at_one.ensures.ends
 
   all : earlier c.self.inside.locks.last told ≡ told
-  all = let w = ends in told-all w.at (λ other. other == c.args.ino.0) (first before) w.settled told w.sized w.settles c.waiting.ensures.sound
+  all = let w = ends in told-all w.at (λ other. other == c.args.ino.0) (first before) w.settled told w.sized w.settles c.waiting-waiting.ensures.sound
 
   -- the state when the step had ended at the inode
   abbrev closed_as : State
@@ -127,7 +130,7 @@ module _ (c : After-close) where
   whole : IsAnswered (old before) (e before) c.close.result new
   whole =
       closed (old before) (e before) (k before) refl (passed before) c.self.invariant.0 c.oldest-oldest.ensures.sound (first before) (is before)
-      c.self.inside.known.sets c.end_at_one.new.known.sets c.waiting.ensures.sound (knows before) last told ends c.end_at_one.ensures.table c.close.result new
+      c.self.inside.known.sets c.end_at_one.new.known.sets c.waiting-waiting.ensures.sound (knows before) last told ends c.end_at_one.ensures.table c.close.result new
       (c.close.ensures.reply ∙ ap (reply_of closed_as told) answer)
       (c.close.ensures.kept ∙ sym c.close.ensures.reply) (c.close.ensures.ended ∙ c.end_at_one.ensures.kept ∙ sym all) new_is
 
@@ -140,9 +143,22 @@ invariant_of-self-2 c =
       w.sound,
       omega (arith, items, c.close.ensures.room, c.end_at_one.ensures.count, c.self.invariant.1),
       closed-known (old b) (e b) (k b) refl (passed b) c.self.invariant.0 c.oldest-oldest.ensures.sound (first b) (is b)
-          c.self.inside.known.sets c.end_at_one.new.known.sets c.waiting.ensures.sound (knows b) (last c) (told c) (ends c) c.self.inside.known.sets c.self.invariant.2 (still b),
+          c.self.inside.known.sets c.end_at_one.new.known.sets c.waiting-waiting.ensures.sound (knows b) (last c) (told c) (ends c) c.self.inside.known.sets c.self.invariant.2 (still b),
     )
 
 pub returns-clause-answered : goal.returns-clause-answered
 returns-clause-answered c =
     subst (λ (s : State). IsAnswered s (event.Flush c.args.client c.args.ino c.args.change.now) c.close.result (new c)) c.self.view_is (whole c)
+
+pub returns-in-Some-clause-changes : goal.returns-in-Some-clause-changes
+returns-in-Some-clause-changes c = changes-still c.alone.result.changes.items (view_of c.args.self.now) c.alone.ensures.changes
+
+pub returns-clause-changes : goal.returns-clause-changes
+returns-clause-changes c =
+    let none = c.in_ok-endings.endings.changes.items in
+    let noted = c.note_change.new.self.items in
+    let all = c.end_at_one.new.endings.changes.items in
+    subst (λ (s : State). AreChanges c.close.result.changes.items (view_of s) (view_of (new c))) c.self.view_is
+    (subst (λ (n : Noted). AreChanges n.items (view_of (old (before c))) (view_of (new c))) (sym c.close.ensures.changes)
+    (changes-all none all c.self.inside.tree c.end_at_one.new.tree c.self.inside.sessions.sessions c.in_ok-endings.ensures.changes.0
+    (leads-then none noted all c.self.inside.tree c.alter.new.tree c.end_at_one.new.tree (c.note_change.ensures.lead c.self.inside.tree c.in_default-alter.ensures.ok) c.end_at_one.ensures.lead)))

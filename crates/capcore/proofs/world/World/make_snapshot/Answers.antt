@@ -1,9 +1,13 @@
-use Rattle.std.proofs.Common.{ap, sym, ◌∙◌, refl}
+use Rattle.std.proofs.Common.{ap, sym, subst, ◌∙◌, refl}
 use Rattle.capbits.specs.Refusal.{first_failing}
 use Rattle.inotree.specs.Inodes.{with_snapshot}
 use Rattle.inotree.specs.Tests.{new_snapshot_tests}
 use Rattle.capcore.proofs.Effects.{making-stopped, snapshot-refused}
 use Rattle.capcore.proofs.Untouched.{changed-sound, changed-known}
+use Rattle.capview.specs.Sight.{IsLike, Shows}
+use Rattle.capview.proofs.Likeness.{like-unseen, shows-tree}
+use Rattle.capcore.specs.State.{State}
+use Rattle.capcore.specs.Noted.{view, view_of}
 use Rattle.capcore.proofs.world.World.make_snapshot.Goals as goal
 
 pub returns-in-Some-clause-direct : goal.returns-in-Some-clause-direct
@@ -22,3 +26,9 @@ invariant_of-self-2 c =
       c.self.invariant.1,
       changed-known sound c.self.inside.known.sets c.self.invariant.2 (with_snapshot c.args.name.now) c.args.ino.0 (λ n. refl) (λ n. refl),
     )
+
+pub returns-clause-seen : goal.returns-clause-seen
+returns-clause-seen c =
+    subst (λ (s : State). Shows (view_of s) (view c.snap_add.new.self c.self.inside.sessions.sessions)) c.self.view_is
+    (shows-tree c.self.inside.tree c.snap_add.new.self c.self.inside.sessions.sessions
+    (subst (IsLike c.self.inside.tree) (sym c.in_ok-snap_add.ensures.ok) (like-unseen c.self.inside.tree (with_snapshot c.args.name.now) c.args.ino.0 (λ n. refl))))

@@ -1,15 +1,13 @@
-use Rattle.std.proofs.Common.{◌≡◌, None, sym, ◌∙◌}
-use Rattle.capbits.specs.Refusal.{first_failing}
-use Rattle.sessiontab.specs.Tests.{new_session_tests}
-use Rattle.capcore.proofs.Untouched.{session-sound, session-known}
+use Rattle.std.proofs.Common.{◌++◌, ◌∷◌, [], sym, ap, subst, ◌∙◌}
+use Rattle.capview.specs.declared.change.ViewChange.TheVariants as change
+use Rattle.capview.specs.Changes.{AreChanges}
+use Rattle.capcore.specs.State.{State}
+use Rattle.capcore.specs.Noted.{view_of}
+use Rattle.capcore.proofs.Noting.{changes-one}
 use Rattle.capcore.proofs.world.World.open_session.Goals as goal
 
-pub invariant_of-self-2 : goal.invariant_of-self-2
-invariant_of-self-2 c =
-    let passed : first_failing (new_session_tests c.self.inside.sessions c.args.client.0) ≡ None = sym c.open_refusal.ensures ∙ c.in_default.is in
-    let sound = c.self.invariant.0 in
-    rw c.in_ok-open_session.ensures.ok (
-      session-sound sound c.args.client.0 c.copy_of_caller-caller.result c.in-Ok.grants passed,
-      c.self.invariant.1,
-      session-known sound c.self.inside.known.sets c.self.invariant.2 c.args.client.0 c.copy_of_caller-caller.result c.in-Ok.grants passed,
-    )
+pub returns-clause-changes : goal.returns-clause-changes
+returns-clause-changes c =
+    subst (λ (s : State). AreChanges c.push.new.self.items (view_of c.args.self.now) (view_of s)) (sym c.in_default-connect.ensures.ok)
+    (changes-one c.add_place.new.self.items c.push.new.self.items (view_of c.args.self.now) (change.Opened c.args.client c.args.caller.now c.args.grants.now) (c.add_place.ensures.items ∙ c.requires.none)
+    (c.push.ensures.items ∙ ap (λ opening. c.add_place.new.self.items ++ opening ∷ []) c.in_ok-opening.ensures))

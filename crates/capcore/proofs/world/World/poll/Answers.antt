@@ -20,8 +20,11 @@ use Rattle.capcore.proofs.Polled.{poll-answered, polled-new}
 use Rattle.capcore.proofs.Stops.{stopped-answered}
 use Rattle.capcore.proofs.Telling.{given-held}
 use Rattle.capcore.proofs.Knowing.{HoldAlike, known-alike, alike-where}
+use Rattle.capview.specs.Changes.{AreChanges}
+use Rattle.capcore.specs.Noted.{view_of}
+use Rattle.capcore.proofs.Noting.{changes-still}
 use Rattle.capcore.proofs.world.World.poll.Goals as goal
-use Rattle.capcore.proofs.world.World.poll.Goals.{After-new}
+use Rattle.capcore.proofs.world.World.poll.Goals.{After-new-2}
 
 -- ---- no open session
 
@@ -37,7 +40,7 @@ returns-in-Some-clause-answered c =
 
 -- ---- an open session
 
-module _ (c : After-new) where
+module _ (c : After-new-2) where
   -- the state before the event
   abbrev old : State
   old = record { scene = record { fs = c.self.inside.fs; tree = c.self.inside.tree; sessions = c.self.inside.sessions; table = c.self.inside.table; locks = c.self.inside.locks }; messages = c.self.inside.messages.items }
@@ -47,7 +50,7 @@ module _ (c : After-new) where
   new = record { scene = record old.scene { table = c.skip_quiet.new.self }; messages = c.remove_given.new.self.items }
 
   abbrev said : Said
-  said = record { reply = reply.Messages c.in_ok-given.given; kept = reply.Messages c.in_ok-kept.kept; ended = c.new.result }
+  said = record { reply = reply.Messages c.in_ok-given.given; kept = reply.Messages c.in_ok-kept.kept; ended = c.new.result; changes = c.new-2.result }
 
   first : c.in_ok-given.given ≡ first_messages old c.args.client c.args.max
   first = c.in_ok-given.ensures old refl refl c.self.invariant.2 (sym c.as_slice-ended.ensures)
@@ -86,3 +89,9 @@ invariant_of-self c =
 pub returns-clause-answered : goal.returns-clause-answered
 returns-clause-answered c =
     subst (λ (s : State). IsAnswered s (event.Poll c.args.client c.args.max) (said c) (new c)) c.self.view_is (whole c)
+
+pub returns-in-Some-clause-changes : goal.returns-in-Some-clause-changes
+returns-in-Some-clause-changes c = changes-still c.alone.result.changes.items (view_of c.args.self.now) c.alone.ensures.changes
+
+pub returns-clause-changes : goal.returns-clause-changes
+returns-clause-changes c = subst (λ (s : State). AreChanges (said c).changes.items (view_of s) (view_of (new c))) c.self.view_is (changes-still (said c).changes.items (view_of (old c)) c.new-2.ensures.items)

@@ -1,9 +1,13 @@
-use Rattle.std.proofs.Common.{ap, sym, ◌∙◌, refl}
+use Rattle.std.proofs.Common.{ap, sym, subst, ◌∙◌, refl}
 use Rattle.capbits.specs.Refusal.{first_failing}
 use Rattle.inotree.specs.Inodes.{without_snapshot}
 use Rattle.inotree.specs.Tests.{old_snapshot_tests}
 use Rattle.capcore.proofs.Effects.{removing-stopped, snapshot-kept}
 use Rattle.capcore.proofs.Untouched.{changed-sound, changed-known}
+use Rattle.capview.specs.Sight.{IsLike, Shows}
+use Rattle.capview.proofs.Likeness.{like-unseen, shows-tree}
+use Rattle.capcore.specs.State.{State}
+use Rattle.capcore.specs.Noted.{view, view_of}
 use Rattle.capcore.proofs.world.World.remove_snapshot.Goals as goal
 
 pub returns-in-Some-clause-direct : goal.returns-in-Some-clause-direct
@@ -22,3 +26,9 @@ invariant_of-self c =
       c.self.invariant.1,
       changed-known sound c.self.inside.known.sets c.self.invariant.2 (without_snapshot c.args.name.now) c.args.ino.0 (λ n. refl) (λ n. refl),
     )
+
+pub returns-clause-seen : goal.returns-clause-seen
+returns-clause-seen c =
+    subst (λ (s : State). Shows (view_of s) (view c.snap_remove.new.self c.self.inside.sessions.sessions)) c.self.view_is
+    (shows-tree c.self.inside.tree c.snap_remove.new.self c.self.inside.sessions.sessions
+    (subst (IsLike c.self.inside.tree) (sym c.snap_remove.ensures) (like-unseen c.self.inside.tree (without_snapshot c.args.name.now) c.args.ino.0 (λ n. refl))))

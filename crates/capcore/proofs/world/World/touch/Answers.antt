@@ -25,6 +25,9 @@ use Rattle.capcore.proofs.Stops.{stopped-answered}
 use Rattle.capcore.proofs.TouchKept.{touch-less, others-have_all}
 use Rattle.capcore.proofs.TouchWhole.{passed-of, table-of, first-is, touch-answered, touched-by, touch-reply, no_list-touch, tell-alike}
 use Rattle.capcore.proofs.Touched.{touched-tests}
+use Rattle.capview.specs.Changes.{AreChanges}
+use Rattle.capcore.specs.Noted.{Noted, view_of}
+use Rattle.capcore.proofs.Noting.{changes-all, changes-still}
 use Rattle.capcore.proofs.world.World.touch.Goals as goal
 use Rattle.capcore.proofs.world.World.touch.Goals.{In_default-touch_entry, After-close}
 
@@ -127,7 +130,7 @@ close-requires-clause-list c =
     } in
     let known : AreKnown c.end_at_entry.new.known.sets st.scene =
     closed-known (old b) (e b) (k b) (touched-by c.args.client c.args.ino c.args.touch) (passed b) c.self.invariant.0 c.oldest-oldest.ensures.sound (first b) (is b)
-    c.touch_entry.new.known.sets c.end_at_entry.new.known.sets c.waiting.ensures.sound (knows b) st.scene c.end_at_entry.new.endings.told.items c.end_at_entry.ensures.ends
+    c.touch_entry.new.known.sets c.end_at_entry.new.known.sets c.waiting-waiting.ensures.sound (knows b) st.scene c.end_at_entry.new.endings.told.items c.end_at_entry.ensures.ends
     c.self.inside.known.sets c.self.invariant.2 c.touch_entry.ensures.known in
     ap has_list (c.tell-reply.ensures.reply st refl known) ∙ no_list-touch st (holder c.args.client c.args.ino) c.args.touch
 
@@ -150,10 +153,10 @@ module _ (c : After-close) where
   known-last : AreKnown c.end_at_entry.new.known.sets last
   known-last =
       closed-known (old before) (e before) (k before) (touched-by c.args.client c.args.ino c.args.touch) (passed before) c.self.invariant.0 c.oldest-oldest.ensures.sound (first before) (is before)
-      c.touch_entry.new.known.sets c.end_at_entry.new.known.sets c.waiting.ensures.sound (knows before) last told ends c.self.inside.known.sets c.self.invariant.2 c.touch_entry.ensures.known
+      c.touch_entry.new.known.sets c.end_at_entry.new.known.sets c.waiting-waiting.ensures.sound (knows before) last told ends c.self.inside.known.sets c.self.invariant.2 c.touch_entry.ensures.known
 
   all : earlier c.self.inside.locks.last told ≡ told
-  all = let w = ends in told-all w.at (λ other. other == c.args.ino.0) (first before) w.settled told w.sized w.settles c.waiting.ensures.sound
+  all = let w = ends in told-all w.at (λ other. other == c.args.ino.0) (first before) w.settled told w.sized w.settles c.waiting-waiting.ensures.sound
 
   -- the state when the step had ended at the inode
   abbrev closed_as : State
@@ -174,7 +177,7 @@ module _ (c : After-close) where
   whole : IsAnswered (old before) (e before) c.close.result new
   whole =
       closed (old before) (e before) (k before) (touched-by c.args.client c.args.ino c.args.touch) (passed before) c.self.invariant.0 c.oldest-oldest.ensures.sound (first before) (is before)
-      c.touch_entry.new.known.sets c.end_at_entry.new.known.sets c.waiting.ensures.sound (knows before) last told ends c.end_at_entry.ensures.table c.close.result new
+      c.touch_entry.new.known.sets c.end_at_entry.new.known.sets c.waiting-waiting.ensures.sound (knows before) last told ends c.end_at_entry.ensures.table c.close.result new
       (c.close.ensures.reply ∙ c.tell-reply.ensures.reply closed_as refl known-last ∙ touch-reply closed_as told (k before) c.args.touch ∙ ap (reply_of closed_as told) answer)
       (c.close.ensures.kept ∙ sym c.close.ensures.reply) (c.close.ensures.ended ∙ c.end_at_entry.ensures.kept ∙ sym all) new_is
 
@@ -192,3 +195,12 @@ invariant_of-self-2 c =
 pub returns-clause-answered : goal.returns-clause-answered
 returns-clause-answered c =
     subst (λ (s : State). IsAnswered s (touch_event c.args.client c.args.ino c.args.touch) c.close.result (new c)) c.self.view_is (whole c)
+
+pub returns-in-Some-clause-changes : goal.returns-in-Some-clause-changes
+returns-in-Some-clause-changes c = changes-still c.alone.result.changes.items (view_of c.args.self.now) c.alone.ensures.changes
+
+pub returns-clause-changes : goal.returns-clause-changes
+returns-clause-changes c =
+    subst (λ (s : State). AreChanges c.close.result.changes.items (view_of s) (view_of (new c))) c.self.view_is
+    (subst (λ (n : Noted). AreChanges n.items (view_of (old (before c))) (view_of (new c))) (sym c.close.ensures.changes)
+    (changes-all c.in_ok-endings.endings.changes.items c.end_at_entry.new.endings.changes.items c.self.inside.tree c.end_at_entry.new.tree c.self.inside.sessions.sessions c.in_ok-endings.ensures.changes.0 c.end_at_entry.ensures.lead))

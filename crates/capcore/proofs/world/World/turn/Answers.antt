@@ -2,6 +2,7 @@ use Rattle.std.proofs.Common.{is_some, ◌≡◌, ◌≤◌, ◌<◌, ◌^◌, �
 use Rattle.std.specs.Prelude.{All, IsTrue}
 use Rattle.std.specs.Option.{option_map}
 use Rattle.sessiontab.specs.Calls.{has_session}
+use Rattle.sessiontab.specs.Table.{SessionTable}
 use Rattle.captable.specs.Table.{Table, IsTable}
 use Rattle.lockmachine.specs.Moves.{IsQuietOutside}
 use Rattle.lockmachine.specs.Scene.{Scene}
@@ -18,6 +19,9 @@ use Rattle.capcore.specs.Turn.{turn_event, turned, is_end, dropped_by}
 use Rattle.capcore.proofs.Stops.{stopped-answered}
 use Rattle.capcore.proofs.TurnStep.{turn-stop, few-waiting, few-messages, turn-quiet, turn-clients, turn-numbers, turn-alike, turn-known, turn-closed}
 use Rattle.capcore.proofs.Knowing.{HoldAlike, still-there, still-room}
+use Rattle.capview.specs.Changes.{AreChanges}
+use Rattle.capcore.specs.Noted.{Noted, view, view_of}
+use Rattle.capcore.proofs.Noting.{changes-still}
 use Rattle.capcore.proofs.world.World.turn.Goals as goal
 use Rattle.capcore.proofs.world.World.turn.Goals.{After-leave, After-close_dropped}
 
@@ -163,3 +167,23 @@ invariant_of-self-2 g =
 pub returns-clause-answered : goal.returns-clause-answered
 returns-clause-answered g =
     subst (λ (s : State). IsAnswered s (turn_event g.args.client g.args.turn) g.close_dropped.result (new g)) g.self.view_is (whole g)
+
+pub returns-in-Some-clause-changes : goal.returns-in-Some-clause-changes
+returns-in-Some-clause-changes c = changes-still c.alone.result.changes.items (view_of c.args.self.now) c.alone.ensures.changes
+
+pub end_at-requires-clause-places : goal.end_at-requires-clause-places
+end_at-requires-clause-places g =
+    let c = (goal.at.end_at-requires-clause-places g).After-leave in
+    let few = fewer c in
+    omega (arith, few, c.in_ok-room.ensures.places)
+
+pub returns-clause-changes : goal.returns-clause-changes
+returns-clause-changes g =
+    let noted = g.in_ok-room.room.endings.changes.items in
+    let sessions = g.turn_session.new.sessions.sessions in
+    let turn : AreChanges noted (view_of (old (c g))) (view g.self.inside.tree sessions) =
+    subst (λ (t : SessionTable). AreChanges noted (view_of (old (c g))) (view g.self.inside.tree t.sessions)) (sym g.in_default-turn_session.ensures.ok)
+    (let notes = g.in_ok-room.ensures.lead in notes.lead g.self.inside.tree g.self.inside.sessions) in
+    subst (λ (s : State). AreChanges g.close_dropped.result.changes.items (view_of s) (view_of (new g))) g.self.view_is
+    (subst (λ (n : Noted). AreChanges n.items (view_of (old (c g))) (view_of (new g))) (sym g.close_dropped.ensures.changes)
+    (g.end_at.ensures.lead.on (view_of (old (c g))) sessions turn))

@@ -3,7 +3,7 @@ use Rattle.std.specs.FinMap as map
 use Rattle.std.specs.Map.Iter.{deref_pair}
 use Rattle.std.proofs.lemmas.Map.Iter.{rest_so_far, rest_more, iter_end}
 use Rattle.inotree.proofs.Order.{name_total, name_same}
-use Rattle.inotree.proofs.Copies.{copied_none, copied_turn, copied_end}
+use Rattle.numbered.proofs.Copies.{copied_none, copied_turn, copied_end}
 use Rattle.inotree.proofs.attributes.Attributes.copy.Goals as goal
 
 pub loop-name-init : goal.loop-name-init

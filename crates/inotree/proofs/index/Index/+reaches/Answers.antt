@@ -4,7 +4,8 @@ use Rattle.std.specs.Map.Iter.{deref_pair}
 use Rattle.std.proofs.lemmas.Map.Iter.{rest_so_far, rest_more, iter_end}
 use Rattle.inotree.specs.declared.index.Slot.{Slot}
 use Rattle.inotree.specs.Index.{index_reaches}
-use Rattle.inotree.proofs.Reaching.{reaches-zero, reaches-step, any_found, any-map}
+use Rattle.numbered.proofs.Found.{any-map}
+use Rattle.inotree.proofs.Reaching.{reaches-zero, reaches-step, any_found}
 use Rattle.inotree.proofs.index.Index.+reaches.Goals as goal
 
 pub returns-then-steps-eq0 : goal.returns-then-steps-eq0

@@ -3,7 +3,7 @@ use Rattle.std.specs.FinMap as map
 use Rattle.std.specs.Map.Iter.{deref_pair}
 use Rattle.std.proofs.lemmas.Map.Iter.{rest_so_far, rest_more, iter_end}
 use Rattle.inotree.proofs.Slots.{slot_total, slot_same}
-use Rattle.inotree.proofs.Copies.{copied_none, copied_turn, copied_end}
+use Rattle.numbered.proofs.Copies.{copied_none, copied_turn, copied_end}
 use Rattle.inotree.proofs.index.Index.copy.Goals as goal
 
 pub loop-slot-init : goal.loop-slot-init

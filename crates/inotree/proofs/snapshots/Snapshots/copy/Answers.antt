@@ -6,7 +6,7 @@ use Rattle.std.specs.Map.Iter.{deref}
 use Rattle.std.proofs.lemmas.Map.Iter.{iter_end}
 use Rattle.inotree.specs.Names.{name_cmp}
 use Rattle.inotree.proofs.Order.{name_total, name_same}
-use Rattle.inotree.proofs.Copies.{copied_set_none, copied_set_turn, copied_set_all}
+use Rattle.numbered.proofs.Copies.{copied_set_none, copied_set_turn, copied_set_all}
 use Rattle.inotree.proofs.snapshots.Snapshots.copy.Goals as goal
 
 pub loop-name-init : goal.loop-name-init

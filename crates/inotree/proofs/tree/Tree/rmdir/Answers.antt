@@ -1,19 +1,5 @@
-use Rattle.std.proofs.Common.{◌≡◌, ℕ, None, sym, subst}
-use Rattle.inotree.specs.Inodes.{InodeMap}
-use Rattle.inotree.specs.Tree.{Nodes, IsUnder, site_of}
-use Rattle.capbits.specs.Refusal.{first_failing}
-use Rattle.inotree.specs.Tests.{rmdir_tests}
-use Rattle.inotree.proofs.Changes.{kept-unlinked, kept_at}
-use Rattle.inotree.proofs.Passing.{slot_site, passed-rmdir, childless_empty}
+use Rattle.inotree.proofs.OneInode.{detach-rmdir}
 use Rattle.inotree.proofs.tree.Tree.rmdir.Goals as goal
 
-pub invariant_of-self : goal.invariant_of-self
-invariant_of-self c =
-    let m : InodeMap = c.self.inside.inodes in
-    let k : ℕ = c.args.ino.0 in
-    let before : Nodes = record { nodes = m; last = c.self.inside.last } in
-    let passed : first_failing (rmdir_tests before k) ≡ None = subst (λ (t : Nodes). first_failing (rmdir_tests t k) ≡ None) (sym c.self.view_is) c.requires.passed in
-    let under : IsUnder m k c.in-Some.entry.dir c.in-Some.entry.name = slot_site (site_of m k) c.in-Some.entry (sym c.in-Some.ensures) in
-    kept_at _ _ c.self.inside.last _ _ c.set_site.ensures c.remove.ensures
-    (kept-unlinked m c.self.inside.last k c.in-Some.entry.dir c.in-Some.entry.name c.self.inside.names c.self.invariant.0 c.self.invariant.1 under
-    (childless_empty m k (passed-rmdir before k passed).1))
+pub detach-requires : goal.detach-requires
+detach-requires c = record { passed = detach-rmdir c.args.self.now c.args.ino.0 c.requires.passed }

@@ -1,19 +1,7 @@
-use Rattle.std.proofs.Common.{◌≡◌, ℕ, None, sym, subst}
-use Rattle.inotree.specs.Inodes.{InodeMap}
-use Rattle.inotree.specs.Tree.{Nodes, IsUnder, site_of}
-use Rattle.capbits.specs.Refusal.{first_failing}
-use Rattle.inotree.specs.Tests.{unlink_tests}
-use Rattle.inotree.proofs.Changes.{kept-unlinked, kept_at}
-use Rattle.inotree.proofs.Passing.{slot_site, passed-unlink, childless_file}
+use Rattle.std.proofs.Common.{subst}
+use Rattle.inotree.specs.Tree.{IsTree}
+use Rattle.inotree.proofs.OneInode.{detach-unlink}
 use Rattle.inotree.proofs.tree.Tree.unlink.Goals as goal
 
-pub invariant_of-self : goal.invariant_of-self
-invariant_of-self c =
-    let m : InodeMap = c.self.inside.inodes in
-    let k : ℕ = c.args.ino.0 in
-    let before : Nodes = record { nodes = m; last = c.self.inside.last } in
-    let passed : first_failing (unlink_tests before k) ≡ None = subst (λ (t : Nodes). first_failing (unlink_tests t k) ≡ None) (sym c.self.view_is) c.requires.passed in
-    let under : IsUnder m k c.in-Some.slot.dir c.in-Some.slot.name = slot_site (site_of m k) c.in-Some.slot (sym c.in-Some.ensures) in
-    kept_at _ _ c.self.inside.last _ _ c.set_site.ensures c.remove.ensures
-    (kept-unlinked m c.self.inside.last k c.in-Some.slot.dir c.in-Some.slot.name c.self.inside.names c.self.invariant.0 c.self.invariant.1 under
-    (childless_file m c.self.inside.last k c.self.invariant.0 (passed-unlink before k passed).1))
+pub detach-requires : goal.detach-requires
+detach-requires c = record { passed = detach-unlink c.args.self.now c.args.ino.0 (subst IsTree c.self.view_is c.self.invariant.0) c.requires.passed }

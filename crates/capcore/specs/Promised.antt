@@ -1,0 +1,52 @@
+-- What is promised of an event that was answered, part by part. The core promises it, and so does a server of each event that it makes
+-- under its lock: both name this record, so that neither can promise less.
+use Rattle.std.specs.Prelude.{◌≡◌, IsTrue}
+use Rattle.capbits.specs.declared.ids.PassId.{PassId}
+use Rattle.capview.specs.Changes.{AreChanges}
+use Rattle.lockmachine.specs.Moves.{IsAtRest}
+use Rattle.capcore.specs.declared.event.Event.{Event}
+use Rattle.capcore.specs.declared.reply.Reply.{Reply}
+use Rattle.capcore.specs.State.{State}
+use Rattle.capcore.specs.Direct.{direct}
+use Rattle.capcore.specs.Headline.{DeniedExactly, DeniesByName, ServedDenied, ServedByName, EachServing, ByMoves, AreBounded, OtherLocksStay}
+use Rattle.capcore.specs.Headline.{IssuesExactly, AreInPlace, AreRevoked, NoneConflict, is_stop}
+use Rattle.capcore.specs.History.{Told, IsNext, InItsRow, Replays}
+use Rattle.capcore.specs.Noted.{view_of}
+use Rattle.capcore.specs.Shown.{ShowsWhatIsTold, ShowsOnlyPermitted, TakesUnshown, TakesOnlySo}
+use Rattle.capcore.specs.Sound.{IsSound}
+
+pub record IsPromised (old : Told) (pass : PassId) (event : Event) (answer : Reply) (new : Told) : Type 0 where
+  -- one step of the rules, and one row
+  pub next : IsNext old pass event answer new
+  -- a request is denied exactly if it passes the tests that stand before policy and an access that it needs has no grant, and each
+  -- denial names the rule by which each grant fails
+  pub denied : DeniedExactly old.state.scene event answer
+  pub named : DeniesByName old.state.scene event answer
+  -- so are the requests that wait, when they are served. At most as many are served as wait, and between two of them each lock begins
+  -- at most one gather and ends at most two
+  pub served_denied : InItsRow old.rows new.rows (λ ended. ByMoves (EachServing ServedDenied) old.state event answer ended new.state)
+  pub served_named : InItsRow old.rows new.rows (λ ended. ByMoves (EachServing ServedByName) old.state event answer ended new.state)
+  pub bounded : InItsRow old.rows new.rows (λ ended. ByMoves AreBounded old.state event answer ended new.state)
+  -- locks change by these moves alone
+  pub other_locks : InItsRow old.rows new.rows (λ ended. ByMoves (OtherLocksStay new.state.scene.locks) old.state event answer ended new.state)
+  -- What is issued is what is wanted, permitted and allowed. What is held outside its lock's row is being revoked under an open gather,
+  -- and what is held and not permitted is being revoked; and no two clients hold what may not be held together.
+  pub issued : IssuesExactly (direct old.state event).state.scene new.state.scene
+  pub in_place : AreInPlace new.state.scene
+  pub lost : AreRevoked new.state.scene
+  pub apart : NoneConflict new.state.scene
+  -- Where no message is due for an entry, its client was last shown just what it is to know, and that is permitted. What an
+  -- acknowledgement takes was missing from what was shown; and nothing else takes what is held, but a release and the end of a session.
+  pub shown : ShowsWhatIsTold new.rows new.state.scene
+  pub shown_permitted : ShowsOnlyPermitted new.rows new.state.scene
+  pub unshown : TakesUnshown old.rows old.state.scene event (direct old.state event).state.scene
+  pub only_so : TakesOnlySo old.state.scene event new.state.scene
+  -- all that the state speaks of is there, and nothing is left to do
+  pub sound : IsSound new.state
+  -- locks are at rest, and a denial or a refusal changes nothing but the history
+  pub at_rest : IsAtRest new.state.scene
+  pub unchanged : IsTrue (is_stop answer) → new.state ≡ old.state
+  -- wherever the history began, it goes on from there
+  pub legal : (first : State) → Replays first old.rows old.state → Replays first new.rows new.state
+  -- what it says that it changed leads readers from what they saw to what there is to see
+  pub changes : AreChanges new.changes (view_of old.state) (view_of new.state)

@@ -1,0 +1,18 @@
+-- What a fresh call leaves.
+use Rattle.std.specs.Prelude.{◌≡◌, ℕ, ◌<◌, List, [], ◌∷◌, ◌++◌, length}
+use mathlib.Core.List.{IsPrefix}
+use Rattle.capcore.specs.History.{made_row}
+use Rattle.capcore.specs.declared.event.Event.{Event}
+use Rattle.capcore.specs.declared.history.Row.{Row}
+use Rattle.capcore.specs.declared.outcome.Ended.{Ended}
+use Rattle.capcore.specs.declared.reply.Reply.{Reply}
+use Rattle.capserver.specs.Passes.{PassState, pass_id}
+
+-- what the pass knew is a proper beginning of what it knows, and that ends with a row of the pass, of this event and this reply
+pub record IsFresh (old new : PassState) (event : Event) (reply : Reply) : Type 0 where
+  pub before : List Row
+  pub nth : ℕ
+  pub ended : List Ended
+  pub ends : new.known ≡ before ++ made_row (pass_id old) nth event reply ended ∷ []
+  pub begins : IsPrefix old.known new.known
+  pub proper : length old.known < length new.known

@@ -1,0 +1,20 @@
+-- Openings as contracts see them.
+use Rattle.std.specs.Prelude.{ℕ, refl}
+use Rattle.std.specs.Coded.{Coded, code_by, coded×, coded_ℕ}
+use Rattle.logbook.specs.Pages.{Book, book_coded}
+use Rattle.capcore.specs.State.{State}
+use Rattle.capcore.specs.Codes.{state_code}
+
+-- the state that the core opens with, how many rows its history takes at most, and the book for them
+pub record Opened : Type 0 where
+  pub state : State
+  pub max_rows : ℕ
+  pub history : Book
+
+abbrev pub opened : State → ℕ → Book → Opened
+opened state max_rows history = record { state = state; max_rows = max_rows; history = history }
+
+abbrev pub opened_code : Coded Opened
+opened_code =
+    code_by (State × (ℕ × Book)) (coded× state_code (coded× coded_ℕ book_coded))
+    (λ o. (o.state, (o.max_rows, o.history))) (λ p. opened p.0 p.1.0 p.1.1) (λ _. refl)

@@ -1,0 +1,4 @@
+pub mod Alike
+pub mod Likeness
+pub mod Telling
+pub mod Answering

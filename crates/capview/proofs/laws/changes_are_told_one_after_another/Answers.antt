@@ -1,0 +1,11 @@
+use Rattle.capview.proofs.Telling.{changes-none, changes-more, changes-alike}
+use Rattle.capview.proofs.laws.changes_are_told_one_after_another.Goals as goal
+
+pub returns-clause-none : goal.returns-clause-none
+returns-clause-none c = changes-none
+
+pub returns-clause-more : goal.returns-clause-more
+returns-clause-more c = changes-more
+
+pub returns-clause-alike : goal.returns-clause-alike
+returns-clause-alike c = changes-alike

@@ -1,0 +1,3 @@
+pub mod Sight
+pub mod Changes
+pub mod Answers

@@ -1,0 +1,245 @@
+//! Questions on policy, which threads ask of a server beside one that calls events all the time; and the same questions under a
+//! lock that its calls take too, so that the one can be compared with the other.
+ghost use Rattle.std.specs.Prelude.{◌≡◌};
+ghost use Rattle.capserver.specs.Opened.{opened};
+
+use crate::fault::Fault;
+use crate::inodes::{CLIENT, birth, inode_at, root_tree, session_of, spread};
+use crate::moving::{mode_at, mode_change};
+use crate::work::{AskShape, Layout, Size, Way};
+use capcore::Event;
+use capgrant::{Access, Verdict};
+use capserver::{Answer, CapServer, NoGate, Opening, Pass, Question, Server, Unknown};
+use std::alloc::Global;
+use std::marker::Brand;
+use std::sync::atomic::{AtomicU64, Ordering};
+use std::sync::ledger::Blank;
+use std::sync::{Mutex, MutexGuard, Wait};
+use std::thread::{JoinHandle, Scope, Threads, join, scope, scope_env};
+
+/// What the word says that threads read while others still ask.
+const ASKING: u64 = 1;
+
+/// Has threads ask so many questions each, while one thread changes modes, and returns how many were answered with yes.
+pub(crate) fn explain<T: Threads + Wait + Sync>(
+    rt: &T,
+    alloc: Global,
+    shape: AskShape,
+    times: u32,
+) -> Result<u64, Fault> {
+    let (fs, tree) = root_tree(alloc)?;
+    let opening = Opening::new(alloc, fs, tree, u32::MAX)?;
+    // One pass more than there are threads that ask.
+    let count = shape.readers.number() + 1;
+    served::<Brand, T>(rt, alloc, opening, Blank::new(32), count, shape, times)
+}
+
+fn served<L: Server + Send + Sync, T: Threads + Wait + Sync>(
+    rt: &T,
+    alloc: Global,
+    opening: Opening,
+    blank: Blank,
+    count: u32,
+    shape: AskShape,
+    times: u32,
+) -> Result<u64, Fault>
+    requires opening { opening ≡ opened L.opening L.max_rows L.history }
+    requires name { blank.name ≡ L.name }
+    requires parts { (blank.parts ≡ L.parts) × (L.parts ≡ 32) }
+    requires passes { count ≡ L.passes }
+{
+    let Ok((server, passes)) = CapServer::<NoGate, L>::start(rt, opening, blank, count, NoGate)
+    else {
+        return Err(Fault::NoMemory);
+    };
+    let sum = ask_beside(rt, alloc, &server, passes, shape, times);
+    let closed = server.close(rt, Vec::new(alloc));
+    drop(closed);
+    sum
+}
+
+// The last pass makes the tree, and then calls events until all others have asked.
+fn ask_beside<L: Server + Send + Sync, T: Threads + Wait + Sync>(
+    rt: &T,
+    alloc: Global,
+    server: &CapServer<NoGate, L>,
+    passes: Vec<Pass<L>>,
+    shape: AskShape,
+    times: u32,
+) -> Result<u64, Fault> {
+    let mut passes = passes;
+    let Some(mut caller) = passes.pop() else {
+        return Err(Fault::Refused);
+    };
+    make_tree(rt, alloc, server, &mut caller, shape.size)?;
+    let (asking, lock) = (AtomicU64::new(ASKING), Mutex::new(()));
+    let turnstile = match shape.way {
+        Way::Beside => None,
+        Way::Locked => Some(&lock),
+    };
+    let (called, sum) = join(
+        rt,
+        || call_while(rt, server, caller, &asking, turnstile, shape.size),
+        || {
+            let sum = ask_all(rt, alloc, server, passes, turnstile, shape.size, times);
+            asking.store(0, Ordering::SeqCst);
+            sum
+        },
+    );
+    called?;
+    sum
+}
+
+// Gives the client a session, and makes so many directories in chains.
+fn make_tree<L: Server, T: Wait>(
+    rt: &T,
+    alloc: Global,
+    server: &CapServer<NoGate, L>,
+    pass: &mut Pass<L>,
+    size: Size,
+) -> Result<(), Fault> {
+    call(rt, server, pass, None, session_of(alloc, CLIENT)?)?;
+    for place in 0..size.number() {
+        call(rt, server, pass, None, birth(alloc, Layout::Deep, place)?)?;
+    }
+    Ok(())
+}
+
+// ---- the thread that calls
+
+// Changes the mode of one inode after another as long as others ask.
+fn call_while<L: Server, T: Wait>(
+    rt: &T,
+    server: &CapServer<NoGate, L>,
+    pass: Pass<L>,
+    asking: &AtomicU64,
+    turnstile: Option<&Mutex<()>>,
+    size: Size,
+) -> Result<(), Fault> {
+    let mut pass = pass;
+    let mut turn: u32 = 0;
+    for _ in rt.forever() {
+        if asking.load(Ordering::SeqCst) != ASKING {
+            break;
+        }
+        let ino = inode_at(spread(turn, size.number()));
+        let event = mode_change(ino, mode_at(turn)?);
+        call(rt, server, &mut pass, turnstile, event)?;
+        turn = turn.wrapping_add(1);
+    }
+    Ok(())
+}
+
+// Calls an event, under the lock if there is one.
+fn call<L: Server, T: Wait>(
+    rt: &T,
+    server: &CapServer<NoGate, L>,
+    pass: &mut Pass<L>,
+    turnstile: Option<&Mutex<()>>,
+    event: Event,
+) -> Result<(), Fault> {
+    let answer = match turnstile {
+        None => server.call(rt, pass, event),
+        Some(lock) => {
+            let guard = lock.lock(rt);
+            let answer = server.call(rt, pass, event);
+            MutexGuard::unlock(guard);
+            answer
+        }
+    };
+    let Answer { reply, fresh: _ } = answer?;
+    drop(reply);
+    Ok(())
+}
+
+// ---- the threads that ask
+
+// Has each pass ask in a thread of its own, and waits for all.
+fn ask_all<L: Server + Send + Sync, T: Threads + Wait + Sync>(
+    rt: &T,
+    alloc: Global,
+    server: &CapServer<NoGate, L>,
+    passes: Vec<Pass<L>>,
+    turnstile: Option<&Mutex<()>>,
+    size: Size,
+    times: u32,
+) -> Result<u64, Fault> {
+    scope(scope_env(), rt, |scope| {
+        let threads = start_all(scope, rt, alloc, server, passes, turnstile, size, times)?;
+        Ok(join_all(rt, threads))
+    })
+}
+
+fn start_all<'s, E, L: Server + Send + Sync, T: Threads + Wait + Sync>(
+    scope: &Scope<'s, E>,
+    rt: &'s T,
+    alloc: Global,
+    server: &'s CapServer<NoGate, L>,
+    passes: Vec<Pass<L>>,
+    turnstile: Option<&'s Mutex<()>>,
+    size: Size,
+    times: u32,
+) -> Result<Vec<JoinHandle<u64>>, Fault> {
+    let mut threads = Vec::new(alloc);
+    for pass in passes {
+        let thread = scope.spawn(move || ask(rt, server, pass, turnstile, size, times));
+        let Ok(thread) = thread else {
+            return Err(Fault::NoMemory);
+        };
+        threads.push(thread)?;
+    }
+    Ok(threads)
+}
+
+// The sum of what the threads come to.
+fn join_all<T: Threads>(rt: &T, threads: Vec<JoinHandle<u64>>) -> u64 {
+    let mut sum: u64 = 0;
+    for thread in threads {
+        sum = sum.wrapping_add(thread.join(rt));
+    }
+    sum
+}
+
+// Asks so many questions, and returns how many were answered with yes.
+fn ask<L: Server, T: Wait>(
+    rt: &T,
+    server: &CapServer<NoGate, L>,
+    pass: Pass<L>,
+    turnstile: Option<&Mutex<()>>,
+    size: Size,
+    times: u32,
+) -> u64 {
+    let mut pass = pass;
+    let mut sum: u64 = 0;
+    for turn in 0..times {
+        let question = Question {
+            client: CLIENT,
+            ino: inode_at(spread(turn, size.number())),
+            access: Access::Write,
+        };
+        let answer = ask_once(rt, server, &mut pass, turnstile, &question);
+        if matches!(answer, Ok(Verdict::Allowed { .. })) {
+            sum = sum.wrapping_add(1);
+        }
+    }
+    sum
+}
+
+// Asks a question, under the lock if there is one.
+fn ask_once<L: Server, T: Wait>(
+    rt: &T,
+    server: &CapServer<NoGate, L>,
+    pass: &mut Pass<L>,
+    turnstile: Option<&Mutex<()>>,
+    question: &Question,
+) -> Result<Verdict, Unknown> {
+    match turnstile {
+        None => server.explain(pass, question),
+        Some(lock) => {
+            let guard = lock.lock(rt);
+            let answer = server.explain(pass, question);
+            MutexGuard::unlock(guard);
+            answer
+        }
+    }
+}

@@ -1,0 +1,5 @@
+pub mod Rows
+pub mod Value
+pub mod Places
+pub mod Answers
+pub mod Publishing

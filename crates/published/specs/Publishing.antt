@@ -1,0 +1,44 @@
+-- What a publisher has staged for readers to see next.
+use Rattle.std.specs.Prelude.{◌≡◌, Bool, false, List, refl}
+use Rattle.std.specs.Coded.{Coded, code_by, coded×, coded_bool}
+use mathlib.Core.List.{IsPrefix}
+use Rattle.logbook.specs.Pages.{Book}
+use Rattle.inotree.specs.Tree.{Nodes, nodes_code}
+use Rattle.sessiontab.specs.Connected.{SessionMap, session_map_code}
+use Rattle.capcore.specs.declared.history.Row.{Row}
+use Rattle.capcore.specs.State.{State}
+use Rattle.capview.specs.declared.view.View.{View}
+use Rattle.capview.specs.Sight.{Shows}
+use Rattle.published.specs.declared.value.Published.{Published}
+use Rattle.published.specs.declared.value.Stage.{Stage}
+use Rattle.capcore.specs.Noted.{view_of}
+use Rattle.published.specs.Rows.{Legal, rows_code}
+use Rattle.published.specs.Value.{staged_all}
+
+-- the rows in the book, whether a stage was lost, and the view once the stages are there
+pub record Publishing : Type 0 where
+  pub rows : List Row
+  pub lost : Bool
+  pub view : View
+
+abbrev pub publishing : Published → List Stage → List Row → Bool → Publishing
+publishing value stages rows lost = record { rows = rows; lost = lost; view = (staged_all value stages).view }
+
+abbrev pub view_code : Coded View
+view_code = code_by (Nodes × SessionMap) (coded× nodes_code session_map_code) (λ v. (v.tree, v.sessions)) (λ p. record { tree = p.0; sessions = p.1 }) (λ _. refl)
+
+abbrev pub publishing_code : Coded Publishing
+publishing_code =
+    code_by (List Row × (Bool × View)) (coded× rows_code (coded× coded_bool view_code))
+    (λ p. (p.rows, (p.lost, p.view))) (λ p. record { rows = p.0; lost = p.1.0; view = p.1.1 }) (λ _. refl)
+
+-- what readers see begins the rows in the book; and where no stage was lost, the stages lead to just these
+pub record IsStaging (book : Book) (value : Published) (stages : List Stage) (rows : List Row) (lost : Bool) : Type 0 where
+  pub begins : IsPrefix value.rows.seen.log rows
+  pub book_is : lost ≡ false → (staged_all value stages).rows.seen.book ≡ book
+  pub rows_are : lost ≡ false → (staged_all value stages).rows.seen.log ≡ rows
+
+-- the rows in the book lead from the opening to a state that the view shows
+pub record IsReady (opening : State) (p : Publishing) : Type 0 where
+  pub legal : Legal opening p.rows
+  pub shows : Shows p.view (view_of legal.last)

@@ -1,0 +1,46 @@
+//! What the type parameter of a server stands for.
+
+use std::marker::Brand;
+use std::sync::ledger::Ledger;
+
+/// One server: its ledger, how many passes it has, the state that its core opened with, how many rows its history takes at most,
+/// and the book of its rows. Contracts alone see the last four.
+pub trait Server: Ledger {
+    ghost use Rattle.std.specs.Prelude.{ℕ};
+    ghost use Rattle.capcore.specs.State.{State};
+    ghost use Rattle.logbook.specs.Pages.{Book};
+
+    ghost passes: { ℕ };
+
+    ghost opening: { State };
+
+    ghost max_rows: { ℕ };
+
+    ghost history: { Book };
+}
+
+// A brand is none of these yet. A call that makes a server picks its own.
+impl Server for Brand {
+    ghost use Rattle.std.specs.Prelude.{[]};
+    ghost use Rattle.std.specs.FinMap as map;
+    ghost use Rattle.std.specs.FinSet as set;
+    ghost use Rattle.captable.specs.Table as table;
+    ghost use Rattle.lockmachine.specs.Locks.{no_locks};
+
+    ghost passes = { 0 };
+
+    ghost opening = { record {
+      scene = record {
+        fs = [];
+        tree = record { nodes = map.empty; last = 0 };
+        sessions = record { sessions = map.empty; blocked = set.empty };
+        table = table.empty;
+        locks = no_locks;
+      };
+      messages = [];
+    } };
+
+    ghost max_rows = { 0 };
+
+    ghost history = { record { number = 0; log_name = 0; cells_name = 0 } };
+}

@@ -1,0 +1,20 @@
+//! What a server has published beside its lock: a beginning of its history, and the view to which that leads. Readers take it
+//! from one of two copies, and know afterwards that the history begins so.
+#![tactic(auto)]
+
+mod beginning;
+mod ledger;
+mod place;
+mod publisher;
+mod recorder;
+mod staging;
+mod value;
+mod witness;
+
+pub use beginning::{Beginning, Counted, Head, Rows};
+pub use ledger::Server;
+pub use place::{Place, PublishedReader, PublishedWriter, Rule, Sees};
+pub use publisher::{MAX_READERS, Publisher};
+pub use recorder::{NewRows, Recorder};
+pub use value::{Published, Stage};
+pub use witness::Witness;

@@ -1,0 +1,182 @@
+//! Who publishes: the rows of the history, and the view to which they lead.
+ghost use Rattle.std.specs.Prelude.{◌≡◌, ◌≤◌, true, false, [], length, fold, IfOk, IfSome};
+ghost use mathlib.Core.List.{IsPrefix};
+ghost use Rattle.capview.specs.Changes.{view_by};
+ghost use Rattle.capcore.specs.Noted.{view_of};
+ghost use Rattle.published.specs.Publishing.{IsReady};
+ghost use Rattle.published.specs.Rows.{Legal};
+
+use crate::beginning::Beginning;
+use crate::ledger::Server;
+use crate::place::{PublishedWriter, Sees};
+use crate::recorder::{NewRows, Recorder};
+use crate::staging::{stage_next, stage_whole};
+use crate::value::Published;
+use crate::witness::Witness;
+use capcore::Row;
+use capview::{View, ViewChange};
+use inotree::Tree;
+use sessiontab::Sessions;
+use std::alloc::{AllocError, Global};
+use std::marker::Model;
+use std::sync::Wait;
+
+/// How many readers' places there are.
+pub const MAX_READERS: usize = 32;
+
+/// Who publishes. What was refused memory goes out with the next: then the whole view is staged once more. It is not `Drop`:
+/// end it by `end`.
+pub struct Publisher<L: Server> {
+    // Who adds rows to the book. It has those that are published, and those that are staged.
+    recorder: Recorder<L>,
+    writer: PublishedWriter<L>,
+    // Whether a stage was refused memory, so that the stages don't lead to these rows.
+    lost: bool,
+}
+
+impl<L: Server> Model for Publisher<L> {
+    ghost use Rattle.std.specs.Prelude.{drop};
+    ghost use Rattle.published.specs.Publishing.{Publishing, publishing_code, publishing, IsStaging};
+
+    ghost Value = { Publishing };
+
+    ghost coded = { publishing_code };
+
+    ghost view = { λ p. publishing p.writer.desk.shown.value (drop p.writer.behind p.writer.log.items) p.recorder p.lost };
+
+    ghost invariant = { λ p. IsStaging L.history p.writer.desk.shown.value (drop p.writer.behind p.writer.log.items) p.recorder p.lost };
+}
+
+impl<L: Server> Publisher<L> {
+    /// Publishes that there is no row yet, and the view of the opening.
+    pub fn new(
+        alloc: Global,
+        rows: NewRows,
+        tree: &Tree,
+        sessions: &Sessions,
+    ) -> Result<Publisher<L>, AllocError>
+        requires rows { rows.seen.book ≡ L.history }
+        requires tree { tree.now ≡ L.opening.scene.tree }
+        requires sessions { sessions.now ≡ L.opening.scene.sessions }
+        ensures { IfOk result (λ p. p ≡ record { rows = []; lost = false; view = view_of L.opening }) }
+    {
+        let recorder = rows.named::<L>();
+        let first = first_value(recorder.rows(), tree, sessions)?;
+        let second = first.copy()?;
+        let writer = PublishedWriter::<L>::new(alloc, first, second, MAX_READERS)?;
+        Ok(Publisher {
+            recorder,
+            writer,
+            lost: false,
+        })
+    }
+
+    /// Who knows no row yet, and can read what is published.
+    pub fn witness(&self) -> Result<Witness<L>, AllocError>
+        requires { self.now.rows ≡ [] }
+        ensures { IfOk result (λ witness. witness ≡ []) }
+    {
+        let place = self.writer.factory().reader()?;
+        Ok(Witness::new(self.recorder.rows().again(), place))
+    }
+
+    /// Takes the rows of the history into the book, and stages the changes that the last ones made.
+    pub fn follow(&mut self, history: &[Row], changes: &[ViewChange])
+        requires legal { Legal L.opening history.now }
+        requires begins { IsPrefix self.old.rows history.now }
+        requires room { length history.now ≤ 4294967295 }
+        ensures begins { IsPrefix self.new.rows history.now }
+        ensures kept { self.new.lost ≡ false → self.old.lost ≡ false }
+        ensures rows { self.new.lost ≡ false → self.new.rows ≡ history.now }
+        ensures view { self.new.lost ≡ false → self.new.view ≡ fold view_by self.old.view changes.now }
+    {
+        if self.lost {
+            return;
+        }
+        let Publisher {
+            recorder,
+            writer,
+            lost,
+        } = self;
+        *lost = !stage_next(writer, recorder, history, changes);
+    }
+
+    /// Where a stage was lost, takes the rows of the history into the book and stages the whole view.
+    pub fn mend(&mut self, history: &[Row], tree: &Tree, sessions: &Sessions)
+        requires legal { Legal L.opening history.now }
+        requires begins { IsPrefix self.old.rows history.now }
+        requires room { length history.now ≤ 4294967295 }
+        ensures begins { IsPrefix self.new.rows history.now }
+        ensures kept { self.old.lost ≡ false → self.new ≡ self.old }
+        ensures rows { self.old.lost ≡ true → self.new.lost ≡ false → self.new.rows ≡ history.now }
+        ensures view { self.old.lost ≡ true → self.new.lost ≡ false → self.new.view ≡ record { tree = tree.now; sessions = sessions.now.sessions } }
+    {
+        if !self.lost {
+            return;
+        }
+        let Publisher {
+            recorder,
+            writer,
+            lost,
+        } = self;
+        *lost = !stage_whole(writer, recorder, history, tree, sessions);
+    }
+
+    /// Publishes what is staged, and gives the rows that readers see then. At `None` memory was refused: they see what they
+    /// saw, and it is published the next time.
+    pub fn publish<R: Wait>(self, rt: &R) -> (Publisher<L>, Option<Beginning<L>>)
+        requires { self.lost ≡ false → IsReady L.opening self }
+        ensures same { result.0 ≡ self }
+        ensures all { IfSome result.1 (λ rows. (rows ≡ self.rows) × (self.lost ≡ false)) }
+    {
+        if self.lost {
+            return (self, None);
+        }
+        let Publisher {
+            recorder,
+            writer,
+            lost,
+        } = self;
+        let (writer, done) = writer.publish_as::<Sees<L>, R>(rt);
+        let seen = match done {
+            Ok(()) => Some(recorder.rows().again()),
+            Err(_) => None,
+        };
+        let publisher = Publisher {
+            recorder,
+            writer,
+            lost,
+        };
+        (publisher, seen)
+    }
+
+    /// Ends it, and gives who added rows to the book. Readers that are still there see nothing from then on.
+    pub fn end<R: Wait>(self, rt: &R) -> Recorder<L>
+        ensures { result ≡ self.rows }
+    {
+        let Publisher {
+            recorder,
+            writer,
+            lost: _,
+        } = self;
+        writer.take(rt);
+        recorder
+    }
+}
+
+// What is published first.
+fn first_value<L: Server>(
+    rows: &Beginning<L>,
+    tree: &Tree,
+    sessions: &Sessions,
+) -> Result<Published, AllocError>
+    ensures log { IfOk result (λ value. value.rows.seen.log ≡ rows.now) }
+    ensures book { IfOk result (λ value. value.rows.seen.book ≡ L.history) }
+    ensures view { IfOk result (λ value. value.view ≡ record { tree = tree.now; sessions = sessions.now.sessions }) }
+{
+    let view = View::of(tree, sessions)?;
+    Ok(Published {
+        rows: rows.counted(),
+        view,
+    })
+}

@@ -1,0 +1,132 @@
+//! The stages that bring what is published up to date.
+ghost use Rattle.std.specs.Prelude.{◌≡◌, ◌≤◌, false, length, drop, fold, IsTrue};
+ghost use mathlib.Core.List.{IsPrefix};
+ghost use Rattle.capview.specs.Changes.{view_by};
+ghost use Rattle.published.specs.Rows.{Legal};
+ghost use Rattle.published.specs.Value.{staged, staged_all};
+
+use crate::beginning::Beginning;
+use crate::ledger::Server;
+use crate::place::PublishedWriter;
+use crate::recorder::Recorder;
+use crate::value::Stage;
+use capcore::Row;
+use capview::{View, ViewChange};
+use inotree::Tree;
+use sessiontab::Sessions;
+
+// Stages the rows of the history that are new, and the changes that they made. It says whether all is staged.
+pub(crate) fn stage_next<L: Server>(
+    writer: &mut PublishedWriter<L>,
+    recorder: &mut Recorder<L>,
+    history: &[Row],
+    changes: &[ViewChange],
+) -> bool
+    requires legal { Legal L.opening history.now }
+    requires begins { IsPrefix recorder.old history.now }
+    requires room { length history.now ≤ 4294967295 }
+    ensures shown { writer.new.desk.shown.value ≡ writer.old.desk.shown.value }
+    ensures begins { IsPrefix recorder.new history.now }
+    ensures more { IsPrefix recorder.old recorder.new }
+    ensures whole { IsTrue result → recorder.new ≡ history.now }
+    ensures log { IsTrue result → (staged_all writer.new.desk.shown.value (drop writer.new.behind writer.new.log.items)).rows.seen.log ≡ history.now }
+    ensures book { IsTrue result → (staged_all writer.new.desk.shown.value (drop writer.new.behind writer.new.log.items)).rows.seen.book ≡ L.history }
+    ensures view { IsTrue result → (staged_all writer.new.desk.shown.value (drop writer.new.behind writer.new.log.items)).view ≡ fold view_by (staged_all writer.old.desk.shown.value (drop writer.old.behind writer.old.log.items)).view changes.now }
+{
+    gather(recorder, history)
+        && stage_changes(writer, changes)
+        && stage_rows(writer, recorder.rows())
+}
+
+// Stages the rows of the history that are new, and the whole view. It says whether all is staged.
+pub(crate) fn stage_whole<L: Server>(
+    writer: &mut PublishedWriter<L>,
+    recorder: &mut Recorder<L>,
+    history: &[Row],
+    tree: &Tree,
+    sessions: &Sessions,
+) -> bool
+    requires legal { Legal L.opening history.now }
+    requires begins { IsPrefix recorder.old history.now }
+    requires room { length history.now ≤ 4294967295 }
+    ensures shown { writer.new.desk.shown.value ≡ writer.old.desk.shown.value }
+    ensures begins { IsPrefix recorder.new history.now }
+    ensures more { IsPrefix recorder.old recorder.new }
+    ensures whole { IsTrue result → recorder.new ≡ history.now }
+    ensures log { IsTrue result → (staged_all writer.new.desk.shown.value (drop writer.new.behind writer.new.log.items)).rows.seen.log ≡ history.now }
+    ensures book { IsTrue result → (staged_all writer.new.desk.shown.value (drop writer.new.behind writer.new.log.items)).rows.seen.book ≡ L.history }
+    ensures view { IsTrue result → (staged_all writer.new.desk.shown.value (drop writer.new.behind writer.new.log.items)).view ≡ record { tree = tree.now; sessions = sessions.now.sessions } }
+{
+    gather(recorder, history)
+        && stage_view(writer, tree, sessions)
+        && stage_rows(writer, recorder.rows())
+}
+
+// Takes the rows of the history into the book. It says whether all are there.
+fn gather<L: Server>(recorder: &mut Recorder<L>, history: &[Row]) -> bool
+    requires legal { Legal L.opening history.now }
+    requires begins { IsPrefix recorder.old history.now }
+    requires room { length history.now ≤ 4294967295 }
+    ensures begins { IsPrefix recorder.new history.now }
+    ensures more { IsPrefix recorder.old recorder.new }
+    ensures all { IsTrue result → recorder.new ≡ history.now }
+{
+    let from = recorder.rows().len() as usize;
+    for at in from..history.len() {
+        if !recorder.add(&history[at]) {
+            return false;
+        }
+    }
+    true
+}
+
+// Stages the changes one by one.
+fn stage_changes<L: Server>(writer: &mut PublishedWriter<L>, changes: &[ViewChange]) -> bool
+    ensures shown { writer.new.desk.shown.value ≡ writer.old.desk.shown.value }
+    ensures view { IsTrue result → (staged_all writer.new.desk.shown.value (drop writer.new.behind writer.new.log.items)).view ≡ fold view_by (staged_all writer.old.desk.shown.value (drop writer.old.behind writer.old.log.items)).view changes.now }
+{
+    for change in changes {
+        if !stage_change(writer, change) {
+            return false;
+        }
+    }
+    true
+}
+
+fn stage_change<L: Server>(writer: &mut PublishedWriter<L>, change: &ViewChange) -> bool
+    ensures shown { writer.new.desk.shown.value ≡ writer.old.desk.shown.value }
+    ensures view { IsTrue result → (staged_all writer.new.desk.shown.value (drop writer.new.behind writer.new.log.items)).view ≡ view_by (staged_all writer.old.desk.shown.value (drop writer.old.behind writer.old.log.items)).view change.now }
+{
+    match change.copy() {
+        Ok(change) => stage(writer, Stage::Change(change)),
+        Err(_refused) => false,
+    }
+}
+
+// Stages the view of this tree and these sessions.
+fn stage_view<L: Server>(writer: &mut PublishedWriter<L>, tree: &Tree, sessions: &Sessions) -> bool
+    ensures shown { writer.new.desk.shown.value ≡ writer.old.desk.shown.value }
+    ensures view { IsTrue result → (staged_all writer.new.desk.shown.value (drop writer.new.behind writer.new.log.items)).view ≡ record { tree = tree.now; sessions = sessions.now.sessions } }
+{
+    match View::of(tree, sessions) {
+        Ok(view) => stage(writer, Stage::Whole(view)),
+        Err(_refused) => false,
+    }
+}
+
+// Stages these rows.
+fn stage_rows<L: Server>(writer: &mut PublishedWriter<L>, rows: &Beginning<L>) -> bool
+    ensures shown { writer.new.desk.shown.value ≡ writer.old.desk.shown.value }
+    ensures log { IsTrue result → (staged_all writer.new.desk.shown.value (drop writer.new.behind writer.new.log.items)).rows.seen.log ≡ rows.now }
+    ensures book { IsTrue result → (staged_all writer.new.desk.shown.value (drop writer.new.behind writer.new.log.items)).rows.seen.book ≡ L.history }
+    ensures view { IsTrue result → (staged_all writer.new.desk.shown.value (drop writer.new.behind writer.new.log.items)).view ≡ (staged_all writer.old.desk.shown.value (drop writer.old.behind writer.old.log.items)).view }
+{
+    stage(writer, Stage::Rows(rows.counted()))
+}
+
+fn stage<L: Server>(writer: &mut PublishedWriter<L>, next: Stage) -> bool
+    ensures shown { writer.new.desk.shown.value ≡ writer.old.desk.shown.value }
+    ensures staged { IsTrue result → staged_all writer.new.desk.shown.value (drop writer.new.behind writer.new.log.items) ≡ staged (staged_all writer.old.desk.shown.value (drop writer.old.behind writer.old.log.items)) next }
+{
+    writer.append(next).is_ok()
+}

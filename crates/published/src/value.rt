@@ -1,0 +1,62 @@
+//! What is published, and what brings it up to date.
+ghost use Rattle.std.specs.Prelude.{◌≡◌, IfOk};
+
+use crate::beginning::Counted;
+use capview::{View, ViewChange};
+use left_right::Absorb;
+use std::alloc::AllocError;
+
+/// What readers see: a beginning of the history, and the view to which it leads.
+#[derive(Drop)]
+pub struct Published {
+    /// The beginning of the history.
+    pub rows: Counted,
+    /// The view.
+    pub view: View,
+}
+
+impl Published {
+    // The same value once more.
+    pub(crate) fn copy(&self) -> Result<Published, AllocError>
+        ensures { IfOk result (λ copy. copy ≡ self.now) }
+    {
+        let view = self.view.copy()?;
+        let rows = self.rows.again();
+        Ok(Published { rows, view })
+    }
+}
+
+/// What brings a published value up to date, one step at a time: each is made as a whole or not at all.
+#[derive(Drop)]
+pub enum Stage {
+    /// There are more rows.
+    Rows(Counted),
+    /// The view follows by one change.
+    Change(ViewChange),
+    /// The view is this one, whatever it was.
+    Whole(View),
+}
+
+impl Absorb<Stage> for Published {
+    ghost use Rattle.published.specs.Value.{staged};
+
+    type State = Published;
+
+    ghost state = { λ value. value };
+
+    ghost applied = { staged };
+
+    fn absorb_first(&mut self, stage: &Stage, _other: &Published) -> Result<(), AllocError> {
+        match stage {
+            Stage::Rows(rows) => {
+                self.rows = rows.again();
+                Ok(())
+            }
+            Stage::Change(change) => self.view.follow(change),
+            Stage::Whole(view) => {
+                self.view = view.copy()?;
+                Ok(())
+            }
+        }
+    }
+}

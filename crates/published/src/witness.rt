@@ -1,0 +1,135 @@
+//! Who knows a beginning of the history, and reads what is published.
+ghost use Rattle.std.specs.Prelude.{◌≡◌, ◌≢◌, ◌<◌, Err, length, IsTrue};
+ghost use mathlib.Core.List.{IsPrefix};
+ghost use Rattle.left_right.specs.Sides.{view as place_view};
+ghost use Rattle.capview.specs.declared.answer.Unknown.TheVariants as unknown;
+ghost use Rattle.published.specs.Rows.{Legal};
+ghost use Rattle.published.specs.Answers.{IsAnswered};
+
+use crate::beginning::Beginning;
+use crate::ledger::Server;
+use crate::place::{PublishedReader, Sees};
+use crate::recorder::Recorder;
+use capgrant::Verdict;
+use capspec::FsName;
+use capview::{Question, Unknown};
+use std::marker::Model;
+
+/// Who has a reader's place, and knows what it saw there. To contracts it is the rows that it knows.
+#[derive(Drop)]
+pub struct Witness<L: Server> {
+    known: Beginning<L>,
+    // Its place, which it has between two calls.
+    place: Option<PublishedReader<L>>,
+}
+
+impl<L: Server> Model for Witness<L> {
+    ghost use Rattle.std.specs.Prelude.{◌≡◌, List, MatchOption};
+    ghost use Rattle.left_right.specs.Sides.{view as place_view};
+    ghost use Rattle.capcore.specs.declared.history.Row.{Row};
+    ghost use Rattle.published.specs.Rows.{Legal, rows_code};
+
+    ghost Value = { List Row };
+
+    ghost coded = { rows_code };
+
+    ghost view = { λ w. w.known };
+
+    ghost invariant = { λ w. MatchOption w.place ⊥ (λ r. (place_view r.place).known ≡ w.known) × Legal L.opening w.known };
+}
+
+impl<L: Server> Witness<L> {
+    /// Who has this place, and knows what the place knows.
+    pub fn new(known: Beginning<L>, place: PublishedReader<L>) -> Witness<L>
+        requires { (place_view place.place).known ≡ known }
+        ensures { result ≡ known }
+    {
+        let _count = known.len();
+        Witness {
+            known,
+            place: Some(place),
+        }
+    }
+
+    /// Answers a question on the file system of the server by what is published, and knows it from then on. It waits for nobody. Where nothing can be read, it
+    /// knows what it knew.
+    pub fn explain(&mut self, fs: &FsName, question: &Question) -> Result<Verdict, Unknown>
+        requires { fs.now ≡ L.opening.scene.fs }
+        ensures known { IsPrefix self.old self.new }
+        ensures legal { Legal L.opening self.new }
+        ensures answer { result ≢ Err unknown.NoView → IsAnswered L.opening self.new question.now result }
+        ensures no_view { result ≡ Err unknown.NoView → self.new ≡ self.old }
+    {
+        let Some(place) = self.place.take() else {
+            unreachable!()
+        };
+        match place.enter_as::<Sees<L>>() {
+            Ok(reading) => {
+                let value = reading.get();
+                let known = Beginning::of(&value.rows.seen, value.rows.count);
+                let answer = value.view.explain(fs, question);
+                self.place = Some(reading.leave());
+                self.known = known;
+                answer
+            }
+            Err(place) => {
+                self.place = Some(place);
+                Err(Unknown::NoView)
+            }
+        }
+    }
+
+    /// Knows what is published from then on. Where nothing can be read, it knows what it knew.
+    pub fn look(&mut self)
+        ensures known { IsPrefix self.old self.new }
+        ensures legal { Legal L.opening self.new }
+    {
+        let Some(place) = self.place.take() else {
+            unreachable!()
+        };
+        match place.enter_as::<Sees<L>>() {
+            Ok(reading) => {
+                let value = reading.get();
+                let known = Beginning::of(&value.rows.seen, value.rows.count);
+                self.place = Some(reading.leave());
+                self.known = known;
+            }
+            Err(place) => self.place = Some(place),
+        }
+    }
+
+    /// Knows what is published from then on, and says whether that is more than it knew, and just these rows.
+    pub fn catch_up(&mut self, rows: &Beginning<L>) -> bool
+        ensures known { IsPrefix self.old self.new }
+        ensures legal { Legal L.opening self.new }
+        ensures all { IsTrue result → (self.new ≡ rows.now) × (length self.old < length self.new) }
+    {
+        let before = self.known.len();
+        let Some(place) = self.place.take() else {
+            unreachable!()
+        };
+        match place.enter_as::<Sees<L>>() {
+            Ok(reading) => {
+                let value = reading.get();
+                let known = Beginning::of(&value.rows.seen, value.rows.count);
+                let same = known.is(rows);
+                let more = before < known.len();
+                self.place = Some(reading.leave());
+                self.known = known;
+                same && more
+            }
+            Err(place) => {
+                self.place = Some(place);
+                false
+            }
+        }
+    }
+
+    /// What it knows begins the rows that were added.
+    pub fn audit(&self, recorder: &mut Recorder<L>)
+        ensures begins { IsPrefix self.now recorder.old }
+        ensures same { recorder.new ≡ recorder.old }
+    {
+        recorder.audit(&self.known);
+    }
+}

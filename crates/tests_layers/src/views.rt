@@ -1,0 +1,395 @@
+//! Worked runs: a view that follows a server by the changes that it is told, and what it answers.
+
+use crate::asserting::same;
+use crate::sessions::made as no_sessions;
+use crate::texts::grants_of;
+use crate::tree_steps::Ask::{Mkdir, SnapAdd};
+use crate::tree_steps::{Round as TreeRound, made as no_inodes, runs_on};
+use capbits::{Caller, ClientId, Groups, Ino, Mode};
+use capgrant::{Access, Attr, Verdict};
+use capspec::FsName;
+use capview::{Question, Unknown, View, ViewChange};
+use inotree::{Name, Tree};
+use std::alloc::{AllocError, Global};
+use std::process::Abort;
+use std::test::Fail;
+
+// What a view is told. The first number is that of an inode or a client.
+#[derive(Clone, Copy)]
+enum Told {
+    // Made in a directory under a name, as a directory or not.
+    Born(u64, u64, &'static [u8], bool),
+    Moved(u64, u64, &'static [u8]),
+    Removed(u64),
+    Forgotten(u64),
+    // The owner, the group and the bits of the mode.
+    Settled(u64, (u32, u32, u16)),
+    // The user, and the text of the grants.
+    Opened(u32, u32, &'static str),
+    Ended(u32),
+    Regranted(u32, &'static str),
+}
+
+use Told::*;
+
+// What a client asks of an inode, and the answer: `grant` with a number, the word of the rule by which the first grant fails,
+// or why there is no verdict.
+type Look = (u32, u64, Access, &'static str);
+
+// What is told, whether the view can follow, and what is answered then.
+type Round = (&'static [(Told, bool)], &'static [Look]);
+
+// What a case shows, what was made of the tree before it was copied, and its rounds.
+type Case = (
+    &'static str,
+    &'static [TreeRound<'static>],
+    &'static [Round],
+);
+
+// Where a test fails: the case, the number of the round, and of what is told or asked in it.
+type At = (&'static str, usize, usize);
+
+// ---- what is told
+
+fn name_of(rt: &impl Abort, bytes: &[u8]) -> Name {
+    Name::read(bytes).expect(rt, "a name")
+}
+
+fn attr_of(rt: &impl Abort, (uid, gid, bits): (u32, u32, u16)) -> Attr {
+    let mode = Mode::new(bits).expect(rt, "a mode");
+    Attr { uid, gid, mode }
+}
+
+// What is made is user 10's, who alone may write to it.
+fn born(rt: &impl Abort, ino: u64, dir: u64, name: &[u8], is_dir: bool) -> ViewChange {
+    ViewChange::Born {
+        ino: Ino(ino),
+        dir: Ino(dir),
+        name: name_of(rt, name),
+        attr: attr_of(rt, (10, 10, 0o640)),
+        is_dir,
+    }
+}
+
+fn moved(rt: &impl Abort, ino: u64, dir: u64, name: &[u8]) -> ViewChange {
+    ViewChange::Moved {
+        ino: Ino(ino),
+        dir: Ino(dir),
+        name: name_of(rt, name),
+    }
+}
+
+fn settled(rt: &impl Abort, ino: u64, to: (u32, u32, u16)) -> ViewChange {
+    ViewChange::Settled {
+        ino: Ino(ino),
+        attr: attr_of(rt, to),
+    }
+}
+
+fn opened(rt: &(impl Abort + AllocGlobal), client: u32, uid: u32, text: &str) -> ViewChange {
+    let caller = Caller {
+        uid,
+        gid: uid,
+        groups: Groups::new(),
+    };
+    ViewChange::Opened {
+        client: ClientId(client),
+        caller,
+        grants: grants_of(rt, text.as_bytes()),
+    }
+}
+
+fn regranted(rt: &(impl Abort + AllocGlobal), client: u32, text: &str) -> ViewChange {
+    ViewChange::Regranted {
+        client: ClientId(client),
+        grants: grants_of(rt, text.as_bytes()),
+    }
+}
+
+fn change(rt: &(impl Abort + AllocGlobal), told: Told) -> ViewChange {
+    match told {
+        Born(ino, dir, name, is_dir) => born(rt, ino, dir, name, is_dir),
+        Moved(ino, dir, name) => moved(rt, ino, dir, name),
+        Removed(ino) => ViewChange::Removed { ino: Ino(ino) },
+        Forgotten(ino) => ViewChange::Forgotten { ino: Ino(ino) },
+        Settled(ino, to) => settled(rt, ino, to),
+        Opened(client, uid, text) => opened(rt, client, uid, text),
+        Ended(client) => ViewChange::Ended {
+            client: ClientId(client),
+        },
+        Regranted(client, text) => regranted(rt, client, text),
+    }
+}
+
+// A change, once it has been copied.
+fn copied(change: &ViewChange) -> Result<ViewChange, AllocError> {
+    change.copy()
+}
+
+fn can_follow(view: &mut View, change: &ViewChange) -> bool {
+    view.follow(change).is_ok()
+}
+
+fn follow(
+    rt: &(impl Abort + AllocGlobal),
+    view: &mut View,
+    (told, want): (Told, bool),
+    at: At,
+) -> Result<(), AllocError> {
+    let source = change(rt, told);
+    let change = copied(&source)?;
+    same(rt, can_follow(view, &change), want, at);
+    Ok(())
+}
+
+// ---- what is answered
+
+fn answer(view: &View, fs: &FsName, question: &Question) -> Result<Verdict, Unknown> {
+    view.explain(fs, question)
+}
+
+fn text_of(alloc: Global, answer: Result<Verdict, Unknown>) -> Result<String, AllocError> {
+    match answer {
+        Ok(Verdict::Allowed { grant }) => format!(in alloc; "grant {grant}"),
+        Ok(Verdict::Denied { rules }) => match rules.as_slice().first() {
+            Some(rule) => String::from_str(alloc, rule.word()),
+            None => String::from_str(alloc, "no grants"),
+        },
+        Err(unknown) => format!(in alloc; "{unknown:?}"),
+    }
+}
+
+fn ask(
+    rt: &(impl Abort + AllocGlobal),
+    view: &View,
+    (client, ino, access, want): Look,
+    at: At,
+) -> Result<(), AllocError> {
+    let fs = FsName::read(b"cephfs").expect(rt, "a name");
+    let question = Question {
+        client: ClientId(client),
+        ino: Ino(ino),
+        access,
+    };
+    let text = text_of(rt.alloc(), answer(view, &fs, &question))?;
+    same(rt, text.as_str(), want, at);
+    Ok(())
+}
+
+// ---- whole runs
+
+fn play(
+    rt: &(impl Abort + AllocGlobal),
+    view: &mut View,
+    (title, rounds): (&'static str, &'static [Round]),
+) -> Result<(), AllocError> {
+    for (number, (changes, looks)) in rounds.iter().enumerate() {
+        for (nth, told) in changes.iter().enumerate() {
+            follow(rt, view, *told, (title, number, nth))?;
+        }
+        for (nth, look) in looks.iter().enumerate() {
+            ask(rt, view, *look, (title, number, nth))?;
+        }
+    }
+    Ok(())
+}
+
+// A view of the tree and of no sessions.
+fn view_of(alloc: Global, tree: &Tree) -> Result<View, AllocError> {
+    let sessions = no_sessions(alloc)?;
+    View::of(tree, &sessions)
+}
+
+fn copy_of(view: &View) -> Result<View, AllocError> {
+    view.copy()
+}
+
+// Plays the rounds on a copy of the view, and then on the view itself, which is still as it was.
+fn plays_twice(
+    rt: &(impl Abort + AllocGlobal),
+    tree: &Tree,
+    rounds: (&'static str, &'static [Round]),
+) -> Result<(), AllocError> {
+    let mut view = view_of(rt.alloc(), tree)?;
+    let mut copy = copy_of(&view)?;
+    play(rt, &mut copy, rounds)?;
+    play(rt, &mut view, rounds)
+}
+
+fn runs(rt: &(impl Abort + AllocGlobal), (title, before, rounds): Case) -> Result<(), AllocError> {
+    let mut tree = no_inodes(rt.alloc())?;
+    runs_on(rt, &mut tree, (title, before))?;
+    plays_twice(rt, &tree, (title, rounds))
+}
+
+const MOVED: &[Round] = &[
+    (
+        &[
+            (Opened(1, 10, "allow rw"), true),
+            (Opened(3, 30, "allow rw path=/a"), true),
+            (Born(2, 1, b"a", true), true),
+            (Born(3, 1, b"b", true), true),
+            (Born(4, 2, b"x", false), true),
+        ],
+        &[
+            (3, 4, Access::Read, "grant 1"),
+            (3, 3, Access::Read, "path"),
+            (1, 3, Access::Write, "grant 1"),
+            (3, 9, Access::Read, "NoIno"),
+            (9, 4, Access::Read, "NoSession"),
+            (9, 9, Access::Read, "NoSession"),
+        ],
+    ),
+    (
+        &[(Moved(4, 3, b"y"), true)],
+        &[
+            (3, 4, Access::Read, "path"),
+            (1, 4, Access::Read, "grant 1"),
+        ],
+    ),
+    // A directory, with the file in it.
+    (
+        &[(Moved(3, 2, b"c"), true)],
+        &[(3, 4, Access::Read, "grant 1")],
+    ),
+];
+
+const GONE: &[Round] = &[
+    (
+        &[
+            (Opened(1, 10, "allow rw"), true),
+            (Born(2, 1, b"f", false), true),
+            (Removed(2), true),
+        ],
+        &[
+            (1, 2, Access::Read, "Gone"),
+            (9, 2, Access::Read, "NoSession"),
+        ],
+    ),
+    (&[(Forgotten(2), true)], &[(1, 2, Access::Read, "NoIno")]),
+    (
+        &[(Born(3, 1, b"f", false), true), (Ended(1), true)],
+        &[(1, 3, Access::Read, "NoSession")],
+    ),
+    (
+        &[(Opened(1, 10, "allow r"), true)],
+        &[(1, 3, Access::Write, "no-write")],
+    ),
+];
+
+const SETTLED: &[Round] = &[
+    (
+        &[
+            (Opened(1, 10, "allow rw uid=10"), true),
+            (Born(2, 1, b"f", false), true),
+        ],
+        &[
+            (1, 2, Access::Write, "grant 1"),
+            (1, 2, Access::Chmod, "grant 1"),
+        ],
+    ),
+    (
+        &[(Settled(2, (10, 10, 0o400)), true)],
+        &[
+            (1, 2, Access::Write, "mode-bits"),
+            (1, 2, Access::Read, "grant 1"),
+        ],
+    ),
+    (
+        &[(Settled(2, (11, 10, 0o666)), true)],
+        &[
+            (1, 2, Access::Write, "grant 1"),
+            (1, 2, Access::Chmod, "not-owner"),
+        ],
+    ),
+];
+
+const REGRANTED: &[Round] = &[
+    (
+        &[
+            (Opened(1, 10, "allow rw"), true),
+            (Opened(2, 20, "allow rw"), true),
+            (Regranted(1, "allow r"), true),
+            // Who is not connected stays so.
+            (Regranted(9, "allow rw"), true),
+        ],
+        &[
+            (1, 1, Access::Write, "no-write"),
+            (2, 1, Access::Write, "grant 1"),
+            (9, 1, Access::Read, "NoSession"),
+        ],
+    ),
+    (
+        &[(Regranted(1, "allow rws"), true)],
+        &[(1, 1, Access::Snapshot, "grant 1")],
+    ),
+];
+
+// What is told of another view than this one changes nothing.
+const OF_ANOTHER: &[Round] = &[
+    (
+        &[
+            (Opened(1, 10, "allow rw"), true),
+            (Born(3, 1, b"d", true), false),
+            (Born(2, 9, b"d", true), false),
+            (Born(2, 1, b"d", true), true),
+            (Born(3, 1, b"d", false), false),
+            (Born(3, 2, b"f", false), true),
+            (Removed(1), false),
+            (Removed(2), false),
+            (Removed(9), false),
+            (Moved(1, 2, b"r"), false),
+            (Moved(2, 2, b"r"), false),
+            (Moved(3, 9, b"r"), false),
+            (Forgotten(3), false),
+            (Forgotten(9), false),
+            (Settled(9, (1, 1, 0o777)), false),
+        ],
+        &[
+            (1, 2, Access::Read, "grant 1"),
+            (1, 3, Access::Read, "grant 1"),
+            (1, 9, Access::Read, "NoIno"),
+        ],
+    ),
+    (
+        &[(Removed(3), true), (Moved(3, 1, b"r"), false)],
+        &[(1, 3, Access::Read, "Gone")],
+    ),
+];
+
+// The tree had a snapshot when it was copied. That it went is not told.
+const A_SNAPSHOT: &[TreeRound] = &[(&[(Mkdir(1, b"d"), Ok(2)), (SnapAdd(2, b"s"), Ok(0))], &[])];
+
+const WITH_A_SNAPSHOT: &[Round] = &[(
+    &[
+        (Opened(1, 10, "allow rw"), true),
+        (Removed(2), true),
+        (Forgotten(2), true),
+        (Born(3, 1, b"d", true), true),
+    ],
+    &[
+        (1, 2, Access::Read, "NoIno"),
+        (1, 3, Access::Read, "grant 1"),
+    ],
+)];
+
+const CASES: &[Case] = &[
+    ("an inode is judged where it stands", &[], MOVED),
+    ("what is gone has no verdict", &[], GONE),
+    ("an inode is judged by whose it is", &[], SETTLED),
+    ("the last grants count", &[], REGRANTED),
+    ("what does not fit changes nothing", &[], OF_ANOTHER),
+    (
+        "a directory may have had snapshots",
+        A_SNAPSHOT,
+        WITH_A_SNAPSHOT,
+    ),
+];
+
+#[test]
+fn a_view_follows_what_it_is_told(rt: HostRuntime) -> Result<(), Fail> {
+    for case in CASES {
+        runs(&rt, *case)?;
+    }
+    Ok(())
+}

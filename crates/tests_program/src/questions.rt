@@ -1,0 +1,251 @@
+//! Questions on policy beside the lock: what they answer after a call that is fresh, and while another one is held.
+ghost use Rattle.std.specs.Prelude.{◌≡◌};
+ghost use Rattle.capserver.specs.Opened.{opened};
+
+use crate::asserting::{holds, same};
+use crate::servers::opening;
+use capbits::{ClientId, Ino};
+use capcore::Reply;
+use capgrant::{Access, Verdict};
+use capscript::read_line;
+use capserver::{
+    Answer, CapServer, Gate, NoGate, Opening, Pass, Question, Server, StartFault, Unknown,
+};
+use std::alloc::{AllocError, Global};
+use std::marker::Brand;
+use std::process::Abort;
+use std::sync::Wait;
+use std::sync::ledger::Blank;
+use std::test::Fail;
+
+// What is done by one pass.
+#[derive(Clone, Copy)]
+enum Turn {
+    // Calls the event that a line says.
+    Call(&'static str),
+    // Calls it until it is answered, be it fresh or not.
+    Make(&'static str),
+    // Asks whether a client may read an inode.
+    Read(u32, u64),
+}
+
+use Turn::*;
+
+// So often an event is called that finds no memory.
+const TRIES: u32 = 3;
+
+// What came of a call: `fresh`, or why it isn't.
+fn called(answer: &Answer) -> &'static str {
+    match &answer.reply {
+        Reply::Denied { .. } | Reply::Refused(_) | Reply::OutOfMemory => "stopped",
+        _ if answer.fresh => "fresh",
+        _ => "answered",
+    }
+}
+
+/// Calls the event that a line says.
+pub fn call_line<G: Gate, L: Server, R: Wait>(
+    rt: &R,
+    alloc: Global,
+    server: &CapServer<G, L>,
+    pass: &mut Pass<L>,
+    line: &str,
+) -> &'static str {
+    match read_line(alloc, 1, line.as_bytes()) {
+        Ok(Some((_, event))) => match server.call(rt, pass, event) {
+            Ok(answer) => called(&answer),
+            Err(_stop) => "no memory",
+        },
+        _ => "no event",
+    }
+}
+
+/// Asks whether a client may read an inode.
+pub fn ask_read<G: Gate, L: Server>(
+    server: &CapServer<G, L>,
+    pass: &mut Pass<L>,
+    client: u32,
+    ino: u64,
+) -> &'static str {
+    let question = Question {
+        client: ClientId(client),
+        ino: Ino(ino),
+        access: Access::Read,
+    };
+    match server.explain(pass, &question) {
+        Ok(Verdict::Allowed { .. }) => "allowed",
+        Ok(Verdict::Denied { rules }) => match rules.as_slice().first() {
+            Some(rule) => rule.word(),
+            None => "no grants",
+        },
+        Err(Unknown::NoSession) => "no session",
+        Err(Unknown::NoIno) => "no inode",
+        Err(Unknown::Gone) => "gone",
+        Err(Unknown::NoView) => "no view",
+    }
+}
+
+// Calls the event that a line says until it is answered: memory may be missing once.
+fn make<G: Gate, L: Server, R: Wait>(
+    rt: &R,
+    alloc: Global,
+    server: &CapServer<G, L>,
+    pass: &mut Pass<L>,
+    line: &str,
+) -> &'static str {
+    for _ in 0..TRIES {
+        if call_line(rt, alloc, server, pass, line) != "no memory" {
+            return "made";
+        }
+    }
+    "no memory"
+}
+
+// What came of each turn.
+fn take_turns<G: Gate, L: Server, R: Wait>(
+    rt: &R,
+    alloc: Global,
+    server: &CapServer<G, L>,
+    pass: &mut Pass<L>,
+    turns: &[(Turn, &'static str)],
+) -> Result<Vec<&'static str>, AllocError> {
+    let mut told = Vec::new(alloc);
+    for (turn, _want) in turns {
+        let came = match turn {
+            Call(line) => call_line(rt, alloc, server, pass, line),
+            Make(line) => make(rt, alloc, server, pass, line),
+            Read(client, ino) => ask_read(server, pass, *client, *ino),
+        };
+        told.push(came)?;
+    }
+    Ok(told)
+}
+
+// Takes the turns by the last of the passes, and ends the server.
+fn served<L: Server, R: Wait>(
+    rt: &R,
+    alloc: Global,
+    opening: Opening,
+    blank: Blank,
+    count: u32,
+    turns: &[(Turn, &'static str)],
+) -> Result<Vec<&'static str>, StartFault>
+    requires opening { opening ≡ opened L.opening L.max_rows L.history }
+    requires name { blank.name ≡ L.name }
+    requires parts { (blank.parts ≡ L.parts) × (L.parts ≡ 32) }
+    requires passes { count ≡ L.passes }
+{
+    let (server, mut passes) = CapServer::<NoGate, L>::start(rt, opening, blank, count, NoGate)?;
+    let told = match passes.first_mut() {
+        Some(pass) => take_turns(rt, alloc, &server, pass, turns),
+        None => Err(AllocError),
+    };
+    let closed = server.close(rt, passes);
+    drop(closed);
+    told.map_err(|_| StartFault::NoMemory)
+}
+
+// What comes of the turns of one pass of a server on a root alone.
+fn told_by<R: AllocGlobal + Wait>(
+    rt: &R,
+    turns: &[(Turn, &'static str)],
+) -> Result<Vec<&'static str>, StartFault> {
+    let Ok(opening) = opening(rt.alloc()) else {
+        return Err(StartFault::NoMemory);
+    };
+    served::<Brand, R>(rt, rt.alloc(), opening, Blank::new(32), 2, turns)
+}
+
+// Sees that each turn came out as it is to.
+fn comes_out<R: AllocGlobal + Wait + Abort>(rt: &R, title: &str, turns: &[(Turn, &'static str)]) {
+    let Ok(told) = told_by(rt, turns) else {
+        holds(rt, false, title);
+        return;
+    };
+    for (nth, (_turn, want)) in turns.iter().enumerate() {
+        same(rt, told.get(nth).copied(), Some(*want), (title, nth));
+    }
+}
+
+// Three clients, the third of which may go below /a alone, and the file /a/x.
+const MOVED: &[(Turn, &str)] = &[
+    (Call("session 1 10 10 - allow rw"), "fresh"),
+    (Call("session 2 20 20 - allow rw"), "fresh"),
+    (Call("session 3 30 30 - allow rw path=/a"), "fresh"),
+    (Call("mkdir 1 1 a 0755"), "fresh"),
+    (Call("mkdir 1 1 b 0755"), "fresh"),
+    (Call("create 1 2 x 0644"), "fresh"),
+    (Read(3, 4), "allowed"),
+    (Call("rename 1 4 3 x"), "fresh"),
+    (Read(3, 4), "path"),
+    (Read(1, 4), "allowed"),
+];
+
+const EVICTED: &[(Turn, &str)] = &[
+    (Call("session 1 10 10 - allow rw"), "fresh"),
+    (Call("session 3 30 30 - allow rw path=/a"), "fresh"),
+    (Call("mkdir 1 1 a 0755"), "fresh"),
+    (Read(3, 2), "allowed"),
+    (Call("evict 3"), "fresh"),
+    (Read(3, 2), "no session"),
+    (Read(3, 9), "no session"),
+    (Read(1, 9), "no inode"),
+];
+
+const UNLINKED: &[(Turn, &str)] = &[
+    (Call("session 1 10 10 - allow rw"), "fresh"),
+    (Call("session 2 20 20 - allow rw"), "fresh"),
+    (Call("create 1 1 f 0644"), "fresh"),
+    (Call("open 1 2 rw"), "fresh"),
+    (Read(1, 2), "allowed"),
+    (Call("unlink 1 2"), "fresh"),
+    (Read(1, 2), "gone"),
+    (Call("release 1 2 pFsxcrwb"), "fresh"),
+    (Read(1, 2), "no inode"),
+];
+
+const REGRANTED: &[(Turn, &str)] = &[
+    (Call("session 1 10 10 - allow rw"), "fresh"),
+    (Read(1, 1), "allowed"),
+    (Call("regrant 1 none"), "fresh"),
+    (Read(1, 1), "no grants"),
+];
+
+// A mode that is set counts from then on.
+const SETTLED: &[(Turn, &str)] = &[
+    (Call("session 1 10 10 - allow rw"), "fresh"),
+    (Call("session 2 20 20 - allow rw uid=20 gids=20"), "fresh"),
+    (Call("create 1 1 f 0644"), "fresh"),
+    (Read(2, 2), "allowed"),
+    (Call("alter 1 2 chmod 0600"), "fresh"),
+    (Read(2, 2), "mode-bits"),
+];
+
+// A directory goes that had a snapshot. Where memory was refused while it had, the whole view was copied with the snapshot, of which
+// readers are told nothing; the directory goes from that copy too. No allocation that is refused before the last call makes that late.
+const SNAPSHOT: &[(Turn, &str)] = &[
+    (Make("session 1 10 10 - allow rws"), "made"),
+    (Make("mkdir 1 1 d 0755"), "made"),
+    (Make("mksnap 1 2 s1"), "made"),
+    (Make("poll 1 1"), "made"),
+    (Make("rmsnap 1 2 s1"), "made"),
+    (Make("rmdir 1 2"), "made"),
+    (Call("poll 1 1"), "fresh"),
+    (Read(1, 2), "no inode"),
+];
+
+#[test]
+fn questions_see_what_is_fresh(rt: HostRuntime) -> Result<(), Fail> {
+    comes_out(&rt, "a file is moved", MOVED);
+    comes_out(&rt, "a client is evicted", EVICTED);
+    comes_out(&rt, "a file that is open is unlinked", UNLINKED);
+    comes_out(&rt, "grants are taken", REGRANTED);
+    comes_out(&rt, "a mode is set", SETTLED);
+    Ok(())
+}
+
+#[test]
+fn what_was_refused_comes_with_the_next(rt: HostRuntime) -> Result<(), Fail> {
+    comes_out(&rt, "a directory had a snapshot", SNAPSHOT);
+    Ok(())
+}
