@@ -38,6 +38,20 @@ def of_one(work, few, many):
     return (counted(work, many) - counted(work, few)) / (many - few)
 
 
+def asked(work, times):
+    """The instructions of the one thread that asks in a work such as explain-1-100, and asks nothing else. What the other thread does
+    meanwhile differs from run to run."""
+    found, written = counting.counted_last([PROGRAM, work, times])
+    if written != f"sum {times}\n":
+        sys.exit(f"{work} {times} was not always answered with yes:\n{written}")
+    return found
+
+
+def of_one_asked(work, few, many):
+    """The instructions of one question."""
+    return (asked(work, many) - asked(work, few)) / (many - few)
+
+
 def peak(work, times):
     """The most memory that the program had, in bytes. The system counts by some pages at once, so the middle of three runs."""
     return sorted(told_peak(work, times) for _ in range(3))[1]

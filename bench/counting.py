@@ -1,9 +1,11 @@
 """What the scripts that count have in common: callgrind, gdb, and one another."""
 
+import ctypes
 import re
 import shutil
 import subprocess
 import sys
+import tempfile
 from importlib.machinery import SourceFileLoader
 from importlib.util import module_from_spec, spec_from_loader
 from pathlib import Path
@@ -14,6 +16,8 @@ HERE = Path(__file__).resolve().parent
 SURROUNDINGS = {"PATH": "/usr/bin:/bin", "LC_ALL": "C"}
 # Words of gdb: the program stops before it ends, when all that it ever took is still told of it.
 AT_ITS_END = ["-ex", "catch syscall exit_group", "-ex", "run", "-ex", "info proc status", "-ex", "kill"]
+# The call of prctl by which a process, and what it starts, has its memory in pages of the common size alone.
+SMALL_PAGES = (41, 1, 0, 0, 0)
 
 
 def script(name):
@@ -25,19 +29,36 @@ def script(name):
     return module
 
 
-def counted(words, given=""):
-    """The instructions of a whole program, and what it wrote."""
+def callgrind(words, flags, given=""):
+    """A program's run, and how many instructions callgrind says that it took."""
     words = [str(it) for it in words]
-    command = [shutil.which("valgrind") or "valgrind", "--tool=callgrind", "--callgrind-out-file=/dev/null", *words]
+    command = [shutil.which("valgrind") or "valgrind", "--tool=callgrind", *flags, *words]
     done = subprocess.run(command, input=given, capture_output=True, text=True, env=SURROUNDINGS)
     found = re.search(r"Collected : (\d+)", done.stderr)
     if done.returncode != 0 or found is None:
         sys.exit(f"{' '.join(words)} failed with status {done.returncode}:\n{done.stderr}")
-    return int(found.group(1)), done.stdout
+    return done, int(found.group(1))
+
+
+def counted(words, given=""):
+    """The instructions of a whole program, and what it wrote."""
+    done, found = callgrind(words, ["--callgrind-out-file=/dev/null"], given)
+    return found, done.stdout
+
+
+def counted_last(words):
+    """The instructions of the thread that a program started last, and what the program wrote."""
+    with tempfile.TemporaryDirectory() as room:
+        done, _ = callgrind(words, ["--separate-threads=yes", f"--callgrind-out-file={room}/thread"])
+        # (thread-01 is the first)
+        last = max(Path(room).glob("thread-*")).read_text(encoding="utf-8")
+    return int(re.search(r"^totals: (\d+)", last, re.MULTILINE).group(1)), done.stdout
 
 
 def at_its_end(words):
-    """What a program wrote, and what the system tells of it before it ends; and what gdb complained of."""
+    """What a program wrote, and what the system tells of it before it ends; and what gdb complained of. Where the system keeps memory
+    in larger pages, a program has more: so that its peak is the same on all machines, it does without."""
+    ctypes.CDLL(None).prctl(*SMALL_PAGES)
     command = ["gdb", "-q", "-batch", *AT_ITS_END, "--args", *(str(it) for it in words)]
     done = subprocess.run(command, stdin=subprocess.DEVNULL, capture_output=True, text=True)
     return done.stdout, done.stderr

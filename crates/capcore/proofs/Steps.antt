@@ -1,5 +1,5 @@
 -- A session, a lookup, a new inode or a snapshot by itself is a whole step: it leaves alone all that entries and requests depend on.
-use Rattle.std.proofs.Common.{◌≡◌, ℕ, ◌+◌, false, List, [], ◌++◌, Option, Some, None, refl, sym, ap, subst, ◌∙◌, append-nil, true≢false}
+use Rattle.std.proofs.Common.{◌≡◌, ℕ, ◌+◌, Bool, true, false, List, [], ◌++◌, Option, Some, None, refl, sym, ap, subst, ◌∙◌, append-nil, true≢false}
 use Rattle.std.proofs.lemmas.Option.{none-some}
 use Rattle.capbits.specs.Refusal.{first_failing}
 use Rattle.inotree.specs.Inodes.{with_snapshot, without_snapshot}
@@ -12,11 +12,12 @@ use Rattle.capcore.specs.declared.outcome.Ended.{Ended}
 use Rattle.capcore.specs.declared.reply.Reply.{Reply}
 use Rattle.capcore.specs.declared.reply.Said.{Said}
 use Rattle.capcore.specs.declared.stopped.Stopped.{Stopped}
+use Rattle.capcore.specs.declared.stopped.Stopped.TheVariants.{ByPolicy, ByTest}
 use Rattle.capcore.specs.State.{State}
 use Rattle.capcore.specs.Answered.{IsAnswered}
 use Rattle.inotree.specs.declared.node.Kind.TheVariants.{Directory, File}
 use Rattle.capcore.specs.Judge.{judged}
-use Rattle.capcore.specs.Direct.{Answer, Direct, direct, effect, effect_unless, found, reply_of, shown, with_scene, IsDirect}
+use Rattle.capcore.specs.Direct.{Answer, Says, Shows, Gives, Awaits, Direct, direct, effect, effect_unless, found, reply_of, shown, has_list, with_scene, IsDirect}
 use Rattle.capcore.specs.Settle.{Settles}
 use Rattle.capcore.specs.Finish.{sizes_owed, finished}
 use Rattle.capcore.specs.Leaving.{with_parts, LeavesEntries}
@@ -106,6 +107,52 @@ module _ (old new : State) (e : Event) (still : turned_by e ≡ None) (answer : 
     issued = issues-exactly old e answer new is sound;
     given = given;
   }
+
+-- ---- but a poll and a recall no event answers with a list
+
+abbrev lists : Answer → Bool
+lists (Says answer) = has_list answer
+lists (Shows k) = false
+lists (Gives client max) = true
+lists (Awaits ticket) = false
+
+found-plain : (s : State) (o : Option ℕ) → lists (found s o).answer ≡ false
+found-plain s None = refl
+found-plain s (Some ino) = refl
+
+effect-plain : (s : State) (e : Event) → is_listing e ≡ false → lists (effect s e).answer ≡ false
+effect-plain s (event.Session client caller grants) plain = refl
+effect-plain s (event.CloseSession client) plain = refl
+effect-plain s (event.Stale client) plain = refl
+effect-plain s (event.Renew client) plain = refl
+effect-plain s (event.Regrant client grants) plain = refl
+effect-plain s (event.Evict client) plain = refl
+effect-plain s (event.Unblock client) plain = refl
+effect-plain s (event.Recall count) plain = absurd (true≢false plain)
+effect-plain s (event.Lookup client dir name) plain = found-plain s (child s.scene.tree.nodes dir.0 name)
+effect-plain s (event.Create client dir name mode) plain = refl
+effect-plain s (event.Mkdir client dir name mode) plain = refl
+effect-plain s (event.MakeSnapshot client ino name) plain = refl
+effect-plain s (event.RemoveSnapshot client ino name) plain = refl
+effect-plain s (event.Open client ino mode) plain = refl
+effect-plain s (event.Want client ino caps) plain = refl
+effect-plain s (event.Ack client ino seq) plain = refl
+effect-plain s (event.Release client ino caps) plain = refl
+effect-plain s (event.Get client ino part) plain = refl
+effect-plain s (event.Alter client ino change) plain = refl
+effect-plain s (event.Unlink client ino) plain = refl
+effect-plain s (event.Rmdir client ino) plain = refl
+effect-plain s (event.Rename client ino dir name) plain = refl
+effect-plain s (event.Flush client ino change) plain = refl
+effect-plain s (event.Poll client max) plain = absurd (true≢false plain)
+
+plain_unless : (s : State) (e : Event) → is_listing e ≡ false → (o : Option Stopped) → lists (effect_unless s e o).answer ≡ false
+plain_unless s e plain (Some (ByPolicy access rules)) = refl
+plain_unless s e plain (Some (ByTest refusal)) = refl
+plain_unless s e plain None = effect-plain s e plain
+
+pub no_list-direct : (old new : State) (e : Event) (answer : Reply) → is_listing e ≡ false → IsDirect old e answer new → has_list answer ≡ false
+no_list-direct old new e answer plain is = ap lists is.answer_is ∙ plain_unless old e plain (judged old.scene e)
 
 -- ---- what the event leaves alone
 

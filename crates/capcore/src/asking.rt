@@ -107,7 +107,12 @@ impl World {
         // A look at the tree and at the entries, by which the proof knows what they keep.
         let (_last, _oldest) = (self.tree.last(), self.table.oldest());
         let waiting = self.locks.waiting() + 1;
-        let Ok(mut endings) = Endings::with_room(self.alloc(), waiting, waiting + 1) else {
+        let Ok(mut endings) = Endings::with_room(
+            self.alloc(),
+            waiting,
+            waiting + 1,
+            &mut self.spare,
+        ) else {
             drop(ask);
             return Err(Stop::NoMemory);
         };

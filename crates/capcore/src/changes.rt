@@ -16,14 +16,26 @@ use capview::ViewChange;
 use inotree::{Kind, Node, Setting, Site, Tree};
 use lockmachine::{Ask, Change, Request};
 use std::alloc::{AllocError, Global};
+use std::fmt;
 use std::marker::Model;
+use std::mem::replace;
+
+// A list with room for more is given back, so that one large step doesn't leave it behind.
+const MAX_KEPT_PLACES: usize = 64;
 
 // In the order in which they were made. Their room is made before a step changes anything.
-#[derive(Debug, Drop)]
+#[derive(Drop)]
 pub(crate) struct ChangeList {
     items: Vec<ViewChange>,
     // For how many there is room. The vector may have more, as it grows by more than one at a time.
     places: usize,
+}
+
+// Tells nothing of the list: what room is kept is no part of a core, and an event that finds no memory may leave less of it.
+impl fmt::Debug for ChangeList {
+    fn fmt<W: fmt::Write>(&self, f: &mut fmt::Formatter<W>) -> fmt::Result {
+        f.debug_struct("ChangeList").finish_non_exhaustive()
+    }
 }
 
 impl Model for ChangeList {
@@ -51,16 +63,41 @@ impl ChangeList {
         }
     }
 
-    // No change, and room for so many.
-    pub(crate) fn with_room(alloc: Global, room: usize) -> Result<ChangeList, AllocError>
+    // The list that is kept here, without its changes: a new one stays in its place.
+    pub(crate) fn take(&mut self, alloc: Global) -> ChangeList
+        ensures items { result.items ≡ [] }
+    {
+        let mut taken = replace(self, ChangeList::new(alloc));
+        // Most steps change nothing of what readers see.
+        if !taken.items.is_empty() {
+            taken.items.clear();
+        }
+        taken
+    }
+
+    // The same, with room for so many.
+    pub(crate) fn take_with_room(
+        &mut self,
+        alloc: Global,
+        room: usize,
+    ) -> Result<ChangeList, AllocError>
         ensures { IfOk result (λ changes. (changes.items ≡ []) × (room ≤ changes.room)) }
     {
-        let mut items = Vec::new(alloc);
-        items.reserve(room)?;
-        Ok(ChangeList {
-            items,
-            places: room,
-        })
+        let mut taken = self.take(alloc);
+        // A list that grows moves its places, which are of no use here.
+        if taken.items.capacity() < room {
+            taken = ChangeList::new(alloc);
+        }
+        taken.items.reserve(room)?;
+        taken.places = room;
+        Ok(taken)
+    }
+
+    // Keeps the list, whose changes nobody asks for any more, in the place of this one, so that its room is used again.
+    pub(crate) fn keep(&mut self, list: ChangeList) {
+        if list.places <= MAX_KEPT_PLACES {
+            *self = list;
+        }
     }
 
     // Makes one place more than there are.

@@ -83,7 +83,8 @@ impl World {
         if let Some(refusal) = turn_refusal(&self.sessions, client, turn) {
             return Ok(Said::alone(self.alloc(), Reply::Refused(refusal)));
         }
-        let mut room = Room::new(self.alloc(), &self.table, &self.locks, client, turn)?;
+        let (alloc, spare) = (self.alloc(), &mut self.spare);
+        let mut room = Room::new(alloc, &self.table, &self.locks, client, turn, spare)?;
         if let Err(refused) = turn_session(&mut self.sessions, client, turn) {
             drop(room);
             return Err(refused.into());
@@ -225,6 +226,7 @@ impl Room {
         locks: &Locks,
         client: ClientId,
         turn: Turn,
+        spare: &mut ChangeList,
     ) -> Result<Room, AllocError>
         ensures reaches { IfOk result (λ room. ReachesClient 1 client table.now locks.now room.others) }
         ensures told { IfOk result (λ room. (room.endings.told.items ≡ []) × (length locks.now.queue ≤ room.endings.told.room)) }
@@ -236,7 +238,7 @@ impl Room {
     {
         let others = reach_client(alloc, table, locks, client)?;
         let places = locks.waiting() + others.len() + 2;
-        let Ok(endings) = endings_of(alloc, locks.waiting(), places, client, turn) else {
+        let Ok(endings) = endings_of(alloc, locks.waiting(), places, client, turn, spare) else {
             drop(others);
             return Err(AllocError);
         };
@@ -262,6 +264,7 @@ fn endings_of(
     places: usize,
     client: ClientId,
     turn: Turn,
+    spare: &mut ChangeList,
 ) -> Result<Endings, AllocError>
     requires place { 1 ≤ places }
     ensures told { IfOk result (λ endings. (endings.told.items ≡ []) × (waiting ≤ endings.told.room)) }
@@ -270,7 +273,7 @@ fn endings_of(
     ensures places { IfOk result (λ endings. (length endings.changes.items ≤ 1) × (places ≤ endings.changes.room)) }
     ensures lead { IfOk result (λ endings. Notes endings.changes.items client turn.entry) }
 {
-    let mut endings = Endings::with_room(alloc, waiting, places)?;
+    let mut endings = Endings::with_room(alloc, waiting, places, spare)?;
     match note_turn(&mut endings.changes, client, turn) {
         Ok(()) => Ok(endings),
         Err(refused) => {

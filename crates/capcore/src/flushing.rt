@@ -43,7 +43,7 @@ impl World {
             return Ok(Said::alone(self.alloc(), stopped.into()));
         }
         let waiting = self.locks.waiting();
-        let mut endings = Endings::with_room(self.alloc(), waiting, waiting + 2)?;
+        let mut endings = Endings::with_room(self.alloc(), waiting, waiting + 2, &mut self.spare)?;
         if let Err(refused) = alter(&mut self.tree, ino, change) {
             drop(endings);
             return Err(refused.into());

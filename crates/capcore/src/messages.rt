@@ -155,11 +155,12 @@ pub(crate) struct Endings {
 }
 
 impl Endings {
-    // No request and no change, and room for so many requests, and for so many changes.
+    // No request and no change, and room for so many requests, and for so many changes in the list that is spare.
     pub(crate) fn with_room(
         alloc: Global,
         room: usize,
         places: usize,
+        spare: &mut ChangeList,
     ) -> Result<Endings, AllocError>
         ensures told { IfOk result (λ endings. (endings.told.items ≡ []) × (room ≤ endings.told.room)) }
         ensures kept { IfOk result (λ endings. (endings.kept.items ≡ []) × (room ≤ endings.kept.room)) }
@@ -171,7 +172,7 @@ impl Endings {
         let (Ok(told), Ok(kept), Ok(changes)) = (
             Messages::with_room(alloc, room),
             Messages::with_room(alloc, room),
-            ChangeList::with_room(alloc, places),
+            spare.take_with_room(alloc, places),
         ) else {
             drop(sized);
             return Err(AllocError);

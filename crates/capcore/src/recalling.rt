@@ -5,7 +5,6 @@ ghost use Rattle.capcore.specs.Answered.{IsAnswered};
 ghost use Rattle.capcore.specs.Noted.{view_of};
 ghost use Rattle.capview.specs.Changes.{AreChanges};
 
-use crate::changes::ChangeList;
 use crate::history::{EndedList, Stop};
 use crate::reply::{Reply, Said};
 use crate::world::World;
@@ -18,14 +17,15 @@ impl World {
         ensures err { OnErr result (self.new ≡ self.old) }
         ensures memory { IfErr result (λ stop. stop ≡ Stop.NoMemory) }
     {
+        let alloc = self.alloc();
         // The list once for the history and once for the reply, both before an entry is marked.
         let kept = self.table.first_to_recall(count)?;
         let named = self.table.recall(count)?;
         Ok(Said {
             reply: Reply::Recalled(named),
             kept: Reply::Recalled(kept),
-            ended: EndedList::new(self.alloc()),
-            changes: ChangeList::new(self.alloc()),
+            ended: EndedList::new(alloc),
+            changes: self.spare.take(alloc),
         })
     }
 }

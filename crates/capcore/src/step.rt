@@ -21,6 +21,7 @@ use locktable::LockState;
 use sessiontab::{Sessions, Status};
 use std::alloc::{AllocError, Global};
 use std::marker::Model;
+use std::mem::replace;
 
 /// The state of a metadata server's policy, with the history that led to it.
 #[derive(Debug)]
@@ -96,7 +97,7 @@ impl Core {
             reply: kept,
             ended,
         };
-        self.changes = changes;
+        self.world.keep_room(replace(&mut self.changes, changes));
         add_row(&mut self.rows, row);
         Ok(reply)
     }

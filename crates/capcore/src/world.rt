@@ -65,6 +65,8 @@ pub(crate) struct World {
     pub(crate) locks: Locks,
     // The requests that ended and that no client was told of.
     pub(crate) messages: Messages,
+    // For what the next step changes: of the list of an earlier step only the room is of use.
+    pub(crate) spare: ChangeList,
 }
 
 impl Model for World {
@@ -113,6 +115,7 @@ impl World {
             known: Known::new(alloc),
             locks,
             messages: Messages::new(alloc),
+            spare: ChangeList::new(alloc),
         })
     }
 
@@ -184,7 +187,7 @@ impl World {
     {
         // A look at the tree and at the entries, by which the proof knows what they keep.
         let (_last, _oldest) = (self.tree.last(), self.table.oldest());
-        let mut changes = ChangeList::new(self.alloc());
+        let mut changes = self.take_list();
         let reply = self.act(event, &mut changes)?;
         Ok(Said::with_changes(self.alloc(), reply, changes))
     }
@@ -205,7 +208,7 @@ impl World {
         }
         let revoked = revoked_of(&self.table, &self.known, holder);
         let waiting = self.locks.waiting();
-        let mut endings = Endings::with_room(self.alloc(), waiting, waiting + 1)?;
+        let mut endings = Endings::with_room(self.alloc(), waiting, waiting + 1, &mut self.spare)?;
         let (table, known) = (&mut self.table, &mut self.known);
         if let Err(refused) = touch_entry(table, known, holder, revoked, &touch) {
             drop(endings);
@@ -250,8 +253,24 @@ impl World {
             reply: Reply::Messages(given),
             kept: Reply::Messages(kept),
             ended: EndedList::new(alloc),
-            changes: ChangeList::new(alloc),
+            changes: self.spare.take(alloc),
         })
+    }
+
+    // A list for what the step changes: that of an earlier step, whose room is used again.
+    fn take_list(&mut self) -> ChangeList
+        ensures same { self.new ≡ self.old }
+        ensures none { result.items ≡ [] }
+    {
+        let alloc = self.alloc();
+        self.spare.take(alloc)
+    }
+
+    // The changes of the step before the last are of no use any more, but for their room.
+    pub(crate) fn keep_room(&mut self, changes: ChangeList)
+        ensures { self.new ≡ self.old }
+    {
+        self.spare.keep(changes);
     }
 
     // The allocator of all that the state keeps.

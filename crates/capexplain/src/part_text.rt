@@ -1,5 +1,6 @@
 //! The texts of what an inode keeps of a part.
-ghost use Rattle.std.specs.Prelude.{◌≡◌, ◌++◌, OnOk};
+ghost use Rattle.std.specs.Prelude.{◌≡◌, ◌<◌, ◌++◌, false, OnOk};
+ghost use Rattle.std.specs.Fmt.{digit_glyph};
 ghost use Rattle.capexplain.specs.PartTexts.{attr_text, attribute_text, byte_text, hex_text, mode_text, values_text};
 
 use crate::text::print;
@@ -75,5 +76,17 @@ pub(crate) fn print_bytes(text: &mut Vec<u8>, bytes: &[u8]) -> Result<(), AllocE
 fn print_byte(text: &mut Vec<u8>, byte: u8) -> Result<(), AllocError>
     ensures { OnOk result (text.new.items ≡ text.old.items ++ byte_text byte) }
 {
-    print(text, format_args!("{byte:02x}"))
+    text.extend_from_slice(&[digit(byte / 16), digit(byte % 16)])
+}
+
+// The hexadecimal digit of this value.
+fn digit(value: u8) -> u8
+    requires { value < 16 }
+    ensures { result ≡ digit_glyph false value }
+{
+    if value < 10 {
+        b'0' + value
+    } else {
+        b'a' + (value - 10)
+    }
 }

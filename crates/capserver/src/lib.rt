@@ -13,5 +13,5 @@ pub use gate::{Answer, Gate, NoGate};
 pub use locked::Locked;
 pub use opening::Opening;
 pub use pass::Pass;
-pub use published::Server;
-pub use server::{CapServer, Closed, MAX_PASSES, StartFault};
+pub use published::{MAX_PASSES, Server};
+pub use server::{CapServer, Closed, StartFault};

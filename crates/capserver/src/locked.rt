@@ -1,7 +1,7 @@
 //! What stands under the lock.
 ghost use Rattle.std.specs.Prelude.{◌≡◌, ◌≤◌, ◌+◌, ◌↔◌, [], false, Err, Some, length, IsTrue, IfOk, IfSome, OnOk, OnErr};
 ghost use mathlib.Core.List.{IsPrefix};
-ghost use Rattle.capcore.specs.History.{IsNext, IsLegal};
+ghost use Rattle.capcore.specs.History.{IsLegal};
 ghost use Rattle.capcore.specs.Promised.{IsPromised};
 ghost use Rattle.capcore.specs.declared.history.Stop.TheVariants as stop_kind;
 ghost use Rattle.capcore.specs.Noted.{view_of};
@@ -104,7 +104,7 @@ impl<L: Server> Locked<L> {
         pass: &mut Pass<L>,
         event: Event,
     ) -> Result<Answer, Stop>
-        ensures next { IfOk result (λ answer. IsNext self.old (pass_id pass.old) event answer.reply self.new) }
+        ensures promised { IfOk result (λ answer. IsPromised self.old (pass_id pass.old) event answer.reply self.new) }
         ensures full { (result ≡ Err stop_kind.Full) ↔ (length self.old.rows ≡ self.old.max_rows) }
         ensures led { IsLed L.opening L.max_rows self.old }
         ensures calls { OnOk result (pass.new ≡ record pass.old { calls = pass.old.calls + 1; known = pass.new.known }) }

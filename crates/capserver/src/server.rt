@@ -3,12 +3,11 @@ ghost use Rattle.std.specs.Prelude.{◌≡◌, ◌≢◌, ◌⊎◌, ◌≤◌, 
 ghost use Rattle.std.specs.List.{sum_by};
 ghost use mathlib.Core.List.{IsPrefix};
 ghost use Rattle.capcore.specs.History.{IsLegal};
-ghost use Rattle.capcore.specs.declared.history.Stop.TheVariants as stop_kind;
 ghost use Rattle.capview.specs.declared.answer.Unknown.TheVariants as unknown;
 ghost use Rattle.published.specs.Answers.{IsAnswered};
 ghost use Rattle.published.specs.Rows.{Legal};
 ghost use Rattle.capserver.specs.declared.server.StartFault.TheVariants as faults;
-ghost use Rattle.capserver.specs.Called.{IsStep, IsFull};
+ghost use Rattle.capserver.specs.Called.{IsStep};
 ghost use Rattle.capserver.specs.Fresh.{IsFresh};
 ghost use Rattle.capserver.specs.Opened.{opened};
 ghost use Rattle.capserver.specs.Passes.{AllNew, AllBegin, IsStartFault, pass_id};
@@ -22,15 +21,12 @@ use capcore::{Core, Event, Stop};
 use capgrant::Verdict;
 use capspec::FsName;
 use capview::{Question, Unknown};
-use published::{Publisher, Recorder, Server};
+use published::{MAX_PASSES, Publisher, Recorder, Server};
 use std::alloc::Global;
 use std::marker::Model;
 use std::sync::ledger::{Blank, Share};
 use std::sync::{Mutex, MutexGuard, Wait};
 use thiserror::Error;
-
-/// How many passes a server has at most.
-pub const MAX_PASSES: u32 = 32;
 
 /// Why there is no server.
 #[derive(Clone, Copy, Debug, PartialEq, Eq, Error)]
@@ -129,10 +125,9 @@ impl<G: Gate, L: Server> CapServer<G, L> {
         ensures legal { OnOk result (Legal L.opening pass.new.known) }
         ensures fresh { IfOk result (λ answer. IsTrue answer.fresh → IsFresh pass.old pass.new event answer.reply) }
         ensures stop { OnErr result (pass.new ≡ pass.old) }
-        // The reply is that of a step by this pass with this event, from some state that the opening leads to.
+        // The reply is that of a step by this pass with this event, from some state that the opening leads to. That Full comes exactly of
+        // a full history is said of the one under the lock, by `Locked::answer`.
         ensures answered { IfOk result (λ answer. IsStep L.opening L.max_rows (pass_id pass.old) event answer.reply) }
-        // Full comes of a history that is full, and of no other.
-        ensures full { result ≡ Err stop_kind.Full → IsFull L.opening L.max_rows }
     {
         let mut guard = self.locked.lock(rt);
         let answer = guard.answer(rt, &self.gate, pass, event);

@@ -1,3 +1,4 @@
 pub mod Sight
 pub mod Changes
 pub mod Answers
+pub mod Codes

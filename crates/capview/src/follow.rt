@@ -1,6 +1,6 @@
 //! The changes of a view, one function for each. What a call of the tree requires is tested first: the view may be another one
 //! than that of which the change is told.
-ghost use Rattle.std.specs.Prelude.{◌≡◌, IsTrue, OnOk, OnErr};
+ghost use Rattle.std.specs.Prelude.{◌≡◌, OnOk, OnErr};
 ghost use Rattle.capbits.specs.Refusal.{first_failing};
 ghost use Rattle.inotree.specs.Calls.{with_new};
 ghost use Rattle.inotree.specs.Tests.{create_tests};

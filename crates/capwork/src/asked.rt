@@ -3,7 +3,7 @@
 use crate::fault::Fault;
 use crate::inodes::{
     creation_of, directory_of_number, mode_of, regrant_to_nothing, regrant_to_read, session_below,
-    session_by_mode, session_of,
+    session_by_mode, session_of, session_with_snapshots,
 };
 use capbits::{Cap, CapSet, ClientId, Ino, Part};
 use capcore::{Event, Message, OpenMode, Outcome, Reply};
@@ -14,11 +14,16 @@ use std::alloc::Global;
 /// How many messages a client takes at most.
 const MESSAGES: u32 = 9;
 
+/// The name of the one snapshot that a directory gets.
+const SNAPSHOT: &[u8] = b"s1";
+
 /// What a client asks for, of one file.
 #[derive(Clone, Copy)]
 pub(crate) enum Asked {
     /// A session, in which it may do all.
     Session(ClientId),
+    /// A session, in which it may do all and make snapshots.
+    SessionWithSnapshots(ClientId),
     /// A session, in which it may do all below the directory in the root whose name has this number.
     SessionBelow(ClientId, u64),
     /// A session, in which it may do what modes allow its user.
@@ -49,6 +54,14 @@ pub(crate) enum Asked {
     Carry(ClientId),
     /// To move that directory into the root.
     CarryBack(ClientId),
+    /// To give that directory a snapshot.
+    Snapshot(ClientId),
+    /// To take that snapshot away.
+    NoSnapshot(ClientId),
+    /// To remove that directory.
+    Remove(ClientId),
+    /// To unlink the file.
+    Unlink(ClientId),
     /// Its messages.
     Poll(ClientId),
     /// So many entries back.
@@ -121,6 +134,7 @@ pub(crate) fn event(alloc: Global, places: Places, asked: Asked) -> Result<Event
     let ino = places.file;
     Ok(match asked {
         Asked::Session(client) => session_of(alloc, client)?,
+        Asked::SessionWithSnapshots(client) => session_with_snapshots(alloc, client)?,
         Asked::SessionBelow(client, number) => session_below(alloc, client, number)?,
         Asked::SessionByMode(client) => session_by_mode(alloc, client)?,
         Asked::Directory(number) => directory_of_number(alloc, ROOT, number)?,
@@ -136,6 +150,10 @@ pub(crate) fn event(alloc: Global, places: Places, asked: Asked) -> Result<Event
         Asked::Move(client) => moving(alloc, client, ino, places.there)?,
         Asked::Carry(client) => moving(alloc, client, places.here, places.there)?,
         Asked::CarryBack(client) => moving(alloc, client, places.here, ROOT)?,
+        Asked::Snapshot(client) => snapshot(alloc, client, places.here)?,
+        Asked::NoSnapshot(client) => no_snapshot(alloc, client, places.here)?,
+        Asked::Remove(client) => removal(client, places.here),
+        Asked::Unlink(client) => Event::Unlink { client, ino },
         Asked::Poll(client) => polling(client),
         Asked::Recall(count) => Event::Recall { count },
         Asked::Close(client) => Event::CloseSession { client },
@@ -194,6 +212,20 @@ fn moving(alloc: Global, client: ClientId, ino: Ino, dir: Ino) -> Result<Event, 
         dir,
         name: Bytes::read(alloc, b"moved")?,
     })
+}
+
+fn snapshot(alloc: Global, client: ClientId, ino: Ino) -> Result<Event, Fault> {
+    let name = Bytes::read(alloc, SNAPSHOT)?;
+    Ok(Event::MakeSnapshot { client, ino, name })
+}
+
+fn no_snapshot(alloc: Global, client: ClientId, ino: Ino) -> Result<Event, Fault> {
+    let name = Bytes::read(alloc, SNAPSHOT)?;
+    Ok(Event::RemoveSnapshot { client, ino, name })
+}
+
+fn removal(client: ClientId, ino: Ino) -> Event {
+    Event::Rmdir { client, ino }
 }
 
 pub(crate) fn polling(client: ClientId) -> Event {

@@ -33,6 +33,7 @@ const WORKS: &str = "WORK is one of
   explain-N-T        have N threads ask questions on T inodes each, while another thread changes modes
   locked-N-T         the same, with a lock for each question and each change
   retry              have clients share a file, wait for one and lose what they hold, and ask again for all that finds no memory
+  publish            have a pass of a server call events, have two ask what came of each, and call again all that finds no memory
 with G of 1, 4 or 16, D of 1, 8 or 32, N of 1, 2 or 4, and T of 100, 1000, 10000 or 60000";
 
 const WRONG_WORK: &str = "there is no such WORK: --help lists them";

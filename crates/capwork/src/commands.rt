@@ -7,6 +7,7 @@ use crate::core_work::{CoreWork, on_a_core};
 use crate::explaining::explain;
 use crate::fault::Fault;
 use crate::judging::{judge, read};
+use crate::publishing::publish;
 use crate::tally::Tally;
 use crate::work::Work;
 use clap::error::ErrorKind;
@@ -44,8 +45,8 @@ pub fn dispatch<T: Threads + Wait + Sync>(
     }
 }
 
-// Does the work and writes the sum over its answers, as a line, and one more where something was asked for again, or was served
-// without memory.
+// Does the work and writes the sum over its answers, as a line, and one more where something was asked for again, was served without
+// memory, or was published late.
 fn run<T: Threads + Wait + Sync>(
     rt: &T,
     alloc: Global,
@@ -56,6 +57,7 @@ fn run<T: Threads + Wait + Sync>(
         sum,
         stops,
         starved,
+        late,
     } = tally_of(rt, alloc, task)?;
     writeln!(writer, "sum {sum}").map_err(|_| Fault::WriteFailed)?;
     if stops > 0 {
@@ -63,6 +65,9 @@ fn run<T: Threads + Wait + Sync>(
     }
     if starved > 0 {
         writeln!(writer, "starved {starved}").map_err(|_| Fault::WriteFailed)?;
+    }
+    if late > 0 {
+        writeln!(writer, "late {late}").map_err(|_| Fault::WriteFailed)?;
     }
     Ok(())
 }
@@ -85,6 +90,7 @@ fn tally_of<T: Threads + Wait + Sync>(rt: &T, alloc: Global, task: Task) -> Resu
         Work::Carry(size) => on_a_core(alloc, CoreWork::Carry(size), task.times),
         Work::Explain(shape) => Ok(Tally::of(explain(rt, alloc, shape, task.times)?)),
         Work::Retry => on_a_core(alloc, CoreWork::Retry, task.times),
+        Work::Publish => publish(rt, alloc, task.times),
     }
 }
 

@@ -23,6 +23,12 @@ pub enum Fault {
     /// The core is not what it was before it took no event.
     #[error("the core changed, where it found no memory")]
     Changed,
+    /// A question was answered otherwise than by what is published.
+    #[error("a question was answered by another view")]
+    OtherView,
+    /// An event was called again and again, and was never made or never published.
+    #[error("an event was called in vain")]
+    InVain,
     /// The core took no event.
     #[error("{0}")]
     Stopped(Stop),

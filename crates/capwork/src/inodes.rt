@@ -215,6 +215,11 @@ pub(crate) fn session_of(alloc: Global, client: ClientId) -> Result<Event, Fault
     session_by(alloc, client, b"allow rw")
 }
 
+// The event by which a client gets a session in which it may do all and make snapshots.
+pub(crate) fn session_with_snapshots(alloc: Global, client: ClientId) -> Result<Event, Fault> {
+    session_by(alloc, client, b"allow rws")
+}
+
 // The event by which a client gets a session in which it may do all below the directory in the root whose name has this number.
 pub(crate) fn session_below(alloc: Global, client: ClientId, place: u64) -> Result<Event, Fault> {
     let grants = format!(in alloc; "allow rw path=/n{place}")?;

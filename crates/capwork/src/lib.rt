@@ -14,6 +14,7 @@ mod fault;
 mod inodes;
 mod judging;
 mod moving;
+mod publishing;
 mod retry;
 mod tally;
 mod work;

@@ -9,6 +9,8 @@ pub(crate) struct Tally {
     pub(crate) stops: u64,
     // How many requests found none when they were served.
     pub(crate) starved: u64,
+    // How many events were made, and not published before the next one.
+    pub(crate) late: u64,
 }
 
 impl Tally {
@@ -18,6 +20,7 @@ impl Tally {
             sum,
             stops: 0,
             starved: 0,
+            late: 0,
         }
     }
 }

@@ -33,6 +33,8 @@ pub enum Work {
     Explain(AskShape),
     /// Have clients share files and lose what they hold, and ask a core again for what it finds no memory for.
     Retry,
+    /// Have a pass of a server call events and two ask what came of them, and call again what finds no memory.
+    Publish,
 }
 
 /// How questions on policy are asked.
@@ -120,8 +122,10 @@ pub enum Layout {
 impl Work {
     /// The piece of work that a word names.
     pub fn read(word: &str) -> Option<Work> {
-        if word == "retry" {
-            return Some(Work::Retry);
+        match word {
+            "retry" => return Some(Work::Retry),
+            "publish" => return Some(Work::Publish),
+            _ => (),
         }
         let (kind, shape) = word.split_once('-')?;
         match kind {

@@ -3,7 +3,7 @@ use Rattle.std.proofs.Common.{◌≡◌, ℕ, zero, suc, ◌<◌, ◌^◌, Bool,
 use Rattle.std.specs.Cmp.{nat_cmp_total}
 use Rattle.std.proofs.lemmas.Bool.{cases_lt}
 use Rattle.std.specs.FinMap as map
-use Rattle.std.specs.List.{list_any, AllByRecursion}
+use Rattle.std.specs.List.{list_any, filter, AllByRecursion}
 use Rattle.std.specs.Option.{option_map}
 use Rattle.inotree.specs.declared.index.Slot.{Slot}
 use Rattle.inotree.specs.declared.node.Node.{Node}
@@ -12,12 +12,16 @@ use Rattle.inotree.specs.declared.node.Site.TheVariants.{Root, Under, Stray}
 use Rattle.inotree.specs.declared.node.Place.TheVariants.{NoIno, Here}
 use Rattle.inotree.specs.Inodes.{InodeMap}
 use Rattle.inotree.specs.Index.{NameIndex, index_reaches, AreInodes}
-use Rattle.inotree.specs.Tree.{IsTree, IsIndexed, IsUnder, site_of, place, place_at, is_at, is_in, child, first_where, reaches}
+use Rattle.inotree.specs.Tree.{IsTree, IsIndexed, IsUnder, StandInDirectories, site_of, is_directory, place, place_at, is_at, is_in, child, first_where, reaches}
 use Rattle.numbered.proofs.Found.{both_true, and_true, same_bool, all_map, any_some, any-filter, found, any_found}
 use Rattle.numbered.proofs.Maps.{tied, tied_here}
 use Rattle.inotree.proofs.Order.{name_total, name_same}
 use Rattle.inotree.proofs.Slots.{slot_total, slot_same}
 use Rattle.inotree.proofs.Walks.{same_test, test_same}
+
+none_pass : {A : Type 0} (p : A → Bool) (xs : List A) → AllByRecursion (λ x. p x ≡ false) xs → filter p xs ≡ []
+none_pass p [] h = refl
+none_pass p (x ∷ xs) h = ap (λ b. cond b (x ∷ filter p xs) (filter p xs)) h.0 ∙ none_pass p xs h.1
 
 pub at_under : (d : ℕ) (a : List ℕ) (s : Site) → is_at d a s ≡ true → s ≡ Under (record { 0 = d }) a
 at_under d a Root e = cc
@@ -102,3 +106,15 @@ module _ (m : InodeMap) (index : NameIndex) (x : IsIndexed m index) where
           | inl above ↦ let none : place m d ≡ NoIno = ap (λ o. place_at (option_map (λ (n : Node). n.site) o)) (t.given d above) in cc
           | inr le ↦ omega arith
         ]
+
+  -- a name stands in a directory alone
+  pub index_directories : (last : ℕ) → IsTree (record { nodes = m; last = last }) → StandInDirectories m index
+  index_directories last t dir file = none_pass (λ e. e.0.dir == dir) (map.entries index) (all_map (map.entries index) elsewhere (found slot_total slot_same index)) where
+    elsewhere : (e : Slot × ℕ) → map.get index e.0 ≡ Some e.1 → (e.0.dir == dir) ≡ false
+    elsewhere e h = elim (e.0.dir == dir) as (λ b. (e.0.dir == dir) ≡ b → b ≡ false) [
+      | true ↦ λ is.
+          let inside : is_directory m e.0.dir ≡ true = (t.parents e.1 e.0.dir e.0.name (x.real e.1 e.0.dir e.0.name h)).0 in
+          let same : e.0.dir ≡ dir = test_same e.0.dir dir is in
+          sym (subst (λ d. is_directory m d ≡ true) same inside) ∙ file
+      | false ↦ λ is. refl
+    ] refl

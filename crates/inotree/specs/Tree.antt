@@ -16,7 +16,7 @@ use Rattle.inotree.specs.declared.node.Place.{Place}
 use Rattle.inotree.specs.declared.node.Place.TheVariants.{NoIno, Gone, Here}
 use Rattle.inotree.specs.Names.{name_cmp, is_bad_name, is_bad_attribute}
 use Rattle.inotree.specs.Inodes.{InodeMap, inode_map_code}
-use Rattle.inotree.specs.Index.{NameIndex}
+use Rattle.inotree.specs.Index.{NameIndex, names_in}
 
 -- the inodes by number, and the last number given
 pub record Nodes : Type 0 where
@@ -178,6 +178,10 @@ pub record IsTree (tree : Nodes) : Type 0 where
   pub reached : (ino : ℕ) → place tree.nodes ino ≡ Here → (up : List (List ℕ)) × (length up ≤ 32) × Climbs tree.nodes ino up 1
   -- no inode has a number above the last
   pub given : (ino : ℕ) → tree.last < ino → map.get tree.nodes ino ≡ None
+
+-- no name of the index stands in anything but a directory
+abbrev pub StandInDirectories : InodeMap → NameIndex → Type 0
+StandInDirectories nodes index = (ino : ℕ) → is_directory nodes ino ≡ false → names_in ino index ≡ []
 
 -- The index has each name of the tree, and no other.
 pub record IsIndexed (nodes : InodeMap) (index : NameIndex) : Type 0 where

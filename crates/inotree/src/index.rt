@@ -2,7 +2,9 @@
 ghost use Rattle.std.specs.Prelude.{◌≡◌, ◌++◌, IfOk, OnOk, OnErr};
 ghost use Rattle.std.specs.FinMap as map;
 ghost use Rattle.inotree.specs.Index.{names_in, AreInodes, index_reaches, gathered};
+ghost use Rattle.inotree.specs.Tree.{StandInDirectories};
 
+use crate::inodes::Inodes;
 use crate::name::Name;
 use capbits::Ino;
 use std::alloc::{AllocError, Global};
@@ -117,39 +119,50 @@ impl Index {
         self.inodes.range((Bound::Included(first), end))
     }
 
-    // Whether something lies so many steps below a directory.
-    pub(crate) fn reaches(&self, dir: u64, steps: usize) -> bool
-        requires { AreInodes self.now }
-        ensures { result ≡ index_reaches steps self.now dir }
+    // Whether something lies so many steps below one of these inodes.
+    pub(crate) fn reaches(&self, inodes: &Inodes, ino: u64, steps: usize) -> bool
+        requires names { AreInodes self.now }
+        requires inside { StandInDirectories inodes.now self.now }
+        ensures { result ≡ index_reaches steps self.now ino }
     {
         if steps == 0 {
             return true;
         }
-        for (_, child) in self.names_in(dir) {
-            if self.reaches(*child, steps - 1) {
+        // No name is looked for below a file.
+        if !inodes.is_directory(ino) {
+            return false;
+        }
+        for (_, child) in self.names_in(ino) {
+            if self.reaches(inodes, *child, steps - 1) {
                 return true;
             }
         }
         false
     }
 
-    // Adds an inode, and all that lies at most so many steps below it. Of the rest of the tree it reads no more than a
+    // Adds one of these inodes, and all that lies at most so many steps below it. Of the rest of the tree it reads no more than a
     // search for each of them does.
     pub(crate) fn gather(
         &self,
+        inodes: &Inodes,
         ino: u64,
         steps: usize,
         found: &mut Vec<Ino>,
     ) -> Result<(), AllocError>
-        requires { AreInodes self.now }
+        requires names { AreInodes self.now }
+        requires inside { StandInDirectories inodes.now self.now }
         ensures { OnOk result (found.new.items ≡ found.old.items ++ gathered steps self.now ino) }
     {
         found.push(Ino(ino))?;
         if steps == 0 {
             return Ok(());
         }
+        // No name is looked for below a file.
+        if !inodes.is_directory(ino) {
+            return Ok(());
+        }
         for (_, child) in self.names_in(ino) {
-            self.gather(*child, steps - 1, found)?;
+            self.gather(inodes, *child, steps - 1, found)?;
         }
         Ok(())
     }

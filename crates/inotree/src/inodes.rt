@@ -4,13 +4,13 @@ ghost use Rattle.std.specs.Option.{option_copied, option_map};
 ghost use Rattle.std.specs.FinMap as map;
 ghost use Rattle.capbits.specs.Maps.{change_at};
 ghost use Rattle.inotree.specs.Inodes.{with_setting, with_attr, with_site, with_attribute, without_attribute, with_snapshot, without_snapshot};
-ghost use Rattle.inotree.specs.Tree.{site_of, slot_at, parent, is_within, names_up};
+ghost use Rattle.inotree.specs.Tree.{site_of, slot_at, parent, is_directory, is_within, names_up};
 
 use crate::attributes::Value;
 use crate::index::Slot;
 use crate::name::Name;
 use crate::names::{MAX_NAMES, Names};
-use crate::node::{Node, Setting, Site};
+use crate::node::{Kind, Node, Setting, Site};
 use capbits::Ino;
 use capgrant::Attr;
 use numbered::Numbered;
@@ -88,6 +88,16 @@ impl Inodes {
                 name: name.copy(),
             }),
             Site::Root | Site::Stray => None,
+        }
+    }
+
+    // Whether the inode is there and a directory.
+    pub(crate) fn is_directory(&self, ino: u64) -> bool
+        ensures { result ≡ is_directory self.now ino }
+    {
+        match self.get(ino) {
+            Some(node) => matches!(node.kind, Kind::Directory),
+            None => false,
         }
     }
 

@@ -197,7 +197,8 @@ impl Tree {
     {
         let _last = self.last;
         let mut inos = Vec::new(alloc);
-        self.names.gather(ino.0, MAX_NAMES, &mut inos)?;
+        self.names
+            .gather(&self.inodes, ino.0, MAX_NAMES, &mut inos)?;
         Ok(inos)
     }
 
@@ -229,7 +230,7 @@ impl Tree {
         ensures { result ≡ reaches steps self.now.nodes ino.0 }
     {
         let _last = self.last;
-        self.names.reaches(ino.0, steps)
+        self.names.reaches(&self.inodes, ino.0, steps)
     }
 
     // ---- what would be refused

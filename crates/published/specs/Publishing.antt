@@ -3,11 +3,10 @@ use Rattle.std.specs.Prelude.{◌≡◌, Bool, false, List, refl}
 use Rattle.std.specs.Coded.{Coded, code_by, coded×, coded_bool}
 use mathlib.Core.List.{IsPrefix}
 use Rattle.logbook.specs.Pages.{Book}
-use Rattle.inotree.specs.Tree.{Nodes, nodes_code}
-use Rattle.sessiontab.specs.Connected.{SessionMap, session_map_code}
 use Rattle.capcore.specs.declared.history.Row.{Row}
 use Rattle.capcore.specs.State.{State}
 use Rattle.capview.specs.declared.view.View.{View}
+use Rattle.capview.specs.Codes.{view_code}
 use Rattle.capview.specs.Sight.{Shows}
 use Rattle.published.specs.declared.value.Published.{Published}
 use Rattle.published.specs.declared.value.Stage.{Stage}
@@ -23,9 +22,6 @@ pub record Publishing : Type 0 where
 
 abbrev pub publishing : Published → List Stage → List Row → Bool → Publishing
 publishing value stages rows lost = record { rows = rows; lost = lost; view = (staged_all value stages).view }
-
-abbrev pub view_code : Coded View
-view_code = code_by (Nodes × SessionMap) (coded× nodes_code session_map_code) (λ v. (v.tree, v.sessions)) (λ p. record { tree = p.0; sessions = p.1 }) (λ _. refl)
 
 abbrev pub publishing_code : Coded Publishing
 publishing_code =

@@ -1,5 +1,5 @@
 //! The rows that were published, as each holder knows them.
-ghost use Rattle.std.specs.Prelude.{◌≡◌, ◌<◌, [], length, IsTrue};
+ghost use Rattle.std.specs.Prelude.{◌≡◌, length, IsTrue};
 ghost use mathlib.Core.List.{IsPrefix};
 ghost use Rattle.published.specs.Rows.{Legal};
 
@@ -196,13 +196,5 @@ impl<L: Server> Beginning<L> {
         let one = self.begins(other);
         let other_way = other.begins(self);
         one && other_way
-    }
-
-    /// Whether the other beginning has more rows. Then it begins with these, and goes on.
-    pub fn goes_on_in(&self, other: &Beginning<L>) -> bool
-        ensures begins { IsTrue result → IsPrefix self.now other.now × (length self.now < length other.now) }
-        ensures legal { Legal L.opening other.now }
-    {
-        self.begins(other) && self.count < other.count
     }
 }

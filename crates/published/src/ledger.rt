@@ -3,6 +3,9 @@
 use std::marker::Brand;
 use std::sync::ledger::Ledger;
 
+/// How many passes a server has at most: each has a place from which it reads what is published.
+pub const MAX_PASSES: u32 = 32;
+
 /// One server: its ledger, how many passes it has, the state that its core opened with, how many rows its history takes at most,
 /// and the book of its rows. Contracts alone see the last four.
 pub trait Server: Ledger {

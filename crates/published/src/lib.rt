@@ -12,9 +12,9 @@ mod value;
 mod witness;
 
 pub use beginning::{Beginning, Counted, Head, Rows};
-pub use ledger::Server;
-pub use place::{Place, PublishedReader, PublishedWriter, Rule, Sees};
-pub use publisher::{MAX_READERS, Publisher};
+pub use ledger::{MAX_PASSES, Server};
+pub use place::{Place, PlacesRule, PublishedReader, PublishedReading, PublishedWriter, Sees};
+pub use publisher::Publisher;
 pub use recorder::{NewRows, Recorder};
 pub use value::{Published, Stage};
 pub use witness::Witness;

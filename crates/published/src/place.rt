@@ -3,7 +3,7 @@ use crate::ledger::Server;
 use crate::value::{Published, Stage};
 use capcore::Row;
 use crossbeam_utils::rule::{Outcome, Protocol};
-use left_right::reader::Reader;
+use left_right::reader::{Reader, Reading};
 use left_right::writer::Writer;
 use std::collections::LinkedList;
 use std::marker::PhantomData;
@@ -15,11 +15,11 @@ pub struct Place {
 }
 
 /// The rule of the places of one server.
-pub struct Rule<L> {
+pub struct PlacesRule<L> {
     of: PhantomData<L>,
 }
 
-impl<L: Server> Protocol<Published, Place> for Rule<L> {
+impl<L: Server> Protocol<Published, Place> for PlacesRule<L> {
     ghost use Rattle.std.specs.Prelude.{[]};
     ghost use Rattle.published.specs.Places.{Keeps};
 
@@ -40,7 +40,10 @@ impl<L: Server> Outcome<Published, Place> for Sees<L> {
 }
 
 /// A reader's place.
-pub type PublishedReader<L> = Reader<Published, Place, Rule<L>>;
+pub type PublishedReader<L> = Reader<Published, Place, PlacesRule<L>>;
+
+/// A reader's place, while its reader reads there.
+pub type PublishedReading<L> = Reading<Published, Place, PlacesRule<L>>;
 
 /// Who publishes.
-pub type PublishedWriter<L> = Writer<Published, Stage, Place, Rule<L>>;
+pub type PublishedWriter<L> = Writer<Published, Stage, Place, PlacesRule<L>>;

@@ -7,10 +7,10 @@ ghost use Rattle.published.specs.Publishing.{IsReady};
 ghost use Rattle.published.specs.Rows.{Legal};
 
 use crate::beginning::Beginning;
-use crate::ledger::Server;
+use crate::ledger::{MAX_PASSES, Server};
 use crate::place::{PublishedWriter, Sees};
 use crate::recorder::{NewRows, Recorder};
-use crate::staging::{stage_next, stage_whole};
+use crate::staging::{stage_changes, stage_history, stage_view};
 use crate::value::Published;
 use crate::witness::Witness;
 use capcore::Row;
@@ -20,9 +20,6 @@ use sessiontab::Sessions;
 use std::alloc::{AllocError, Global};
 use std::marker::Model;
 use std::sync::Wait;
-
-/// How many readers' places there are.
-pub const MAX_READERS: usize = 32;
 
 /// Who publishes. What was refused memory goes out with the next: then the whole view is staged once more. It is not `Drop`:
 /// end it by `end`.
@@ -63,7 +60,7 @@ impl<L: Server> Publisher<L> {
         let recorder = rows.named::<L>();
         let first = first_value(recorder.rows(), tree, sessions)?;
         let second = first.copy()?;
-        let writer = PublishedWriter::<L>::new(alloc, first, second, MAX_READERS)?;
+        let writer = PublishedWriter::<L>::new(alloc, first, second, MAX_PASSES as usize)?;
         Ok(Publisher {
             recorder,
             writer,
@@ -98,7 +95,7 @@ impl<L: Server> Publisher<L> {
             writer,
             lost,
         } = self;
-        *lost = !stage_next(writer, recorder, history, changes);
+        *lost = !(stage_changes(writer, changes) && stage_history(writer, recorder, history));
     }
 
     /// Where a stage was lost, takes the rows of the history into the book and stages the whole view.
@@ -119,7 +116,7 @@ impl<L: Server> Publisher<L> {
             writer,
             lost,
         } = self;
-        *lost = !stage_whole(writer, recorder, history, tree, sessions);
+        *lost = !(stage_view(writer, tree, sessions) && stage_history(writer, recorder, history));
     }
 
     /// Publishes what is staged, and gives the rows that readers see then. At `None` memory was refused: they see what they

@@ -1,11 +1,10 @@
 //! The stages that bring what is published up to date.
-ghost use Rattle.std.specs.Prelude.{◌≡◌, ◌≤◌, false, length, drop, fold, IsTrue};
+ghost use Rattle.std.specs.Prelude.{◌≡◌, ◌≤◌, length, drop, fold, IsTrue};
 ghost use mathlib.Core.List.{IsPrefix};
 ghost use Rattle.capview.specs.Changes.{view_by};
 ghost use Rattle.published.specs.Rows.{Legal};
 ghost use Rattle.published.specs.Value.{staged, staged_all};
 
-use crate::beginning::Beginning;
 use crate::ledger::Server;
 use crate::place::PublishedWriter;
 use crate::recorder::Recorder;
@@ -15,12 +14,12 @@ use capview::{View, ViewChange};
 use inotree::Tree;
 use sessiontab::Sessions;
 
-// Stages the rows of the history that are new, and the changes that they made. It says whether all is staged.
-pub(crate) fn stage_next<L: Server>(
+// Takes the rows of the history that are new into the book and stages them, behind what leads to their view. It says whether all is
+// staged.
+pub(crate) fn stage_history<L: Server>(
     writer: &mut PublishedWriter<L>,
     recorder: &mut Recorder<L>,
     history: &[Row],
-    changes: &[ViewChange],
 ) -> bool
     requires legal { Legal L.opening history.now }
     requires begins { IsPrefix recorder.old history.now }
@@ -31,35 +30,9 @@ pub(crate) fn stage_next<L: Server>(
     ensures whole { IsTrue result → recorder.new ≡ history.now }
     ensures log { IsTrue result → (staged_all writer.new.desk.shown.value (drop writer.new.behind writer.new.log.items)).rows.seen.log ≡ history.now }
     ensures book { IsTrue result → (staged_all writer.new.desk.shown.value (drop writer.new.behind writer.new.log.items)).rows.seen.book ≡ L.history }
-    ensures view { IsTrue result → (staged_all writer.new.desk.shown.value (drop writer.new.behind writer.new.log.items)).view ≡ fold view_by (staged_all writer.old.desk.shown.value (drop writer.old.behind writer.old.log.items)).view changes.now }
+    ensures view { IsTrue result → (staged_all writer.new.desk.shown.value (drop writer.new.behind writer.new.log.items)).view ≡ (staged_all writer.old.desk.shown.value (drop writer.old.behind writer.old.log.items)).view }
 {
-    gather(recorder, history)
-        && stage_changes(writer, changes)
-        && stage_rows(writer, recorder.rows())
-}
-
-// Stages the rows of the history that are new, and the whole view. It says whether all is staged.
-pub(crate) fn stage_whole<L: Server>(
-    writer: &mut PublishedWriter<L>,
-    recorder: &mut Recorder<L>,
-    history: &[Row],
-    tree: &Tree,
-    sessions: &Sessions,
-) -> bool
-    requires legal { Legal L.opening history.now }
-    requires begins { IsPrefix recorder.old history.now }
-    requires room { length history.now ≤ 4294967295 }
-    ensures shown { writer.new.desk.shown.value ≡ writer.old.desk.shown.value }
-    ensures begins { IsPrefix recorder.new history.now }
-    ensures more { IsPrefix recorder.old recorder.new }
-    ensures whole { IsTrue result → recorder.new ≡ history.now }
-    ensures log { IsTrue result → (staged_all writer.new.desk.shown.value (drop writer.new.behind writer.new.log.items)).rows.seen.log ≡ history.now }
-    ensures book { IsTrue result → (staged_all writer.new.desk.shown.value (drop writer.new.behind writer.new.log.items)).rows.seen.book ≡ L.history }
-    ensures view { IsTrue result → (staged_all writer.new.desk.shown.value (drop writer.new.behind writer.new.log.items)).view ≡ record { tree = tree.now; sessions = sessions.now.sessions } }
-{
-    gather(recorder, history)
-        && stage_view(writer, tree, sessions)
-        && stage_rows(writer, recorder.rows())
+    gather(recorder, history) && stage(writer, Stage::Rows(recorder.rows().counted()))
 }
 
 // Takes the rows of the history into the book. It says whether all are there.
@@ -80,8 +53,11 @@ fn gather<L: Server>(recorder: &mut Recorder<L>, history: &[Row]) -> bool
     true
 }
 
-// Stages the changes one by one.
-fn stage_changes<L: Server>(writer: &mut PublishedWriter<L>, changes: &[ViewChange]) -> bool
+// Stages the changes one by one. It says whether all are staged.
+pub(crate) fn stage_changes<L: Server>(
+    writer: &mut PublishedWriter<L>,
+    changes: &[ViewChange],
+) -> bool
     ensures shown { writer.new.desk.shown.value ≡ writer.old.desk.shown.value }
     ensures view { IsTrue result → (staged_all writer.new.desk.shown.value (drop writer.new.behind writer.new.log.items)).view ≡ fold view_by (staged_all writer.old.desk.shown.value (drop writer.old.behind writer.old.log.items)).view changes.now }
 {
@@ -103,8 +79,12 @@ fn stage_change<L: Server>(writer: &mut PublishedWriter<L>, change: &ViewChange)
     }
 }
 
-// Stages the view of this tree and these sessions.
-fn stage_view<L: Server>(writer: &mut PublishedWriter<L>, tree: &Tree, sessions: &Sessions) -> bool
+// Stages the view of this tree and these sessions. It says whether it is staged.
+pub(crate) fn stage_view<L: Server>(
+    writer: &mut PublishedWriter<L>,
+    tree: &Tree,
+    sessions: &Sessions,
+) -> bool
     ensures shown { writer.new.desk.shown.value ≡ writer.old.desk.shown.value }
     ensures view { IsTrue result → (staged_all writer.new.desk.shown.value (drop writer.new.behind writer.new.log.items)).view ≡ record { tree = tree.now; sessions = sessions.now.sessions } }
 {
@@ -112,16 +92,6 @@ fn stage_view<L: Server>(writer: &mut PublishedWriter<L>, tree: &Tree, sessions:
         Ok(view) => stage(writer, Stage::Whole(view)),
         Err(_refused) => false,
     }
-}
-
-// Stages these rows.
-fn stage_rows<L: Server>(writer: &mut PublishedWriter<L>, rows: &Beginning<L>) -> bool
-    ensures shown { writer.new.desk.shown.value ≡ writer.old.desk.shown.value }
-    ensures log { IsTrue result → (staged_all writer.new.desk.shown.value (drop writer.new.behind writer.new.log.items)).rows.seen.log ≡ rows.now }
-    ensures book { IsTrue result → (staged_all writer.new.desk.shown.value (drop writer.new.behind writer.new.log.items)).rows.seen.book ≡ L.history }
-    ensures view { IsTrue result → (staged_all writer.new.desk.shown.value (drop writer.new.behind writer.new.log.items)).view ≡ (staged_all writer.old.desk.shown.value (drop writer.old.behind writer.old.log.items)).view }
-{
-    stage(writer, Stage::Rows(rows.counted()))
 }
 
 fn stage<L: Server>(writer: &mut PublishedWriter<L>, next: Stage) -> bool

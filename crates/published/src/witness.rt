@@ -1,14 +1,15 @@
 //! Who knows a beginning of the history, and reads what is published.
-ghost use Rattle.std.specs.Prelude.{◌≡◌, ◌≢◌, ◌<◌, Err, length, IsTrue};
+ghost use Rattle.std.specs.Prelude.{◌≡◌, ◌≢◌, ◌<◌, Err, None, length, IfSome, IsTrue, MatchOption};
 ghost use mathlib.Core.List.{IsPrefix};
 ghost use Rattle.left_right.specs.Sides.{view as place_view};
 ghost use Rattle.capview.specs.declared.answer.Unknown.TheVariants as unknown;
+ghost use Rattle.published.specs.Places.{IsPublished, Saw};
 ghost use Rattle.published.specs.Rows.{Legal};
 ghost use Rattle.published.specs.Answers.{IsAnswered};
 
 use crate::beginning::Beginning;
 use crate::ledger::Server;
-use crate::place::{PublishedReader, Sees};
+use crate::place::{PublishedReader, PublishedReading, Sees};
 use crate::recorder::Recorder;
 use capgrant::Verdict;
 use capspec::FsName;
@@ -60,23 +61,12 @@ impl<L: Server> Witness<L> {
         ensures answer { result ≢ Err unknown.NoView → IsAnswered L.opening self.new question.now result }
         ensures no_view { result ≡ Err unknown.NoView → self.new ≡ self.old }
     {
-        let Some(place) = self.place.take() else {
-            unreachable!()
+        let Some(reading) = enter(&mut self.place, &self.known) else {
+            return Err(Unknown::NoView);
         };
-        match place.enter_as::<Sees<L>>() {
-            Ok(reading) => {
-                let value = reading.get();
-                let known = Beginning::of(&value.rows.seen, value.rows.count);
-                let answer = value.view.explain(fs, question);
-                self.place = Some(reading.leave());
-                self.known = known;
-                answer
-            }
-            Err(place) => {
-                self.place = Some(place);
-                Err(Unknown::NoView)
-            }
-        }
+        let answer = reading.get().view.explain(fs, question);
+        self.known = leave(&mut self.place, reading);
+        answer
     }
 
     /// Knows what is published from then on. Where nothing can be read, it knows what it knew.
@@ -84,17 +74,8 @@ impl<L: Server> Witness<L> {
         ensures known { IsPrefix self.old self.new }
         ensures legal { Legal L.opening self.new }
     {
-        let Some(place) = self.place.take() else {
-            unreachable!()
-        };
-        match place.enter_as::<Sees<L>>() {
-            Ok(reading) => {
-                let value = reading.get();
-                let known = Beginning::of(&value.rows.seen, value.rows.count);
-                self.place = Some(reading.leave());
-                self.known = known;
-            }
-            Err(place) => self.place = Some(place),
+        if let Some(reading) = enter(&mut self.place, &self.known) {
+            self.known = leave(&mut self.place, reading);
         }
     }
 
@@ -105,24 +86,8 @@ impl<L: Server> Witness<L> {
         ensures all { IsTrue result → (self.new ≡ rows.now) × (length self.old < length self.new) }
     {
         let before = self.known.len();
-        let Some(place) = self.place.take() else {
-            unreachable!()
-        };
-        match place.enter_as::<Sees<L>>() {
-            Ok(reading) => {
-                let value = reading.get();
-                let known = Beginning::of(&value.rows.seen, value.rows.count);
-                let same = known.is(rows);
-                let more = before < known.len();
-                self.place = Some(reading.leave());
-                self.known = known;
-                same && more
-            }
-            Err(place) => {
-                self.place = Some(place);
-                false
-            }
-        }
+        self.look();
+        before < self.known.len() && self.known.is(rows)
     }
 
     /// What it knows begins the rows that were added.
@@ -132,4 +97,41 @@ impl<L: Server> Witness<L> {
     {
         recorder.audit(&self.known);
     }
+}
+
+// Begins to read at a place, which stands empty meanwhile. At None nothing can be read, and the place is back.
+fn enter<L: Server>(
+    place: &mut Option<PublishedReader<L>>,
+    known: &Beginning<L>,
+) -> Option<PublishedReading<L>>
+    requires { MatchOption place.old ⊥ (λ reader. (place_view reader.place).known ≡ known.now) }
+    ensures saw { IfSome result (λ reading. Saw L.opening L.history (record { known = known.now }) reading.part.value (place_view reading.place)) }
+    ensures none { result ≡ None → MatchOption place.new ⊥ (λ reader. (place_view reader.place).known ≡ known.now) }
+{
+    let Some(reader) = place.take() else {
+        unreachable!()
+    };
+    match reader.enter_as::<Sees<L>>() {
+        Ok(reading) => Some(reading),
+        Err(reader) => {
+            *place = Some(reader);
+            None
+        }
+    }
+}
+
+// Ends it, and gives the rows that were read.
+fn leave<L: Server>(
+    place: &mut Option<PublishedReader<L>>,
+    reading: PublishedReading<L>,
+) -> Beginning<L>
+    requires published { IsPublished L.opening L.history reading.part.value }
+    requires known { (place_view reading.place).known ≡ reading.part.value.rows.seen.log }
+    ensures known { result ≡ reading.part.value.rows.seen.log }
+    ensures place { MatchOption place.new ⊥ (λ reader. (place_view reader.place).known ≡ result) }
+{
+    let value = reading.get();
+    let known = Beginning::of(&value.rows.seen, value.rows.count);
+    *place = Some(reading.leave());
+    known
 }

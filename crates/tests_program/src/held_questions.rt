@@ -1,10 +1,11 @@
-//! A question beside a call that is held under the lock: it is answered, by what was published before.
+//! A question beside a call that is held under the lock: it is answered, by what was published before. Once that call has
+//! ended, who only asked sees what it made.
 ghost use Rattle.std.specs.Prelude.{◌≡◌};
 ghost use Rattle.capserver.specs.Opened.{opened};
 
 use crate::asserting::{holds, same};
 use crate::questions::{ask_read, call_line};
-use crate::servers::opening;
+use crate::servers::{MANY_ROWS, opening};
 use capserver::{CapServer, Gate, Opening, Pass, Server, StartFault};
 use std::alloc::{AllocError, Global};
 use std::marker::Brand;
@@ -80,11 +81,13 @@ struct Told {
     held: &'static str,
     // Of what it made, asked for by its pass afterwards.
     after: &'static str,
+    // Of the same, asked for by the pass that calls nothing, once both threads have ended.
+    by_the_other: &'static str,
     // Whether somebody waited for too long.
     late: bool,
 }
 
-// Holds a call of the second pass, while the first one asks.
+// Holds a call of the second pass, while the first one asks, which calls nothing at all.
 fn ask_beside<L: Server + Send + Sync, R: Threads + Wait + Sync>(
     rt: &R,
     alloc: Global,
@@ -93,7 +96,7 @@ fn ask_beside<L: Server + Send + Sync, R: Threads + Wait + Sync>(
     (one, two): (Pass<L>, Pass<L>),
 ) -> (Pass<L>, Pass<L>, Told) {
     let (mut one, mut two) = (one, two);
-    call_line(rt, alloc, server, &mut one, "session 1 10 10 - allow rw");
+    call_line(rt, alloc, server, &mut two, "session 1 10 10 - allow rw");
     signs.closed.store(1, Ordering::SeqCst);
     let (asked, called) = join(
         rt,
@@ -110,14 +113,17 @@ fn ask_beside<L: Server + Send + Sync, R: Threads + Wait + Sync>(
             (two, held, after)
         },
     );
+    let (mut one, beside, unpublished) = asked;
+    let (two, held, after) = called;
     let told = Told {
-        beside: asked.1,
-        unpublished: asked.2,
-        held: called.1,
-        after: called.2,
+        beside,
+        unpublished,
+        held,
+        after,
+        by_the_other: ask_read(server, &mut one, 1, 2),
         late: signs.late.load(Ordering::SeqCst) == 1,
     };
-    (asked.0, called.0, told)
+    (one, two, told)
 }
 
 // Asks beside a call of a server, and ends it.
@@ -152,7 +158,7 @@ fn served<L: Server + Send + Sync, R: Threads + Wait + Sync>(
 
 // What came of them at a server on a root alone.
 fn told_beside<R: AllocGlobal + Threads + Wait + Sync>(rt: &R) -> Result<Told, StartFault> {
-    let (Ok(opening), Ok(signs)) = (opening(rt.alloc()), new_signs(rt.alloc())) else {
+    let (Ok(opening), Ok(signs)) = (opening(rt.alloc(), MANY_ROWS), new_signs(rt.alloc())) else {
         return Err(StartFault::NoMemory);
     };
     let Ok(theirs) = Arc::try_clone(&signs) else {
@@ -169,6 +175,7 @@ fn a_question_is_answered_beside_a_held_call(rt: HostRuntime) -> Result<(), Fail
         unpublished: "no inode",
         held: "fresh",
         after: "allowed",
+        by_the_other: "allowed",
         late: false,
     };
     match told_beside(&rt) {

@@ -28,7 +28,7 @@ fn tree(size: Size, layout: Layout) -> TreeShape {
 }
 
 // Words, and the work that each names.
-fn works() -> [(&'static str, Work); 22] {
+fn works() -> [(&'static str, Work); 23] {
     use Callers::{Any, OneUser};
     use Layout::{Deep, Flat};
     use Size::{Hundred, SixtyThousand, TenThousand, Thousand};
@@ -61,6 +61,7 @@ fn works() -> [(&'static str, Work); 22] {
             Work::Explain(asked(Readers::One, Hundred, Way::Locked)),
         ),
         ("retry", Work::Retry),
+        ("publish", Work::Publish),
     ]
 }
 
@@ -72,7 +73,7 @@ fn each_word_names_its_work(rt: HostRuntime) {
 }
 
 /// Words that name no work.
-const NO_WORK: [&str; 26] = [
+const NO_WORK: [&str; 27] = [
     "",
     "verdict",
     "verdict-1-plain",
@@ -99,6 +100,7 @@ const NO_WORK: [&str; 26] = [
     "explain-3-100",
     "locked-1-1",
     "retry-100",
+    "publish-100",
 ];
 
 #[test]
@@ -169,7 +171,7 @@ fn expect<R: Abort + Threads + Wait + Sync>(
 }
 
 /// A piece of work, how many times it is done, and what is printed.
-const SUMS: [(&str, &str, &str); 22] = [
+const SUMS: [(&str, &str, &str); 23] = [
     // The last grant is the one that allows.
     ("verdict-1-1-plain", "7", "sum 7\n"),
     ("verdict-4-8-ids", "7", "sum 28\n"),
@@ -201,6 +203,8 @@ const SUMS: [(&str, &str, &str); 22] = [
     // Each question of each thread is answered with yes.
     ("explain-4-100", "25", "sum 100\n"),
     ("locked-2-100", "25", "sum 50\n"),
+    // Each server has a row for each of 21 events.
+    ("publish", "2", "sum 42\n"),
 ];
 
 // Runs the program on a piece of work twice.

@@ -3,7 +3,7 @@ ghost use Rattle.std.specs.Prelude.{◌≡◌};
 ghost use Rattle.capserver.specs.Opened.{opened};
 
 use crate::asserting::{holds, same};
-use crate::servers::{Numbers, call, count_numbered, numbers, opening};
+use crate::servers::{MANY_ROWS, Numbers, call, count_numbered, numbers, opening};
 use capserver::{CapServer, NoGate, Opening, Pass, Server, StartFault};
 use std::alloc::Global;
 use std::marker::Brand;
@@ -83,7 +83,7 @@ fn rows_by<R: AllocGlobal + Threads + Wait + Sync>(
     rt: &R,
     count: u32,
 ) -> Result<Vec<Numbers>, StartFault> {
-    let Ok(opening) = opening(rt.alloc()) else {
+    let Ok(opening) = opening(rt.alloc(), MANY_ROWS) else {
         return Err(StartFault::NoMemory);
     };
     served::<Brand, R>(rt, rt.alloc(), opening, Blank::new(32), count)
@@ -118,6 +118,11 @@ fn a_server_has_one_to_thirty_two_passes(rt: HostRuntime) -> Result<(), Fail> {
     for count in [0, 33] {
         let found = rows_by(&rt, count);
         holds(&rt, matches!(found, Err(StartFault::BadCount)), count);
+    }
+    // A history takes as many rows as its bound, however many call.
+    for (count, all) in [(1, 201), (32, 1000)] {
+        let found = rows_by(&rt, count);
+        holds(&rt, found.is_ok_and(|rows| rows.len() == all), count);
     }
     Ok(())
 }

@@ -3,9 +3,9 @@ ghost use Rattle.std.specs.Prelude.{◌≡◌};
 ghost use Rattle.capserver.specs.Opened.{opened};
 
 use crate::asserting::{holds, same};
-use crate::servers::opening;
+use crate::servers::{MANY_ROWS, opening};
 use capbits::{ClientId, Ino};
-use capcore::Reply;
+use capcore::{Reply, Stop};
 use capgrant::{Access, Verdict};
 use capscript::read_line;
 use capserver::{
@@ -38,6 +38,7 @@ const TRIES: u32 = 3;
 fn called(answer: &Answer) -> &'static str {
     match &answer.reply {
         Reply::Denied { .. } | Reply::Refused(_) | Reply::OutOfMemory => "stopped",
+        Reply::Waiting(_) => "waits",
         _ if answer.fresh => "fresh",
         _ => "answered",
     }
@@ -54,7 +55,8 @@ pub fn call_line<G: Gate, L: Server, R: Wait>(
     match read_line(alloc, 1, line.as_bytes()) {
         Ok(Some((_, event))) => match server.call(rt, pass, event) {
             Ok(answer) => called(&answer),
-            Err(_stop) => "no memory",
+            Err(Stop::NoMemory) => "no memory",
+            Err(Stop::Full) => "full",
         },
         _ => "no event",
     }
@@ -121,7 +123,7 @@ fn take_turns<G: Gate, L: Server, R: Wait>(
     Ok(told)
 }
 
-// Takes the turns by the last of the passes, and ends the server.
+// Takes the turns by the first of the passes, and ends the server.
 fn served<L: Server, R: Wait>(
     rt: &R,
     alloc: Global,
@@ -145,20 +147,26 @@ fn served<L: Server, R: Wait>(
     told.map_err(|_| StartFault::NoMemory)
 }
 
-// What comes of the turns of one pass of a server on a root alone.
+// What comes of the turns of one pass of a server on a root alone, whose history takes so many rows.
 fn told_by<R: AllocGlobal + Wait>(
     rt: &R,
+    max_rows: u32,
     turns: &[(Turn, &'static str)],
 ) -> Result<Vec<&'static str>, StartFault> {
-    let Ok(opening) = opening(rt.alloc()) else {
+    let Ok(opening) = opening(rt.alloc(), max_rows) else {
         return Err(StartFault::NoMemory);
     };
     served::<Brand, R>(rt, rt.alloc(), opening, Blank::new(32), 2, turns)
 }
 
 // Sees that each turn came out as it is to.
-fn comes_out<R: AllocGlobal + Wait + Abort>(rt: &R, title: &str, turns: &[(Turn, &'static str)]) {
-    let Ok(told) = told_by(rt, turns) else {
+fn comes_out<R: AllocGlobal + Wait + Abort>(
+    rt: &R,
+    max_rows: u32,
+    title: &str,
+    turns: &[(Turn, &'static str)],
+) {
+    let Ok(told) = told_by(rt, max_rows, turns) else {
         holds(rt, false, title);
         return;
     };
@@ -221,13 +229,24 @@ const SETTLED: &[(Turn, &str)] = &[
     (Read(2, 2), "mode-bits"),
 ];
 
-// A directory goes that had a snapshot. Where memory was refused while it had, the whole view was copied with the snapshot, of which
-// readers are told nothing; the directory goes from that copy too. No allocation that is refused before the last call makes that late.
+// The history takes two rows. Who finds it full changes nothing: what was published stays, and questions are answered by it.
+const FULL: &[(Turn, &str)] = &[
+    (Call("session 1 10 10 - allow rw"), "fresh"),
+    (Call("create 1 1 f 0644"), "fresh"),
+    (Call("unlink 1 2"), "full"),
+    (Read(1, 2), "allowed"),
+    (Call("evict 1"), "full"),
+    (Read(1, 2), "allowed"),
+];
+
+// A directory goes that had a snapshot, of which readers are told nothing. Where memory was refused for grants that changed while it had,
+// the whole view was copied with the snapshot; the directory goes from that copy too. No allocation that is refused before the last call
+// makes that late.
 const SNAPSHOT: &[(Turn, &str)] = &[
     (Make("session 1 10 10 - allow rws"), "made"),
     (Make("mkdir 1 1 d 0755"), "made"),
     (Make("mksnap 1 2 s1"), "made"),
-    (Make("poll 1 1"), "made"),
+    (Make("regrant 1 allow rwps"), "made"),
     (Make("rmsnap 1 2 s1"), "made"),
     (Make("rmdir 1 2"), "made"),
     (Call("poll 1 1"), "fresh"),
@@ -236,16 +255,22 @@ const SNAPSHOT: &[(Turn, &str)] = &[
 
 #[test]
 fn questions_see_what_is_fresh(rt: HostRuntime) -> Result<(), Fail> {
-    comes_out(&rt, "a file is moved", MOVED);
-    comes_out(&rt, "a client is evicted", EVICTED);
-    comes_out(&rt, "a file that is open is unlinked", UNLINKED);
-    comes_out(&rt, "grants are taken", REGRANTED);
-    comes_out(&rt, "a mode is set", SETTLED);
+    comes_out(&rt, MANY_ROWS, "a file is moved", MOVED);
+    comes_out(&rt, MANY_ROWS, "a client is evicted", EVICTED);
+    comes_out(&rt, MANY_ROWS, "a file that is open is unlinked", UNLINKED);
+    comes_out(&rt, MANY_ROWS, "grants are taken", REGRANTED);
+    comes_out(&rt, MANY_ROWS, "a mode is set", SETTLED);
+    Ok(())
+}
+
+#[test]
+fn a_full_history_leaves_what_is_published(rt: HostRuntime) -> Result<(), Fail> {
+    comes_out(&rt, 2, "a history of two rows", FULL);
     Ok(())
 }
 
 #[test]
 fn what_was_refused_comes_with_the_next(rt: HostRuntime) -> Result<(), Fail> {
-    comes_out(&rt, "a directory had a snapshot", SNAPSHOT);
+    comes_out(&rt, MANY_ROWS, "a directory had a snapshot", SNAPSHOT);
     Ok(())
 }

@@ -6,13 +6,13 @@ use capserver::{CapServer, Gate, Opening, Pass, Server};
 use std::alloc::{AllocError, Global};
 use std::sync::Wait;
 
-/// How many rows the history of a server in a test may have.
-const MAX_ROWS: u32 = 1000;
+/// How many rows the history of a server in a test may have, where that doesn't matter.
+pub const MANY_ROWS: u32 = 1000;
 
-/// An opening on a root alone.
-pub fn opening(alloc: Global) -> Result<Opening, AllocError> {
+/// An opening on a root alone, for a history of at most so many rows.
+pub fn opening(alloc: Global, max_rows: u32) -> Result<Opening, AllocError> {
     let (fs, tree) = file_system(alloc)?;
-    Opening::new(alloc, fs, tree, MAX_ROWS)
+    Opening::new(alloc, fs, tree, max_rows)
 }
 
 /// Calls the event that a line says, and tells whether it was answered.

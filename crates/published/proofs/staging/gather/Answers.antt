@@ -1,4 +1,4 @@
-use Rattle.std.proofs.Common.{◌≡◌, ◌∷◌, [], ◌++◌, List, take, sym, subst, ◌∙◌, arith, rules}
+use Rattle.std.proofs.Common.{◌≡◌, ◌∷◌, [], ◌++◌, List, sym, subst, ◌∙◌, arith, rules}
 use mathlib.Core.List.{IsPrefix}
 use Rattle.capcore.specs.declared.history.Row.{Row}
 use Rattle.capcore.specs.State.{State}

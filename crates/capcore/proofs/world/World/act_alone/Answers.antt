@@ -2,19 +2,25 @@ use Rattle.std.proofs.Common.{sym, subst}
 use Rattle.inotree.specs.Tree.{IsTree}
 use Rattle.captable.specs.Table.{IsTable}
 use Rattle.capcore.specs.State.{State}
+use Rattle.capcore.specs.Direct.{IsDirect}
 use Rattle.capcore.specs.Sound.{IsSound}
-use Rattle.capcore.proofs.Steps.{alone-answered}
+use Rattle.capcore.proofs.Steps.{alone-answered, no_list-direct}
 use Rattle.capview.specs.Changes.{AreChanges}
 use Rattle.capcore.specs.Noted.{Noted, view_of}
 use Rattle.capcore.proofs.world.World.act_alone.Goals as goal
+
+pub with_changes-requires : goal.with_changes-requires
+with_changes-requires c = no_list-direct c.take_list-changes.new.self c.act.new.self c.args.event.now c.in_ok-reply.reply c.requires.lists c.in_ok-reply.ensures.direct
 
 pub returns-clause-answered : goal.returns-clause-answered
 returns-clause-answered c =
     let s = c.args.self.now in
     let known : IsSound s × IsTree s.scene.tree × IsTable s.scene.table =
     subst (λ (w : State). IsSound w × IsTree w.scene.tree × IsTable w.scene.table) c.self.view_is (c.self.invariant.0, c.last-last.ensures.sound, c.oldest-oldest.ensures.sound) in
-    alone-answered s known.0 known.1 c.args.event.now (c.requires.touches, c.requires.lists, c.requires.turns) c.in_ok-reply.reply c.act.new.self c.in_ok-reply.ensures.direct
+    alone-answered s known.0 known.1 c.args.event.now (c.requires.touches, c.requires.lists, c.requires.turns) c.in_ok-reply.reply c.act.new.self
+    (subst (λ (w : State). IsDirect w c.args.event.now c.in_ok-reply.reply c.act.new.self) c.take_list-changes.ensures.same c.in_ok-reply.ensures.direct)
     c.with_changes.result known.2 c.with_changes.ensures.reply c.with_changes.ensures.kept c.with_changes.ensures.ended
 
 pub returns-clause-changes : goal.returns-clause-changes
-returns-clause-changes c = subst (λ (n : Noted). AreChanges n.items (view_of c.args.self.now) (view_of c.act.new.self)) (sym c.with_changes.ensures.changes) c.in_ok-reply.ensures.changes
+returns-clause-changes c = subst (λ (n : Noted). AreChanges n.items (view_of c.args.self.now) (view_of c.act.new.self)) (sym c.with_changes.ensures.changes)
+    (subst (λ (w : State). AreChanges c.act.new.changes.items (view_of w) (view_of c.act.new.self)) c.take_list-changes.ensures.same c.in_ok-reply.ensures.changes)

@@ -24,7 +24,7 @@ use Rattle.capview.specs.Changes.{AreChanges}
 use Rattle.capcore.specs.Noted.{view_of}
 use Rattle.capcore.proofs.Noting.{changes-still}
 use Rattle.capcore.proofs.world.World.poll.Goals as goal
-use Rattle.capcore.proofs.world.World.poll.Goals.{After-new-2}
+use Rattle.capcore.proofs.world.World.poll.Goals.{After-take}
 
 -- ---- no open session
 
@@ -40,7 +40,7 @@ returns-in-Some-clause-answered c =
 
 -- ---- an open session
 
-module _ (c : After-new-2) where
+module _ (c : After-take) where
   -- the state before the event
   abbrev old : State
   old = record { scene = record { fs = c.self.inside.fs; tree = c.self.inside.tree; sessions = c.self.inside.sessions; table = c.self.inside.table; locks = c.self.inside.locks }; messages = c.self.inside.messages.items }
@@ -50,7 +50,7 @@ module _ (c : After-new-2) where
   new = record { scene = record old.scene { table = c.skip_quiet.new.self }; messages = c.remove_given.new.self.items }
 
   abbrev said : Said
-  said = record { reply = reply.Messages c.in_ok-given.given; kept = reply.Messages c.in_ok-kept.kept; ended = c.new.result; changes = c.new-2.result }
+  said = record { reply = reply.Messages c.in_ok-given.given; kept = reply.Messages c.in_ok-kept.kept; ended = c.new.result; changes = c.take.result }
 
   first : c.in_ok-given.given ≡ first_messages old c.args.client c.args.max
   first = c.in_ok-given.ensures old refl refl c.self.invariant.2 (sym c.as_slice-ended.ensures)
@@ -94,4 +94,4 @@ pub returns-in-Some-clause-changes : goal.returns-in-Some-clause-changes
 returns-in-Some-clause-changes c = changes-still c.alone.result.changes.items (view_of c.args.self.now) c.alone.ensures.changes
 
 pub returns-clause-changes : goal.returns-clause-changes
-returns-clause-changes c = subst (λ (s : State). AreChanges (said c).changes.items (view_of s) (view_of (new c))) c.self.view_is (changes-still (said c).changes.items (view_of (old c)) c.new-2.ensures.items)
+returns-clause-changes c = subst (λ (s : State). AreChanges (said c).changes.items (view_of s) (view_of (new c))) c.self.view_is (changes-still (said c).changes.items (view_of (old c)) c.take.ensures.items)

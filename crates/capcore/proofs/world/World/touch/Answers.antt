@@ -49,8 +49,8 @@ touch_entry-requires-clause-passed c =
     (touched-tests old.scene c.args.client c.args.ino c.args.touch (passed-of old c.args.self.now c.args.client c.args.ino c.args.touch c.touch_stop.result c.self.view_is c.touch_stop.ensures c.in_default.is))
 
 -- for want of memory the entries are as they were, and all is still known
-pub invariant_of-self : goal.invariant_of-self
-invariant_of-self c =
+pub invariant_of-self-in-Err : goal.invariant_of-self-in-Err
+invariant_of-self-in-Err c =
     let s : Scene = record { fs = c.self.inside.fs; tree = c.self.inside.tree; sessions = c.self.inside.sessions; table = c.self.inside.table; locks = c.self.inside.locks } in
     let still : StillKept c.self.inside.table c.self.inside.table c.self.inside.known.sets c.touch_entry.new.known.sets =
     subst (λ (t : Table). StillKept c.self.inside.table t c.self.inside.known.sets c.touch_entry.new.known.sets) c.in-Err.ensures.err c.touch_entry.ensures.known in

@@ -8,8 +8,8 @@ returns-clause-fresh g c there =
     c.in_ok-reply.ensures.promised.next c.in_ok-reply.ensures.calls c.look.ensures.known c.catch_up-fresh.ensures.known c.in-Some.ensures.all all.0 all.1
 
 -- what is published changes nothing of the core
-pub returns-clause-next : goal.returns-clause-next
-returns-clause-next g c = rw c.publish.ensures.same c.in_ok-reply.ensures.promised.next
+pub returns-clause-promised : goal.returns-clause-promised
+returns-clause-promised g c = rw c.publish.ensures.same c.in_ok-reply.ensures.promised
 
-pub returns-in_default-clause-next : goal.returns-in_default-clause-next
-returns-in_default-clause-next g c = rw c.publish.ensures.same c.in_ok-reply.ensures.promised.next
+pub returns-in_default-clause-promised : goal.returns-in_default-clause-promised
+returns-in_default-clause-promised g c = rw c.publish.ensures.same c.in_ok-reply.ensures.promised

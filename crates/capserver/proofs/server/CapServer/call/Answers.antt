@@ -1,4 +1,3 @@
-use Rattle.std.proofs.Common.{◌∙◌}
 use Rattle.std.specs.Prelude.{Result, Ok, Err, IfOk}
 use Rattle.capserver.proofs.server.CapServer.call.Goals as goal
 
@@ -9,9 +8,4 @@ answered_as Said Fact more (Err e) said = tt
 -- the state is the one that was found under the lock
 pub returns-clause-answered : goal.returns-clause-answered
 returns-clause-answered g c =
-    answered_as _ _ (λ answer next. record { old = c.deref_mut.result.now; led = c.answer-answer.ensures.led; new = c.answer-answer.new.self; next = next }) c.answer-answer.result c.answer-answer.ensures.next
-
-pub returns-clause-full : goal.returns-clause-full
-returns-clause-full g c is =
-    let led = c.answer-answer.ensures.led in
-    record { old = c.deref_mut.result.now; led = led; full = c.answer-answer.ensures.full.0 is ∙ led.max_rows_is }
+    answered_as _ _ (λ answer promised. record { old = c.deref_mut.result.now; led = c.answer-answer.ensures.led; new = c.answer-answer.new.self; promised = promised }) c.answer-answer.result c.answer-answer.ensures.promised

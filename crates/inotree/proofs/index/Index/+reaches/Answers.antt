@@ -1,15 +1,20 @@
-use Rattle.std.proofs.Common.{ℕ, ◌-◌, ◌++◌, Bool, map, sym, ap, ◌∙◌}
+use Rattle.std.proofs.Common.{◌≡◌, ℕ, ◌-◌, [], ◌++◌, Bool, map, sym, ap, ◌∙◌}
 use Rattle.std.specs.List.{list_any}
 use Rattle.std.specs.Map.Iter.{deref_pair}
 use Rattle.std.proofs.lemmas.Map.Iter.{rest_so_far, rest_more, iter_end}
 use Rattle.inotree.specs.declared.index.Slot.{Slot}
-use Rattle.inotree.specs.Index.{index_reaches}
+use Rattle.inotree.specs.Index.{names_in, index_reaches}
 use Rattle.numbered.proofs.Found.{any-map}
 use Rattle.inotree.proofs.Reaching.{reaches-zero, reaches-step, any_found}
 use Rattle.inotree.proofs.index.Index.+reaches.Goals as goal
 
 pub returns-then-steps-eq0 : goal.returns-then-steps-eq0
 returns-then-steps-eq0 t c = sym (reaches-zero _ _ _ c.if-steps-eq0.true)
+
+pub returns-then-not-is_directory : goal.returns-then-not-is_directory
+returns-then-not-is_directory t c =
+    let none : names_in c.args.ino c.args.self.now ≡ [] = c.requires.inside c.args.ino (sym c.is_directory.ensures ∙ c.if-not-is_directory.true) in
+    sym (reaches-step _ _ _ c.if-steps-eq0.false ∙ ap (list_any (λ e. index_reaches (c.args.steps - 1) c.args.self.now e.1)) none)
 
 pub returns-then-reaches : goal.returns-then-reaches
 returns-then-reaches t c =

@@ -3,11 +3,14 @@ use Rattle.capbits.specs.declared.ids.Ino.{Ino}
 use Rattle.inotree.specs.Index.{gathered}
 use Rattle.inotree.specs.Tree.{Nodes, is_within}
 use Rattle.inotree.proofs.Gathering.{all-gathered, only-gathered}
-use Rattle.inotree.proofs.Named.{index_inodes}
+use Rattle.inotree.proofs.Named.{index_inodes, index_directories}
 use Rattle.inotree.proofs.tree.Tree.within.Goals as goal
 
-pub gather-requires : goal.gather-requires
-gather-requires c = index_inodes c.self.inside.inodes c.self.inside.names c.self.invariant.1 c.self.inside.last c.self.invariant.0 (omega arith)
+pub gather-requires-clause-inside : goal.gather-requires-clause-inside
+gather-requires-clause-inside c = index_directories c.self.inside.inodes c.self.inside.names c.self.invariant.1 c.self.inside.last c.self.invariant.0
+
+pub gather-requires-clause-names : goal.gather-requires-clause-names
+gather-requires-clause-names c = index_inodes c.self.inside.inodes c.self.inside.names c.self.invariant.1 c.self.inside.last c.self.invariant.0 (omega arith)
 
 pub returns-clause-all : goal.returns-clause-all
 returns-clause-all c = λ other within.

@@ -1,13 +1,35 @@
-use Rattle.std.proofs.Common.{drop}
+use Rattle.std.proofs.Common.{drop, sym, subst, ◌∙◌}
+use mathlib.Core.List.{IsPrefix}
+use Rattle.published.specs.Publishing.{Publishing}
+use Rattle.published.proofs.Beginnings.{prefix_self}
 use Rattle.published.proofs.Publishing.{staging_more}
+use Rattle.published.proofs.publisher.Publisher.follow.Goals.{then-stage_changes, else-stage_changes}
 use Rattle.published.proofs.publisher.Publisher.follow.Goals as goal
 
+-- all is staged, or the rows could not be, or what leads to their view could not be
 pub invariant_of-self : goal.invariant_of-self
 invariant_of-self g c =
     let before = c.self.inside in
-    let made = c.stage_next in
-    staging_more g.L.Server.history before.writer.desk.shown.value made.new.writer.desk.shown.value (drop before.writer.behind before.writer.log.items) (drop made.new.writer.behind made.new.writer.log.items) before.recorder made.new.recorder c.args.history.now before.lost made.result
-    c.self.invariant made.ensures.shown made.ensures.more made.ensures.whole made.ensures.log made.ensures.book
+    let value = before.writer.desk.shown.value in
+    let stages = drop before.writer.behind before.writer.log.items in
+    let mid = c.stage_changes.new.writer in
+    let lost = c.if-stage_changes.lost in
+    elim c.if-stage_changes.branch [
+      | then-stage_changes w ↦
+          let made = w.stage_history in
+          let after = made.new.writer in
+          rw w.self-inside-is
+          (staging_more g.L.Server.history value after.desk.shown.value stages (drop after.behind after.log.items) before.recorder made.new.recorder c.args.history.now before.lost lost c.self.invariant
+          (made.ensures.shown ∙ c.stage_changes.ensures.shown) made.ensures.more (λ there. made.ensures.whole (cc (there, w.lost-is))) (λ there. made.ensures.log (cc (there, w.lost-is))) (λ there. made.ensures.book (cc (there, w.lost-is))))
+      | else-stage_changes w ↦
+          rw w.self-inside-is
+          (staging_more g.L.Server.history value mid.desk.shown.value stages (drop mid.behind mid.log.items) before.recorder before.recorder c.args.history.now before.lost lost c.self.invariant
+          c.stage_changes.ensures.shown (prefix_self before.recorder) (λ there. absurd (cc (there, w.lost-is, w.if-stage_changes.false))) (λ there. absurd (cc (there, w.lost-is, w.if-stage_changes.false))) (λ there. absurd (cc (there, w.lost-is, w.if-stage_changes.false))))
+    ]
 
 pub returns-clause-begins : goal.returns-clause-begins
-returns-clause-begins g c = c.stage_next.ensures.begins
+returns-clause-begins g c =
+    elim c.if-stage_changes.branch [
+      | then-stage_changes w ↦ rw w.self-inside-is w.stage_history.ensures.begins
+      | else-stage_changes w ↦ rw w.self-inside-is (subst (λ (p : Publishing). IsPrefix p.rows c.args.history.now) (sym c.self.view_is) c.requires.begins)
+    ]
