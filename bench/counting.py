@@ -14,6 +14,11 @@ sys.dont_write_bytecode = True
 HERE = Path(__file__).resolve().parent
 # All programs are counted in the same surroundings: these lie on a program's stack, and where it begins can count.
 SURROUNDINGS = {"PATH": "/usr/bin:/bin", "LC_ALL": "C"}
+# Valgrind runs one thread at a time. Where it lets the system choose which, one that asks beside one that goes on all the time may
+# wait for minutes.
+IN_TURN = ["--fair-sched=yes"]
+# So many seconds a run may take at most.
+LONGEST = 300
 # Words of gdb: the program stops before it ends, when all that it ever took is still told of it.
 AT_ITS_END = ["-ex", "catch syscall exit_group", "-ex", "run", "-ex", "info proc status", "-ex", "kill"]
 # The call of prctl by which a process, and what it starts, has its memory in pages of the common size alone.
@@ -32,8 +37,11 @@ def script(name):
 def callgrind(words, flags, given=""):
     """A program's run, and how many instructions callgrind says that it took."""
     words = [str(it) for it in words]
-    command = [shutil.which("valgrind") or "valgrind", "--tool=callgrind", *flags, *words]
-    done = subprocess.run(command, input=given, capture_output=True, text=True, env=SURROUNDINGS)
+    command = [shutil.which("valgrind") or "valgrind", "--tool=callgrind", *IN_TURN, *flags, *words]
+    try:
+        done = subprocess.run(command, input=given, capture_output=True, text=True, env=SURROUNDINGS, timeout=LONGEST)
+    except subprocess.TimeoutExpired:
+        sys.exit(f"{' '.join(words)} did not end within {LONGEST} seconds under callgrind")
     found = re.search(r"Collected : (\d+)", done.stderr)
     if done.returncode != 0 or found is None:
         sys.exit(f"{' '.join(words)} failed with status {done.returncode}:\n{done.stderr}")
