@@ -1,9 +1,9 @@
 -- Where the settling of a step has come to, between two servings.
-use Rattle.std.proofs.Common.{◌≡◌, ◌≢◌, ◌+◌, ℕ, Bool, true, false, inl, inr, Some, List, [], ◌∷◌, ◌++◌, length, map as each, refl, sym, ap, subst, ◌∙◌, Contains, append-nil, arith, true≢false}
-use Rattle.std.specs.Option.{option_map}
+use Rattle.std.proofs.Common.{◌≡◌, ◌≢◌, ◌+◌, ◌≤◌, ◌==◌, ◌||◌, ◌&&◌, not, cond, ℕ, Bool, true, false, inl, inr, Option, None, Some, List, [], ◌∷◌, ◌++◌, length, map as each, refl, sym, ap, subst, ◌∙◌, Contains, append-nil, arith, true≢false}
+use Rattle.std.specs.Option.{option_map, option_map_or}
 use Rattle.std.specs.FinMap as map
 use Rattle.std.specs.FinSet as set
-use Rattle.std.proofs.lemmas.Bool.{eqb-true}
+use Rattle.std.proofs.lemmas.Bool.{eqb-true, eqb-false}
 use Rattle.std.proofs.lemmas.List.{length-append}
 use Rattle.std.proofs.lemmas.List.Elements.{All-contains, filter_map-append, filter_passes}
 use Rattle.capbits.specs.declared.cap.Part.{Part}
@@ -16,12 +16,13 @@ use Rattle.captable.specs.Calls.{is_of_inode, entries_on}
 use Rattle.lockmachine.specs.declared.request.Request.{Request}
 use Rattle.lockmachine.specs.declared.moves.Move.TheVariants.{Serve, Settled}
 use Rattle.lockmachine.specs.Inodes.{lock_in}
-use Rattle.lockmachine.specs.Requests.{first_for}
+use Rattle.lockmachine.specs.Requests.{first_for, is_numbered, part_of_ask}
 use Rattle.lockmachine.specs.Locks.{IsLockMap, lock_at, request_at, without_request}
 use Rattle.lockmachine.specs.Wants.{want_of, in_all}
 use Rattle.lockmachine.specs.Scene.{Scene}
-use Rattle.lockmachine.specs.Moves.{may_begin, may_begin_in, first_move, IsQuietOutside}
-use Rattle.lockmachine.specs.Turns.{NothingEnds, WaitAt}
+use Rattle.lockmachine.specs.Moves.{may_begin, may_begin_in, is_servable, first_move, IsQuietOutside}
+use Rattle.lockmachine.specs.Turns.{IsTurnOf, NobodyElsewhere, NothingEnds, WaitAt}
+use Rattle.lockmachine.proofs.Alone.{nobody-held, served-alone}
 use Rattle.lockmachine.proofs.Exact.{ends_not, begins_not}
 use Rattle.lockmachine.proofs.Finding.{contains-filter}
 use Rattle.lockmachine.proofs.PolicyElsewhere.{alike-itself}
@@ -30,11 +31,12 @@ use Rattle.lockmachine.proofs.Turns.{served-ends, ends-turn}
 use Rattle.lockmachine.proofs.Waiting.{quiet-waits-at, waits-wider, waits-less-at, served-at}
 use Rattle.capcore.specs.declared.outcome.Ended.{Ended}
 use Rattle.capcore.specs.InoSets.{InoSet}
+use Rattle.capcore.specs.declared.settle.SweepPlace.{SweepPlace}
 use Rattle.capcore.specs.Served.{is_rename}
 use Rattle.capcore.specs.Serves.{Serves, SettlesWith, is_touched}
 use Rattle.capcore.specs.Serving.{tree_after}
 use Rattle.capcore.specs.Settle.{Made, Began, Gathered, Served, Makes, MakesAll, ended_by, ended_in, sized_by, sized_in}
-use Rattle.capcore.specs.Sweep.{AreStill, IsSwept, IsTurnOfLeast, Widens, Covers, Reaches}
+use Rattle.capcore.specs.Sweep.{AreStill, GoesOnBehind, IsFirstPlace, IsSwept, IsTurnOfLeast, StandsAt, Widens, Covers, Reaches, changed_alone}
 use Rattle.capcore.specs.Touching.{IsSameOff}
 use Rattle.capcore.proofs.Among.{untouched, not-touched, more-touched}
 use Rattle.capcore.proofs.Moved.{makes-append}
@@ -89,6 +91,27 @@ none-sized (Served q o ∷ moves) none = absurd (cc)
 -- where nothing ends, it is the turn of the least one
 pub turn-of_least : (at : ℕ → Bool) (s : Scene) → AreStill at s → NothingEnds s → IsTurnOfLeast at s
 turn-of_least at s still ends a least = ends-turn s a ends (λ other part below. still.begins other part (least.least other below))
+
+-- ---- where the sweep begins
+
+or_no : (a b : Bool) → b ≡ false → (a || b) ≡ a
+or_no true b e = refl
+or_no false b e = e
+
+-- where no other inode is touched, who waits elsewhere is held up
+nobody_first : (ino : ℕ) (touched : InoSet) (s : Scene) (at : ℕ) → WaitAt (is_touched ino touched) s → is_touched ino touched at ≡ true
+    → ((other : ℕ) → set.contains touched other ≡ false) → NobodyElsewhere s.locks at
+nobody_first ino touched s at waits here empty =
+    let is : at ≡ ino = eqb-true at ino (sym (or_no (at == ino) _ (empty at)) ∙ here) in
+    nobody-held s at (waits-wider (is_touched ino touched) (λ other. other == at) s (λ other away. or_no (other == ino) _ (empty other) ∙ ap (λ i. other == i) (sym is) ∙ away) waits)
+
+pub stands-first : (ino : ℕ) (touched : InoSet) (s : Scene) (place : SweepPlace) → IsTurnOfLeast (is_touched ino touched) s → WaitAt (is_touched ino touched) s
+    → IsFirstPlace ino touched place → StandsAt (is_touched ino touched) place s
+stands-first ino touched s place turn waits first = record {
+  turn = turn place.at.0 first.least;
+  here = first.least.is;
+  alone = λ known. nobody_first ino touched s place.at.0 waits first.least.is (first.alone known);
+}
 
 module _ (ino : ℕ) (from : ℕ → Bool) (touched : InoSet) (first now : Scene) (told : List Ended) (sized : List Ino) (so : IsSoFar ino from touched first now told sized) where
   -- ---- gathers began and ended
@@ -281,8 +304,8 @@ module _ (ino : ℕ) (from : ℕ → Bool) (touched : InoSet) (first now : Scene
     turn_after : IsTurnOfLeast (is_touched ino kept) after
     turn_after = turn-of_least (is_touched ino kept) after still_after (served-ends now ticket move)
 
-    pub turn-served : IsTurnOfLeast (is_touched ino kept) new
-    turn-served = by_after (IsTurnOfLeast (is_touched ino kept)) turn_after
+    turn_served : IsTurnOfLeast (is_touched ino kept) new
+    turn_served = by_after (IsTurnOfLeast (is_touched ino kept)) turn_after
 
     pub so-far-served : IsSoFar ino from kept first new (told ++ ended ∷ []) (sized ++ sized_in (Served q ended.outcome ∷ []))
     so-far-served = record {
@@ -311,3 +334,41 @@ module _ (ino : ℕ) (from : ℕ → Bool) (touched : InoSet) (first now : Scene
           omega (arith, queue, more, less, was)
           );
     }
+
+    -- ---- where the sweep goes on
+
+    -- where it moves no inode, others stay as they were, and it stays an inode's turn that is not behind its own
+    turn_stays : (at : ℕ) → is_rename q.ask ≡ false → at ≤ q.ino.0 → IsTurnOf now at → IsTurnOf after at
+    turn_stays at stays before turn = ends-turn after at (served-ends now ticket move) (λ other part below.
+        let off : other ≢ q.ino.0 = λ same. omega (arith, before, below, same) in
+        let alike = alike-apart now q ended.outcome other tree serves.may off (λ moves. absurd (true≢false (sym moves ∙ stays))) in
+        alike_begin other off alike part ∙ turn.begins other part below)
+
+    -- nobody comes to be served at another inode
+    alone_stays : (at : ℕ) → NobodyElsewhere now.locks at → NobodyElsewhere after.locks at
+    alone_stays at nobody r waits away =
+        let was = contains-filter (λ (other : Request). not (is_numbered q.ticket.0 other)) now.locks.queue r waits in
+        let there : q.ino.0 ≡ at = served-alone now at ticket order nobody move q serves.waits in
+        let off : r.ino.0 ≢ q.ino.0 = λ same. eqb-false r.ino.0 at away (same ∙ there) in
+        ap (λ (o : Option Request). option_map_or (is_numbered r.ticket.0) o false && is_servable now.locks r) (first_same r.ino.0 (part_of_ask r.ask) off)
+        ∙ nobody r was away
+
+    alone_by : (i : Ino) → changed_alone q ≡ Some i → (is_rename q.ask ≡ false) × (i ≡ q.ino)
+    alone_by i is = elim (is_rename q.ask) as (λ b. is_rename q.ask ≡ b → cond b None (Some q.ino) ≡ Some i → (is_rename q.ask ≡ false) × (i ≡ q.ino)) [
+      | true ↦ λ moves is. absurd (cc)
+      | false ↦ λ stays is. (stays, cc)
+    ] refl is
+
+    pub stands-behind : (place next : SweepPlace) (changed : Option Ino) → StandsAt (is_touched ino touched) place now → changed ≡ changed_alone q
+        → GoesOnBehind place changed ino kept next → StandsAt (is_touched ino kept) next new
+    stands-behind place next changed stood is goes = elim goes [
+      | inl on ↦
+          let alone = alone_by on.1.0 (sym is ∙ on.1.1) in
+          let before : place.at.0 ≤ q.ino.0 = subst (λ (i : Ino). place.at.0 ≤ i.0) alone.1 on.1.2 in
+          subst (λ (at : SweepPlace). StandsAt (is_touched ino kept) at new) (sym on.0) (by_after (StandsAt (is_touched ino kept) place) (record {
+            turn = turn_stays place.at.0 alone.0 before stood.turn;
+            here = more-touched ino touched kept more.stay place.at.0 stood.here;
+            alone = λ known. alone_stays place.at.0 (stood.alone known);
+          }))
+      | inr first ↦ stands-first ino kept new next turn_served so-far-served.waits first
+    ]

@@ -1,5 +1,5 @@
--- How the locks of several inodes settle: in the order of their numbers, and anew once a request was served.
-use Rattle.std.specs.Prelude.{◌≡◌, ◌≢◌, ◌<◌, ℕ, Bool, true, false, ◌⊎◌, List, [], Option, Some, None, Contains}
+-- How the locks of several inodes settle: in the order of their numbers, and anew once an inode was moved.
+use Rattle.std.specs.Prelude.{◌≡◌, ◌≢◌, ◌<◌, ◌≤◌, ℕ, Bool, true, false, ◌⊎◌, List, [], Option, Some, None, Contains, if◌then◌else◌}
 use Rattle.std.specs.FinMap as map
 use Rattle.std.specs.FinSet as set
 use Rattle.capbits.specs.declared.cap.Part.{Part}
@@ -12,9 +12,11 @@ use Rattle.lockmachine.specs.declared.request.Request.{Request}
 use Rattle.lockmachine.specs.declared.moves.Move.TheVariants.{Serve, Settled}
 use Rattle.lockmachine.specs.Scene.{Scene}
 use Rattle.lockmachine.specs.Moves.{first_move, may_end, may_begin}
-use Rattle.lockmachine.specs.Turns.{IsTurnOf, WaitAt}
+use Rattle.lockmachine.specs.Turns.{IsTurnOf, NobodyElsewhere, WaitAt}
 use Rattle.capcore.specs.InoSets.{InoSet}
+use Rattle.capcore.specs.declared.settle.SweepPlace.{SweepPlace}
 use Rattle.capcore.specs.Served.{is_rename}
+use Rattle.capcore.specs.Serves.{is_touched}
 use Rattle.capcore.specs.Settle.{Made, MakesAll, ended_in}
 
 -- the least of these inodes
@@ -31,6 +33,28 @@ IsNextOf at ino (Some next) =
 -- it is the turn of the least of them
 abbrev pub IsTurnOfLeast : (ℕ → Bool) → Scene → Type 0
 IsTurnOfLeast at s = (ino : ℕ) → IsLeastOf at ino → IsTurnOf s ino
+
+-- where the sweep has come to: it is the turn of this inode, which is one of these; and where that is known, nobody who waits at
+-- another may be served
+pub record StandsAt (at : ℕ → Bool) (place : SweepPlace) (s : Scene) : Type 0 where
+  pub turn : IsTurnOf s place.at.0
+  pub here : at place.at.0 ≡ true
+  pub alone : place.alone ≡ true → NobodyElsewhere s.locks place.at.0
+
+-- at the beginning it comes to the least of the touched inodes. It is known that nobody waits elsewhere who may be served, where
+-- no other is touched
+pub record IsFirstPlace (ino : ℕ) (touched : InoSet) (place : SweepPlace) : Type 0 where
+  pub least : IsLeastOf (is_touched ino touched) place.at.0
+  pub alone : place.alone ≡ true → (other : ℕ) → set.contains touched other ≡ false
+
+-- the inode that a request changes and no other; none where it moves its inode
+abbrev pub changed_alone : Request → Option Ino
+changed_alone q = if is_rename q.ask then None else Some q.ino
+
+-- behind a serving the sweep goes on where it was, if that changed no inode but one that is not before it; else it begins again
+abbrev pub GoesOnBehind : SweepPlace → Option Ino → ℕ → InoSet → SweepPlace → Type 0
+GoesOnBehind place changed ino touched next =
+    ((next ≡ place) × ((i : Ino) × (changed ≡ Some i) × (place.at.0 ≤ i.0))) ⊎ IsFirstPlace ino touched next
 
 -- at all others no gather may begin or end
 pub record AreStill (at : ℕ → Bool) (s : Scene) : Type 0 where

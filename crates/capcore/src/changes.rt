@@ -72,6 +72,8 @@ impl ChangeList {
         if !taken.items.is_empty() {
             taken.items.clear();
         }
+        // Of the room that is kept, each step asks for what it wants.
+        taken.places = 0;
         taken
     }
 
@@ -84,13 +86,25 @@ impl ChangeList {
         ensures { IfOk result (λ changes. (changes.items ≡ []) × (room ≤ changes.room)) }
     {
         let mut taken = self.take(alloc);
-        // A list that grows moves its places, which are of no use here.
-        if taken.items.capacity() < room {
-            taken = ChangeList::new(alloc);
+        if taken.items.capacity() >= room {
+            taken.places = room;
+            return Ok(taken);
         }
-        taken.items.reserve(room)?;
-        taken.places = room;
-        Ok(taken)
+        // A list that grows would move its places, which are of no use here. A new one has some more, since the next step often wants
+        // one more than this.
+        ChangeList::with_room(alloc, room.max(MAX_KEPT_PLACES))
+    }
+
+    // No change, and room for so many.
+    fn with_room(alloc: Global, room: usize) -> Result<ChangeList, AllocError>
+        ensures { IfOk result (λ changes. (changes.items ≡ []) × (room ≤ changes.room)) }
+    {
+        let mut items = Vec::new(alloc);
+        items.reserve(room)?;
+        Ok(ChangeList {
+            items,
+            places: room,
+        })
     }
 
     // Keeps the list, whose changes nobody asks for any more, in the place of this one, so that its room is used again.

@@ -204,16 +204,17 @@ fn drop_requests(locks: &mut Locks, client: ClientId, dropped: &mut Messages)
     ensures dropped { dropped.new.items ≡ dropped.old.items ++ each dropped_of (requests_of locks.old client) }
     ensures room { length dropped.new.items + length locks.new.queue ≤ dropped.new.room }
 {
-    // A look at the locks, by which the proof knows what they keep.
-    let _waiting = locks.waiting();
-    'requests: while let Some(ticket) = locks.drop_client(client) {
-        let outcome = Outcome::Dropped;
-        dropped.push(Ended {
-            client,
-            ticket,
-            outcome,
-        });
+    for request in locks.requests() {
+        if request.client.0 == client.0 {
+            let (ticket, outcome) = (request.ticket, Outcome::Dropped);
+            dropped.push(Ended {
+                client,
+                ticket,
+                outcome,
+            });
+        }
     }
+    locks.drop_requests_of(client);
 }
 
 // ---- room

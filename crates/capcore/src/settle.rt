@@ -12,14 +12,14 @@ ghost use Rattle.lockmachine.specs.Locks.{request_at};
 ghost use Rattle.lockmachine.specs.Scene.{scene};
 ghost use Rattle.lockmachine.specs.Moves.{may_end_by, IsQuietOutside};
 ghost use Rattle.lockmachine.specs.Runs.{MoveLittle, ChangesLocksOf};
-ghost use Rattle.lockmachine.specs.Turns.{IsTurnOf, IsDue, WaitAt};
+ghost use Rattle.lockmachine.specs.Turns.{IsTurnOf, IsDue, NobodyElsewhere, WaitAt};
 ghost use Rattle.capcore.specs.declared.outcome.Ended.{Ended};
 ghost use Rattle.capcore.specs.InoSets.{IsNext};
 ghost use Rattle.capcore.specs.Known.{HaveRoom, OthersHaveAll};
 ghost use Rattle.capcore.specs.Noted.{HavePlaces, LeadOn};
 ghost use Rattle.capcore.specs.Serves.{Serves, SettlesWith, EndsAt, EndsWith, is_touched};
 ghost use Rattle.capcore.specs.Settle.{Served as Serving, sized_by, sized_in};
-ghost use Rattle.capcore.specs.Sweep.{AreStill, GoesOn, IsTurnOfLeast, IsLeastOf, IsNextOf, IsSwept, Reaches};
+ghost use Rattle.capcore.specs.Sweep.{AreStill, GoesOn, GoesOnBehind, IsFirstPlace, IsLeastOf, IsNextOf, IsSwept, Reaches, StandsAt, changed_alone};
 ghost use Rattle.capcore.specs.Untold.{HasRoom};
 
 use crate::changes::ChangeList;
@@ -266,10 +266,13 @@ fn settle(
 {
     let mut touched = others;
     end_gathers(table, locks, ino, &touched);
-    'servings: while let Some(ticket) = sweep(fs, tree, sessions, table, locks, ino, &touched) {
+    let mut place = first_place(&touched, ino);
+    'servings: while let Some(ticket) = sweep(
+        fs, tree, sessions, table, locks, ino, &touched, &mut place,
+    ) {
         // A look at the locks and at the tree, by which the proof knows what they keep.
         let (_lock, _last) = (locks.state(ino, Part::A), tree.last());
-        serve_next(
+        let changed = serve_next(
             fs,
             tree,
             sessions,
@@ -280,6 +283,7 @@ fn settle(
             &mut touched,
             endings,
         );
+        place = place_behind(place, changed, &touched, ino);
     }
     touched
 }
@@ -307,8 +311,39 @@ fn end_gathers(table: &CapTable, locks: &mut Locks, ino: Ino, touched: &InoSet)
     }
 }
 
-// Lets the locks of the touched inodes move, one inode after the other, until a request is to be served, whose number it
-// answers, or no move applies.
+// Where a sweep over the touched inodes has come to.
+#[derive(Clone, Copy)]
+pub(crate) struct SweepPlace {
+    // The inode whose turn it is.
+    at: Ino,
+    // Whether it is known that nobody who waits at another inode may be served.
+    alone: bool,
+}
+
+// Where a sweep begins.
+fn first_place(touched: &InoSet, ino: Ino) -> SweepPlace
+    ensures { IsFirstPlace ino.0 touched.now result }
+{
+    let at = lowest(touched, ino);
+    match touched.next(Ino(0)) {
+        Some(_other) => SweepPlace { at, alone: false },
+        None => SweepPlace { at, alone: true },
+    }
+}
+
+// Where it goes on behind a serving that changed this inode alone, or that moved inodes: by the first the inodes that it has passed
+// stay as they are.
+fn place_behind(place: SweepPlace, changed: Option<Ino>, touched: &InoSet, ino: Ino) -> SweepPlace
+    ensures { GoesOnBehind place changed ino.0 touched.now result }
+{
+    match changed {
+        Some(inode) if place.at.0 <= inode.0 => place,
+        Some(_) | None => first_place(touched, ino),
+    }
+}
+
+// Lets the locks of the touched inodes move, one inode after the other, from where the sweep has come to, until a request is to be
+// served, whose number it answers, or no move applies.
 fn sweep(
     fs: &FsName,
     tree: &Tree,
@@ -317,50 +352,50 @@ fn sweep(
     locks: &mut Locks,
     ino: Ino,
     touched: &InoSet,
+    place: &mut SweepPlace,
 ) -> Option<Ticket>
-    requires turn { IsTurnOfLeast (is_touched ino.0 touched.now) (scene fs.now tree.now sessions.now table.now locks.old) }
+    requires place { StandsAt (is_touched ino.0 touched.now) place.old (scene fs.now tree.now sessions.now table.now locks.old) }
     requires still { AreStill (is_touched ino.0 touched.now) (scene fs.now tree.now sessions.now table.now locks.old) }
     requires waits { WaitAt (is_touched ino.0 touched.now) (scene fs.now tree.now sessions.now table.now locks.old) }
     ensures swept { IsSwept (is_touched ino.0 touched.now) (scene fs.now tree.now sessions.now table.now locks.old)
         (scene fs.now tree.now sessions.now table.now locks.new) }
     ensures next { GoesOn (scene fs.now tree.now sessions.now table.now locks.new) result }
+    ensures place { StandsAt (is_touched ino.0 touched.now) place.new (scene fs.now tree.now sessions.now table.now locks.new) }
 {
-    let mut at = lowest(touched, ino);
     'inodes: loop {
-        if let Some(ticket) = advance(fs, tree, sessions, table, locks, ino, touched, at) {
+        if let Some(ticket) = advance(fs, tree, sessions, table, locks, *place) {
             return Some(ticket);
         }
-        match next_touched(touched, ino, at) {
-            Some(next) => at = next,
+        match next_touched(touched, ino, place.at) {
+            // And nobody at all may be served.
+            Some(at) => *place = SweepPlace { at, alone: true },
             None => return None,
         }
     }
 }
 
-// Lets the locks of one of the touched inodes move, until a request is to be served, whose number it answers, or the inode is done.
-// Where it is the only one, the requests for others need not be looked at.
+// Lets the locks of the inode that the sweep has come to move, until a request is to be served, whose number it answers, or the
+// inode is done. Where nobody who waits at another may be served, the requests for others need not be looked at.
 fn advance(
     fs: &FsName,
     tree: &Tree,
     sessions: &Sessions,
     table: &CapTable,
     locks: &mut Locks,
-    ino: Ino,
-    touched: &InoSet,
-    at: Ino,
+    place: SweepPlace,
 ) -> Option<Ticket>
-    requires turn { IsTurnOf (scene fs.now tree.now sessions.now table.now locks.old) at.0 }
-    requires waits { WaitAt (is_touched ino.0 touched.now) (scene fs.now tree.now sessions.now table.now locks.old) }
-    requires here { is_touched ino.0 touched.now at.0 ≡ true }
+    requires turn { IsTurnOf (scene fs.now tree.now sessions.now table.now locks.old) place.at.0 }
+    requires alone { place.alone ≡ true → NobodyElsewhere locks.old place.at.0 }
     ensures moves { MoveLittle (scene fs.now tree.now sessions.now table.now locks.old)
         (scene fs.now tree.now sessions.now table.now locks.new) }
-    ensures due { IsDue (scene fs.now tree.now sessions.now table.now locks.new) at.0 result }
-    ensures turn { IsTurnOf (scene fs.now tree.now sessions.now table.now locks.new) at.0 }
-    ensures elsewhere { ChangesLocksOf at.0 locks.old locks.new }
+    ensures due { IsDue (scene fs.now tree.now sessions.now table.now locks.new) place.at.0 result }
+    ensures turn { IsTurnOf (scene fs.now tree.now sessions.now table.now locks.new) place.at.0 }
+    ensures elsewhere { ChangesLocksOf place.at.0 locks.old locks.new }
 {
-    match touched.next(Ino(0)) {
-        None => locks.advance_alone_at(table, sessions, tree, fs, at),
-        Some(_) => locks.advance_at(table, sessions, tree, fs, at),
+    if place.alone {
+        locks.advance_alone_at(table, sessions, tree, fs, place.at)
+    } else {
+        locks.advance_at(table, sessions, tree, fs, place.at)
     }
 }
 
@@ -387,8 +422,8 @@ fn next_touched(touched: &InoSet, ino: Ino, at: Ino) -> Option<Ino>
 
 // ---- servings
 
-// Serves the request with this number, and notes what that changes for readers. If it moves its inode, each inode but the one
-// that is at or below it and has entries is touched; for want of memory for that it ends so.
+// Serves the request with this number, notes what that changes for readers, and answers the inode that it changes alone. If it moves
+// its inode, each inode but the one that is at or below it and has entries is touched; for want of memory for that it ends so.
 fn serve_next(
     fs: &FsName,
     tree: &mut Tree,
@@ -399,7 +434,7 @@ fn serve_next(
     ticket: Ticket,
     touched: &mut InoSet,
     endings: &mut Endings,
-)
+) -> Option<Ino>
     requires waits { (q : Request) × (request_at locks.old ticket.0 ≡ Some q) }
     requires told { length endings.old.told.items < endings.old.told.room }
     requires kept { length endings.old.kept.items < endings.old.kept.room }
@@ -413,6 +448,7 @@ fn serve_next(
         → endings.new.sized.items ≡ endings.old.sized.items ++ sized_in (Serving q ended.outcome ∷ [])) }
     ensures reached { (q : Request) → request_at locks.old ticket.0 ≡ Some q
         → Reaches q ino.0 tree.old tree.new table.now touched.old touched.new }
+    ensures changed { (q : Request) → request_at locks.old ticket.0 ≡ Some q → result ≡ changed_alone q }
     ensures room { (endings.old.told.room ≤ endings.new.told.room) × (endings.old.kept.room ≤ endings.new.kept.room)
         × (vec_capacity endings.old.sized ≤ vec_capacity endings.new.sized) }
     // At most one change is noted, and there is a place more for each inode that is touched besides.
@@ -428,10 +464,21 @@ fn serve_next(
     let served = serve(alloc, fs, tree, sessions, &request, reached.is_ok());
     changes.note_served(tree, &request, &served.outcome);
     let (client, ticket) = (request.client, request.ticket);
-    let sized = sized_by(&request, &served);
+    let (sized, changed) = (sized_by(&request, &served), changed_alone(&request));
     // The request goes before its end is told, so that the proof has to follow it but once.
     drop(request);
     endings.push(client, ticket, served, sized);
+    changed
+}
+
+// The inode of the request, unless it is to move that.
+fn changed_alone(request: &Request) -> Option<Ino>
+    ensures { result ≡ changed_alone request.now }
+{
+    match request.ask {
+        Ask::Rename { .. } => None,
+        Ask::Get(_) | Ask::Alter(_) | Ask::Unlink | Ask::Rmdir => Some(request.ino),
+    }
 }
 
 // The inode of the request, if it set the size.

@@ -1,22 +1,26 @@
--- One inode where each request for another is held up: who is served is found among its own requests, and where it has none, nothing
--- stands first in its queues.
-use Rattle.std.proofs.Common.{◌≡◌, ℕ, zero, suc, Bool, true, false, cond, not, ◌&&◌, ◌||◌, ◌==◌, Option, Some, None, List, [], ◌∷◌, refl, sym, ap, ◌∙◌, Contains, arith}
+-- One inode where nobody who waits at another may be served: who is served is found among its own requests, and where it has none,
+-- nothing stands first in its queues.
+use Rattle.std.proofs.Common.{◌≡◌, ℕ, zero, suc, Bool, true, false, cond, not, ◌&&◌, ◌||◌, ◌==◌, Option, Some, None, List, [], ◌∷◌, refl, sym, ap, subst, ◌∙◌, Contains, true≢false, arith}
 use Rattle.std.specs.List.{find, list_any}
 use Rattle.std.specs.Option.{option_map}
+use Rattle.std.proofs.lemmas.Bool.{eqb-true, eqb-false}
 use Rattle.capbits.specs.declared.cap.Part.{Part}
+use Rattle.capbits.specs.declared.ids.Ticket.{Ticket}
 use Rattle.locktable.specs.Targets.{target_of}
 use Rattle.locktable.specs.declared.states.State.{State}
 use Rattle.locktable.specs.declared.states.LockState.{LockState}
 use Rattle.locktable.specs.declared.states.LockState.TheVariants.{Stable, Gather}
-use Rattle.lockmachine.specs.declared.moves.Move.TheVariants.{Begin}
+use Rattle.lockmachine.specs.declared.moves.Move.TheVariants.{Begin, Serve}
 use Rattle.lockmachine.specs.declared.request.Request.{Request}
 use Rattle.lockmachine.specs.declared.wants.Wants.{Wants}
-use Rattle.lockmachine.specs.Requests.{first_for, head_of, part_of_ask, same_part, waits_for}
-use Rattle.lockmachine.specs.Locks.{LockMap, lock_at}
+use Rattle.lockmachine.specs.Requests.{first_for, head_of, head_of_ask, part_of_ask, same_part, waits_for}
+use Rattle.lockmachine.specs.Locks.{LockMap, IsLockMap, lock_at, request_at}
 use Rattle.lockmachine.specs.Scene.{Scene, target_by}
-use Rattle.lockmachine.specs.Moves.{same_state, parts, may_begin_in, may_begin_by, may_serve, beginning, beginning_by, present_state}
-use Rattle.lockmachine.specs.Turns.{WaitAt}
+use Rattle.lockmachine.specs.Moves.{same_state, parts, may_begin_in, may_begin_by, may_serve, is_first, is_servable, is_served_in, first_move, beginning, beginning_by, present_state}
+use Rattle.lockmachine.specs.Runs.{ChangesLocksOf}
+use Rattle.lockmachine.specs.Turns.{IsDoneAt, NobodyElsewhere, WaitAt}
 use Rattle.lockmachine.proofs.Finding.{find_none}
+use Rattle.lockmachine.proofs.Queue.{found_by_number, least_served}
 use Rattle.lockmachine.proofs.Waiting.{held-up-unserved}
 
 neither : (a b : Bool) → (a || b) ≡ false → (a ≡ false) × (b ≡ false)
@@ -60,11 +64,43 @@ same-beginning locks wants ino none k =
     option_map (λ part. Begin (record { 0 = ino }) part (same-target locks.queue wants ino none part (present_state (lock_at locks ino part)) k))
     (find (λ part. same-begin locks.queue wants ino none part (lock_at locks ino part) k) parts)
 
--- where each request for another inode is held up
+-- where nobody who waits at another inode may be served
 
-by_place : (s : Scene) (q : Request) (b : Bool) → (b ≡ false → may_serve s.locks q ≡ false) → (b && may_serve s.locks q) ≡ may_serve s.locks q
-by_place s q true held = refl
-by_place s q false held = sym (held refl)
+by_place : (locks : LockMap) (q : Request) (b : Bool) → (b ≡ false → may_serve locks q ≡ false) → (b && may_serve locks q) ≡ may_serve locks q
+by_place locks q true away = refl
+by_place locks q false away = sym (away refl)
 
-pub served-here : (s : Scene) (ino : ℕ) → WaitAt (λ other. other == ino) s → find (λ q. waits_for ino q && may_serve s.locks q) s.locks.queue ≡ find (may_serve s.locks) s.locks.queue
-served-here s ino wait = find_same _ _ s.locks.queue (λ q inside. by_place s q (waits_for ino q) (λ away. held-up-unserved s q (wait q inside away)))
+pub served-here : (locks : LockMap) (ino : ℕ) → NobodyElsewhere locks ino → find (λ q. waits_for ino q && may_serve locks q) locks.queue ≡ find (may_serve locks) locks.queue
+served-here locks ino nobody = find_same _ _ locks.queue (λ q inside. by_place locks q (waits_for ino q) (nobody q inside))
+
+-- moves at the inode leave it so
+pub nobody-kept : (ino : ℕ) (old new : LockMap) → ChangesLocksOf ino old new → NobodyElsewhere old ino → NobodyElsewhere new ino
+nobody-kept ino old new changes nobody q inside away =
+    let part = part_of_ask q.ask in
+    ap (λ queue. is_first queue q && is_servable new q) changes.queue
+    ∙ ap (λ o. is_first old.queue q && is_served_in o (head_of_ask q.client q.ask)) (changes.others q.ino.0 part (eqb-false q.ino.0 ino away))
+    ∙ nobody q (subst (λ (qs : List Request). Contains qs q) changes.queue inside) away
+
+-- who waits elsewhere is held up
+pub nobody-held : (s : Scene) (ino : ℕ) → WaitAt (λ other. other == ino) s → NobodyElsewhere s.locks ino
+nobody-held s ino wait q inside away = held-up-unserved s q (wait q inside away)
+
+-- nobody at all may be served
+pub nobody-done : (s : Scene) (here ino : ℕ) → IsDoneAt s here → NobodyElsewhere s.locks ino
+nobody-done s here ino done q inside away = done.serves q inside
+
+-- the request that is served waits at the inode
+pub served-alone : (s : Scene) (ino : ℕ) (ticket : Ticket) → IsLockMap s.locks → NobodyElsewhere s.locks ino → first_move s ≡ Serve ticket
+    → (q : Request) → request_at s.locks ticket.0 ≡ Some q → q.ino.0 ≡ ino
+served-alone s ino ticket is nobody move q waits =
+    let served = least_served s ticket is move in
+    let found : request_at s.locks ticket.0 ≡ Some served.0 = subst (λ (t : Ticket). request_at s.locks t.0 ≡ Some served.0) served.1 (found_by_number s.locks served.0 is served.2.waits) in
+    let both : Some served.0 ≡ Some q = sym found ∙ waits in
+    let same : served.0 ≡ q = cc in
+    subst (λ (r : Request). r.ino.0 ≡ ino) same (here served.0 served.2.waits served.2.may)
+  where
+    here : (r : Request) → Contains s.locks.queue r → may_serve s.locks r ≡ true → r.ino.0 ≡ ino
+    here r inside may = elim (r.ino.0 == ino) as (λ b. (r.ino.0 == ino) ≡ b → r.ino.0 ≡ ino) [
+      | true ↦ λ is. eqb-true r.ino.0 ino is
+      | false ↦ λ away. absurd (true≢false (sym may ∙ nobody r inside away))
+    ] refl

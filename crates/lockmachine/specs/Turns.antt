@@ -1,5 +1,5 @@
 -- Whose turn it is, where a step touches many inodes: a caller goes over them in the order of their numbers.
-use Rattle.std.specs.Prelude.{◌≡◌, ◌≢◌, ◌<◌, ℕ, Bool, true, false, Option, Some, None, Contains}
+use Rattle.std.specs.Prelude.{◌≡◌, ◌≢◌, ◌<◌, ◌==◌, ℕ, Bool, true, false, Option, Some, None, Contains}
 use Rattle.capbits.specs.declared.cap.Part.{Part}
 use Rattle.capbits.specs.declared.ids.Ticket.{Ticket}
 use Rattle.locktable.specs.declared.states.State.{State}
@@ -8,7 +8,7 @@ use Rattle.lockmachine.specs.declared.request.Request.{Request}
 use Rattle.lockmachine.specs.declared.moves.Move.{Move}
 use Rattle.lockmachine.specs.declared.moves.Move.TheVariants.{Begin, End, Serve, Settled}
 use Rattle.lockmachine.specs.Requests.{part_of_ask}
-use Rattle.lockmachine.specs.Locks.{lock_at}
+use Rattle.lockmachine.specs.Locks.{LockMap, lock_at}
 use Rattle.lockmachine.specs.Scene.{Scene}
 use Rattle.lockmachine.specs.Moves.{is_open, may_end, may_begin, may_serve, first_move}
 
@@ -53,3 +53,7 @@ pub record IsHeldUp (s : Scene) (q : Request) : Type 0 where
 -- who waits at an inode that is not among these, is held up
 abbrev pub WaitAt : (ℕ → Bool) → Scene → Type 0
 WaitAt at s = (q : Request) → Contains s.locks.queue q → at q.ino.0 ≡ false → IsHeldUp s q
+
+-- nobody who waits at another inode may be served
+abbrev pub NobodyElsewhere : LockMap → ℕ → Type 0
+NobodyElsewhere locks ino = (q : Request) → Contains locks.queue q → (q.ino.0 == ino) ≡ false → may_serve locks q ≡ false

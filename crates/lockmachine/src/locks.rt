@@ -15,7 +15,7 @@ ghost use Rattle.lockmachine.specs.Scene.{wanted_in_all, scene, head_in, target_
 ghost use Rattle.lockmachine.specs.Moves as moves;
 ghost use Rattle.lockmachine.specs.Moves.{first_move, moved, handed};
 ghost use Rattle.lockmachine.specs.Runs.{MoveLittle, EndLittle, ChangesLocksOf};
-ghost use Rattle.lockmachine.specs.Turns.{IsTurnOf, IsNextAt, IsDue, WaitAt};
+ghost use Rattle.lockmachine.specs.Turns.{IsTurnOf, IsNextAt, IsDue, NobodyElsewhere};
 
 use crate::moves::Move;
 use crate::request::{Ask, Request};
@@ -176,6 +176,13 @@ impl Locks {
         let ticket = self.first_of(client)?;
         let _dropped = self.take_request(ticket);
         Some(ticket)
+    }
+
+    /// Takes all requests of a client out of the queue, by one pass over it. It takes no memory.
+    pub fn drop_requests_of(&mut self, client: ClientId)
+        ensures { self.new ≡ words.without_requests_of self.old client }
+    {
+        self.queue.retain(|request| !is_of_client(client, request));
     }
 
     // The number of a client's oldest request.
@@ -485,8 +492,8 @@ impl Locks {
         }
     }
 
-    /// The same, where each request for another inode waits for a gather that is open. It passes over the requests for others by one
-    /// comparison each, and looks at the locks of those for this inode alone.
+    /// The same, where nobody who waits at another inode may be served. It passes over the requests for others by one comparison
+    /// each, and looks at the locks of those for this inode alone.
     pub fn advance_alone_at(
         &mut self,
         table: &CapTable,
@@ -496,7 +503,7 @@ impl Locks {
         ino: Ino,
     ) -> Option<Ticket>
         requires turn { IsTurnOf (scene fs.now tree.now sessions.now table.now self.old) ino.0 }
-        requires waits { WaitAt (λ other. other == ino.0) (scene fs.now tree.now sessions.now table.now self.old) }
+        requires elsewhere { NobodyElsewhere self.old ino.0 }
 
         // Each lock begins at most one gather and ends at most two.
         ensures moves { MoveLittle (scene fs.now tree.now sessions.now table.now self.old)
@@ -529,7 +536,7 @@ impl Locks {
         wanted: &mut Option<Wants>,
     ) -> Move
         requires turn { IsTurnOf (scene fs.now tree.now sessions.now table.now self.now) ino.0 }
-        requires elsewhere { WaitAt (λ other. other == ino.0) (scene fs.now tree.now sessions.now table.now self.now) }
+        requires elsewhere { NobodyElsewhere self.now ino.0 }
         requires here { waits ≡ list_any (waits_for ino.0) self.now.queue }
         requires known { IfSome wanted.old (λ wants. wants ≡ wanted_in_all (scene fs.now tree.now sessions.now table.now self.now) ino.0) }
         ensures next { IsNextAt (scene fs.now tree.now sessions.now table.now self.now) ino.0 result }
@@ -614,6 +621,13 @@ impl Locks {
     {
         let _nobody = self.apply_move(step);
     }
+}
+
+// Whether the request is the client's.
+fn is_of_client(client: ClientId, request: &Request) -> bool
+    ensures { result ≡ requests.is_of_client client request.now }
+{
+    request.client.0 == client.0
 }
 
 // Whether the lock of the part, which is in this state, is in a gather that is not open.

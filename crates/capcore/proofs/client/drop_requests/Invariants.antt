@@ -1,12 +1,9 @@
-use Rattle.std.proofs.Common.{◌≤◌, ◌+◌, length}
-use Rattle.capcore.proofs.Dropped.{IsDropping}
+use Rattle.std.proofs.Common.{◌≡◌, ◌≤◌, ◌++◌, take}
+use Rattle.capcore.proofs.Dropped.{dropped_among}
 use Rattle.capcore.proofs.client.drop_requests.Given as goal
 
-abbrev pub decreases-requests : goal.decreases-requests
-decreases-requests l = length l.locks.queue
-
-abbrev pub invariant-requests : goal.invariant-requests
-invariant-requests l = record {
-  so_far : IsDropping l.client l.fn.locks l.fn.dropped.items l.locks l.dropped.items;
-  room : length l.dropped.items + length l.locks.queue ≤ l.dropped.room;
+abbrev pub invariant-loop-request : goal.invariant-loop-request
+invariant-loop-request l = record {
+  listed : l.dropped.items ≡ l.fn.dropped.items ++ dropped_among l.client (take l.request-index l.fn.locks.queue);
+  room : l.fn.dropped.room ≤ l.dropped.room;
 }

@@ -11,13 +11,14 @@ use Rattle.lockmachine.proofs.Exact.{ends_not}
 use Rattle.lockmachine.proofs.Waiting.{served-at}
 use Rattle.capcore.specs.declared.outcome.Ended.{Ended}
 use Rattle.capcore.specs.declared.outcome.Outcome.{Outcome}
+use Rattle.capcore.specs.declared.settle.SweepPlace.{SweepPlace}
 use Rattle.capcore.specs.Serves.{Serves, is_touched}
 use Rattle.capcore.specs.Settle.{Served, sets_size, is_done, sized_in}
-use Rattle.capcore.specs.Sweep.{GoesOn, IsSwept, IsTurnOfLeast, Reaches}
+use Rattle.capcore.specs.Sweep.{GoesOn, GoesOnBehind, IsSwept, Reaches, StandsAt}
 use Rattle.capcore.proofs.Noting.{leads-none, leads-then}
-use Rattle.capcore.proofs.SoFar.{IsSoFar, so-far-begins, so-far-served, so-far-settled, so-far-swept, turn-of_least, turn-served}
+use Rattle.capcore.proofs.SoFar.{IsSoFar, so-far-begins, so-far-served, so-far-settled, so-far-swept, stands-behind, stands-first, turn-of_least}
 use Rattle.capcore.proofs.settle.settle.Goals as goal
-use Rattle.capcore.proofs.settle.settle.Goals.{After-last-last, After-serve_next}
+use Rattle.capcore.proofs.settle.settle.Goals.{After-last-last, After-place_behind-place}
 
 pub end_gathers-requires : goal.end_gathers-requires
 end_gathers-requires c =
@@ -37,7 +38,7 @@ servings-init c =
       so_far =
           subst (λ (told : List Ended). IsSoFar c.args.ino.0 at c.args.others first now told c.args.endings.now.sized.items) (sym c.requires.none)
           (subst (IsSoFar c.args.ino.0 at c.args.others first now []) (sym c.requires.no_sizes) so);
-      turn = turn-of_least at now so.still c.end_gathers.ensures.ends;
+      stands = stands-first c.args.ino.0 c.args.others now c.first_place-place.result (turn-of_least at now so.still c.end_gathers.ensures.ends) so.waits c.first_place-place.ensures;
       same = c.requires.same;
       lead = leads-none c.args.endings.now.changes.items c.args.tree.now;
       places = omega (arith, queue, c.requires.places);
@@ -87,51 +88,52 @@ module _ (c : After-last-last) where
       let same : length c.sweep.new.locks.queue ≡ length c.servings.locks.queue = ap length is.queue in
       omega (arith, same, inside.1)
 
-pub serve_next-requires-clause-waits : goal.serve_next-requires-clause-waits
-serve_next-requires-clause-waits c = (let found = here (goal.at.serve_next-requires-clause-waits c).After-last-last in (found.0, found.1))
+pub serve_next-changed-requires-clause-waits : goal.serve_next-changed-requires-clause-waits
+serve_next-changed-requires-clause-waits c = (let found = here (goal.at.serve_next-changed-requires-clause-waits c).After-last-last in (found.0, found.1))
 
-pub serve_next-requires-clause-told : goal.serve_next-requires-clause-told
-serve_next-requires-clause-told c = let some = some_wait (goal.at.serve_next-requires-clause-told c).After-last-last in omega (arith, some, c.servings.invariant.told)
+pub serve_next-changed-requires-clause-told : goal.serve_next-changed-requires-clause-told
+serve_next-changed-requires-clause-told c = let some = some_wait (goal.at.serve_next-changed-requires-clause-told c).After-last-last in omega (arith, some, c.servings.invariant.told)
 
-pub serve_next-requires-clause-kept : goal.serve_next-requires-clause-kept
-serve_next-requires-clause-kept c = let some = some_wait (goal.at.serve_next-requires-clause-kept c).After-last-last in omega (arith, some, c.servings.invariant.kept)
+pub serve_next-changed-requires-clause-kept : goal.serve_next-changed-requires-clause-kept
+serve_next-changed-requires-clause-kept c = let some = some_wait (goal.at.serve_next-changed-requires-clause-kept c).After-last-last in omega (arith, some, c.servings.invariant.kept)
 
-pub serve_next-requires-clause-sized : goal.serve_next-requires-clause-sized
-serve_next-requires-clause-sized c = let some = some_wait (goal.at.serve_next-requires-clause-sized c).After-last-last in omega (arith, some, c.servings.invariant.sized)
+pub serve_next-changed-requires-clause-sized : goal.serve_next-changed-requires-clause-sized
+serve_next-changed-requires-clause-sized c = let some = some_wait (goal.at.serve_next-changed-requires-clause-sized c).After-last-last in omega (arith, some, c.servings.invariant.sized)
 
-pub serve_next-requires-clause-place : goal.serve_next-requires-clause-place
-serve_next-requires-clause-place c = omega (arith, c.servings.invariant.places)
+pub serve_next-changed-requires-clause-place : goal.serve_next-changed-requires-clause-place
+serve_next-changed-requires-clause-place c = omega (arith, c.servings.invariant.places)
 
-abbrev before_serving : After-serve_next → After-last-last
+abbrev before_serving : After-place_behind-place → After-last-last
 before_serving c = (goal.at.servings-preserved c).After-last-last
 
-module _ (c : After-serve_next) where
+module _ (c : After-place_behind-place) where
   abbrev ended : Ended
-  ended = c.serve_next.ensures.served.0
+  ended = c.serve_next-changed.ensures.served.0
 
   abbrev new : Scene
-  new = scene c.args.fs.now c.serve_next.new.tree c.args.sessions.now c.args.table.now c.serve_next.new.locks
+  new = scene c.args.fs.now c.serve_next-changed.new.tree c.args.sessions.now c.args.table.now c.serve_next-changed.new.locks
 
   abbrev serves : Serves (mid (before_serving c)) c.in-Some.ticket ended new
-  serves = c.serve_next.ensures.served.1 c.args.table.now
+  serves = c.serve_next-changed.ensures.served.1 c.args.table.now
 
-  abbrev reaches : Reaches serves.request c.args.ino.0 c.servings.tree c.serve_next.new.tree c.args.table.now c.servings.touched c.serve_next.new.touched
-  reaches = c.serve_next.ensures.reached serves.request serves.waits
+  abbrev reaches : Reaches serves.request c.args.ino.0 c.servings.tree c.serve_next-changed.new.tree c.args.table.now c.servings.touched c.serve_next-changed.new.touched
+  reaches = c.serve_next-changed.ensures.reached serves.request serves.waits
 
-  served : IsSoFar c.args.ino.0 (from (before_serving c)) c.serve_next.new.touched (first (before_serving c)) new (c.servings.endings.told.items ++ ended ∷ []) (c.servings.endings.sized.items ++ sized_in (Served serves.request ended.outcome ∷ []))
+  served : IsSoFar c.args.ino.0 (from (before_serving c)) c.serve_next-changed.new.touched (first (before_serving c)) new (c.servings.endings.told.items ++ ended ∷ []) (c.servings.endings.sized.items ++ sized_in (Served serves.request ended.outcome ∷ []))
   served =
       so-far-served c.args.ino.0 (from (before_serving c)) c.servings.touched (first (before_serving c)) (mid (before_serving c)) c.servings.endings.told.items c.servings.endings.sized.items (swept (before_serving c))
-      c.in-Some.ticket ended new c.serve_next.new.touched c.state-lock.ensures.sound c.last-last.ensures.sound (move (before_serving c)) serves reaches
+      c.in-Some.ticket ended new c.serve_next-changed.new.touched c.state-lock.ensures.sound c.last-last.ensures.sound (move (before_serving c)) serves reaches
 
-  turn : IsTurnOfLeast (is_touched c.args.ino.0 c.serve_next.new.touched) new
-  turn =
-      turn-served c.args.ino.0 (from (before_serving c)) c.servings.touched (first (before_serving c)) (mid (before_serving c)) c.servings.endings.told.items c.servings.endings.sized.items (swept (before_serving c))
-      c.in-Some.ticket ended new c.serve_next.new.touched c.state-lock.ensures.sound c.last-last.ensures.sound (move (before_serving c)) serves reaches
+  stands : (next : SweepPlace) → GoesOnBehind c.sweep.new.place c.serve_next-changed.result c.args.ino.0 c.serve_next-changed.new.touched next → StandsAt (is_touched c.args.ino.0 c.serve_next-changed.new.touched) next new
+  stands next =
+      stands-behind c.args.ino.0 (from (before_serving c)) c.servings.touched (first (before_serving c)) (mid (before_serving c)) c.servings.endings.told.items c.servings.endings.sized.items (swept (before_serving c))
+      c.in-Some.ticket ended new c.serve_next-changed.new.touched c.state-lock.ensures.sound c.last-last.ensures.sound (move (before_serving c)) serves reaches
+      c.sweep.new.place next c.serve_next-changed.result c.sweep.ensures.place (c.serve_next-changed.ensures.changed serves.request serves.waits)
 
   one_more : length (c.servings.endings.told.items ++ ended ∷ []) ≡ length c.servings.endings.told.items + 1
   one_more = length-append c.servings.endings.told.items (ended ∷ [])
 
-  one_less : length c.serve_next.new.locks.queue + 1 ≡ length c.servings.locks.queue
+  one_less : length c.serve_next-changed.new.locks.queue + 1 ≡ length c.servings.locks.queue
   one_less =
       let now = served in
       let was = c.servings.invariant.so_far in
@@ -142,24 +144,24 @@ servings-smaller c = let less = one_less c in omega (arith, less)
 
 pub servings-preserved : goal.servings-preserved
 servings-preserved c =
-    let all = c.serve_next.ensures.served in
-    let same : c.serve_next.new.endings.kept.items ≡ c.serve_next.new.endings.told.items = all.3 ∙ ap (λ ms. ms ++ ended c ∷ []) c.servings.invariant.same ∙ sym all.2 in
+    let all = c.serve_next-changed.ensures.served in
+    let same : c.serve_next-changed.new.endings.kept.items ≡ c.serve_next-changed.new.endings.told.items = all.3 ∙ ap (λ ms. ms ++ ended c ∷ []) c.servings.invariant.same ∙ sym all.2 in
     let request = (serves c).request in
-    let sizes : c.serve_next.new.endings.sized.items ≡ c.servings.endings.sized.items ++ sized_in (Served request (ended c).outcome ∷ []) = all.4 request (serves c).waits in
-    let few_sizes : length c.serve_next.new.endings.sized.items ≤ length c.servings.endings.sized.items + 1 = few-sized c.servings.endings.sized.items c.serve_next.new.endings.sized.items request (ended c).outcome sizes in
-    let more : length c.serve_next.new.endings.told.items ≡ length c.servings.endings.told.items + 1 = ap length all.2 ∙ one_more c in
+    let sizes : c.serve_next-changed.new.endings.sized.items ≡ c.servings.endings.sized.items ++ sized_in (Served request (ended c).outcome ∷ []) = all.4 request (serves c).waits in
+    let few_sizes : length c.serve_next-changed.new.endings.sized.items ≤ length c.servings.endings.sized.items + 1 = few-sized c.servings.endings.sized.items c.serve_next-changed.new.endings.sized.items request (ended c).outcome sizes in
+    let more : length c.serve_next-changed.new.endings.told.items ≡ length c.servings.endings.told.items + 1 = ap length all.2 ∙ one_more c in
     let less = one_less c in
-    let kept_more : length c.serve_next.new.endings.kept.items ≡ length c.servings.endings.kept.items + 1 = ap length same ∙ more ∙ ap (λ (ms : List Ended). length ms + 1) (sym c.servings.invariant.same) in
-    let room = c.serve_next.ensures.room in
+    let kept_more : length c.serve_next-changed.new.endings.kept.items ≡ length c.servings.endings.kept.items + 1 = ap length same ∙ more ∙ ap (λ (ms : List Ended). length ms + 1) (sym c.servings.invariant.same) in
+    let room = c.serve_next-changed.ensures.room in
     record {
       so_far =
-          subst (λ (told : List Ended). IsSoFar c.args.ino.0 (from (before_serving c)) c.serve_next.new.touched (first (before_serving c)) (new c) told c.serve_next.new.endings.sized.items) (sym all.2)
-          (subst (IsSoFar c.args.ino.0 (from (before_serving c)) c.serve_next.new.touched (first (before_serving c)) (new c) (c.servings.endings.told.items ++ ended c ∷ [])) (sym sizes) (served c));
-      turn = turn c;
+          subst (λ (told : List Ended). IsSoFar c.args.ino.0 (from (before_serving c)) c.serve_next-changed.new.touched (first (before_serving c)) (new c) told c.serve_next-changed.new.endings.sized.items) (sym all.2)
+          (subst (IsSoFar c.args.ino.0 (from (before_serving c)) c.serve_next-changed.new.touched (first (before_serving c)) (new c) (c.servings.endings.told.items ++ ended c ∷ [])) (sym sizes) (served c));
+      stands = stands c c.place_behind-place.result c.place_behind-place.ensures;
       same = same;
-      lead = leads-then c.args.endings.now.changes.items c.servings.endings.changes.items c.serve_next.new.endings.changes.items c.args.tree.now c.servings.tree c.serve_next.new.tree
-          c.servings.invariant.lead c.serve_next.ensures.lead;
-      places = omega (arith, less, c.serve_next.ensures.noted, c.serve_next.ensures.places, c.servings.invariant.places);
+      lead = leads-then c.args.endings.now.changes.items c.servings.endings.changes.items c.serve_next-changed.new.endings.changes.items c.args.tree.now c.servings.tree c.serve_next-changed.new.tree
+          c.servings.invariant.lead c.serve_next-changed.ensures.lead;
+      places = omega (arith, less, c.serve_next-changed.ensures.noted, c.serve_next-changed.ensures.places, c.servings.invariant.places);
       told = omega (arith, more, less, room.0, c.servings.invariant.told);
       kept = omega (arith, kept_more, less, room.1, c.servings.invariant.kept);
       sized = omega (arith, few_sizes, less, room.2, c.servings.invariant.sized);

@@ -1,17 +1,14 @@
-use Rattle.std.proofs.Common.{◌≡◌, true}
 use Rattle.lockmachine.specs.Scene.{scene}
-use Rattle.lockmachine.specs.Turns.{IsTurnOf}
 use Rattle.capcore.specs.Serves.{is_touched}
-use Rattle.capcore.specs.Sweep.{IsSwept}
+use Rattle.capcore.specs.Sweep.{IsSwept, StandsAt}
 use Rattle.capcore.proofs.Sweeping.{behind}
 use Rattle.capcore.proofs.settle.sweep.Given as goal
 
 abbrev pub decreases-inodes : goal.decreases-inodes
-decreases-inodes l = behind l.ino.0 l.touched l.at.0
+decreases-inodes l = behind l.ino.0 l.touched l.place.at.0
 
 abbrev pub invariant-inodes : goal.invariant-inodes
 invariant-inodes l = record {
   swept : IsSwept (is_touched l.ino.0 l.touched) (scene l.fs l.tree l.sessions l.table l.fn.locks) (scene l.fs l.tree l.sessions l.table l.locks);
-  turn : IsTurnOf (scene l.fs l.tree l.sessions l.table l.locks) l.at.0;
-  here : is_touched l.ino.0 l.touched l.at.0 ≡ true;
+  stands : StandsAt (is_touched l.ino.0 l.touched) l.place (scene l.fs l.tree l.sessions l.table l.locks);
 }

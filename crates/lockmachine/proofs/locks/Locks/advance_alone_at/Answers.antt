@@ -1,6 +1,7 @@
 use Rattle.std.proofs.Common.{subst}
 use Rattle.lockmachine.specs.Scene.{Scene, scene}
 use Rattle.lockmachine.specs.Turns.{IsNextAt}
+use Rattle.lockmachine.proofs.Alone.{nobody-kept}
 use Rattle.lockmachine.proofs.Ending.{few}
 use Rattle.lockmachine.proofs.Settling.{one_more}
 use Rattle.lockmachine.proofs.locks.Locks.advance_alone_at.Goals as goal
@@ -34,3 +35,6 @@ pub returns-in-Serve-clause-due : goal.returns-in-Serve-clause-due
 returns-in-Serve-clause-due c =
     let now : Scene = scene c.args.fs.now c.args.tree.now c.args.sessions.now c.args.table.now c.moves.self in
     subst (IsNextAt now c.args.ino.0) c.in-Serve.is c.next_move_alone.ensures.next
+
+pub next_move_alone-requires-clause-elsewhere : goal.next_move_alone-requires-clause-elsewhere
+next_move_alone-requires-clause-elsewhere c = nobody-kept c.args.ino.0 c.args.self.now c.moves.self c.moves.invariant.0.elsewhere c.requires.elsewhere

@@ -18,7 +18,7 @@ pub returns-in-Some-first_served_where-clause-next : goal.returns-in-Some-first_
 returns-in-Some-first_served_where-clause-next c =
     let s : Scene = scene c.args.fs.now c.args.tree.now c.args.sessions.now c.args.table.now c.args.self.now in
     serve_first s c.in-Some-first_served_where.served (ends_at s c.args.ino.0 c.requires.turn ∙ ap (option_map (λ part. (c.args.ino.0, part))) (sym c.first_end.ensures ∙ c.in_default.is))
-    (sym c.in-Some-first_served_where.is ∙ c.first_served_where.ensures ∙ ap (option_map (λ q. q.ticket)) (served-here s c.args.ino.0 c.requires.elsewhere))
+    (sym c.in-Some-first_served_where.is ∙ c.first_served_where.ensures ∙ ap (option_map (λ q. q.ticket)) (served-here s.locks c.args.ino.0 c.requires.elsewhere))
 
 pub returns-clause-next : goal.returns-clause-next
 returns-clause-next c =
@@ -27,5 +27,5 @@ returns-clause-next c =
     (sym (c.unwrap_or.ensures ∙ ap (λ o. unwrap_or o Settled) c.first_begin_where.ensures
     ∙ ap (λ wants. unwrap_or (option_map (λ part. beginning s.locks wants (c.args.ino.0, part)) (find (λ part. may_begin_by s.locks wants (c.args.ino.0, part)) parts)) Settled) c.known_or_found-wishes.ensures))
     (next_begin s c.args.ino.0 c.requires.turn (sym c.first_end.ensures ∙ c.in_default.is)
-    (sym c.in_default-first_served_where.is ∙ c.first_served_where.ensures ∙ ap (option_map (λ q. q.ticket)) (served-here s c.args.ino.0 c.requires.elsewhere))
+    (sym c.in_default-first_served_where.is ∙ c.first_served_where.ensures ∙ ap (option_map (λ q. q.ticket)) (served-here s.locks c.args.ino.0 c.requires.elsewhere))
     (find (λ part. may_begin s (c.args.ino.0, part)) parts) refl)
