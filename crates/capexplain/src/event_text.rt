@@ -9,7 +9,7 @@ ghost use Rattle.capexplain.specs.Words.{open_word, part_word};
 use crate::change_word::ChangeWord;
 use crate::command::Command;
 use crate::part_text::{print_bytes, print_mode};
-use crate::text::{print, print_caps};
+use crate::text::{print, print_caps, print_numbered, print_str};
 use capbits::{Caller, CapSet, ClientId, Groups, Ino, Mode, Part};
 use capcore::{Event, OpenMode};
 use capspec::{Grants, write_grants};
@@ -31,7 +31,7 @@ pub fn event_line(alloc: Global, event: &Event) -> Result<Vec<u8>, AllocError>
 pub(crate) fn print_event(text: &mut Vec<u8>, event: &Event) -> Result<(), AllocError>
     ensures { OnOk result (text.new.items ≡ text.old.items ++ event_text event.now) }
 {
-    print(text, Command::of(event).word())?;
+    print_str(text, Command::of(event).word())?;
     print_arguments(text, event)
 }
 
@@ -103,35 +103,38 @@ fn print_arguments(text: &mut Vec<u8>, event: &Event) -> Result<(), AllocError>
 fn print_client(text: &mut Vec<u8>, client: ClientId) -> Result<(), AllocError>
     ensures { OnOk result (text.new.items ≡ text.old.items ++ (codes " " ++ decimal client.0)) }
 {
-    print(text, format_args!(" {client}"))
+    print_numbered(text, " ", u64::from(client.0))
 }
 
 // How many entries are recalled.
 fn print_count(text: &mut Vec<u8>, count: u32) -> Result<(), AllocError>
     ensures { OnOk result (text.new.items ≡ text.old.items ++ (codes " " ++ decimal count)) }
 {
-    print(text, format_args!(" {count}"))
+    print_numbered(text, " ", u64::from(count))
 }
 
 // A client, and how many messages it is told at most.
 fn print_limit(text: &mut Vec<u8>, client: ClientId, max: u32) -> Result<(), AllocError>
     ensures { OnOk result (text.new.items ≡ text.old.items ++ (codes " " ++ decimal client.0 ++ codes " " ++ decimal max)) }
 {
-    print(text, format_args!(" {client} {max}"))
+    print_client(text, client)?;
+    print_numbered(text, " ", u64::from(max))
 }
 
 // A client and an inode.
 fn print_inode(text: &mut Vec<u8>, client: ClientId, ino: Ino) -> Result<(), AllocError>
     ensures { OnOk result (text.new.items ≡ text.old.items ++ (codes " " ++ decimal client.0 ++ codes " " ++ decimal ino.0)) }
 {
-    print(text, format_args!(" {client} {ino}"))
+    print_client(text, client)?;
+    print_numbered(text, " ", ino.0)
 }
 
 // A client, an inode and the number of a change.
 fn print_seq(text: &mut Vec<u8>, client: ClientId, ino: Ino, seq: u64) -> Result<(), AllocError>
     ensures { OnOk result (text.new.items ≡ text.old.items ++ named_text client ino (decimal seq)) }
 {
-    print(text, format_args!(" {client} {ino} {seq}"))
+    print_inode(text, client, ino)?;
+    print_numbered(text, " ", seq)
 }
 
 // ---- a session
@@ -194,7 +197,8 @@ fn print_grants(text: &mut Vec<u8>, grants: &Grants) -> Result<(), AllocError>
 fn print_entry(text: &mut Vec<u8>, client: ClientId, ino: Ino) -> Result<(), AllocError>
     ensures { OnOk result (text.new.items ≡ text.old.items ++ (codes " " ++ decimal client.0 ++ codes " " ++ decimal ino.0 ++ codes " ")) }
 {
-    print(text, format_args!(" {client} {ino} "))
+    print_inode(text, client, ino)?;
+    print_str(text, " ")
 }
 
 // A client, an inode and a word.
@@ -202,7 +206,7 @@ fn print_word(text: &mut Vec<u8>, client: ClientId, ino: Ino, word: &str) -> Res
     ensures { OnOk result (text.new.items ≡ text.old.items ++ named_text client ino word.now) }
 {
     print_entry(text, client, ino)?;
-    print(text, word)
+    print_str(text, word)
 }
 
 // A client, an inode and capabilities.

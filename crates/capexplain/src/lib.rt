@@ -15,7 +15,7 @@ mod reply;
 mod text;
 
 pub use access::read_access;
-pub use audit::audit_line;
+pub use audit::{append_audit_line, audit_line};
 pub use change_word::ChangeWord;
 pub use command::Command;
 pub use event_text::event_line;

@@ -1,10 +1,12 @@
 //! The texts of replies.
-ghost use Rattle.std.specs.Prelude.{◌≡◌, ◌++◌, IfOk, OnOk};
+ghost use Rattle.std.specs.Prelude.{◌≡◌, ◌++◌, codes, decimal, IfOk, OnOk};
+ghost use Rattle.capbits.specs.Text.{text_of};
 ghost use Rattle.capexplain.specs.Replies.{denial_text, holder_text, holders_text, reply_line, reply_text, rules_text, rule_text};
 
 use crate::message_text::print_messages;
 use crate::part_text::print_values;
-use crate::text::{print, print_caps};
+use crate::text::{print, print_caps, print_numbered, print_str};
+use capbits::CapSet;
 use capcore::Reply;
 use capgrant::{Access, Rule, Rules};
 use captable::Holder;
@@ -31,12 +33,9 @@ pub(crate) fn print_reply(text: &mut Vec<u8>, reply: &Reply) -> Result<(), Alloc
     ensures { OnOk result (text.new.items ≡ text.old.items ++ reply_line reply.now) }
 {
     match reply {
-        Reply::Done => print(text, "done"),
-        Reply::Ino(ino) => print(text, format_args!("ino {ino}")),
-        Reply::Opened { seq, caps } => {
-            print(text, format_args!("caps {seq} "))?;
-            print_caps(text, *caps)
-        }
+        Reply::Done => print_str(text, "done"),
+        Reply::Ino(ino) => print_numbered(text, "ino ", ino.0),
+        Reply::Opened { seq, caps } => print_opened(text, *seq, *caps),
         Reply::Values(values) => {
             print(text, "attr ")?;
             print_values(text, values)
@@ -49,11 +48,20 @@ pub(crate) fn print_reply(text: &mut Vec<u8>, reply: &Reply) -> Result<(), Alloc
             print(text, "recalled")?;
             print_holders(text, holders.as_slice())
         }
-        Reply::Waiting(ticket) => print(text, format_args!("waiting {ticket}")),
+        Reply::Waiting(ticket) => print_numbered(text, "waiting ", ticket.0),
         Reply::Denied { access, rules } => print_denial(text, *access, rules),
         Reply::Refused(refusal) => print(text, format_args!("refused {refusal}")),
         Reply::OutOfMemory => print(text, "out-of-memory"),
     }
+}
+
+// What a client is to know that it holds, behind the number of its last change.
+fn print_opened(text: &mut Vec<u8>, seq: u64, caps: CapSet) -> Result<(), AllocError>
+    ensures { OnOk result (text.new.items ≡ text.old.items ++ (codes "caps " ++ decimal seq ++ codes " " ++ text_of caps)) }
+{
+    print_numbered(text, "caps ", seq)?;
+    print_str(text, " ")?;
+    print_caps(text, caps)
 }
 
 // The access that no grant allows, and the rules by which the grants fail.

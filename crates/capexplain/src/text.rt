@@ -1,12 +1,29 @@
 //! What is printed into a text.
-ghost use Rattle.std.specs.Prelude.{◌≡◌, ◌++◌, IfSome, OnOk};
+ghost use Rattle.std.specs.Prelude.{◌≡◌, ◌++◌, decimal, IfSome, OnOk};
 ghost use Rattle.capbits.specs.Text.{text_of};
 
 use capbits::{CapSet, write_caps};
+use itoa::Buffer;
 use std::alloc::AllocError;
 use std::fmt;
 use std::fmt::{Display, Write};
 use std::mem::replace;
+
+// Appends a word as it is. As a value that prints itself it would be asked for a width first.
+pub(crate) fn print_str(text: &mut Vec<u8>, word: &str) -> Result<(), AllocError>
+    ensures { OnOk result (text.new.items ≡ text.old.items ++ word.now) }
+{
+    text.extend_from_slice(word.as_bytes())
+}
+
+// Appends a word and, behind it, a number.
+pub(crate) fn print_numbered(text: &mut Vec<u8>, word: &str, number: u64) -> Result<(), AllocError>
+    ensures { OnOk result (text.new.items ≡ text.old.items ++ word.now ++ decimal number) }
+{
+    let mut digits = Buffer::new();
+    print_str(text, word)?;
+    print_str(text, digits.format(number))
+}
 
 // Appends what a value prints. Only memory can be missing.
 pub(crate) fn print<D: Display + Drop>(text: &mut Vec<u8>, more: D) -> Result<(), AllocError>

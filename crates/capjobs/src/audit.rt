@@ -3,7 +3,7 @@ ghost use Rattle.std.specs.Prelude.{◌≡◌, ◌++◌, IfOk, OnOk};
 ghost use Rattle.capjobs.specs.Served.{audit_lines, row_line};
 
 use capcore::Row;
-use capexplain::audit_line;
+use capexplain::append_audit_line;
 use std::alloc::{AllocError, Global};
 
 // The line of each row, in order.
@@ -12,16 +12,15 @@ pub(crate) fn audit_lines(alloc: Global, rows: &[Row]) -> Result<Vec<u8>, AllocE
 {
     let mut text = Vec::new(alloc);
     for row in rows {
-        add_line(alloc, &mut text, row)?;
+        add_line(&mut text, row)?;
     }
     Ok(text)
 }
 
-fn add_line(alloc: Global, text: &mut Vec<u8>, row: &Row) -> Result<(), AllocError>
+fn add_line(text: &mut Vec<u8>, row: &Row) -> Result<(), AllocError>
     ensures { OnOk result (text.new.items ≡ text.old.items ++ row_line row.now) }
 {
-    let line = audit_line(alloc, row)?;
-    text.extend_from_slice(line.as_slice())?;
+    append_audit_line(text, row)?;
     text.push(b'\n')?;
     Ok(())
 }

@@ -95,7 +95,8 @@ impl<G: Gate, L: Server> CapServer<G, L> {
             rows,
             alloc,
         } = opening.into_parts();
-        let Ok(publisher) = Publisher::<L>::new(alloc, rows, core.tree(), core.sessions()) else {
+        let (tree, sessions) = (core.tree(), core.sessions());
+        let Ok(publisher) = Publisher::<L>::new(alloc, rows, tree, sessions, count) else {
             return Err(StartFault::NoMemory);
         };
         let (calls, mut rest) = blank.open::<L>();

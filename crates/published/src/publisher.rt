@@ -1,5 +1,5 @@
 //! Who publishes: the rows of the history, and the view to which they lead.
-ghost use Rattle.std.specs.Prelude.{◌≡◌, ◌≤◌, true, false, [], length, fold, IfOk, IfSome};
+ghost use Rattle.std.specs.Prelude.{◌≡◌, ◌<◌, ◌≤◌, true, false, [], length, fold, IfOk, IfSome};
 ghost use mathlib.Core.List.{IsPrefix};
 ghost use Rattle.capview.specs.Changes.{view_by};
 ghost use Rattle.capcore.specs.Noted.{view_of};
@@ -7,7 +7,7 @@ ghost use Rattle.published.specs.Publishing.{IsReady};
 ghost use Rattle.published.specs.Rows.{Legal};
 
 use crate::beginning::Beginning;
-use crate::ledger::{MAX_PASSES, Server};
+use crate::ledger::Server;
 use crate::place::{PublishedWriter, Sees};
 use crate::recorder::{NewRows, Recorder};
 use crate::staging::{stage_changes, stage_history, stage_view};
@@ -45,13 +45,16 @@ impl<L: Server> Model for Publisher<L> {
 }
 
 impl<L: Server> Publisher<L> {
-    /// Publishes that there is no row yet, and the view of the opening.
+    /// Publishes that there is no row yet, and the view of the opening, to so many readers at most. Each publication looks at the
+    /// place of each.
     pub fn new(
         alloc: Global,
         rows: NewRows,
         tree: &Tree,
         sessions: &Sessions,
+        readers: u32,
     ) -> Result<Publisher<L>, AllocError>
+        requires readers { 0 < readers }
         requires rows { rows.seen.book ≡ L.history }
         requires tree { tree.now ≡ L.opening.scene.tree }
         requires sessions { sessions.now ≡ L.opening.scene.sessions }
@@ -60,7 +63,7 @@ impl<L: Server> Publisher<L> {
         let recorder = rows.named::<L>();
         let first = first_value(recorder.rows(), tree, sessions)?;
         let second = first.copy()?;
-        let writer = PublishedWriter::<L>::new(alloc, first, second, MAX_PASSES as usize)?;
+        let writer = PublishedWriter::<L>::new(alloc, first, second, readers as usize)?;
         Ok(Publisher {
             recorder,
             writer,
