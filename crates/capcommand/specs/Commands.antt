@@ -8,6 +8,7 @@ use Rattle.capquestion.specs.declared.fault.QuestionFault.{QuestionFault}
 use Rattle.capquestion.specs.declared.question.Question.{Question}
 use Rattle.capquestion.specs.Fault.{IsFaultOfText}
 use Rattle.capquestion.specs.Question.{AsksFor, IsFaultIn, answer_text}
+use Rattle.capquestion.specs.Comparing.{IsComparison}
 use Rattle.capscript.specs.declared.fault.ScriptFault.{ScriptFault}
 use Rattle.capscript.specs.declared.fault.ScriptFault.TheVariants as stops
 use Rattle.capscript.specs.Lines.{lines, longest_script}
@@ -19,18 +20,23 @@ use Rattle.capcommand.specs.declared.command_line.Ask.{Ask}
 use Rattle.capcommand.specs.declared.command_line.Ask.TheVariants as asks
 use Rattle.capcommand.specs.declared.fault.Fault.{Fault}
 use Rattle.capcommand.specs.declared.fault.Fault.TheVariants.{WriteFailed, Script, Serve}
-use Rattle.capcommand.specs.Fault.{Tells}
+use Rattle.capcommand.specs.Fault.{Tells, TellsOfTexts}
 
--- the whole answer was written: the line for a question, the written form of grants, the transcript of the script that was to be read, or the history
+-- the whole answer was written: the line for a question, the written form of grants, the lines that compare two texts, the transcript of the script that was to be read, or the history
 abbrev pub Answers : Ask → Option (List ℕ) → Option (List ℕ) → Option (List ℕ) → Type 0
 Answers (asks.Explain values) input old new = (asked : Question) × AsksFor values asked × Appends old new (answer_text asked ++ codes "\n")
 Answers (asks.Grants text) input old new = (grants : List Grant) × Reads text.items grants × Appends old new (written grants ++ codes "\n")
+Answers (asks.Compare before after) input old new = (lines : List ℕ) × IsComparison before.items after.items lines × Appends old new lines
 Answers asks.Run input old new = IfSome input (λ script. (length script ≤ longest_script) × ((text : List ℕ) × IsTranscript (lines script) text × Appends old new text))
 Answers asks.Serve input old new = IfSome input (λ script. (length script ≤ longest_script) × ((text : List ℕ) × IsServed (lines script) text × Appends old new text))
 
 -- a write failed, or the fault is one of which this holds, and nothing was written
 abbrev pub StopsBefore : (QuestionFault → Type 0) → Fault → Bool → Option (List ℕ) → Option (List ℕ) → Type 0
 StopsBefore P fault failed old new = ((fault ≡ WriteFailed) × IsTrue failed) ⊎ (Tells P fault × Keeps old new)
+
+-- the same of two texts that are compared
+abbrev pub StopsComparing : List ℕ → List ℕ → Fault → Bool → Option (List ℕ) → Option (List ℕ) → Type 0
+StopsComparing before after fault failed old new = ((fault ≡ WriteFailed) × IsTrue failed) ⊎ (TellsOfTexts before after fault × Keeps old new)
 
 -- The run stopped so, and this was written. A script that was read to its end is told apart. A read or a write that failed is told; a
 -- failed read is told of nothing else but a script that is too long, and then nothing was written.
@@ -54,5 +60,6 @@ pub record ServeStops (stop : ServeFault) (input : Option (List ℕ)) (unread un
 abbrev pub Stops : Ask → Fault → Option (List ℕ) → Bool → Bool → Bool → Option (List ℕ) → Option (List ℕ) → Type 0
 Stops (asks.Explain values) fault input ended unread unwritten old new = StopsBefore (IsFaultIn values) fault unwritten old new
 Stops (asks.Grants text) fault input ended unread unwritten old new = StopsBefore (IsFaultOfText text.items) fault unwritten old new
+Stops (asks.Compare before after) fault input ended unread unwritten old new = StopsComparing before.items after.items fault unwritten old new
 Stops asks.Run fault input ended unread unwritten old new = (stop : ScriptFault) × (fault ≡ Script stop) × RunStops stop input ended unread unwritten old new
 Stops asks.Serve fault input ended unread unwritten old new = (stop : ServeFault) × (fault ≡ Serve stop) × ServeStops stop input unread unwritten old new

@@ -1,10 +1,13 @@
 -- How a fault of a question, or of a text of grants, is told.
-use Rattle.std.specs.Prelude.{◌≡◌}
+use Rattle.std.specs.Prelude.{◌≡◌, ℕ, List}
 use Rattle.capquestion.specs.declared.fault.QuestionFault.{QuestionFault}
 use Rattle.capquestion.specs.declared.fault.QuestionFault.TheVariants.{Grants, BadValue}
 use Rattle.capquestion.specs.declared.fault.QuestionFault.TheVariants as asked
+use Rattle.capquestion.specs.declared.comparing.CompareFault.{CompareFault}
+use Rattle.capquestion.specs.declared.comparing.CompareFault.TheVariants as compared
+use Rattle.capquestion.specs.Comparing.{IsFaultOfTexts}
 use Rattle.capcommand.specs.declared.fault.Fault.{Fault}
-use Rattle.capcommand.specs.declared.fault.Fault.TheVariants.{Question, NoMemory}
+use Rattle.capcommand.specs.declared.fault.Fault.TheVariants.{Question, Compare, NoMemory}
 
 -- want of memory stays that; any other fault is passed on as it is
 abbrev pub fault_of : QuestionFault → Fault
@@ -15,3 +18,13 @@ fault_of asked.NoMemory = NoMemory
 -- what is told is a fault of which this holds
 abbrev pub Tells : (QuestionFault → Type 0) → Fault → Type 0
 Tells P fault = (found : QuestionFault) × (fault ≡ fault_of found) × P found
+
+-- the same of two texts that are compared
+abbrev pub compare_fault_of : CompareFault → Fault
+compare_fault_of (compared.Old refused) = Compare (compared.Old refused)
+compare_fault_of (compared.New refused) = Compare (compared.New refused)
+compare_fault_of compared.NoMemory = NoMemory
+
+-- what is told is why these two texts are not compared
+abbrev pub TellsOfTexts : List ℕ → List ℕ → Fault → Type 0
+TellsOfTexts before after fault = (found : CompareFault) × (fault ≡ compare_fault_of found) × IsFaultOfTexts before after found

@@ -11,11 +11,17 @@ const EXPLAIN: &str = "explain";
 
 const GRANTS: &str = "grants";
 
+const COMPARE: &str = "compare";
+
 const RUN: &str = "run";
 
 const SERVE: &str = "serve";
 
 const TEXT: &str = "text";
+
+const OLD: &str = "old";
+
+const NEW: &str = "new";
 
 const EXAMPLE: &str = "Example:
   capd explain \\
@@ -29,6 +35,12 @@ const GRANTS_EXAMPLE: &str = "Example:
   capd grants 'allow * path=data/ gids=0200,300 uid=1001'
 prints
   allow rwps path=/data uid=1001 gids=200,300";
+
+const COMPARE_EXAMPLE: &str = "Example:
+  capd compare 'allow rw path=/a' 'allow r, allow rw path=/a/b'
+prints
+  gained: read / fs xx uid 1 gid 1 groups - owner 0 group 1 mode 0000 grant 1
+  lost: write /a fs xxx uid 1 gid 1 groups - owner 0 group 1 mode 0000 grant 1";
 
 const RUN_EXAMPLE: &str = "Example:
   printf 'session 1 10 10 - allow rw path=/a\\nmkdir 1 1 a 0755\\n' | capd run
@@ -50,6 +62,13 @@ pub enum Ask {
     Explain(Values),
     /// The written form of the grants in a text.
     Grants(Vec<u8>),
+    /// What grants allow that others deny.
+    Compare {
+        /// The text of the old grants.
+        old: Vec<u8>,
+        /// The text of the new ones.
+        new: Vec<u8>,
+    },
     /// The transcript of a script.
     Run,
     /// The history of a script whose clients call at once.
@@ -91,6 +110,7 @@ fn capd<'a>(alloc: Global) -> Result<Command<'a>, AllocError> {
         .bin_name(CAPD)?;
     let command = with(command, explain(alloc))?;
     let command = with(command, grants(alloc))?;
+    let command = with(command, compare(alloc))?;
     let command = with(command, Ok(run(alloc)))?;
     command.subcommand(serve(alloc))
 }
@@ -123,15 +143,29 @@ fn explain<'a>(alloc: Global) -> Result<Command<'a>, AllocError> {
 }
 
 fn grants<'a>(alloc: Global) -> Result<Command<'a>, AllocError> {
-    let text = Arg::new(alloc, TEXT)
-        .value_name("TEXT")
-        .help("The grants: 1 to 16 of them, as `ceph fs authorize` writes them")
-        .required(true)
-        .action(ArgAction::Set);
+    let help = "The grants: 1 to 16 of them, as `ceph fs authorize` writes them";
     Command::new(alloc, GRANTS)
         .about("Writes grants in their one form, with all that means nothing left out")
         .after_help(GRANTS_EXAMPLE)
-        .arg(text)
+        .arg(text_argument(alloc, TEXT, "TEXT", help))
+}
+
+fn compare<'a>(alloc: Global) -> Result<Command<'a>, AllocError> {
+    Command::new(alloc, COMPARE)
+        .about(
+            "Says what one list of grants allows and another denies, and the other way round, or that they allow the same",
+        )
+        .after_help(COMPARE_EXAMPLE)
+        .arg(text_argument(alloc, OLD, "OLD", "The old grants, as for `grants`"))?
+        .arg(text_argument(alloc, NEW, "NEW", "The new grants"))
+}
+
+fn text_argument<'a>(alloc: Global, name: &'a str, value_name: &'a str, help: &'a str) -> Arg<'a> {
+    Arg::new(alloc, name)
+        .value_name(value_name)
+        .help(help)
+        .required(true)
+        .action(ArgAction::Set)
 }
 
 fn run<'a>(alloc: Global) -> Command<'a> {
@@ -153,6 +187,11 @@ fn asked(alloc: Global, matches: &ArgMatches<'_>) -> Result<Ask, ErrorKind> {
         Ok(Ask::Explain(explain_values(alloc, matches)?))
     } else if let Some(matches) = matches.subcommand_matches(GRANTS) {
         Ok(Ask::Grants(value(alloc, matches, TEXT)?))
+    } else if let Some(matches) = matches.subcommand_matches(COMPARE) {
+        Ok(Ask::Compare {
+            old: value(alloc, matches, OLD)?,
+            new: value(alloc, matches, NEW)?,
+        })
     } else if matches.subcommand_matches(RUN).is_some() {
         Ok(Ask::Run)
     } else if matches.subcommand_matches(SERVE).is_some() {

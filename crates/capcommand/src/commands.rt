@@ -6,6 +6,7 @@ ghost use Rattle.capspec.specs.Written.{written};
 ghost use Rattle.capspec.specs.declared.grant.Grant.{Grant};
 ghost use Rattle.capquestion.specs.declared.question.Question.{Question as Asked};
 ghost use Rattle.capquestion.specs.Fault.{IsFaultOfText};
+ghost use Rattle.capquestion.specs.Comparing.{IsComparison};
 ghost use Rattle.capquestion.specs.Question.{AsksFor, IsFaultIn, answer_text};
 ghost use Rattle.capscript.specs.declared.fault.ScriptFault.{ScriptFault as AScriptFault};
 ghost use Rattle.capscript.specs.Lines.{lines, longest_script};
@@ -15,12 +16,12 @@ ghost use Rattle.capjobs.specs.declared.fault.ServeFault.{ServeFault as AServeFa
 ghost use Rattle.capjobs.specs.Served.{IsServed};
 ghost use Rattle.capcommand.specs.declared.fault.Fault.{Fault as AFault};
 ghost use Rattle.capcommand.specs.declared.fault.Fault.TheVariants as faults;
-ghost use Rattle.capcommand.specs.Commands.{Answers, Stops, StopsBefore, RunStops, ServeStops};
+ghost use Rattle.capcommand.specs.Commands.{Answers, Stops, StopsBefore, StopsComparing, RunStops, ServeStops};
 
 use crate::command_line::{Ask, parse};
 use crate::fault::Fault;
 use capjobs::serve;
-use capquestion::{Question, Values, spelled};
+use capquestion::{Question, Values, compare, spelled};
 use capscript::{Watched, run};
 use capspec::{read_grants, write_grants};
 use clap::error::ErrorKind;
@@ -108,6 +109,7 @@ fn answer<T: Threads + Wait + Sync, R: Read, W: Write>(
     match ask {
         Ask::Explain(values) => explain(alloc, values, writer),
         Ask::Grants(text) => grants(alloc, text.as_slice(), writer),
+        Ask::Compare { old, new } => compare_texts(alloc, old.as_slice(), new.as_slice(), writer),
         Ask::Run => run_script(alloc, reader, writer),
         Ask::Serve => serve_script(rt, alloc, reader, writer),
     }
@@ -140,6 +142,24 @@ fn grants<W: Write>(alloc: Global, text: &[u8], writer: &mut Watched<W>) -> Resu
     let grants = read_grants(alloc, text)?;
     let line = write_grants(alloc, &grants).map_err(|_| Fault::NoMemory)?;
     write_line(line, writer)
+}
+
+// Writes what the grants of one text allow and those of another deny, and the other way round.
+fn compare_texts<W: Write>(
+    alloc: Global,
+    before: &[u8],
+    after: &[u8],
+    writer: &mut Watched<W>,
+) -> Result<(), Fault>
+    requires { IsFalse (has_failed writer.old) }
+    ensures ok { OnOk result (IsFalse (has_failed writer.new)) }
+    ensures compared { OnOk result ((lines : List ℕ) × IsComparison before.now after.now lines
+        × Appends (W.contents (inner_of writer.old)) (W.contents (inner_of writer.new)) lines) }
+    ensures fault { IfErr result (λ fault. StopsComparing before.now after.now fault (has_failed writer.new)
+        (W.contents (inner_of writer.old)) (W.contents (inner_of writer.new))) }
+{
+    let lines = compare(alloc, before, after)?;
+    write_text(lines.as_slice(), writer)
 }
 
 // Writes the transcript of the script that is read, up to its end or to the first line that has a fault.
@@ -200,7 +220,17 @@ fn write_line<W: Write>(mut line: Vec<u8>, writer: &mut Watched<W>) -> Result<()
         ⊎ ((fault ≡ faults.NoMemory) × Keeps (W.contents (inner_of writer.old)) (W.contents (inner_of writer.new)))) }
 {
     line.push(b'\n')?;
-    match writer.write_all(line.as_slice()) {
+    write_text(line.as_slice(), writer)
+}
+
+// Writes the text.
+fn write_text<W: Write>(text: &[u8], writer: &mut Watched<W>) -> Result<(), Fault>
+    requires { IsFalse (has_failed writer.old) }
+    ensures ok { OnOk result (IsFalse (has_failed writer.new)
+        × Appends (W.contents (inner_of writer.old)) (W.contents (inner_of writer.new)) text.now) }
+    ensures err { IfErr result (λ fault. (fault ≡ faults.WriteFailed) × IsTrue (has_failed writer.new)) }
+{
+    match writer.write_all(text) {
         Ok(()) => Ok(()),
         Err(_) => Err(Fault::WriteFailed),
     }

@@ -1,7 +1,7 @@
 //! Why the program could not answer.
 
 use capjobs::ServeFault;
-use capquestion::QuestionFault;
+use capquestion::{CompareFault, QuestionFault};
 use capscript::ScriptFault;
 use capspec::SpecFault;
 use std::alloc::{AllocError, AllocFailed};
@@ -13,6 +13,9 @@ pub enum Fault {
     /// The grants can't be read, or another value is bad.
     #[error("{0}")]
     Question(QuestionFault),
+    /// One of two texts of grants can't be read.
+    #[error("{0}")]
+    Compare(CompareFault),
     /// A script stopped before its end.
     #[error("{0}")]
     Script(ScriptFault),
@@ -51,6 +54,21 @@ impl From<SpecFault> for Fault {
 
     fn from(refused: SpecFault) -> Self {
         Fault::from(QuestionFault::from(refused))
+    }
+}
+
+// Where only memory was missing, the texts are not to blame.
+impl From<CompareFault> for Fault {
+    ghost use Rattle.std.specs.Prelude.{◌≡◌};
+    ghost use Rattle.capcommand.specs.Fault.{compare_fault_of};
+
+    ghost from_gives = { λ asked fault. fault ≡ compare_fault_of asked };
+
+    fn from(asked: CompareFault) -> Self {
+        match asked {
+            CompareFault::NoMemory => Fault::NoMemory,
+            _ => Fault::Compare(asked),
+        }
     }
 }
 

@@ -5,3 +5,5 @@ pub mod EventTexts
 pub mod Audit
 pub mod Access
 pub mod Explaining
+pub mod Quoting
+pub mod Comparing

@@ -4,9 +4,9 @@ ghost use Rattle.std.specs.List.{flat_map};
 ghost use Rattle.capexplain.specs.Audit.{audit_text, ended_text};
 
 use crate::event_text::print_event;
-use crate::message_text::print_outcome;
+use crate::message_text::{print_outcome, print_ticket};
 use crate::reply::print_reply;
-use crate::text::{print, print_numbered, print_str};
+use crate::text::{print_number, print_numbered, print_str};
 use capcore::{Ended, Row};
 use std::alloc::{AllocError, Global};
 
@@ -38,7 +38,7 @@ pub fn append_audit_line(text: &mut Vec<u8>, row: &Row) -> Result<(), AllocError
 fn print_place(text: &mut Vec<u8>, row: &Row) -> Result<(), AllocError>
     ensures { OnOk result (text.new.items ≡ text.old.items ++ (decimal row.now.pass.0 ++ codes "." ++ decimal row.now.nth ++ codes " ")) }
 {
-    print_numbered(text, "", u64::from(row.pass.0))?;
+    print_number(text, u64::from(row.pass.0))?;
     print_numbered(text, ".", row.nth)?;
     print_str(text, " ")
 }
@@ -56,7 +56,7 @@ fn print_ended(text: &mut Vec<u8>, ended: &[Ended]) -> Result<(), AllocError>
 fn print_one(text: &mut Vec<u8>, ended: &Ended) -> Result<(), AllocError>
     ensures { OnOk result (text.new.items ≡ text.old.items ++ ended_text ended.now) }
 {
-    let ticket = ended.ticket;
-    print(text, format_args!("; ended {ticket} "))?;
+    print_str(text, "; ")?;
+    print_ticket(text, ended.ticket)?;
     print_outcome(text, &ended.outcome)
 }

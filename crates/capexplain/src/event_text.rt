@@ -9,7 +9,7 @@ ghost use Rattle.capexplain.specs.Words.{open_word, part_word};
 use crate::change_word::ChangeWord;
 use crate::command::Command;
 use crate::part_text::{print_bytes, print_mode};
-use crate::text::{print, print_caps, print_numbered, print_str};
+use crate::text::{print, print_caps, print_number, print_numbered, print_str};
 use capbits::{Caller, CapSet, ClientId, Groups, Ino, Mode, Part};
 use capcore::{Event, OpenMode};
 use capspec::{Grants, write_grants};
@@ -72,7 +72,7 @@ fn print_arguments(text: &mut Vec<u8>, event: &Event) -> Result<(), AllocError>
         Event::Want { client, ino, caps } | Event::Release { client, ino, caps } => {
             print_wanted(text, *client, *ino, *caps)
         }
-        Event::Ack { client, ino, seq } => print_seq(text, *client, *ino, *seq),
+        Event::Ack { client, ino, seq } => print_inode_and(text, *client, *ino, *seq),
         Event::Get { client, ino, part } => print_word(text, *client, *ino, part_word(*part)),
         Event::Alter {
             client,
@@ -129,12 +129,17 @@ fn print_inode(text: &mut Vec<u8>, client: ClientId, ino: Ino) -> Result<(), All
     print_numbered(text, " ", ino.0)
 }
 
-// A client, an inode and the number of a change.
-fn print_seq(text: &mut Vec<u8>, client: ClientId, ino: Ino, seq: u64) -> Result<(), AllocError>
-    ensures { OnOk result (text.new.items ≡ text.old.items ++ named_text client ino (decimal seq)) }
+// A client, an inode, and a number: that of a change, or of a directory.
+fn print_inode_and(
+    text: &mut Vec<u8>,
+    client: ClientId,
+    ino: Ino,
+    number: u64,
+) -> Result<(), AllocError>
+    ensures { OnOk result (text.new.items ≡ text.old.items ++ named_text client ino (decimal number)) }
 {
     print_inode(text, client, ino)?;
-    print_numbered(text, " ", seq)
+    print_numbered(text, " ", number)
 }
 
 // ---- a session
@@ -166,7 +171,7 @@ fn print_regrant(text: &mut Vec<u8>, client: ClientId, grants: &Grants) -> Resul
 }
 
 // The groups, joined by commas; a dash for none.
-fn print_groups(text: &mut Vec<u8>, groups: &Groups) -> Result<(), AllocError>
+pub(crate) fn print_groups(text: &mut Vec<u8>, groups: &Groups) -> Result<(), AllocError>
     ensures { OnOk result (text.new.items ≡ text.old.items ++ groups_text groups.now) }
 {
     let Some((first, more)) = groups.as_slice().split_first() else {
@@ -246,7 +251,7 @@ fn print_new_inode(
     ensures { OnOk result (text.new.items ≡ text.old.items ++ (named_text client dir name.now ++ codes " " ++ mode_text mode)) }
 {
     print_named(text, client, dir, name)?;
-    print(text, " ")?;
+    print_str(text, " ")?;
     print_mode(text, mode)
 }
 
@@ -261,7 +266,8 @@ fn print_new_place(
     ensures { OnOk result (text.new.items ≡ text.old.items
         ++ (codes " " ++ decimal client.0 ++ codes " " ++ decimal ino.0 ++ codes " " ++ decimal dir.0 ++ codes " " ++ name.now)) }
 {
-    print(text, format_args!(" {client} {ino} {dir} "))?;
+    print_inode_and(text, client, ino, dir.0)?;
+    print_str(text, " ")?;
     print_name(text, name)
 }
 
@@ -294,14 +300,14 @@ fn print_change(text: &mut Vec<u8>, change: &Change) -> Result<(), AllocError>
         Change::Set(setting) => print_setting(text, *setting),
         Change::SetXattr { name, value } => {
             let word = ChangeWord::SetXattr.word();
-            print(text, format_args!("{word} "))?;
+            print_word_before(text, word)?;
             print_name(text, name)?;
-            print(text, " ")?;
+            print_str(text, " ")?;
             print_bytes(text, value.as_slice())
         }
         Change::RemoveXattr { name } => {
             let word = ChangeWord::RemoveXattr.word();
-            print(text, format_args!("{word} "))?;
+            print_word_before(text, word)?;
             print_name(text, name)
         }
     }
@@ -313,22 +319,30 @@ fn print_setting(text: &mut Vec<u8>, setting: Setting) -> Result<(), AllocError>
     match setting {
         Setting::Mode(mode) => {
             let word = ChangeWord::Mode.word();
-            print(text, format_args!("{word} "))?;
+            print_word_before(text, word)?;
             print_mode(text, mode)
         }
-        Setting::Uid(uid) => print_number(text, ChangeWord::Uid, u64::from(uid)),
-        Setting::Gid(gid) => print_number(text, ChangeWord::Gid, u64::from(gid)),
-        Setting::Size(size) => print_number(text, ChangeWord::Size, size),
-        Setting::Time(time) => print_number(text, ChangeWord::Time, time),
+        Setting::Uid(uid) => print_setting_number(text, ChangeWord::Uid, u64::from(uid)),
+        Setting::Gid(gid) => print_setting_number(text, ChangeWord::Gid, u64::from(gid)),
+        Setting::Size(size) => print_setting_number(text, ChangeWord::Size, size),
+        Setting::Time(time) => print_setting_number(text, ChangeWord::Time, time),
     }
 }
 
 // The word of a change, and a number.
-fn print_number(text: &mut Vec<u8>, kind: ChangeWord, number: u64) -> Result<(), AllocError>
+fn print_setting_number(text: &mut Vec<u8>, kind: ChangeWord, number: u64) -> Result<(), AllocError>
     ensures { OnOk result (text.new.items ≡ text.old.items ++ numbered_text kind number) }
 {
-    let word = kind.word();
-    print(text, format_args!("{word} {number}"))
+    print_word_before(text, kind.word())?;
+    print_number(text, number)
+}
+
+// A word, with a space behind.
+fn print_word_before(text: &mut Vec<u8>, word: &str) -> Result<(), AllocError>
+    ensures { OnOk result (text.new.items ≡ text.old.items ++ (word.now ++ codes " ")) }
+{
+    print_str(text, word)?;
+    print_str(text, " ")
 }
 
 // ---- words

@@ -37,7 +37,8 @@ pub fn explain_line(
     Ok(line)
 }
 
-fn print_path(line: &mut Vec<u8>, path: &[&[u8]]) -> Result<(), AllocError>
+// Appends a path: `/` before each name, and alone for the root.
+pub(crate) fn print_path(line: &mut Vec<u8>, path: &[&[u8]]) -> Result<(), AllocError>
     ensures { OnOk result (line.new.items ≡ line.old.items ++ path_text (map (λ name. name.now) path.now)) }
 {
     if path.is_empty() {

@@ -1,4 +1,4 @@
-//! Texts for people: what was decided about an access and why, what happened, and what was answered.
+//! Texts for people: what was decided about an access and why, what grants gained and lost, what happened, and what was answered.
 //!
 //! Public source: "Capabilities in CephFS" in the Ceph documentation.
 #![tactic(auto)]
@@ -7,10 +7,12 @@ mod access;
 mod audit;
 mod change_word;
 mod command;
+mod comparing;
 mod event_text;
 mod explaining;
 mod message_text;
 mod part_text;
+mod quoting;
 mod reply;
 mod text;
 
@@ -18,6 +20,7 @@ pub use access::read_access;
 pub use audit::{append_audit_line, audit_line};
 pub use change_word::ChangeWord;
 pub use command::Command;
+pub use comparing::comparison_lines;
 pub use event_text::event_line;
 pub use explaining::explain_line;
 pub use reply::reply_lines;

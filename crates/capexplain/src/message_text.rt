@@ -1,11 +1,13 @@
 //! The texts of messages.
-ghost use Rattle.std.specs.Prelude.{◌≡◌, ◌++◌, OnOk};
+ghost use Rattle.std.specs.Prelude.{◌≡◌, ◌++◌, codes, decimal, OnOk};
 ghost use Rattle.std.specs.List.{flat_map};
+ghost use Rattle.capbits.specs.Text.{text_of};
 ghost use Rattle.capexplain.specs.Replies.{message_line, message_text, outcome_text};
 
 use crate::part_text::print_values;
 use crate::reply::print_denial;
-use crate::text::{print, print_caps};
+use crate::text::{print, print_caps, print_numbered, print_str};
+use capbits::{CapSet, Ino, Ticket};
 use capcore::{Message, Outcome};
 use std::alloc::AllocError;
 
@@ -23,9 +25,9 @@ pub(crate) fn print_messages(text: &mut Vec<u8>, messages: &[Message]) -> Result
 fn print_line(text: &mut Vec<u8>, message: &Message) -> Result<(), AllocError>
     ensures { OnOk result (text.new.items ≡ text.old.items ++ message_line message.now) }
 {
-    print(text, "  ")?;
+    print_str(text, "  ")?;
     print_message(text, message)?;
-    print(text, "\n")
+    print_str(text, "\n")
 }
 
 fn print_message(text: &mut Vec<u8>, message: &Message) -> Result<(), AllocError>
@@ -33,16 +35,39 @@ fn print_message(text: &mut Vec<u8>, message: &Message) -> Result<(), AllocError
 {
     match message {
         Message::Ended { ticket, outcome } => {
-            print(text, format_args!("ended {ticket} "))?;
+            print_ticket(text, *ticket)?;
             print_outcome(text, outcome)
         }
-        Message::Caps { ino, seq, caps } => {
-            print(text, format_args!("caps {ino} {seq} "))?;
-            print_caps(text, *caps)
-        }
-        Message::Size { ino, size } => print(text, format_args!("size {ino} {size}")),
-        Message::Recall { ino } => print(text, format_args!("recall {ino}")),
+        Message::Caps { ino, seq, caps } => print_held(text, *ino, *seq, *caps),
+        Message::Size { ino, size } => print_size(text, *ino, *size),
+        Message::Recall { ino } => print_numbered(text, "recall ", ino.0),
     }
+}
+
+// Which request ended.
+pub(crate) fn print_ticket(text: &mut Vec<u8>, ticket: Ticket) -> Result<(), AllocError>
+    ensures { OnOk result (text.new.items ≡ text.old.items ++ (codes "ended " ++ decimal ticket.0 ++ codes " ")) }
+{
+    print_numbered(text, "ended ", ticket.0)?;
+    print_str(text, " ")
+}
+
+// What a client is to know that it holds on an inode, behind the number of its last change.
+fn print_held(text: &mut Vec<u8>, ino: Ino, seq: u64, caps: CapSet) -> Result<(), AllocError>
+    ensures { OnOk result (text.new.items ≡ text.old.items ++ (codes "caps " ++ decimal ino.0 ++ codes " " ++ decimal seq ++ codes " " ++ text_of caps)) }
+{
+    print_numbered(text, "caps ", ino.0)?;
+    print_numbered(text, " ", seq)?;
+    print_str(text, " ")?;
+    print_caps(text, caps)
+}
+
+// The size of an inode.
+fn print_size(text: &mut Vec<u8>, ino: Ino, size: u64) -> Result<(), AllocError>
+    ensures { OnOk result (text.new.items ≡ text.old.items ++ (codes "size " ++ decimal ino.0 ++ codes " " ++ decimal size)) }
+{
+    print_numbered(text, "size ", ino.0)?;
+    print_numbered(text, " ", size)
 }
 
 // How a request ended that waited.
@@ -50,14 +75,14 @@ pub(crate) fn print_outcome(text: &mut Vec<u8>, outcome: &Outcome) -> Result<(),
     ensures { OnOk result (text.new.items ≡ text.old.items ++ outcome_text outcome.now) }
 {
     match outcome {
-        Outcome::Done => print(text, "done"),
+        Outcome::Done => print_str(text, "done"),
         Outcome::Values(values) => {
-            print(text, "attr ")?;
+            print_str(text, "attr ")?;
             print_values(text, values)
         }
         Outcome::Denied { access, rules } => print_denial(text, *access, rules),
         Outcome::Refused(refusal) => print(text, format_args!("refused {refusal}")),
-        Outcome::OutOfMemory => print(text, "out-of-memory"),
-        Outcome::Dropped => print(text, "dropped"),
+        Outcome::OutOfMemory => print_str(text, "out-of-memory"),
+        Outcome::Dropped => print_str(text, "dropped"),
     }
 }

@@ -3,7 +3,7 @@ ghost use Rattle.std.specs.Prelude.{◌≡◌, ◌<◌, ◌++◌, false, OnOk};
 ghost use Rattle.std.specs.Fmt.{digit_glyph};
 ghost use Rattle.capexplain.specs.PartTexts.{attr_text, attribute_text, byte_text, hex_text, mode_text, values_text};
 
-use crate::text::print;
+use crate::text::{print, print_number, print_str};
 use capbits::Mode;
 use capcore::PartValues;
 use capgrant::Attr;
@@ -35,8 +35,10 @@ pub(crate) fn print_mode(text: &mut Vec<u8>, mode: Mode) -> Result<(), AllocErro
     ensures { OnOk result (text.new.items ≡ text.old.items ++ mode_text mode) }
 {
     let bits = mode.bits();
-    let (first, second, third, fourth) = (bits / 512, bits / 64 % 8, bits / 8 % 8, bits % 8);
-    print(text, format_args!("{first}{second}{third}{fourth}"))
+    print_number(text, u64::from(bits / 512))?;
+    print_number(text, u64::from(bits / 64 % 8))?;
+    print_number(text, u64::from(bits / 8 % 8))?;
+    print_number(text, u64::from(bits % 8))
 }
 
 fn print_attributes(text: &mut Vec<u8>, attributes: &Attributes) -> Result<(), AllocError>
@@ -64,16 +66,14 @@ pub(crate) fn print_bytes(text: &mut Vec<u8>, bytes: &[u8]) -> Result<(), AllocE
     ensures { OnOk result (text.new.items ≡ text.old.items ++ hex_text bytes.now) }
 {
     if bytes.is_empty() {
-        return print(text, "-");
+        return print_str(text, "-");
     }
-    for byte in bytes {
-        print_byte(text, *byte)?;
-    }
-    Ok(())
+    let digits = hex::encode(*text.allocator(), bytes)?;
+    print_str(text, digits.as_str())
 }
 
 // Two hexadecimal digits.
-fn print_byte(text: &mut Vec<u8>, byte: u8) -> Result<(), AllocError>
+pub(crate) fn print_byte(text: &mut Vec<u8>, byte: u8) -> Result<(), AllocError>
     ensures { OnOk result (text.new.items ≡ text.old.items ++ byte_text byte) }
 {
     text.extend_from_slice(&[digit(byte / 16), digit(byte % 16)])

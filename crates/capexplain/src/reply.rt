@@ -5,7 +5,7 @@ ghost use Rattle.capexplain.specs.Replies.{denial_text, holder_text, holders_tex
 
 use crate::message_text::print_messages;
 use crate::part_text::print_values;
-use crate::text::{print, print_caps, print_numbered, print_str};
+use crate::text::{print, print_caps, print_number, print_numbered, print_str};
 use capbits::CapSet;
 use capcore::Reply;
 use capgrant::{Access, Rule, Rules};
@@ -37,21 +37,21 @@ pub(crate) fn print_reply(text: &mut Vec<u8>, reply: &Reply) -> Result<(), Alloc
         Reply::Ino(ino) => print_numbered(text, "ino ", ino.0),
         Reply::Opened { seq, caps } => print_opened(text, *seq, *caps),
         Reply::Values(values) => {
-            print(text, "attr ")?;
+            print_str(text, "attr ")?;
             print_values(text, values)
         }
         Reply::Messages(messages) => {
             let count = messages.as_slice().len();
-            print(text, format_args!("messages {count}"))
+            print_numbered(text, "messages ", count as u64)
         }
         Reply::Recalled(holders) => {
-            print(text, "recalled")?;
+            print_str(text, "recalled")?;
             print_holders(text, holders.as_slice())
         }
         Reply::Waiting(ticket) => print_numbered(text, "waiting ", ticket.0),
         Reply::Denied { access, rules } => print_denial(text, *access, rules),
         Reply::Refused(refusal) => print(text, format_args!("refused {refusal}")),
-        Reply::OutOfMemory => print(text, "out-of-memory"),
+        Reply::OutOfMemory => print_str(text, "out-of-memory"),
     }
 }
 
@@ -81,11 +81,11 @@ fn print_rules(text: &mut Vec<u8>, rules: &[Rule]) -> Result<(), AllocError>
     ensures { OnOk result (text.new.items ≡ text.old.items ++ rules_text rules.now) }
 {
     if rules.is_empty() {
-        print(text, "-")?;
+        print_str(text, "-")?;
     }
     for (place, rule) in rules.iter().enumerate() {
         if place > 0 {
-            print(text, ",")?;
+            print_str(text, ",")?;
         }
         print_rule(text, place + 1, *rule)?;
     }
@@ -95,8 +95,8 @@ fn print_rules(text: &mut Vec<u8>, rules: &[Rule]) -> Result<(), AllocError>
 fn print_rule(text: &mut Vec<u8>, grant: usize, rule: Rule) -> Result<(), AllocError>
     ensures { OnOk result (text.new.items ≡ text.old.items ++ rule_text (grant, rule)) }
 {
-    let rule = rule.number();
-    print(text, format_args!("{grant}:{rule}"))
+    print_number(text, grant as u64)?;
+    print_numbered(text, ":", u64::from(rule.number()))
 }
 
 // Each behind a space, in their order; a dash for nobody.
@@ -104,7 +104,7 @@ fn print_holders(text: &mut Vec<u8>, holders: &[Holder]) -> Result<(), AllocErro
     ensures { OnOk result (text.new.items ≡ text.old.items ++ holders_text holders.now) }
 {
     if holders.is_empty() {
-        return print(text, " -");
+        return print_str(text, " -");
     }
     for holder in holders {
         print_holder(text, *holder)?;
@@ -117,5 +117,6 @@ fn print_holder(text: &mut Vec<u8>, holder: Holder) -> Result<(), AllocError>
     ensures { OnOk result (text.new.items ≡ text.old.items ++ holder_text holder) }
 {
     let Holder { client, ino } = holder;
-    print(text, format_args!(" {client}:{ino}"))
+    print_numbered(text, " ", u64::from(client.0))?;
+    print_numbered(text, ":", ino.0)
 }

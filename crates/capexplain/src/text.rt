@@ -16,13 +16,20 @@ pub(crate) fn print_str(text: &mut Vec<u8>, word: &str) -> Result<(), AllocError
     text.extend_from_slice(word.as_bytes())
 }
 
+// Appends the digits of a number.
+pub(crate) fn print_number(text: &mut Vec<u8>, number: u64) -> Result<(), AllocError>
+    ensures { OnOk result (text.new.items ≡ text.old.items ++ decimal number) }
+{
+    let mut digits = Buffer::new();
+    print_str(text, digits.format(number))
+}
+
 // Appends a word and, behind it, a number.
 pub(crate) fn print_numbered(text: &mut Vec<u8>, word: &str, number: u64) -> Result<(), AllocError>
     ensures { OnOk result (text.new.items ≡ text.old.items ++ word.now ++ decimal number) }
 {
-    let mut digits = Buffer::new();
     print_str(text, word)?;
-    print_str(text, digits.format(number))
+    print_number(text, number)
 }
 
 // Appends what a value prints. Only memory can be missing.

@@ -18,7 +18,7 @@ one_more false true false rest alike = refl
 one_more false false same rest alike = refl
 
 -- a number is among those that pass if it passes and is among all
-contains-filter : (p : ℕ → Bool) (xs : List ℕ) (n : ℕ) → contains (filter p xs) n ≡ (p n && contains xs n)
+pub contains-filter : (p : ℕ → Bool) (xs : List ℕ) (n : ℕ) → contains (filter p xs) n ≡ (p n && contains xs n)
 contains-filter p [] n = elim (p n) as (λ b. false ≡ (b && false)) [ true ↦ refl | false ↦ refl ]
 contains-filter p (x ∷ xs) n =
     elim (p x) as (λ b. contains (cond b (x ∷ filter p xs) (filter p xs)) n ≡ cond b ((x == n) || contains (filter p xs) n) (contains (filter p xs) n)) [ true ↦ refl | false ↦ refl ]

@@ -2,7 +2,7 @@
 
 /// Which third of a mode's permission bits speaks of a caller.
 #[derive(Clone, Copy, PartialEq, Eq, Debug)]
-pub(crate) enum Class {
+pub enum Class {
     /// The owner of the inode.
     Owner,
     /// A member of the inode's group.

@@ -11,6 +11,8 @@ mod rules;
 
 pub use access::{Access, Attr};
 pub use answer::Verdict;
+pub use class::Class;
 pub use policy::{permitted, verdict};
+pub use question::Question;
 pub use rule::Rule;
 pub use rules::Rules;

@@ -15,12 +15,17 @@ use std::marker::Model;
 
 /// What is asked of each grant: whether, on this file system, this caller may make this access to an inode.
 #[derive(Drop)]
-pub(crate) struct Question<'a> {
-    pub(crate) fs: &'a FsName,
-    pub(crate) caller: &'a Caller,
-    pub(crate) path: &'a [&'a [u8]],
-    pub(crate) attr: &'a Attr,
-    pub(crate) access: Access,
+pub struct Question<'a> {
+    /// The name of the file system.
+    pub fs: &'a FsName,
+    /// Who asks.
+    pub caller: &'a Caller,
+    /// The names of the inode, from the root down.
+    pub path: &'a [&'a [u8]],
+    /// The owner, the group and the mode of the inode.
+    pub attr: &'a Attr,
+    /// What is asked for.
+    pub access: Access,
 }
 
 impl<'a> Model for Question<'a> {
@@ -40,8 +45,8 @@ impl Question<'_> {
     ghost use Rattle.capgrant.specs.Rule.{attr_rules};
     ghost use Rattle.capgrant.specs.Verdict.{allows, granted, first_failures};
 
-    /// The place of the first grant that allows the access.
-    pub(crate) fn first_allowing(&self, grants: &[Grant]) -> Option<usize>
+    /// The place of the first grant that allows the access, the first at 0. Needs no memory.
+    pub fn first_allowing(&self, grants: &[Grant]) -> Option<usize>
         ensures { result ≡ position (allows self.now) grants.now }
     {
         grants.iter().position(|grant| self.allows(grant))

@@ -2,3 +2,4 @@ pub mod Options
 pub mod Fault
 pub mod Values
 pub mod Question
+pub mod Comparing

@@ -2,15 +2,19 @@
 //! by "CephFS client capabilities" in the Ceph documentation.
 //!
 //! A question is read from the values of options, each as the bytes that stand on a command line, and is answered with one line.
+//! Two texts of grants are compared, and what is gained and lost is answered in lines.
 //! What reads a command line takes text, so bytes are spelled as text here, and spelled back.
 #![tactic(auto)]
 
+mod comparing;
 mod fault;
 mod lists;
 mod options;
 mod question;
+mod texts;
 mod words;
 
+pub use comparing::{CompareFault, compare};
 pub use fault::QuestionFault;
 pub use options::Opt;
 pub use question::{Question, Values};

@@ -11,10 +11,11 @@ use crate::fault::QuestionFault;
 use crate::fault::QuestionFault::BadValue;
 use crate::lists::read_groups;
 use crate::options::Opt;
+use crate::texts::read_text;
 use capbits::{Caller, Groups, read_mode, read_u32};
 use capexplain::{explain_line, read_access};
 use capgrant::{Access, Attr, verdict};
-use capspec::{FsName, Grants, SpecFaultKind, TreePath, read_grants};
+use capspec::{FsName, Grants, TreePath};
 use std::alloc::{AllocError, Global};
 
 /// The values of the options as they stand on the command line, as bytes.
@@ -141,13 +142,7 @@ fn read_given_grants(alloc: Global, text: &[u8]) -> Result<Option<Grants>, Quest
     ensures kept { IfOk result (λ kept. IfSome kept (Reads text.now)) }
     ensures err { IfErr result (λ fault. (refused : ASpecFault) × (fault ≡ QuestionFault.Grants refused) × IsFault text.now refused) }
 {
-    match read_grants(alloc, text) {
-        Ok(grants) => Ok(Some(grants)),
-        Err(refused) => match refused.kind {
-            SpecFaultKind::NoMemory => Ok(None),
-            _ => Err(QuestionFault::Grants(refused)),
-        },
-    }
+    read_text(alloc, text).map_err(QuestionFault::Grants)
 }
 
 // The path of the inode, or None where the text names one and no memory was left for it.

@@ -43,7 +43,7 @@ impl Default for Gids {
 }
 
 impl Gids {
-    ghost use Rattle.std.specs.Prelude.{◌≡◌, [], ◌∷◌, ◌++◌, ◌<◌, ◌↔◌, length, IsTrue};
+    ghost use Rattle.std.specs.Prelude.{◌≡◌, [], ◌∷◌, ◌++◌, ◌<◌, ◌≤◌, ◌↔◌, length, IsTrue};
     ghost use Rattle.std.specs.Bool.{OnTrue, OnFalse};
 
     /// No group number.
@@ -53,6 +53,14 @@ impl Gids {
         Gids {
             gids: ArrayVec::new(),
         }
+    }
+
+    /// How many there are.
+    pub fn len(&self) -> usize
+        ensures value { result ≡ length self.now }
+        ensures few { result ≤ MAX_GIDS }
+    {
+        self.gids.len()
     }
 
     /// The group numbers, in their order.

@@ -15,6 +15,10 @@ mod cap_table;
 #[cfg(test)]
 mod caps;
 #[cfg(test)]
+mod compared_pairs;
+#[cfg(test)]
+mod comparing;
+#[cfg(test)]
 mod grant_forms;
 #[cfg(test)]
 mod grant_texts;
@@ -36,6 +40,8 @@ mod numbers;
 mod permitted;
 #[cfg(test)]
 mod queue;
+#[cfg(test)]
+mod random;
 #[cfg(test)]
 mod sessions;
 #[cfg(test)]

@@ -4,6 +4,7 @@ use crate::asserting::same;
 use crate::cap_table::{
     ask, caps, drop_client, leave, made, open, renumber, set_want, skip_quiet, tell, touch,
 };
+use crate::random::number;
 use capbits::{CapSet, ClientId, Ino};
 use captable::{CapTable, Holder, Walk};
 use std::alloc::{AllocError, Global};
@@ -234,18 +235,6 @@ fn agree(table: &CapTable, plain: &Plain, at: Holder) -> bool {
 }
 
 // ---- the run
-
-// The next of a row of numbers that look random, below a bound.
-fn number(seed: &mut u64, bound: u32) -> u32 {
-    *seed = seed
-        .wrapping_mul(6_364_136_223_846_793_005)
-        .wrapping_add(1_442_695_040_888_963_407);
-    let bits = (*seed >> 33) as u32;
-    match bound {
-        0 => 0,
-        _ => bits % bound,
-    }
-}
 
 fn holder(seed: &mut u64) -> Holder {
     let client = ClientId(number(seed, CLIENTS));

@@ -3,7 +3,7 @@ use Rattle.std.specs.Prelude.{codes}
 use Rattle.capexplain.specs.Replies.{rule_text}
 use Rattle.capexplain.proofs.Numbered.{printed-first, printed-more}
 use Rattle.capexplain.proofs.reply.print_rules.Goals as goal
-use Rattle.capexplain.proofs.reply.print_rules.Goals.{then-place-gt0+in_ok-print-2, else-place-gt0}
+use Rattle.capexplain.proofs.reply.print_rules.Goals.{then-place-gt0+in_ok-print_str-2, else-place-gt0}
 
 pub loop-place-preserved : goal.loop-place-preserved
 loop-place-preserved c =
@@ -11,6 +11,6 @@ loop-place-preserved c =
     let rules = c.args.rules.now in
     let k = c.loop-place.place in
     elim c.if-place-gt0.branch [
-      | then-place-gt0+in_ok-print-2 w ↦ printed-more rule_text (codes ",") start c.loop-place.text.items _ _ rules k _ (omega arith) (omega arith) c.loop-place.invariant (ap (λ text. text.items) w.text-is ∙ w.in_ok-print-2.ensures) c.in_ok-print_rule.ensures
+      | then-place-gt0+in_ok-print_str-2 w ↦ printed-more rule_text (codes ",") start c.loop-place.text.items _ _ rules k _ (omega arith) (omega arith) c.loop-place.invariant (ap (λ text. text.items) w.text-is ∙ w.in_ok-print_str-2.ensures) c.in_ok-print_rule.ensures
       | else-place-gt0 w ↦ printed-first rule_text (codes ",") start _ _ rules k _ (omega arith) (omega arith) (ap (λ text. text.items) w.text-is ∙ c.loop-place.invariant) c.in_ok-print_rule.ensures
     ]

@@ -1,0 +1,14 @@
+pub mod Lists
+pub mod Counting
+pub mod Passing
+pub mod Rules
+pub mod Asked
+pub mod FreeNames
+pub mod Loops
+pub mod Attr
+pub mod Unlisted
+pub mod Narrowing
+pub mod Cases
+pub mod Covering
+pub mod AskedFor
+pub mod Witnesses

@@ -1,0 +1,4 @@
+pub mod Comparing
+pub mod Asking
+pub mod Free
+pub mod Searching
