@@ -1,4 +1,5 @@
 pub mod Again
+pub mod ToldNumbers
 pub mod Among
 pub mod Apart
 pub mod AtEnd

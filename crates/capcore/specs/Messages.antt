@@ -1,5 +1,5 @@
 -- The messages that are due to a client, and what is left when it was given some of them.
-use Rattle.std.specs.Prelude.{ℕ, Bool, false, not, ◌&&◌, ◌==◌, nat_lt, List, [], ◌∷◌, ◌++◌, map, filter, take, Option, Some, None, if◌then◌else◌}
+use Rattle.std.specs.Prelude.{◌≡◌, ℕ, Bool, false, not, ◌&&◌, ◌==◌, nat_lt, List, [], ◌∷◌, ◌++◌, map, filter, take, Option, Some, None, if◌then◌else◌}
 use Rattle.std.specs.FinMap as finite
 use Rattle.std.specs.List.{flat_map, list_any}
 use Rattle.capbits.specs.declared.ids.ClientId.{ClientId}
@@ -69,6 +69,10 @@ is_end_of ticket (message.Ended t outcome) = t.0 == ticket.0
 is_end_of ticket (message.Caps ino seq caps) = false
 is_end_of ticket (message.Size ino size) = false
 is_end_of ticket (message.Recall ino) = false
+
+-- the numbers are those of the requests of whose ends the messages tell
+abbrev pub AreEndsOf : List Message → List ℕ → Type 0
+AreEndsOf messages numbers = (ticket : Ticket) → list_any (λ number. number == ticket.0) numbers ≡ list_any (is_end_of ticket) messages
 
 -- the message tells what the client is to know that it holds on the inode
 abbrev pub is_caps_of : Ino → Message → Bool

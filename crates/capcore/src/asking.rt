@@ -132,7 +132,7 @@ impl World {
             ino,
             &mut endings,
         );
-        Ok(close_with(&mut self.messages, ticket, endings))
+        Ok(close_with(&mut self.messages, &mut self.spare, ticket, endings))
     }
 
     // ---- what stops them

@@ -20,8 +20,12 @@ use std::fmt;
 use std::marker::Model;
 use std::mem::replace;
 
-// A list with room for more is given back, so that one large step doesn't leave it behind.
-const MAX_KEPT_PLACES: usize = 64;
+// A list with room for more is given back, so that one large step doesn't leave it behind. As many requests as may wait have places
+// in a list that is kept.
+const MAX_KEPT_PLACES: usize = 1152;
+
+// How many places a new list has beyond those that are asked for, since the next step often wants one more.
+const SPARE_PLACES: usize = 64;
 
 // In the order in which they were made. Their room is made before a step changes anything.
 #[derive(Drop)]
@@ -90,9 +94,8 @@ impl ChangeList {
             taken.places = room;
             return Ok(taken);
         }
-        // A list that grows would move its places, which are of no use here. A new one has some more, since the next step often wants
-        // one more than this.
-        ChangeList::with_room(alloc, room.max(MAX_KEPT_PLACES))
+        // A list that grows would move its places, which are of no use here.
+        ChangeList::with_room(alloc, room.saturating_add(SPARE_PLACES))
     }
 
     // No change, and room for so many.
@@ -109,7 +112,7 @@ impl ChangeList {
 
     // Keeps the list, whose changes nobody asks for any more, in the place of this one, so that its room is used again.
     pub(crate) fn keep(&mut self, list: ChangeList) {
-        if list.places <= MAX_KEPT_PLACES {
+        if list.items.capacity() <= MAX_KEPT_PLACES {
             *self = list;
         }
     }

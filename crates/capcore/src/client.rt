@@ -27,7 +27,7 @@ use crate::ended::close_dropped;
 use crate::history::Stop;
 use crate::ino_set::InoSet;
 use crate::known::Known;
-use crate::messages::{Endings, Messages};
+use crate::messages::{Endings, Messages, Spare};
 use crate::outcome::{Ended, Outcome};
 use crate::reply::{Reply, Said};
 use crate::settle::end_at;
@@ -116,7 +116,7 @@ impl World {
             others,
             &mut endings,
         );
-        Ok(close_dropped(&mut self.messages, dropped, endings))
+        Ok(close_dropped(&mut self.messages, &mut self.spare, dropped, endings))
     }
 }
 
@@ -227,7 +227,7 @@ impl Room {
         locks: &Locks,
         client: ClientId,
         turn: Turn,
-        spare: &mut ChangeList,
+        spare: &mut Spare,
     ) -> Result<Room, AllocError>
         ensures reaches { IfOk result (λ room. ReachesClient 1 client table.now locks.now room.others) }
         ensures told { IfOk result (λ room. (room.endings.told.items ≡ []) × (length locks.now.queue ≤ room.endings.told.room)) }
@@ -265,7 +265,7 @@ fn endings_of(
     places: usize,
     client: ClientId,
     turn: Turn,
-    spare: &mut ChangeList,
+    spare: &mut Spare,
 ) -> Result<Endings, AllocError>
     requires place { 1 ≤ places }
     ensures told { IfOk result (λ endings. (endings.told.items ≡ []) × (waiting ≤ endings.told.room)) }

@@ -6,14 +6,19 @@ ghost use Rattle.capcore.specs.Untold.{HaveOwnNumbers, but_for};
 ghost use Rattle.capcore.specs.declared.reply.Reply.TheVariants as reply;
 
 use crate::copies::copy_of_reply;
-use crate::messages::{Endings, Messages};
+use crate::messages::{Endings, Messages, Spare};
 use crate::outcome::{Ended, Outcome};
 use crate::reply::{Reply, Said};
 use capbits::Ticket;
 
 // A reply, which has no list, and the requests that the step ended: their clients are to be told of them, and the history keeps
 // them.
-pub(crate) fn close(messages: &mut Messages, reply: Reply, endings: Endings) -> Said
+pub(crate) fn close(
+    messages: &mut Messages,
+    spare: &mut Spare,
+    reply: Reply,
+    endings: Endings,
+) -> Said
     requires list { has_list reply ≡ false }
     requires room { length messages.old.items + length endings.told.items ≤ messages.old.room }
     ensures items { messages.new.items ≡ messages.old.items ++ endings.told.items }
@@ -24,14 +29,14 @@ pub(crate) fn close(messages: &mut Messages, reply: Reply, endings: Endings) -> 
     ensures changes { result.changes ≡ endings.changes }
 {
     let Endings {
-        told,
+        mut told,
         kept,
         sized,
         changes,
     } = endings;
-    drop(sized);
-    messages.append(told);
-    let ended = kept.into_list();
+    messages.append(&mut told);
+    spare.keep(told, sized);
+    let ended = kept.into_list(&mut spare.kept);
     let kept = copy_of_reply(&reply);
     Said {
         reply,
@@ -42,7 +47,12 @@ pub(crate) fn close(messages: &mut Messages, reply: Reply, endings: Endings) -> 
 }
 
 // That it is done, and the requests that the step ended: those that were dropped, of which nobody is told, and those that were served.
-pub(crate) fn close_dropped(messages: &mut Messages, dropped: Messages, endings: Endings) -> Said
+pub(crate) fn close_dropped(
+    messages: &mut Messages,
+    spare: &mut Spare,
+    dropped: Messages,
+    endings: Endings,
+) -> Said
     requires room { length messages.old.items + length endings.told.items ≤ messages.old.room }
     requires list { length dropped.items + length endings.kept.items ≤ dropped.room }
     ensures items { messages.new.items ≡ messages.old.items ++ endings.told.items }
@@ -53,25 +63,30 @@ pub(crate) fn close_dropped(messages: &mut Messages, dropped: Messages, endings:
     ensures changes { result.changes ≡ endings.changes }
 {
     let Endings {
-        told,
-        kept,
+        mut told,
+        mut kept,
         sized,
         changes,
     } = endings;
-    drop(sized);
-    messages.append(told);
+    messages.append(&mut told);
+    spare.keep(told, sized);
     let mut all = dropped;
-    all.append(kept);
+    all.append(&mut kept);
     Said {
         reply: Reply::Done,
         kept: Reply::Done,
-        ended: all.into_list(),
+        ended: all.into_list(&mut spare.kept),
         changes,
     }
 }
 
 // How the request with this number ended in the step, if it did; else that it waits; and the other requests that the step ended.
-pub(crate) fn close_with(messages: &mut Messages, ticket: Ticket, endings: Endings) -> Said
+pub(crate) fn close_with(
+    messages: &mut Messages,
+    spare: &mut Spare,
+    ticket: Ticket,
+    endings: Endings,
+) -> Said
     requires differ { HaveOwnNumbers endings.told.items }
     requires same { endings.kept.items ≡ endings.told.items }
     requires room { length messages.old.items + length endings.told.items ≤ messages.old.room }
@@ -88,11 +103,11 @@ pub(crate) fn close_with(messages: &mut Messages, ticket: Ticket, endings: Endin
         sized,
         changes,
     } = endings;
-    drop(sized);
     let reply = awaited(ticket, told.take(ticket));
-    messages.append(told);
+    messages.append(&mut told);
+    spare.keep(told, sized);
     let kept_reply = awaited(ticket, kept.take(ticket));
-    let ended = kept.into_list();
+    let ended = kept.into_list(&mut spare.kept);
     Said {
         reply,
         kept: kept_reply,

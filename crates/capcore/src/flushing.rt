@@ -60,7 +60,7 @@ impl World {
             ino,
             &mut endings,
         );
-        Ok(close(&mut self.messages, Reply::Done, endings))
+        Ok(close(&mut self.messages, &mut self.spare, Reply::Done, endings))
     }
 
     // What stops a flush.

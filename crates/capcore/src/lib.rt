@@ -33,6 +33,7 @@ mod start;
 mod step;
 mod stopped;
 mod told;
+mod told_numbers;
 mod touch;
 mod touch_laws;
 mod world;

@@ -1,17 +1,24 @@
 //! The requests that ended and that no client was told of.
-ghost use Rattle.std.specs.Prelude.{◌≡◌, ◌+◌, ◌≤◌, ◌<◌, ◌++◌, [], ◌∷◌, length, filter, not, IfOk, OnOk, OnErr, vec_capacity};
+ghost use Rattle.std.specs.Prelude.{◌≡◌, ◌==◌, ◌&&◌, ◌+◌, ◌≤◌, List, ◌<◌, ◌++◌, [], ◌∷◌, length, filter, not, IfOk, OnOk, OnErr, vec_capacity};
 ghost use Rattle.std.specs.List.{find, filter_map, list_any, position};
 ghost use Rattle.capcore.specs.Direct.{is_of_ticket};
-ghost use Rattle.capcore.specs.Messages.{is_to, is_left, is_end_of};
+ghost use Rattle.capcore.specs.Messages.{AreEndsOf, is_to, is_left};
+ghost use Rattle.capcore.specs.declared.outcome.Message.{Message};
 ghost use Rattle.capcore.specs.Untold.{HaveOwnNumbers, but_for};
 
 use crate::changes::ChangeList;
 use crate::history::EndedList;
-use crate::outcome::{Ended, Message};
+use crate::outcome::Ended;
 use crate::serving::Served;
+use crate::told_numbers::ToldNumbers;
 use capbits::{ClientId, Ino, Ticket};
 use std::alloc::{AllocError, Global};
+use std::fmt;
 use std::marker::Model;
+use std::mem::replace;
+
+// A list with room for more is given back, so that it isn't left behind. It is as many as may wait.
+const MAX_KEPT_ROOM: usize = 1024;
 
 // In the order in which they ended. Their room is made when they begin to wait, so that none is lost.
 #[derive(Debug, Drop)]
@@ -51,6 +58,30 @@ impl Messages {
         Ok(Messages { items })
     }
 
+    // No request, and room for so many, by the list that is kept here: one without room stays in its place.
+    fn take_with_room(&mut self, room: usize) -> Result<Messages, AllocError>
+        ensures { IfOk result (λ messages. (messages.items ≡ []) × (room ≤ messages.room)) }
+    {
+        let alloc = self.alloc();
+        // Mostly nobody waits.
+        if room == 0 {
+            return Ok(Messages::new(alloc));
+        }
+        let Messages { mut items } = replace(self, Messages::new(alloc));
+        if !items.is_empty() {
+            items.clear();
+        }
+        items.reserve(room)?;
+        Ok(Messages { items })
+    }
+
+    // Keeps the list, whose requests nobody asks for any more, in the place of this one, so that its room is used again.
+    fn keep(&mut self, list: Messages) {
+        if is_kept(list.items.capacity()) {
+            *self = list;
+        }
+    }
+
     // Makes room for so many more.
     pub(crate) fn reserve(&mut self, more: usize) -> Result<(), AllocError>
         ensures items { self.new.items ≡ self.old.items }
@@ -85,16 +116,15 @@ impl Messages {
         };
     }
 
-    // All of these ended, for which there is room.
-    pub(crate) fn append(&mut self, more: Messages)
-        requires room { length self.old.items + length more.items ≤ self.old.room }
-        ensures items { self.new.items ≡ self.old.items ++ more.items }
+    // All of these ended, for which there is room. Their list is left without them.
+    pub(crate) fn append(&mut self, more: &mut Messages)
+        requires room { length self.old.items + length more.old.items ≤ self.old.room }
+        ensures items { self.new.items ≡ self.old.items ++ more.old.items }
         ensures room { self.old.room ≤ self.new.room }
     {
-        let Messages { items } = more;
-        for ended in items {
-            self.push(ended);
-        }
+        let Ok(()) = self.items.append(&mut more.items) else {
+            unreachable!()
+        };
     }
 
     // How the request with this number ended, if it is among them; the others are left.
@@ -117,22 +147,31 @@ impl Messages {
             .position(|ended| ended.ticket.0 == ticket.0)
     }
 
-    // The requests, as a list for the history.
-    pub(crate) fn into_list(self) -> EndedList
+    // The requests, as a list for the history. Where there are none, the room is kept for later steps.
+    pub(crate) fn into_list(self, kept: &mut Messages) -> EndedList
         ensures { result ≡ self.items }
     {
+        if self.items.is_empty() {
+            let none = EndedList::new(self.alloc());
+            kept.keep(self);
+            return none;
+        }
         let Messages { mut items } = self;
         // The history keeps the list for good, but not the room for all who waited.
         items.shrink_to_fit();
         EndedList::from(items)
     }
 
-    // Those that a client was given are due no more.
-    pub(crate) fn remove_given(&mut self, client: ClientId, given: &[Message])
-        ensures items { self.new.items ≡ filter (is_left client given.now) self.old.items }
+    // Those are due no more of which a client was told by some messages.
+    pub(crate) fn remove_given(&mut self, client: ClientId, told: &ToldNumbers)
+        ensures items { (given : List Message) → AreEndsOf given told.now → self.new.items ≡ filter (is_left client given) self.old.items }
         ensures room { self.new.room ≡ self.old.room }
     {
-        self.items.retain(|ended| is_left(client, given, ended));
+        // Most polls tell of no request that ended.
+        if let [] = told.as_slice() {
+            return;
+        }
+        self.items.retain(|ended| is_left(client, told, ended));
     }
 
     // Nothing is due to the client any more.
@@ -155,24 +194,23 @@ pub(crate) struct Endings {
 }
 
 impl Endings {
-    // No request and no change, and room for so many requests, and for so many changes in the list that is spare.
+    // No request and no change, and room for so many requests and so many changes, in the lists that are spare.
     pub(crate) fn with_room(
         alloc: Global,
         room: usize,
         places: usize,
-        spare: &mut ChangeList,
+        spare: &mut Spare,
     ) -> Result<Endings, AllocError>
         ensures told { IfOk result (λ endings. (endings.told.items ≡ []) × (room ≤ endings.told.room)) }
         ensures kept { IfOk result (λ endings. (endings.kept.items ≡ []) × (room ≤ endings.kept.room)) }
         ensures sized { IfOk result (λ endings. (endings.sized.items ≡ []) × (room ≤ vec_capacity endings.sized)) }
         ensures changes { IfOk result (λ endings. (endings.changes.items ≡ []) × (places ≤ endings.changes.room)) }
     {
-        let mut sized = Vec::new(alloc);
-        sized.reserve(room)?;
+        let sized = spare.take_sized(alloc, room)?;
         let (Ok(told), Ok(kept), Ok(changes)) = (
-            Messages::with_room(alloc, room),
-            Messages::with_room(alloc, room),
-            spare.take_with_room(alloc, places),
+            spare.told.take_with_room(room),
+            spare.kept.take_with_room(room),
+            spare.changes.take_with_room(alloc, places),
         ) else {
             drop(sized);
             return Err(AllocError);
@@ -223,6 +261,62 @@ impl Endings {
     }
 }
 
+// The lists of earlier steps, of which only the room is of use. It is no part of a state.
+#[derive(Drop)]
+pub(crate) struct Spare {
+    pub(crate) changes: ChangeList,
+    told: Messages,
+    pub(crate) kept: Messages,
+    sized: Vec<Ino>,
+}
+
+// Tells nothing of the room that is kept, of which an event that finds no memory may leave less.
+impl fmt::Debug for Spare {
+    fn fmt<W: fmt::Write>(&self, f: &mut fmt::Formatter<W>) -> fmt::Result {
+        f.debug_struct("Spare").finish_non_exhaustive()
+    }
+}
+
+impl Spare {
+    // No room.
+    pub(crate) fn new(alloc: Global) -> Spare {
+        Spare {
+            changes: ChangeList::new(alloc),
+            told: Messages::new(alloc),
+            kept: Messages::new(alloc),
+            sized: Vec::new(alloc),
+        }
+    }
+
+    // No inode, and room for so many, by the list that is kept here: one without room stays in its place.
+    fn take_sized(&mut self, alloc: Global, room: usize) -> Result<Vec<Ino>, AllocError>
+        ensures { IfOk result (λ inodes. (inodes.items ≡ []) × (room ≤ vec_capacity inodes)) }
+    {
+        if room == 0 {
+            return Ok(Vec::new(alloc));
+        }
+        let mut sized = replace(&mut self.sized, Vec::new(alloc));
+        if !sized.is_empty() {
+            sized.clear();
+        }
+        sized.reserve(room)?;
+        Ok(sized)
+    }
+
+    // Keeps the lists of what was told and of whose sizes changed, which nobody asks for any more.
+    pub(crate) fn keep(&mut self, told: Messages, sized: Vec<Ino>) {
+        self.told.keep(told);
+        if is_kept(sized.capacity()) {
+            self.sized = sized;
+        }
+    }
+}
+
+// Whether a list with so much room is kept for later steps.
+fn is_kept(room: usize) -> bool {
+    room != 0 && room <= MAX_KEPT_ROOM
+}
+
 // One inode more, if there is one, for which there is room.
 fn add_sized(inodes: &mut Vec<Ino>, sized: Option<Ino>)
     requires room { length inodes.old.items < vec_capacity inodes.old }
@@ -243,26 +337,9 @@ fn is_to(client: ClientId, ended: &Ended) -> bool
     ended.client.0 == client.0
 }
 
-// Whether the message is still due to its client, when a client was given some.
-fn is_left(client: ClientId, given: &[Message], ended: &Ended) -> bool
-    ensures { result ≡ is_left client given.now ended.now }
+// Whether the message is still due to its client, when a client was told how these requests ended.
+fn is_left(client: ClientId, told: &ToldNumbers, ended: &Ended) -> bool
+    ensures { result ≡ not (is_to client ended.now && list_any (λ number. number == ended.now.ticket.0) told.now) }
 {
-    !(is_to(client, ended) && is_told(ended.ticket, given))
-}
-
-// Whether one of the messages tells how the request with this number ended.
-fn is_told(ticket: Ticket, given: &[Message]) -> bool
-    ensures { result ≡ list_any (is_end_of ticket) given.now }
-{
-    given.iter().any(|message| is_end_of(ticket, message))
-}
-
-// Whether the message tells how the request with this number ended.
-fn is_end_of(ticket: Ticket, message: &Message) -> bool
-    ensures { result ≡ is_end_of ticket message.now }
-{
-    match message {
-        Message::Ended { ticket: told, .. } => told.0 == ticket.0,
-        Message::Caps { .. } | Message::Size { .. } | Message::Recall { .. } => false,
-    }
+    !(is_to(client, ended) && told.contains(ended.ticket))
 }

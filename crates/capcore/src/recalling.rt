@@ -25,7 +25,7 @@ impl World {
             reply: Reply::Recalled(named),
             kept: Reply::Recalled(kept),
             ended: EndedList::new(alloc),
-            changes: self.spare.take(alloc),
+            changes: self.spare.changes.take(alloc),
         })
     }
 }

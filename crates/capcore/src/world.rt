@@ -33,13 +33,14 @@ use crate::event::{Event, OpenMode};
 use crate::history::{EndedList, Stop};
 use crate::judge::{by_test, denial};
 use crate::known::Known;
-use crate::messages::{Endings, Messages};
+use crate::messages::{Endings, Messages, Spare};
 use crate::poll::{due_messages, give};
 use crate::reply::{Reply, Said};
 use crate::settle::end_at_entry;
 use crate::start::first_locks;
 use crate::stopped::Stopped;
 use crate::told::revoked_of;
+use crate::told_numbers::ToldNumbers;
 use crate::touch::{Touch, tell, touch_entry};
 use capbits::{Caller, CapSet, ClientId, Ino, Mode, Part, Refusal};
 use capgrant::{Access, Attr};
@@ -65,8 +66,8 @@ pub(crate) struct World {
     pub(crate) locks: Locks,
     // The requests that ended and that no client was told of.
     pub(crate) messages: Messages,
-    // For what the next step changes: of the list of an earlier step only the room is of use.
-    pub(crate) spare: ChangeList,
+    // Room for what the next step lists.
+    pub(crate) spare: Spare,
 }
 
 impl Model for World {
@@ -115,7 +116,7 @@ impl World {
             known: Known::new(alloc),
             locks,
             messages: Messages::new(alloc),
-            spare: ChangeList::new(alloc),
+            spare: Spare::new(alloc),
         })
     }
 
@@ -225,7 +226,7 @@ impl World {
             &mut endings,
         );
         let reply = tell(&mut self.table, &self.known, holder, &touch);
-        Ok(close(&mut self.messages, reply, endings))
+        Ok(close(&mut self.messages, &mut self.spare, reply, endings))
     }
 
     // A step that gives a client the first messages that are due to it.
@@ -246,14 +247,15 @@ impl World {
         let (tree, table, known) = (&self.tree, &self.table, &self.known);
         let given = due_messages(alloc, ended, tree, table, known, client, max)?;
         let kept = copy_of_messages(alloc, given.as_slice())?;
+        let told = ToldNumbers::of(alloc, given.as_slice())?;
         give(&mut self.table, client, given.as_slice());
         self.table.skip_quiet(client);
-        self.messages.remove_given(client, given.as_slice());
+        self.messages.remove_given(client, &told);
         Ok(Said {
             reply: Reply::Messages(given),
             kept: Reply::Messages(kept),
             ended: EndedList::new(alloc),
-            changes: self.spare.take(alloc),
+            changes: self.spare.changes.take(alloc),
         })
     }
 
@@ -263,14 +265,14 @@ impl World {
         ensures none { result.items ≡ [] }
     {
         let alloc = self.alloc();
-        self.spare.take(alloc)
+        self.spare.changes.take(alloc)
     }
 
     // The changes of the step before the last are of no use any more, but for their room.
     pub(crate) fn keep_room(&mut self, changes: ChangeList)
         ensures { self.new ≡ self.old }
     {
-        self.spare.keep(changes);
+        self.spare.changes.keep(changes);
     }
 
     // The allocator of all that the state keeps.

@@ -1,11 +1,18 @@
-use Rattle.std.proofs.Common.{rules, ap, ◌∙◌}
-use Rattle.std.specs.Prelude.{filter}
+use Rattle.std.proofs.Common.{rules, arith, ap, ◌∙◌}
+use Rattle.std.specs.Prelude.{not, ◌&&◌, length, filter}
 use Rattle.std.proofs.lemmas.Fn.{filter_same}
-use Rattle.capcore.specs.Messages.{is_left}
+use Rattle.capcore.specs.Messages.{is_left, is_to}
 use Rattle.capcore.specs.Untold.{Untold}
+use Rattle.capcore.proofs.ToldNumbers.{all_left}
 use Rattle.capcore.proofs.messages.Messages.remove_given.Goals as goal
 
 pub returns-clause-items : goal.returns-clause-items
 returns-clause-items c =
-    filter_same _ (is_left c.args.client c.args.given.now) _ (λ x b f' k. search rules) _ _ c.retain.ensures.filtered
-    ∙ ap (λ (u : Untold). filter (is_left c.args.client c.args.given.now) u.items) c.self.view_is
+    λ given ends. filter_same _ (is_left c.args.client given) _
+    (λ x b f' k. let found = ap (λ told. not (is_to c.args.client x && told)) (ends x.ticket) in search rules)
+    _ _ c.retain.ensures.filtered
+    ∙ ap (λ (u : Untold). filter (is_left c.args.client given) u.items) c.self.view_is
+
+pub returns-in-empty-clause-items : goal.returns-in-empty-clause-items
+returns-in-empty-clause-items c =
+    λ given ends. all_left c.args.client given c.args.told.now c.args.self.now.items (omega (arith, c.in-empty.len_below, ap length c.as_slice.ensures)) ends

@@ -13,7 +13,7 @@ use Rattle.capcore.specs.declared.reply.Said.{Said}
 use Rattle.capcore.specs.declared.stopped.Stopped.TheVariants.{ByTest}
 use Rattle.capcore.specs.State.{State}
 use Rattle.capcore.specs.Answered.{IsAnswered}
-use Rattle.capcore.specs.Messages.{first_messages, with_given, after_messages, is_left}
+use Rattle.capcore.specs.Messages.{AreEndsOf, first_messages, with_given, after_messages, is_left}
 use Rattle.capcore.specs.Sound.{IsSound}
 use Rattle.capcore.proofs.Again.{stopped-before}
 use Rattle.capcore.proofs.Polled.{poll-answered, polled-new}
@@ -24,7 +24,7 @@ use Rattle.capview.specs.Changes.{AreChanges}
 use Rattle.capcore.specs.Noted.{view_of}
 use Rattle.capcore.proofs.Noting.{changes-still}
 use Rattle.capcore.proofs.world.World.poll.Goals as goal
-use Rattle.capcore.proofs.world.World.poll.Goals.{After-take}
+use Rattle.capcore.proofs.world.World.poll.Goals.{After-drop-told-inside}
 
 -- ---- no open session
 
@@ -40,7 +40,7 @@ returns-in-Some-clause-answered c =
 
 -- ---- an open session
 
-module _ (c : After-take) where
+module _ (c : After-drop-told-inside) where
   -- the state before the event
   abbrev old : State
   old = record { scene = record { fs = c.self.inside.fs; tree = c.self.inside.tree; sessions = c.self.inside.sessions; table = c.self.inside.table; locks = c.self.inside.locks }; messages = c.self.inside.messages.items }
@@ -59,10 +59,12 @@ module _ (c : After-take) where
   same = c.in_ok-kept.ensures ∙ c.as_slice.ensures
 
   kept_items : c.remove_given.new.self.items ≡ filter (is_left c.args.client c.in_ok-given.given) old.messages
-  kept_items = c.remove_given.ensures.items ∙ ap (λ (given : List Message). filter (is_left c.args.client given) old.messages) c.as_slice-3.ensures
+  kept_items =
+      c.remove_given.ensures.items c.in_ok-given.given
+      (subst (λ (given : List Message). AreEndsOf given c.in_ok-told.told) c.as_slice-2.ensures c.in_ok-told.ensures)
 
   told : c.skip_quiet.new.self ≡ changed_where (is_of_client c.args.client) (after_messages c.in_ok-given.given) old.scene.table
-  told = c.skip_quiet.ensures ∙ c.give.ensures ∙ ap (λ (given : List Message). changed_where (is_of_client c.args.client) (after_messages given) old.scene.table) c.as_slice-2.ensures
+  told = c.skip_quiet.ensures ∙ c.give.ensures ∙ ap (λ (given : List Message). changed_where (is_of_client c.args.client) (after_messages given) old.scene.table) c.as_slice-3.ensures
 
   left : with_given old c.args.client (first_messages old c.args.client c.args.max) ≡ new
   left = polled-new old c.self.invariant.0 c.oldest-oldest.ensures.sound c.args.client c.args.max c.in_ok-given.given c.skip_quiet.new.self c.remove_given.new.self.items first told kept_items
