@@ -25,11 +25,29 @@ struct Folder {
     is_inside: bool,
 }
 
+/// The two directories between which the others are moved.
+#[derive(Clone, Copy)]
+struct Places {
+    inside: u64,
+    outside: u64,
+}
+
 /// Makes the directories, lets the clients in, and moves for so many rounds.
 pub(crate) fn move_about(core: &mut Core, talk: &mut Talk, count: u32) -> Result<(), Fault> {
+    let places = make_places(core, talk)?;
+    let_all_in(core, talk)?;
+    let mut folders = make_folders(core, talk, places.inside)?;
+    move_often(core, talk, &mut folders, places, count)
+}
+
+fn make_places(core: &mut Core, talk: &mut Talk) -> Result<Places, Fault> {
     let _done = talk.say(core, "session 1 0 0 - allow rwps")?;
     let inside = talk.make(core, "mkdir 1 1 inside 0777")?;
     let outside = talk.make(core, "mkdir 1 1 outside 0777")?;
+    Ok(Places { inside, outside })
+}
+
+fn let_all_in(core: &mut Core, talk: &mut Talk) -> Result<(), Fault> {
     for client in 2..CLIENTS + 2 {
         let _done = talk.say(
             core,
@@ -38,14 +56,28 @@ pub(crate) fn move_about(core: &mut Core, talk: &mut Talk, count: u32) -> Result
             ),
         )?;
     }
+    Ok(())
+}
+
+fn make_folders(core: &mut Core, talk: &mut Talk, inside: u64) -> Result<Vec<Folder>, Fault> {
     let mut folders = Vec::new(talk.alloc());
     for name in 0..FOLDERS {
         folders.push(make_folder(core, talk, inside, name)?)?;
     }
+    Ok(folders)
+}
+
+fn move_often(
+    core: &mut Core,
+    talk: &mut Talk,
+    folders: &mut Vec<Folder>,
+    places: Places,
+    count: u32,
+) -> Result<(), Fault> {
     for _ in 0..count {
         let place = talk.below(FOLDERS);
         if let Some(folder) = folders.get_mut(place as usize) {
-            move_folder(core, talk, folder, inside, outside)?;
+            move_folder(core, talk, folder, places)?;
         }
     }
     Ok(())
@@ -79,24 +111,37 @@ fn move_folder(
     core: &mut Core,
     talk: &mut Talk,
     folder: &mut Folder,
-    inside: u64,
-    outside: u64,
+    places: Places,
 ) -> Result<(), Fault> {
     let Folder {
         ino,
         first,
         is_inside,
     } = *folder;
-    let target = if is_inside { outside } else { inside };
+    let target = if is_inside {
+        places.outside
+    } else {
+        places.inside
+    };
     let _moved = talk.say(core, format_args!("rename 1 {ino} {target} folder{ino}"))?;
     folder.is_inside = !is_inside;
+    listen_to_move(core, talk)?;
+    if is_inside {
+        return Ok(());
+    }
+    open_files(core, talk, first)
+}
+
+fn listen_to_move(core: &mut Core, talk: &mut Talk) -> Result<(), Fault> {
     for _ in 0..LISTENERS {
         let client = talk.among(2, CLIENTS);
         talk.listen(core, client)?;
     }
-    if is_inside {
-        return Ok(());
-    }
+    Ok(())
+}
+
+// Each file of a directory is opened by two clients.
+fn open_files(core: &mut Core, talk: &mut Talk, first: u64) -> Result<(), Fault> {
     for file in 0..FILES {
         open_file(core, talk, first.saturating_add(file), 2)?;
     }

@@ -33,15 +33,24 @@ struct Texts {
 /// Answers so many questions, and returns the digest of the answers.
 pub(crate) fn ask_all(alloc: Global, count: u32, seed: u32) -> Result<u64, Fault> {
     let mut talk = Talk::new(alloc, seed);
-    let mut digest = DefaultHasher::new();
     let texts = make_texts(alloc, &mut talk)?;
+    ask_often(alloc, &texts, &mut talk, count)
+}
+
+fn ask_often(alloc: Global, texts: &Texts, talk: &mut Talk, count: u32) -> Result<u64, Fault> {
+    let mut digest = DefaultHasher::new();
     let mut values = blank(alloc);
     for _ in 0..count {
-        choose(&texts, &mut talk, &mut values)?;
-        let line = Question::read(alloc, &values)?.answer(alloc)?;
+        choose(texts, talk, &mut values)?;
+        let line = answer(alloc, &values)?;
         digest.write(line.as_slice());
     }
     Ok(digest.finish())
+}
+
+// The answer to a question. What is promised of it stays behind here.
+fn answer(alloc: Global, values: &Values) -> Result<Vec<u8>, Fault> {
+    Ok(Question::read(alloc, values)?.answer(alloc)?)
 }
 
 fn make_texts(alloc: Global, talk: &mut Talk) -> Result<Texts, Fault> {
@@ -52,22 +61,39 @@ fn make_texts(alloc: Global, talk: &mut Talk) -> Result<Texts, Fault> {
         modes: Vec::new(alloc),
         accesses: Vec::new(alloc),
     };
+    add_texts(alloc, talk, &mut texts)?;
+    Ok(texts)
+}
+
+fn add_texts(alloc: Global, talk: &mut Talk, texts: &mut Texts) -> Result<(), Fault> {
     for _ in 0..TEXTS {
         texts.grants.push(grants(alloc, talk)?)?;
         texts.paths.push(path(alloc, talk)?)?;
     }
+    add_users(alloc, &mut texts.users)?;
+    add_modes(alloc, &mut texts.modes)?;
+    add_accesses(alloc, &mut texts.accesses)
+}
+
+fn add_users(alloc: Global, users: &mut Vec<Vec<u8>>) -> Result<(), Fault> {
     for user in 0..USERS {
-        texts.users.push(text(alloc, user.saturating_add(1000))?)?;
+        users.push(text(alloc, user.saturating_add(1000))?)?;
     }
+    Ok(())
+}
+
+fn add_modes(alloc: Global, modes: &mut Vec<Vec<u8>>) -> Result<(), Fault> {
     for mode in 0..8 {
-        texts
-            .modes
-            .push(text(alloc, format_args!("0{mode}4{mode}"))?)?;
+        modes.push(text(alloc, format_args!("0{mode}4{mode}"))?)?;
     }
+    Ok(())
+}
+
+fn add_accesses(alloc: Global, accesses: &mut Vec<Vec<u8>>) -> Result<(), Fault> {
     for access in ACCESSES {
-        texts.accesses.push(text(alloc, *access)?)?;
+        accesses.push(text(alloc, *access)?)?;
     }
-    Ok(texts)
+    Ok(())
 }
 
 // Values without a byte.
@@ -92,15 +118,21 @@ fn choose(texts: &Texts, talk: &mut Talk, values: &mut Values) -> Result<(), Fau
     take(&texts.paths, talk, &mut values.path)?;
     take(&texts.modes, talk, &mut values.mode)?;
     take(&texts.accesses, talk, &mut values.access)?;
-    take(&texts.users, talk, &mut values.uid)?;
-    take(&texts.users, talk, &mut values.gid)?;
-    take(&texts.users, talk, &mut values.owner)?;
-    take(&texts.users, talk, &mut values.group)?;
-    if let Some(groups) = &mut values.groups {
-        take(&texts.users, talk, groups)?;
-    }
+    choose_users(&texts.users, talk, values)?;
     values.fs.clear();
     values.fs.extend_from_slice(b"cephfs")?;
+    Ok(())
+}
+
+// The numbers of the caller and of the owner.
+fn choose_users(users: &Vec<Vec<u8>>, talk: &mut Talk, values: &mut Values) -> Result<(), Fault> {
+    take(users, talk, &mut values.uid)?;
+    take(users, talk, &mut values.gid)?;
+    take(users, talk, &mut values.owner)?;
+    take(users, talk, &mut values.group)?;
+    if let Some(groups) = &mut values.groups {
+        take(users, talk, groups)?;
+    }
     Ok(())
 }
 

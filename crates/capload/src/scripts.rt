@@ -22,18 +22,21 @@ const FILES: u64 = 64;
 
 /// Runs a script of so many rounds, and returns the digest of its transcript.
 pub(crate) fn run_script(alloc: Global, count: u32, seed: u32) -> Result<u64, Fault> {
-    let mut talk = Talk::new(alloc, seed);
-    let script = ingest(alloc, &mut talk, count)?;
+    let script = ingest(alloc, &mut Talk::new(alloc, seed), count)?;
+    let written = transcript(alloc, script.as_slice())?;
+    Ok(digest_of(written.as_slice()))
+}
+
+// What is written of a script that is run. What is promised of it stays behind here.
+fn transcript(alloc: Global, script: &[u8]) -> Result<Vec<u8>, Fault> {
     let mut written = Vec::new(alloc);
-    let mut reader = script.as_slice();
+    let mut reader = script;
     run(
         alloc,
         &mut Watched::new(&mut reader),
         &mut Watched::new(&mut written),
     )?;
-    let mut digest = DefaultHasher::new();
-    digest.write(written.as_slice());
-    Ok(digest.finish())
+    Ok(written)
 }
 
 /// Serves a script of so many rounds, and returns a digest of the rows of its history that is the same in whatever order the threads
@@ -44,17 +47,26 @@ pub(crate) fn serve_script<T: Threads + Wait + Sync>(
     count: u32,
     seed: u32,
 ) -> Result<u64, Fault> {
-    let mut talk = Talk::new(alloc, seed);
-    let script = jobs(alloc, &mut talk, count)?;
+    let script = jobs(alloc, &mut Talk::new(alloc, seed), count)?;
+    let written = served(rt, alloc, script.as_slice())?;
+    Ok(sum_of_lines(written.as_slice()))
+}
+
+// What is written of a script that is served. What is promised of it stays behind here.
+fn served<T: Threads + Wait + Sync>(
+    rt: &T,
+    alloc: Global,
+    script: &[u8],
+) -> Result<Vec<u8>, Fault> {
     let mut written = Vec::new(alloc);
-    let mut reader = script.as_slice();
+    let mut reader = script;
     serve(
         rt,
         alloc,
         &mut Watched::new(&mut reader),
         &mut Watched::new(&mut written),
     )?;
-    Ok(sum_of_lines(written.as_slice()))
+    Ok(written)
 }
 
 // The sum of the digests of the lines.
@@ -66,10 +78,10 @@ fn sum_of_lines(text: &[u8]) -> u64 {
     sum
 }
 
-// The digest of a line, which has the pass of its client, and its number among that client's.
-fn digest_of(line: &[u8]) -> u64 {
+// The digest of a text. A line that is served has the pass of its client, and its number among that client's.
+fn digest_of(text: &[u8]) -> u64 {
     let mut digest = DefaultHasher::new();
-    digest.write(line);
+    digest.write(text);
     digest.finish()
 }
 
@@ -80,29 +92,39 @@ fn add<D: Display + Drop>(text: &mut Vec<u8>, line: D) -> Result<(), Fault> {
 // A client fills a deep chain of directories with files, and looks at them; another opens what it finds there.
 fn ingest(alloc: Global, talk: &mut Talk, count: u32) -> Result<Vec<u8>, Fault> {
     let mut script = Vec::new(alloc);
-    add(&mut script, "session 1 10 10 - allow rw\n")?;
-    add(
-        &mut script,
-        "session 2 20 20 - allow r path=/pub, allow r\n",
-    )?;
+    add_ingest(talk, &mut script, count)?;
+    Ok(script)
+}
+
+fn add_ingest(talk: &mut Talk, script: &mut Vec<u8>, count: u32) -> Result<(), Fault> {
+    add(script, "session 1 10 10 - allow rw\n")?;
+    add(script, "session 2 20 20 - allow r path=/pub, allow r\n")?;
+    add_levels(script)?;
+    for round in 0..u64::from(count) {
+        add_file(talk, script, round)?;
+    }
+    Ok(())
+}
+
+fn add_levels(script: &mut Vec<u8>) -> Result<(), Fault> {
     for level in 0..DEPTH {
         let inside = level + 1;
-        add(
-            &mut script,
-            format_args!("mkdir 1 {inside} level{level} 0755\n"),
-        )?;
+        add(script, format_args!("mkdir 1 {inside} level{level} 0755\n"))?;
     }
-    for round in 0..u64::from(count) {
-        add_file(talk, &mut script, round)?;
-    }
-    Ok(script)
+    Ok(())
 }
 
 // The lines of one more file, which gets the next number, and of one that is there.
 fn add_file(talk: &mut Talk, script: &mut Vec<u8>, round: u64) -> Result<(), Fault> {
     let folder = talk.among(1, DEPTH + 1);
-    let made = round.saturating_add(DEPTH + 2);
     let any = talk.among(DEPTH + 2, round.saturating_add(1));
+    add_upload(script, folder, round)?;
+    add_change(script, any)
+}
+
+// One client makes a file and writes it, and another looks it up.
+fn add_upload(script: &mut Vec<u8>, folder: u64, round: u64) -> Result<(), Fault> {
+    let made = round.saturating_add(DEPTH + 2);
     add(
         script,
         format_args!("create 1 {folder} upload{round} 0644\n"),
@@ -110,26 +132,41 @@ fn add_file(talk: &mut Talk, script: &mut Vec<u8>, round: u64) -> Result<(), Fau
     add(script, format_args!("open 1 {made} w\n"))?;
     add(script, format_args!("flush 1 {made} size {round}\n"))?;
     add(script, format_args!("lookup 2 {folder} upload{round}\n"))?;
-    add(script, format_args!("release 1 {made} p\n"))?;
-    add(script, format_args!("open 2 {any} r\n"))?;
-    add(script, format_args!("release 2 {any} p\n"))?;
-    add(script, format_args!("alter 1 {any} chmod 0640\n"))
+    add(script, format_args!("release 1 {made} p\n"))
+}
+
+// The other opens a file for a moment, and the first changes its mode.
+fn add_change(script: &mut Vec<u8>, ino: u64) -> Result<(), Fault> {
+    add(script, format_args!("open 2 {ino} r\n"))?;
+    add(script, format_args!("release 2 {ino} p\n"))?;
+    add(script, format_args!("alter 1 {ino} chmod 0640\n"))
 }
 
 // Clients that each work on files of their own, from threads of their own. Nothing that they ask for waits, since the number of a
 // request that waits depends on when its thread was served.
 fn jobs(alloc: Global, talk: &mut Talk, count: u32) -> Result<Vec<u8>, Fault> {
     let mut script = Vec::new(alloc);
-    for client in 1..=THREADS {
-        add_client(&mut script, client)?;
-    }
-    add(&mut script, "threads\n")?;
-    for round in 0..count {
-        for client in 1..=THREADS {
-            add_job(talk, &mut script, client, round)?;
-        }
-    }
+    add_jobs(talk, &mut script, count)?;
     Ok(script)
+}
+
+fn add_jobs(talk: &mut Talk, script: &mut Vec<u8>, count: u32) -> Result<(), Fault> {
+    for client in 1..=THREADS {
+        add_client(script, client)?;
+    }
+    add(script, "threads\n")?;
+    for round in 0..count {
+        add_round(talk, script, round)?;
+    }
+    Ok(())
+}
+
+// A line of each client.
+fn add_round(talk: &mut Talk, script: &mut Vec<u8>, round: u32) -> Result<(), Fault> {
+    for client in 1..=THREADS {
+        add_job(talk, script, client, round)?;
+    }
+    Ok(())
 }
 
 // A client with its directory and its files: the directory of client 1 is inode 2, and its files follow it.
@@ -158,11 +195,22 @@ fn add_job(talk: &mut Talk, script: &mut Vec<u8>, client: u64, round: u32) -> Re
     let file = talk.below(FILES);
     let ino = home.saturating_add(1).saturating_add(file);
     match talk.below(6) {
-        0 => add(script, format_args!("open {client} {ino} rw\n")),
+        0 => add_use(script, "open", client, ino, "rw"),
         1 => add(script, format_args!("flush {client} {ino} size {round}\n")),
-        2 => add(script, format_args!("get {client} {ino} A\n")),
-        3 => add(script, format_args!("release {client} {ino} p\n")),
-        4 => add(script, format_args!("want {client} {ino} pFscr\n")),
+        2 => add_use(script, "get", client, ino, "A"),
+        3 => add_use(script, "release", client, ino, "p"),
+        4 => add_use(script, "want", client, ino, "pFscr"),
         _ => add(script, format_args!("lookup {client} {home} file{file}\n")),
     }
+}
+
+// The line by which a client asks for something of an inode.
+fn add_use(
+    script: &mut Vec<u8>,
+    word: &str,
+    client: u64,
+    ino: u64,
+    rest: &str,
+) -> Result<(), Fault> {
+    add(script, format_args!("{word} {client} {ino} {rest}\n"))
 }

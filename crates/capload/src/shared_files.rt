@@ -19,15 +19,25 @@ pub(crate) fn share(core: &mut Core, talk: &mut Talk, count: u32) -> Result<(), 
     for client in 1..=CLIENTS {
         let_in(core, talk, client)?;
     }
+    let files = make_all_files(core, talk)?;
+    work_often(core, talk, files.as_slice(), count)
+}
+
+fn work_often(core: &mut Core, talk: &mut Talk, files: &[u64], count: u32) -> Result<(), Fault> {
+    for _ in 0..count {
+        work(core, talk, files)?;
+    }
+    Ok(())
+}
+
+// Makes the directories with their files, and returns the inodes of these.
+fn make_all_files(core: &mut Core, talk: &mut Talk) -> Result<Vec<u64>, Fault> {
     let mut files = Vec::new(talk.alloc());
     for number in 0..FOLDERS {
         let folder = talk.make(core, format_args!("mkdir 1 1 folder{number} 0755"))?;
         make_files(core, talk, folder, &mut files)?;
     }
-    for _ in 0..count {
-        work(core, talk, files.as_slice())?;
-    }
-    Ok(())
+    Ok(files)
 }
 
 fn make_files(
@@ -44,16 +54,11 @@ fn make_files(
 
 // Gives a client its session; every fifth may only read.
 fn let_in(core: &mut Core, talk: &mut Talk, client: u64) -> Result<(), Fault> {
-    let _done = match client % 5 {
-        0 => talk.say(
-            core,
-            format_args!("session {client} {client} {client} - allow r"),
-        )?,
-        _ => talk.say(
-            core,
-            format_args!("session {client} {client} {client} - allow rw"),
-        )?,
-    };
+    let caps = if client % 5 == 0 { "r" } else { "rw" };
+    let _done = talk.say(
+        core,
+        format_args!("session {client} {client} {client} - allow {caps}"),
+    )?;
     Ok(())
 }
 
@@ -81,38 +86,51 @@ fn use_file(
     ino: u64,
     dice: u64,
 ) -> Result<(), Fault> {
-    let _heard = match dice {
-        0..450 => talk.say(core, format_args!("open {client} {ino} r"))?,
-        450..550 => talk.say(core, format_args!("open {client} {ino} w"))?,
-        550..650 => talk.say(core, format_args!("open {client} {ino} rw"))?,
-        650..750 => talk.say(core, format_args!("want {client} {ino} pFscr"))?,
-        750..900 => talk.say(core, format_args!("release {client} {ino} p"))?,
-        900..930 => talk.say(core, format_args!("get {client} {ino} F"))?,
-        930..960 => talk.say(core, format_args!("alter {client} {ino} size {dice}"))?,
-        _ => talk.say(core, format_args!("alter {client} {ino} chmod 0644"))?,
+    let (word, rest) = match dice {
+        0..450 => ("open", "r"),
+        450..550 => ("open", "w"),
+        550..650 => ("open", "rw"),
+        650..750 => ("want", "pFscr"),
+        750..900 => ("release", "p"),
+        900..930 => ("get", "F"),
+        930..960 => return talk.alter_number(core, client, ino, "size", dice),
+        _ => ("alter", "chmod 0644"),
     };
-    Ok(())
+    talk.use_inode(core, word, client, ino, rest)
 }
 
 // What happens to sessions, and what the server does by itself.
 fn disturb(core: &mut Core, talk: &mut Talk, client: u64, dice: u64) -> Result<(), Fault> {
     match dice {
-        990..993 => {
-            let _heard = talk.say(core, format_args!("stale {client}"))?;
-            let _heard = talk.say(core, format_args!("renew {client}"))?;
-        }
+        990..993 => say_both(core, talk, client, "stale", "renew"),
         993..995 => {
-            let _heard = talk.say(core, format_args!("evict {client}"))?;
-            let _heard = talk.say(core, format_args!("unblock {client}"))?;
-            let_in(core, talk, client)?;
+            say_both(core, talk, client, "evict", "unblock")?;
+            let_in(core, talk, client)
         }
-        995..998 => {
-            let _heard = talk.say(core, format_args!("regrant {client} allow r"))?;
-            let _heard = talk.say(core, format_args!("regrant {client} allow rw"))?;
-        }
+        995..998 => regrant_twice(core, talk, client),
         _ => {
             let _heard = talk.say(core, "recall 100")?;
+            Ok(())
         }
     }
+}
+
+// Says the one of a client, and then the other.
+fn say_both(
+    core: &mut Core,
+    talk: &mut Talk,
+    client: u64,
+    one: &str,
+    other: &str,
+) -> Result<(), Fault> {
+    let _heard = talk.say(core, format_args!("{one} {client}"))?;
+    let _heard = talk.say(core, format_args!("{other} {client}"))?;
+    Ok(())
+}
+
+// For a moment the client may only read.
+fn regrant_twice(core: &mut Core, talk: &mut Talk, client: u64) -> Result<(), Fault> {
+    let _heard = talk.say(core, format_args!("regrant {client} allow r"))?;
+    let _heard = talk.say(core, format_args!("regrant {client} allow rw"))?;
     Ok(())
 }

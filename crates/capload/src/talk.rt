@@ -106,16 +106,48 @@ impl Talk {
         }
     }
 
+    /// A client asks for something of an inode: `word` says for what, and `rest` is what follows the inode's number.
+    pub(crate) fn use_inode(
+        &mut self,
+        core: &mut Core,
+        word: &str,
+        client: u64,
+        ino: u64,
+        rest: &str,
+    ) -> Result<(), Fault> {
+        let _heard = self.say(core, format_args!("{word} {client} {ino} {rest}"))?;
+        Ok(())
+    }
+
+    /// A client changes something of an inode to a number.
+    pub(crate) fn alter_number(
+        &mut self,
+        core: &mut Core,
+        client: u64,
+        ino: u64,
+        word: &str,
+        number: u64,
+    ) -> Result<(), Fault> {
+        let _heard = self.say(core, format_args!("alter {client} {ino} {word} {number}"))?;
+        Ok(())
+    }
+
     /// A client asks for its messages, and acknowledges each change that it is told of.
     pub(crate) fn listen(&mut self, core: &mut Core, client: u64) -> Result<(), Fault> {
         let _heard = self.say(core, format_args!("poll {client} {MESSAGES}"))?;
         for place in 0..self.told.len() {
-            let Some(Told { ino, seq }) = self.told.get(place).copied() else {
+            let Some(told) = self.told.get(place).copied() else {
                 break;
             };
-            let _heard = self.say(core, format_args!("ack {client} {ino} {seq}"))?;
+            self.acknowledge(core, client, told)?;
         }
         self.told.clear();
+        Ok(())
+    }
+
+    fn acknowledge(&mut self, core: &mut Core, client: u64, told: Told) -> Result<(), Fault> {
+        let Told { ino, seq } = told;
+        let _heard = self.say(core, format_args!("ack {client} {ino} {seq}"))?;
         Ok(())
     }
 
@@ -123,7 +155,9 @@ impl Talk {
     fn ask(&mut self, core: &mut Core) -> Result<Heard, Fault> {
         let event = self.event()?;
         let reply = core.apply(PASS, event)?;
-        self.hear(&reply)
+        let heard = self.hear(&reply);
+        drop(reply);
+        heard
     }
 
     // The event that the line says.

@@ -33,10 +33,24 @@ struct File {
 /// Gives each tenant its directory, and has them work for so many rounds.
 pub(crate) fn serve_tenants(core: &mut Core, talk: &mut Talk, count: u32) -> Result<(), Fault> {
     let _done = talk.say(core, "session 1 0 0 - allow rwps")?;
+    let mut tenants = let_all_in(core, talk)?;
+    work_often(core, talk, &mut tenants, count)
+}
+
+fn let_all_in(core: &mut Core, talk: &mut Talk) -> Result<Vec<Tenant>, Fault> {
     let mut tenants = Vec::new(talk.alloc());
     for number in 0..TENANTS {
         tenants.push(let_in(core, talk, number)?)?;
     }
+    Ok(tenants)
+}
+
+fn work_often(
+    core: &mut Core,
+    talk: &mut Talk,
+    tenants: &mut Vec<Tenant>,
+    count: u32,
+) -> Result<(), Fault> {
     for turn in 0..u64::from(count) {
         let place = talk.below(TENANTS);
         if let Some(tenant) = tenants.get_mut(place as usize) {
@@ -49,29 +63,83 @@ pub(crate) fn serve_tenants(core: &mut Core, talk: &mut Talk, count: u32) -> Res
 // Lets a tenant in: its directory is made, and it makes some in that.
 fn let_in(core: &mut Core, talk: &mut Talk, number: u64) -> Result<Tenant, Fault> {
     let client = number.saturating_add(2);
-    let user = number.saturating_add(1000);
     let home = talk.make(
         core,
         format_args!("mkdir {ADMINISTRATOR} 1 tenant{number} 0777"),
     )?;
-    let _done = match number % 3 {
-        0 => talk.say(
-            core,
-            format_args!("session {client} {user} {user} - allow rw path=/tenant{number}"),
-        )?,
-        1 => talk.say(
-            core,
-            format_args!(
-                "session {client} {user} {user} 100,200 allow r path=/pub, allow rw path=/tenant{number} uid={user} gids={user},100"
-            ),
-        )?,
-        _ => talk.say(
-            core,
-            format_args!(
-                "session {client} {user} {user} 100 allow r path=/pub, allow rw path=/scratch root_squash, allow rwps path=/tenant{number}"
-            ),
-        )?,
-    };
+    open_session(core, talk, client, number)?;
+    let folders = make_folders(core, talk, client, home)?;
+    Ok(Tenant {
+        client,
+        folders,
+        files: Vec::new(talk.alloc()),
+    })
+}
+
+// Opens the tenant's session, by grants of one of three kinds.
+fn open_session(core: &mut Core, talk: &mut Talk, client: u64, number: u64) -> Result<(), Fault> {
+    let user = number.saturating_add(1000);
+    match number % 3 {
+        0 => open_by_path(core, talk, client, user, number),
+        1 => open_by_user(core, talk, client, user, number),
+        _ => open_squashed(core, talk, client, user, number),
+    }
+}
+
+fn open_by_path(
+    core: &mut Core,
+    talk: &mut Talk,
+    client: u64,
+    user: u64,
+    number: u64,
+) -> Result<(), Fault> {
+    let _done = talk.say(
+        core,
+        format_args!("session {client} {user} {user} - allow rw path=/tenant{number}"),
+    )?;
+    Ok(())
+}
+
+fn open_by_user(
+    core: &mut Core,
+    talk: &mut Talk,
+    client: u64,
+    user: u64,
+    number: u64,
+) -> Result<(), Fault> {
+    let _done = talk.say(
+        core,
+        format_args!(
+            "session {client} {user} {user} 100,200 allow r path=/pub, allow rw path=/tenant{number} uid={user} gids={user},100"
+        ),
+    )?;
+    Ok(())
+}
+
+// By grants of which one squashes root.
+fn open_squashed(
+    core: &mut Core,
+    talk: &mut Talk,
+    client: u64,
+    user: u64,
+    number: u64,
+) -> Result<(), Fault> {
+    let _done = talk.say(
+        core,
+        format_args!(
+            "session {client} {user} {user} 100 allow r path=/pub, allow rw path=/scratch root_squash, allow rwps path=/tenant{number}"
+        ),
+    )?;
+    Ok(())
+}
+
+// The directories that a tenant makes in its own.
+fn make_folders(
+    core: &mut Core,
+    talk: &mut Talk,
+    client: u64,
+    home: u64,
+) -> Result<Vec<u64>, Fault> {
     let mut folders = Vec::new(talk.alloc());
     for name in 0..FOLDERS {
         let folder = talk.make(
@@ -80,11 +148,7 @@ fn let_in(core: &mut Core, talk: &mut Talk, number: u64) -> Result<Tenant, Fault
         )?;
         folders.push(folder)?;
     }
-    Ok(Tenant {
-        client,
-        folders,
-        files: Vec::new(talk.alloc()),
-    })
+    Ok(folders)
 }
 
 // One round of a tenant: one request or a few, and what it is told of then.
@@ -138,18 +202,24 @@ fn use_file(
     file: File,
     dice: u64,
 ) -> Result<(), Fault> {
-    let File { ino, folder, name } = file;
-    let _heard = match dice {
-        0..25 => talk.say(core, format_args!("lookup {client} {folder} file{name}"))?,
-        25..45 => talk.say(core, format_args!("open {client} {ino} r"))?,
-        45..50 => talk.say(core, format_args!("open {client} {ino} rw"))?,
-        50..60 => talk.say(core, format_args!("want {client} {ino} pAsLsXsFsr"))?,
-        60..70 => talk.say(core, format_args!("release {client} {ino} p"))?,
+    let ino = file.ino;
+    let (word, ino, rest) = match dice {
+        0..25 => return look_up(core, talk, client, file),
+        25..45 => ("open", ino, "r"),
+        45..50 => ("open", ino, "rw"),
+        50..60 => ("want", ino, "pAsLsXsFsr"),
+        60..70 => ("release", ino, "p"),
         70..80 => return change_file(core, talk, client, ino, dice),
-        80..82 => talk.say(core, format_args!("get {client} {ino} A"))?,
-        83 => talk.say(core, format_args!("open {client} {} r", ino / 2))?,
-        _ => talk.say(core, format_args!("alter {client} 1 chmod 0700"))?,
+        80..82 => ("get", ino, "A"),
+        83 => ("open", ino / 2, "r"),
+        _ => ("alter", 1, "chmod 0700"),
     };
+    talk.use_inode(core, word, client, ino, rest)
+}
+
+fn look_up(core: &mut Core, talk: &mut Talk, client: u64, file: File) -> Result<(), Fault> {
+    let File { folder, name, .. } = file;
+    let _heard = talk.say(core, format_args!("lookup {client} {folder} file{name}"))?;
     Ok(())
 }
 
@@ -161,15 +231,20 @@ fn change_file(
     dice: u64,
 ) -> Result<(), Fault> {
     let value = talk.below(1 << 20);
-    let _heard = match dice % 4 {
-        0 => talk.say(core, format_args!("alter {client} {ino} size {value}"))?,
-        1 => talk.say(core, format_args!("alter {client} {ino} times {value}"))?,
-        2 => talk.say(core, format_args!("alter {client} {ino} chmod 0664"))?,
-        _ => talk.say(
-            core,
-            format_args!("alter {client} {ino} setx user.mark{} 0123abcd", value % 8),
-        )?,
-    };
+    match dice % 4 {
+        0 => talk.alter_number(core, client, ino, "size", value),
+        1 => talk.alter_number(core, client, ino, "times", value),
+        2 => talk.use_inode(core, "alter", client, ino, "chmod 0664"),
+        _ => mark(core, talk, client, ino, value % 8),
+    }
+}
+
+// Gives a file an attribute whose name has this number.
+fn mark(core: &mut Core, talk: &mut Talk, client: u64, ino: u64, number: u64) -> Result<(), Fault> {
+    let _heard = talk.say(
+        core,
+        format_args!("alter {client} {ino} setx user.mark{number} 0123abcd"),
+    )?;
     Ok(())
 }
 

@@ -132,38 +132,38 @@ pub(crate) enum Answer {
 /// The event by which it is asked for.
 pub(crate) fn event(alloc: Global, places: Places, asked: Asked) -> Result<Event, Fault> {
     let ino = places.file;
-    Ok(match asked {
-        Asked::Session(client) => session_of(alloc, client)?,
-        Asked::SessionWithSnapshots(client) => session_with_snapshots(alloc, client)?,
-        Asked::SessionBelow(client, number) => session_below(alloc, client, number)?,
-        Asked::SessionByMode(client) => session_by_mode(alloc, client)?,
-        Asked::Directory(number) => directory_of_number(alloc, ROOT, number)?,
-        Asked::Make(number) => creation_of(alloc, places.here, number)?,
-        Asked::Open(client, mode) => Event::Open { client, ino, mode },
-        Asked::Want(client, caps) => wanting(client, ino, caps),
-        Asked::Release(client, caps) => releasing(client, ino, caps),
-        Asked::Ack(client, seq) => Event::Ack { client, ino, seq },
-        Asked::Mode(client, bits) => altering(client, ino, set_mode(bits)?),
-        Asked::Attribute(client, name) => altering(client, ino, set_attribute(alloc, name)?),
-        Asked::NoAttribute(client, name) => altering(client, ino, remove_attribute(alloc, name)?),
-        Asked::Read(client, part) => Event::Get { client, ino, part },
-        Asked::Move(client) => moving(alloc, client, ino, places.there)?,
-        Asked::Carry(client) => moving(alloc, client, places.here, places.there)?,
-        Asked::CarryBack(client) => moving(alloc, client, places.here, ROOT)?,
-        Asked::Snapshot(client) => snapshot(alloc, client, places.here)?,
-        Asked::NoSnapshot(client) => no_snapshot(alloc, client, places.here)?,
-        Asked::Remove(client) => removal(client, places.here),
-        Asked::Unlink(client) => Event::Unlink { client, ino },
-        Asked::Poll(client) => polling(client),
-        Asked::Recall(count) => Event::Recall { count },
-        Asked::Close(client) => Event::CloseSession { client },
-        Asked::Stale(client) => Event::Stale { client },
-        Asked::Renew(client) => Event::Renew { client },
-        Asked::Regrant(client) => regrant_to_read(alloc, client)?,
-        Asked::GrantNothing(client) => regrant_to_nothing(alloc, client)?,
-        Asked::Evict(client) => Event::Evict { client },
-        Asked::Unblock(client) => Event::Unblock { client },
-    })
+    match asked {
+        Asked::Session(client) => session_of(alloc, client),
+        Asked::SessionWithSnapshots(client) => session_with_snapshots(alloc, client),
+        Asked::SessionBelow(client, number) => session_below(alloc, client, number),
+        Asked::SessionByMode(client) => session_by_mode(alloc, client),
+        Asked::Directory(number) => directory_of_number(alloc, ROOT, number),
+        Asked::Make(number) => creation_of(alloc, places.here, number),
+        Asked::Open(client, mode) => Ok(Event::Open { client, ino, mode }),
+        Asked::Want(client, caps) => Ok(wanting(client, ino, caps)),
+        Asked::Release(client, caps) => Ok(releasing(client, ino, caps)),
+        Asked::Ack(client, seq) => Ok(Event::Ack { client, ino, seq }),
+        Asked::Mode(client, bits) => mode_setting(client, ino, bits),
+        Asked::Attribute(client, name) => attribute_setting(alloc, client, ino, name),
+        Asked::NoAttribute(client, name) => attribute_removal(alloc, client, ino, name),
+        Asked::Read(client, part) => Ok(Event::Get { client, ino, part }),
+        Asked::Move(client) => moving(alloc, client, ino, places.there),
+        Asked::Carry(client) => moving(alloc, client, places.here, places.there),
+        Asked::CarryBack(client) => moving(alloc, client, places.here, ROOT),
+        Asked::Snapshot(client) => snapshot(alloc, client, places.here),
+        Asked::NoSnapshot(client) => no_snapshot(alloc, client, places.here),
+        Asked::Remove(client) => Ok(removal(client, places.here)),
+        Asked::Unlink(client) => Ok(Event::Unlink { client, ino }),
+        Asked::Poll(client) => Ok(polling(client)),
+        Asked::Recall(count) => Ok(Event::Recall { count }),
+        Asked::Close(client) => Ok(Event::CloseSession { client }),
+        Asked::Stale(client) => Ok(Event::Stale { client }),
+        Asked::Renew(client) => Ok(Event::Renew { client }),
+        Asked::Regrant(client) => regrant_to_read(alloc, client),
+        Asked::GrantNothing(client) => regrant_to_nothing(alloc, client),
+        Asked::Evict(client) => Ok(Event::Evict { client }),
+        Asked::Unblock(client) => Ok(Event::Unblock { client }),
+    }
 }
 
 fn wanting(client: ClientId, ino: Ino, caps: &[Cap]) -> Event {
@@ -184,15 +184,21 @@ fn altering(client: ClientId, ino: Ino, change: Change) -> Event {
     }
 }
 
-fn set_mode(bits: u16) -> Result<Change, Fault> {
-    Ok(Change::Set(Setting::Mode(mode_of(bits)?)))
+fn mode_setting(client: ClientId, ino: Ino, bits: u16) -> Result<Event, Fault> {
+    let change = Change::Set(Setting::Mode(mode_of(bits)?));
+    Ok(altering(client, ino, change))
 }
 
 // The attribute's value is its name.
-fn set_attribute(alloc: Global, name: &str) -> Result<Change, Fault> {
+fn attribute_setting(
+    alloc: Global,
+    client: ClientId,
+    ino: Ino,
+    name: &str,
+) -> Result<Event, Fault> {
     let value = Bytes::read(alloc, name.as_bytes())?;
     match Bytes::read(alloc, name.as_bytes()) {
-        Ok(name) => Ok(Change::SetXattr { name, value }),
+        Ok(name) => Ok(altering(client, ino, Change::SetXattr { name, value })),
         Err(refused) => {
             drop(value);
             Err(refused.into())
@@ -200,9 +206,14 @@ fn set_attribute(alloc: Global, name: &str) -> Result<Change, Fault> {
     }
 }
 
-fn remove_attribute(alloc: Global, name: &str) -> Result<Change, Fault> {
+fn attribute_removal(
+    alloc: Global,
+    client: ClientId,
+    ino: Ino,
+    name: &str,
+) -> Result<Event, Fault> {
     let name = Bytes::read(alloc, name.as_bytes())?;
-    Ok(Change::RemoveXattr { name })
+    Ok(altering(client, ino, Change::RemoveXattr { name }))
 }
 
 fn moving(alloc: Global, client: ClientId, ino: Ino, dir: Ino) -> Result<Event, Fault> {

@@ -69,20 +69,29 @@ fn asked(matches: &ArgMatches<'_>) -> Option<Task> {
 }
 
 fn capbench<'a>(alloc: Global) -> Result<Command<'a>, AllocError> {
-    let work = Arg::new(alloc, WORK)
+    blank_command(alloc).arg(work(alloc))?.arg(times(alloc))
+}
+
+// The command without its words.
+fn blank_command<'a>(alloc: Global) -> Command<'a> {
+    Command::new(alloc, CAPBENCH)
+        .about("Does a piece of the policy's work N times and prints a sum over its answers")
+        .after_help(WORKS)
+}
+
+fn work<'a>(alloc: Global) -> Arg<'a> {
+    Arg::new(alloc, WORK)
         .value_name("WORK")
         .help("The work, as verdict-4-8-plain")
         .required(true)
-        .action(ArgAction::Set);
-    let times = Arg::new(alloc, TIMES)
+        .action(ArgAction::Set)
+}
+
+fn times<'a>(alloc: Global) -> Arg<'a> {
+    Arg::new(alloc, TIMES)
         .value_name("N")
         .help("How many times it is done")
         .required(true)
         .value_parser(value_parser!(u32))
-        .action(ArgAction::Set);
-    Command::new(alloc, CAPBENCH)
-        .about("Does a piece of the policy's work N times and prints a sum over its answers")
-        .after_help(WORKS)
-        .arg(work)?
-        .arg(times)
+        .action(ArgAction::Set)
 }

@@ -53,30 +53,31 @@ fn run<T: Threads + Wait + Sync>(
     task: Task,
     writer: &mut impl Write,
 ) -> Result<(), Fault> {
-    let Tally {
-        sum,
-        stops,
-        starved,
-        late,
-    } = tally_of(rt, alloc, task)?;
-    writeln!(writer, "sum {sum}").map_err(|_| Fault::WriteFailed)?;
-    if stops > 0 {
-        writeln!(writer, "stops {stops}").map_err(|_| Fault::WriteFailed)?;
+    let tally = tally_of(rt, alloc, task)?;
+    write_number(writer, "sum", tally.sum)?;
+    write_some(writer, "stops", tally.stops)?;
+    write_some(writer, "starved", tally.starved)?;
+    write_some(writer, "late", tally.late)
+}
+
+// Writes a number as a line, unless it is 0.
+fn write_some(writer: &mut impl Write, word: &str, number: u64) -> Result<(), Fault> {
+    if number == 0 {
+        return Ok(());
     }
-    if starved > 0 {
-        writeln!(writer, "starved {starved}").map_err(|_| Fault::WriteFailed)?;
-    }
-    if late > 0 {
-        writeln!(writer, "late {late}").map_err(|_| Fault::WriteFailed)?;
-    }
-    Ok(())
+    write_number(writer, word, number)
+}
+
+// Writes a number as a line, behind the word that says what it counts.
+fn write_number(writer: &mut impl Write, word: &str, number: u64) -> Result<(), Fault> {
+    writeln!(writer, "{word} {number}").map_err(|_| Fault::WriteFailed)
 }
 
 // What a task comes to.
 fn tally_of<T: Threads + Wait + Sync>(rt: &T, alloc: Global, task: Task) -> Result<Tally, Fault> {
     match task.work {
-        Work::Verdict(shape) => Ok(Tally::of(judge(alloc, shape, task.times)?)),
-        Work::Parse(shape) => Ok(Tally::of(read(alloc, shape, task.times)?)),
+        Work::Verdict(shape) => Tally::of_sum(judge(alloc, shape, task.times)),
+        Work::Parse(shape) => Tally::of_sum(read(alloc, shape, task.times)),
         Work::Lookup(shape) => on_a_core(alloc, CoreWork::Lookup(shape), task.times),
         Work::Create(shape) => on_a_core(alloc, CoreWork::Create(shape), task.times),
         Work::Open(size) => on_a_core(alloc, CoreWork::Open(size), task.times),
@@ -88,7 +89,7 @@ fn tally_of<T: Threads + Wait + Sync>(rt: &T, alloc: Global, task: Task) -> Resu
         Work::Alter(size) => on_a_core(alloc, CoreWork::Alter(size), task.times),
         Work::Rename(size) => on_a_core(alloc, CoreWork::Rename(size), task.times),
         Work::Carry(size) => on_a_core(alloc, CoreWork::Carry(size), task.times),
-        Work::Explain(shape) => Ok(Tally::of(explain(rt, alloc, shape, task.times)?)),
+        Work::Explain(shape) => Tally::of_sum(explain(rt, alloc, shape, task.times)),
         Work::Retry => on_a_core(alloc, CoreWork::Retry, task.times),
         Work::Publish => publish(rt, alloc, task.times),
     }

@@ -43,25 +43,26 @@ pub(crate) enum CoreWork {
 /// keeps is carried through each way out of its owner.
 pub(crate) fn on_a_core(alloc: Global, work: CoreWork, times: u32) -> Result<Tally, Fault> {
     let mut core = fresh(alloc)?;
-    work_on(alloc, &mut core, work, times)
+    let tally = work_on(alloc, &mut core, work, times);
+    drop(core);
+    tally
 }
 
 fn work_on(alloc: Global, core: &mut Core, work: CoreWork, times: u32) -> Result<Tally, Fault> {
-    let sum = match work {
-        CoreWork::Lookup(shape) => look_up(alloc, core, shape, times)?,
-        CoreWork::Create(shape) => create(alloc, core, shape, times)?,
-        CoreWork::Open(size) => open(alloc, core, size, times)?,
-        CoreWork::Revoke(size) => revoke(alloc, core, size, times)?,
-        CoreWork::Want(size) => want_to_write(alloc, core, size, times)?,
-        CoreWork::Release(size) => reopen(alloc, core, size, times)?,
-        CoreWork::Share(size) => share_inodes(alloc, core, size, times)?,
-        CoreWork::Poll(size) => poll(alloc, core, size, times)?,
-        CoreWork::Alter(size) => alter(alloc, core, size, times)?,
-        CoreWork::Rename(size) => rename(alloc, core, size, times)?,
-        CoreWork::Carry(size) => carry(alloc, core, size, times)?,
-        CoreWork::Retry => return retry(alloc, core, times),
-    };
-    Ok(Tally::of(sum))
+    match work {
+        CoreWork::Lookup(shape) => Tally::of_sum(look_up(alloc, core, shape, times)),
+        CoreWork::Create(shape) => Tally::of_sum(create(alloc, core, shape, times)),
+        CoreWork::Open(size) => Tally::of_sum(open(alloc, core, size, times)),
+        CoreWork::Revoke(size) => Tally::of_sum(revoke(alloc, core, size, times)),
+        CoreWork::Want(size) => Tally::of_sum(want_to_write(alloc, core, size, times)),
+        CoreWork::Release(size) => Tally::of_sum(reopen(alloc, core, size, times)),
+        CoreWork::Share(size) => Tally::of_sum(share_inodes(alloc, core, size, times)),
+        CoreWork::Poll(size) => Tally::of_sum(poll(alloc, core, size, times)),
+        CoreWork::Alter(size) => Tally::of_sum(alter(alloc, core, size, times)),
+        CoreWork::Rename(size) => Tally::of_sum(rename(alloc, core, size, times)),
+        CoreWork::Carry(size) => Tally::of_sum(carry(alloc, core, size, times)),
+        CoreWork::Retry => retry(alloc, core, times),
+    }
 }
 
 // A core on a tree that has its root alone.

@@ -4,12 +4,13 @@ ghost use Rattle.std.specs.Prelude.{◌≡◌};
 ghost use Rattle.capserver.specs.Opened.{opened};
 
 use crate::fault::Fault;
-use crate::inodes::{CLIENT, birth, inode_at, root_tree, session_of, spread};
+use crate::inodes::{CLIENT, birth, inode_at, root_opening, session_of, spread};
 use crate::moving::{mode_at, mode_change};
 use crate::work::{AskShape, Layout, Size, Way};
+use capbits::Ino;
 use capcore::Event;
 use capgrant::{Access, Verdict};
-use capserver::{Answer, CapServer, NoGate, Opening, Pass, Question, Server, Unknown};
+use capserver::{Answer, CapServer, NoGate, Opening, Pass, Question, Server};
 use std::alloc::Global;
 use std::marker::Brand;
 use std::sync::atomic::{AtomicU64, Ordering};
@@ -27,8 +28,7 @@ pub(crate) fn explain<T: Threads + Wait + Sync>(
     shape: AskShape,
     times: u32,
 ) -> Result<u64, Fault> {
-    let (fs, tree) = root_tree(alloc)?;
-    let opening = Opening::new(alloc, fs, tree, u32::MAX)?;
+    let opening = root_opening(alloc)?;
     // One pass more than there are threads that ask.
     let count = shape.readers.number() + 1;
     served::<Brand, T>(rt, alloc, opening, Blank::new(32), count, shape, times)
@@ -72,6 +72,19 @@ fn ask_beside<L: Server + Send + Sync, T: Threads + Wait + Sync>(
         return Err(Fault::Refused);
     };
     make_tree(rt, alloc, server, &mut caller, shape.size)?;
+    ask_while_called(rt, alloc, server, caller, passes, shape, times)
+}
+
+// Has one pass call events in a thread until the others have asked in theirs.
+fn ask_while_called<L: Server + Send + Sync, T: Threads + Wait + Sync>(
+    rt: &T,
+    alloc: Global,
+    server: &CapServer<NoGate, L>,
+    caller: Pass<L>,
+    passes: Vec<Pass<L>>,
+    shape: AskShape,
+    times: u32,
+) -> Result<u64, Fault> {
     let (asking, lock) = (AtomicU64::new(ASKING), Mutex::new(()));
     let turnstile = match shape.way {
         Way::Beside => None,
@@ -138,16 +151,25 @@ fn call<L: Server, T: Wait>(
     turnstile: Option<&Mutex<()>>,
     event: Event,
 ) -> Result<(), Fault> {
-    let answer = match turnstile {
-        None => server.call(rt, pass, event),
+    match turnstile {
+        None => call_now(rt, server, pass, event),
         Some(lock) => {
             let guard = lock.lock(rt);
-            let answer = server.call(rt, pass, event);
+            let called = call_now(rt, server, pass, event);
             MutexGuard::unlock(guard);
-            answer
+            called
         }
-    };
-    let Answer { reply, fresh: _ } = answer?;
+    }
+}
+
+// What the server promises of an answer stays behind here.
+fn call_now<L: Server, T: Wait>(
+    rt: &T,
+    server: &CapServer<NoGate, L>,
+    pass: &mut Pass<L>,
+    event: Event,
+) -> Result<(), Fault> {
+    let Answer { reply, fresh: _ } = server.call(rt, pass, event)?;
     drop(reply);
     Ok(())
 }
@@ -212,34 +234,38 @@ fn ask<L: Server, T: Wait>(
     let mut pass = pass;
     let mut sum: u64 = 0;
     for turn in 0..times {
-        let question = Question {
-            client: CLIENT,
-            ino: inode_at(spread(turn, size.number())),
-            access: Access::Write,
-        };
-        let answer = ask_once(rt, server, &mut pass, turnstile, &question);
-        if matches!(answer, Ok(Verdict::Allowed { .. })) {
+        let ino = inode_at(spread(turn, size.number()));
+        if is_allowed(rt, server, &mut pass, turnstile, ino) {
             sum = sum.wrapping_add(1);
         }
     }
     sum
 }
 
-// Asks a question, under the lock if there is one.
-fn ask_once<L: Server, T: Wait>(
+// Asks whether the client may write an inode, under the lock if there is one.
+fn is_allowed<L: Server, T: Wait>(
     rt: &T,
     server: &CapServer<NoGate, L>,
     pass: &mut Pass<L>,
     turnstile: Option<&Mutex<()>>,
-    question: &Question,
-) -> Result<Verdict, Unknown> {
+    ino: Ino,
+) -> bool {
     match turnstile {
-        None => server.explain(pass, question),
+        None => is_allowed_now(server, pass, ino),
         Some(lock) => {
             let guard = lock.lock(rt);
-            let answer = server.explain(pass, question);
+            let answer = is_allowed_now(server, pass, ino);
             MutexGuard::unlock(guard);
             answer
         }
     }
+}
+
+fn is_allowed_now<L: Server>(server: &CapServer<NoGate, L>, pass: &mut Pass<L>, ino: Ino) -> bool {
+    let question = Question {
+        client: CLIENT,
+        ino,
+        access: Access::Write,
+    };
+    matches!(server.explain(pass, &question), Ok(Verdict::Allowed { .. }))
 }

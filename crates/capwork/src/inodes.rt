@@ -8,6 +8,7 @@ use crate::work::{Layout, TreeShape};
 use capbits::{Caller, ClientId, Groups, Ino, Mode, PassId};
 use capcore::{Core, Event, Stop};
 use capgrant::Attr;
+use capserver::Opening;
 use capspec::{FsName, Grants, read_grants};
 use inotree::{MAX_INODES, ROOT, Tree};
 use lockmachine::Bytes;
@@ -73,13 +74,18 @@ pub(crate) fn ask(
 ) -> Result<u64, Fault> {
     let mut sum: u64 = 0;
     for turn in 0..times {
-        let event = match asking {
-            Asking::Lookup => lookup(alloc, shape, turn)?,
-            Asking::Create => creation(alloc, shape, turn)?,
-        };
+        let event = event_at(alloc, shape, asking, turn)?;
         sum = sum.wrapping_add(answer(core, event)?);
     }
     Ok(sum)
+}
+
+// What is asked for at this turn.
+fn event_at(alloc: Global, shape: TreeShape, asking: Asking, turn: u32) -> Result<Event, Fault> {
+    match asking {
+        Asking::Lookup => lookup(alloc, shape, turn),
+        Asking::Create => creation(alloc, shape, turn),
+    }
 }
 
 // The event that looks up an inode of the tree.
@@ -100,21 +106,23 @@ fn creation(alloc: Global, shape: TreeShape, turn: u32) -> Result<Event, Fault> 
 
 // The event that makes a file, whose name has this number.
 pub(crate) fn creation_of(alloc: Global, dir: Ino, place: u64) -> Result<Event, Fault> {
+    let mode = mode()?;
     Ok(Event::Create {
         client: CLIENT,
         dir,
         name: name_of(alloc, place)?,
-        mode: mode()?,
+        mode,
     })
 }
 
 // The event that makes a directory, whose name has this number.
 pub(crate) fn directory_of_number(alloc: Global, dir: Ino, place: u64) -> Result<Event, Fault> {
+    let mode = mode()?;
     Ok(Event::Mkdir {
         client: CLIENT,
         dir,
         name: name_of(alloc, place)?,
-        mode: mode()?,
+        mode,
     })
 }
 
@@ -168,6 +176,12 @@ pub(crate) fn root_tree(alloc: Global) -> Result<(FsName, Tree), Fault>
     Ok((fs, tree))
 }
 
+/// What a server begins with: that tree, and no session.
+pub(crate) fn root_opening(alloc: Global) -> Result<Opening, Fault> {
+    let (fs, tree) = root_tree(alloc)?;
+    Ok(Opening::new(alloc, fs, tree, u32::MAX)?)
+}
+
 // The number of the inode that was made at this place, the root's being the first number.
 pub(crate) fn inode_at(place: u64) -> Ino
     requires { place ≤ 60000 }
@@ -193,7 +207,9 @@ pub(crate) fn mode_of(bits: u16) -> Result<Mode, Fault> {
 /// a reply to let go. Both stay behind here.
 pub(crate) fn ask_core(core: &mut Core, event: Event) -> Result<Answer, Stop> {
     let reply = core.apply(PASS, event)?;
-    Ok(read_reply(&reply))
+    let answer = read_reply(&reply);
+    drop(reply);
+    Ok(answer)
 }
 
 // The number of the inode that the core answers with.
@@ -234,6 +250,7 @@ pub(crate) fn session_by_mode(alloc: Global, client: ClientId) -> Result<Event, 
 
 // The event by which a client gets a session with these grants.
 fn session_by(alloc: Global, client: ClientId, grants: &[u8]) -> Result<Event, Fault> {
+    let grants = grants_of(alloc, grants)?;
     Ok(Event::Session {
         client,
         caller: Caller {
@@ -241,13 +258,18 @@ fn session_by(alloc: Global, client: ClientId, grants: &[u8]) -> Result<Event, F
             gid: USER,
             groups: Groups::new(),
         },
-        grants: read_grants(alloc, grants)?,
+        grants,
     })
+}
+
+// The grants of a text. What is promised of them stays behind here.
+fn grants_of(alloc: Global, text: &[u8]) -> Result<Grants, Fault> {
+    Ok(read_grants(alloc, text)?)
 }
 
 /// The event by which a client may read everywhere from then on, and nothing else.
 pub(crate) fn regrant_to_read(alloc: Global, client: ClientId) -> Result<Event, Fault> {
-    let grants = read_grants(alloc, b"allow r")?;
+    let grants = grants_of(alloc, b"allow r")?;
     Ok(Event::Regrant { client, grants })
 }
 
@@ -272,8 +294,8 @@ pub(crate) fn birth(alloc: Global, layout: Layout, place: u64) -> Result<Event, 
     requires { place ≤ 60000 }
 {
     let dir = directory_of(layout, place);
-    let name = name_of(alloc, place)?;
     let mode = mode()?;
+    let name = name_of(alloc, place)?;
     Ok(match layout {
         Layout::Flat => Event::Create {
             client: CLIENT,

@@ -21,9 +21,19 @@ const MODE: u16 = 0o644;
 
 /// Reads grants once, judges an access by them so many times, and returns the sum of what the verdicts score.
 pub fn judge(alloc: Global, shape: GrantShape, times: u32) -> Result<u64, Fault> {
-    let grants = read_grants(alloc, grants_text(alloc, shape)?.as_bytes())?;
+    let grants = grants_of(alloc, shape)?;
     let path = path_text(alloc, shape.depth)?;
     let names = names_of(alloc, path.as_str())?;
+    judge_often(&grants, names.as_slice(), times)
+}
+
+// The grants of this shape. What is promised of them stays behind here.
+fn grants_of(alloc: Global, shape: GrantShape) -> Result<Grants, Fault> {
+    let text = grants_text(alloc, shape)?;
+    Ok(read_grants(alloc, text.as_bytes())?)
+}
+
+fn judge_often(grants: &Grants, names: &[&[u8]], times: u32) -> Result<u64, Fault> {
     let caller = caller()?;
     let (Some(fs), Some(mode)) = (FsName::read(FS), Mode::new(MODE)) else {
         return Err(Fault::Refused);
@@ -35,17 +45,15 @@ pub fn judge(alloc: Global, shape: GrantShape, times: u32) -> Result<u64, Fault>
     };
     let mut sum: u64 = 0;
     for _ in 0..times {
-        let verdict = verdict(
-            &grants,
-            &fs,
-            &caller,
-            names.as_slice(),
-            &attr,
-            Access::Write,
-        );
-        sum = sum.wrapping_add(score(&verdict));
+        sum = sum.wrapping_add(judge_once(grants, &fs, &caller, names, &attr));
     }
     Ok(sum)
+}
+
+// What one verdict scores. It is inlined, as the verdict is into it.
+#[inline(always)]
+fn judge_once(grants: &Grants, fs: &FsName, caller: &Caller, names: &[&[u8]], attr: &Attr) -> u64 {
+    score(&verdict(grants, fs, caller, names, attr, Access::Write))
 }
 
 /// Reads a grant text so many times, and returns how many grants were read in all.

@@ -5,7 +5,7 @@ ghost use Rattle.capserver.specs.Opened.{opened};
 
 use crate::asked::{Answer, Asked, Places, event, polling, read_reply};
 use crate::fault::Fault;
-use crate::inodes::{CLIENT, root_tree};
+use crate::inodes::{CLIENT, root_opening};
 use crate::tally::Tally;
 use capbits::{Cap, ClientId, Ino};
 use capcore::{Event, OpenMode, Stop};
@@ -66,173 +66,210 @@ use Told::*;
 type Asks = (ClientId, Ino, Access);
 
 /// An event with its answer, and a question, with what it is answered before the event and behind it.
-type Turn = (Asked, Answer, Asks, Told, Told);
+#[derive(Clone, Copy)]
+struct Turn {
+    asked: Asked,
+    answer: Answer,
+    question: Asks,
+    before: Told,
+    after: Told,
+}
+
+/// What is answered to an event, and whether that is published.
+#[derive(Clone, Copy)]
+struct Called {
+    answer: Answer,
+    is_fresh: bool,
+}
 
 const ALL: &[Cap] = &[Cap::P, Cap::Fs, Cap::Fx, Cap::Fc, Cap::Fr, Cap::Fw, Cap::Fb];
 
 // Clients come, two directories and a file are made, and the file is moved to where the tenant may do nothing.
 const COMING: &[Turn] = &[
-    (
-        Asked::SessionWithSnapshots(CLIENT),
-        Answer::Done,
-        (CLIENT, ROOT, Access::Read),
-        NoSession,
-        Allowed,
-    ),
-    (
-        Asked::Session(OTHER),
-        Answer::Done,
-        (OTHER, ROOT, Access::Write),
-        NoSession,
-        Allowed,
-    ),
-    (
-        Asked::SessionBelow(TENANT, TENANT_NUMBER),
-        Answer::Done,
-        (TENANT, ROOT, Access::Read),
-        NoSession,
-        Denied,
-    ),
-    (
-        Asked::Directory(TENANT_NUMBER),
-        Answer::Inode(2),
-        (TENANT, HERE, Access::Read),
-        NoIno,
-        Allowed,
-    ),
-    (
-        Asked::Directory(OTHER_NUMBER),
-        Answer::Inode(3),
-        (TENANT, THERE, Access::Read),
-        NoIno,
-        Denied,
-    ),
-    (
-        Asked::Make(FILE_NUMBER),
-        Answer::Inode(4),
-        (TENANT, FILE, Access::Read),
-        NoIno,
-        Allowed,
-    ),
-    (
-        Asked::Move(CLIENT),
-        Answer::Done,
-        (TENANT, FILE, Access::Read),
-        Allowed,
-        Denied,
-    ),
+    Turn {
+        asked: Asked::SessionWithSnapshots(CLIENT),
+        answer: Answer::Done,
+        question: (CLIENT, ROOT, Access::Read),
+        before: NoSession,
+        after: Allowed,
+    },
+    Turn {
+        asked: Asked::Session(OTHER),
+        answer: Answer::Done,
+        question: (OTHER, ROOT, Access::Write),
+        before: NoSession,
+        after: Allowed,
+    },
+    Turn {
+        asked: Asked::SessionBelow(TENANT, TENANT_NUMBER),
+        answer: Answer::Done,
+        question: (TENANT, ROOT, Access::Read),
+        before: NoSession,
+        after: Denied,
+    },
+    Turn {
+        asked: Asked::Directory(TENANT_NUMBER),
+        answer: Answer::Inode(2),
+        question: (TENANT, HERE, Access::Read),
+        before: NoIno,
+        after: Allowed,
+    },
+    Turn {
+        asked: Asked::Directory(OTHER_NUMBER),
+        answer: Answer::Inode(3),
+        question: (TENANT, THERE, Access::Read),
+        before: NoIno,
+        after: Denied,
+    },
+    Turn {
+        asked: Asked::Make(FILE_NUMBER),
+        answer: Answer::Inode(4),
+        question: (TENANT, FILE, Access::Read),
+        before: NoIno,
+        after: Allowed,
+    },
+    Turn {
+        asked: Asked::Move(CLIENT),
+        answer: Answer::Done,
+        question: (TENANT, FILE, Access::Read),
+        before: Allowed,
+        after: Denied,
+    },
 ];
 
 // Grants and a mode change.
 const CHANGING: &[Turn] = &[
-    (
-        Asked::Regrant(OTHER),
-        Answer::Done,
-        (OTHER, ROOT, Access::Write),
-        Allowed,
-        Denied,
-    ),
-    (
-        Asked::GrantNothing(OTHER),
-        Answer::Done,
-        (OTHER, ROOT, Access::Read),
-        Allowed,
-        Denied,
-    ),
-    (
-        Asked::SessionByMode(ONE_USER),
-        Answer::Done,
-        (ONE_USER, FILE, Access::Write),
-        NoSession,
-        Allowed,
-    ),
-    (
-        Asked::Mode(CLIENT, 0o400),
-        Answer::Done,
-        (ONE_USER, FILE, Access::Write),
-        Allowed,
-        Denied,
-    ),
+    Turn {
+        asked: Asked::Regrant(OTHER),
+        answer: Answer::Done,
+        question: (OTHER, ROOT, Access::Write),
+        before: Allowed,
+        after: Denied,
+    },
+    Turn {
+        asked: Asked::GrantNothing(OTHER),
+        answer: Answer::Done,
+        question: (OTHER, ROOT, Access::Read),
+        before: Allowed,
+        after: Denied,
+    },
+    Turn {
+        asked: Asked::SessionByMode(ONE_USER),
+        answer: Answer::Done,
+        question: (ONE_USER, FILE, Access::Write),
+        before: NoSession,
+        after: Allowed,
+    },
+    Turn {
+        asked: Asked::Mode(CLIENT, 0o400),
+        answer: Answer::Done,
+        question: (ONE_USER, FILE, Access::Write),
+        before: Allowed,
+        after: Denied,
+    },
 ];
 
 // A directory has a snapshot for a while, of which readers are told nothing, and goes. Grants that change in that while are copied for
 // readers; where memory for these is refused, the whole tree is copied, with the snapshot: the directory has to go from that copy too.
 const REMOVING: &[Turn] = &[
-    (
-        Asked::Snapshot(CLIENT),
-        Answer::Done,
-        (CLIENT, HERE, Access::Read),
-        Allowed,
-        Allowed,
-    ),
-    (
-        Asked::Regrant(OTHER),
-        Answer::Done,
-        (OTHER, ROOT, Access::Read),
-        Denied,
-        Allowed,
-    ),
-    (
-        Asked::NoSnapshot(CLIENT),
-        Answer::Done,
-        (CLIENT, HERE, Access::Read),
-        Allowed,
-        Allowed,
-    ),
-    (
-        Asked::Remove(CLIENT),
-        Answer::Done,
-        (CLIENT, HERE, Access::Read),
-        Allowed,
-        NoIno,
-    ),
+    Turn {
+        asked: Asked::Snapshot(CLIENT),
+        answer: Answer::Done,
+        question: (CLIENT, HERE, Access::Read),
+        before: Allowed,
+        after: Allowed,
+    },
+    Turn {
+        asked: Asked::Regrant(OTHER),
+        answer: Answer::Done,
+        question: (OTHER, ROOT, Access::Read),
+        before: Denied,
+        after: Allowed,
+    },
+    Turn {
+        asked: Asked::NoSnapshot(CLIENT),
+        answer: Answer::Done,
+        question: (CLIENT, HERE, Access::Read),
+        before: Allowed,
+        after: Allowed,
+    },
+    Turn {
+        asked: Asked::Remove(CLIENT),
+        answer: Answer::Done,
+        question: (CLIENT, HERE, Access::Read),
+        before: Allowed,
+        after: NoIno,
+    },
 ];
 
 // The file is unlinked while it is open, and given back; then clients go.
 const GOING: &[Turn] = &[
-    (
-        Asked::Open(CLIENT, OpenMode::ReadWrite),
-        Answer::Change(1),
-        (CLIENT, FILE, Access::Read),
-        Allowed,
-        Allowed,
-    ),
-    (
-        Asked::Unlink(CLIENT),
-        Answer::Done,
-        (CLIENT, FILE, Access::Read),
-        Allowed,
-        Gone,
-    ),
-    (
-        Asked::Release(CLIENT, ALL),
-        Answer::Done,
-        (CLIENT, FILE, Access::Read),
-        Gone,
-        NoIno,
-    ),
-    (
-        Asked::Evict(TENANT),
-        Answer::Done,
-        (TENANT, ROOT, Access::Read),
-        Denied,
-        NoSession,
-    ),
-    (
-        Asked::Unblock(TENANT),
-        Answer::Done,
-        (TENANT, ROOT, Access::Read),
-        NoSession,
-        NoSession,
-    ),
-    (
-        Asked::Close(OTHER),
-        Answer::Done,
-        (OTHER, ROOT, Access::Read),
-        Allowed,
-        NoSession,
-    ),
+    Turn {
+        asked: Asked::Open(CLIENT, OpenMode::ReadWrite),
+        answer: Answer::Change(1),
+        question: (CLIENT, FILE, Access::Read),
+        before: Allowed,
+        after: Allowed,
+    },
+    Turn {
+        asked: Asked::Unlink(CLIENT),
+        answer: Answer::Done,
+        question: (CLIENT, FILE, Access::Read),
+        before: Allowed,
+        after: Gone,
+    },
+    Turn {
+        asked: Asked::Release(CLIENT, ALL),
+        answer: Answer::Done,
+        question: (CLIENT, FILE, Access::Read),
+        before: Gone,
+        after: NoIno,
+    },
+    Turn {
+        asked: Asked::Evict(TENANT),
+        answer: Answer::Done,
+        question: (TENANT, ROOT, Access::Read),
+        before: Denied,
+        after: NoSession,
+    },
+    Turn {
+        asked: Asked::Unblock(TENANT),
+        answer: Answer::Done,
+        question: (TENANT, ROOT, Access::Read),
+        before: NoSession,
+        after: NoSession,
+    },
+    Turn {
+        asked: Asked::Close(OTHER),
+        answer: Answer::Done,
+        question: (OTHER, ROOT, Access::Read),
+        before: Allowed,
+        after: NoSession,
+    },
 ];
+
+/// The parts of the script, in the order in which they are played.
+const PARTS: [Part; 4] = [Part::Coming, Part::Changing, Part::Removing, Part::Going];
+
+/// A part of the script. Its turns are written out where they are named, so that this is in a function without anything strong.
+#[derive(Clone, Copy)]
+enum Part {
+    Coming,
+    Changing,
+    Removing,
+    Going,
+}
+
+impl Part {
+    fn turns(self) -> &'static [Turn] {
+        match self {
+            Part::Coming => COMING,
+            Part::Changing => CHANGING,
+            Part::Removing => REMOVING,
+            Part::Going => GOING,
+        }
+    }
+}
 
 /// Serves so many times, each time by a server of its own. The sum is that of the rows of their histories.
 pub(crate) fn publish<T: Wait>(rt: &T, alloc: Global, times: u32) -> Result<Tally, Fault> {
@@ -244,8 +281,7 @@ pub(crate) fn publish<T: Wait>(rt: &T, alloc: Global, times: u32) -> Result<Tall
 }
 
 fn serve<T: Wait>(rt: &T, alloc: Global, tally: &mut Tally) -> Result<(), Fault> {
-    let (fs, tree) = root_tree(alloc)?;
-    let opening = Opening::new(alloc, fs, tree, u32::MAX)?;
+    let opening = root_opening(alloc)?;
     // One calls, and one asks alone.
     let count = 2;
     served::<Brand, T>(rt, alloc, opening, Blank::new(32), count, tally)
@@ -269,11 +305,21 @@ fn served<L: Server, T: Wait>(
         return Err(Fault::NoMemory);
     };
     let ended = take_all(rt, alloc, &server, passes, tally);
+    add_rows(rt, alloc, server, tally);
+    ended
+}
+
+// Ends the server, and adds the number of its rows to the sum.
+fn add_rows<L: Server, T: Wait>(
+    rt: &T,
+    alloc: Global,
+    server: CapServer<NoGate, L>,
+    tally: &mut Tally,
+) {
     let closed = server.close(rt, Vec::new(alloc));
     let rows = closed.core.history().len() as u64;
     drop(closed);
     tally.sum = tally.sum.wrapping_add(rows);
-    ended
 }
 
 // Takes all turns: the first pass calls.
@@ -285,19 +331,46 @@ fn take_all<L: Server, T: Wait>(
     tally: &mut Tally,
 ) -> Result<(), Fault> {
     let mut passes = passes;
-    let (Some(mut reader), Some(mut caller)) = (passes.pop(), passes.pop()) else {
+    let Some(mut reader) = passes.pop() else {
         return Err(Fault::Refused);
     };
-    for part in [COMING, CHANGING, REMOVING, GOING] {
-        for turn in part {
-            take(rt, alloc, server, &mut caller, *turn, tally)?;
-            see(server, &mut reader, turn.2, turn.4)?;
-        }
+    let Some(mut caller) = passes.pop() else {
+        return Err(Fault::Refused);
+    };
+    take_parts(rt, alloc, server, &mut caller, &mut reader, tally)
+}
+
+fn take_parts<L: Server, T: Wait>(
+    rt: &T,
+    alloc: Global,
+    server: &CapServer<NoGate, L>,
+    caller: &mut Pass<L>,
+    reader: &mut Pass<L>,
+    tally: &mut Tally,
+) -> Result<(), Fault> {
+    for part in PARTS {
+        take_turns(rt, alloc, server, caller, reader, part.turns(), tally)?;
     }
     Ok(())
 }
 
-// Makes the event of a turn. Where it isn't published, the question is answered as before until the next event is.
+fn take_turns<L: Server, T: Wait>(
+    rt: &T,
+    alloc: Global,
+    server: &CapServer<NoGate, L>,
+    caller: &mut Pass<L>,
+    reader: &mut Pass<L>,
+    turns: &[Turn],
+    tally: &mut Tally,
+) -> Result<(), Fault> {
+    for turn in turns {
+        take(rt, alloc, server, caller, *turn, tally)?;
+        see(server, reader, turn.question, turn.after)?;
+    }
+    Ok(())
+}
+
+// Makes the event of a turn.
 fn take<L: Server, T: Wait>(
     rt: &T,
     alloc: Global,
@@ -306,15 +379,24 @@ fn take<L: Server, T: Wait>(
     turn: Turn,
     tally: &mut Tally,
 ) -> Result<(), Fault> {
-    let (_asked, _answer, question, before, after) = turn;
-    see(server, pass, question, before)?;
-    let fresh = make(rt, alloc, server, pass, turn, tally)?;
-    if !fresh {
-        tally.late = tally.late.wrapping_add(1);
-        see(server, pass, question, before)?;
-        catch_up(rt, server, pass, tally)?;
+    see(server, pass, turn.question, turn.before)?;
+    if !make(rt, alloc, server, pass, turn, tally)? {
+        publish_late(rt, server, pass, turn, tally)?;
     }
-    see(server, pass, question, after)
+    see(server, pass, turn.question, turn.after)
+}
+
+// Where the event isn't published, the question is answered as before until the next event is.
+fn publish_late<L: Server, T: Wait>(
+    rt: &T,
+    server: &CapServer<NoGate, L>,
+    pass: &mut Pass<L>,
+    turn: Turn,
+    tally: &mut Tally,
+) -> Result<(), Fault> {
+    tally.late = tally.late.wrapping_add(1);
+    see(server, pass, turn.question, turn.before)?;
+    catch_up(rt, server, pass, tally)
 }
 
 // Calls the event of a turn until it is made, and says whether it is published. A call that finds no memory changes nothing that is seen.
@@ -323,25 +405,39 @@ fn make<L: Server, T: Wait>(
     alloc: Global,
     server: &CapServer<NoGate, L>,
     pass: &mut Pass<L>,
-    (asked, answer, question, before, _after): Turn,
+    turn: Turn,
     tally: &mut Tally,
 ) -> Result<bool, Fault> {
     for _ in 0..TRIES {
-        match call_for(rt, alloc, server, pass, asked) {
-            Err(Stop::NoMemory) => tally.stops = tally.stops.wrapping_add(1),
-            Err(stop) => return Err(Fault::Stopped(stop)),
-            Ok((Answer::NoMemory, _fresh)) => tally.starved = tally.starved.wrapping_add(1),
-            Ok((found, fresh)) => {
-                return if found == answer {
-                    Ok(fresh)
-                } else {
-                    Err(Fault::Refused)
-                };
-            }
+        let called = call_for(rt, alloc, server, pass, turn.asked);
+        if let Some(called) = made(called, tally)? {
+            return is_fresh(called, turn.answer);
         }
-        see(server, pass, question, before)?;
+        see(server, pass, turn.question, turn.before)?;
     }
     Err(Fault::InVain)
+}
+
+// What a call came to, unless it found no memory, which is counted.
+fn made(called: Result<Called, Stop>, tally: &mut Tally) -> Result<Option<Called>, Fault> {
+    match called {
+        Err(Stop::NoMemory) => tally.stops = tally.stops.wrapping_add(1),
+        Err(stop) => return Err(Fault::Stopped(stop)),
+        Ok(called) if called.answer == Answer::NoMemory => {
+            tally.starved = tally.starved.wrapping_add(1);
+        }
+        Ok(called) => return Ok(Some(called)),
+    }
+    Ok(None)
+}
+
+// Whether a call is published that has to be answered so.
+fn is_fresh(called: Called, wanted: Answer) -> Result<bool, Fault> {
+    if called.answer == wanted {
+        Ok(called.is_fresh)
+    } else {
+        Err(Fault::Refused)
+    }
 }
 
 // Calls for messages until that is published, and with it what was not.
@@ -355,8 +451,8 @@ fn catch_up<L: Server, T: Wait>(
         match call(rt, server, pass, polling(CLIENT)) {
             Err(Stop::NoMemory) => tally.stops = tally.stops.wrapping_add(1),
             Err(stop) => return Err(Fault::Stopped(stop)),
-            Ok((_messages, true)) => return Ok(()),
-            Ok((_messages, false)) => tally.late = tally.late.wrapping_add(1),
+            Ok(Called { is_fresh: true, .. }) => return Ok(()),
+            Ok(_) => tally.late = tally.late.wrapping_add(1),
         }
     }
     Err(Fault::InVain)
@@ -369,22 +465,26 @@ fn call_for<L: Server, T: Wait>(
     server: &CapServer<NoGate, L>,
     pass: &mut Pass<L>,
     asked: Asked,
-) -> Result<(Answer, bool), Stop> {
+) -> Result<Called, Stop> {
     match event(alloc, PLACES, asked) {
         Ok(event) => call(rt, server, pass, event),
         Err(_fault) => Err(Stop::NoMemory),
     }
 }
 
-// What is answered to an event, and whether that is published.
 fn call<L: Server, T: Wait>(
     rt: &T,
     server: &CapServer<NoGate, L>,
     pass: &mut Pass<L>,
     event: Event,
-) -> Result<(Answer, bool), Stop> {
-    let answer = server.call(rt, pass, event)?;
-    Ok((read_reply(&answer.reply), answer.fresh))
+) -> Result<Called, Stop> {
+    let capserver::Answer { reply, fresh } = server.call(rt, pass, event)?;
+    let answer = read_reply(&reply);
+    drop(reply);
+    Ok(Called {
+        answer,
+        is_fresh: fresh,
+    })
 }
 
 // Asks, and sees that the answer is the wanted one.

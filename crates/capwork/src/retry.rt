@@ -34,14 +34,17 @@ const BESIDE_NUMBER: u64 = 5_000_000;
 
 const LOSING_NUMBER: u64 = 6_000_000;
 
-const SESSIONS: &[(Asked, Answer)] = &[
+/// What is asked for, and what is to be answered.
+type Line = (Asked, Answer);
+
+const SESSIONS: &[Line] = &[
     (Asked::Session(CLIENT), Answer::Done),
     (Asked::Session(OTHER), Answer::Done),
     (Asked::SessionBelow(TENANT, TENANT_NUMBER), Answer::Done),
 ];
 
 // The first client has the file for itself and gives way to the other, then both read it, and then the first is alone.
-const ROUND: &[(Asked, Answer)] = &[
+const ROUND: &[Line] = &[
     (Asked::Open(CLIENT, OpenMode::ReadWrite), Answer::Change(1)),
     (Asked::Open(OTHER, OpenMode::Read), Answer::Change(1)),
     (Asked::Poll(CLIENT), Answer::Message(2)),
@@ -59,7 +62,7 @@ const ROUND: &[(Asked, Answer)] = &[
 
 // A change waits until two clients have given up what they cache of it, and the file is moved away before, so that who asked
 // may not make it any more. Then attributes come, go and are read, and one more waits for the other client.
-const WAITING: &[(Asked, Answer)] = &[
+const WAITING: &[Line] = &[
     (Asked::Open(CLIENT, OpenMode::Read), Answer::Change(1)),
     (Asked::Want(CLIENT, &[Cap::As]), Answer::Change(2)),
     (Asked::Open(OTHER, OpenMode::Read), Answer::Change(1)),
@@ -88,7 +91,7 @@ const WAITING: &[(Asked, Answer)] = &[
 ];
 
 // The directory goes to where the third client may do all, and there it and another have one of the files open.
-const BESIDE: &[(Asked, Answer)] = &[
+const BESIDE: &[Line] = &[
     (Asked::Carry(CLIENT), Answer::Done),
     (Asked::Open(TENANT, OpenMode::Read), Answer::Change(1)),
     (Asked::Open(OTHER, OpenMode::Read), Answer::Change(1)),
@@ -96,7 +99,7 @@ const BESIDE: &[(Asked, Answer)] = &[
 
 // Both have the other file open too. The directory is moved out, so that the third loses all on both files, and back in, which
 // returns what it did not acknowledge; then out again, and it acknowledges, for which a change of the mode has waited.
-const LOSING_BY_MOVES: &[(Asked, Answer)] = &[
+const LOSING_BY_MOVES: &[Line] = &[
     (Asked::Open(TENANT, OpenMode::ReadWrite), Answer::Change(1)),
     (
         Asked::Want(TENANT, &[Cap::As, Cap::Fr, Cap::Fw]),
@@ -123,7 +126,7 @@ const LOSING_BY_MOVES: &[(Asked, Answer)] = &[
 
 // The fourth client loses all by a mode, and gets it back by another before it acknowledges. Then a change that waits for what
 // another client caches takes from it that it writes, which it gives back by itself.
-const LOSING_BY_MODES: &[(Asked, Answer)] = &[
+const LOSING_BY_MODES: &[Line] = &[
     (Asked::SessionByMode(ONE_USER), Answer::Done),
     (
         Asked::Open(ONE_USER, OpenMode::ReadWrite),
@@ -152,7 +155,7 @@ const LOSING_BY_MODES: &[(Asked, Answer)] = &[
 // The directory is moved in once more, which returns what the third still holds of the one file, and it opens the other. Its
 // grants go, and with them all of both files, of which new ones return what it may read. At last they go again, and its session
 // ends before it acknowledges.
-const LOSING_BY_GRANTS: &[(Asked, Answer)] = &[
+const LOSING_BY_GRANTS: &[Line] = &[
     (Asked::Carry(CLIENT), Answer::Done),
     (Asked::Open(TENANT, OpenMode::ReadWrite), Answer::Change(1)),
     (Asked::Poll(TENANT), Answer::Message(5)),
@@ -175,7 +178,7 @@ const LOSING_BY_GRANTS: &[(Asked, Answer)] = &[
 // What was left alone longest is asked back. Then the first client is thrown out while two changes wait for what it holds, of
 // which one is its own, and the other's may not be made any more; it comes back, is stale for a while, in which it gets other
 // grants, and the other ends its session.
-const ENDING: &[(Asked, Answer)] = &[
+const ENDING: &[Line] = &[
     (Asked::Recall(1), Answer::Recalled(1)),
     (Asked::Poll(CLIENT), Answer::AskedBack),
     (Asked::Release(OTHER, &[Cap::As]), Answer::Done),
@@ -196,6 +199,34 @@ const ENDING: &[(Asked, Answer)] = &[
     (Asked::Poll(OTHER), Answer::NoMessage),
 ];
 
+/// A part of the script. Its lines are written out where they are named, so that this is in a function without a core.
+#[derive(Clone, Copy)]
+enum Scene {
+    Sessions,
+    Round,
+    Waiting,
+    Beside,
+    LosingByMoves,
+    LosingByModes,
+    LosingByGrants,
+    Ending,
+}
+
+impl Scene {
+    fn lines(self) -> &'static [Line] {
+        match self {
+            Scene::Sessions => SESSIONS,
+            Scene::Round => ROUND,
+            Scene::Waiting => WAITING,
+            Scene::Beside => BESIDE,
+            Scene::LosingByMoves => LOSING_BY_MOVES,
+            Scene::LosingByModes => LOSING_BY_MODES,
+            Scene::LosingByGrants => LOSING_BY_GRANTS,
+            Scene::Ending => ENDING,
+        }
+    }
+}
+
 /// Has two clients share so many files, one after another, then wait for one more, lose what they hold of others, and end
 /// their sessions. The sum is the hash of the core in the end.
 pub(crate) fn retry(alloc: Global, core: &mut Core, times: u32) -> Result<Tally, Fault> {
@@ -205,7 +236,7 @@ pub(crate) fn retry(alloc: Global, core: &mut Core, times: u32) -> Result<Tally,
         here: ROOT,
         there: ROOT,
     };
-    play(alloc, core, at_root, SESSIONS, &mut tally)?;
+    play(alloc, core, at_root, Scene::Sessions, &mut tally)?;
     for round in 0..times {
         let file = made(
             alloc,
@@ -214,7 +245,13 @@ pub(crate) fn retry(alloc: Global, core: &mut Core, times: u32) -> Result<Tally,
             Asked::Make(u64::from(round)),
             &mut tally,
         )?;
-        play(alloc, core, Places { file, ..at_root }, ROUND, &mut tally)?;
+        play(
+            alloc,
+            core,
+            Places { file, ..at_root },
+            Scene::Round,
+            &mut tally,
+        )?;
     }
     wait(alloc, core, at_root, &mut tally)?;
     tally.sum = digest_of(core);
@@ -232,17 +269,23 @@ fn wait(alloc: Global, core: &mut Core, at_root: Places, tally: &mut Tally) -> R
         there,
     };
     let file = made(alloc, core, places, Asked::Make(WAITING_NUMBER), tally)?;
-    play(alloc, core, Places { file, ..places }, WAITING, tally)?;
+    play(
+        alloc,
+        core,
+        Places { file, ..places },
+        Scene::Waiting,
+        tally,
+    )?;
     lose(alloc, core, here, tally)?;
-    play(alloc, core, Places { file, ..places }, ENDING, tally)
+    play(alloc, core, Places { file, ..places }, Scene::Ending, tally)
 }
 
 // Has clients lose what they hold, by moves in and out of the third client's directory, by modes and by grants.
 fn lose(alloc: Global, core: &mut Core, tenants: Ino, tally: &mut Tally) -> Result<(), Fault> {
     let places = made_to_lose(alloc, core, tenants, tally)?;
-    play(alloc, core, places, LOSING_BY_MOVES, tally)?;
-    play(alloc, core, places, LOSING_BY_MODES, tally)?;
-    play(alloc, core, places, LOSING_BY_GRANTS, tally)
+    play(alloc, core, places, Scene::LosingByMoves, tally)?;
+    play(alloc, core, places, Scene::LosingByModes, tally)?;
+    play(alloc, core, places, Scene::LosingByGrants, tally)
 }
 
 // Makes a directory with two files, and has one of them opened. The other is the one that is then asked about.
@@ -260,20 +303,20 @@ fn made_to_lose(
     let here = made(alloc, core, at_root, Asked::Directory(MOVED_NUMBER), tally)?;
     let places = Places { here, ..at_root };
     let file = made(alloc, core, places, Asked::Make(BESIDE_NUMBER), tally)?;
-    play(alloc, core, Places { file, ..places }, BESIDE, tally)?;
+    play(alloc, core, Places { file, ..places }, Scene::Beside, tally)?;
     let file = made(alloc, core, places, Asked::Make(LOSING_NUMBER), tally)?;
     Ok(Places { file, ..places })
 }
 
-// Asks for all that the script asks for, of one file.
+// Asks for all that a part of the script asks for, of one file.
 fn play(
     alloc: Global,
     core: &mut Core,
     places: Places,
-    script: &[(Asked, Answer)],
+    scene: Scene,
     tally: &mut Tally,
 ) -> Result<(), Fault> {
-    for (asked, wanted) in script {
+    for (asked, wanted) in scene.lines() {
         let answer = answer_to(alloc, core, places, *asked, tally)?;
         if answer != *wanted {
             return Err(Fault::Refused);
@@ -330,14 +373,17 @@ fn answer_once(
     tally: &mut Tally,
 ) -> Result<Answer, Fault> {
     let before = digest_of(core);
-    match ask_core(core, event(alloc, places, asked)?) {
-        Ok(answer) => return Ok(answer),
-        Err(Stop::NoMemory) => (),
-        Err(stop) => return Err(Fault::Stopped(stop)),
+    match ask_for(alloc, core, places, asked) {
+        Err(Fault::Stopped(Stop::NoMemory)) => (),
+        answer => return answer,
     }
     if digest_of(core) != before {
         return Err(Fault::Changed);
     }
     tally.stops = tally.stops.wrapping_add(1);
+    ask_for(alloc, core, places, asked)
+}
+
+fn ask_for(alloc: Global, core: &mut Core, places: Places, asked: Asked) -> Result<Answer, Fault> {
     Ok(ask_core(core, event(alloc, places, asked)?)?)
 }

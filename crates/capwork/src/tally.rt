@@ -1,5 +1,7 @@
 //! What a piece of work comes to.
 
+use crate::fault::Fault;
+
 /// What a piece of work comes to.
 #[derive(Clone, Copy)]
 pub(crate) struct Tally {
@@ -22,5 +24,9 @@ impl Tally {
             starved: 0,
             late: 0,
         }
+    }
+    // The tally of such work, where it came to a sum.
+    pub(crate) fn of_sum(sum: Result<u64, Fault>) -> Result<Tally, Fault> {
+        Ok(Tally::of(sum?))
     }
 }

@@ -128,17 +128,22 @@ impl Work {
             _ => (),
         }
         let (kind, shape) = word.split_once('-')?;
+        match Size::read(shape) {
+            Some(size) => Work::of_size(kind, size),
+            None => Work::of_shape(kind, shape),
+        }
+    }
+
+    // The piece of work of this kind and shape, which is more than a size.
+    fn of_shape(kind: &str, shape: &str) -> Option<Work> {
         match kind {
-            "verdict" => Some(Work::Verdict(GrantShape::read(shape)?)),
-            "parse" => {
-                let shape = GrantShape::read(shape).or_else(|| GrantShape::read_shallow(shape))?;
-                Some(Work::Parse(shape))
-            }
-            "lookup" => Some(Work::Lookup(TreeShape::read(shape)?)),
-            "create" => Some(Work::Create(TreeShape::read(shape)?)),
-            "explain" => Some(Work::Explain(AskShape::read(shape, Way::Beside)?)),
-            "locked" => Some(Work::Explain(AskShape::read(shape, Way::Locked)?)),
-            _ => Work::of_size(kind, Size::read(shape)?),
+            "verdict" => GrantShape::read(shape).map(Work::Verdict),
+            "parse" => GrantShape::read_any(shape).map(Work::Parse),
+            "lookup" => TreeShape::read(shape).map(Work::Lookup),
+            "create" => TreeShape::read(shape).map(Work::Create),
+            "explain" => AskShape::read(shape, Way::Beside).map(Work::Explain),
+            "locked" => AskShape::read(shape, Way::Locked).map(Work::Explain),
+            _ => None,
         }
     }
 
@@ -200,11 +205,23 @@ impl GrantShape {
     fn read(text: &str) -> Option<GrantShape> {
         let (grants, text) = text.split_once('-')?;
         let (depth, callers) = text.split_once('-')?;
+        GrantShape::of_words(grants, depth, callers)
+    }
+
+    fn of_words(grants: &str, depth: &str, callers: &str) -> Option<GrantShape> {
         Some(GrantShape {
             grants: read_grant_count(grants)?,
             depth: read_depth(depth)?,
             callers: Callers::read(callers)?,
         })
+    }
+
+    // The shape that is named in the one way or the other.
+    fn read_any(text: &str) -> Option<GrantShape> {
+        match GrantShape::read(text) {
+            None => GrantShape::read_shallow(text),
+            shape => shape,
+        }
     }
 
     // The shape with this number of grants, for any caller, on paths of one name, as `4-plain`.

@@ -1,11 +1,11 @@
 //! Worked runs: clients that take, give back and are asked for capabilities.
 
+use crate::asserting;
 use crate::asserting::same;
 use capbits::{CapSet, ClientId, Ino, Refusal, read_caps};
 use captable::{CapTable, Entry, Holder, Holders, MAX_ENTRIES, Walk};
 use std::alloc::{AllocError, Global};
 use std::process::Abort;
-use std::test::Fail;
 
 // Clients with the numbers of inodes.
 type Places = &'static [(u32, u64)];
@@ -228,27 +228,10 @@ pub(crate) fn skip_quiet(table: &mut CapTable, client: u32) {
     table.skip_quiet(ClientId(client));
 }
 
-// Sees that the places are the wanted ones, if there was memory for them.
-fn are(
-    rt: &impl Abort,
-    found: Result<Vec<(u32, u64)>, AllocError>,
-    want: Places,
-    at: At,
-) -> Result<(), AllocError> {
-    same(rt, found?.as_slice(), want, at);
-    Ok(())
-}
-
-fn opens(
-    rt: &impl Abort,
-    table: &mut CapTable,
-    client: u32,
-    ino: u64,
-    at: At,
-) -> Result<(), AllocError> {
-    let answer = open(table, client, ino)?;
-    same(rt, answer, Ok(()), at);
-    Ok(())
+// Sees that the places are the wanted ones.
+fn are(rt: &impl Abort, found: Result<Vec<(u32, u64)>, AllocError>, want: Places, at: At) {
+    let places = asserting::made(rt, found, at);
+    same(rt, places.as_slice(), want, at);
 }
 
 // Does what needs no memory.
@@ -270,22 +253,13 @@ fn change(rt: &impl Abort, table: &mut CapTable, act: Act, at: At) {
     }
 }
 
-fn take(
-    rt: &impl Abort,
-    alloc: Global,
-    table: &mut CapTable,
-    act: Act,
-    at: At,
-) -> Result<(), AllocError> {
+fn take(rt: &impl Abort, alloc: Global, table: &mut CapTable, act: Act, at: At) {
     match act {
-        Open(client, ino) => opens(rt, table, client, ino, at),
-        Fill => fill(table),
+        Open(client, ino) => same(rt, open(table, client, ino), Ok(Ok(())), at),
+        Fill => same(rt, fill(table), Ok(()), at),
         Recall(n, want) => are(rt, recalled(alloc, table, n), want, at),
         RecallAsList(n, want) => are(rt, recalled_as_list(alloc, table, n), want, at),
-        _ => {
-            change(rt, table, act, at);
-            Ok(())
-        }
+        _ => change(rt, table, act, at),
     }
 }
 
@@ -395,23 +369,12 @@ fn marks(alloc: Global, table: &CapTable, client: u32) -> Result<Vec<bool>, Allo
     Ok(marks)
 }
 
-fn has_marks(
-    rt: &impl Abort,
-    found: Result<Vec<bool>, AllocError>,
-    want: &[bool],
-    at: At,
-) -> Result<(), AllocError> {
-    same(rt, found?.as_slice(), want, at);
-    Ok(())
+fn has_marks(rt: &impl Abort, found: Result<Vec<bool>, AllocError>, want: &[bool], at: At) {
+    let marks = asserting::made(rt, found, at);
+    same(rt, marks.as_slice(), want, at);
 }
 
-fn see(
-    rt: &impl Abort,
-    alloc: Global,
-    table: &CapTable,
-    look: Look,
-    at: At,
-) -> Result<(), AllocError> {
+fn see(rt: &impl Abort, alloc: Global, table: &CapTable, look: Look, at: At) {
     match look {
         NoEntry(client, ino) => same(rt, entry(table, client, ino), None, at),
         EmptyEntry(client, ino) => same(rt, entry(table, client, ino), Some(empty_entry()), at),
@@ -420,17 +383,16 @@ fn see(
         Numbers(client, want) => same(rt, numbers(table, client), Some(want), at),
         Holds(client, want) => same(rt, held(table, client), Some(caps(want)), at),
         Wants(client, want) => same(rt, wanted(table, client), Some(caps(want)), at),
-        Order(want) => are(rt, recall_order(alloc, table), want, at)?,
-        FirstToRecall(n, want) => are(rt, first_to_recall(alloc, table, n), want, at)?,
-        HoldersOf(ino, want) => are(rt, holders_of(alloc, table, ino), want, at)?,
-        EntriesOf(client, want) => are(rt, entries_of(alloc, table, client), want, at)?,
-        DueOf(client, want) => are(rt, due_of(alloc, table, client), want, at)?,
+        Order(want) => are(rt, recall_order(alloc, table), want, at),
+        FirstToRecall(n, want) => are(rt, first_to_recall(alloc, table, n), want, at),
+        HoldersOf(ino, want) => are(rt, holders_of(alloc, table, ino), want, at),
+        EntriesOf(client, want) => are(rt, entries_of(alloc, table, client), want, at),
+        DueOf(client, want) => are(rt, due_of(alloc, table, client), want, at),
         Oldest(want) => same(rt, oldest(table), want, at),
         Newer(client, ino, want) => same(rt, newer(table, client, ino), want, at),
         IsAsked(client, ino, want) => same(rt, is_asked(table, client, ino), Some(want), at),
-        Marks(client, want) => has_marks(rt, marks(alloc, table, client), want, at)?,
+        Marks(client, want) => has_marks(rt, marks(alloc, table, client), want, at),
     }
-    Ok(())
 }
 
 // ---- whole runs
@@ -441,23 +403,21 @@ fn play(
     table: &mut CapTable,
     (title, number): (&'static str, usize),
     (acts, looks): Round,
-) -> Result<(), AllocError> {
+) {
     for (nth, act) in acts.iter().enumerate() {
-        take(rt, alloc, table, *act, (title, number, nth))?;
+        take(rt, alloc, table, *act, (title, number, nth));
     }
     for (nth, look) in looks.iter().enumerate() {
-        see(rt, alloc, table, *look, (title, number, nth))?;
+        see(rt, alloc, table, *look, (title, number, nth));
     }
-    Ok(())
 }
 
 // Plays the rounds on a new table. No other function owns a table: each statement of one that does is dear to prove.
-fn runs(rt: &(impl Abort + AllocGlobal), (title, rounds): Case) -> Result<(), AllocError> {
-    let mut table = made(rt.alloc())?;
+fn runs(rt: &(impl Abort + AllocGlobal), (title, rounds): Case) {
+    let mut table = asserting::made(rt, made(rt.alloc()), title);
     for (number, round) in rounds.iter().enumerate() {
-        play(rt, rt.alloc(), &mut table, (title, number), *round)?;
+        play(rt, rt.alloc(), &mut table, (title, number), *round);
     }
-    Ok(())
 }
 
 const A_NEW_ENTRY: &[Round] = &[
@@ -689,9 +649,8 @@ const CASES: &[Case] = &[
 ];
 
 #[test]
-fn entries_are_opened_changed_recalled_and_dropped(rt: HostRuntime) -> Result<(), Fail> {
+fn entries_are_opened_changed_recalled_and_dropped(rt: HostRuntime) {
     for case in CASES {
-        runs(&rt, *case)?;
+        runs(&rt, *case);
     }
-    Ok(())
 }

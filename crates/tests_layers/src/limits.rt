@@ -1,16 +1,14 @@
 //! The limits of a tree, each at the last value that passes and at the first that does not.
 
+use crate::asserting;
 use crate::asserting::{present, same};
 use crate::tree_steps::Ask::*;
 use crate::tree_steps::Look::*;
-use crate::tree_steps::{
-    Answer, Answered, Case, Round, asked, create, made, runs_on, set_xattr, snap_add,
-};
+use crate::tree_steps::{Answered, Case, Round, asked, create, made, runs_on, set_xattr, snap_add};
 use capbits::Refusal;
 use inotree::{MAX_INODES, MAX_NAMES, Name, Place, Tree, is_bad_attribute, is_bad_name};
 use std::alloc::{AllocError, Global};
 use std::process::Abort;
-use std::test::Fail;
 
 // What is in a tree before the rounds.
 #[derive(Clone, Copy)]
@@ -25,31 +23,29 @@ enum Full {
     Tree,
 }
 
-fn fill_path(rt: &impl Abort, tree: &mut Tree) -> Result<(), AllocError> {
+fn fill_path(rt: &impl Abort, tree: &mut Tree) {
     for parent in 1..=MAX_NAMES {
-        let answer = asked(tree, Mkdir(parent as u64, b"d"))?;
-        same(rt, answer, Ok(parent as u64 + 1), parent);
+        let answer = asked(tree, Mkdir(parent as u64, b"d"));
+        same(rt, answer, Ok(Ok(parent as u64 + 1)), parent);
     }
-    Ok(())
 }
 
 fn name_of(alloc: Global, number: u32) -> Result<String, AllocError> {
     format!(in alloc; "n{number}")
 }
 
-fn keep(alloc: Global, tree: &mut Tree, number: u32) -> Result<(Answer, Answer), AllocError> {
-    let name = name_of(alloc, number)?;
-    let attribute = set_xattr(tree, 1, name.as_bytes(), b"")?;
-    let snapshot = snap_add(tree, 1, name.as_bytes())?;
-    Ok((attribute, snapshot))
+fn keep(rt: &impl Abort, alloc: Global, tree: &mut Tree, number: u32) {
+    let name = asserting::made(rt, name_of(alloc, number), number);
+    let attribute = set_xattr(tree, 1, name.as_bytes(), b"");
+    same(rt, attribute, Ok(Ok(0)), ("attribute", number));
+    let snapshot = snap_add(tree, 1, name.as_bytes());
+    same(rt, snapshot, Ok(Ok(0)), ("snapshot", number));
 }
 
-fn fill_root(rt: &impl Abort, alloc: Global, tree: &mut Tree) -> Result<(), AllocError> {
+fn fill_root(rt: &impl Abort, alloc: Global, tree: &mut Tree) {
     for number in 0..64 {
-        let answers = keep(alloc, tree, number)?;
-        same(rt, answers, (Ok(0), Ok(0)), number);
+        keep(rt, alloc, tree, number);
     }
-    Ok(())
 }
 
 fn create_numbered(alloc: Global, tree: &mut Tree, number: usize) -> Answered {
@@ -57,17 +53,16 @@ fn create_numbered(alloc: Global, tree: &mut Tree, number: usize) -> Answered {
     create(tree, 1, name.as_bytes())
 }
 
-fn fill_tree(rt: &impl Abort, alloc: Global, tree: &mut Tree) -> Result<(), AllocError> {
+fn fill_tree(rt: &impl Abort, alloc: Global, tree: &mut Tree) {
     for number in 1..MAX_INODES {
-        let answer = create_numbered(alloc, tree, number)?;
-        same(rt, answer, Ok(number as u64 + 1), number);
+        let answer = create_numbered(alloc, tree, number);
+        same(rt, answer, Ok(Ok(number as u64 + 1)), number);
     }
-    Ok(())
 }
 
-fn fill(rt: &impl Abort, alloc: Global, tree: &mut Tree, full: Full) -> Result<(), AllocError> {
+fn fill(rt: &impl Abort, alloc: Global, tree: &mut Tree, full: Full) {
     match full {
-        Full::Nothing => Ok(()),
+        Full::Nothing => (),
         Full::Path => fill_path(rt, tree),
         Full::Root => fill_root(rt, alloc, tree),
         Full::Tree => fill_tree(rt, alloc, tree),
@@ -75,10 +70,10 @@ fn fill(rt: &impl Abort, alloc: Global, tree: &mut Tree, full: Full) -> Result<(
 }
 
 // Plays a case on a new tree once this is full.
-fn runs_full(rt: &(impl Abort + AllocGlobal), full: Full, case: Case) -> Result<(), AllocError> {
-    let mut tree = made(rt.alloc())?;
-    fill(rt, rt.alloc(), &mut tree, full)?;
-    runs_on(rt, &mut tree, case)
+fn runs_full(rt: &(impl Abort + AllocGlobal), full: Full, case: Case) {
+    let mut tree = made(rt);
+    fill(rt, rt.alloc(), &mut tree, full);
+    runs_on(rt, &mut tree, case);
 }
 
 const THIRTY_TWO_NAMES: &[Round] = &[
@@ -217,9 +212,8 @@ const CASES: &[(Full, Case)] = &[
 ];
 
 #[test]
-fn a_tree_has_its_limits(rt: HostRuntime) -> Result<(), Fail> {
+fn a_tree_has_its_limits(rt: HostRuntime) {
     for (full, case) in CASES {
-        runs_full(&rt, *full, *case)?;
+        runs_full(&rt, *full, *case);
     }
-    Ok(())
 }

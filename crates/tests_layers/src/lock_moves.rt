@@ -1,10 +1,10 @@
 //! Worked runs: what clients want and hold of inodes, and the moves that the locks make for it.
 
-use crate::asserting::{present, same};
+use crate::asserting::{made, present, same};
 use crate::cap_table::{caps, give, open, release, set_want};
 use crate::sessions::{marked, opened_for};
-use crate::tree_steps::{create, made, unlink};
-use crate::{cap_table, locks, sessions};
+use crate::tree_steps::{create, unlink};
+use crate::{cap_table, locks, sessions, tree_steps};
 use capbits::{CapSet, ClientId, Ino, Part};
 use capspec::FsName;
 use captable::CapTable;
@@ -14,7 +14,6 @@ use locktable::State;
 use sessiontab::Sessions;
 use std::alloc::{AllocError, Global};
 use std::process::Abort;
-use std::test::Fail;
 
 // What happens before the locks move. A client's user has the client's number.
 #[derive(Clone, Copy)]
@@ -62,23 +61,23 @@ fn fs_name(rt: &impl Abort) -> FsName {
     present(rt, FsName::read(b"cephfs"), "the name of the file system")
 }
 
-fn nobody_known(alloc: Global) -> Result<Known, AllocError> {
-    let sessions = sessions::made(alloc)?;
-    let tree = made(alloc)?;
-    Ok(Known { tree, sessions })
+fn nobody_known(rt: &(impl Abort + AllocGlobal)) -> Known {
+    let sessions = made(rt, sessions::made(rt.alloc()), "sessions");
+    let tree = tree_steps::made(rt);
+    Known { tree, sessions }
 }
 
-fn nothing_held(alloc: Global) -> Result<Held, AllocError> {
-    let table = cap_table::made(alloc)?;
-    let locks = locks::made(alloc)?;
-    Ok(Held { table, locks })
+fn nothing_held(rt: &(impl Abort + AllocGlobal)) -> Held {
+    let table = made(rt, cap_table::made(rt.alloc()), "a table");
+    let locks = made(rt, locks::made(rt.alloc()), "locks");
+    Held { table, locks }
 }
 
-fn empty_stage(rt: &impl Abort, alloc: Global) -> Result<Stage, AllocError> {
-    let held = nothing_held(alloc)?;
-    let known = nobody_known(alloc)?;
+fn empty_stage(rt: &(impl Abort + AllocGlobal)) -> Stage {
+    let held = nothing_held(rt);
+    let known = nobody_known(rt);
     let fs = fs_name(rt);
-    Ok(Stage { fs, known, held })
+    Stage { fs, known, held }
 }
 
 fn add_file(tree: &mut Tree, locks: &mut Locks, name: u8) -> Result<(), AllocError> {
@@ -183,21 +182,20 @@ fn wants(stage: &Stage) -> Wants {
     )
 }
 
-fn take_all(alloc: Global, stage: &mut Stage, acts: &[Act]) -> Result<(), AllocError> {
-    for act in acts {
-        take(alloc, stage, *act)?;
+fn take_all(rt: &impl Abort, alloc: Global, stage: &mut Stage, acts: &[Act]) {
+    for (nth, act) in acts.iter().enumerate() {
+        same(rt, take(alloc, stage, *act), Ok(()), nth);
     }
-    Ok(())
 }
 
 // Plays the acts behind two clients and a file, and then lets the locks move.
-fn play_on(alloc: Global, stage: &mut Stage, acts: &[Act]) -> Result<Seen, AllocError> {
-    take_all(alloc, stage, TWO)?;
-    take_all(alloc, stage, acts)?;
-    let moves = settle(alloc, stage)?;
+fn play_on(rt: &impl Abort, alloc: Global, stage: &mut Stage, acts: &[Act]) -> Seen {
+    take_all(rt, alloc, stage, TWO);
+    take_all(rt, alloc, stage, acts);
+    let moves = made(rt, settle(alloc, stage), "moves");
     let wants = wants(stage);
     let last = make_next(stage);
-    Ok((moves, wants, last))
+    (moves, wants, last)
 }
 
 // A move: the inode, the part, and the state to which a gather begins, or none where one ends.
@@ -258,9 +256,9 @@ fn wants_are(rt: &impl Abort, seen: &Seen, number: usize, (_, wanted, loner): Wa
 }
 
 // Plays the acts on a new stage, which is dropped by a call: it has many parts.
-fn played(rt: &impl Abort, alloc: Global, acts: &[Act]) -> Result<Seen, AllocError> {
-    let mut stage = empty_stage(rt, alloc)?;
-    let seen = play_on(alloc, &mut stage, acts);
+fn played(rt: &(impl Abort + AllocGlobal), acts: &[Act]) -> Seen {
+    let mut stage = empty_stage(rt);
+    let seen = play_on(rt, rt.alloc(), &mut stage, acts);
     drop(stage);
     seen
 }
@@ -272,12 +270,11 @@ type Case = (&'static [Act], &'static [Row]);
 type Titled = (&'static str, &'static [Case]);
 
 // Plays each case, and sees that the locks make its moves at the end.
-fn expect_all(rt: &(impl Abort + AllocGlobal), (title, cases): Titled) -> Result<(), AllocError> {
+fn expect_all(rt: &(impl Abort + AllocGlobal), (title, cases): Titled) {
     for (number, (acts, rows)) in cases.iter().enumerate() {
-        let seen = played(rt, rt.alloc(), acts)?;
+        let seen = played(rt, acts);
         moves_are(rt, &seen, (title, number), rows);
     }
-    Ok(())
 }
 
 const FIRST: State = State::Excl(ClientId(1));
@@ -555,11 +552,10 @@ const MOVES: &[Titled] = &[
 ];
 
 #[test]
-fn locks_move_to_what_is_wanted(rt: HostRuntime) -> Result<(), Fail> {
+fn locks_move_to_what_is_wanted(rt: HostRuntime) {
     for titled in MOVES {
-        expect_all(&rt, *titled)?;
+        expect_all(&rt, *titled);
     }
-    Ok(())
 }
 
 // The acts, what somebody wants of the file at the end, and the loner.
@@ -594,10 +590,9 @@ const WANTED: &[Wanted] = &[
 ];
 
 #[test]
-fn wants_count_as_far_as_they_are_permitted(rt: HostRuntime) -> Result<(), Fail> {
+fn wants_count_as_far_as_they_are_permitted(rt: HostRuntime) {
     for (number, case) in WANTED.iter().enumerate() {
-        let seen = played(&rt, rt.alloc(), case.0)?;
+        let seen = played(&rt, case.0);
         wants_are(&rt, &seen, number, *case);
     }
-    Ok(())
 }

@@ -1,12 +1,12 @@
 //! Worked runs: inodes that come and go with their locks, and what is kept beside them.
 
+use crate::asserting;
 use crate::asserting::same;
 use capbits::{ClientId, Ino, Part};
 use lockmachine::{Bytes, InodeLocks, Locks};
 use locktable::{LockState, State};
 use std::alloc::{AllocError, Global};
 use std::process::Abort;
-use std::test::Fail;
 
 // What is done with the locks of an inode.
 #[derive(Clone, Copy)]
@@ -50,27 +50,20 @@ fn is_in(rt: &impl Abort, locks: &Locks, (ino, has_locks): (u64, bool), number: 
 type Seen = &'static [(u64, bool)];
 
 // Takes the steps, and sees whether inodes have locks after them.
-fn play(
-    rt: &impl Abort,
-    locks: &mut Locks,
-    number: usize,
-    (steps, seen): (&[Step], Seen),
-) -> Result<(), AllocError> {
+fn play(rt: &impl Abort, locks: &mut Locks, number: usize, (steps, seen): (&[Step], Seen)) {
     for step in steps {
-        take(locks, *step)?;
+        same(rt, take(locks, *step), Ok(()), number);
     }
     for inode in seen {
         is_in(rt, locks, *inode, number);
     }
-    Ok(())
 }
 
-fn runs(rt: &impl Abort, alloc: Global, rounds: &[(&[Step], Seen)]) -> Result<(), AllocError> {
-    let mut locks = made(alloc)?;
+fn runs(rt: &impl Abort, alloc: Global, rounds: &[(&[Step], Seen)]) {
+    let mut locks = asserting::made(rt, made(alloc), "locks");
     for (number, round) in rounds.iter().enumerate() {
-        play(rt, &mut locks, number, *round)?;
+        play(rt, &mut locks, number, *round);
     }
-    Ok(())
 }
 
 const COMING_AND_GOING: &[(&[Step], Seen)] = &[
@@ -90,8 +83,8 @@ const COMING_AND_GOING: &[(&[Step], Seen)] = &[
 ];
 
 #[test]
-fn an_inode_has_locks_from_its_making_to_its_end(rt: HostRuntime) -> Result<(), Fail> {
-    Ok(runs(&rt, rt.alloc(), COMING_AND_GOING)?)
+fn an_inode_has_locks_from_its_making_to_its_end(rt: HostRuntime) {
+    runs(&rt, rt.alloc(), COMING_AND_GOING);
 }
 
 // The lock of a part, of four that differ.
@@ -122,25 +115,22 @@ fn each_part_has_a_lock_of_its_own(rt: HostRuntime) {
 
 const BYTES: &[&[u8]] = &[b"", b"a", b"report.txt", b"a/b", &[0, 255, 0]];
 
-fn are_kept(rt: &impl Abort, alloc: Global, bytes: &[u8]) -> Result<(), AllocError> {
-    let read = Bytes::read(alloc, bytes)?;
+fn are_kept(rt: &impl Abort, alloc: Global, bytes: &[u8]) {
+    let read = asserting::made(rt, Bytes::read(alloc, bytes), bytes);
     same(rt, read.as_slice(), bytes, bytes);
-    Ok(())
 }
 
-fn are_given_back(rt: &impl Abort, alloc: Global, bytes: &[u8]) -> Result<(), AllocError> {
-    let made = Bytes::from(bytes.to_vec(alloc)?);
+fn are_given_back(rt: &impl Abort, alloc: Global, bytes: &[u8]) {
+    let made = Bytes::from(asserting::made(rt, bytes.to_vec(alloc), bytes));
     same(rt, made.as_slice(), bytes, bytes);
     let vector = made.into_inner();
     same(rt, vector.as_slice(), bytes, bytes);
-    Ok(())
 }
 
 #[test]
-fn bytes_are_kept_as_they_are_and_given_back(rt: HostRuntime) -> Result<(), Fail> {
+fn bytes_are_kept_as_they_are_and_given_back(rt: HostRuntime) {
     for bytes in BYTES {
-        are_kept(&rt, rt.alloc(), bytes)?;
-        are_given_back(&rt, rt.alloc(), bytes)?;
+        are_kept(&rt, rt.alloc(), bytes);
+        are_given_back(&rt, rt.alloc(), bytes);
     }
-    Ok(())
 }

@@ -1,11 +1,11 @@
 //! Maps by number: what they have, and show, beside a tree map that takes the same steps.
 
 use crate::asserting::same;
+use crate::texts::{line_of, lines_of};
 use numbered::Numbered;
 use std::alloc::{AllocError, Global};
 use std::collections::BTreeMap;
 use std::process::Abort;
-use std::test::Fail;
 
 // A step of a run: a value that comes, or is put in place of another; one that is written to; and one that goes.
 #[derive(Clone, Copy)]
@@ -50,28 +50,15 @@ impl Both {
     }
 
     // Sees that both have and show the same; the number is one to look up.
-    fn agree(
-        &self,
-        rt: &impl Abort,
-        alloc: Global,
-        number: u64,
-        at: u64,
-    ) -> Result<(), AllocError> {
+    fn agree(&self, rt: &impl Abort, alloc: Global, number: u64, at: u64) {
         let (numbered, tree) = (&self.numbered, &self.tree);
         same(rt, numbered.len(), tree.len(), ("len", at));
         let (found, wanted) = (numbered.get(number).copied(), tree.get(&number).copied());
         same(rt, found, wanted, ("get", at));
-        let (line, wanted) = (
-            format!(in alloc; "{numbered:?}")?,
-            format!(in alloc; "{tree:?}")?,
-        );
+        let (line, wanted) = (line_of(rt, alloc, numbered), line_of(rt, alloc, tree));
         same(rt, line, wanted, ("one line", at));
-        let (lines, wanted) = (
-            format!(in alloc; "{numbered:#?}")?,
-            format!(in alloc; "{tree:#?}")?,
-        );
+        let (lines, wanted) = (lines_of(rt, alloc, numbered), lines_of(rt, alloc, tree));
         same(rt, lines, wanted, ("many lines", at));
-        Ok(())
     }
 }
 
@@ -103,23 +90,23 @@ fn step_at(time: u64, apart: u64) -> Step {
 }
 
 // A run of numbers this far apart.
-fn run(rt: &impl Abort, alloc: Global, apart: u64) -> Result<(), AllocError> {
+fn run(rt: &impl Abort, alloc: Global, apart: u64) {
     let mut both = Both::new(alloc);
-    both.agree(rt, alloc, 1, 0)?;
+    both.agree(rt, alloc, 1, 0);
     for time in 0..3 * NUMBERS - 2 {
-        both.take(step_at(time, apart), time)?;
-        both.agree(rt, alloc, number_at(time + 1, apart), time)?;
+        same(rt, both.take(step_at(time, apart), time), Ok(()), time);
+        both.agree(rt, alloc, number_at(time + 1, apart), time);
     }
-    both.take(Step::Insert(7), 7)?;
-    both.agree(rt, alloc, 7, 3 * NUMBERS)
+    same(rt, both.take(Step::Insert(7), 7), Ok(()), 7);
+    both.agree(rt, alloc, 7, 3 * NUMBERS);
 }
 
 #[test]
-fn numbers_in_a_row(rt: HostRuntime) -> Result<(), Fail> {
-    Ok(run(&rt, rt.alloc(), 1)?)
+fn numbers_in_a_row(rt: HostRuntime) {
+    run(&rt, rt.alloc(), 1);
 }
 
 #[test]
-fn numbers_that_share_their_last_bits(rt: HostRuntime) -> Result<(), Fail> {
-    Ok(run(&rt, rt.alloc(), 1 << 20)?)
+fn numbers_that_share_their_last_bits(rt: HostRuntime) {
+    run(&rt, rt.alloc(), 1 << 20);
 }

@@ -1,12 +1,11 @@
 //! The queue: who waits has a number, and no more wait than may.
 
-use crate::asserting::same;
-use crate::locks::made;
+use crate::asserting::{made, same};
+use crate::locks;
 use capbits::{ClientId, Ino, Part, Refusal, Ticket};
 use lockmachine::{Ask, Locks, MAX_WAITING, Move, Request};
-use std::alloc::{AllocError, Global};
+use std::alloc::Global;
 use std::process::Abort;
-use std::test::Fail;
 
 // What is done with the queue, with the answer.
 #[derive(Clone, Copy)]
@@ -68,15 +67,14 @@ fn fill(rt: &impl Abort, locks: &mut Locks) {
     }
 }
 
-fn runs(rt: &impl Abort, alloc: Global, (title, is_full, rounds): Case) -> Result<(), AllocError> {
-    let mut locks = made(alloc)?;
+fn runs(rt: &impl Abort, alloc: Global, (title, is_full, rounds): Case) {
+    let mut locks = made(rt, locks::made(alloc), title);
     if is_full {
         fill(rt, &mut locks);
     }
     for (number, round) in rounds.iter().enumerate() {
         play(rt, &mut locks, (title, number), *round);
     }
-    Ok(())
 }
 
 const A_FULL_QUEUE: &[Round] = &[
@@ -111,9 +109,8 @@ const CASES: &[Case] = &[
 ];
 
 #[test]
-fn requests_wait_under_numbers(rt: HostRuntime) -> Result<(), Fail> {
+fn requests_wait_under_numbers(rt: HostRuntime) {
     for case in CASES {
-        runs(&rt, rt.alloc(), *case)?;
+        runs(&rt, rt.alloc(), *case);
     }
-    Ok(())
 }

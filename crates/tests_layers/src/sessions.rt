@@ -1,12 +1,13 @@
 //! Worked runs: clients that connect, go stale, leave, are thrown out, and come back; and after each round, a copy of the sessions.
 
+use crate::asserting;
 use crate::asserting::same;
+use crate::texts::line_of;
 use capbits::{Caller, ClientId, Groups, Refusal};
 use capspec::{Flags4, Grants, read_grants};
 use sessiontab::{Connected, MAX_BLOCKED, MAX_SESSIONS, NoSession, Sessions, Status};
 use std::alloc::{AllocError, Global};
 use std::process::Abort;
-use std::test::Fail;
 
 // What is asked of the sessions, for a client.
 #[derive(Clone, Copy)]
@@ -219,17 +220,11 @@ fn copied(connected: &Connected) -> Result<Connected, AllocError> {
 }
 
 // Sees that a copy has the same clients, each with the same in each field of its session.
-fn same_in_a_copy(
-    rt: &impl Abort,
-    alloc: Global,
-    connected: &Connected,
-    at: At,
-) -> Result<(), AllocError> {
-    let copy = copied(connected)?;
-    let found = format!(in alloc; "{copy:?}")?;
-    let wanted = format!(in alloc; "{connected:?}")?;
+fn same_in_a_copy(rt: &impl Abort, alloc: Global, connected: &Connected, at: At) {
+    let copy = asserting::made(rt, copied(connected), at);
+    let found = line_of(rt, alloc, &copy);
+    let wanted = line_of(rt, alloc, connected);
     same(rt, found.as_str(), wanted.as_str(), at);
-    Ok(())
 }
 
 fn connected(sessions: &Sessions) -> &Connected {
@@ -245,49 +240,35 @@ fn is_answered(
     sessions: &mut Sessions,
     (ask, want): Asked,
     at: At,
-) -> Result<(), AllocError> {
-    let text = asked(alloc, sessions, ask)?;
+) {
+    let text = asserting::made(rt, asked(alloc, sessions, ask), at);
     same(rt, text.as_str(), want, at);
-    Ok(())
 }
 
 // Asks before the rounds, which is to be done. A failure says the client in the place of an act.
-fn is_done(
-    rt: &impl Abort,
-    alloc: Global,
-    sessions: &mut Sessions,
-    client: u32,
-    ask: Ask,
-) -> Result<(), AllocError> {
+fn is_done(rt: &impl Abort, alloc: Global, sessions: &mut Sessions, client: u32, ask: Ask) {
     let at = ("before the rounds", 0, client as usize);
-    is_answered(rt, alloc, sessions, (ask, "done"), at)
+    is_answered(rt, alloc, sessions, (ask, "done"), at);
 }
 
-fn connect_all(rt: &impl Abort, alloc: Global, sessions: &mut Sessions) -> Result<(), AllocError> {
-    is_done(rt, alloc, sessions, 99, Open(99))?;
-    is_done(rt, alloc, sessions, 99, Evict(99))?;
+fn connect_all(rt: &impl Abort, alloc: Global, sessions: &mut Sessions) {
+    is_done(rt, alloc, sessions, 99, Open(99));
+    is_done(rt, alloc, sessions, 99, Evict(99));
     for client in 0..64 {
-        is_done(rt, alloc, sessions, client, Open(client))?;
+        is_done(rt, alloc, sessions, client, Open(client));
     }
-    Ok(())
 }
 
-fn block_all(rt: &impl Abort, alloc: Global, sessions: &mut Sessions) -> Result<(), AllocError> {
+fn block_all(rt: &impl Abort, alloc: Global, sessions: &mut Sessions) {
     for client in 0..1024 {
-        is_done(rt, alloc, sessions, client, Open(client))?;
-        is_done(rt, alloc, sessions, client, Evict(client))?;
+        is_done(rt, alloc, sessions, client, Open(client));
+        is_done(rt, alloc, sessions, client, Evict(client));
     }
-    Ok(())
 }
 
-fn fill(
-    rt: &impl Abort,
-    alloc: Global,
-    sessions: &mut Sessions,
-    before: Before,
-) -> Result<(), AllocError> {
+fn fill(rt: &impl Abort, alloc: Global, sessions: &mut Sessions, before: Before) {
     match before {
-        Before::Nobody => Ok(()),
+        Before::Nobody => (),
         Before::SixtyFour => connect_all(rt, alloc, sessions),
         Before::AllBlocked => block_all(rt, alloc, sessions),
     }
@@ -300,14 +281,14 @@ fn play(
     sessions: &mut Sessions,
     (title, number): (&'static str, usize),
     (asks, looks): Round,
-) -> Result<(), AllocError> {
+) {
     for (nth, asked) in asks.iter().enumerate() {
-        is_answered(rt, alloc, sessions, *asked, (title, number, nth))?;
+        is_answered(rt, alloc, sessions, *asked, (title, number, nth));
     }
     for (nth, look) in looks.iter().enumerate() {
         see(rt, sessions, *look, (title, number, nth));
     }
-    same_in_a_copy(rt, alloc, connected(sessions), (title, number, asks.len()))
+    same_in_a_copy(rt, alloc, connected(sessions), (title, number, asks.len()));
 }
 
 fn play_all(
@@ -315,20 +296,18 @@ fn play_all(
     alloc: Global,
     sessions: &mut Sessions,
     (title, before, rounds): Case,
-) -> Result<(), AllocError> {
-    fill(rt, alloc, sessions, before)?;
+) {
+    fill(rt, alloc, sessions, before);
     for (number, round) in rounds.iter().enumerate() {
-        play(rt, alloc, sessions, (title, number), *round)?;
+        play(rt, alloc, sessions, (title, number), *round);
     }
-    Ok(())
 }
 
 // Plays a case on new sessions. No other function owns sessions: each statement of one that does is dear to prove.
-fn runs(rt: &(impl Abort + AllocGlobal), case: Case) -> Result<(), AllocError> {
-    let mut sessions = made(rt.alloc())?;
-    let end = play_all(rt, rt.alloc(), &mut sessions, case);
+fn runs(rt: &(impl Abort + AllocGlobal), case: Case) {
+    let mut sessions = asserting::made(rt, made(rt.alloc()), case.0);
+    play_all(rt, rt.alloc(), &mut sessions, case);
     drop(sessions);
-    end
 }
 
 const COMING_AND_GOING: &[Asked] = &[
@@ -465,11 +444,10 @@ const CASES: &[Case] = &[
 ];
 
 #[test]
-fn clients_come_and_go_and_are_thrown_out(rt: HostRuntime) -> Result<(), Fail> {
+fn clients_come_and_go_and_are_thrown_out(rt: HostRuntime) {
     same(&rt, MAX_SESSIONS, 64, "the most sessions");
     same(&rt, MAX_BLOCKED, 1024, "the most blocked clients");
     for case in CASES {
-        runs(&rt, *case)?;
+        runs(&rt, *case);
     }
-    Ok(())
 }

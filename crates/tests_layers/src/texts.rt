@@ -3,6 +3,7 @@
 use crate::asserting::made;
 use capspec::{Grants, read_grants, write_grants};
 use std::alloc::{AllocError, Global};
+use std::fmt::Debug;
 use std::process::Abort;
 
 /// A text that is `part`, so many times, between `head` and `tail`.
@@ -16,6 +17,16 @@ fn text_of(alloc: Global, (head, part, times, tail): Long) -> Result<String, All
 /// The text of these parts.
 pub fn long_text(rt: &(impl Abort + AllocGlobal), long: Long) -> String {
     made(rt, text_of(rt.alloc(), long), "a long text")
+}
+
+/// What `Debug` shows in one line.
+pub fn line_of(rt: &impl Abort, alloc: Global, shown: &impl Debug) -> String {
+    made(rt, format!(in alloc; "{shown:?}"), "a line")
+}
+
+/// What `Debug` shows in many lines.
+pub fn lines_of(rt: &impl Abort, alloc: Global, shown: &impl Debug) -> String {
+    made(rt, format!(in alloc; "{shown:#?}"), "lines")
 }
 
 /// The grants of a text.

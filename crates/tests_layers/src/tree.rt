@@ -1,5 +1,6 @@
 //! Worked runs: inodes that are made, moved and unlinked, their paths, and what a copy of the tree keeps.
 
+use crate::asserting;
 use crate::asserting::same;
 use crate::tree_steps::Ask::*;
 use crate::tree_steps::Look::*;
@@ -9,7 +10,6 @@ use capbits::Refusal;
 use inotree::{Kind, Place, Tree};
 use std::alloc::{AllocError, Global};
 use std::process::Abort;
-use std::test::Fail;
 
 const DIRECTORIES: &[Round] = &[(
     &[
@@ -153,8 +153,8 @@ const CASES: &[Case] = &[
 ];
 
 #[test]
-fn inodes_are_made_moved_and_unlinked(rt: HostRuntime) -> Result<(), Fail> {
-    Ok(run_all(&rt, CASES)?)
+fn inodes_are_made_moved_and_unlinked(rt: HostRuntime) {
+    run_all(&rt, CASES);
 }
 
 const NAMES_OF_REFUSALS: &[(Refusal, &str)] = &[
@@ -187,22 +187,16 @@ fn printed(alloc: Global, refusal: Refusal) -> Result<String, AllocError> {
     format!(in alloc; "{refusal}")
 }
 
-fn prints_as(
-    rt: &impl Abort,
-    alloc: Global,
-    (refusal, name): (Refusal, &str),
-) -> Result<(), AllocError> {
-    let text = printed(alloc, refusal)?;
+fn prints_as(rt: &impl Abort, alloc: Global, (refusal, name): (Refusal, &str)) {
+    let text = asserting::made(rt, printed(alloc, refusal), refusal);
     same(rt, text.as_str(), name, refusal);
-    Ok(())
 }
 
 #[test]
-fn a_refusal_prints_as_its_name(rt: HostRuntime) -> Result<(), Fail> {
+fn a_refusal_prints_as_its_name(rt: HostRuntime) {
     for named in NAMES_OF_REFUSALS {
-        prints_as(&rt, rt.alloc(), *named)?;
+        prints_as(&rt, rt.alloc(), *named);
     }
-    Ok(())
 }
 
 // A file of which each field is set, with an attribute, in a directory with a snapshot, beside a stray.
@@ -264,45 +258,37 @@ const COPY: &[Round] = &[
     ),
 ];
 
-fn copied(tree: &Tree) -> Result<Tree, AllocError> {
-    tree.copy()
+fn copied(rt: &impl Abort, tree: &Tree) -> Tree {
+    asserting::made(rt, tree.copy(), "a copy")
 }
 
-// Plays cases on two trees, one after the other.
-fn runs_on_two(rt: &impl Abort, source: &mut Tree, copy: &mut Tree) -> Result<(), AllocError> {
-    runs_on(rt, source, ("the source", SOURCE))?;
-    runs_on(rt, copy, ("the copy", COPY))
+fn text_of(rt: &impl Abort, alloc: Global, tree: &Tree) -> String {
+    asserting::made(rt, inodes_text(alloc, tree), "a text")
 }
 
 // Sees that the trees have the same inodes, each with the same in each of its fields.
-fn same_inodes(
-    rt: &impl Abort,
-    alloc: Global,
-    copy: &Tree,
-    source: &Tree,
-) -> Result<(), AllocError> {
-    let found = inodes_text(alloc, copy)?;
-    let wanted = inodes_text(alloc, source)?;
+fn same_inodes(rt: &impl Abort, alloc: Global, copy: &Tree, source: &Tree) {
+    let found = text_of(rt, alloc, copy);
+    let wanted = text_of(rt, alloc, source);
     same(rt, found.as_str(), wanted.as_str(), "all inodes");
-    Ok(())
 }
 
 // Plays a case on the tree, and one on a copy that was made before.
-fn runs_on_a_copy(rt: &impl Abort, alloc: Global, tree: &mut Tree) -> Result<(), AllocError> {
-    let mut copy = copied(tree)?;
-    same_inodes(rt, alloc, &copy, tree)?;
-    let end = runs_on_two(rt, tree, &mut copy);
+fn runs_on_a_copy(rt: &impl Abort, alloc: Global, tree: &mut Tree) {
+    let mut copy = copied(rt, tree);
+    same_inodes(rt, alloc, &copy, tree);
+    runs_on(rt, tree, ("the source", SOURCE));
+    runs_on(rt, &mut copy, ("the copy", COPY));
     drop(copy);
-    end
 }
 
-fn runs_and_copies(rt: &(impl Abort + AllocGlobal)) -> Result<(), AllocError> {
-    let mut tree = made(rt.alloc())?;
-    runs_on(rt, &mut tree, ("before the copy", KEPT))?;
-    runs_on_a_copy(rt, rt.alloc(), &mut tree)
+fn runs_and_copies(rt: &(impl Abort + AllocGlobal)) {
+    let mut tree = made(rt);
+    runs_on(rt, &mut tree, ("before the copy", KEPT));
+    runs_on_a_copy(rt, rt.alloc(), &mut tree);
 }
 
 #[test]
-fn a_copy_equals_its_source_and_goes_its_own_way(rt: HostRuntime) -> Result<(), Fail> {
-    Ok(runs_and_copies(&rt)?)
+fn a_copy_equals_its_source_and_goes_its_own_way(rt: HostRuntime) {
+    runs_and_copies(&rt);
 }

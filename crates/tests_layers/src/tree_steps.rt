@@ -1,10 +1,11 @@
 //! What the tests ask of a tree, what they see in it, and the runs that they play.
 
+use crate::asserting;
 use crate::asserting::{present, same};
 use capbits::{Ino, Mode, Refusal};
 use capgrant::Attr;
 use inotree::{Kind, Name, Node, Place, Setting, Tree};
-use std::alloc::{AllocError, Global};
+use std::alloc::AllocError;
 use std::process::Abort;
 
 // What is asked of a tree. A number is that of an inode, and the root is 1. The bytes are a name, or a value.
@@ -462,20 +463,13 @@ fn see(rt: &impl Abort, tree: &Tree, look: Look, at: Where) {
 // ---- whole runs
 
 // A tree that has its root alone.
-pub(crate) fn made(alloc: Global) -> Result<Tree, AllocError> {
-    Tree::new(alloc, attr())
+pub(crate) fn made(rt: &(impl Abort + AllocGlobal)) -> Tree {
+    asserting::made(rt, Tree::new(rt.alloc(), attr()), "a tree")
 }
 
 // Asks, and sees that the answer is the wanted one.
-fn is_answered(
-    rt: &impl Abort,
-    tree: &mut Tree,
-    (ask, want): (Ask, Answer),
-    at: Where,
-) -> Result<(), AllocError> {
-    let answer = asked(tree, ask)?;
-    same(rt, answer, want, at);
-    Ok(())
+fn is_answered(rt: &impl Abort, tree: &mut Tree, (ask, want): (Ask, Answer), at: Where) {
+    same(rt, asked(tree, ask), Ok(want), at);
 }
 
 // Asks one after the other and sees that the answers are the wanted ones, and then looks at the tree.
@@ -484,38 +478,31 @@ fn play(
     tree: &mut Tree,
     (title, number): (&'static str, usize),
     (asks, looks): Round,
-) -> Result<(), AllocError> {
+) {
     for (nth, asked) in asks.iter().enumerate() {
-        is_answered(rt, tree, *asked, (title, number, nth))?;
+        is_answered(rt, tree, *asked, (title, number, nth));
     }
     for (nth, look) in looks.iter().enumerate() {
         see(rt, tree, *look, (title, number, nth));
     }
-    Ok(())
 }
 
 // Plays the rounds of a case on a tree.
-pub(crate) fn runs_on(
-    rt: &impl Abort,
-    tree: &mut Tree,
-    (title, rounds): Case,
-) -> Result<(), AllocError> {
+pub(crate) fn runs_on(rt: &impl Abort, tree: &mut Tree, (title, rounds): Case) {
     for (number, round) in rounds.iter().enumerate() {
-        play(rt, tree, (title, number), *round)?;
+        play(rt, tree, (title, number), *round);
     }
-    Ok(())
 }
 
 // Plays a case on a new tree. Few other functions own a tree: each statement of one that does is dear to prove.
-fn runs(rt: &(impl Abort + AllocGlobal), case: Case) -> Result<(), AllocError> {
-    let mut tree = made(rt.alloc())?;
-    runs_on(rt, &mut tree, case)
+fn runs(rt: &(impl Abort + AllocGlobal), case: Case) {
+    let mut tree = made(rt);
+    runs_on(rt, &mut tree, case);
 }
 
 // Plays each case on a new tree of its own.
-pub(crate) fn run_all(rt: &(impl Abort + AllocGlobal), cases: &[Case]) -> Result<(), AllocError> {
+pub(crate) fn run_all(rt: &(impl Abort + AllocGlobal), cases: &[Case]) {
     for case in cases {
-        runs(rt, *case)?;
+        runs(rt, *case);
     }
-    Ok(())
 }

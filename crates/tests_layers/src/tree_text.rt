@@ -1,13 +1,14 @@
 //! What `Debug` shows of a tree: its inodes in the order of their numbers, as where they stood in a tree map by number.
 
-use crate::asserting::{holds, same};
+use crate::asserting::{holds, made, same};
+use crate::texts::{line_of, lines_of};
+use crate::tree_steps;
 use crate::tree_steps::Ask::*;
-use crate::tree_steps::{asked, create, made};
+use crate::tree_steps::{Answered, asked, create};
 use capbits::Ino;
 use inotree::Tree;
 use std::alloc::{AllocError, Global};
 use std::process::Abort;
-use std::test::Fail;
 
 // How the inodes were kept while `Debug` was derived from that.
 mod before {
@@ -55,68 +56,65 @@ fn begins_so(text: &str, other: &str, end: &str, names: &str) -> bool {
 }
 
 // Sees that the tree shows its inodes as before, in one line and in many.
-fn shows_as_before(
-    rt: &impl Abort,
-    alloc: Global,
-    tree: &Tree,
-    at: (&'static str, u64),
-) -> Result<(), AllocError> {
-    let before = kept_before(alloc, tree)?;
-    let line = format!(in alloc; "{tree:?}")?;
-    let line_before = format!(in alloc; "{before:?}")?;
+fn shows_as_before(rt: &impl Abort, alloc: Global, tree: &Tree, at: (&'static str, u64)) {
+    let before = made(rt, kept_before(alloc, tree), at);
+    let line = line_of(rt, alloc, tree);
+    let line_before = line_of(rt, alloc, &before);
     holds(rt, begins_so(&line, &line_before, " }", ", names: "), at);
-    let lines = format!(in alloc; "{tree:#?}")?;
-    let lines_before = format!(in alloc; "{before:#?}")?;
+    let lines = lines_of(rt, alloc, tree);
+    let lines_before = lines_of(rt, alloc, &before);
     holds(rt, begins_so(&lines, &lines_before, "}", "    names: "), at);
-    Ok(())
 }
 
 // How many files come and go. There is room for a multiple of them when most have gone.
 const FILES: u64 = 48;
 
+fn create_numbered(alloc: Global, tree: &mut Tree, number: u64) -> Answered {
+    let name = format!(in alloc; "f{number}")?;
+    create(tree, 2 + number % 2, name.as_bytes())
+}
+
 // Makes the directories 2 and 3, and a file in one of them after the other.
-fn fill(rt: &impl Abort, alloc: Global, tree: &mut Tree) -> Result<(), AllocError> {
-    same(rt, asked(tree, Mkdir(1, b"a"))?, Ok(2), "a");
-    same(rt, asked(tree, Mkdir(2, b"b"))?, Ok(3), "b");
+fn fill(rt: &impl Abort, alloc: Global, tree: &mut Tree) {
+    same(rt, asked(tree, Mkdir(1, b"a")), Ok(Ok(2)), "a");
+    same(rt, asked(tree, Mkdir(2, b"b")), Ok(Ok(3)), "b");
     for number in 0..FILES {
-        let name = format!(in alloc; "f{number}")?;
-        let ino = create(tree, 2 + number % 2, name.as_bytes())?;
-        same(rt, ino, Ok(4 + number), number);
-        shows_as_before(rt, alloc, tree, ("made", number))?;
+        let ino = create_numbered(alloc, tree, number);
+        same(rt, ino, Ok(Ok(4 + number)), number);
+        shows_as_before(rt, alloc, tree, ("made", number));
     }
-    Ok(())
 }
 
 // Lets all but the first three files go, in no order.
-fn clear(rt: &impl Abort, alloc: Global, tree: &mut Tree) -> Result<(), AllocError> {
+fn clear(rt: &impl Abort, alloc: Global, tree: &mut Tree) {
     for step in 1..FILES - 2 {
         let ino = 6 + step * 29 % (FILES - 2);
-        same(rt, asked(tree, Unlink(ino))?, Ok(0), ino);
-        shows_as_before(rt, alloc, tree, ("unlinked", ino))?;
-        same(rt, asked(tree, Forget(ino))?, Ok(0), ino);
-        shows_as_before(rt, alloc, tree, ("forgotten", ino))?;
+        same(rt, asked(tree, Unlink(ino)), Ok(Ok(0)), ino);
+        shows_as_before(rt, alloc, tree, ("unlinked", ino));
+        same(rt, asked(tree, Forget(ino)), Ok(Ok(0)), ino);
+        shows_as_before(rt, alloc, tree, ("forgotten", ino));
     }
-    Ok(())
 }
 
-fn comes_and_goes(rt: &impl Abort, alloc: Global) -> Result<(), AllocError> {
-    let mut tree = made(alloc)?;
-    shows_as_before(rt, alloc, &tree, ("the root alone", 1))?;
-    fill(rt, alloc, &mut tree)?;
-    same(rt, asked(&mut tree, Rename(3, 1, b"c"))?, Ok(0), "c");
-    shows_as_before(rt, alloc, &tree, ("moved", 3))?;
-    clear(rt, alloc, &mut tree)?;
-    shows_as_before(rt, alloc, &tree.copy()?, ("copied", 1))?;
-    same(
-        rt,
-        asked(&mut tree, Create(3, b"new"))?,
-        Ok(4 + FILES),
-        "new",
-    );
-    shows_as_before(rt, alloc, &tree, ("made again", 4 + FILES))
+fn copy_shows_as_before(rt: &impl Abort, alloc: Global, tree: &Tree) {
+    let copy = made(rt, tree.copy(), "a copy");
+    shows_as_before(rt, alloc, &copy, ("copied", 1));
+}
+
+fn comes_and_goes(rt: &impl Abort, alloc: Global, tree: &mut Tree) {
+    shows_as_before(rt, alloc, tree, ("the root alone", 1));
+    fill(rt, alloc, tree);
+    same(rt, asked(tree, Rename(3, 1, b"c")), Ok(Ok(0)), "c");
+    shows_as_before(rt, alloc, tree, ("moved", 3));
+    clear(rt, alloc, tree);
+    copy_shows_as_before(rt, alloc, tree);
+    let ino = asked(tree, Create(3, b"new"));
+    same(rt, ino, Ok(Ok(4 + FILES)), "new");
+    shows_as_before(rt, alloc, tree, ("made again", 4 + FILES));
 }
 
 #[test]
-fn inodes_are_shown_by_number(rt: HostRuntime) -> Result<(), Fail> {
-    Ok(comes_and_goes(&rt, rt.alloc())?)
+fn inodes_are_shown_by_number(rt: HostRuntime) {
+    let mut tree = tree_steps::made(&rt);
+    comes_and_goes(&rt, rt.alloc(), &mut tree);
 }

@@ -1,6 +1,7 @@
 //! Nodes in three lists: those of an inode, those of a client, and all of them in the order of recall.
 ghost use Rattle.std.specs.Prelude.{◌≡◌, ◌≤◌};
 
+use crate::asserting;
 use crate::asserting::same;
 use cap_arena::{LinkWrites, MAX_NODES, TripleLists};
 use capbits::{ClientId, Ino, Refusal};
@@ -8,7 +9,6 @@ use std::alloc::{AllocError, Global};
 use std::marker::Brand;
 use std::process::Abort;
 use std::sync::ledger::{Blank, Ledger};
-use std::test::Fail;
 
 type Lists = TripleLists<u32>;
 
@@ -184,21 +184,19 @@ fn play(
     keys: &mut Vec<usize>,
     (title, number): (&'static str, usize),
     (calls, looks): Round,
-) -> Result<(), AllocError> {
-    make_calls(lists, keys, calls)?;
+) {
+    same(rt, make_calls(lists, keys, calls), Ok(()), (title, number));
     for (nth, look) in looks.iter().enumerate() {
         see(rt, lists, keys, *look, (title, number, nth));
     }
-    Ok(())
 }
 
-fn runs(rt: &impl Abort, alloc: Global, (title, rounds): Case) -> Result<(), AllocError> {
+fn runs(rt: &impl Abort, alloc: Global, (title, rounds): Case) {
     let mut keys = Vec::new(alloc);
-    let mut lists = made(alloc)?;
+    let mut lists = asserting::made(rt, made(alloc), title);
     for (number, round) in rounds.iter().enumerate() {
-        play(rt, &mut lists, &mut keys, (title, number), *round)?;
+        play(rt, &mut lists, &mut keys, (title, number), *round);
     }
-    Ok(())
 }
 
 const A: usize = 0;
@@ -275,9 +273,8 @@ const CASES: &[Case] = &[
 ];
 
 #[test]
-fn nodes_stand_in_three_lists(rt: HostRuntime) -> Result<(), Fail> {
+fn nodes_stand_in_three_lists(rt: HostRuntime) {
     for case in CASES {
-        runs(&rt, rt.alloc(), *case)?;
+        runs(&rt, rt.alloc(), *case);
     }
-    Ok(())
 }

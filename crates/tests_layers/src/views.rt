@@ -1,6 +1,6 @@
 //! Worked runs: a view that follows a server by the changes that it is told, and what it answers.
 
-use crate::asserting::same;
+use crate::asserting::{made, same};
 use crate::sessions::made as no_sessions;
 use crate::texts::grants_of;
 use crate::tree_steps::Ask::{Mkdir, SnapAdd};
@@ -12,7 +12,6 @@ use capview::{Question, Unknown, View, ViewChange};
 use inotree::{Name, Tree};
 use std::alloc::{AllocError, Global};
 use std::process::Abort;
-use std::test::Fail;
 
 // What a view is told. The first number is that of an inode or a client.
 #[derive(Clone, Copy)]
@@ -130,16 +129,10 @@ fn can_follow(view: &mut View, change: &ViewChange) -> bool {
     view.follow(change).is_ok()
 }
 
-fn follow(
-    rt: &(impl Abort + AllocGlobal),
-    view: &mut View,
-    (told, want): (Told, bool),
-    at: At,
-) -> Result<(), AllocError> {
+fn follow(rt: &(impl Abort + AllocGlobal), view: &mut View, (told, want): (Told, bool), at: At) {
     let source = change(rt, told);
-    let change = copied(&source)?;
+    let change = made(rt, copied(&source), at);
     same(rt, can_follow(view, &change), want, at);
-    Ok(())
 }
 
 // ---- what is answered
@@ -159,21 +152,15 @@ fn text_of(alloc: Global, answer: Result<Verdict, Unknown>) -> Result<String, Al
     }
 }
 
-fn ask(
-    rt: &(impl Abort + AllocGlobal),
-    view: &View,
-    (client, ino, access, want): Look,
-    at: At,
-) -> Result<(), AllocError> {
+fn ask(rt: &(impl Abort + AllocGlobal), view: &View, (client, ino, access, want): Look, at: At) {
     let fs = FsName::read(b"cephfs").expect(rt, "a name");
     let question = Question {
         client: ClientId(client),
         ino: Ino(ino),
         access,
     };
-    let text = text_of(rt.alloc(), answer(view, &fs, &question))?;
+    let text = made(rt, text_of(rt.alloc(), answer(view, &fs, &question)), at);
     same(rt, text.as_str(), want, at);
-    Ok(())
 }
 
 // ---- whole runs
@@ -182,26 +169,25 @@ fn play(
     rt: &(impl Abort + AllocGlobal),
     view: &mut View,
     (title, rounds): (&'static str, &'static [Round]),
-) -> Result<(), AllocError> {
+) {
     for (number, (changes, looks)) in rounds.iter().enumerate() {
         for (nth, told) in changes.iter().enumerate() {
-            follow(rt, view, *told, (title, number, nth))?;
+            follow(rt, view, *told, (title, number, nth));
         }
         for (nth, look) in looks.iter().enumerate() {
-            ask(rt, view, *look, (title, number, nth))?;
+            ask(rt, view, *look, (title, number, nth));
         }
     }
-    Ok(())
 }
 
 // A view of the tree and of no sessions.
-fn view_of(alloc: Global, tree: &Tree) -> Result<View, AllocError> {
-    let sessions = no_sessions(alloc)?;
-    View::of(tree, &sessions)
+fn view_of(rt: &(impl Abort + AllocGlobal), tree: &Tree) -> View {
+    let sessions = made(rt, no_sessions(rt.alloc()), "sessions");
+    made(rt, View::of(tree, &sessions), "a view")
 }
 
-fn copy_of(view: &View) -> Result<View, AllocError> {
-    view.copy()
+fn copy_of(rt: &impl Abort, view: &View) -> View {
+    made(rt, view.copy(), "a copy")
 }
 
 // Plays the rounds on a copy of the view, and then on the view itself, which is still as it was.
@@ -209,17 +195,17 @@ fn plays_twice(
     rt: &(impl Abort + AllocGlobal),
     tree: &Tree,
     rounds: (&'static str, &'static [Round]),
-) -> Result<(), AllocError> {
-    let mut view = view_of(rt.alloc(), tree)?;
-    let mut copy = copy_of(&view)?;
-    play(rt, &mut copy, rounds)?;
-    play(rt, &mut view, rounds)
+) {
+    let mut view = view_of(rt, tree);
+    let mut copy = copy_of(rt, &view);
+    play(rt, &mut copy, rounds);
+    play(rt, &mut view, rounds);
 }
 
-fn runs(rt: &(impl Abort + AllocGlobal), (title, before, rounds): Case) -> Result<(), AllocError> {
-    let mut tree = no_inodes(rt.alloc())?;
-    runs_on(rt, &mut tree, (title, before))?;
-    plays_twice(rt, &tree, (title, rounds))
+fn runs(rt: &(impl Abort + AllocGlobal), (title, before, rounds): Case) {
+    let mut tree = no_inodes(rt);
+    runs_on(rt, &mut tree, (title, before));
+    plays_twice(rt, &tree, (title, rounds));
 }
 
 const MOVED: &[Round] = &[
@@ -387,9 +373,8 @@ const CASES: &[Case] = &[
 ];
 
 #[test]
-fn a_view_follows_what_it_is_told(rt: HostRuntime) -> Result<(), Fail> {
+fn a_view_follows_what_it_is_told(rt: HostRuntime) {
     for case in CASES {
-        runs(&rt, *case)?;
+        runs(&rt, *case);
     }
-    Ok(())
 }
