@@ -19,6 +19,7 @@ use Rattle.lockmachine.specs.Scene.{Scene, target_by}
 use Rattle.lockmachine.specs.Moves.{same_state, parts, may_begin_in, may_begin_by, may_serve, is_first, is_servable, is_served_in, first_move, beginning, beginning_by, present_state}
 use Rattle.lockmachine.specs.Runs.{ChangesLocksOf}
 use Rattle.lockmachine.specs.Turns.{IsDoneAt, NobodyElsewhere, WaitAt}
+use Rattle.lockmachine.specs.Waiters.{queue_if}
 use Rattle.lockmachine.proofs.Finding.{find_none}
 use Rattle.lockmachine.proofs.Queue.{found_by_number, least_served}
 use Rattle.lockmachine.proofs.Waiting.{held-up-unserved}
@@ -32,7 +33,7 @@ none_any p [] none x (k, room, at) = absurd (omega arith)
 none_any p (y ∷ ys) none x (zero, room, at) = let e : y ≡ x = at in ap p (sym e) ∙ (neither (p y) (list_any p ys) none).0
 none_any p (y ∷ ys) none x (suc k, room, at) = none_any p ys (neither (p y) (list_any p ys) none).1 x (k, omega arith, at)
 
-find_same : {T : Type 0} (p r : T → Bool) (xs : List T) → ((x : T) → Contains xs x → p x ≡ r x) → find p xs ≡ find r xs
+pub find_same : {T : Type 0} (p r : T → Bool) (xs : List T) → ((x : T) → Contains xs x → p x ≡ r x) → find p xs ≡ find r xs
 find_same p r [] same = refl
 find_same p r (y ∷ ys) same =
     ap (λ b. cond b (Some y) (find p ys)) (same y (zero, omega arith, refl))
@@ -57,12 +58,19 @@ same-begin queue wants ino none part None = refl
 same-begin queue wants ino none part (Some (Stable state)) = ap (λ to. not (same_state to state)) (same-target queue wants ino none part state)
 same-begin queue wants ino none part (Some (Gather from to)) = refl
 
-pub same-beginning : (locks : LockMap) (wants : Wants) (ino : ℕ) → list_any (waits_for ino) locks.queue ≡ false
+same-beginning : (locks : LockMap) (wants : Wants) (ino : ℕ) → list_any (waits_for ino) locks.queue ≡ false
     → option_map (λ part. beginning_by [] locks wants (ino, part)) (find (λ part. may_begin_in [] wants (ino, part) (lock_at locks ino part)) parts)
     ≡ option_map (λ part. beginning locks wants (ino, part)) (find (λ part. may_begin_by locks wants (ino, part)) parts)
 same-beginning locks wants ino none k =
     option_map (λ part. Begin (record { 0 = ino }) part (same-target locks.queue wants ino none part (present_state (lock_at locks ino part)) k))
     (find (λ part. same-begin locks.queue wants ino none part (lock_at locks ino part) k) parts)
+
+-- where it is known whether one does
+pub asked-beginning : (locks : LockMap) (wants : Wants) (ino : ℕ) (waits : Bool) → waits ≡ list_any (waits_for ino) locks.queue
+    → option_map (λ part. beginning_by (queue_if waits locks.queue) locks wants (ino, part)) (find (λ part. may_begin_in (queue_if waits locks.queue) wants (ino, part) (lock_at locks ino part)) parts)
+    ≡ option_map (λ part. beginning locks wants (ino, part)) (find (λ part. may_begin_by locks wants (ino, part)) parts)
+asked-beginning locks wants ino true is = refl
+asked-beginning locks wants ino false is = same-beginning locks wants ino (sym is)
 
 -- where nobody who waits at another inode may be served
 

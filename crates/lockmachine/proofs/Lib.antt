@@ -19,3 +19,5 @@ pub mod Told
 pub mod Turns
 pub mod OneInode
 pub mod Alone
+pub mod ByLock
+pub mod FirstServed

@@ -1,5 +1,5 @@
 -- The queue: requests stand in it by their numbers.
-use Rattle.std.proofs.Common.{◌≡◌, ℕ, zero, suc, ◌+◌, ◌<◌, ◌≤◌, Bool, true, false, not, cond, Option, Some, None, List, [], ◌∷◌, ◌++◌, length, take, drop, get_or, refl, sym, ap, subst, ◌∙◌, All, Contains, arith, drop-cons}
+use Rattle.std.proofs.Common.{◌≡◌, ℕ, zero, suc, ◌+◌, ◌<◌, ◌≤◌, Bool, true, false, not, cond, Option, Some, None, List, [], ◌∷◌, ◌++◌, length, take, drop, get_or, refl, sym, ap, ◌∙◌, All, Contains, arith, drop-cons}
 use Rattle.std.specs.Prelude.{filter}
 use Rattle.std.specs.List.{find, position, remove, slice_get}
 use Rattle.std.specs.Option.{option_map}
@@ -22,7 +22,7 @@ use Rattle.lockmachine.specs.declared.request.Request.{Request}
 use Rattle.lockmachine.specs.declared.moves.Move.{Move}
 use Rattle.lockmachine.specs.declared.moves.Move.TheVariants.{Begin, End, Serve, Settled}
 use Rattle.lockmachine.specs.Requests.{is_numbered, is_of_client, AreTicketsRising}
-use Rattle.lockmachine.specs.Locks.{LockMap, IsLockMap, TakesOnly, request_at, next_request, with_request, without_request, requests_of, without_requests_of, TakesOldest}
+use Rattle.lockmachine.specs.Locks.{LockMap, IsLockMap, TakesOnly, request_at, next_request, with_request, without_request, requests_of, without_requests_of}
 use Rattle.lockmachine.specs.Scene.{Scene}
 use Rattle.lockmachine.specs.Moves.{LockPlace, places, may_end, may_serve, begin_or_rest, serve_or_begin, end_or_serve, first_move, moved, IsFirstServed}
 use Rattle.lockmachine.proofs.Rest.{not_found}
@@ -111,12 +111,12 @@ none_taken p (x ∷ xs) none =
 -- ---- the request that is served
 
 -- the first that passes a test has the least number of all that do
-record IsLeast (p : Request → Bool) (qs : List Request) (q : Request) : Type 0 where
-  waits : Contains qs q
-  passes : p q ≡ true
-  least : (r : Request) → Contains qs r → p r ≡ true → q.ticket.0 ≤ r.ticket.0
+pub record IsLeast (p : Request → Bool) (qs : List Request) (q : Request) : Type 0 where
+  pub waits : Contains qs q
+  pub passes : p q ≡ true
+  pub least : (r : Request) → Contains qs r → p r ≡ true → q.ticket.0 ≤ r.ticket.0
 
-least : (p : Request → Bool) (qs : List Request) (q : Request) → AreTicketsRising qs → find p qs ≡ Some q → IsLeast p qs q
+pub least : (p : Request → Bool) (qs : List Request) (q : Request) → AreTicketsRising qs → find p qs ≡ Some q → IsLeast p qs q
 least p [] q rising found = absurd (cc)
 least p (x ∷ xs) q rising found = elim (p x) as (λ b. p x ≡ b → cond b (Some x) (find p xs) ≡ Some q → IsLeast p (x ∷ xs) q) [
   | true ↦ λ passes found. (
@@ -163,72 +163,7 @@ least_served s ticket is move =
     let l = least (may_serve s.locks) s.locks.queue v.0 is.rising v.1 in
     (v.0, v.2, record { waits = l.waits; may = l.passes; least = l.least })
 
--- ---- the requests of a client, one after another
-
--- the first that passes a test is taken out of those that do, and of no others
-record TakesFirst (p : Request → Bool) (qs : List Request) (q : Request) : Type 0 where
-  waits : Contains qs q
-  passing : filter p qs ≡ q ∷ filter p (others q.ticket.0 qs)
-  failing : filter (λ r. not (p r)) (others q.ticket.0 qs) ≡ filter (λ r. not (p r)) qs
-
-takes_first : (p : Request → Bool) (qs : List Request) (q : Request) → AreTicketsRising qs → find p qs ≡ Some q → TakesFirst p qs q
-unfolding others
-takes_first p [] q rising found = absurd (cc)
-takes_first p (x ∷ xs) q rising found = elim (p x) as (λ b. p x ≡ b → cond b (Some x) (find p xs) ≡ Some q → TakesFirst p (x ∷ xs) q) [
-  | true ↦ λ passes found. (let e : x ≡ q = cc in subst (TakesFirst p (x ∷ xs)) e (at_first passes))
-  | false ↦ λ fails found. behind fails (takes_first p xs q (rising-tail x xs rising) found)
-] refl found
-  where
-    rest : others x.ticket.0 (x ∷ xs) ≡ xs
-    rest =
-        ap (λ b. cond (not b) (x ∷ others x.ticket.0 xs) (others x.ticket.0 xs)) (nat_eq_equiv.refl x.ticket.0)
-        ∙ all_others x.ticket.0 xs (rising-head x xs rising)
-
-    at_first : p x ≡ true → TakesFirst p (x ∷ xs) x
-    at_first passes = record {
-      waits = (0, omega arith, refl);
-      passing = ap (λ b. cond b (x ∷ filter p xs) (filter p xs)) passes ∙ ap (λ qs. x ∷ filter p qs) (sym rest);
-      failing = ap (filter (λ r. not (p r))) rest ∙ sym (ap (λ b. cond (not b) (x ∷ filter (λ r. not (p r)) xs) (filter (λ r. not (p r)) xs)) passes);
-    }
-
-    kept : Contains xs q → others q.ticket.0 (x ∷ xs) ≡ x ∷ others q.ticket.0 xs
-    kept inside =
-        let less : x.ticket.0 < q.ticket.0 = All-contains (λ r. x.ticket.0 < r.ticket.0) xs q (rising-head x xs rising) inside in
-        ap (λ b. cond (not b) (x ∷ others q.ticket.0 xs) (others q.ticket.0 xs)) (not_numbered' x q less)
-
-    behind : p x ≡ false → TakesFirst p xs q → TakesFirst p (x ∷ xs) q
-    behind fails is = record {
-      waits = (suc is.waits.0, omega (arith, is.waits.1), is.waits.2);
-      passing =
-          ap (λ b. cond b (x ∷ filter p xs) (filter p xs)) fails ∙ is.passing
-          ∙ sym (ap (λ qs. q ∷ filter p qs) (kept is.waits) ∙ ap (λ b. q ∷ cond b (x ∷ filter p (others q.ticket.0 xs)) (filter p (others q.ticket.0 xs))) fails);
-      failing =
-          ap (filter (λ r. not (p r))) (kept is.waits)
-          ∙ ap (λ b. cond (not b) (x ∷ filter (λ r. not (p r)) (others q.ticket.0 xs)) (filter (λ r. not (p r)) (others q.ticket.0 xs))) fails
-          ∙ ap (λ qs. x ∷ qs) is.failing
-          ∙ sym (ap (λ b. cond (not b) (x ∷ filter (λ r. not (p r)) xs) (filter (λ r. not (p r)) xs)) fails);
-    }
-
--- the oldest request of a client, by the number that a call answers
-pub oldest_taken : (locks : LockMap) (client : ClientId) (ticket : Ticket) → IsLockMap locks → option_map (λ (q : Request). q.ticket) (find (is_of_client client) locks.queue) ≡ Some ticket
-    → TakesOldest client ticket locks (without_request locks ticket.0)
-unfolding others
-oldest_taken locks client ticket is = by_found (find (is_of_client client) locks.queue) refl
-  where
-    taken_out : (q : Request) → find (is_of_client client) locks.queue ≡ Some q → TakesOldest client q.ticket locks (without_request locks q.ticket.0)
-    taken_out q found =
-        let first = takes_first (is_of_client client) locks.queue q is.rising found in
-        record {
-          oldest = q;
-          numbered = refl;
-          waits = first.waits;
-          of_client = first.passing;
-          of_others = ap (λ (qs : List Request). record locks { queue = qs }) first.failing;
-        }
-
-    by_found : (o : Option Request) → find (is_of_client client) locks.queue ≡ o → option_map (λ (q : Request). q.ticket) o ≡ Some ticket → TakesOldest client ticket locks (without_request locks ticket.0)
-    by_found None none is = absurd (cc)
-    by_found (Some q) found is = (let e : q.ticket ≡ ticket = cc in subst (λ (t : Ticket). TakesOldest client t locks (without_request locks t.0)) e (taken_out q found))
+-- ---- the requests of a client
 
 -- where a client has none, none is of it, and all are of others
 pub none_left : (locks : LockMap) (client : ClientId) → option_map (λ (q : Request). q.ticket) (find (is_of_client client) locks.queue) ≡ None

@@ -5,8 +5,10 @@ use Rattle.std.specs.FinMap as map
 use Rattle.lockmachine.specs.declared.request.Request.{Request}
 use Rattle.lockmachine.specs.contracts.request.Request as request
 use Rattle.lockmachine.specs.contracts.states.InodeLocks as inode_locks
+use Rattle.lockmachine.specs.contracts.waiters.Waiter as waiter
 use Rattle.lockmachine.specs.Inodes.{StateMap}
 use Rattle.lockmachine.specs.Locks.{LockMap}
+use Rattle.lockmachine.specs.Waiters.{WaiterList}
 
 -- a map of inodes to locks as its entries
 abbrev pub state_map_code : Coded StateMap
@@ -17,3 +19,7 @@ abbrev pub lock_map_code : Coded LockMap
 lock_map_code =
     code_by (StateMap × (List Request × ℕ)) (coded× state_map_code (coded× (coded_list request.the_row.coded) coded_ℕ))
     (λ l. (l.states, (l.queue, l.last))) (λ p. record { states = p.0; queue = p.1.0; last = p.1.1 }) (λ _. refl)
+
+-- who waits as a list
+abbrev pub waiters_code : Coded WaiterList
+waiters_code = coded_list waiter.the_row.coded

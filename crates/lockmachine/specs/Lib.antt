@@ -7,6 +7,7 @@ pub mod Wants
 pub mod Scene
 pub mod Told
 pub mod Moves
+pub mod Waiters
 pub mod Runs
 pub mod Rows
 pub mod Elsewhere

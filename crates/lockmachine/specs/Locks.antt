@@ -1,12 +1,11 @@
 -- The locks as a value: the four locks of each inode, the queue, and the last number that a request was given.
-use Rattle.std.specs.Prelude.{◌≡◌, ℕ, ◌+◌, ◌≤◌, nat_le, Option, List, [], ◌∷◌, ◌++◌, length, filter, not, All, Contains}
+use Rattle.std.specs.Prelude.{◌≡◌, ℕ, ◌+◌, ◌≤◌, nat_le, Option, List, [], ◌∷◌, ◌++◌, length, filter, not, All}
 use Rattle.std.specs.List.{find}
 use Rattle.std.specs.Option.{option_map}
 use Rattle.std.specs.FinMap as map
 use Rattle.capbits.specs.declared.cap.Part.{Part}
 use Rattle.capbits.specs.declared.ids.ClientId.{ClientId}
 use Rattle.capbits.specs.declared.ids.Ino.{Ino}
-use Rattle.capbits.specs.declared.ids.Ticket.{Ticket}
 use Rattle.capbits.specs.declared.refusal.Refusal.TheVariants as refusal
 use Rattle.capbits.specs.Refusal.{Test, refused_if}
 use Rattle.capbits.specs.Maps.{change_at}
@@ -88,12 +87,3 @@ requests_of locks client = filter (is_of_client client) locks.queue
 -- none of them waits any more
 abbrev pub without_requests_of : LockMap → ClientId → LockMap
 without_requests_of locks client = record locks { queue = filter (λ q. not (is_of_client client q)) locks.queue }
-
--- of the client's requests the oldest, which has this number, is taken out; the others of the client are left, and so are those
--- of all other clients
-pub record TakesOldest (client : ClientId) (ticket : Ticket) (old new : LockMap) : Type 0 where
-  pub oldest : Request
-  pub numbered : oldest.ticket ≡ ticket
-  pub waits : Contains old.queue oldest
-  pub of_client : requests_of old client ≡ oldest ∷ requests_of new client
-  pub of_others : without_requests_of new client ≡ without_requests_of old client

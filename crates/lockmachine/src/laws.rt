@@ -17,7 +17,7 @@ ghost use Rattle.lockmachine.specs.declared.moves.Move.TheVariants.{Serve, Settl
 ghost use Rattle.lockmachine.specs.Inodes.{in_sync};
 ghost use Rattle.lockmachine.specs.Requests.{is_of_client};
 ghost use Rattle.lockmachine.specs.Scene.{Scene};
-ghost use Rattle.lockmachine.specs.Locks.{LockMap, IsLockMap, TakesOnly, TakesOldest, request_at, requests_of, with_request, without_request, without_requests_of};
+ghost use Rattle.lockmachine.specs.Locks.{LockMap, IsLockMap, TakesOnly, request_at, requests_of, with_request, without_request, without_requests_of};
 ghost use Rattle.lockmachine.specs.Moves.{first_move, moved, with_moved, IsFirstServed, IsAtRest, WaitAtLocks};
 ghost use Rattle.lockmachine.specs.Runs.{Runs, AreFew, MoveLittle, EndLittle};
 ghost use Rattle.lockmachine.specs.Rows.{IsInRow};
@@ -83,12 +83,8 @@ pub fn a_new_request_keeps_the_order()
         → length locks.queue < 1024 → IsLockMap (with_request locks client ino ask) }
 {}
 
-/// A client's requests are taken out one after another, the oldest first, and no others are. Where the client has none, all
-/// that wait are of others. The order of the queue is kept.
-pub fn a_clients_requests_go_one_by_one()
-    ensures oldest { (locks : LockMap) (client : ClientId) (ticket : Ticket) → IsLockMap locks
-        → option_map (λ (q : Request). q.ticket) (find (is_of_client client) locks.queue) ≡ Some ticket
-        → TakesOldest client ticket locks (without_request locks ticket.0) }
+/// And so does the dropping of a client's requests. Where the client has none, nothing changes.
+pub fn dropped_requests_keep_the_order()
     ensures none { (locks : LockMap) (client : ClientId)
         → option_map (λ (q : Request). q.ticket) (find (is_of_client client) locks.queue) ≡ None
         → (requests_of locks client ≡ []) × (without_requests_of locks client ≡ locks) }

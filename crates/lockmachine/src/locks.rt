@@ -1,7 +1,7 @@
 //! The locks by inode, the queue, and the moves of both.
-ghost use Rattle.std.specs.Prelude.{◌≡◌, ◌==◌, ◌&&◌, ◌+◌, ◌-◌, ◌<◌, ◌^◌, ℕ, List, None, false, length, position, IfOk, IfSome, OnOk, OnErr, MatchOption};
+ghost use Rattle.std.specs.Prelude.{◌≡◌, ◌==◌, ◌&&◌, ◌+◌, ◌-◌, ◌<◌, ◌^◌, ℕ, List, None, false, length, position, IfOk, IfSome, OnOk, OnErr};
 ghost use Rattle.std.specs.List.{find, list_any};
-ghost use Rattle.std.specs.Option.{option_map, option_copied};
+ghost use Rattle.std.specs.Option.{option_map};
 ghost use Rattle.std.specs.FinMap as map;
 ghost use Rattle.capbits.specs.Refusal.{first_failing};
 ghost use Rattle.capbits.specs.declared.cap.Part.{Part};
@@ -12,6 +12,7 @@ ghost use Rattle.lockmachine.specs.Locks as words;
 ghost use Rattle.lockmachine.specs.Requests as requests;
 ghost use Rattle.lockmachine.specs.Requests.{waits_for};
 ghost use Rattle.lockmachine.specs.Scene.{wanted_in_all, scene, head_in, target_by};
+ghost use Rattle.lockmachine.specs.Waiters as waiting;
 ghost use Rattle.lockmachine.specs.Moves as moves;
 ghost use Rattle.lockmachine.specs.Moves.{first_move, moved, handed};
 ghost use Rattle.lockmachine.specs.Runs.{MoveLittle, EndLittle, ChangesLocksOf};
@@ -21,6 +22,7 @@ use crate::moves::Move;
 use crate::request::{Ask, Request};
 use crate::revoked::is_held_outside;
 use crate::states::{InodeLocks, States};
+use crate::waiters::{MAX_WAITING, Waiter, Waiters};
 use crate::wants::{Wants, known_or_found, wants_on};
 use capbits::{ClientId, Ino, Part, Refusal, Ticket};
 use capspec::FsName;
@@ -31,9 +33,6 @@ use sessiontab::Sessions;
 use std::alloc::{AllocError, Global};
 use std::marker::Model;
 
-/// The most requests that may wait.
-pub const MAX_WAITING: usize = 1024;
-
 // The parts, in their order.
 const PARTS: [Part; 4] = [Part::A, Part::L, Part::X, Part::F];
 
@@ -43,13 +42,16 @@ pub struct Locks {
     states: States,
     // The oldest first. It has room for as many as may wait, so that who is to wait needs no memory.
     queue: Vec<Request>,
+    // The same, by the locks that they wait for.
+    waiters: Waiters,
     // The last number that a request was given.
     last: u64,
 }
 
 impl Model for Locks {
-    ghost use Rattle.std.specs.Prelude.{◌≤◌, vec_capacity};
+    ghost use Rattle.std.specs.Prelude.{◌≤◌, map as each, vec_capacity};
     ghost use Rattle.lockmachine.specs.Locks.{LockMap, IsLockMap};
+    ghost use Rattle.lockmachine.specs.Waiters.{waiter_of, StandAlike};
     ghost use Rattle.lockmachine.specs.Codes.{lock_map_code};
 
     ghost Value = { LockMap };
@@ -59,7 +61,7 @@ impl Model for Locks {
     ghost view = { λ l. record { states = l.states; queue = l.queue.items; last = l.last } };
 
     ghost invariant = { λ l. IsLockMap (record { states = l.states; queue = l.queue.items; last = l.last })
-        × (1024 ≤ vec_capacity l.queue) };
+        × (1024 ≤ vec_capacity l.queue) × StandAlike l.waiters (each waiter_of l.queue.items) };
 }
 
 // By hand, so that a caller which lets one go has one call to prove, and no step for each of its parts.
@@ -68,6 +70,7 @@ impl Drop for Locks {
         let Locks {
             states: _states,
             queue: _queue,
+            waiters: _waiters,
             last: _last,
         } = self;
     }
@@ -79,11 +82,18 @@ impl Locks {
         ensures { IfOk result (λ locks. locks ≡ words.no_locks) }
     {
         let queue = Vec::with_capacity(alloc, MAX_WAITING)?;
-        Ok(Locks {
-            states: States::new(alloc),
-            queue,
-            last: 0,
-        })
+        match Waiters::new(alloc) {
+            Ok(waiters) => Ok(Locks {
+                states: States::new(alloc),
+                queue,
+                waiters,
+                last: 0,
+            }),
+            Err(refused) => {
+                drop(queue);
+                Err(refused)
+            }
+        }
     }
 
     /// Adds the locks of a new inode, each stable in SYNC. For want of memory nothing changes.
@@ -153,6 +163,7 @@ impl Locks {
             ino,
             ask,
         };
+        self.waiters.add(Waiter::of(&request));
         let Ok(()) = self.queue.push(request) else {
             unreachable!()
         };
@@ -167,33 +178,17 @@ impl Locks {
         self.queue.as_slice()
     }
 
-    /// Takes the oldest request of a client out of the queue and answers its number. Where the client has none, nothing
-    /// changes. It takes no memory.
-    pub fn drop_client(&mut self, client: ClientId) -> Option<Ticket>
-        ensures dropped { result ≡ option_map (λ q. q.ticket) (find (requests.is_of_client client) self.old.queue) }
-        ensures left { MatchOption result (self.new ≡ self.old) (λ ticket. self.new ≡ words.without_request self.old ticket.0) }
-    {
-        let ticket = self.first_of(client)?;
-        let _dropped = self.take_request(ticket);
-        Some(ticket)
-    }
-
-    /// Takes all requests of a client out of the queue, by one pass over it. It takes no memory.
+    /// Takes all requests of a client out of the queue, by one pass over it, and, where others wait, one over who waits by lock. It
+    /// takes no memory.
     pub fn drop_requests_of(&mut self, client: ClientId)
         ensures { self.new ≡ words.without_requests_of self.old client }
     {
         self.queue.retain(|request| !is_of_client(client, request));
-    }
-
-    // The number of a client's oldest request.
-    fn first_of(&self, client: ClientId) -> Option<Ticket>
-        ensures { result ≡ option_map (λ q. q.ticket) (find (requests.is_of_client client) self.now.queue) }
-    {
-        let request = self
-            .queue
-            .iter()
-            .find(|request| request.client.0 == client.0)?;
-        Some(request.ticket)
+        if self.queue.is_empty() {
+            self.waiters.clear();
+        } else {
+            self.waiters.drop_those_of(client);
+        }
     }
 
     // ---- which move comes next
@@ -325,25 +320,58 @@ impl Locks {
         ensures { result ≡ option_map (λ part. moves.beginning self.now wants.now (ino.0, part))
             (find (λ part. moves.may_begin_by self.now wants.now (ino.0, part)) moves.parts) }
     {
-        self.first_begin_by(self.requests(), ino, wants)
+        self.first_begin_by(true, ino, wants)
     }
 
-    // The same, where these requests wait.
-    fn first_begin_by(&self, queue: &[Request], ino: Ino, wants: &Wants) -> Option<Move>
-        ensures { result ≡ option_map (λ part. moves.beginning_by queue.now self.now wants.now (ino.0, part))
-            (find (λ part. moves.may_begin_in queue.now wants.now (ino.0, part) (words.lock_at self.now ino.0 part)) moves.parts) }
+    // The same, where no request waits unless `waits` says that one may.
+    fn first_begin_by(&self, waits: bool, ino: Ino, wants: &Wants) -> Option<Move>
+        ensures { result ≡ option_map (λ part. moves.beginning_by (waiting.queue_if waits self.now.queue) self.now wants.now (ino.0, part))
+            (find (λ part. moves.may_begin_in (waiting.queue_if waits self.now.queue) wants.now (ino.0, part) (words.lock_at self.now ino.0 part)) moves.parts) }
     {
-        let part = self.first_to_begin(queue, ino, wants)?;
-        let to = target_for(queue, ino, part, self.present_state(ino, part), wants);
+        let part = self.first_to_begin(waits, ino, wants)?;
+        let to = self.target_for(waits, ino, part, self.present_state(ino, part), wants);
         Some(Move::Begin { ino, part, to })
     }
 
     // The first part of an inode whose lock may begin.
-    fn first_to_begin(&self, queue: &[Request], ino: Ino, wants: &Wants) -> Option<Part>
-        ensures { result ≡ find (λ part. moves.may_begin_in queue.now wants.now (ino.0, part) (words.lock_at self.now ino.0 part)) moves.parts }
+    fn first_to_begin(&self, waits: bool, ino: Ino, wants: &Wants) -> Option<Part>
+        ensures { result ≡ find (λ part. moves.may_begin_in (waiting.queue_if waits self.now.queue) wants.now (ino.0, part) (words.lock_at self.now ino.0 part)) moves.parts }
     {
         let four = self.states.get(ino)?;
-        PARTS.iter().copied().find(|part| may_begin(queue, ino, *part, four.of_part(*part), wants))
+        PARTS.iter().copied().find(|part| {
+            self.may_begin(waits, ino, *part, four.of_part(*part), wants)
+        })
+    }
+
+    // Whether the lock of the part, which is in this state, is stable, and not at its target.
+    fn may_begin(&self, waits: bool, ino: Ino, part: Part, lock: LockState, wants: &Wants) -> bool
+        ensures { result ≡ moves.may_begin_in (waiting.queue_if waits self.now.queue) wants.now (ino.0, part) (Some lock) }
+    {
+        match lock {
+            LockState::Stable(state) => self.target_for(waits, ino, part, state, wants) != state,
+            LockState::Gather { .. } => false,
+        }
+    }
+
+    // Where the lock is to go, stable in this state.
+    fn target_for(&self, waits: bool, ino: Ino, part: Part, state: State, wants: &Wants) -> State
+        ensures { result ≡ target_by (waiting.queue_if waits self.now.queue) wants.now ino.0 part state }
+    {
+        let head = self.head(waits, ino, part);
+        target(part, state, head, wants.loner, wants.wanted)
+    }
+
+    // What stands first in the queue of a lock, by the same.
+    fn head(&self, waits: bool, ino: Ino, part: Part) -> Head
+        ensures { result ≡ head_in (waiting.queue_if waits self.now.queue) ino.0 part }
+    {
+        if !waits {
+            return Head::Empty;
+        }
+        match self.waiters.first_at(ino, part) {
+            Some(first) => first.head,
+            None => Head::Empty,
+        }
     }
 
     // ---- at one request
@@ -359,8 +387,19 @@ impl Locks {
     fn is_servable(&self, request: &Request) -> bool
         ensures { result ≡ moves.is_servable self.now request.now }
     {
-        match self.state(request.ino, request.ask.part()) {
-            Some(LockState::Stable(state)) => serves(state, request.ask.head(request.client)),
+        self.serves(
+            request.ino,
+            request.ask.part(),
+            request.ask.head(request.client),
+        )
+    }
+
+    // Whether a lock is stable in a state that serves this head.
+    fn serves(&self, ino: Ino, part: Part, head: Head) -> bool
+        ensures { result ≡ moves.is_served_in (words.lock_at self.now ino.0 part) head }
+    {
+        match self.state(ino, part) {
+            Some(LockState::Stable(state)) => serves(state, head),
             Some(LockState::Gather { .. }) | None => false,
         }
     }
@@ -369,7 +408,7 @@ impl Locks {
     fn is_first(&self, request: &Request) -> bool
         ensures { result ≡ moves.is_first self.now.queue request.now }
     {
-        match first_for(self.requests(), request.ino, request.ask.part()) {
+        match self.waiters.first_at(request.ino, request.ask.part()) {
             Some(first) => first.ticket.0 == request.ticket.0,
             None => false,
         }
@@ -379,16 +418,31 @@ impl Locks {
     fn waits_at(&self, ino: Ino) -> bool
         ensures { result ≡ list_any (waits_for ino.0) self.now.queue }
     {
-        self.queue.iter().any(|request| request.ino.0 == ino.0)
+        self.waiters.any_at(ino)
     }
 
     // The oldest request for a lock of this inode that may be served.
     fn first_served_at(&self, ino: Ino) -> Option<Ticket>
         ensures { result ≡ option_map (λ q. q.ticket) (find (λ q. waits_for ino.0 q && moves.may_serve self.now q) self.now.queue) }
     {
-        let served = self.queue.iter().find(|request| request.ino.0 == ino.0
-            && self.may_serve(request))?;
-        Some(served.ticket)
+        // Only the first for each of its locks may.
+        let auth = self.first_where_served(ino, Part::A);
+        let link = self.first_where_served(ino, Part::L);
+        let xattr = self.first_where_served(ino, Part::X);
+        let file = self.first_where_served(ino, Part::F);
+        let lower = earlier(auth, link);
+        let higher = earlier(xattr, file);
+        earlier(lower, higher)
+    }
+
+    // The first request for a lock, where it may be served.
+    fn first_where_served(&self, ino: Ino, part: Part) -> Option<Ticket>
+        ensures number { result ≡ waiting.served_of self.now (requests.first_for self.now.queue ino.0 part) }
+        ensures sound { words.IsLockMap self.now }
+    {
+        let first = self.waiters.first_at(ino, part)?;
+        self.serves(first.ino, first.part, first.head)
+            .then_some(first.ticket)
     }
 
     // ---- making moves
@@ -421,6 +475,7 @@ impl Locks {
         ensures taken { result ≡ words.request_at self.old ticket.0 }
     {
         let place = self.place_of(ticket)?;
+        self.waiters.take_out(ticket);
         Some(self.queue.remove(place))
     }
 
@@ -492,8 +547,7 @@ impl Locks {
         }
     }
 
-    /// The same, where nobody who waits at another inode may be served. It passes over the requests for others by one comparison
-    /// each, and looks at the locks of those for this inode alone.
+    /// The same, where nobody who waits at another inode may be served. It looks for the requests for this inode alone.
     pub fn advance_alone_at(
         &mut self,
         table: &CapTable,
@@ -572,12 +626,7 @@ impl Locks {
         ensures { result ≡ option_map (λ part. moves.beginning self.now wants.now (ino.0, part))
             (find (λ part. moves.may_begin_by self.now wants.now (ino.0, part)) moves.parts) }
     {
-        if waits {
-            self.first_begin(ino, wants)
-        } else {
-            // Nothing stands first in a queue of the inode.
-            self.first_begin_by(&[], ino, wants)
-        }
+        self.first_begin_by(waits, ino, wants)
     }
 
     /// Where no gather of a lower inode may end, ends those of an inode that may, in the order of the parts. It looks at
@@ -623,6 +672,17 @@ impl Locks {
     }
 }
 
+// The number that was given first.
+fn earlier(a: Option<Ticket>, b: Option<Ticket>) -> Option<Ticket>
+    ensures { result ≡ waiting.earlier a b }
+{
+    match (a, b) {
+        (Some(first), Some(second)) => Some(if first.0 <= second.0 { first } else { second }),
+        (Some(only), None) | (None, Some(only)) => Some(only),
+        (None, None) => None,
+    }
+}
+
 // Whether the request is the client's.
 fn is_of_client(client: ClientId, request: &Request) -> bool
     ensures { result ≡ requests.is_of_client client request.now }
@@ -638,44 +698,4 @@ fn may_end(table: &CapTable, ino: Ino, part: Part, lock: LockState) -> bool
         LockState::Gather { to, .. } => !is_held_outside(table, ino, part, to),
         LockState::Stable(_) => false,
     }
-}
-
-// Whether the lock of the part, which is in this state, is stable, and not at its target, where these requests wait.
-fn may_begin(queue: &[Request], ino: Ino, part: Part, lock: LockState, wants: &Wants) -> bool
-    ensures { result ≡ moves.may_begin_in queue.now wants.now (ino.0, part) (Some lock) }
-{
-    match lock {
-        LockState::Stable(state) => target_for(queue, ino, part, state, wants) != state,
-        LockState::Gather { .. } => false,
-    }
-}
-
-// Where the lock is to go, stable in this state.
-fn target_for(queue: &[Request], ino: Ino, part: Part, state: State, wants: &Wants) -> State
-    ensures { result ≡ target_by queue.now wants.now ino.0 part state }
-{
-    target(
-        part,
-        state,
-        head(queue, ino, part),
-        wants.loner,
-        wants.wanted,
-    )
-}
-
-// What stands first in the queue of a lock.
-fn head(queue: &[Request], ino: Ino, part: Part) -> Head
-    ensures { result ≡ head_in queue.now ino.0 part }
-{
-    match first_for(queue, ino, part) {
-        None => Head::Empty,
-        Some(request) => request.ask.head(request.client),
-    }
-}
-
-// The request that waits longest for the lock.
-fn first_for(queue: &[Request], ino: Ino, part: Part) -> Option<&Request>
-    ensures { option_copied result ≡ requests.first_for queue.now ino.0 part }
-{
-    queue.iter().find(|request| request.is_for(ino, part))
 }
