@@ -15,7 +15,6 @@ ghost use Rattle.capcore.specs.Touching.{asks_for};
 use crate::ended::close_with;
 use crate::history::Stop;
 use crate::judge::{by_test, denial};
-use crate::messages::Endings;
 use crate::reply::Said;
 use crate::serving::{
     after_refusal, ask_denial, before_refusal, change_access, change_refusal, places_refusal,
@@ -107,18 +106,12 @@ impl World {
         // A look at the tree and at the entries, by which the proof knows what they keep.
         let (_last, _oldest) = (self.tree.last(), self.table.oldest());
         let waiting = self.locks.waiting() + 1;
-        let Ok(mut endings) = Endings::with_room(
-            self.alloc(),
-            waiting,
-            waiting + 1,
-            &mut self.spare,
-        ) else {
+        if let Err(refused) = self.endings.begin(waiting, waiting + 1) {
             drop(ask);
-            return Err(Stop::NoMemory);
-        };
+            return Err(refused.into());
+        }
         if let Err(refused) = self.messages.reserve(waiting) {
             drop(ask);
-            drop(endings);
             return Err(refused.into());
         }
         let ticket = self.locks.enqueue(client, ino, ask);
@@ -130,9 +123,9 @@ impl World {
             &mut self.known,
             &mut self.locks,
             ino,
-            &mut endings,
+            &mut self.endings,
         );
-        Ok(close_with(&mut self.messages, &mut self.spare, ticket, endings))
+        Ok(close_with(&mut self.messages, ticket, &mut self.endings))
     }
 
     // ---- what stops them

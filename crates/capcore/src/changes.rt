@@ -1,5 +1,5 @@
 //! The changes that a step notes: how it changes what readers see.
-ghost use Rattle.std.specs.Prelude.{◌≡◌, ℕ, ◌+◌, ◌≤◌, ◌<◌, ◌++◌, [], ◌∷◌, length, List, IfOk, OnOk};
+ghost use Rattle.std.specs.Prelude.{◌≡◌, ◌==◌, ℕ, ◌+◌, ◌≤◌, ◌<◌, ◌++◌, [], ◌∷◌, length, List, IfOk, OnOk};
 ghost use Rattle.capgrant.specs.declared.access.Attr.{Attr as Owners};
 ghost use Rattle.inotree.specs.declared.node.Kind.{Kind as NodeKind};
 ghost use Rattle.inotree.specs.declared.node.Node.{Node as NodeValue};
@@ -67,35 +67,41 @@ impl ChangeList {
         }
     }
 
-    // The list that is kept here, without its changes: a new one stays in its place.
-    pub(crate) fn take(&mut self, alloc: Global) -> ChangeList
-        ensures items { result.items ≡ [] }
+    // No change, and room for so many.
+    pub(crate) fn begin(&mut self, room: usize) -> Result<(), AllocError>
+        ensures { OnOk result ((self.new.items ≡ []) × (room ≤ self.new.room)) }
     {
-        let mut taken = replace(self, ChangeList::new(alloc));
-        // Most steps change nothing of what readers see.
-        if !taken.items.is_empty() {
-            taken.items.clear();
+        self.clear();
+        if self.items.capacity() < room {
+            // A list that grows would move its places, which are of no use here.
+            let alloc = *self.items.allocator();
+            *self = ChangeList::with_room(alloc, room.saturating_add(SPARE_PLACES))?;
         }
-        // Of the room that is kept, each step asks for what it wants.
-        taken.places = 0;
-        taken
+        self.places = room;
+        Ok(())
     }
 
-    // The same, with room for so many.
-    pub(crate) fn take_with_room(
-        &mut self,
-        alloc: Global,
-        room: usize,
-    ) -> Result<ChangeList, AllocError>
-        ensures { IfOk result (λ changes. (changes.items ≡ []) × (room ≤ changes.room)) }
+    // No change, and no place.
+    pub(crate) fn clear(&mut self)
+        ensures { self.new.items ≡ [] }
     {
-        let mut taken = self.take(alloc);
-        if taken.items.capacity() >= room {
-            taken.places = room;
-            return Ok(taken);
+        // Most steps change nothing of what readers see.
+        if !self.items.is_empty() {
+            self.items.clear();
         }
-        // A list that grows would move its places, which are of no use here.
-        ChangeList::with_room(alloc, room.saturating_add(SPARE_PLACES))
+        // Of the room that is kept, each step asks for what it wants.
+        self.places = 0;
+    }
+
+    // The changes. Where there are none, the room stays here, unless it is too much to be kept.
+    pub(crate) fn take(&mut self) -> ChangeList
+        ensures items { result.items ≡ self.old.items }
+    {
+        let none = ChangeList::new(*self.items.allocator());
+        if self.items.is_empty() && self.items.capacity() <= MAX_KEPT_PLACES {
+            return none;
+        }
+        replace(self, none)
     }
 
     // No change, and room for so many.
@@ -112,7 +118,8 @@ impl ChangeList {
 
     // Keeps the list, whose changes nobody asks for any more, in the place of this one, so that its room is used again.
     pub(crate) fn keep(&mut self, list: ChangeList) {
-        if list.items.capacity() <= MAX_KEPT_PLACES {
+        let room = list.items.capacity();
+        if room != 0 && room <= MAX_KEPT_PLACES {
             *self = list;
         }
     }
@@ -127,6 +134,13 @@ impl ChangeList {
         self.items.reserve(places - self.items.len())?;
         self.places = places;
         Ok(())
+    }
+
+    // Whether there are none.
+    pub(crate) fn is_empty(&self) -> bool
+        ensures { result ≡ (length self.now.items == 0) }
+    {
+        self.items.is_empty()
     }
 
     // The changes.

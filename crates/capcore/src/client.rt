@@ -27,7 +27,7 @@ use crate::ended::close_dropped;
 use crate::history::Stop;
 use crate::ino_set::InoSet;
 use crate::known::Known;
-use crate::messages::{Endings, Messages, Spare};
+use crate::messages::{Endings, Messages};
 use crate::outcome::{Ended, Outcome};
 use crate::reply::{Reply, Said};
 use crate::settle::end_at;
@@ -61,9 +61,7 @@ pub(crate) enum Turn<'a> {
 struct Room {
     // Each inode that the client has an entry on or waits for, but for the root.
     others: InoSet,
-    // Lists with a place for each request that waits: of those that are served, where it is noted what becomes of the session,
-    endings: Endings,
-    // and of those that are dropped, of which nobody is told.
+    // A list with a place for each request that waits: of those that are dropped, of which nobody is told.
     dropped: Messages,
 }
 
@@ -83,8 +81,8 @@ impl World {
         if let Some(refusal) = turn_refusal(&self.sessions, client, turn) {
             return Ok(Said::alone(self.alloc(), Reply::Refused(refusal)));
         }
-        let (alloc, spare) = (self.alloc(), &mut self.spare);
-        let mut room = Room::new(alloc, &self.table, &self.locks, client, turn, spare)?;
+        let (alloc, endings) = (self.alloc(), &mut self.endings);
+        let mut room = Room::new(alloc, &self.table, &self.locks, client, turn, endings)?;
         if let Err(refused) = turn_session(&mut self.sessions, client, turn) {
             drop(room);
             return Err(refused.into());
@@ -100,11 +98,7 @@ impl World {
             turn,
             &mut room.dropped,
         );
-        let Room {
-            others,
-            mut endings,
-            dropped,
-        } = room;
+        let Room { others, dropped } = room;
         end_at(
             &self.fs,
             &mut self.tree,
@@ -114,9 +108,9 @@ impl World {
             &mut self.locks,
             ROOT,
             others,
-            &mut endings,
+            &mut self.endings,
         );
-        Ok(close_dropped(&mut self.messages, &mut self.spare, dropped, endings))
+        Ok(close_dropped(&mut self.messages, dropped, &mut self.endings))
     }
 }
 
@@ -220,38 +214,35 @@ fn drop_requests(locks: &mut Locks, client: ClientId, dropped: &mut Messages)
 // ---- room
 
 impl Room {
-    // All inodes where the client is, and room for each request that waits.
+    // All inodes where the client is, and room for each request that waits. What the step lists begins with what becomes of the
+    // session.
     fn new(
         alloc: Global,
         table: &CapTable,
         locks: &Locks,
         client: ClientId,
         turn: Turn,
-        spare: &mut Spare,
+        endings: &mut Endings,
     ) -> Result<Room, AllocError>
         ensures reaches { IfOk result (λ room. ReachesClient 1 client table.now locks.now room.others) }
-        ensures told { IfOk result (λ room. (room.endings.told.items ≡ []) × (length locks.now.queue ≤ room.endings.told.room)) }
-        ensures kept { IfOk result (λ room. (room.endings.kept.items ≡ []) × (length locks.now.queue ≤ room.endings.kept.room)) }
-        ensures sized { IfOk result (λ room. (room.endings.sized.items ≡ []) × (length locks.now.queue ≤ vec_capacity room.endings.sized)) }
+        ensures told { OnOk result ((endings.new.told.items ≡ []) × (length locks.now.queue ≤ endings.new.told.room)) }
+        ensures kept { OnOk result ((endings.new.kept.items ≡ []) × (length locks.now.queue ≤ endings.new.kept.room)) }
+        ensures sized { OnOk result ((endings.new.sized.items ≡ []) × (length locks.now.queue ≤ vec_capacity endings.new.sized)) }
         ensures dropped { IfOk result (λ room. (room.dropped.items ≡ []) × (length locks.now.queue ≤ room.dropped.room)) }
-        ensures places { IfOk result (λ room. HavePlaces room.endings.changes locks.now room.others) }
-        ensures lead { IfOk result (λ room. Notes room.endings.changes.items client turn.entry) }
+        ensures places { IfOk result (λ room. HavePlaces endings.new.changes locks.now room.others) }
+        ensures lead { OnOk result (Notes endings.new.changes.items client turn.entry) }
     {
         let others = reach_client(alloc, table, locks, client)?;
-        let places = locks.waiting() + others.len() + 2;
-        let Ok(endings) = endings_of(alloc, locks.waiting(), places, client, turn, spare) else {
+        let waiting = locks.waiting();
+        let places = waiting + others.len() + 2;
+        if let Err(refused) = begin_turn(endings, waiting, places, client, turn) {
             drop(others);
-            return Err(AllocError);
-        };
-        match Messages::with_room(alloc, locks.waiting()) {
-            Ok(dropped) => Ok(Room {
-                others,
-                endings,
-                dropped,
-            }),
+            return Err(refused);
+        }
+        match Messages::with_room(alloc, waiting) {
+            Ok(dropped) => Ok(Room { others, dropped }),
             Err(refused) => {
                 drop(others);
-                drop(endings);
                 Err(refused)
             }
         }
@@ -259,29 +250,22 @@ impl Room {
 }
 
 // No request that ended, and room for so many; and it is noted what becomes of the session, with room for so many changes.
-fn endings_of(
-    alloc: Global,
+fn begin_turn(
+    endings: &mut Endings,
     waiting: usize,
     places: usize,
     client: ClientId,
     turn: Turn,
-    spare: &mut Spare,
-) -> Result<Endings, AllocError>
+) -> Result<(), AllocError>
     requires place { 1 ≤ places }
-    ensures told { IfOk result (λ endings. (endings.told.items ≡ []) × (waiting ≤ endings.told.room)) }
-    ensures kept { IfOk result (λ endings. (endings.kept.items ≡ []) × (waiting ≤ endings.kept.room)) }
-    ensures sized { IfOk result (λ endings. (endings.sized.items ≡ []) × (waiting ≤ vec_capacity endings.sized)) }
-    ensures places { IfOk result (λ endings. (length endings.changes.items ≤ 1) × (places ≤ endings.changes.room)) }
-    ensures lead { IfOk result (λ endings. Notes endings.changes.items client turn.entry) }
+    ensures told { OnOk result ((endings.new.told.items ≡ []) × (waiting ≤ endings.new.told.room)) }
+    ensures kept { OnOk result ((endings.new.kept.items ≡ []) × (waiting ≤ endings.new.kept.room)) }
+    ensures sized { OnOk result ((endings.new.sized.items ≡ []) × (waiting ≤ vec_capacity endings.new.sized)) }
+    ensures places { OnOk result ((length endings.new.changes.items ≤ 1) × (places ≤ endings.new.changes.room)) }
+    ensures lead { OnOk result (Notes endings.new.changes.items client turn.entry) }
 {
-    let mut endings = Endings::with_room(alloc, waiting, places, spare)?;
-    match note_turn(&mut endings.changes, client, turn) {
-        Ok(()) => Ok(endings),
-        Err(refused) => {
-            drop(endings);
-            Err(refused)
-        }
-    }
+    endings.begin(waiting, places)?;
+    note_turn(&mut endings.changes, client, turn)
 }
 
 // Notes what becomes of the session. Other grants are copied, which takes memory.

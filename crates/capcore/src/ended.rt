@@ -6,113 +6,79 @@ ghost use Rattle.capcore.specs.Untold.{HaveOwnNumbers, but_for};
 ghost use Rattle.capcore.specs.declared.reply.Reply.TheVariants as reply;
 
 use crate::copies::copy_of_reply;
-use crate::messages::{Endings, Messages, Spare};
+use crate::messages::{Endings, Messages};
 use crate::outcome::{Ended, Outcome};
 use crate::reply::{Reply, Said};
 use capbits::Ticket;
 
 // A reply, which has no list, and the requests that the step ended: their clients are to be told of them, and the history keeps
 // them.
-pub(crate) fn close(
-    messages: &mut Messages,
-    spare: &mut Spare,
-    reply: Reply,
-    endings: Endings,
-) -> Said
+pub(crate) fn close(messages: &mut Messages, reply: Reply, endings: &mut Endings) -> Said
     requires list { has_list reply ≡ false }
-    requires room { length messages.old.items + length endings.told.items ≤ messages.old.room }
-    ensures items { messages.new.items ≡ messages.old.items ++ endings.told.items }
+    requires room { length messages.old.items + length endings.old.told.items ≤ messages.old.room }
+    ensures items { messages.new.items ≡ messages.old.items ++ endings.old.told.items }
     ensures room { messages.old.room ≤ messages.new.room }
     ensures reply { result.reply ≡ reply }
     ensures kept { result.kept ≡ reply }
-    ensures ended { result.ended ≡ endings.kept.items }
-    ensures changes { result.changes ≡ endings.changes }
+    ensures ended { result.ended ≡ endings.old.kept.items }
+    ensures changes { result.changes.items ≡ endings.old.changes.items }
 {
-    let Endings {
-        mut told,
-        kept,
-        sized,
-        changes,
-    } = endings;
-    messages.append(&mut told);
-    spare.keep(told, sized);
-    let ended = kept.into_list(&mut spare.kept);
+    messages.append(&mut endings.told);
     let kept = copy_of_reply(&reply);
     Said {
         reply,
         kept,
-        ended,
-        changes,
+        ended: endings.kept.take_list(),
+        changes: endings.changes.take(),
     }
 }
 
 // That it is done, and the requests that the step ended: those that were dropped, of which nobody is told, and those that were served.
 pub(crate) fn close_dropped(
     messages: &mut Messages,
-    spare: &mut Spare,
     dropped: Messages,
-    endings: Endings,
+    endings: &mut Endings,
 ) -> Said
-    requires room { length messages.old.items + length endings.told.items ≤ messages.old.room }
-    requires list { length dropped.items + length endings.kept.items ≤ dropped.room }
-    ensures items { messages.new.items ≡ messages.old.items ++ endings.told.items }
+    requires room { length messages.old.items + length endings.old.told.items ≤ messages.old.room }
+    requires list { length dropped.items + length endings.old.kept.items ≤ dropped.room }
+    ensures items { messages.new.items ≡ messages.old.items ++ endings.old.told.items }
     ensures room { messages.old.room ≤ messages.new.room }
     ensures reply { result.reply ≡ reply.Done }
     ensures kept { result.kept ≡ reply.Done }
-    ensures ended { result.ended ≡ dropped.items ++ endings.kept.items }
-    ensures changes { result.changes ≡ endings.changes }
+    ensures ended { result.ended ≡ dropped.items ++ endings.old.kept.items }
+    ensures changes { result.changes.items ≡ endings.old.changes.items }
 {
-    let Endings {
-        mut told,
-        mut kept,
-        sized,
-        changes,
-    } = endings;
-    messages.append(&mut told);
-    spare.keep(told, sized);
+    messages.append(&mut endings.told);
     let mut all = dropped;
-    all.append(&mut kept);
+    all.append(&mut endings.kept);
     Said {
         reply: Reply::Done,
         kept: Reply::Done,
-        ended: all.into_list(&mut spare.kept),
-        changes,
+        ended: all.take_list(),
+        changes: endings.changes.take(),
     }
 }
 
 // How the request with this number ended in the step, if it did; else that it waits; and the other requests that the step ended.
-pub(crate) fn close_with(
-    messages: &mut Messages,
-    spare: &mut Spare,
-    ticket: Ticket,
-    endings: Endings,
-) -> Said
-    requires differ { HaveOwnNumbers endings.told.items }
-    requires same { endings.kept.items ≡ endings.told.items }
-    requires room { length messages.old.items + length endings.told.items ≤ messages.old.room }
-    ensures items { messages.new.items ≡ messages.old.items ++ but_for ticket endings.told.items }
+pub(crate) fn close_with(messages: &mut Messages, ticket: Ticket, endings: &mut Endings) -> Said
+    requires differ { HaveOwnNumbers endings.old.told.items }
+    requires same { endings.old.kept.items ≡ endings.old.told.items }
+    requires room { length messages.old.items + length endings.old.told.items ≤ messages.old.room }
+    ensures items { messages.new.items ≡ messages.old.items ++ but_for ticket endings.old.told.items }
     ensures room { messages.old.room ≤ messages.new.room }
-    ensures reply { result.reply ≡ awaited_as ticket (find (is_of_ticket ticket) endings.told.items) }
+    ensures reply { result.reply ≡ awaited_as ticket (find (is_of_ticket ticket) endings.old.told.items) }
     ensures kept { result.kept ≡ result.reply }
-    ensures ended { result.ended ≡ but_for ticket endings.told.items }
-    ensures changes { result.changes ≡ endings.changes }
+    ensures ended { result.ended ≡ but_for ticket endings.old.told.items }
+    ensures changes { result.changes.items ≡ endings.old.changes.items }
 {
-    let Endings {
-        mut told,
-        mut kept,
-        sized,
-        changes,
-    } = endings;
-    let reply = awaited(ticket, told.take(ticket));
-    messages.append(&mut told);
-    spare.keep(told, sized);
-    let kept_reply = awaited(ticket, kept.take(ticket));
-    let ended = kept.into_list(&mut spare.kept);
+    let reply = awaited(ticket, endings.told.take(ticket));
+    messages.append(&mut endings.told);
+    let kept = awaited(ticket, endings.kept.take(ticket));
     Said {
         reply,
-        kept: kept_reply,
-        ended,
-        changes,
+        kept,
+        ended: endings.kept.take_list(),
+        changes: endings.changes.take(),
     }
 }
 

@@ -13,7 +13,6 @@ ghost use Rattle.capcore.specs.Sound.{NumbersLeft};
 use crate::ended::close;
 use crate::history::Stop;
 use crate::judge::{by_test, denial};
-use crate::messages::Endings;
 use crate::reply::{Reply, Said};
 use crate::serving::{alter, change_access, change_refusal};
 use crate::settle::end_at_one;
@@ -43,12 +42,9 @@ impl World {
             return Ok(Said::alone(self.alloc(), stopped.into()));
         }
         let waiting = self.locks.waiting();
-        let mut endings = Endings::with_room(self.alloc(), waiting, waiting + 2, &mut self.spare)?;
-        if let Err(refused) = alter(&mut self.tree, ino, change) {
-            drop(endings);
-            return Err(refused.into());
-        }
-        endings.changes.note_change(&self.tree, ino, change);
+        self.endings.begin(waiting, waiting + 2)?;
+        alter(&mut self.tree, ino, change)?;
+        self.endings.changes.note_change(&self.tree, ino, change);
         self.table.touch(client, ino);
         end_at_one(
             &self.fs,
@@ -58,9 +54,9 @@ impl World {
             &mut self.known,
             &mut self.locks,
             ino,
-            &mut endings,
+            &mut self.endings,
         );
-        Ok(close(&mut self.messages, &mut self.spare, Reply::Done, endings))
+        Ok(close(&mut self.messages, Reply::Done, &mut self.endings))
     }
 
     // What stops a flush.

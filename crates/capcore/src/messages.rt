@@ -17,9 +17,6 @@ use std::fmt;
 use std::marker::Model;
 use std::mem::replace;
 
-// A list with room for more is given back, so that it isn't left behind. It is as many as may wait.
-const MAX_KEPT_ROOM: usize = 1024;
-
 // In the order in which they ended. Their room is made when they begin to wait, so that none is lost.
 #[derive(Debug, Drop)]
 pub(crate) struct Messages {
@@ -58,27 +55,12 @@ impl Messages {
         Ok(Messages { items })
     }
 
-    // No request, and room for so many, by the list that is kept here: one without room stays in its place.
-    fn take_with_room(&mut self, room: usize) -> Result<Messages, AllocError>
-        ensures { IfOk result (λ messages. (messages.items ≡ []) × (room ≤ messages.room)) }
+    // No request. The room stays.
+    fn clear(&mut self)
+        ensures { self.new.items ≡ [] }
     {
-        let alloc = self.alloc();
-        // Mostly nobody waits.
-        if room == 0 {
-            return Ok(Messages::new(alloc));
-        }
-        let Messages { mut items } = replace(self, Messages::new(alloc));
-        if !items.is_empty() {
-            items.clear();
-        }
-        items.reserve(room)?;
-        Ok(Messages { items })
-    }
-
-    // Keeps the list, whose requests nobody asks for any more, in the place of this one, so that its room is used again.
-    fn keep(&mut self, list: Messages) {
-        if is_kept(list.items.capacity()) {
-            *self = list;
+        if !self.items.is_empty() {
+            self.items.clear();
         }
     }
 
@@ -147,16 +129,15 @@ impl Messages {
             .position(|ended| ended.ticket.0 == ticket.0)
     }
 
-    // The requests, as a list for the history. Where there are none, the room is kept for later steps.
-    pub(crate) fn into_list(self, kept: &mut Messages) -> EndedList
-        ensures { result ≡ self.items }
+    // The requests, as a list for the history. Where there are none, the room stays here.
+    pub(crate) fn take_list(&mut self) -> EndedList
+        ensures { result ≡ self.old.items }
     {
+        let alloc = self.alloc();
         if self.items.is_empty() {
-            let none = EndedList::new(self.alloc());
-            kept.keep(self);
-            return none;
+            return EndedList::new(alloc);
         }
-        let Messages { mut items } = self;
+        let mut items = replace(&mut self.items, Vec::new(alloc));
         // The history keeps the list for good, but not the room for all who waited.
         items.shrink_to_fit();
         EndedList::from(items)
@@ -184,7 +165,7 @@ impl Messages {
 }
 
 // The requests that a step ends: once to be told to their clients, and once for the history; the inodes whose sizes they
-// changed; and what the step changes of what readers see.
+// changed; and what the step changes of what readers see. Between steps their room alone is of use, and is no part of a state.
 #[derive(Drop)]
 pub(crate) struct Endings {
     pub(crate) told: Messages,
@@ -193,34 +174,43 @@ pub(crate) struct Endings {
     pub(crate) changes: ChangeList,
 }
 
+// Tells nothing of the room that is kept, of which an event that finds no memory may leave less.
+impl fmt::Debug for Endings {
+    fn fmt<W: fmt::Write>(&self, f: &mut fmt::Formatter<W>) -> fmt::Result {
+        f.debug_struct("Endings").finish_non_exhaustive()
+    }
+}
+
 impl Endings {
-    // No request and no change, and room for so many requests and so many changes, in the lists that are spare.
-    pub(crate) fn with_room(
-        alloc: Global,
-        room: usize,
-        places: usize,
-        spare: &mut Spare,
-    ) -> Result<Endings, AllocError>
-        ensures told { IfOk result (λ endings. (endings.told.items ≡ []) × (room ≤ endings.told.room)) }
-        ensures kept { IfOk result (λ endings. (endings.kept.items ≡ []) × (room ≤ endings.kept.room)) }
-        ensures sized { IfOk result (λ endings. (endings.sized.items ≡ []) × (room ≤ vec_capacity endings.sized)) }
-        ensures changes { IfOk result (λ endings. (endings.changes.items ≡ []) × (places ≤ endings.changes.room)) }
+    // No request and no change, and no room.
+    pub(crate) fn new(alloc: Global) -> Endings {
+        Endings {
+            told: Messages::new(alloc),
+            kept: Messages::new(alloc),
+            sized: Vec::new(alloc),
+            changes: ChangeList::new(alloc),
+        }
+    }
+
+    // No request and no change, and room for so many requests and so many changes.
+    pub(crate) fn begin(&mut self, room: usize, places: usize) -> Result<(), AllocError>
+        ensures told { OnOk result ((self.new.told.items ≡ []) × (room ≤ self.new.told.room)) }
+        ensures kept { OnOk result ((self.new.kept.items ≡ []) × (room ≤ self.new.kept.room)) }
+        ensures sized { OnOk result ((self.new.sized.items ≡ []) × (room ≤ vec_capacity self.new.sized)) }
+        ensures changes { OnOk result ((self.new.changes.items ≡ []) × (places ≤ self.new.changes.room)) }
     {
-        let sized = spare.take_sized(alloc, room)?;
-        let (Ok(told), Ok(kept), Ok(changes)) = (
-            spare.told.take_with_room(room),
-            spare.kept.take_with_room(room),
-            spare.changes.take_with_room(alloc, places),
-        ) else {
-            drop(sized);
-            return Err(AllocError);
-        };
-        Ok(Endings {
-            told,
-            kept,
-            sized,
-            changes,
-        })
+        self.told.clear();
+        self.kept.clear();
+        if !self.sized.is_empty() {
+            self.sized.clear();
+        }
+        // Mostly nobody waits.
+        if room != 0 {
+            self.told.reserve(room)?;
+            self.kept.reserve(room)?;
+            self.sized.reserve(room)?;
+        }
+        self.changes.begin(places)
     }
 
     // The allocator of the lists.
@@ -259,62 +249,6 @@ impl Endings {
         });
         add_sized(&mut self.sized, sized);
     }
-}
-
-// The lists of earlier steps, of which only the room is of use. It is no part of a state.
-#[derive(Drop)]
-pub(crate) struct Spare {
-    pub(crate) changes: ChangeList,
-    told: Messages,
-    pub(crate) kept: Messages,
-    sized: Vec<Ino>,
-}
-
-// Tells nothing of the room that is kept, of which an event that finds no memory may leave less.
-impl fmt::Debug for Spare {
-    fn fmt<W: fmt::Write>(&self, f: &mut fmt::Formatter<W>) -> fmt::Result {
-        f.debug_struct("Spare").finish_non_exhaustive()
-    }
-}
-
-impl Spare {
-    // No room.
-    pub(crate) fn new(alloc: Global) -> Spare {
-        Spare {
-            changes: ChangeList::new(alloc),
-            told: Messages::new(alloc),
-            kept: Messages::new(alloc),
-            sized: Vec::new(alloc),
-        }
-    }
-
-    // No inode, and room for so many, by the list that is kept here: one without room stays in its place.
-    fn take_sized(&mut self, alloc: Global, room: usize) -> Result<Vec<Ino>, AllocError>
-        ensures { IfOk result (λ inodes. (inodes.items ≡ []) × (room ≤ vec_capacity inodes)) }
-    {
-        if room == 0 {
-            return Ok(Vec::new(alloc));
-        }
-        let mut sized = replace(&mut self.sized, Vec::new(alloc));
-        if !sized.is_empty() {
-            sized.clear();
-        }
-        sized.reserve(room)?;
-        Ok(sized)
-    }
-
-    // Keeps the lists of what was told and of whose sizes changed, which nobody asks for any more.
-    pub(crate) fn keep(&mut self, told: Messages, sized: Vec<Ino>) {
-        self.told.keep(told);
-        if is_kept(sized.capacity()) {
-            self.sized = sized;
-        }
-    }
-}
-
-// Whether a list with so much room is kept for later steps.
-fn is_kept(room: usize) -> bool {
-    room != 0 && room <= MAX_KEPT_ROOM
 }
 
 // One inode more, if there is one, for which there is room.

@@ -5,6 +5,7 @@ ghost use Rattle.capcore.specs.Answered.{IsAnswered};
 ghost use Rattle.capcore.specs.Noted.{view_of};
 ghost use Rattle.capview.specs.Changes.{AreChanges};
 
+use crate::changes::ChangeList;
 use crate::history::{EndedList, Stop};
 use crate::reply::{Reply, Said};
 use crate::world::World;
@@ -25,7 +26,7 @@ impl World {
             reply: Reply::Recalled(named),
             kept: Reply::Recalled(kept),
             ended: EndedList::new(alloc),
-            changes: self.spare.changes.take(alloc),
+            changes: ChangeList::new(alloc),
         })
     }
 }

@@ -97,7 +97,7 @@ impl Core {
             reply: kept,
             ended,
         };
-        self.world.keep_room(replace(&mut self.changes, changes));
+        tell(&mut self.changes, changes, &mut self.world);
         add_row(&mut self.rows, row);
         Ok(reply)
     }
@@ -169,6 +169,20 @@ fn make_room(rows: &mut Vec<Row>, max_rows: u32, pass: PassId) -> Result<u64, St
     }
     rows.reserve(1)?;
     Ok(next_number(rows, pass))
+}
+
+// These changes are told in the place of those of the step before. The list that is not needed is kept for a later step.
+fn tell(told: &mut ChangeList, changes: ChangeList, world: &mut World)
+    ensures told { told.new.items ≡ changes.items }
+    ensures world { world.new ≡ world.old }
+{
+    // Most steps change nothing of what readers see.
+    if changes.is_empty() {
+        told.clear();
+        world.keep_room(changes);
+    } else {
+        world.keep_room(replace(told, changes));
+    }
 }
 
 // Adds a row for which there is room.

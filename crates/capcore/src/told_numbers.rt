@@ -1,5 +1,5 @@
 //! Which requests some messages tell of.
-ghost use Rattle.std.specs.Prelude.{◌≡◌, ◌==◌, ◌||◌, IfOk, OnOk};
+ghost use Rattle.std.specs.Prelude.{◌≡◌, ◌==◌, ◌||◌, true, IfOk, OnOk};
 ghost use Rattle.std.specs.List.{list_any};
 ghost use Rattle.capcore.specs.Messages.{AreEndsOf, is_end_of};
 
@@ -47,7 +47,22 @@ impl ToldNumbers {
     pub(crate) fn contains(&self, ticket: Ticket) -> bool
         ensures { result ≡ list_any (λ number. number == ticket.0) self.now }
     {
+        if self.is_where_guessed(ticket) {
+            return true;
+        }
         self.sorted.as_slice().binary_search(&ticket.0).is_ok()
+    }
+
+    // Whether it stands where it would if the numbers had no gaps, as those of a client that asks alone have none.
+    fn is_where_guessed(&self, ticket: Ticket) -> bool
+        ensures { result ≡ true → list_any (λ number. number == ticket.0) self.now ≡ true }
+    {
+        let first = self.sorted.first().copied().unwrap_or(0);
+        let place = ticket.0.saturating_sub(first) as usize;
+        match self.sorted.get(place) {
+            Some(number) => *number == ticket.0,
+            None => false,
+        }
     }
 }
 

@@ -33,7 +33,7 @@ use crate::event::{Event, OpenMode};
 use crate::history::{EndedList, Stop};
 use crate::judge::{by_test, denial};
 use crate::known::Known;
-use crate::messages::{Endings, Messages, Spare};
+use crate::messages::{Endings, Messages};
 use crate::poll::{due_messages, give};
 use crate::reply::{Reply, Said};
 use crate::settle::end_at_entry;
@@ -53,6 +53,7 @@ use locktable::LockState;
 use sessiontab::{Sessions, Status};
 use std::alloc::{AllocError, Global};
 use std::marker::Model;
+use std::mem::replace;
 
 // The state that events change: tree, sessions, entries, locks, and what clients are still to be told.
 #[derive(Debug, Drop)]
@@ -66,8 +67,8 @@ pub(crate) struct World {
     pub(crate) locks: Locks,
     // The requests that ended and that no client was told of.
     pub(crate) messages: Messages,
-    // Room for what the next step lists.
-    pub(crate) spare: Spare,
+    // What a step lists, between steps of use for its room alone.
+    pub(crate) endings: Endings,
 }
 
 impl Model for World {
@@ -116,7 +117,7 @@ impl World {
             known: Known::new(alloc),
             locks,
             messages: Messages::new(alloc),
-            spare: Spare::new(alloc),
+            endings: Endings::new(alloc),
         })
     }
 
@@ -209,12 +210,9 @@ impl World {
         }
         let revoked = revoked_of(&self.table, &self.known, holder);
         let waiting = self.locks.waiting();
-        let mut endings = Endings::with_room(self.alloc(), waiting, waiting + 1, &mut self.spare)?;
+        self.endings.begin(waiting, waiting + 1)?;
         let (table, known) = (&mut self.table, &mut self.known);
-        if let Err(refused) = touch_entry(table, known, holder, revoked, &touch) {
-            drop(endings);
-            return Err(refused.into());
-        }
+        touch_entry(table, known, holder, revoked, &touch)?;
         end_at_entry(
             &self.fs,
             &mut self.tree,
@@ -223,10 +221,10 @@ impl World {
             &mut self.known,
             &mut self.locks,
             holder,
-            &mut endings,
+            &mut self.endings,
         );
         let reply = tell(&mut self.table, &self.known, holder, &touch);
-        Ok(close(&mut self.messages, &mut self.spare, reply, endings))
+        Ok(close(&mut self.messages, reply, &mut self.endings))
     }
 
     // A step that gives a client the first messages that are due to it.
@@ -255,7 +253,7 @@ impl World {
             reply: Reply::Messages(given),
             kept: Reply::Messages(kept),
             ended: EndedList::new(alloc),
-            changes: self.spare.changes.take(alloc),
+            changes: ChangeList::new(alloc),
         })
     }
 
@@ -264,15 +262,17 @@ impl World {
         ensures same { self.new ≡ self.old }
         ensures none { result.items ≡ [] }
     {
-        let alloc = self.alloc();
-        self.spare.changes.take(alloc)
+        let none = ChangeList::new(self.alloc());
+        let mut changes = replace(&mut self.endings.changes, none);
+        changes.clear();
+        changes
     }
 
     // The changes of the step before the last are of no use any more, but for their room.
     pub(crate) fn keep_room(&mut self, changes: ChangeList)
         ensures { self.new ≡ self.old }
     {
-        self.spare.changes.keep(changes);
+        self.endings.changes.keep(changes);
     }
 
     // The allocator of all that the state keeps.

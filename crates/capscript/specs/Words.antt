@@ -39,9 +39,9 @@ is_one_word part = list_all (λ b. not (is_space b)) part
 
 abbrev pub commands : List Command
 commands =
-    Session ∷ CloseSession ∷ Stale ∷ Renew ∷ Regrant ∷ Evict ∷ Unblock ∷ Recall
-    ∷ Lookup ∷ Create ∷ Mkdir ∷ MakeSnapshot ∷ RemoveSnapshot ∷ Open ∷ Want ∷ Ack ∷ Release
-    ∷ Get ∷ Alter ∷ Unlink ∷ Rmdir ∷ Rename ∷ Flush ∷ Poll ∷ []
+    Open ∷ Want ∷ Ack ∷ Release ∷ Lookup ∷ Get ∷ Alter ∷ Poll ∷ Create
+    ∷ Flush ∷ Unlink ∷ Rename ∷ Mkdir ∷ Rmdir ∷ Recall ∷ Session ∷ CloseSession ∷ Stale
+    ∷ Renew ∷ Regrant ∷ Evict ∷ Unblock ∷ MakeSnapshot ∷ RemoveSnapshot ∷ []
 
 -- the command that a word is
 abbrev pub command_in : List ℕ → Result Command LineFault

@@ -5,7 +5,23 @@ ghost use Rattle.capscript.specs.Words.{command_in};
 use crate::fault::LineFault;
 use capexplain::Command;
 
+// Those that come most often stand first, since they are searched for in this order.
 const COMMANDS: [Command; 24] = [
+    Command::Open,
+    Command::Want,
+    Command::Ack,
+    Command::Release,
+    Command::Lookup,
+    Command::Get,
+    Command::Alter,
+    Command::Poll,
+    Command::Create,
+    Command::Flush,
+    Command::Unlink,
+    Command::Rename,
+    Command::Mkdir,
+    Command::Rmdir,
+    Command::Recall,
     Command::Session,
     Command::CloseSession,
     Command::Stale,
@@ -13,23 +29,8 @@ const COMMANDS: [Command; 24] = [
     Command::Regrant,
     Command::Evict,
     Command::Unblock,
-    Command::Recall,
-    Command::Lookup,
-    Command::Create,
-    Command::Mkdir,
     Command::MakeSnapshot,
     Command::RemoveSnapshot,
-    Command::Open,
-    Command::Want,
-    Command::Ack,
-    Command::Release,
-    Command::Get,
-    Command::Alter,
-    Command::Unlink,
-    Command::Rmdir,
-    Command::Rename,
-    Command::Flush,
-    Command::Poll,
 ];
 
 // The command that a word is.

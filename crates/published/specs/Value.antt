@@ -8,8 +8,8 @@ use Rattle.published.specs.declared.value.Stage.TheVariants as stage
 -- other rows, one change of the view, or another view
 abbrev pub staged : Published → Stage → Published
 staged value (stage.Rows rows) = record value { rows = rows }
-staged value (stage.Change change) = record value { view = view_by value.view change }
-staged value (stage.Whole view) = record value { view = view }
+staged value (stage.Change change) = record value { view = view_by value.view change.value }
+staged value (stage.Whole view) = record value { view = view.value }
 
 -- what is shown once the stages are there
 abbrev pub staged_all : Published → List Stage → Published

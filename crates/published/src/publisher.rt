@@ -24,6 +24,7 @@ use std::sync::Wait;
 /// Who publishes. What was refused memory goes out with the next: then the whole view is staged once more. It is not `Drop`:
 /// end it by `end`.
 pub struct Publisher<L: Server> {
+    alloc: Global,
     // Who adds rows to the book. It has those that are published, and those that are staged.
     recorder: Recorder<L>,
     writer: PublishedWriter<L>,
@@ -65,6 +66,7 @@ impl<L: Server> Publisher<L> {
         let second = first.copy()?;
         let writer = PublishedWriter::<L>::new(alloc, first, second, readers as usize)?;
         Ok(Publisher {
+            alloc,
             recorder,
             writer,
             lost: false,
@@ -94,11 +96,13 @@ impl<L: Server> Publisher<L> {
             return;
         }
         let Publisher {
+            alloc,
             recorder,
             writer,
             lost,
         } = self;
-        *lost = !(stage_changes(writer, changes) && stage_history(writer, recorder, history));
+        *lost = !(stage_changes(*alloc, writer, changes)
+            && stage_history(writer, recorder, history));
     }
 
     /// Where a stage was lost, takes the rows of the history into the book and stages the whole view.
@@ -115,11 +119,13 @@ impl<L: Server> Publisher<L> {
             return;
         }
         let Publisher {
+            alloc,
             recorder,
             writer,
             lost,
         } = self;
-        *lost = !(stage_view(writer, tree, sessions) && stage_history(writer, recorder, history));
+        *lost = !(stage_view(*alloc, writer, tree, sessions)
+            && stage_history(writer, recorder, history));
     }
 
     /// Publishes what is staged, and gives the rows that readers see then. At `None` memory was refused: they see what they
@@ -133,6 +139,7 @@ impl<L: Server> Publisher<L> {
             return (self, None);
         }
         let Publisher {
+            alloc,
             recorder,
             writer,
             lost,
@@ -143,6 +150,7 @@ impl<L: Server> Publisher<L> {
             Err(_) => None,
         };
         let publisher = Publisher {
+            alloc,
             recorder,
             writer,
             lost,
@@ -155,6 +163,7 @@ impl<L: Server> Publisher<L> {
         ensures { result ≡ self.rows }
     {
         let Publisher {
+            alloc: _,
             recorder,
             writer,
             lost: _,

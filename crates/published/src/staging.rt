@@ -1,5 +1,5 @@
 //! The stages that bring what is published up to date.
-ghost use Rattle.std.specs.Prelude.{◌≡◌, ◌≤◌, length, drop, fold, IsTrue};
+ghost use Rattle.std.specs.Prelude.{◌≡◌, ◌≤◌, length, drop, fold, Ok, IsTrue, IfSome};
 ghost use mathlib.Core.List.{IsPrefix};
 ghost use Rattle.capview.specs.Changes.{view_by};
 ghost use Rattle.published.specs.Rows.{Legal};
@@ -13,6 +13,7 @@ use capcore::Row;
 use capview::{View, ViewChange};
 use inotree::Tree;
 use sessiontab::Sessions;
+use std::alloc::{AllocError, Global};
 
 // Takes the rows of the history that are new into the book and stages them, behind what leads to their view. It says whether all is
 // staged.
@@ -55,6 +56,7 @@ fn gather<L: Server>(recorder: &mut Recorder<L>, history: &[Row]) -> bool
 
 // Stages the changes one by one. It says whether all are staged.
 pub(crate) fn stage_changes<L: Server>(
+    alloc: Global,
     writer: &mut PublishedWriter<L>,
     changes: &[ViewChange],
 ) -> bool
@@ -62,25 +64,30 @@ pub(crate) fn stage_changes<L: Server>(
     ensures view { IsTrue result → (staged_all writer.new.desk.shown.value (drop writer.new.behind writer.new.log.items)).view ≡ fold view_by (staged_all writer.old.desk.shown.value (drop writer.old.behind writer.old.log.items)).view changes.now }
 {
     for change in changes {
-        if !stage_change(writer, change) {
+        if !stage_change(alloc, writer, change) {
             return false;
         }
     }
     true
 }
 
-fn stage_change<L: Server>(writer: &mut PublishedWriter<L>, change: &ViewChange) -> bool
+fn stage_change<L: Server>(
+    alloc: Global,
+    writer: &mut PublishedWriter<L>,
+    change: &ViewChange,
+) -> bool
     ensures shown { writer.new.desk.shown.value ≡ writer.old.desk.shown.value }
     ensures view { IsTrue result → (staged_all writer.new.desk.shown.value (drop writer.new.behind writer.new.log.items)).view ≡ view_by (staged_all writer.old.desk.shown.value (drop writer.old.behind writer.old.log.items)).view change.now }
 {
-    match change.copy() {
-        Ok(change) => stage(writer, Stage::Change(change)),
-        Err(_refused) => false,
+    match boxed(alloc, change.copy()) {
+        Some(change) => stage(writer, Stage::Change(change)),
+        None => false,
     }
 }
 
 // Stages the view of this tree and these sessions. It says whether it is staged.
 pub(crate) fn stage_view<L: Server>(
+    alloc: Global,
     writer: &mut PublishedWriter<L>,
     tree: &Tree,
     sessions: &Sessions,
@@ -88,10 +95,17 @@ pub(crate) fn stage_view<L: Server>(
     ensures shown { writer.new.desk.shown.value ≡ writer.old.desk.shown.value }
     ensures view { IsTrue result → (staged_all writer.new.desk.shown.value (drop writer.new.behind writer.new.log.items)).view ≡ record { tree = tree.now; sessions = sessions.now.sessions } }
 {
-    match View::of(tree, sessions) {
-        Ok(view) => stage(writer, Stage::Whole(view)),
-        Err(_refused) => false,
+    match boxed(alloc, View::of(tree, sessions)) {
+        Some(view) => stage(writer, Stage::Whole(view)),
+        None => false,
     }
+}
+
+// The value in a box of its own, where there was memory for both.
+fn boxed<T: Drop>(alloc: Global, made: Result<T, AllocError>) -> Option<Box<T>>
+    ensures { IfSome result (λ b. made ≡ Ok b.value) }
+{
+    Box::new(alloc, made.ok()?).ok()
 }
 
 fn stage<L: Server>(writer: &mut PublishedWriter<L>, next: Stage) -> bool

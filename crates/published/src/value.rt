@@ -31,10 +31,10 @@ impl Published {
 pub enum Stage {
     /// There are more rows.
     Rows(Counted),
-    /// The view follows by one change.
-    Change(ViewChange),
+    /// The view follows by one change. It is boxed, as a view is, since each event stages rows: what most stages are stays small.
+    Change(Box<ViewChange>),
     /// The view is this one, whatever it was.
-    Whole(View),
+    Whole(Box<View>),
 }
 
 impl Absorb<Stage> for Published {

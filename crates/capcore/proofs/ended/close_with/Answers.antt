@@ -8,8 +8,8 @@ use Rattle.capcore.proofs.ended.close_with.Goals as goal
 
 pub append-requires : goal.append-requires
 append-requires c =
-    let left : length c.take.new.self.items ≡ length (but_for c.args.ticket c.args.endings.told.items) = ap length c.take.ensures.left in
-    let few : length (but_for c.args.ticket c.args.endings.told.items) ≡ count_by (λ (m : Ended). not (m.ticket.0 == c.args.ticket.0)) c.args.endings.told.items =
-    length-filter (λ (m : Ended). not (m.ticket.0 == c.args.ticket.0)) c.args.endings.told.items in
-    let most = count_by-le-length (λ (m : Ended). not (m.ticket.0 == c.args.ticket.0)) c.args.endings.told.items in
+    let left : length c.take.new.self.items ≡ length (but_for c.args.ticket c.args.endings.now.told.items) = ap length c.take.ensures.left in
+    let few : length (but_for c.args.ticket c.args.endings.now.told.items) ≡ count_by (λ (m : Ended). not (m.ticket.0 == c.args.ticket.0)) c.args.endings.now.told.items =
+    length-filter (λ (m : Ended). not (m.ticket.0 == c.args.ticket.0)) c.args.endings.now.told.items in
+    let most = count_by-le-length (λ (m : Ended). not (m.ticket.0 == c.args.ticket.0)) c.args.endings.now.told.items in
     record { room = omega (arith, left, few, most, c.requires.room) }

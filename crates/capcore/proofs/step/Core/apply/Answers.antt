@@ -57,7 +57,7 @@ invariant_of-self-2 c =
     let row : Row = row_of c in
     let step : Step c.self.inside.world row.event row.reply row.ended c.step.new.self = kept_step c in
     let all = answered_of c in
-    rw (c.add_row.ensures, c.make_room.ensures.items, c.keep_room.ensures, c.replace.ensures.after)
+    rw (c.add_row.ensures, c.make_room.ensures.items, c.tell.ensures.world, c.tell.ensures.told)
     (more-told (told c.self.inside.world c.self.inside.rows.items c.self.inside.max_rows c.self.inside.changes.items) row c.step.new.self c.in_ok-reply.field-0.changes.items c.self.invariant step c.in_ok-nth.ensures.number c.in_ok-nth.ensures.room.0
     c.in_ok-reply.ensures.table all.sound (all.given (length c.self.inside.rows.items) c.self.invariant.given))
 
@@ -122,6 +122,6 @@ promised c =
 
 pub returns-clause-promised : goal.returns-clause-promised
 returns-clause-promised c =
-    rw (c.keep_room.ensures, c.replace.ensures.after)
+    rw (c.tell.ensures.world, c.tell.ensures.told)
     (subst (λ (t : Told). IsPromised t c.args.pass c.args.event c.in_ok-reply.field-0.reply (after c c.add_row.new.rows.items)) c.self.view_is
     (subst (λ (rows : List Row). IsPromised (before c) c.args.pass c.args.event c.in_ok-reply.field-0.reply (after c rows)) (sym (added c)) (promised c)))

@@ -22,7 +22,7 @@ use Rattle.capcore.proofs.OfInode.{event-table}
 use Rattle.capcore.proofs.Flushed.{flush-calls, flush-direct}
 use Rattle.capcore.proofs.Stops.{stopped-answered}
 use Rattle.capview.specs.Changes.{AreChanges}
-use Rattle.capcore.specs.Noted.{Noted, view_of}
+use Rattle.capcore.specs.Noted.{view_of}
 use Rattle.capcore.proofs.Noting.{changes-all, changes-still, leads-then}
 use Rattle.capcore.proofs.world.World.flush.Goals as goal
 use Rattle.capcore.proofs.world.World.flush.Goals.{After-touch, After-close}
@@ -67,7 +67,7 @@ module _ (c : After-touch) where
 
   is : first ≡ (direct old e).state.scene
   is =
-      (λ i. record old.scene { tree = c.in_default-alter.ensures.ok i; table = c.touch.ensures i })
+      (λ i. record old.scene { tree = c.in_ok-alter.ensures.ok i; table = c.touch.ensures i })
       ∙ sym (ap (λ (d : Direct). d.state.scene) by_itself)
 
 -- what is known then: the entries are as they were
@@ -155,10 +155,10 @@ returns-in-Some-clause-changes c = changes-still c.alone.result.changes.items (v
 
 pub returns-clause-changes : goal.returns-clause-changes
 returns-clause-changes c =
-    let none = c.in_ok-endings.endings.changes.items in
+    let none = c.begin.new.self.changes.items in
     let noted = c.note_change.new.self.items in
     let all = c.end_at_one.new.endings.changes.items in
     subst (λ (s : State). AreChanges c.close.result.changes.items (view_of s) (view_of (new c))) c.self.view_is
-    (subst (λ (n : Noted). AreChanges n.items (view_of (old (before c))) (view_of (new c))) (sym c.close.ensures.changes)
-    (changes-all none all c.self.inside.tree c.end_at_one.new.tree c.self.inside.sessions.sessions c.in_ok-endings.ensures.changes.0
-    (leads-then none noted all c.self.inside.tree c.alter.new.tree c.end_at_one.new.tree (c.note_change.ensures.lead c.self.inside.tree c.in_default-alter.ensures.ok) c.end_at_one.ensures.lead)))
+    (subst (λ items. AreChanges items (view_of (old (before c))) (view_of (new c))) (sym c.close.ensures.changes)
+    (changes-all none all c.self.inside.tree c.end_at_one.new.tree c.self.inside.sessions.sessions c.in_ok-begin.ensures.changes.0
+    (leads-then none noted all c.self.inside.tree c.alter.new.tree c.end_at_one.new.tree (c.note_change.ensures.lead c.self.inside.tree c.in_ok-alter.ensures.ok) c.end_at_one.ensures.lead)))

@@ -50,7 +50,7 @@ module _ (c : After-drop-told-inside) where
   new = record { scene = record old.scene { table = c.skip_quiet.new.self }; messages = c.remove_given.new.self.items }
 
   abbrev said : Said
-  said = record { reply = reply.Messages c.in_ok-given.given; kept = reply.Messages c.in_ok-kept.kept; ended = c.new.result; changes = c.take.result }
+  said = record { reply = reply.Messages c.in_ok-given.given; kept = reply.Messages c.in_ok-kept.kept; ended = c.new.result; changes = c.new-2.result }
 
   first : c.in_ok-given.given ≡ first_messages old c.args.client c.args.max
   first = c.in_ok-given.ensures old refl refl c.self.invariant.2 (sym c.as_slice-ended.ensures)
@@ -96,4 +96,4 @@ pub returns-in-Some-clause-changes : goal.returns-in-Some-clause-changes
 returns-in-Some-clause-changes c = changes-still c.alone.result.changes.items (view_of c.args.self.now) c.alone.ensures.changes
 
 pub returns-clause-changes : goal.returns-clause-changes
-returns-clause-changes c = subst (λ (s : State). AreChanges (said c).changes.items (view_of s) (view_of (new c))) c.self.view_is (changes-still (said c).changes.items (view_of (old c)) c.take.ensures.items)
+returns-clause-changes c = subst (λ (s : State). AreChanges (said c).changes.items (view_of s) (view_of (new c))) c.self.view_is (changes-still (said c).changes.items (view_of (old c)) c.new-2.ensures.items)

@@ -10,9 +10,9 @@ use Rattle.capview.specs.Changes.{AreChanges}
 use Rattle.capcore.specs.Noted.{view_of}
 use Rattle.capcore.proofs.Noting.{changes-still}
 use Rattle.capcore.proofs.world.World.recall.Goals as goal
-use Rattle.capcore.proofs.world.World.recall.Goals.{After-take}
+use Rattle.capcore.proofs.world.World.recall.Goals.{After-new-2}
 
-module _ (c : After-take) where
+module _ (c : After-new-2) where
   -- the state before the event
   abbrev old : State
   old = record { scene = record { fs = c.self.inside.fs; tree = c.self.inside.tree; sessions = c.self.inside.sessions; table = c.self.inside.table; locks = c.self.inside.locks }; messages = c.self.inside.messages.items }
@@ -22,7 +22,7 @@ module _ (c : After-take) where
   new = with_table old c.recall.new.self
 
   abbrev said : Said
-  said = record { reply = reply.Recalled c.in_ok-named.named; kept = reply.Recalled c.in_ok-kept.kept; ended = c.new.result; changes = c.take.result }
+  said = record { reply = reply.Recalled c.in_ok-named.named; kept = reply.Recalled c.in_ok-kept.kept; ended = c.new.result; changes = c.new-2.result }
 
   whole : IsAnswered old (event.Recall c.args.count) said new
   whole =
@@ -36,4 +36,4 @@ pub returns-clause-answered : goal.returns-clause-answered
 returns-clause-answered c = subst (λ (s : State). IsAnswered s (event.Recall c.args.count) (said c) (new c)) c.self.view_is (whole c)
 
 pub returns-clause-changes : goal.returns-clause-changes
-returns-clause-changes c = subst (λ (s : State). AreChanges (said c).changes.items (view_of s) (view_of (new c))) c.self.view_is (changes-still (said c).changes.items (view_of (old c)) c.take.ensures.items)
+returns-clause-changes c = subst (λ (s : State). AreChanges (said c).changes.items (view_of s) (view_of (new c))) c.self.view_is (changes-still (said c).changes.items (view_of (old c)) c.new-2.ensures.items)

@@ -26,10 +26,10 @@ use Rattle.capcore.proofs.TouchKept.{touch-less, others-have_all}
 use Rattle.capcore.proofs.TouchWhole.{passed-of, table-of, first-is, touch-answered, touched-by, touch-reply, no_list-touch, tell-alike}
 use Rattle.capcore.proofs.Touched.{touched-tests}
 use Rattle.capview.specs.Changes.{AreChanges}
-use Rattle.capcore.specs.Noted.{Noted, view_of}
+use Rattle.capcore.specs.Noted.{view_of}
 use Rattle.capcore.proofs.Noting.{changes-all, changes-still}
 use Rattle.capcore.proofs.world.World.touch.Goals as goal
-use Rattle.capcore.proofs.world.World.touch.Goals.{In_default-touch_entry, After-close}
+use Rattle.capcore.proofs.world.World.touch.Goals.{In_ok-touch_entry, After-close}
 
 -- ---- an event that is stopped
 
@@ -49,16 +49,16 @@ touch_entry-requires-clause-passed c =
     (touched-tests old.scene c.args.client c.args.ino c.args.touch (passed-of old c.args.self.now c.args.client c.args.ino c.args.touch c.touch_stop.result c.self.view_is c.touch_stop.ensures c.in_default.is))
 
 -- for want of memory the entries are as they were, and all is still known
-pub invariant_of-self-in-Err : goal.invariant_of-self-in-Err
-invariant_of-self-in-Err c =
+pub invariant_of-self-in_err-touch_entry : goal.invariant_of-self-in_err-touch_entry
+invariant_of-self-in_err-touch_entry c =
     let s : Scene = record { fs = c.self.inside.fs; tree = c.self.inside.tree; sessions = c.self.inside.sessions; table = c.self.inside.table; locks = c.self.inside.locks } in
     let still : StillKept c.self.inside.table c.self.inside.table c.self.inside.known.sets c.touch_entry.new.known.sets =
-    subst (λ (t : Table). StillKept c.self.inside.table t c.self.inside.known.sets c.touch_entry.new.known.sets) c.in-Err.ensures.err c.touch_entry.ensures.known in
-    rw c.in-Err.ensures.err (c.self.invariant.0, c.self.invariant.1, still-all c.self.inside.known.sets c.touch_entry.new.known.sets s c.self.invariant.2 still)
+    subst (λ (t : Table). StillKept c.self.inside.table t c.self.inside.known.sets c.touch_entry.new.known.sets) c.in_err-touch_entry.ensures.err c.touch_entry.ensures.known in
+    rw c.in_err-touch_entry.ensures.err (c.self.invariant.0, c.self.invariant.1, still-all c.self.inside.known.sets c.touch_entry.new.known.sets s c.self.invariant.2 still)
 
 -- ---- the event by itself
 
-module _ (c : In_default-touch_entry) where
+module _ (c : In_ok-touch_entry) where
   abbrev old : State
   old = record { scene = record { fs = c.self.inside.fs; tree = c.self.inside.tree; sessions = c.self.inside.sessions; table = c.self.inside.table; locks = c.self.inside.locks }; messages = c.self.inside.messages.items }
 
@@ -77,10 +77,10 @@ module _ (c : In_default-touch_entry) where
   is : first ≡ (direct old e).state.scene
   is =
       first-is old c.args.client c.args.ino c.args.touch passed c.self.invariant.0 c.oldest-oldest.ensures.sound c.touch_entry.new.table
-      (table-of old.scene k c.args.touch c.touch_entry.new.table c.revoked_of-revoked.result c.in_default-touch_entry.ensures.ok (c.revoked_of-revoked.ensures old.scene refl c.self.invariant.2))
+      (table-of old.scene k c.args.touch c.touch_entry.new.table c.revoked_of-revoked.result c.in_ok-touch_entry.ensures.ok (c.revoked_of-revoked.ensures old.scene refl c.self.invariant.2))
 
 -- what is known then
-module _ (c : In_default-touch_entry) where
+module _ (c : In_ok-touch_entry) where
   first-table : IsTable c.touch_entry.new.table
   first-table =
       subst (λ (s : Scene). IsTable s.table) (sym (is c))
@@ -89,41 +89,41 @@ module _ (c : In_default-touch_entry) where
   knows : Knows (known_in c.touch_entry.new.known.sets) (old c).scene (first c).table
   knows =
       still-knows c.self.inside.known.sets c.touch_entry.new.known.sets (old c).scene c.touch_entry.new.table c.self.invariant.2 c.touch_entry.ensures.known first-table
-      (subst (λ (t : Table). (j : Holder) (f : Entry) → entry_at t j ≡ Some f → IsSubset f.held (held_at c.self.inside.table j)) (sym c.in_default-touch_entry.ensures.ok)
+      (subst (λ (t : Table). (j : Holder) (f : Entry) → entry_at t j ≡ Some f → IsSubset f.held (held_at c.self.inside.table j)) (sym c.in_ok-touch_entry.ensures.ok)
       (touch-less c.self.inside.table (k c) c.revoked_of-revoked.result c.args.touch))
 
 pub end_at_entry-requires-clause-room : goal.end_at_entry-requires-clause-room
 end_at_entry-requires-clause-room g =
-    let c = (goal.at.end_at_entry-requires-clause-room g).In_default-touch_entry in
+    let c = (goal.at.end_at_entry-requires-clause-room g).In_ok-touch_entry in
     still-room c.self.inside.known.sets c.touch_entry.new.known.sets (old c).scene c.touch_entry.new.table c.self.invariant.2 c.touch_entry.ensures.known
 
 pub end_at_entry-requires-clause-quiet : goal.end_at_entry-requires-clause-quiet
 end_at_entry-requires-clause-quiet g =
-    let c = (goal.at.end_at_entry-requires-clause-quiet g).In_default-touch_entry in
+    let c = (goal.at.end_at_entry-requires-clause-quiet g).In_ok-touch_entry in
     first-quiet (old c) (e c) (k c) (touched-by c.args.client c.args.ino c.args.touch) (passed c) c.self.invariant.0 c.oldest-oldest.ensures.sound (first c) (is c)
 
 pub end_at_entry-requires-clause-numbers : goal.end_at_entry-requires-clause-numbers
 end_at_entry-requires-clause-numbers g =
-    let c = (goal.at.end_at_entry-requires-clause-numbers g).In_default-touch_entry in
+    let c = (goal.at.end_at_entry-requires-clause-numbers g).In_ok-touch_entry in
     first-numbers (old c) (e c) (k c) (touched-by c.args.client c.args.ino c.args.touch) (passed c) c.self.invariant.0 c.oldest-oldest.ensures.sound (first c) (is c)
     (subst NumbersLeft (sym c.self.view_is) c.requires.numbers)
 
 pub end_at_entry-requires-clause-clients : goal.end_at_entry-requires-clause-clients
 end_at_entry-requires-clause-clients g =
-    let c = (goal.at.end_at_entry-requires-clause-clients g).In_default-touch_entry in
+    let c = (goal.at.end_at_entry-requires-clause-clients g).In_ok-touch_entry in
     first-clients (old c) (e c) (k c) (touched-by c.args.client c.args.ino c.args.touch) (passed c) c.self.invariant.0 c.oldest-oldest.ensures.sound (first c) (is c)
 
 pub end_at_entry-requires-clause-others : goal.end_at_entry-requires-clause-others
 end_at_entry-requires-clause-others g =
-    let c = (goal.at.end_at_entry-requires-clause-others g).In_default-touch_entry in
+    let c = (goal.at.end_at_entry-requires-clause-others g).In_ok-touch_entry in
     others-have_all c.self.inside.known.sets c.touch_entry.new.known.sets (old c) c.touch_entry.new.table (k c) c.revoked_of-revoked.result c.args.touch c.self.invariant.0 c.self.invariant.2
-    c.in_default-touch_entry.ensures.ok c.touch_entry.ensures.known
+    c.in_ok-touch_entry.ensures.ok c.touch_entry.ensures.known
 
 -- ---- the end of the step
 
 pub close-requires-clause-list : goal.close-requires-clause-list
 close-requires-clause-list c =
-    let b = (goal.at.close-requires-clause-list c).In_default-touch_entry in
+    let b = (goal.at.close-requires-clause-list c).In_ok-touch_entry in
     let st : State = record {
       scene = record { fs = c.self.inside.fs; tree = c.end_at_entry.new.tree; sessions = c.self.inside.sessions; table = c.end_at_entry.new.table; locks = c.end_at_entry.new.locks };
       messages = [];
@@ -135,8 +135,8 @@ close-requires-clause-list c =
     ap has_list (c.tell-reply.ensures.reply st refl known) ∙ no_list-touch st (holder c.args.client c.args.ino) c.args.touch
 
 module _ (c : After-close) where
-  abbrev before : In_default-touch_entry
-  before = (goal.at.invariant_of-self-2 c).In_default-touch_entry
+  abbrev before : In_ok-touch_entry
+  before = (goal.at.invariant_of-self-2 c).In_ok-touch_entry
 
   abbrev last : Scene
   last = record { fs = c.self.inside.fs; tree = c.end_at_entry.new.tree; sessions = c.self.inside.sessions; table = c.end_at_entry.new.table; locks = c.end_at_entry.new.locks }
@@ -166,7 +166,7 @@ module _ (c : After-close) where
   answer =
       sym
       (touch-answered (old before) c.args.client c.args.ino c.args.touch (passed before) c.self.invariant.0 c.oldest-oldest.ensures.sound c.touch_entry.new.table
-      (table-of (old before).scene (k before) c.args.touch c.touch_entry.new.table c.revoked_of-revoked.result c.in_default-touch_entry.ensures.ok (c.revoked_of-revoked.ensures (old before).scene refl c.self.invariant.2)))
+      (table-of (old before).scene (k before) c.args.touch c.touch_entry.new.table c.revoked_of-revoked.result c.in_ok-touch_entry.ensures.ok (c.revoked_of-revoked.ensures (old before).scene refl c.self.invariant.2)))
 
   new_is : new ≡ shown (direct (old before) (e before)).answer closed_as
   new_is =
@@ -202,5 +202,5 @@ returns-in-Some-clause-changes c = changes-still c.alone.result.changes.items (v
 pub returns-clause-changes : goal.returns-clause-changes
 returns-clause-changes c =
     subst (λ (s : State). AreChanges c.close.result.changes.items (view_of s) (view_of (new c))) c.self.view_is
-    (subst (λ (n : Noted). AreChanges n.items (view_of (old (before c))) (view_of (new c))) (sym c.close.ensures.changes)
-    (changes-all c.in_ok-endings.endings.changes.items c.end_at_entry.new.endings.changes.items c.self.inside.tree c.end_at_entry.new.tree c.self.inside.sessions.sessions c.in_ok-endings.ensures.changes.0 c.end_at_entry.ensures.lead))
+    (subst (λ items. AreChanges items (view_of (old (before c))) (view_of (new c))) (sym c.close.ensures.changes)
+    (changes-all c.begin.new.self.changes.items c.end_at_entry.new.endings.changes.items c.self.inside.tree c.end_at_entry.new.tree c.self.inside.sessions.sessions c.in_ok-begin.ensures.changes.0 c.end_at_entry.ensures.lead))

@@ -20,7 +20,7 @@ use Rattle.capcore.proofs.Stops.{stopped-answered}
 use Rattle.capcore.proofs.TurnStep.{turn-stop, few-waiting, few-messages, turn-quiet, turn-clients, turn-numbers, turn-alike, turn-known, turn-closed}
 use Rattle.capcore.proofs.Knowing.{HoldAlike, still-there, still-room}
 use Rattle.capview.specs.Changes.{AreChanges}
-use Rattle.capcore.specs.Noted.{Noted, view, view_of}
+use Rattle.capcore.specs.Noted.{view, view_of}
 use Rattle.capcore.proofs.Noting.{changes-still}
 use Rattle.capcore.proofs.world.World.turn.Goals as goal
 use Rattle.capcore.proofs.world.World.turn.Goals.{After-leave, After-close_dropped}
@@ -179,11 +179,11 @@ end_at-requires-clause-places g =
 
 pub returns-clause-changes : goal.returns-clause-changes
 returns-clause-changes g =
-    let noted = g.in_ok-room.room.endings.changes.items in
+    let noted = g.new.new.endings.changes.items in
     let sessions = g.turn_session.new.sessions.sessions in
     let turn : AreChanges noted (view_of (old (c g))) (view g.self.inside.tree sessions) =
     subst (λ (t : SessionTable). AreChanges noted (view_of (old (c g))) (view g.self.inside.tree t.sessions)) (sym g.in_default-turn_session.ensures.ok)
     (let notes = g.in_ok-room.ensures.lead in notes.lead g.self.inside.tree g.self.inside.sessions) in
     subst (λ (s : State). AreChanges g.close_dropped.result.changes.items (view_of s) (view_of (new g))) g.self.view_is
-    (subst (λ (n : Noted). AreChanges n.items (view_of (old (c g))) (view_of (new g))) (sym g.close_dropped.ensures.changes)
+    (subst (λ items. AreChanges items (view_of (old (c g))) (view_of (new g))) (sym g.close_dropped.ensures.changes)
     (g.end_at.ensures.lead.on (view_of (old (c g))) sessions turn))

@@ -15,7 +15,7 @@ use Rattle.capcore.specs.Untold.{but_for}
 use Rattle.capcore.proofs.Asked.{asking-room}
 use Rattle.capcore.proofs.Waits.{some-asking, room-left, few-others, wait-quiet, wait-differ, wait-known, wait-answered}
 use Rattle.capview.specs.Changes.{AreChanges}
-use Rattle.capcore.specs.Noted.{Noted, view_of}
+use Rattle.capcore.specs.Noted.{view_of}
 use Rattle.capcore.proofs.Noting.{changes-all}
 use Rattle.capcore.proofs.world.World.wait.Goals as goal
 use Rattle.capcore.proofs.world.World.wait.Goals.{After-oldest-oldest, After-close_with}
@@ -101,5 +101,5 @@ returns-clause-answered g = λ e asked. subst (λ (s : State). IsAnswered s e g.
 pub returns-clause-changes : goal.returns-clause-changes
 returns-clause-changes g =
     subst (λ (s : State). AreChanges g.close_with.result.changes.items (view_of s) (view_of (new g))) g.self.view_is
-    (subst (λ (n : Noted). AreChanges n.items (view_of (old (c g))) (view_of (new g))) (sym g.close_with.ensures.changes)
-    (changes-all g.in-Ok.endings.changes.items g.end_at_one.new.endings.changes.items g.self.inside.tree g.end_at_one.new.tree g.self.inside.sessions.sessions g.in-Ok.ensures.changes.0 g.end_at_one.ensures.lead))
+    (subst (λ items. AreChanges items (view_of (old (c g))) (view_of (new g))) (sym g.close_with.ensures.changes)
+    (changes-all g.begin.new.self.changes.items g.end_at_one.new.endings.changes.items g.self.inside.tree g.end_at_one.new.tree g.self.inside.sessions.sessions g.in_default.ensures.changes.0 g.end_at_one.ensures.lead))
