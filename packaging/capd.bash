@@ -2,15 +2,17 @@
 _capd() {
     local word=${COMP_WORDS[COMP_CWORD]} before=${COMP_WORDS[COMP_CWORD-1]}
     if ((COMP_CWORD == 1)); then
-        mapfile -t COMPREPLY < <(compgen -W 'explain grants compare run serve help --help' -- "$word")
+        mapfile -t COMPREPLY < <(compgen -W 'explain grants compare run serve help --help --version' -- "$word")
     elif [[ ${COMP_WORDS[1]} == help ]]; then
         mapfile -t COMPREPLY < <(compgen -W 'explain grants compare run serve' -- "$word")
     elif [[ ${COMP_WORDS[1]} != explain ]]; then
         mapfile -t COMPREPLY < <(compgen -W '--help' -- "$word")
+    elif [[ $before == --keyring ]]; then
+        mapfile -t COMPREPLY < <(compgen -f -- "$word")
     elif [[ $before == --access ]]; then
         mapfile -t COMPREPLY < <(compgen -W 'read write vxattr snapshot chmod' -- "$word")
     else
-        mapfile -t COMPREPLY < <(compgen -W '--grants --fs --uid --gid --groups --path --owner --group --mode --access --help' -- "$word")
+        mapfile -t COMPREPLY < <(compgen -W '--grants --keyring --client --fs --uid --gid --groups --path --owner --group --mode --access --quiet --help' -- "$word")
     fi
 }
 complete -F _capd capd

@@ -1,5 +1,5 @@
 -- What stops a command before anything is written.
-use Rattle.std.proofs.Common.{◌≡◌, ℕ, Bool, List, Option, None, Some, inl, inr, refl}
+use Rattle.std.proofs.Common.{◌≡◌, ℕ, Bool, List, Option, None, Some, inl, inr, refl, ◌∙◌}
 use Rattle.std.specs.Io.KnownBytes.{Keeps}
 use Rattle.std.proofs.lemmas.List.Elements.{All-from_recursion}
 use Rattle.std.specs.Prelude.{◌⊎◌, All, IsTrue, Result, Ok, Err, IfErr, IsErrAnd}
@@ -7,6 +7,7 @@ use Rattle.capspec.specs.declared.fault.SpecFault.{SpecFault}
 use Rattle.capspec.specs.declared.grant.Grant.{Grant}
 use Rattle.capspec.specs.Faults.{IsFault, IsNoMemory}
 use Rattle.capspec.specs.Grants.{Reads}
+use Rattle.capquestion.specs.declared.fault.QuestionFault.{QuestionFault}
 use Rattle.capquestion.specs.declared.fault.QuestionFault.TheVariants as asked
 use Rattle.capquestion.specs.declared.question.Question.{Question}
 use Rattle.capquestion.specs.declared.question.Values.{Values}
@@ -17,7 +18,7 @@ use Rattle.capquestion.proofs.TextFault.{text_fault}
 use Rattle.capcommand.specs.declared.fault.Fault.{Fault}
 use Rattle.capcommand.specs.declared.fault.Fault.TheVariants.{WriteFailed, NoMemory}
 use Rattle.capcommand.specs.Commands.{StopsBefore}
-use Rattle.capcommand.specs.Fault.{Tells}
+use Rattle.capcommand.specs.Fault.{fault_of, Tells}
 
 unchanged : (known : Option (List ℕ)) → Keeps known known
 unchanged None = tt
@@ -34,14 +35,20 @@ all_good : (v : Values) (q : Question) → AsksFor v q → All (IsGood v) all_op
 all_good v q asks =
     All-from_recursion (IsGood v) all_options ((q.grants, asks.grants), ((q.fs, asks.fs), ((q.caller.uid, asks.uid), ((q.caller.gid, asks.gid), ((q.caller.groups, asks.groups), ((q.path, asks.path), ((q.attr.uid, asks.owner), ((q.attr.gid, asks.group), ((q.attr.mode, asks.mode), ((q.access, asks.access), tt))))))))))
 
+-- values that ask no question
+pub refused_question : {T : Type 0} (v : Values) (known : Option (List ℕ)) (failed : Bool) (found : QuestionFault) (answer : Result T Fault) → IsFaultIn v found → IsErrAnd answer (λ fault. fault ≡ fault_of found)
+    → IfErr answer (λ fault. StopsBefore (IsFaultIn v) fault failed known known)
+refused_question v known failed found (Ok x) why told = tt
+refused_question v known failed found (Err fault) why told = inr ((found, told, why), unchanged known)
+
 -- no memory for the line of a question
 pub missed_unwritten : {T : Type 0} (v : Values) (q : Question) (known : Option (List ℕ)) (failed : Bool) (answer : Result T Fault) → AsksFor v q → IsErrAnd answer (λ fault. fault ≡ NoMemory) → IfErr answer (λ fault. StopsBefore (IsFaultIn v) fault failed known known)
 missed_unwritten v q known failed (Ok x) asks missed = tt
 missed_unwritten v q known failed (Err fault) asks missed = inr ((asked.NoMemory, missed, all_good v q asks), unchanged known)
 
 -- the line of a question can't be written, or there is no memory for its end
-pub line_unwritten : {T : Type 0} (v : Values) (q : Question) (old new : Option (List ℕ)) (failed : Bool) (answer : Result T Fault) → AsksFor v q
-    → IfErr answer (λ fault. ((fault ≡ WriteFailed) × IsTrue failed) ⊎ ((fault ≡ NoMemory) × Keeps old new)) → IfErr answer (λ fault. StopsBefore (IsFaultIn v) fault failed old new)
-line_unwritten v q old new failed (Ok x) asks why = tt
-line_unwritten v q old new failed (Err fault) asks (inl wrote) = inl wrote
-line_unwritten v q old new failed (Err fault) asks (inr missed) = inr ((asked.NoMemory, missed.0, all_good v q asks), missed.1)
+pub line_unwritten : {T : Type 0} (v : Values) (q : Question) (old new : Option (List ℕ)) (failed : Bool) (fault : Fault) (answer : Result T Fault) → AsksFor v q
+    → ((fault ≡ WriteFailed) × IsTrue failed) ⊎ ((fault ≡ NoMemory) × Keeps old new) → IsErrAnd answer (λ told. told ≡ fault) → IfErr answer (λ told. StopsBefore (IsFaultIn v) told failed old new)
+line_unwritten v q old new failed fault (Ok x) asks why told = tt
+line_unwritten v q old new failed fault (Err same) asks (inl wrote) told = inl (told ∙ wrote.0, wrote.1)
+line_unwritten v q old new failed fault (Err same) asks (inr missed) told = inr ((asked.NoMemory, told ∙ missed.0, all_good v q asks), missed.1)

@@ -6,8 +6,10 @@ use Rattle.capquestion.specs.declared.fault.QuestionFault.TheVariants as asked
 use Rattle.capquestion.specs.declared.comparing.CompareFault.{CompareFault}
 use Rattle.capquestion.specs.declared.comparing.CompareFault.TheVariants as compared
 use Rattle.capquestion.specs.Comparing.{IsFaultOfTexts}
+use Rattle.capkeyring.specs.declared.fault.KeyringFault.{KeyringFault}
+use Rattle.capkeyring.specs.declared.fault.KeyringFault.TheVariants as keyrings
 use Rattle.capcommand.specs.declared.fault.Fault.{Fault}
-use Rattle.capcommand.specs.declared.fault.Fault.TheVariants.{Question, Compare, NoMemory}
+use Rattle.capcommand.specs.declared.fault.Fault.TheVariants.{Question, Compare, Keyring, NoMemory}
 
 -- want of memory stays that; any other fault is passed on as it is
 abbrev pub fault_of : QuestionFault → Fault
@@ -18,6 +20,13 @@ fault_of asked.NoMemory = NoMemory
 -- what is told is a fault of which this holds
 abbrev pub Tells : (QuestionFault → Type 0) → Fault → Type 0
 Tells P fault = (found : QuestionFault) × (fault ≡ fault_of found) × P found
+
+-- the same of a keyring
+abbrev pub keyring_fault_of : KeyringFault → Fault
+keyring_fault_of keyrings.NoEntity = Keyring keyrings.NoEntity
+keyring_fault_of keyrings.NoCaps = Keyring keyrings.NoCaps
+keyring_fault_of keyrings.NotQuoted = Keyring keyrings.NotQuoted
+keyring_fault_of keyrings.NoMemory = NoMemory
 
 -- the same of two texts that are compared
 abbrev pub compare_fault_of : CompareFault → Fault

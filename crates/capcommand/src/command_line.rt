@@ -1,11 +1,15 @@
 //! The words of the command line.
 
+use crate::inquiry::{Form, Inquiry, Source};
 use capquestion::{Opt, Values, spell, spelled};
 use clap::error::ErrorKind;
 use clap::{Arg, ArgAction, ArgMatches, Command, Error};
 use std::alloc::{AllocError, Global};
 
 const CAPD: &str = "capd";
+
+// The project's version. `tools/package` takes it from what `capd --version` prints.
+const VERSION: &str = "0";
 
 const EXPLAIN: &str = "explain";
 
@@ -22,6 +26,21 @@ const TEXT: &str = "text";
 const OLD: &str = "old";
 
 const NEW: &str = "new";
+
+const KEYRING: &str = "keyring";
+
+const CLIENT: &str = "client";
+
+const QUIET: &str = "quiet";
+
+/// The value of `--grants` or of `--keyring` that stands for standard input.
+pub const INPUT: &[u8] = b"-";
+
+const STATUSES: &str = "Status:
+  0  the whole answer was written; of `explain --quiet`: allowed
+  1  a value, a text or a script has a fault, a read or a write failed, or memory was missing
+  2  the command line is wrong
+  3  of `explain --quiet`: denied";
 
 const EXAMPLE: &str = "Example:
   capd explain \\
@@ -59,7 +78,7 @@ prints
 #[derive(Debug, Drop)]
 pub enum Ask {
     /// Whether grants allow an access.
-    Explain(Values),
+    Explain(Inquiry),
     /// The written form of the grants in a text.
     Grants(Vec<u8>),
     /// What grants allow that others deny.
@@ -105,7 +124,9 @@ fn parse_by<'a>(
 fn capd<'a>(alloc: Global) -> Result<Command<'a>, AllocError> {
     let command = Command::new(alloc, CAPD)
         .no_binary_name(true)
+        .version(VERSION)
         .about("What CephFS clients may do, and why not")
+        .after_help(STATUSES)
         .subcommand_required(true)
         .bin_name(CAPD)?;
     let command = with(command, explain(alloc))?;
@@ -135,11 +156,45 @@ fn explain<'a>(alloc: Global) -> Result<Command<'a>, AllocError> {
             .long(name)
             .value_name(value_name)
             .help(help)
-            .required(!option.is_optional())
             .action(ArgAction::Set);
+        let argument = match option {
+            Opt::Grants => argument.required_unless_present(KEYRING)?,
+            _ => argument.required(!option.is_optional()),
+        };
         command = command.arg(argument)?;
     }
-    Ok(command)
+    command
+        .arg(keyring(alloc)?)?
+        .arg(client(alloc)?)?
+        .arg(quiet(alloc))
+}
+
+fn keyring<'a>(alloc: Global) -> Result<Arg<'a>, AllocError> {
+    Arg::new(alloc, KEYRING)
+        .long(KEYRING)
+        .value_name("FILE")
+        .help(
+            "In the place of --grants: the keyring that has them, as `ceph auth get` writes it; - for standard input",
+        )
+        .action(ArgAction::Set)
+        .requires_arg(CLIENT)?
+        .conflicts_with(Opt::Grants.name())
+}
+
+fn client<'a>(alloc: Global) -> Result<Arg<'a>, AllocError> {
+    Arg::new(alloc, CLIENT)
+        .long(CLIENT)
+        .value_name("NAME")
+        .help("Whose grants the keyring is asked for, as client.tenant")
+        .action(ArgAction::Set)
+        .requires_arg(KEYRING)
+}
+
+fn quiet<'a>(alloc: Global) -> Arg<'a> {
+    Arg::new(alloc, QUIET)
+        .long(QUIET)
+        .help("Prints nothing, and answers by the status alone: 0 allowed, 3 denied")
+        .action(ArgAction::SetTrue)
 }
 
 fn grants<'a>(alloc: Global) -> Result<Command<'a>, AllocError> {
@@ -184,7 +239,7 @@ fn serve<'a>(alloc: Global) -> Command<'a> {
 
 fn asked(alloc: Global, matches: &ArgMatches<'_>) -> Result<Ask, ErrorKind> {
     if let Some(matches) = matches.subcommand_matches(EXPLAIN) {
-        Ok(Ask::Explain(explain_values(alloc, matches)?))
+        Ok(Ask::Explain(inquiry(alloc, matches)?))
     } else if let Some(matches) = matches.subcommand_matches(GRANTS) {
         Ok(Ask::Grants(value(alloc, matches, TEXT)?))
     } else if let Some(matches) = matches.subcommand_matches(COMPARE) {
@@ -201,10 +256,37 @@ fn asked(alloc: Global, matches: &ArgMatches<'_>) -> Result<Ask, ErrorKind> {
     }
 }
 
+fn inquiry(alloc: Global, matches: &ArgMatches<'_>) -> Result<Inquiry, ErrorKind> {
+    let values = explain_values(alloc, matches)?;
+    let source = source(alloc, matches, &values)?;
+    let form = if matches.get_flag(QUIET) {
+        Form::Status
+    } else {
+        Form::Line
+    };
+    Ok(Inquiry {
+        values,
+        source,
+        form,
+    })
+}
+
+fn source(alloc: Global, matches: &ArgMatches<'_>, values: &Values) -> Result<Source, ErrorKind> {
+    if let Some(file) = given_value(alloc, matches, KEYRING)? {
+        let client = value(alloc, matches, CLIENT)?;
+        return Ok(Source::Keyring { file, client });
+    }
+    Ok(if values.grants.as_slice() == INPUT {
+        Source::Input
+    } else {
+        Source::Word
+    })
+}
+
 fn explain_values(alloc: Global, matches: &ArgMatches<'_>) -> Result<Values, ErrorKind> {
     let value = |option: Opt| value(alloc, matches, option.name());
     Ok(Values {
-        grants: value(Opt::Grants)?,
+        grants: given_value(alloc, matches, Opt::Grants.name())?.unwrap_or(Vec::new(alloc)),
         fs: value(Opt::Fs)?,
         uid: value(Opt::Uid)?,
         gid: value(Opt::Gid)?,

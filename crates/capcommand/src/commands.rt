@@ -1,5 +1,5 @@
 //! The commands of the program, over streams that the caller passes.
-ghost use Rattle.std.specs.Prelude.{◌≡◌, ◌≤◌, ◌⊎◌, ◌++◌, ℕ, List, length, codes, OnOk, IfErr, IfSome, IsTrue, IsFalse};
+ghost use Rattle.std.specs.Prelude.{◌≡◌, ◌≤◌, ◌⊎◌, ◌++◌, ℕ, List, length, codes, OnOk, IfOk, IfErr, IfSome, IsTrue, IsFalse};
 ghost use Rattle.std.specs.Io.KnownBytes.{Appends, Keeps};
 ghost use Rattle.capspec.specs.Grants.{Reads};
 ghost use Rattle.capspec.specs.Written.{written};
@@ -7,7 +7,7 @@ ghost use Rattle.capspec.specs.declared.grant.Grant.{Grant};
 ghost use Rattle.capquestion.specs.declared.question.Question.{Question as Asked};
 ghost use Rattle.capquestion.specs.Fault.{IsFaultOfText};
 ghost use Rattle.capquestion.specs.Comparing.{IsComparison};
-ghost use Rattle.capquestion.specs.Question.{AsksFor, IsFaultIn, answer_text};
+ghost use Rattle.capquestion.specs.Question.{AsksFor, IsFaultIn};
 ghost use Rattle.capscript.specs.declared.fault.ScriptFault.{ScriptFault as AScriptFault};
 ghost use Rattle.capscript.specs.Lines.{lines, longest_script};
 ghost use Rattle.capscript.specs.Transcript.{IsTranscript};
@@ -16,16 +16,20 @@ ghost use Rattle.capjobs.specs.declared.fault.ServeFault.{ServeFault as AServeFa
 ghost use Rattle.capjobs.specs.Served.{IsServed};
 ghost use Rattle.capcommand.specs.declared.fault.Fault.{Fault as AFault};
 ghost use Rattle.capcommand.specs.declared.fault.Fault.TheVariants as faults;
-ghost use Rattle.capcommand.specs.Commands.{Answers, Stops, StopsBefore, StopsComparing, RunStops, ServeStops};
+ghost use Rattle.capcommand.specs.Commands.{Answers, AnswersInquiry, Stops, StopsBefore, StopsComparing, StopsInquiry, RunStops, ServeStops};
+ghost use Rattle.capcommand.specs.Inquiry.{IsAnswered};
 
-use crate::command_line::{Ask, parse};
+use crate::advice::advise;
+use crate::command_line::{Ask, INPUT, parse};
 use crate::fault::Fault;
+use crate::inquiry::{Form, Inquiry, Source, fill};
 use capjobs::serve;
 use capquestion::{Question, Values, compare, spelled};
 use capscript::{Watched, run};
 use capspec::{read_grants, write_grants};
 use clap::error::ErrorKind;
 use std::alloc::{AllocError, Global};
+use std::fs::{Files, open};
 use std::io;
 use std::io::{Read, Write};
 use std::sync::Wait;
@@ -40,34 +44,71 @@ pub const FAILED: u8 = 1;
 /// The command line is wrong.
 pub const USAGE: u8 = 2;
 
+/// No grant allows what is asked, where that is answered by the status alone.
+pub const DENIED: u8 = 3;
+
 /// Does what the words behind the program's name ask for, and returns the status. What is wrong is written to `faults`;
 /// where that fails, nothing else can be said, and the status stays.
-pub fn dispatch<E: AllocGlobal + Threads + Wait + Sync, R: Read, W: Write, F: Write>(
+pub fn dispatch<E: AllocGlobal + Files + Threads + Wait + Sync, R: Read, W: Write, F: Write>(
     rt: &E,
     words: &[Vec<u8>],
     reader: &mut R,
     writer: &mut W,
     faults: &mut F,
 ) -> u8
-    ensures status { result ≤ USAGE }
+    ensures status { result ≤ DENIED }
     ensures done { result ≡ DONE → Keeps (F.contents faults.old) (F.contents faults.new) }
     ensures usage { result ≡ USAGE → Keeps (W.contents writer.old) (W.contents writer.new) }
+    ensures denied { result ≡ DENIED → Keeps (F.contents faults.old) (F.contents faults.new) }
 {
-    let ask = match parse(rt.alloc(), words) {
+    let mut ask = match parse(rt.alloc(), words) {
         Ok(ask) => ask,
         Err(error) => return show(rt.alloc(), &error, writer, faults),
     };
-    let mut reader = Watched::new(reader);
     let mut writer = Watched::new(writer);
-    carry_out(rt, rt.alloc(), &ask, &mut reader, &mut writer, faults)
+    match keyring_file(rt, &ask) {
+        Ok(None) => {
+            let mut reader = Watched::new(reader);
+            carry_out(rt, rt.alloc(), &mut ask, &mut reader, &mut writer, faults)
+        }
+        Ok(Some(file)) => {
+            let mut file = Watched::new(file);
+            carry_out(rt, rt.alloc(), &mut ask, &mut file, &mut writer, faults)
+        }
+        Err(fault) => refuse(&ask, fault, faults),
+    }
+}
+
+// The file that is to be read in the place of standard input, if one is.
+fn keyring_file<E: Files>(files: &E, ask: &Ask) -> Result<Option<E::File>, Fault> {
+    let Ask::Explain(inquiry) = ask else {
+        return Ok(None);
+    };
+    match &inquiry.source {
+        Source::Keyring { file, .. } if file.as_slice() != INPUT => {
+            open_file(files, file.as_slice()).map(Some)
+        }
+        _ => Ok(None),
+    }
+}
+
+fn open_file<E: Files>(files: &E, name: &[u8]) -> Result<E::File, Fault> {
+    let Ok(name) = str::from_utf8(name) else {
+        return Err(Fault::Unopened);
+    };
+    match open(files, name) {
+        Ok(file) => Ok(file),
+        Err(_) => Err(Fault::Unopened),
+    }
 }
 
 /// Does what is asked, and returns the status: `DONE` where all of the answer was written, no stream failed, and nothing was
-/// written to `faults`; else `FAILED`. Neither stream was read or written to yet.
+/// written to `faults`, or `DENIED` where the status is all of the answer; else `FAILED`. Neither stream was read or written
+/// to yet. What is read of a question's grants is kept in `ask`.
 pub fn carry_out<T: Threads + Wait + Sync, R: Read, W: Write, F: Write>(
     rt: &T,
     alloc: Global,
-    ask: &Ask,
+    ask: &mut Ask,
     reader: &mut Watched<R>,
     writer: &mut Watched<W>,
     faults: &mut F,
@@ -75,59 +116,104 @@ pub fn carry_out<T: Threads + Wait + Sync, R: Read, W: Write, F: Write>(
     requires reader_clear { IsFalse (has_failed reader.old) }
     requires reader_unended { IsFalse (has_ended reader.old) }
     requires writer_clear { IsFalse (has_failed writer.old) }
-    ensures { ((result ≡ DONE) × IsFalse (has_failed reader.new) × IsFalse (has_failed writer.new) × Keeps (F.contents faults.old) (F.contents faults.new)
-        × Answers ask.now (R.remaining (inner_of reader.old))
+    ensures { (((result ≡ DONE) ⊎ ((result ≡ DENIED) × Keeps (W.contents (inner_of writer.old)) (W.contents (inner_of writer.new))))
+        × IsFalse (has_failed reader.new) × IsFalse (has_failed writer.new) × Keeps (F.contents faults.old) (F.contents faults.new)
+        × Answers ask.old (R.remaining (inner_of reader.old)) result
         (W.contents (inner_of writer.old)) (W.contents (inner_of writer.new)))
         ⊎ ((result ≡ FAILED) × ((fault : AFault)
-        × Stops ask.now fault (R.remaining (inner_of reader.old)) (has_ended reader.new) (has_failed reader.new) (has_failed writer.new)
+        × Stops ask.old fault (R.remaining (inner_of reader.old)) (has_ended reader.new) (has_failed reader.new) (has_failed writer.new)
         (W.contents (inner_of writer.old)) (W.contents (inner_of writer.new)))) }
 {
     match answer(rt, alloc, ask, reader, writer) {
-        Ok(()) => DONE,
-        Err(fault) => report(fault, faults),
+        Ok(status) => status,
+        Err(fault) => refuse(ask, fault, faults),
     }
 }
 
-// Writes the answer to what is asked.
+// Writes the answer to what is asked, and says its status.
 fn answer<T: Threads + Wait + Sync, R: Read, W: Write>(
     rt: &T,
     alloc: Global,
-    ask: &Ask,
+    ask: &mut Ask,
     reader: &mut Watched<R>,
     writer: &mut Watched<W>,
-) -> Result<(), Fault>
+) -> Result<u8, Fault>
     requires reader_clear { IsFalse (has_failed reader.old) }
     requires reader_unended { IsFalse (has_ended reader.old) }
     requires writer_clear { IsFalse (has_failed writer.old) }
-    ensures ok { OnOk result (IsFalse (has_failed reader.new) × IsFalse (has_failed writer.new)
-        × Answers ask.now (R.remaining (inner_of reader.old))
+    ensures status { IfOk result (λ status. (status ≡ DONE)
+        ⊎ ((status ≡ DENIED) × Keeps (W.contents (inner_of writer.old)) (W.contents (inner_of writer.new)))) }
+    ensures ok { IfOk result (λ status. IsFalse (has_failed reader.new) × IsFalse (has_failed writer.new)
+        × Answers ask.old (R.remaining (inner_of reader.old)) status
         (W.contents (inner_of writer.old)) (W.contents (inner_of writer.new))) }
     ensures err { IfErr result (λ fault.
-        Stops ask.now fault (R.remaining (inner_of reader.old)) (has_ended reader.new) (has_failed reader.new) (has_failed writer.new)
+        Stops ask.old fault (R.remaining (inner_of reader.old)) (has_ended reader.new) (has_failed reader.new) (has_failed writer.new)
         (W.contents (inner_of writer.old)) (W.contents (inner_of writer.new))) }
 {
-    match ask {
-        Ask::Explain(values) => explain(alloc, values, writer),
+    let done = match ask {
+        Ask::Explain(inquiry) => return inquire(alloc, inquiry, reader, writer),
         Ask::Grants(text) => grants(alloc, text.as_slice(), writer),
         Ask::Compare { old, new } => compare_texts(alloc, old.as_slice(), new.as_slice(), writer),
         Ask::Run => run_script(alloc, reader, writer),
         Ask::Serve => serve_script(rt, alloc, reader, writer),
+    };
+    match done {
+        Ok(()) => Ok(DONE),
+        Err(fault) => Err(fault),
     }
 }
 
-// Writes the answer to a question, as a line.
-fn explain<W: Write>(alloc: Global, values: &Values, writer: &mut Watched<W>) -> Result<(), Fault>
+// Answers a question by the text of its grants from where it is.
+fn inquire<R: Read, W: Write>(
+    alloc: Global,
+    inquiry: &mut Inquiry,
+    reader: &mut Watched<R>,
+    writer: &mut Watched<W>,
+) -> Result<u8, Fault>
+    requires reader_clear { IsFalse (has_failed reader.old) }
+    requires reader_unended { IsFalse (has_ended reader.old) }
+    requires writer_clear { IsFalse (has_failed writer.old) }
+    ensures status { IfOk result (λ status. (status ≡ DONE)
+        ⊎ ((status ≡ DENIED) × Keeps (W.contents (inner_of writer.old)) (W.contents (inner_of writer.new)))) }
+    ensures ok { OnOk result (IsFalse (has_failed reader.new) × IsFalse (has_failed writer.new)) }
+    ensures answer { IfOk result (λ status. AnswersInquiry inquiry.old (R.remaining (inner_of reader.old)) status
+        (W.contents (inner_of writer.old)) (W.contents (inner_of writer.new))) }
+    ensures err { IfErr result (λ fault. StopsInquiry inquiry.old fault (R.remaining (inner_of reader.old))
+        (has_failed reader.new) (has_failed writer.new) (W.contents (inner_of writer.old)) (W.contents (inner_of writer.new))) }
+{
+    fill(alloc, &inquiry.source, &mut inquiry.values.grants, reader)?;
+    explain(alloc, &inquiry.values, inquiry.form, writer)
+}
+
+// Answers a question by a line or by the status alone.
+fn explain<W: Write>(
+    alloc: Global,
+    values: &Values,
+    form: Form,
+    writer: &mut Watched<W>,
+) -> Result<u8, Fault>
     requires { IsFalse (has_failed writer.old) }
+    ensures status { IfOk result (λ status. (status ≡ DONE)
+        ⊎ ((status ≡ DENIED) × Keeps (W.contents (inner_of writer.old)) (W.contents (inner_of writer.new)))) }
     ensures ok { OnOk result (IsFalse (has_failed writer.new)) }
-    ensures answer { OnOk result ((asked : Asked) × AsksFor values.now asked
-        × Appends (W.contents (inner_of writer.old)) (W.contents (inner_of writer.new)) (answer_text asked ++ codes "\n")) }
+    ensures answer { IfOk result (λ status. (asked : Asked) × AsksFor values.now asked
+        × IsAnswered form asked status (W.contents (inner_of writer.old)) (W.contents (inner_of writer.new))) }
     // A fault of the values, or want of memory, comes before anything is written.
     ensures fault { IfErr result (λ fault. StopsBefore (IsFaultIn values.now) fault (has_failed writer.new)
         (W.contents (inner_of writer.old)) (W.contents (inner_of writer.new))) }
 {
     let question = Question::read(alloc, values)?;
-    let line = question.answer(alloc)?;
-    write_line(line, writer)
+    match form {
+        Form::Line => {
+            let line = question.answer(alloc)?;
+            write_line(line, writer)?;
+            Ok(DONE)
+        }
+        Form::Status => {
+            let is_allowed = question.is_allowed(alloc)?;
+            Ok(if is_allowed { DONE } else { DENIED })
+        }
+    }
 }
 
 // Writes the grants that a text means in their written form, as a line.
@@ -266,6 +352,15 @@ fn show<W: Write, F: Write>(
 fn shown(alloc: Global, error: &clap::Error) -> Result<Vec<u8>, AllocError> {
     let text = format!(in alloc; "{error}")?;
     spelled(alloc, text.as_str())
+}
+
+// Writes the fault as a line, and what helps against it, and returns its status.
+fn refuse(ask: &Ask, fault: Fault, faults: &mut impl Write) -> u8
+    ensures { result ≡ FAILED }
+{
+    let status = report(fault, faults);
+    advise(ask, fault, faults);
+    status
 }
 
 /// Writes the fault as a line, and returns its status.

@@ -1,6 +1,7 @@
 //! Why the program could not answer.
 
 use capjobs::ServeFault;
+use capkeyring::KeyringFault;
 use capquestion::{CompareFault, QuestionFault};
 use capscript::ScriptFault;
 use capspec::SpecFault;
@@ -16,6 +17,12 @@ pub enum Fault {
     /// One of two texts of grants can't be read.
     #[error("{0}")]
     Compare(CompareFault),
+    /// A keyring has no grants of the client.
+    #[error("keyring: {0}")]
+    Keyring(KeyringFault),
+    /// The file of the keyring can't be opened.
+    #[error("keyring: Unopened")]
+    Unopened,
     /// A script stopped before its end.
     #[error("{0}")]
     Script(ScriptFault),
@@ -54,6 +61,21 @@ impl From<SpecFault> for Fault {
 
     fn from(refused: SpecFault) -> Self {
         Fault::from(QuestionFault::from(refused))
+    }
+}
+
+// Where only memory was missing, the keyring is not to blame.
+impl From<KeyringFault> for Fault {
+    ghost use Rattle.std.specs.Prelude.{◌≡◌};
+    ghost use Rattle.capcommand.specs.Fault.{keyring_fault_of};
+
+    ghost from_gives = { λ found fault. fault ≡ keyring_fault_of found };
+
+    fn from(found: KeyringFault) -> Self {
+        match found {
+            KeyringFault::NoMemory => Fault::NoMemory,
+            _ => Fault::Keyring(found),
+        }
     }
 }
 

@@ -3,12 +3,15 @@
 //! They stand in a library, as nothing can stand on a program, and the checks of a program load all that it links.
 #![tactic(auto)]
 
+mod advice;
 mod arguments;
 mod command_line;
 mod commands;
 mod fault;
+mod inquiry;
 
 pub use arguments::words;
 pub use command_line::Ask;
-pub use commands::{DONE, FAILED, USAGE, carry_out, dispatch, report};
+pub use commands::{DENIED, DONE, FAILED, USAGE, carry_out, dispatch, report};
 pub use fault::Fault;
+pub use inquiry::{Form, Inquiry, Source};

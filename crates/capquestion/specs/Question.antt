@@ -7,6 +7,7 @@ use Rattle.capspec.specs.Grants.{Reads}
 use Rattle.capspec.specs.Items.{IsNumber}
 use Rattle.capgrant.specs.declared.access.Access.{Access as AnAccess}
 use Rattle.capgrant.specs.declared.access.Attr.{Attr}
+use Rattle.capgrant.specs.declared.answer.Verdict.{Verdict}
 use Rattle.capgrant.specs.Question.{question}
 use Rattle.capgrant.specs.Verdict.{verdict_of}
 use Rattle.capquestion.specs.declared.fault.QuestionFault.{QuestionFault}
@@ -72,6 +73,10 @@ IsFaultIn v (faults.Grants refused) = IsFault v.grants.items refused
 IsFaultIn v (faults.BadValue option) = (option ≢ Grants) × IsFirstBad v all_options option
 IsFaultIn v faults.NoMemory = All (IsGood v) all_options
 
+-- what the grants say to the question
+abbrev pub verdict_on : Question → Verdict
+verdict_on q = verdict_of (question q.fs q.caller q.path q.attr q.access) q.grants
+
 -- the line that answers the question: what its grants say
 abbrev pub answer_text : Question → List ℕ
-answer_text q = explain_text q.access q.path (verdict_of (question q.fs q.caller q.path q.attr q.access) q.grants)
+answer_text q = explain_text q.access q.path (verdict_on q)

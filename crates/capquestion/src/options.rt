@@ -83,7 +83,7 @@ impl Opt {
     pub fn help(self) -> &'static str {
         match self {
             Opt::Grants =>
-                "The client's grants: 1 to 16 of them, as `ceph fs authorize` writes them",
+                "The client's grants: 1 to 16 of them, as `ceph fs authorize` writes them; - for standard input",
             Opt::Fs => "The file system of the inode: 1 to 64 bytes of A-Z a-z 0-9 _ . -",
             Opt::Uid => "The caller's uid: a decimal number of 32 bits",
             Opt::Gid => "The caller's gid: a decimal number of 32 bits",

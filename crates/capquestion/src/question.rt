@@ -14,7 +14,7 @@ use crate::options::Opt;
 use crate::texts::read_text;
 use capbits::{Caller, Groups, read_mode, read_u32};
 use capexplain::{explain_line, read_access};
-use capgrant::{Access, Attr, verdict};
+use capgrant::{Access, Attr, Verdict, verdict};
 use capspec::{FsName, Grants, TreePath};
 use std::alloc::{AllocError, Global};
 
@@ -91,8 +91,9 @@ impl Values {
 }
 
 impl Question {
-    ghost use Rattle.std.specs.Prelude.{◌≡◌, IfOk, IfErr};
-    ghost use Rattle.capquestion.specs.Question.{AsksFor, IsFaultIn, answer_text};
+    ghost use Rattle.std.specs.Prelude.{◌≡◌, IfOk, IfErr, map};
+    ghost use Rattle.capgrant.specs.Verdict.{is_allowed};
+    ghost use Rattle.capquestion.specs.Question.{AsksFor, IsFaultIn, verdict_on, answer_text};
 
     /// The question that the values ask. They are read in the order of `Opt::ALL`, and the fault is that of the first bad one.
     /// `NoMemory` comes last, and only where each value is good.
@@ -124,15 +125,32 @@ impl Question {
         ensures { IfOk result (λ line. line.items ≡ answer_text self.now) }
     {
         let names = self.path.names(alloc)?;
-        let verdict = verdict(
+        let verdict = self.judge(names.as_slice());
+        explain_line(alloc, self.access, names.as_slice(), &verdict)
+    }
+
+    /// Whether a grant allows it. Only memory can be missing.
+    pub fn is_allowed(&self, alloc: Global) -> Result<bool, AllocError>
+        ensures { IfOk result (λ allowed. allowed ≡ is_allowed (verdict_on self.now)) }
+    {
+        let names = self.path.names(alloc)?;
+        let verdict = self.judge(names.as_slice());
+        Ok(matches!(verdict, Verdict::Allowed { .. }))
+    }
+
+    // What the grants say, by the names of the path.
+    fn judge(&self, names: &[&[u8]]) -> Verdict
+        requires { map (λ name. name.now) names.now ≡ self.now.path }
+        ensures { result ≡ verdict_on self.now }
+    {
+        verdict(
             &self.grants,
             &self.fs,
             &self.caller,
-            names.as_slice(),
+            names,
             &self.attr,
             self.access,
-        );
-        explain_line(alloc, self.access, names.as_slice(), &verdict)
+        )
     }
 }
 
