@@ -1,7 +1,6 @@
 //! Directories with many open files, which an administrator moves out of where their clients may work, and back: the awkward case,
 //! since each move is looked at for all that stands below.
 
-use crate::fault::Fault;
 use crate::talk::Talk;
 use capcore::Core;
 
@@ -33,38 +32,38 @@ struct Places {
 }
 
 /// Makes the directories, lets the clients in, and moves for so many rounds.
-pub(crate) fn move_about(core: &mut Core, talk: &mut Talk, count: u32) -> Result<(), Fault> {
-    let places = make_places(core, talk)?;
-    let_all_in(core, talk)?;
-    let mut folders = make_folders(core, talk, places.inside)?;
+pub(crate) fn move_about(core: &mut Core, talk: &mut Talk, count: u32) {
+    let places = make_places(core, talk);
+    let_all_in(core, talk);
+    let mut folders = make_folders(core, talk, places.inside);
     move_often(core, talk, &mut folders, places, count)
 }
 
-fn make_places(core: &mut Core, talk: &mut Talk) -> Result<Places, Fault> {
-    let _done = talk.say(core, "session 1 0 0 - allow rwps")?;
-    let inside = talk.make(core, "mkdir 1 1 inside 0777")?;
-    let outside = talk.make(core, "mkdir 1 1 outside 0777")?;
-    Ok(Places { inside, outside })
+fn make_places(core: &mut Core, talk: &mut Talk) -> Places {
+    talk.say(core, "session 1 0 0 - allow rwps");
+    let inside = talk.make(core, "mkdir 1 1 inside 0777");
+    let outside = talk.make(core, "mkdir 1 1 outside 0777");
+    Places { inside, outside }
 }
 
-fn let_all_in(core: &mut Core, talk: &mut Talk) -> Result<(), Fault> {
+fn let_all_in(core: &mut Core, talk: &mut Talk) {
     for client in 2..CLIENTS + 2 {
-        let _done = talk.say(
+        talk.say(
             core,
             format_args!(
                 "session {client} {client} {client} - allow r path=/pub, allow rw path=/inside"
             ),
-        )?;
+        );
     }
-    Ok(())
 }
 
-fn make_folders(core: &mut Core, talk: &mut Talk, inside: u64) -> Result<Vec<Folder>, Fault> {
+fn make_folders(core: &mut Core, talk: &mut Talk, inside: u64) -> Vec<Folder> {
     let mut folders = Vec::new(talk.alloc());
     for name in 0..FOLDERS {
-        folders.push(make_folder(core, talk, inside, name)?)?;
+        let folder = make_folder(core, talk, inside, name);
+        talk.keep(&mut folders, folder);
     }
-    Ok(folders)
+    folders
 }
 
 fn move_often(
@@ -73,46 +72,39 @@ fn move_often(
     folders: &mut Vec<Folder>,
     places: Places,
     count: u32,
-) -> Result<(), Fault> {
+) {
     for _ in 0..count {
         let place = talk.below(FOLDERS);
         if let Some(folder) = folders.get_mut(place as usize) {
-            move_folder(core, talk, folder, places)?;
+            move_folder(core, talk, folder, places);
         }
     }
-    Ok(())
 }
 
 // Makes a directory with its files, each of which three clients open to read.
-fn make_folder(core: &mut Core, talk: &mut Talk, inside: u64, name: u64) -> Result<Folder, Fault> {
-    let ino = talk.make(core, format_args!("mkdir 1 {inside} folder{name} 0777"))?;
+fn make_folder(core: &mut Core, talk: &mut Talk, inside: u64, name: u64) -> Folder {
+    let ino = talk.make(core, format_args!("mkdir 1 {inside} folder{name} 0777"));
     for file in 0..FILES {
-        let made = talk.make(core, format_args!("create 1 {ino} file{file} 0666"))?;
-        open_file(core, talk, made, 3)?;
+        let made = talk.make(core, format_args!("create 1 {ino} file{file} 0666"));
+        open_file(core, talk, made, 3);
     }
-    Ok(Folder {
+    Folder {
         ino,
         first: ino.saturating_add(1),
         is_inside: true,
-    })
+    }
 }
 
 // So many clients open the file to read.
-fn open_file(core: &mut Core, talk: &mut Talk, ino: u64, count: u64) -> Result<(), Fault> {
+fn open_file(core: &mut Core, talk: &mut Talk, ino: u64, count: u64) {
     for _ in 0..count {
         let client = talk.among(2, CLIENTS);
-        let _opened = talk.say(core, format_args!("open {client} {ino} r"))?;
+        talk.say(core, format_args!("open {client} {ino} r"));
     }
-    Ok(())
 }
 
 // Moves a directory to where it is not. Some clients listen; and where it is back, its files are opened again.
-fn move_folder(
-    core: &mut Core,
-    talk: &mut Talk,
-    folder: &mut Folder,
-    places: Places,
-) -> Result<(), Fault> {
+fn move_folder(core: &mut Core, talk: &mut Talk, folder: &mut Folder, places: Places) {
     let Folder {
         ino,
         first,
@@ -123,27 +115,24 @@ fn move_folder(
     } else {
         places.inside
     };
-    let _moved = talk.say(core, format_args!("rename 1 {ino} {target} folder{ino}"))?;
+    talk.say(core, format_args!("rename 1 {ino} {target} folder{ino}"));
     folder.is_inside = !is_inside;
-    listen_to_move(core, talk)?;
-    if is_inside {
-        return Ok(());
+    listen_to_move(core, talk);
+    if !is_inside {
+        open_files(core, talk, first);
     }
-    open_files(core, talk, first)
 }
 
-fn listen_to_move(core: &mut Core, talk: &mut Talk) -> Result<(), Fault> {
+fn listen_to_move(core: &mut Core, talk: &mut Talk) {
     for _ in 0..LISTENERS {
         let client = talk.among(2, CLIENTS);
-        talk.listen(core, client)?;
+        talk.listen(core, client);
     }
-    Ok(())
 }
 
 // Each file of a directory is opened by two clients.
-fn open_files(core: &mut Core, talk: &mut Talk, first: u64) -> Result<(), Fault> {
+fn open_files(core: &mut Core, talk: &mut Talk, first: u64) {
     for file in 0..FILES {
-        open_file(core, talk, first.saturating_add(file), 2)?;
+        open_file(core, talk, first.saturating_add(file), 2);
     }
-    Ok(())
 }

@@ -5,35 +5,43 @@ use capjobs::ServeFault;
 use capquestion::QuestionFault;
 use capscript::ScriptFault;
 use std::alloc::{AllocError, AllocFailed};
-use thiserror::Error;
+use std::fmt;
+use std::fmt::Display;
 
 /// Why a piece of work gave no digest.
-#[derive(Clone, Copy, Debug, PartialEq, Eq, Error)]
+#[derive(Clone, Copy)]
 pub(crate) enum Fault {
     /// The words name no work.
-    #[error("usage: capload tenants|shared|moves|script|questions|serve COUNT SEED")]
     Usage,
     /// A line of the work is none.
-    #[error("script: {0}")]
     Script(ScriptFault),
     /// A script was not served.
-    #[error("serve: {0}")]
     Serve(ServeFault),
     /// A question of the work is none.
-    #[error("question: {0}")]
     Question(QuestionFault),
     /// The core took no event.
-    #[error("{0}")]
     Stopped(Stop),
     /// A line was answered otherwise than the work needs.
-    #[error("another answer was needed")]
     Unexpected,
     /// No memory was left.
-    #[error("no memory")]
     NoMemory,
     /// The digest could not be written.
-    #[error("write failed")]
     WriteFailed,
+}
+
+impl Display for Fault {
+    fn fmt<W: fmt::Write>(&self, f: &mut fmt::Formatter<W>) -> fmt::Result {
+        f.write_str(match self {
+            Fault::Usage => "usage: capload tenants|shared|moves|script|questions|serve COUNT SEED",
+            Fault::Script(fault) => return write!(f, "script: {fault}"),
+            Fault::Serve(fault) => return write!(f, "serve: {fault}"),
+            Fault::Question(fault) => return write!(f, "question: {fault}"),
+            Fault::Stopped(stop) => return write!(f, "{stop}"),
+            Fault::Unexpected => "another answer was needed",
+            Fault::NoMemory => "no memory",
+            Fault::WriteFailed => "write failed",
+        })
+    }
 }
 
 impl From<AllocError> for Fault {

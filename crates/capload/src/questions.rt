@@ -6,7 +6,6 @@ use capquestion::{Question, Values};
 use std::alloc::Global;
 use std::fmt::Display;
 use std::hash::{DefaultHasher, Hasher};
-use std::io::Write;
 
 /// How many directories can stand in each.
 const NAMES: u64 = 4;
@@ -33,7 +32,8 @@ struct Texts {
 /// Answers so many questions, and returns the digest of the answers.
 pub(crate) fn ask_all(alloc: Global, count: u32, seed: u32) -> Result<u64, Fault> {
     let mut talk = Talk::new(alloc, seed);
-    let texts = make_texts(alloc, &mut talk)?;
+    let texts = make_texts(alloc, &mut talk);
+    talk.check()?;
     ask_often(alloc, &texts, &mut talk, count)
 }
 
@@ -41,7 +41,8 @@ fn ask_often(alloc: Global, texts: &Texts, talk: &mut Talk, count: u32) -> Resul
     let mut digest = DefaultHasher::new();
     let mut values = blank(alloc);
     for _ in 0..count {
-        choose(texts, talk, &mut values)?;
+        choose(texts, talk, &mut values);
+        talk.check()?;
         let line = answer(alloc, &values)?;
         digest.write(line.as_slice());
     }
@@ -53,7 +54,7 @@ fn answer(alloc: Global, values: &Values) -> Result<Vec<u8>, Fault> {
     Ok(Question::read(alloc, values)?.answer(alloc)?)
 }
 
-fn make_texts(alloc: Global, talk: &mut Talk) -> Result<Texts, Fault> {
+fn make_texts(alloc: Global, talk: &mut Talk) -> Texts {
     let mut texts = Texts {
         grants: Vec::new(alloc),
         paths: Vec::new(alloc),
@@ -61,39 +62,30 @@ fn make_texts(alloc: Global, talk: &mut Talk) -> Result<Texts, Fault> {
         modes: Vec::new(alloc),
         accesses: Vec::new(alloc),
     };
-    add_texts(alloc, talk, &mut texts)?;
-    Ok(texts)
+    add_texts(talk, &mut texts);
+    texts
 }
 
-fn add_texts(alloc: Global, talk: &mut Talk, texts: &mut Texts) -> Result<(), Fault> {
+fn add_texts(talk: &mut Talk, texts: &mut Texts) {
     for _ in 0..TEXTS {
-        texts.grants.push(grants(alloc, talk)?)?;
-        texts.paths.push(path(alloc, talk)?)?;
+        add_grants(talk, &mut texts.grants);
+        add_path(talk, &mut texts.paths);
     }
-    add_users(alloc, &mut texts.users)?;
-    add_modes(alloc, &mut texts.modes)?;
-    add_accesses(alloc, &mut texts.accesses)
-}
-
-fn add_users(alloc: Global, users: &mut Vec<Vec<u8>>) -> Result<(), Fault> {
     for user in 0..USERS {
-        users.push(text(alloc, user.saturating_add(1000))?)?;
+        add_text(talk, &mut texts.users, user.saturating_add(1000));
     }
-    Ok(())
-}
-
-fn add_modes(alloc: Global, modes: &mut Vec<Vec<u8>>) -> Result<(), Fault> {
     for mode in 0..8 {
-        modes.push(text(alloc, format_args!("0{mode}4{mode}"))?)?;
+        add_text(talk, &mut texts.modes, format_args!("0{mode}4{mode}"));
     }
-    Ok(())
+    for access in ACCESSES {
+        add_text(talk, &mut texts.accesses, *access);
+    }
 }
 
-fn add_accesses(alloc: Global, accesses: &mut Vec<Vec<u8>>) -> Result<(), Fault> {
-    for access in ACCESSES {
-        accesses.push(text(alloc, *access)?)?;
-    }
-    Ok(())
+fn add_text<D: Display + Drop>(talk: &mut Talk, texts: &mut Vec<Vec<u8>>, value: D) {
+    let mut text = Vec::new(talk.alloc());
+    talk.write(&mut text, value);
+    talk.keep(texts, text);
 }
 
 // Values without a byte.
@@ -113,87 +105,77 @@ fn blank(alloc: Global) -> Values {
 }
 
 // Puts one question together.
-fn choose(texts: &Texts, talk: &mut Talk, values: &mut Values) -> Result<(), Fault> {
-    take(&texts.grants, talk, &mut values.grants)?;
-    take(&texts.paths, talk, &mut values.path)?;
-    take(&texts.modes, talk, &mut values.mode)?;
-    take(&texts.accesses, talk, &mut values.access)?;
-    choose_users(&texts.users, talk, values)?;
+fn choose(texts: &Texts, talk: &mut Talk, values: &mut Values) {
+    take(&texts.grants, talk, &mut values.grants);
+    take(&texts.paths, talk, &mut values.path);
+    take(&texts.modes, talk, &mut values.mode);
+    take(&texts.accesses, talk, &mut values.access);
+    choose_users(&texts.users, talk, values);
     values.fs.clear();
-    values.fs.extend_from_slice(b"cephfs")?;
-    Ok(())
+    talk.write(&mut values.fs, "cephfs");
 }
 
 // The numbers of the caller and of the owner.
-fn choose_users(users: &Vec<Vec<u8>>, talk: &mut Talk, values: &mut Values) -> Result<(), Fault> {
-    take(users, talk, &mut values.uid)?;
-    take(users, talk, &mut values.gid)?;
-    take(users, talk, &mut values.owner)?;
-    take(users, talk, &mut values.group)?;
+fn choose_users(users: &Vec<Vec<u8>>, talk: &mut Talk, values: &mut Values) {
+    take(users, talk, &mut values.uid);
+    take(users, talk, &mut values.gid);
+    take(users, talk, &mut values.owner);
+    take(users, talk, &mut values.group);
     if let Some(groups) = &mut values.groups {
-        take(users, talk, groups)?;
+        take(users, talk, groups);
     }
-    Ok(())
 }
 
 // One of the texts, in the place of another.
-fn take(texts: &Vec<Vec<u8>>, talk: &mut Talk, place: &mut Vec<u8>) -> Result<(), Fault> {
+fn take(texts: &Vec<Vec<u8>>, talk: &mut Talk, place: &mut Vec<u8>) {
     place.clear();
     let number = talk.below(texts.len() as u64);
     if let Some(text) = texts.get(number as usize) {
-        place.extend_from_slice(text.as_slice())?;
+        if place.extend_from_slice(text.as_slice()).is_err() {
+            talk.fail(Fault::NoMemory);
+        }
     }
-    Ok(())
-}
-
-fn text<D: Display + Drop>(alloc: Global, value: D) -> Result<Vec<u8>, Fault> {
-    let mut text = Vec::new(alloc);
-    add(&mut text, value)?;
-    Ok(text)
-}
-
-fn add<D: Display + Drop>(text: &mut Vec<u8>, value: D) -> Result<(), Fault> {
-    text.write_fmt(value).map_err(|_| Fault::NoMemory)
 }
 
 // One to sixteen grants, most of them few.
-fn grants(alloc: Global, talk: &mut Talk) -> Result<Vec<u8>, Fault> {
-    let mut grants = text(alloc, "allow r path=/pub")?;
+fn add_grants(talk: &mut Talk, texts: &mut Vec<Vec<u8>>) {
+    let mut grants = Vec::new(talk.alloc());
+    talk.write(&mut grants, "allow r path=/pub");
     let most = talk.below(15);
     for _ in 0..talk.below(most) {
-        add_grant(talk, &mut grants)?;
+        write_grant(talk, &mut grants);
     }
-    Ok(grants)
+    talk.keep(texts, grants);
 }
 
-fn add_grant(talk: &mut Talk, grants: &mut Vec<u8>) -> Result<(), Fault> {
+fn write_grant(talk: &mut Talk, grants: &mut Vec<u8>) {
     let kind = talk.below(4);
+    let flags = match kind {
+        0 => "r",
+        1 => "rwp",
+        _ => "rw",
+    };
+    talk.write(grants, format_args!(", allow {flags} path="));
+    write_path(talk, grants);
     match kind {
-        0 => add(grants, ", allow r path=")?,
-        1 => add(grants, ", allow rwp path=")?,
-        _ => add(grants, ", allow rw path=")?,
-    }
-    add_path(talk, grants)?;
-    match kind {
-        2 => add(grants, " root_squash"),
+        2 => talk.write(grants, " root_squash"),
         3 => {
             let user = talk.among(1000, USERS);
-            add(grants, format_args!(" uid={user} gids={user},1001"))
+            talk.write(grants, format_args!(" uid={user} gids={user},1001"));
         }
-        _ => Ok(()),
+        _ => {}
     }
 }
 
-fn path(alloc: Global, talk: &mut Talk) -> Result<Vec<u8>, Fault> {
-    let mut path = Vec::new(alloc);
-    add_path(talk, &mut path)?;
-    Ok(path)
+fn add_path(talk: &mut Talk, texts: &mut Vec<Vec<u8>>) {
+    let mut path = Vec::new(talk.alloc());
+    write_path(talk, &mut path);
+    talk.keep(texts, path);
 }
 
-fn add_path(talk: &mut Talk, text: &mut Vec<u8>) -> Result<(), Fault> {
+fn write_path(talk: &mut Talk, text: &mut Vec<u8>) {
     for _ in 0..talk.among(1, 7) {
         let name = talk.below(NAMES);
-        add(text, format_args!("/directory{name}"))?;
+        talk.write(text, format_args!("/directory{name}"));
     }
-    Ok(())
 }

@@ -85,102 +85,106 @@ fn digest_of(text: &[u8]) -> u64 {
     digest.finish()
 }
 
-fn add<D: Display + Drop>(text: &mut Vec<u8>, line: D) -> Result<(), Fault> {
-    text.write_fmt(line).map_err(|_| Fault::NoMemory)
+/// A script that is made line by line. Where no memory is left for one, it stays unfinished.
+#[derive(Drop)]
+struct Script {
+    text: Vec<u8>,
+    is_unfinished: bool,
+}
+
+impl Script {
+    fn new(alloc: Global) -> Script {
+        Script {
+            text: Vec::new(alloc),
+            is_unfinished: false,
+        }
+    }
+
+    fn add<D: Display + Drop>(&mut self, line: D) {
+        if self.text.write_fmt(line).is_err() {
+            self.is_unfinished = true;
+        }
+    }
+
+    fn finished(self) -> Result<Vec<u8>, Fault> {
+        if self.is_unfinished {
+            return Err(Fault::NoMemory);
+        }
+        Ok(self.text)
+    }
 }
 
 // A client fills a deep chain of directories with files, and looks at them; another opens what it finds there.
 fn ingest(alloc: Global, talk: &mut Talk, count: u32) -> Result<Vec<u8>, Fault> {
-    let mut script = Vec::new(alloc);
-    add_ingest(talk, &mut script, count)?;
-    Ok(script)
-}
-
-fn add_ingest(talk: &mut Talk, script: &mut Vec<u8>, count: u32) -> Result<(), Fault> {
-    add(script, "session 1 10 10 - allow rw\n")?;
-    add(script, "session 2 20 20 - allow r path=/pub, allow r\n")?;
-    add_levels(script)?;
+    let mut script = Script::new(alloc);
+    script.add("session 1 10 10 - allow rw\n");
+    script.add("session 2 20 20 - allow r path=/pub, allow r\n");
+    add_levels(&mut script);
     for round in 0..u64::from(count) {
-        add_file(talk, script, round)?;
+        add_file(talk, &mut script, round);
     }
-    Ok(())
+    script.finished()
 }
 
-fn add_levels(script: &mut Vec<u8>) -> Result<(), Fault> {
+fn add_levels(script: &mut Script) {
     for level in 0..DEPTH {
         let inside = level + 1;
-        add(script, format_args!("mkdir 1 {inside} level{level} 0755\n"))?;
+        script.add(format_args!("mkdir 1 {inside} level{level} 0755\n"));
     }
-    Ok(())
 }
 
 // The lines of one more file, which gets the next number, and of one that is there.
-fn add_file(talk: &mut Talk, script: &mut Vec<u8>, round: u64) -> Result<(), Fault> {
+fn add_file(talk: &mut Talk, script: &mut Script, round: u64) {
     let folder = talk.among(1, DEPTH + 1);
     let any = talk.among(DEPTH + 2, round.saturating_add(1));
-    add_upload(script, folder, round)?;
-    add_change(script, any)
+    add_upload(script, folder, round);
+    add_change(script, any);
 }
 
 // One client makes a file and writes it, and another looks it up.
-fn add_upload(script: &mut Vec<u8>, folder: u64, round: u64) -> Result<(), Fault> {
+fn add_upload(script: &mut Script, folder: u64, round: u64) {
     let made = round.saturating_add(DEPTH + 2);
-    add(
-        script,
-        format_args!("create 1 {folder} upload{round} 0644\n"),
-    )?;
-    add(script, format_args!("open 1 {made} w\n"))?;
-    add(script, format_args!("flush 1 {made} size {round}\n"))?;
-    add(script, format_args!("lookup 2 {folder} upload{round}\n"))?;
-    add(script, format_args!("release 1 {made} p\n"))
+    script.add(format_args!(
+        "create 1 {folder} upload{round} 0644\nopen 1 {made} w\nflush 1 {made} size {round}\n"
+    ));
+    script.add(format_args!("lookup 2 {folder} upload{round}\nrelease 1 {made} p\n"));
 }
 
 // The other opens a file for a moment, and the first changes its mode.
-fn add_change(script: &mut Vec<u8>, ino: u64) -> Result<(), Fault> {
-    add(script, format_args!("open 2 {ino} r\n"))?;
-    add(script, format_args!("release 2 {ino} p\n"))?;
-    add(script, format_args!("alter 1 {ino} chmod 0640\n"))
+fn add_change(script: &mut Script, ino: u64) {
+    script.add(format_args!("open 2 {ino} r\nrelease 2 {ino} p\nalter 1 {ino} chmod 0640\n"));
 }
 
 // Clients that each work on files of their own, from threads of their own. Nothing that they ask for waits, since the number of a
 // request that waits depends on when its thread was served.
 fn jobs(alloc: Global, talk: &mut Talk, count: u32) -> Result<Vec<u8>, Fault> {
-    let mut script = Vec::new(alloc);
-    add_jobs(talk, &mut script, count)?;
-    Ok(script)
-}
-
-fn add_jobs(talk: &mut Talk, script: &mut Vec<u8>, count: u32) -> Result<(), Fault> {
+    let mut script = Script::new(alloc);
     for client in 1..=THREADS {
-        add_client(script, client)?;
+        add_client(&mut script, client);
     }
-    add(script, "threads\n")?;
+    script.add("threads\n");
     for round in 0..count {
-        add_round(talk, script, round)?;
+        add_round(talk, &mut script, round);
     }
-    Ok(())
+    script.finished()
 }
 
 // A line of each client.
-fn add_round(talk: &mut Talk, script: &mut Vec<u8>, round: u32) -> Result<(), Fault> {
+fn add_round(talk: &mut Talk, script: &mut Script, round: u32) {
     for client in 1..=THREADS {
-        add_job(talk, script, client, round)?;
+        add_job(talk, script, client, round);
     }
-    Ok(())
 }
 
 // A client with its directory and its files: the directory of client 1 is inode 2, and its files follow it.
-fn add_client(script: &mut Vec<u8>, client: u64) -> Result<(), Fault> {
+fn add_client(script: &mut Script, client: u64) {
     let home = home_of(client);
-    add(script, format_args!("session {client} 10 10 - allow rw\n"))?;
-    add(script, format_args!("mkdir {client} 1 home{client} 0755\n"))?;
+    script.add(format_args!(
+        "session {client} 10 10 - allow rw\nmkdir {client} 1 home{client} 0755\n"
+    ));
     for file in 0..FILES {
-        add(
-            script,
-            format_args!("create {client} {home} file{file} 0644\n"),
-        )?;
+        script.add(format_args!("create {client} {home} file{file} 0644\n"));
     }
-    Ok(())
 }
 
 fn home_of(client: u64) -> u64 {
@@ -190,27 +194,21 @@ fn home_of(client: u64) -> u64 {
         .saturating_add(2)
 }
 
-fn add_job(talk: &mut Talk, script: &mut Vec<u8>, client: u64, round: u32) -> Result<(), Fault> {
+fn add_job(talk: &mut Talk, script: &mut Script, client: u64, round: u32) {
     let home = home_of(client);
     let file = talk.below(FILES);
     let ino = home.saturating_add(1).saturating_add(file);
     match talk.below(6) {
         0 => add_use(script, "open", client, ino, "rw"),
-        1 => add(script, format_args!("flush {client} {ino} size {round}\n")),
+        1 => script.add(format_args!("flush {client} {ino} size {round}\n")),
         2 => add_use(script, "get", client, ino, "A"),
         3 => add_use(script, "release", client, ino, "p"),
         4 => add_use(script, "want", client, ino, "pFscr"),
-        _ => add(script, format_args!("lookup {client} {home} file{file}\n")),
+        _ => script.add(format_args!("lookup {client} {home} file{file}\n")),
     }
 }
 
 // The line by which a client asks for something of an inode.
-fn add_use(
-    script: &mut Vec<u8>,
-    word: &str,
-    client: u64,
-    ino: u64,
-    rest: &str,
-) -> Result<(), Fault> {
-    add(script, format_args!("{word} {client} {ino} {rest}\n"))
+fn add_use(script: &mut Script, word: &str, client: u64, ino: u64, rest: &str) {
+    script.add(format_args!("{word} {client} {ino} {rest}\n"));
 }

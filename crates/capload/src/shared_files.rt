@@ -15,77 +15,64 @@ const FOLDERS: u64 = 10;
 const FILES: u64 = 40;
 
 /// Makes the files, lets all clients in, and has them work for so many rounds.
-pub(crate) fn share(core: &mut Core, talk: &mut Talk, count: u32) -> Result<(), Fault> {
+pub(crate) fn share(core: &mut Core, talk: &mut Talk, count: u32) {
     for client in 1..=CLIENTS {
-        let_in(core, talk, client)?;
+        let_in(core, talk, client);
     }
-    let files = make_all_files(core, talk)?;
+    let files = make_all_files(core, talk);
     work_often(core, talk, files.as_slice(), count)
 }
 
-fn work_often(core: &mut Core, talk: &mut Talk, files: &[u64], count: u32) -> Result<(), Fault> {
+fn work_often(core: &mut Core, talk: &mut Talk, files: &[u64], count: u32) {
     for _ in 0..count {
-        work(core, talk, files)?;
+        work(core, talk, files);
     }
-    Ok(())
 }
 
 // Makes the directories with their files, and returns the inodes of these.
-fn make_all_files(core: &mut Core, talk: &mut Talk) -> Result<Vec<u64>, Fault> {
+fn make_all_files(core: &mut Core, talk: &mut Talk) -> Vec<u64> {
     let mut files = Vec::new(talk.alloc());
     for number in 0..FOLDERS {
-        let folder = talk.make(core, format_args!("mkdir 1 1 folder{number} 0755"))?;
-        make_files(core, talk, folder, &mut files)?;
+        let folder = talk.make(core, format_args!("mkdir 1 1 folder{number} 0755"));
+        make_files(core, talk, folder, &mut files);
     }
-    Ok(files)
+    files
 }
 
-fn make_files(
-    core: &mut Core,
-    talk: &mut Talk,
-    folder: u64,
-    files: &mut Vec<u64>,
-) -> Result<(), Fault> {
+fn make_files(core: &mut Core, talk: &mut Talk, folder: u64, files: &mut Vec<u64>) {
     for name in 0..FILES {
-        files.push(talk.make(core, format_args!("create 1 {folder} file{name} 0644"))?)?;
+        let file = talk.make(core, format_args!("create 1 {folder} file{name} 0644"));
+        talk.keep(files, file);
     }
-    Ok(())
 }
 
 // Gives a client its session; every fifth may only read.
-fn let_in(core: &mut Core, talk: &mut Talk, client: u64) -> Result<(), Fault> {
+fn let_in(core: &mut Core, talk: &mut Talk, client: u64) {
     let caps = if client % 5 == 0 { "r" } else { "rw" };
-    let _done = talk.say(
+    talk.say(
         core,
         format_args!("session {client} {client} {client} - allow {caps}"),
-    )?;
-    Ok(())
+    );
 }
 
 // One round: a client asks for something of a file, and one listens.
-fn work(core: &mut Core, talk: &mut Talk, files: &[u64]) -> Result<(), Fault> {
+fn work(core: &mut Core, talk: &mut Talk, files: &[u64]) {
     let client = talk.among(1, CLIENTS);
     let dice = talk.below(1000);
     let place = talk.below(files.len() as u64);
     let Some(ino) = files.get(place as usize).copied() else {
-        return Err(Fault::Unexpected);
+        return talk.fail(Fault::Unexpected);
     };
     if dice < 990 {
-        use_file(core, talk, client, ino, dice)?;
+        use_file(core, talk, client, ino, dice);
     } else {
-        disturb(core, talk, client, dice)?;
+        disturb(core, talk, client, dice);
     }
     let listener = talk.among(1, CLIENTS);
     talk.listen(core, listener)
 }
 
-fn use_file(
-    core: &mut Core,
-    talk: &mut Talk,
-    client: u64,
-    ino: u64,
-    dice: u64,
-) -> Result<(), Fault> {
+fn use_file(core: &mut Core, talk: &mut Talk, client: u64, ino: u64, dice: u64) {
     let (word, rest) = match dice {
         0..450 => ("open", "r"),
         450..550 => ("open", "w"),
@@ -100,37 +87,28 @@ fn use_file(
 }
 
 // What happens to sessions, and what the server does by itself.
-fn disturb(core: &mut Core, talk: &mut Talk, client: u64, dice: u64) -> Result<(), Fault> {
+fn disturb(core: &mut Core, talk: &mut Talk, client: u64, dice: u64) {
     match dice {
         990..993 => say_both(core, talk, client, "stale", "renew"),
         993..995 => {
-            say_both(core, talk, client, "evict", "unblock")?;
-            let_in(core, talk, client)
+            say_both(core, talk, client, "evict", "unblock");
+            let_in(core, talk, client);
         }
         995..998 => regrant_twice(core, talk, client),
         _ => {
-            let _heard = talk.say(core, "recall 100")?;
-            Ok(())
+            talk.say(core, "recall 100");
         }
     }
 }
 
 // Says the one of a client, and then the other.
-fn say_both(
-    core: &mut Core,
-    talk: &mut Talk,
-    client: u64,
-    one: &str,
-    other: &str,
-) -> Result<(), Fault> {
-    let _heard = talk.say(core, format_args!("{one} {client}"))?;
-    let _heard = talk.say(core, format_args!("{other} {client}"))?;
-    Ok(())
+fn say_both(core: &mut Core, talk: &mut Talk, client: u64, one: &str, other: &str) {
+    talk.say(core, format_args!("{one} {client}"));
+    talk.say(core, format_args!("{other} {client}"));
 }
 
 // For a moment the client may only read.
-fn regrant_twice(core: &mut Core, talk: &mut Talk, client: u64) -> Result<(), Fault> {
-    let _heard = talk.say(core, format_args!("regrant {client} allow r"))?;
-    let _heard = talk.say(core, format_args!("regrant {client} allow rw"))?;
-    Ok(())
+fn regrant_twice(core: &mut Core, talk: &mut Talk, client: u64) {
+    talk.say(core, format_args!("regrant {client} allow r"));
+    talk.say(core, format_args!("regrant {client} allow rw"));
 }

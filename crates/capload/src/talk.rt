@@ -38,7 +38,8 @@ pub(crate) enum Heard {
     NotDone,
 }
 
-/// The talk of all clients, with what it is made from.
+/// The talk of all clients, with what it is made from. After its first fault nothing more is said, and every answer is that nothing
+/// was done: so who talks need not look for a fault until the end.
 #[derive(Drop)]
 pub(crate) struct Talk {
     alloc: Global,
@@ -46,6 +47,7 @@ pub(crate) struct Talk {
     digest: DefaultHasher,
     line: Vec<u8>,
     told: Vec<Told>,
+    fault: Option<Fault>,
 }
 
 impl Talk {
@@ -57,6 +59,7 @@ impl Talk {
             digest: DefaultHasher::new(),
             line: Vec::new(alloc),
             told: Vec::new(alloc),
+            fault: None,
         }
     }
 
@@ -78,31 +81,68 @@ impl Talk {
         self.below(count).saturating_add(first)
     }
 
-    /// The digest of all answers until now.
-    pub(crate) fn digest(&self) -> u64 {
-        self.digest.finish()
+    /// The digest of all answers, or the first fault.
+    pub(crate) fn digest(&self) -> Result<u64, Fault> {
+        self.check()?;
+        Ok(self.digest.finish())
+    }
+
+    /// The first fault, if there was one.
+    pub(crate) fn check(&self) -> Result<(), Fault> {
+        match self.fault {
+            None => Ok(()),
+            Some(fault) => Err(fault),
+        }
+    }
+
+    /// Puts what a value shows behind a text.
+    pub(crate) fn write<D: Display + Drop>(&mut self, text: &mut Vec<u8>, value: D) {
+        if text.write_fmt(value).is_err() {
+            self.fail(Fault::NoMemory);
+        }
+    }
+
+    /// Puts a value behind the others of a list.
+    pub(crate) fn keep<T: Drop>(&mut self, list: &mut Vec<T>, value: T) {
+        if list.push(value).is_err() {
+            self.fail(Fault::NoMemory);
+        }
+    }
+
+    /// Nothing more is said. The first fault counts.
+    pub(crate) fn fail(&mut self, fault: Fault) {
+        if self.fault.is_none() {
+            self.fault = Some(fault);
+        }
     }
 
     /// Says a line, and hears what is answered.
-    pub(crate) fn say<D: Display + Drop>(
-        &mut self,
-        core: &mut Core,
-        line: D,
-    ) -> Result<Heard, Fault> {
+    pub(crate) fn say<D: Display + Drop>(&mut self, core: &mut Core, line: D) -> Heard {
+        if self.fault.is_some() {
+            return Heard::NotDone;
+        }
         self.line.clear();
-        self.line.write_fmt(line).map_err(|_| Fault::NoMemory)?;
-        self.ask(core)
+        let asked = match self.line.write_fmt(line) {
+            Ok(()) => self.ask(core),
+            Err(_) => Err(Fault::NoMemory),
+        };
+        match asked {
+            Ok(heard) => heard,
+            Err(fault) => {
+                self.fail(fault);
+                Heard::NotDone
+            }
+        }
     }
 
     /// Says a line that has to be answered with an inode.
-    pub(crate) fn make<D: Display + Drop>(
-        &mut self,
-        core: &mut Core,
-        line: D,
-    ) -> Result<u64, Fault> {
-        match self.say(core, line)? {
-            Heard::Ino(ino) => Ok(ino),
-            _ => Err(Fault::Unexpected),
+    pub(crate) fn make<D: Display + Drop>(&mut self, core: &mut Core, line: D) -> u64 {
+        match self.say(core, line) {
+            Heard::Ino(ino) => ino,
+            _ => {
+                self.fail(Fault::Unexpected);
+                0
+            }
         }
     }
 
@@ -114,9 +154,8 @@ impl Talk {
         client: u64,
         ino: u64,
         rest: &str,
-    ) -> Result<(), Fault> {
-        let _heard = self.say(core, format_args!("{word} {client} {ino} {rest}"))?;
-        Ok(())
+    ) {
+        self.say(core, format_args!("{word} {client} {ino} {rest}"));
     }
 
     /// A client changes something of an inode to a number.
@@ -127,28 +166,25 @@ impl Talk {
         ino: u64,
         word: &str,
         number: u64,
-    ) -> Result<(), Fault> {
-        let _heard = self.say(core, format_args!("alter {client} {ino} {word} {number}"))?;
-        Ok(())
+    ) {
+        self.say(core, format_args!("alter {client} {ino} {word} {number}"));
     }
 
     /// A client asks for its messages, and acknowledges each change that it is told of.
-    pub(crate) fn listen(&mut self, core: &mut Core, client: u64) -> Result<(), Fault> {
-        let _heard = self.say(core, format_args!("poll {client} {MESSAGES}"))?;
+    pub(crate) fn listen(&mut self, core: &mut Core, client: u64) {
+        self.say(core, format_args!("poll {client} {MESSAGES}"));
         for place in 0..self.told.len() {
             let Some(told) = self.told.get(place).copied() else {
                 break;
             };
-            self.acknowledge(core, client, told)?;
+            self.acknowledge(core, client, told);
         }
         self.told.clear();
-        Ok(())
     }
 
-    fn acknowledge(&mut self, core: &mut Core, client: u64, told: Told) -> Result<(), Fault> {
+    fn acknowledge(&mut self, core: &mut Core, client: u64, told: Told) {
         let Told { ino, seq } = told;
-        let _heard = self.say(core, format_args!("ack {client} {ino} {seq}"))?;
-        Ok(())
+        self.say(core, format_args!("ack {client} {ino} {seq}"));
     }
 
     // Asks the core what the line says.

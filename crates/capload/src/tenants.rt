@@ -1,7 +1,6 @@
 //! Tenants that each have a directory of their own, in which they make, open, change and close files; now and then one tries what
 //! is not its own.
 
-use crate::fault::Fault;
 use crate::talk::{Heard, Talk};
 use capcore::Core;
 
@@ -31,53 +30,48 @@ struct File {
 }
 
 /// Gives each tenant its directory, and has them work for so many rounds.
-pub(crate) fn serve_tenants(core: &mut Core, talk: &mut Talk, count: u32) -> Result<(), Fault> {
-    let _done = talk.say(core, "session 1 0 0 - allow rwps")?;
-    let mut tenants = let_all_in(core, talk)?;
+pub(crate) fn serve_tenants(core: &mut Core, talk: &mut Talk, count: u32) {
+    talk.say(core, "session 1 0 0 - allow rwps");
+    let mut tenants = let_all_in(core, talk);
     work_often(core, talk, &mut tenants, count)
 }
 
-fn let_all_in(core: &mut Core, talk: &mut Talk) -> Result<Vec<Tenant>, Fault> {
+fn let_all_in(core: &mut Core, talk: &mut Talk) -> Vec<Tenant> {
     let mut tenants = Vec::new(talk.alloc());
     for number in 0..TENANTS {
-        tenants.push(let_in(core, talk, number)?)?;
+        let tenant = let_in(core, talk, number);
+        talk.keep(&mut tenants, tenant);
     }
-    Ok(tenants)
+    tenants
 }
 
-fn work_often(
-    core: &mut Core,
-    talk: &mut Talk,
-    tenants: &mut Vec<Tenant>,
-    count: u32,
-) -> Result<(), Fault> {
+fn work_often(core: &mut Core, talk: &mut Talk, tenants: &mut Vec<Tenant>, count: u32) {
     for turn in 0..u64::from(count) {
         let place = talk.below(TENANTS);
         if let Some(tenant) = tenants.get_mut(place as usize) {
-            work(core, talk, tenant, turn)?;
+            work(core, talk, tenant, turn);
         }
     }
-    Ok(())
 }
 
 // Lets a tenant in: its directory is made, and it makes some in that.
-fn let_in(core: &mut Core, talk: &mut Talk, number: u64) -> Result<Tenant, Fault> {
+fn let_in(core: &mut Core, talk: &mut Talk, number: u64) -> Tenant {
     let client = number.saturating_add(2);
     let home = talk.make(
         core,
         format_args!("mkdir {ADMINISTRATOR} 1 tenant{number} 0777"),
-    )?;
-    open_session(core, talk, client, number)?;
-    let folders = make_folders(core, talk, client, home)?;
-    Ok(Tenant {
+    );
+    open_session(core, talk, client, number);
+    let folders = make_folders(core, talk, client, home);
+    Tenant {
         client,
         folders,
         files: Vec::new(talk.alloc()),
-    })
+    }
 }
 
 // Opens the tenant's session, by grants of one of three kinds.
-fn open_session(core: &mut Core, talk: &mut Talk, client: u64, number: u64) -> Result<(), Fault> {
+fn open_session(core: &mut Core, talk: &mut Talk, client: u64, number: u64) {
     let user = number.saturating_add(1000);
     match number % 3 {
         0 => open_by_path(core, talk, client, user, number),
@@ -86,84 +80,57 @@ fn open_session(core: &mut Core, talk: &mut Talk, client: u64, number: u64) -> R
     }
 }
 
-fn open_by_path(
-    core: &mut Core,
-    talk: &mut Talk,
-    client: u64,
-    user: u64,
-    number: u64,
-) -> Result<(), Fault> {
-    let _done = talk.say(
+fn open_by_path(core: &mut Core, talk: &mut Talk, client: u64, user: u64, number: u64) {
+    talk.say(
         core,
         format_args!("session {client} {user} {user} - allow rw path=/tenant{number}"),
-    )?;
-    Ok(())
+    );
 }
 
-fn open_by_user(
-    core: &mut Core,
-    talk: &mut Talk,
-    client: u64,
-    user: u64,
-    number: u64,
-) -> Result<(), Fault> {
-    let _done = talk.say(
+fn open_by_user(core: &mut Core, talk: &mut Talk, client: u64, user: u64, number: u64) {
+    talk.say(
         core,
         format_args!(
             "session {client} {user} {user} 100,200 allow r path=/pub, allow rw path=/tenant{number} uid={user} gids={user},100"
         ),
-    )?;
-    Ok(())
+    );
 }
 
 // By grants of which one squashes root.
-fn open_squashed(
-    core: &mut Core,
-    talk: &mut Talk,
-    client: u64,
-    user: u64,
-    number: u64,
-) -> Result<(), Fault> {
-    let _done = talk.say(
+fn open_squashed(core: &mut Core, talk: &mut Talk, client: u64, user: u64, number: u64) {
+    talk.say(
         core,
         format_args!(
             "session {client} {user} {user} 100 allow r path=/pub, allow rw path=/scratch root_squash, allow rwps path=/tenant{number}"
         ),
-    )?;
-    Ok(())
+    );
 }
 
 // The directories that a tenant makes in its own.
-fn make_folders(
-    core: &mut Core,
-    talk: &mut Talk,
-    client: u64,
-    home: u64,
-) -> Result<Vec<u64>, Fault> {
+fn make_folders(core: &mut Core, talk: &mut Talk, client: u64, home: u64) -> Vec<u64> {
     let mut folders = Vec::new(talk.alloc());
     for name in 0..FOLDERS {
         let folder = talk.make(
             core,
             format_args!("mkdir {client} {home} folder{name} 0755"),
-        )?;
-        folders.push(folder)?;
+        );
+        talk.keep(&mut folders, folder);
     }
-    Ok(folders)
+    folders
 }
 
 // One round of a tenant: one request or a few, and what it is told of then.
-fn work(core: &mut Core, talk: &mut Talk, tenant: &mut Tenant, turn: u64) -> Result<(), Fault> {
+fn work(core: &mut Core, talk: &mut Talk, tenant: &mut Tenant, turn: u64) {
     let dice = talk.below(100);
     let place = talk.below(tenant.files.len() as u64) as usize;
     match tenant.files.get(place).copied() {
-        Some(file) if dice == 82 => move_file(core, talk, tenant, place, file)?,
-        Some(file) if dice < 85 => use_file(core, talk, tenant.client, file, dice)?,
-        _ => make_file(core, talk, tenant, turn)?,
+        Some(file) if dice == 82 => move_file(core, talk, tenant, place, file),
+        Some(file) if dice < 85 => use_file(core, talk, tenant.client, file, dice),
+        _ => make_file(core, talk, tenant, turn),
     }
     if dice % 4 == 0 {
-        talk.listen(core, tenant.client)?;
+        talk.listen(core, tenant.client);
     }
-    Ok(())
 }
 
 fn any_folder(talk: &mut Talk, tenant: &Tenant) -> u64 {
@@ -175,33 +142,21 @@ fn any_folder(talk: &mut Talk, tenant: &Tenant) -> u64 {
 }
 
 // Makes a file, and opens it to write.
-fn make_file(
-    core: &mut Core,
-    talk: &mut Talk,
-    tenant: &mut Tenant,
-    name: u64,
-) -> Result<(), Fault> {
+fn make_file(core: &mut Core, talk: &mut Talk, tenant: &mut Tenant, name: u64) {
     let client = tenant.client;
     let folder = any_folder(talk, tenant);
     let heard = talk.say(
         core,
         format_args!("create {client} {folder} file{name} 0644"),
-    )?;
+    );
     if let Heard::Ino(ino) = heard {
-        tenant.files.push(File { ino, folder, name })?;
-        let _opened = talk.say(core, format_args!("open {client} {ino} rw"))?;
+        talk.keep(&mut tenant.files, File { ino, folder, name });
+        talk.say(core, format_args!("open {client} {ino} rw"));
     }
-    Ok(())
 }
 
 // Uses a file of its own, or now and then one that is not.
-fn use_file(
-    core: &mut Core,
-    talk: &mut Talk,
-    client: u64,
-    file: File,
-    dice: u64,
-) -> Result<(), Fault> {
+fn use_file(core: &mut Core, talk: &mut Talk, client: u64, file: File, dice: u64) {
     let ino = file.ino;
     let (word, ino, rest) = match dice {
         0..25 => return look_up(core, talk, client, file),
@@ -217,19 +172,12 @@ fn use_file(
     talk.use_inode(core, word, client, ino, rest)
 }
 
-fn look_up(core: &mut Core, talk: &mut Talk, client: u64, file: File) -> Result<(), Fault> {
+fn look_up(core: &mut Core, talk: &mut Talk, client: u64, file: File) {
     let File { folder, name, .. } = file;
-    let _heard = talk.say(core, format_args!("lookup {client} {folder} file{name}"))?;
-    Ok(())
+    talk.say(core, format_args!("lookup {client} {folder} file{name}"));
 }
 
-fn change_file(
-    core: &mut Core,
-    talk: &mut Talk,
-    client: u64,
-    ino: u64,
-    dice: u64,
-) -> Result<(), Fault> {
+fn change_file(core: &mut Core, talk: &mut Talk, client: u64, ino: u64, dice: u64) {
     let value = talk.below(1 << 20);
     match dice % 4 {
         0 => talk.alter_number(core, client, ino, "size", value),
@@ -240,32 +188,24 @@ fn change_file(
 }
 
 // Gives a file an attribute whose name has this number.
-fn mark(core: &mut Core, talk: &mut Talk, client: u64, ino: u64, number: u64) -> Result<(), Fault> {
-    let _heard = talk.say(
+fn mark(core: &mut Core, talk: &mut Talk, client: u64, ino: u64, number: u64) {
+    talk.say(
         core,
         format_args!("alter {client} {ino} setx user.mark{number} 0123abcd"),
-    )?;
-    Ok(())
+    );
 }
 
 // Moves a file into another directory of the tenant's.
-fn move_file(
-    core: &mut Core,
-    talk: &mut Talk,
-    tenant: &mut Tenant,
-    place: usize,
-    file: File,
-) -> Result<(), Fault> {
+fn move_file(core: &mut Core, talk: &mut Talk, tenant: &mut Tenant, place: usize, file: File) {
     let client = tenant.client;
     let folder = any_folder(talk, tenant);
     let File { ino, name, .. } = file;
     let heard = talk.say(
         core,
         format_args!("rename {client} {ino} {folder} file{name}"),
-    )?;
+    );
     match tenant.files.get_mut(place) {
         Some(file) if heard == Heard::Done => file.folder = folder,
         _ => {}
     }
-    Ok(())
 }

@@ -2,8 +2,7 @@
 
 use crate::fault::Fault;
 use crate::inodes::{
-    creation_of, directory_of_number, mode_of, regrant_to_nothing, regrant_to_read, session_below,
-    session_by_mode, session_of, session_with_snapshots,
+    creation_of, directory_of_number, mode_of, regrant_to_nothing, regrant_to_read, session_of,
 };
 use capbits::{Cap, CapSet, ClientId, Ino, Part};
 use capcore::{Event, Message, OpenMode, Outcome, Reply};
@@ -20,14 +19,8 @@ const SNAPSHOT: &[u8] = b"s1";
 /// What a client asks for, of one file.
 #[derive(Clone, Copy)]
 pub(crate) enum Asked {
-    /// A session, in which it may do all.
-    Session(ClientId),
-    /// A session, in which it may do all and make snapshots.
-    SessionWithSnapshots(ClientId),
-    /// A session, in which it may do all below the directory in the root whose name has this number.
-    SessionBelow(ClientId, u64),
-    /// A session, in which it may do what modes allow its user.
-    SessionByMode(ClientId),
+    /// A session with the grants of this text.
+    Session(ClientId, &'static str),
     /// To make a directory in the root, whose name has this number.
     Directory(u64),
     /// To make the file, whose name has this number.
@@ -133,10 +126,7 @@ pub(crate) enum Answer {
 pub(crate) fn event(alloc: Global, places: Places, asked: Asked) -> Result<Event, Fault> {
     let ino = places.file;
     match asked {
-        Asked::Session(client) => session_of(alloc, client),
-        Asked::SessionWithSnapshots(client) => session_with_snapshots(alloc, client),
-        Asked::SessionBelow(client, number) => session_below(alloc, client, number),
-        Asked::SessionByMode(client) => session_by_mode(alloc, client),
+        Asked::Session(client, grants) => session_of(alloc, client, grants),
         Asked::Directory(number) => directory_of_number(alloc, ROOT, number),
         Asked::Make(number) => creation_of(alloc, places.here, number),
         Asked::Open(client, mode) => Ok(Event::Open { client, ino, mode }),

@@ -1,17 +1,15 @@
 //! The words of the command line.
 
 use crate::work::Work;
-use clap::error::ErrorKind;
-use clap::{Arg, ArgAction, ArgMatches, Command, Error, value_parser};
-use std::alloc::{AllocError, Global};
+use capbits::read_u32;
 
-const CAPBENCH: &str = "capbench";
+/// What the program says of itself.
+pub(crate) const HELP: &str =
+    "Does a piece of the policy's work N times and prints a sum over its answers
 
-const WORK: &str = "work";
+Usage: capbench <WORK> <N>
 
-const TIMES: &str = "times";
-
-const WORKS: &str = "WORK is one of
+WORK is one of
   verdict-G-D-plain  judge an access by G grants on paths of D names
   verdict-G-D-ids    the same, with a user and two groups in each grant
   parse-G-D-plain    read the text of such grants
@@ -34,64 +32,45 @@ const WORKS: &str = "WORK is one of
   locked-N-T         the same, with a lock for each question and each change
   retry              have clients share a file, wait for one and lose what they hold, and ask again for all that finds no memory
   publish            have a pass of a server call events, have two ask what came of each, and call again all that finds no memory
-with G of 1, 4 or 16, D of 1, 8 or 32, N of 1, 2 or 4, and T of 100, 1000, 10000 or 60000";
+with G of 1, 4 or 16, D of 1, 8 or 32, N of 1, 2 or 4, and T of 100, 1000, 10000 or 60000
+";
 
-const WRONG_WORK: &str = "there is no such WORK: --help lists them";
+/// What it says of a command line that it does not understand.
+pub(crate) const WRONG_LINE: &str = "capbench: WORK and N are wanted: --help names them\n";
 
 /// A piece of work, and how many times it is done.
 #[derive(Clone, Copy)]
-pub struct Task {
+pub(crate) struct Task {
     /// The work.
-    pub work: Work,
+    pub(crate) work: Work,
     /// How many times.
-    pub times: u32,
+    pub(crate) times: u32,
 }
 
-/// The task that the words name, of which the first is the program's own name. The error's text says what is wrong with
-/// them, or it is the help that they ask for.
-pub fn parse(alloc: Global, words: &[String]) -> Result<Task, Error> {
-    let mut command = capbench(alloc)?;
-    parse_by(&mut command, words)
+/// What a command line asks for.
+#[derive(Clone, Copy)]
+pub(crate) enum Request {
+    /// What the program says of itself.
+    Help,
+    /// Work.
+    Do(Task),
 }
 
-fn parse_by<'a>(command: &mut Command<'a>, words: &'a [String]) -> Result<Task, Error> {
-    let matches = command.try_get_matches_from_mut(words)?;
-    match asked(&matches) {
-        Some(task) => Ok(task),
-        None => Err(command.error(ErrorKind::InvalidValue, WRONG_WORK)?),
+/// What the words ask for, of which the first is the program's own name; nothing where they are not understood.
+pub(crate) fn parse(words: &[String]) -> Option<Request> {
+    match words {
+        [_, word] if is_help(word.as_str()) => Some(Request::Help),
+        [_, work, times] => Some(Request::Do(read_task(work.as_str(), times.as_str())?)),
+        _ => None,
     }
 }
 
-fn asked(matches: &ArgMatches<'_>) -> Option<Task> {
-    let work = Work::read(matches.get_str(WORK)?)?;
-    let times = matches.get_one::<u32>(TIMES)?;
+fn is_help(word: &str) -> bool {
+    word == "--help" || word == "-h"
+}
+
+fn read_task(work: &str, times: &str) -> Option<Task> {
+    let work = Work::read(work)?;
+    let times = read_u32(times.as_bytes())?;
     Some(Task { work, times })
-}
-
-fn capbench<'a>(alloc: Global) -> Result<Command<'a>, AllocError> {
-    blank_command(alloc).arg(work(alloc))?.arg(times(alloc))
-}
-
-// The command without its words.
-fn blank_command<'a>(alloc: Global) -> Command<'a> {
-    Command::new(alloc, CAPBENCH)
-        .about("Does a piece of the policy's work N times and prints a sum over its answers")
-        .after_help(WORKS)
-}
-
-fn work<'a>(alloc: Global) -> Arg<'a> {
-    Arg::new(alloc, WORK)
-        .value_name("WORK")
-        .help("The work, as verdict-4-8-plain")
-        .required(true)
-        .action(ArgAction::Set)
-}
-
-fn times<'a>(alloc: Global) -> Arg<'a> {
-    Arg::new(alloc, TIMES)
-        .value_name("N")
-        .help("How many times it is done")
-        .required(true)
-        .value_parser(value_parser!(u32))
-        .action(ArgAction::Set)
 }

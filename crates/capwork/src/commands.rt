@@ -2,15 +2,14 @@
 ghost use Rattle.std.specs.Prelude.{◌≡◌, ◌≤◌};
 ghost use Rattle.capwork.specs.Status.{status_of};
 
-use crate::command_line::{Task, parse};
-use crate::core_work::{CoreWork, on_a_core};
+use crate::command_line::{HELP, Request, Task, WRONG_LINE, parse};
+use crate::core_work::on_a_core;
 use crate::explaining::explain;
 use crate::fault::Fault;
 use crate::judging::{judge, read};
 use crate::publishing::publish;
 use crate::tally::Tally;
 use crate::work::Work;
-use clap::error::ErrorKind;
 use std::alloc::Global;
 use std::io::Write;
 use std::sync::Wait;
@@ -35,14 +34,24 @@ pub fn dispatch<T: Threads + Wait + Sync>(
 ) -> u8
     ensures { result ≤ USAGE }
 {
-    let task = match parse(alloc, words) {
-        Ok(task) => task,
-        Err(error) => return show(&error, writer, faults),
+    let ended = match parse(words) {
+        Some(Request::Do(task)) => run(rt, alloc, task, writer),
+        Some(Request::Help) => write_text(writer, HELP),
+        None => {
+            let _ = write_text(faults, WRONG_LINE);
+            return USAGE;
+        }
     };
-    match run(rt, alloc, task, writer) {
+    match ended {
         Ok(()) => DONE,
         Err(fault) => report(fault, faults),
     }
+}
+
+fn write_text(writer: &mut impl Write, text: &str) -> Result<(), Fault> {
+    writer
+        .write_all(text.as_bytes())
+        .map_err(|_| Fault::WriteFailed)
 }
 
 // Does the work and writes the sum over its answers, as a line, and one more where something was asked for again, was served without
@@ -78,37 +87,9 @@ fn tally_of<T: Threads + Wait + Sync>(rt: &T, alloc: Global, task: Task) -> Resu
     match task.work {
         Work::Verdict(shape) => Tally::of_sum(judge(alloc, shape, task.times)),
         Work::Parse(shape) => Tally::of_sum(read(alloc, shape, task.times)),
-        Work::Lookup(shape) => on_a_core(alloc, CoreWork::Lookup(shape), task.times),
-        Work::Create(shape) => on_a_core(alloc, CoreWork::Create(shape), task.times),
-        Work::Open(size) => on_a_core(alloc, CoreWork::Open(size), task.times),
-        Work::Revoke(size) => on_a_core(alloc, CoreWork::Revoke(size), task.times),
-        Work::Want(size) => on_a_core(alloc, CoreWork::Want(size), task.times),
-        Work::Release(size) => on_a_core(alloc, CoreWork::Release(size), task.times),
-        Work::Share(size) => on_a_core(alloc, CoreWork::Share(size), task.times),
-        Work::Poll(size) => on_a_core(alloc, CoreWork::Poll(size), task.times),
-        Work::Alter(size) => on_a_core(alloc, CoreWork::Alter(size), task.times),
-        Work::Rename(size) => on_a_core(alloc, CoreWork::Rename(size), task.times),
-        Work::Carry(size) => on_a_core(alloc, CoreWork::Carry(size), task.times),
+        Work::OnCore(work) => on_a_core(alloc, work, task.times),
         Work::Explain(shape) => Tally::of_sum(explain(rt, alloc, shape, task.times)),
-        Work::Retry => on_a_core(alloc, CoreWork::Retry, task.times),
         Work::Publish => publish(rt, alloc, task.times),
-    }
-}
-
-// Shows what the parser of the command line says.
-fn show(error: &clap::Error, writer: &mut impl Write, faults: &mut impl Write) -> u8
-    ensures { result ≤ USAGE }
-{
-    if error.kind() == ErrorKind::OutOfMemory {
-        return report(Fault::NoMemory, faults);
-    }
-    if error.use_stderr() {
-        let _ = write!(faults, "{error}");
-        return USAGE;
-    }
-    match write!(writer, "{error}") {
-        Ok(()) => DONE,
-        Err(_) => report(Fault::WriteFailed, faults),
     }
 }
 

@@ -4,7 +4,7 @@ ghost use Rattle.std.specs.Prelude.{◌≡◌};
 ghost use Rattle.capserver.specs.Opened.{opened};
 
 use crate::fault::Fault;
-use crate::inodes::{CLIENT, birth, inode_at, root_opening, session_of, spread};
+use crate::inodes::{ALL, CLIENT, birth, inode_at, root_opening, session_of, spread};
 use crate::moving::{mode_at, mode_change};
 use crate::work::{AskShape, Layout, Size, Way};
 use capbits::Ino;
@@ -111,7 +111,7 @@ fn make_tree<L: Server, T: Wait>(
     pass: &mut Pass<L>,
     size: Size,
 ) -> Result<(), Fault> {
-    call(rt, server, pass, None, session_of(alloc, CLIENT)?)?;
+    call(rt, server, pass, None, session_of(alloc, CLIENT, ALL)?)?;
     for place in 0..size.number() {
         call(rt, server, pass, None, birth(alloc, Layout::Deep, place)?)?;
     }
@@ -136,7 +136,7 @@ fn call_while<L: Server, T: Wait>(
             break;
         }
         let ino = inode_at(spread(turn, size.number()));
-        let event = mode_change(ino, mode_at(turn)?);
+        let event = mode_change(ino, mode_at(turn));
         call(rt, server, &mut pass, turnstile, event)?;
         turn = turn.wrapping_add(1);
     }

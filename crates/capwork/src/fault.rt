@@ -3,41 +3,50 @@
 use capcore::Stop;
 use capspec::{SpecFault, SpecFaultKind};
 use std::alloc::{AllocError, AllocFailed};
-use thiserror::Error;
+use std::fmt;
+use std::fmt::Display;
 
 /// Why a piece of work gave no sum.
-#[derive(Clone, Copy, Debug, PartialEq, Eq, Error)]
+#[derive(Clone, Copy)]
 pub enum Fault {
     /// So many inodes don't fit into a tree beside those that it begins with.
-    #[error("too many creations: a tree has at most 65536 inodes, with its root")]
     TooManyCreations,
     /// So many files are not made to be opened.
-    #[error("too many openings: 1024 files are made for them")]
     TooManyOpenings,
     /// The grants can't be read.
-    #[error("grants: {0}")]
     Grants(SpecFault),
     /// The core answered with no inode.
-    #[error("the core refused")]
     Refused,
     /// The core is not what it was before it took no event.
-    #[error("the core changed, where it found no memory")]
     Changed,
     /// A question was answered otherwise than by what is published.
-    #[error("a question was answered by another view")]
     OtherView,
     /// An event was called again and again, and was never made or never published.
-    #[error("an event was called in vain")]
     InVain,
     /// The core took no event.
-    #[error("{0}")]
     Stopped(Stop),
     /// No memory was left.
-    #[error("no memory")]
     NoMemory,
     /// The sum could not be written.
-    #[error("write failed")]
     WriteFailed,
+}
+
+impl Display for Fault {
+    fn fmt<W: fmt::Write>(&self, f: &mut fmt::Formatter<W>) -> fmt::Result {
+        f.write_str(match self {
+            Fault::Grants(fault) => return write!(f, "grants: {fault}"),
+            Fault::Stopped(stop) => return write!(f, "{stop}"),
+            Fault::TooManyCreations =>
+                "too many creations: a tree has at most 65536 inodes, with its root",
+            Fault::TooManyOpenings => "too many openings: 1024 files are made for them",
+            Fault::Refused => "the core refused",
+            Fault::Changed => "the core changed, where it found no memory",
+            Fault::OtherView => "a question was answered by another view",
+            Fault::InVain => "an event was called in vain",
+            Fault::NoMemory => "no memory",
+            Fault::WriteFailed => "write failed",
+        })
+    }
 }
 
 impl From<AllocError> for Fault {

@@ -24,6 +24,11 @@ const MODE: u16 = 0o755;
 
 const FS: &[u8] = b"cephfs";
 
+/// The grants of a client that may do all, and of one that may do what modes allow its user.
+pub(crate) const ALL: &str = "allow rw";
+
+pub(crate) const BY_MODE: &str = "allow rw uid=1000";
+
 /// How many directories a chain has.
 const CHAIN: u64 = 16;
 
@@ -106,7 +111,7 @@ fn creation(alloc: Global, shape: TreeShape, turn: u32) -> Result<Event, Fault> 
 
 // The event that makes a file, whose name has this number.
 pub(crate) fn creation_of(alloc: Global, dir: Ino, place: u64) -> Result<Event, Fault> {
-    let mode = mode()?;
+    let mode = mode();
     Ok(Event::Create {
         client: CLIENT,
         dir,
@@ -117,7 +122,7 @@ pub(crate) fn creation_of(alloc: Global, dir: Ino, place: u64) -> Result<Event, 
 
 // The event that makes a directory, whose name has this number.
 pub(crate) fn directory_of_number(alloc: Global, dir: Ino, place: u64) -> Result<Event, Fault> {
-    let mode = mode()?;
+    let mode = mode();
     Ok(Event::Mkdir {
         client: CLIENT,
         dir,
@@ -170,7 +175,7 @@ pub(crate) fn root_tree(alloc: Global) -> Result<(FsName, Tree), Fault>
     let attr = Attr {
         uid: USER,
         gid: USER,
-        mode: mode()?,
+        mode: mode(),
     };
     let tree = Tree::new(alloc, attr)?;
     Ok((fs, tree))
@@ -194,8 +199,11 @@ fn name_of(alloc: Global, place: u64) -> Result<Bytes, Fault> {
     Ok(Bytes::read(alloc, name.as_bytes())?)
 }
 
-pub(crate) fn mode() -> Result<Mode, Fault> {
-    mode_of(MODE)
+pub(crate) fn mode() -> Mode {
+    match Mode::new(MODE) {
+        Some(mode) => mode,
+        None => unreachable!(),
+    }
 }
 
 // The mode with these bits.
@@ -222,35 +230,13 @@ pub(crate) fn answer(core: &mut Core, event: Event) -> Result<u64, Fault> {
 
 // Gives a client a session in which it may do all.
 pub(crate) fn open_session(alloc: Global, core: &mut Core, client: ClientId) -> Result<(), Fault> {
-    let _done = ask_core(core, session_of(alloc, client)?)?;
+    let _done = ask_core(core, session_of(alloc, client, ALL)?)?;
     Ok(())
 }
 
-// The event by which a client gets a session in which it may do all.
-pub(crate) fn session_of(alloc: Global, client: ClientId) -> Result<Event, Fault> {
-    session_by(alloc, client, b"allow rw")
-}
-
-// The event by which a client gets a session in which it may do all and make snapshots.
-pub(crate) fn session_with_snapshots(alloc: Global, client: ClientId) -> Result<Event, Fault> {
-    session_by(alloc, client, b"allow rws")
-}
-
-// The event by which a client gets a session in which it may do all below the directory in the root whose name has this number.
-pub(crate) fn session_below(alloc: Global, client: ClientId, place: u64) -> Result<Event, Fault> {
-    let grants = format!(in alloc; "allow rw path=/n{place}")?;
-    session_by(alloc, client, grants.as_bytes())
-}
-
-// The event by which a client gets a session in which it may do what modes allow its user.
-pub(crate) fn session_by_mode(alloc: Global, client: ClientId) -> Result<Event, Fault> {
-    let grants = format!(in alloc; "allow rw uid={USER}")?;
-    session_by(alloc, client, grants.as_bytes())
-}
-
 // The event by which a client gets a session with these grants.
-fn session_by(alloc: Global, client: ClientId, grants: &[u8]) -> Result<Event, Fault> {
-    let grants = grants_of(alloc, grants)?;
+pub(crate) fn session_of(alloc: Global, client: ClientId, grants: &str) -> Result<Event, Fault> {
+    let grants = grants_of(alloc, grants.as_bytes())?;
     Ok(Event::Session {
         client,
         caller: Caller {
@@ -294,7 +280,7 @@ pub(crate) fn birth(alloc: Global, layout: Layout, place: u64) -> Result<Event, 
     requires { place ≤ 60000 }
 {
     let dir = directory_of(layout, place);
-    let mode = mode()?;
+    let mode = mode();
     let name = name_of(alloc, place)?;
     Ok(match layout {
         Layout::Flat => Event::Create {

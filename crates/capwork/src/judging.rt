@@ -22,9 +22,16 @@ const MODE: u16 = 0o644;
 /// Reads grants once, judges an access by them so many times, and returns the sum of what the verdicts score.
 pub fn judge(alloc: Global, shape: GrantShape, times: u32) -> Result<u64, Fault> {
     let grants = grants_of(alloc, shape)?;
-    let path = path_text(alloc, shape.depth)?;
-    let names = names_of(alloc, path.as_str())?;
+    let names = last_path(alloc, &grants)?;
     judge_often(&grants, names.as_slice(), times)
+}
+
+// The path that is asked for: that of the last grant.
+fn last_path(alloc: Global, grants: &Grants) -> Result<Vec<&[u8]>, Fault> {
+    match grants.as_slice().last() {
+        Some(grant) => Ok(grant.path.names(alloc)?),
+        None => Err(Fault::Refused),
+    }
 }
 
 // The grants of this shape. What is promised of them stays behind here.
@@ -114,24 +121,4 @@ fn write_path(text: &mut String, shape: GrantShape, grant: u32) -> Result<(), Al
         }
     }
     Ok(())
-}
-
-// The path that is asked for.
-fn path_text(alloc: Global, depth: u32) -> Result<String, AllocError> {
-    let mut text = String::new(alloc);
-    for place in 0..depth {
-        write!(text, "/p{place}")?;
-    }
-    Ok(text)
-}
-
-// The names of a path's text.
-fn names_of(alloc: Global, path: &str) -> Result<Vec<&[u8]>, AllocError> {
-    let mut names = Vec::new(alloc);
-    for name in path.split('/') {
-        if !name.is_empty() {
-            names.push(name.as_bytes())?;
-        }
-    }
-    Ok(names)
 }

@@ -3,7 +3,7 @@
 
 use crate::entries::{HOLDER, done, hold, opening, shown};
 use crate::fault::Fault;
-use crate::inodes::{CLIENT, answer, creation_of, inode_at, mode, mode_of, open_session, spread};
+use crate::inodes::{CLIENT, answer, creation_of, inode_at, mode, open_session, spread};
 use crate::work::Size;
 use capbits::{Ino, Mode};
 use capcore::{Core, Event, OpenMode};
@@ -32,7 +32,7 @@ pub(crate) fn alter(alloc: Global, core: &mut Core, size: Size, times: u32) -> R
     let mut sum: u64 = 0;
     for turn in 0..times {
         let ino = inode_at(spread(turn, size.number()));
-        done(core, mode_change(ino, mode_at(turn)?))?;
+        done(core, mode_change(ino, mode_at(turn)))?;
         sum = sum.wrapping_add(1);
     }
     Ok(sum)
@@ -70,7 +70,7 @@ fn made_in(alloc: Global, core: &mut Core, dir: Ino, name: &str) -> Result<Ino, 
         client: CLIENT,
         dir,
         name: Bytes::read(alloc, name.as_bytes())?,
-        mode: mode()?,
+        mode: mode(),
     };
     Ok(Ino(answer(core, event)?))
 }
@@ -118,10 +118,9 @@ pub(crate) fn mode_change(ino: Ino, mode: Mode) -> Event {
 }
 
 // One of two modes in turn.
-pub(crate) fn mode_at(turn: u32) -> Result<Mode, Fault> {
-    if turn % 2 == 0 {
-        mode_of(OTHER_MODE)
-    } else {
-        mode()
+pub(crate) fn mode_at(turn: u32) -> Mode {
+    match Mode::new(OTHER_MODE) {
+        Some(other) if turn % 2 == 0 => other,
+        _ => mode(),
     }
 }

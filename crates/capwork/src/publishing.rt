@@ -5,7 +5,7 @@ ghost use Rattle.capserver.specs.Opened.{opened};
 
 use crate::asked::{Answer, Asked, Places, event, polling, read_reply};
 use crate::fault::Fault;
-use crate::inodes::{CLIENT, root_opening};
+use crate::inodes::{ALL, BY_MODE, CLIENT, root_opening};
 use crate::tally::Tally;
 use capbits::{Cap, ClientId, Ino};
 use capcore::{Event, OpenMode, Stop};
@@ -28,6 +28,11 @@ const ONE_USER: ClientId = ClientId(4);
 
 /// The numbers in the names of that directory, of another one, and of a file.
 const TENANT_NUMBER: u64 = 1;
+
+/// The grants of who may do all and make snapshots, and of who may do all below that directory.
+const WITH_SNAPSHOTS: &str = "allow rws";
+
+const BELOW: &str = "allow rw path=/n1";
 
 const OTHER_NUMBER: u64 = 2;
 
@@ -82,26 +87,26 @@ struct Called {
     is_fresh: bool,
 }
 
-const ALL: &[Cap] = &[Cap::P, Cap::Fs, Cap::Fx, Cap::Fc, Cap::Fr, Cap::Fw, Cap::Fb];
+const OPENED: &[Cap] = &[Cap::P, Cap::Fs, Cap::Fx, Cap::Fc, Cap::Fr, Cap::Fw, Cap::Fb];
 
 // Clients come, two directories and a file are made, and the file is moved to where the tenant may do nothing.
 const COMING: &[Turn] = &[
     Turn {
-        asked: Asked::SessionWithSnapshots(CLIENT),
+        asked: Asked::Session(CLIENT, WITH_SNAPSHOTS),
         answer: Answer::Done,
         question: (CLIENT, ROOT, Access::Read),
         before: NoSession,
         after: Allowed,
     },
     Turn {
-        asked: Asked::Session(OTHER),
+        asked: Asked::Session(OTHER, ALL),
         answer: Answer::Done,
         question: (OTHER, ROOT, Access::Write),
         before: NoSession,
         after: Allowed,
     },
     Turn {
-        asked: Asked::SessionBelow(TENANT, TENANT_NUMBER),
+        asked: Asked::Session(TENANT, BELOW),
         answer: Answer::Done,
         question: (TENANT, ROOT, Access::Read),
         before: NoSession,
@@ -154,7 +159,7 @@ const CHANGING: &[Turn] = &[
         after: Denied,
     },
     Turn {
-        asked: Asked::SessionByMode(ONE_USER),
+        asked: Asked::Session(ONE_USER, BY_MODE),
         answer: Answer::Done,
         question: (ONE_USER, FILE, Access::Write),
         before: NoSession,
@@ -219,7 +224,7 @@ const GOING: &[Turn] = &[
         after: Gone,
     },
     Turn {
-        asked: Asked::Release(CLIENT, ALL),
+        asked: Asked::Release(CLIENT, OPENED),
         answer: Answer::Done,
         question: (CLIENT, FILE, Access::Read),
         before: Gone,

@@ -4,7 +4,7 @@
 use crate::asked::{Answer, Asked, Places, event};
 use crate::digest::digest_of;
 use crate::fault::Fault;
-use crate::inodes::{CLIENT, ask_core};
+use crate::inodes::{ALL, BY_MODE, CLIENT, ask_core};
 use crate::tally::Tally;
 use capbits::{Cap, ClientId, Ino, Part};
 use capcore::{Core, OpenMode, Stop};
@@ -23,6 +23,9 @@ const ONE_USER: ClientId = ClientId(4);
 /// The numbers in the names of that directory and of another, and in that of the file that requests wait for.
 const TENANT_NUMBER: u64 = 1_000_000;
 
+/// The grants of who may do all below that directory.
+const BELOW: &str = "allow rw path=/n1000000";
+
 const OTHER_NUMBER: u64 = 2_000_000;
 
 const WAITING_NUMBER: u64 = 3_000_000;
@@ -38,9 +41,9 @@ const LOSING_NUMBER: u64 = 6_000_000;
 type Line = (Asked, Answer);
 
 const SESSIONS: &[Line] = &[
-    (Asked::Session(CLIENT), Answer::Done),
-    (Asked::Session(OTHER), Answer::Done),
-    (Asked::SessionBelow(TENANT, TENANT_NUMBER), Answer::Done),
+    (Asked::Session(CLIENT, ALL), Answer::Done),
+    (Asked::Session(OTHER, ALL), Answer::Done),
+    (Asked::Session(TENANT, BELOW), Answer::Done),
 ];
 
 // The first client has the file for itself and gives way to the other, then both read it, and then the first is alone.
@@ -127,7 +130,7 @@ const LOSING_BY_MOVES: &[Line] = &[
 // The fourth client loses all by a mode, and gets it back by another before it acknowledges. Then a change that waits for what
 // another client caches takes from it that it writes, which it gives back by itself.
 const LOSING_BY_MODES: &[Line] = &[
-    (Asked::SessionByMode(ONE_USER), Answer::Done),
+    (Asked::Session(ONE_USER, BY_MODE), Answer::Done),
     (
         Asked::Open(ONE_USER, OpenMode::ReadWrite),
         Answer::Change(1),
@@ -187,15 +190,15 @@ const ENDING: &[Line] = &[
     (Asked::Regrant(OTHER), Answer::Done),
     (Asked::Evict(CLIENT), Answer::Done),
     (Asked::Poll(OTHER), Answer::EndedDenied),
-    (Asked::Session(CLIENT), Answer::Refused),
+    (Asked::Session(CLIENT, ALL), Answer::Refused),
     (Asked::Unblock(CLIENT), Answer::Done),
-    (Asked::Session(CLIENT), Answer::Done),
+    (Asked::Session(CLIENT, ALL), Answer::Done),
     (Asked::Open(CLIENT, OpenMode::Read), Answer::Change(1)),
     (Asked::Stale(CLIENT), Answer::Done),
     (Asked::Regrant(CLIENT), Answer::Done),
     (Asked::Renew(CLIENT), Answer::Done),
     (Asked::Close(OTHER), Answer::Done),
-    (Asked::Session(OTHER), Answer::Done),
+    (Asked::Session(OTHER, ALL), Answer::Done),
     (Asked::Poll(OTHER), Answer::NoMessage),
 ];
 

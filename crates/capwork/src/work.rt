@@ -1,44 +1,58 @@
 //! The pieces of work, and the words that name them.
 
 /// A piece of work.
-#[derive(Clone, Copy, Debug, PartialEq, Eq)]
+#[derive(Clone, Copy, PartialEq, Eq)]
 pub enum Work {
     /// Judge an access by grants that were read before.
     Verdict(GrantShape),
     /// Read a grant text.
     Parse(GrantShape),
-    /// Ask a core for an inode of its tree by its name.
-    Lookup(TreeShape),
-    /// Have a core make a file in its tree.
-    Create(TreeShape),
-    /// Have a core open files, beside so many other inodes that are open.
-    Open(Size),
-    /// Have a core revoke what a client holds on a file, beside so many other inodes that are open.
-    Revoke(Size),
-    /// Have a client that has so many inodes open want to write one of them, and give that back.
-    Want(Size),
-    /// Have a client that has so many inodes open give one of them back whole, and open it again.
-    Release(Size),
-    /// Have a client more open all of so many inodes that are open.
-    Share(Size),
-    /// Have a client that has so many inodes open ask for its messages, of which there is none.
-    Poll(Size),
-    /// Have a core change the mode of one of so many inodes that are open.
-    Alter(Size),
-    /// Have a core move a directory with a hundred open files to and fro, beside so many other inodes that are open.
-    Rename(Size),
-    /// Have a core move a directory with so many open files to and fro.
-    Carry(Size),
+    /// Have a core do what it is asked for.
+    OnCore(CoreWork),
     /// Have threads ask questions on policy, while another thread calls events.
     Explain(AskShape),
-    /// Have clients share files and lose what they hold, and ask a core again for what it finds no memory for.
-    Retry,
     /// Have a pass of a server call events and two ask what came of them, and call again what finds no memory.
     Publish,
 }
 
+/// What is done with a core.
+#[derive(Clone, Copy, PartialEq, Eq)]
+pub enum CoreWork {
+    /// It is asked for an inode of its tree by its name.
+    Lookup(TreeShape),
+    /// It makes a file in its tree.
+    Create(TreeShape),
+    /// It does what touches entries, beside or on so many inodes that are open.
+    Entries(EntryWork, Size),
+    /// Clients share files and lose what they hold, and ask again for what it finds no memory for.
+    Retry,
+}
+
+/// What is done with a core whose inodes a client has open.
+#[derive(Clone, Copy, PartialEq, Eq)]
+pub enum EntryWork {
+    /// Open files, beside the other inodes.
+    Open,
+    /// Revoke what a client holds on a file, beside the other inodes.
+    Revoke,
+    /// Have the client want to write one of the inodes, and give that back.
+    Want,
+    /// Have the client give one of the inodes back whole, and open it again.
+    Release,
+    /// Have a client more open all of them.
+    Share,
+    /// Have the client ask for its messages, of which there is none.
+    Poll,
+    /// Change the mode of one of the inodes.
+    Alter,
+    /// Move a directory with a hundred open files to and fro, beside the other inodes.
+    Rename,
+    /// Move a directory with so many open files to and fro.
+    Carry,
+}
+
 /// How questions on policy are asked.
-#[derive(Clone, Copy, Debug, PartialEq, Eq)]
+#[derive(Clone, Copy, PartialEq, Eq)]
 pub struct AskShape {
     /// How many threads ask.
     pub readers: Readers,
@@ -49,7 +63,7 @@ pub struct AskShape {
 }
 
 /// How many threads ask.
-#[derive(Clone, Copy, Debug, PartialEq, Eq)]
+#[derive(Clone, Copy, PartialEq, Eq)]
 pub enum Readers {
     /// One alone.
     One,
@@ -60,7 +74,7 @@ pub enum Readers {
 }
 
 /// How threads ask beside one that calls events.
-#[derive(Clone, Copy, Debug, PartialEq, Eq)]
+#[derive(Clone, Copy, PartialEq, Eq)]
 pub enum Way {
     /// They ask the server, which takes no lock for a question.
     Beside,
@@ -69,7 +83,7 @@ pub enum Way {
 }
 
 /// What a grant text is like.
-#[derive(Clone, Copy, Debug, PartialEq, Eq)]
+#[derive(Clone, Copy, PartialEq, Eq)]
 pub struct GrantShape {
     /// How many grants it has. The last is the one that allows.
     pub grants: u32,
@@ -80,7 +94,7 @@ pub struct GrantShape {
 }
 
 /// Whom grants are for.
-#[derive(Clone, Copy, Debug, PartialEq, Eq)]
+#[derive(Clone, Copy, PartialEq, Eq)]
 pub enum Callers {
     /// Any caller.
     Any,
@@ -89,7 +103,7 @@ pub enum Callers {
 }
 
 /// What a tree is like.
-#[derive(Clone, Copy, Debug, PartialEq, Eq)]
+#[derive(Clone, Copy, PartialEq, Eq)]
 pub struct TreeShape {
     /// How many inodes it has beside its root.
     pub size: Size,
@@ -98,7 +112,7 @@ pub struct TreeShape {
 }
 
 /// How many inodes a tree has beside its root.
-#[derive(Clone, Copy, Debug, PartialEq, Eq)]
+#[derive(Clone, Copy, PartialEq, Eq)]
 pub enum Size {
     /// A hundred.
     Hundred,
@@ -111,7 +125,7 @@ pub enum Size {
 }
 
 /// Where the inodes of a tree stand.
-#[derive(Clone, Copy, Debug, PartialEq, Eq)]
+#[derive(Clone, Copy, PartialEq, Eq)]
 pub enum Layout {
     /// All in the root.
     Flat,
@@ -119,17 +133,30 @@ pub enum Layout {
     Deep,
 }
 
+// What is written in words, and the words that name each.
+type Names<T> = &'static [(&'static str, T)];
+
+// What a word names.
+fn named<T: Copy>(word: &str, names: Names<T>) -> Option<T> {
+    for (name, value) in names {
+        if *name == word {
+            return Some(*value);
+        }
+    }
+    None
+}
+
 impl Work {
     /// The piece of work that a word names.
     pub fn read(word: &str) -> Option<Work> {
         match word {
-            "retry" => return Some(Work::Retry),
+            "retry" => return Some(Work::OnCore(CoreWork::Retry)),
             "publish" => return Some(Work::Publish),
             _ => (),
         }
         let (kind, shape) = word.split_once('-')?;
-        match Size::read(shape) {
-            Some(size) => Work::of_size(kind, size),
+        match named(kind, ENTRY_WORKS) {
+            Some(work) => Work::of_size(work, shape),
             None => Work::of_shape(kind, shape),
         }
     }
@@ -139,8 +166,8 @@ impl Work {
         match kind {
             "verdict" => GrantShape::read(shape).map(Work::Verdict),
             "parse" => GrantShape::read_any(shape).map(Work::Parse),
-            "lookup" => TreeShape::read(shape).map(Work::Lookup),
-            "create" => TreeShape::read(shape).map(Work::Create),
+            "lookup" => TreeShape::read(shape).map(Work::lookup),
+            "create" => TreeShape::read(shape).map(Work::create),
             "explain" => AskShape::read(shape, Way::Beside).map(Work::Explain),
             "locked" => AskShape::read(shape, Way::Locked).map(Work::Explain),
             _ => None,
@@ -148,45 +175,52 @@ impl Work {
     }
 
     // The piece of work of this kind, beside or on so many inodes.
-    fn of_size(kind: &str, size: Size) -> Option<Work> {
-        match kind {
-            "open" => Some(Work::Open(size)),
-            "revoke" => Some(Work::Revoke(size)),
-            "want" => Some(Work::Want(size)),
-            "release" => Some(Work::Release(size)),
-            "share" => Some(Work::Share(size)),
-            "poll" => Some(Work::Poll(size)),
-            "alter" => Some(Work::Alter(size)),
-            "rename" => Some(Work::Rename(size)),
-            "carry" => Some(Work::Carry(size)),
-            _ => None,
-        }
+    fn of_size(work: EntryWork, size: &str) -> Option<Work> {
+        let size = named(size, SIZES)?;
+        Some(Work::OnCore(CoreWork::Entries(work, size)))
+    }
+
+    fn lookup(shape: TreeShape) -> Work {
+        Work::OnCore(CoreWork::Lookup(shape))
+    }
+
+    fn create(shape: TreeShape) -> Work {
+        Work::OnCore(CoreWork::Create(shape))
     }
 }
+
+const ENTRY_WORKS: Names<EntryWork> = &[
+    ("open", EntryWork::Open),
+    ("revoke", EntryWork::Revoke),
+    ("want", EntryWork::Want),
+    ("release", EntryWork::Release),
+    ("share", EntryWork::Share),
+    ("poll", EntryWork::Poll),
+    ("alter", EntryWork::Alter),
+    ("rename", EntryWork::Rename),
+    ("carry", EntryWork::Carry),
+];
 
 impl AskShape {
     // The shape with this number of threads and inodes, as `4-1000`.
     fn read(text: &str, way: Way) -> Option<AskShape> {
         let (readers, size) = text.split_once('-')?;
         Some(AskShape {
-            readers: Readers::read(readers)?,
-            size: Size::read(size)?,
+            readers: named(readers, READERS)?,
+            size: named(size, SIZES)?,
             way,
         })
     }
 }
 
+const READERS: Names<Readers> = &[
+    ("1", Readers::One),
+    ("2", Readers::Two),
+    ("4", Readers::Four),
+];
+
 impl Readers {
     ghost use Rattle.std.specs.Prelude.{◌≤◌};
-
-    fn read(text: &str) -> Option<Readers> {
-        match text {
-            "1" => Some(Readers::One),
-            "2" => Some(Readers::Two),
-            "4" => Some(Readers::Four),
-            _ => None,
-        }
-    }
 
     /// The number of threads.
     pub fn number(self) -> u32
@@ -210,9 +244,9 @@ impl GrantShape {
 
     fn of_words(grants: &str, depth: &str, callers: &str) -> Option<GrantShape> {
         Some(GrantShape {
-            grants: read_grant_count(grants)?,
-            depth: read_depth(depth)?,
-            callers: Callers::read(callers)?,
+            grants: named(grants, GRANT_COUNTS)?,
+            depth: named(depth, DEPTHS)?,
+            callers: named(callers, CALLERS)?,
         })
     }
 
@@ -228,64 +262,39 @@ impl GrantShape {
     fn read_shallow(text: &str) -> Option<GrantShape> {
         let grants = text.strip_suffix("-plain")?;
         Some(GrantShape {
-            grants: read_grant_count(grants)?,
+            grants: named(grants, GRANT_COUNTS)?,
             depth: 1,
             callers: Callers::Any,
         })
     }
 }
 
-fn read_grant_count(text: &str) -> Option<u32> {
-    match text {
-        "1" => Some(1),
-        "4" => Some(4),
-        "16" => Some(16),
-        _ => None,
-    }
-}
+const GRANT_COUNTS: Names<u32> = &[("1", 1), ("4", 4), ("16", 16)];
 
-fn read_depth(text: &str) -> Option<u32> {
-    match text {
-        "1" => Some(1),
-        "8" => Some(8),
-        "32" => Some(32),
-        _ => None,
-    }
-}
+const DEPTHS: Names<u32> = &[("1", 1), ("8", 8), ("32", 32)];
 
-impl Callers {
-    fn read(text: &str) -> Option<Callers> {
-        match text {
-            "plain" => Some(Callers::Any),
-            "ids" => Some(Callers::OneUser),
-            _ => None,
-        }
-    }
-}
+const CALLERS: Names<Callers> = &[("plain", Callers::Any), ("ids", Callers::OneUser)];
 
 impl TreeShape {
     // The shape of this size and layout, as `100-flat`.
     fn read(text: &str) -> Option<TreeShape> {
         let (size, layout) = text.split_once('-')?;
         Some(TreeShape {
-            size: Size::read(size)?,
-            layout: Layout::read(layout)?,
+            size: named(size, SIZES)?,
+            layout: named(layout, LAYOUTS)?,
         })
     }
 }
 
+const SIZES: Names<Size> = &[
+    ("100", Size::Hundred),
+    ("1000", Size::Thousand),
+    ("10000", Size::TenThousand),
+    ("60000", Size::SixtyThousand),
+];
+
 impl Size {
     ghost use Rattle.std.specs.Prelude.{◌≤◌};
-
-    fn read(text: &str) -> Option<Size> {
-        match text {
-            "100" => Some(Size::Hundred),
-            "1000" => Some(Size::Thousand),
-            "10000" => Some(Size::TenThousand),
-            "60000" => Some(Size::SixtyThousand),
-            _ => None,
-        }
-    }
 
     /// The number of inodes.
     pub fn number(self) -> u64
@@ -301,12 +310,4 @@ impl Size {
     }
 }
 
-impl Layout {
-    fn read(text: &str) -> Option<Layout> {
-        match text {
-            "flat" => Some(Layout::Flat),
-            "deep" => Some(Layout::Deep),
-            _ => None,
-        }
-    }
-}
+const LAYOUTS: Names<Layout> = &[("flat", Layout::Flat), ("deep", Layout::Deep)];

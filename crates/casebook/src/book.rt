@@ -5,7 +5,7 @@ use crate::line::Line;
 use std::alloc::Global;
 
 /// A talk: its name, which of the file's lines are its own, and by which earlier talk it begins.
-#[derive(Clone, Copy, Debug)]
+#[derive(Clone, Copy)]
 pub struct Talk<'a> {
     pub name: &'a [u8],
     /// The number of the line that names it, which is the place of the first line behind that.

@@ -1,34 +1,27 @@
 //! Why a file of talks can't be played.
 
 use std::alloc::{AllocError, AllocFailed};
-use thiserror::Error;
+use std::fmt;
+use std::fmt::Display;
 
 /// What is wrong with a line, or with a file.
-#[derive(Clone, Copy, Debug, PartialEq, Eq, Error)]
+#[derive(Clone, Copy)]
 pub enum BookFault {
     /// The file can't be read.
-    #[error("it can't be read")]
     Unread,
     /// The file has no talk.
-    #[error("no talk is in it")]
     NoTalk,
     /// Nothing is asked in the talk that begins here.
-    #[error("the talk has no line")]
     NoLine,
     /// An earlier talk of the file has this name.
-    #[error("the name stands twice")]
     NameTwice,
     /// No earlier talk of the file has this name.
-    #[error("no earlier talk has this name")]
     NoEarlier,
     /// The line means nothing where it stands.
-    #[error("the line is not understood")]
     NotUnderstood,
     /// The list of the talks can't be written.
-    #[error("write failed")]
     WriteFailed,
     /// No memory was left.
-    #[error("no memory")]
     NoMemory,
 }
 
@@ -36,6 +29,21 @@ impl BookFault {
     /// The fault, at a line of a file.
     pub fn at(self, line: usize) -> Place {
         Place { line, fault: self }
+    }
+}
+
+impl Display for BookFault {
+    fn fmt<W: fmt::Write>(&self, f: &mut fmt::Formatter<W>) -> fmt::Result {
+        f.write_str(match self {
+            BookFault::Unread => "it can't be read",
+            BookFault::NoTalk => "no talk is in it",
+            BookFault::NoLine => "the talk has no line",
+            BookFault::NameTwice => "the name stands twice",
+            BookFault::NoEarlier => "no earlier talk has this name",
+            BookFault::NotUnderstood => "the line is not understood",
+            BookFault::WriteFailed => "write failed",
+            BookFault::NoMemory => "no memory",
+        })
     }
 }
 
@@ -52,25 +60,38 @@ impl<T: Drop> From<AllocFailed<T>> for BookFault {
 }
 
 /// A fault with its line. Lines count from 1; in line 0 it is the whole file's.
-#[derive(Clone, Copy, Debug, PartialEq, Eq, Error)]
-#[error("line {line}: {fault}")]
+#[derive(Clone, Copy)]
 pub struct Place {
     pub line: usize,
     pub fault: BookFault,
 }
 
+impl Display for Place {
+    fn fmt<W: fmt::Write>(&self, f: &mut fmt::Formatter<W>) -> fmt::Result {
+        let Place { line, fault } = self;
+        write!(f, "line {line}: {fault}")
+    }
+}
+
 /// Why no more was played.
-#[derive(Debug, Drop, Error)]
+#[derive(Drop)]
 pub enum Stop {
     /// The command line names no file.
-    #[error("no file is named")]
     NoFile,
     /// A file has a fault.
-    #[error("{name}, {place}")]
     InFile { name: String, place: Place },
     /// No memory was left.
-    #[error("no memory")]
     NoMemory,
+}
+
+impl Display for Stop {
+    fn fmt<W: fmt::Write>(&self, f: &mut fmt::Formatter<W>) -> fmt::Result {
+        match self {
+            Stop::NoFile => f.write_str("no file is named"),
+            Stop::InFile { name, place } => write!(f, "{name}, {place}"),
+            Stop::NoMemory => f.write_str("no memory"),
+        }
+    }
 }
 
 impl From<AllocError> for Stop {

@@ -3,7 +3,7 @@
 use crate::fault::BookFault;
 
 /// What a line is, by its first byte, with the text behind that.
-#[derive(Clone, Copy, Debug, PartialEq, Eq)]
+#[derive(Clone, Copy)]
 pub enum Line<'a> {
     /// Nothing, or a remark.
     Remark,

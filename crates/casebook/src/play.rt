@@ -6,6 +6,7 @@ use crate::line::Line;
 use crate::text::{push_line, read_words};
 use capcommand::dispatch;
 use std::alloc::Global;
+use std::fs::Files;
 use std::io;
 use std::io::Write;
 use std::sync::Wait;
@@ -54,7 +55,7 @@ impl Run {
     }
 
     // What comes when the command is run.
-    fn outcome(&self, rt: &(impl AllocGlobal + Threads + Wait + Sync)) -> Outcome {
+    fn outcome(&self, rt: &(impl AllocGlobal + Files + Threads + Wait + Sync)) -> Outcome {
         let mut came = Outcome::new(rt.alloc());
         let mut reader = self.input.as_slice();
         came.status = dispatch(
@@ -88,6 +89,7 @@ fn status(text: &[u8]) -> Result<u8, BookFault> {
         b"0" => Ok(0),
         b"1" => Ok(1),
         b"2" => Ok(2),
+        b"3" => Ok(3),
         _ => Err(BookFault::NotUnderstood),
     }
 }
@@ -95,7 +97,7 @@ fn status(text: &[u8]) -> Result<u8, BookFault> {
 /// Plays each talk of a file, and counts those that differ. A line is written for each, and for one that differs what was
 /// wanted and what came.
 pub fn play_text(
-    rt: &(impl AllocGlobal + Threads + Wait + Sync),
+    rt: &(impl AllocGlobal + Files + Threads + Wait + Sync),
     topic: &str,
     text: &[u8],
     writer: &mut impl Write,
@@ -152,7 +154,7 @@ fn take_line(alloc: Global, runs: &mut Vec<Run>, line: Line<'_>) -> Result<(), B
 
 // Whether each run of a talk has the outcome that is wanted.
 fn play_talk(
-    rt: &(impl AllocGlobal + Threads + Wait + Sync),
+    rt: &(impl AllocGlobal + Files + Threads + Wait + Sync),
     topic: &str,
     talk: Talk<'_>,
     runs: &[Run],

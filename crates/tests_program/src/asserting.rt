@@ -19,3 +19,20 @@ pub fn same<T: PartialEq + Debug + Drop>(
 pub fn holds(rt: &impl Abort, condition: bool, place: impl Debug + Copy) {
     assert!(rt; condition, "at {place:?}");
 }
+
+/// What a call has made. Fails the test where it has not.
+pub fn made<T, E: Debug + Drop>(
+    rt: &impl Abort,
+    found: Result<T, E>,
+    place: impl Debug + Copy,
+) -> T {
+    match found {
+        Ok(value) => value,
+        Err(error) => panic!(rt; "{error:?}: at {place:?}"),
+    }
+}
+
+/// What is there. Fails the test where nothing is.
+pub fn present<T>(rt: &impl Abort, found: Option<T>, what: &str) -> T {
+    found.expect(rt, what)
+}

@@ -1,14 +1,14 @@
 //! A gate at which each call gives way to the others: the calls of two clients alternate, and stand one behind the other.
 
-use crate::asserting::{holds, same};
+use crate::asserting::{holds, made, present, same};
 use crate::servers::{Numbers, count_numbered, numbers};
 use capjobs::{read_plan, serve_plan};
 use capscript::MAX_SCRIPT;
 use capserver::Gate;
 use std::alloc::{AllocError, Global};
+use std::process::Abort;
 use std::sync::atomic::{AtomicU64, Ordering};
 use std::sync::{Arc, Wait};
-use std::test::Fail;
 use std::thread::{Threads, yield_now};
 
 // So often a call gives way to the others.
@@ -33,6 +33,13 @@ fn new_signs(alloc: Global) -> Result<Arc<Signs, Global>, AllocError> {
     };
     match Arc::new(alloc, signs) {
         Ok(signs) => Ok(signs),
+        Err(_) => Err(AllocError),
+    }
+}
+
+fn slow_by(signs: &Arc<Signs, Global>) -> Result<Slow, AllocError> {
+    match Arc::try_clone(signs) {
+        Ok(signs) => Ok(Slow { signs }),
         Err(_) => Err(AllocError),
     }
 }
@@ -108,31 +115,21 @@ fn begins_before_end(rows: &[Numbers], one: u32, other: u32) -> bool {
     begin < end
 }
 
+// Sees that both passes have made their calls, and that neither has waited for the other to end.
+fn alternate(rt: &impl Abort, rows: &[Numbers]) {
+    same(rt, count_numbered(rows, 2), Some(20), "pass 2");
+    same(rt, count_numbered(rows, 3), Some(19), "pass 3");
+    holds(rt, begins_before_end(rows, 2, 3), "pass 2 waits for pass 3");
+    holds(rt, begins_before_end(rows, 3, 2), "pass 3 waits for pass 2");
+}
+
 #[test]
-fn two_clients_of_a_script_call_at_once(rt: HostRuntime) -> Result<(), Fail> {
-    let script = two_clients(rt.alloc())?;
-    let signs = new_signs(rt.alloc())?;
-    let Ok(theirs) = Arc::try_clone(&signs) else {
-        return Err(Fail::new("memory"));
-    };
-    let slow = Slow { signs: theirs };
-    let Some(rows) = served_slowly(&rt, script.as_bytes(), slow) else {
-        return Err(Fail::new("serving"));
-    };
+fn two_clients_of_a_script_call_at_once(rt: HostRuntime) {
+    let script = made(&rt, two_clients(rt.alloc()), "a script");
+    let signs = made(&rt, new_signs(rt.alloc()), "signs");
+    let slow = made(&rt, slow_by(&signs), "a gate");
+    let rows = present(&rt, served_slowly(&rt, script.as_bytes(), slow), "serving");
     let met = signs.met.load(Ordering::SeqCst);
     same(&rt, met, 0, "calls under the lock at once");
-    let rows = rows.as_slice();
-    same(&rt, count_numbered(rows, 2), Some(20), "pass 2");
-    same(&rt, count_numbered(rows, 3), Some(19), "pass 3");
-    holds(
-        &rt,
-        begins_before_end(rows, 2, 3),
-        "pass 2 waits for pass 3",
-    );
-    holds(
-        &rt,
-        begins_before_end(rows, 3, 2),
-        "pass 3 waits for pass 2",
-    );
-    Ok(())
+    alternate(&rt, rows.as_slice());
 }

@@ -12,7 +12,6 @@ use std::marker::Brand;
 use std::sync::atomic::{AtomicU64, Ordering};
 use std::sync::ledger::Blank;
 use std::sync::{Arc, Wait};
-use std::test::Fail;
 use std::thread::{Threads, join, yield_now};
 
 // So often a thread yields while it waits for another one.
@@ -169,7 +168,7 @@ fn told_beside<R: AllocGlobal + Threads + Wait + Sync>(rt: &R) -> Result<Told, S
 }
 
 #[test]
-fn a_question_is_answered_beside_a_held_call(rt: HostRuntime) -> Result<(), Fail> {
+fn a_question_is_answered_beside_a_held_call(rt: HostRuntime) {
     let want = Told {
         beside: "allowed",
         unpublished: "no inode",
@@ -182,5 +181,4 @@ fn a_question_is_answered_beside_a_held_call(rt: HostRuntime) -> Result<(), Fail
         Ok(told) => same(&rt, told, want, "a held call"),
         Err(_) => holds(&rt, false, "start"),
     }
-    Ok(())
 }

@@ -7,6 +7,8 @@
 #[cfg(test)]
 mod asserting;
 #[cfg(test)]
+mod failing_streams;
+#[cfg(test)]
 mod gates;
 #[cfg(test)]
 mod held_questions;
@@ -20,8 +22,6 @@ mod passes;
 mod questions;
 #[cfg(test)]
 mod runs;
-#[cfg(test)]
-mod scripts;
 #[cfg(test)]
 mod servers;
 #[cfg(test)]

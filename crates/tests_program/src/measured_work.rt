@@ -1,14 +1,13 @@
 //! Words, grants and sums.
 
-use crate::asserting::same;
+use crate::asserting::{holds, made, same};
 use capwork::{
-    AskShape, Callers, GrantShape, Layout, Readers, Size, TreeShape, Way, Work, dispatch,
-    grants_text,
+    AskShape, Callers, CoreWork, EntryWork, GrantShape, Layout, Readers, Size, TreeShape, Way,
+    Work, dispatch, grants_text,
 };
-use std::alloc::Global;
+use std::alloc::{AllocError, Global};
 use std::process::Abort;
 use std::sync::Wait;
-use std::test::Fail;
 use std::thread::Threads;
 
 fn grants(grants: u32, depth: u32, callers: Callers) -> GrantShape {
@@ -27,6 +26,18 @@ fn tree(size: Size, layout: Layout) -> TreeShape {
     TreeShape { size, layout }
 }
 
+fn lookup(size: Size, layout: Layout) -> Work {
+    Work::OnCore(CoreWork::Lookup(tree(size, layout)))
+}
+
+fn create(size: Size, layout: Layout) -> Work {
+    Work::OnCore(CoreWork::Create(tree(size, layout)))
+}
+
+fn entries(work: EntryWork, size: Size) -> Work {
+    Work::OnCore(CoreWork::Entries(work, size))
+}
+
 // Words, and the work that each names.
 fn works() -> [(&'static str, Work); 23] {
     use Callers::{Any, OneUser};
@@ -39,19 +50,19 @@ fn works() -> [(&'static str, Work); 23] {
         ("parse-16-plain", Work::Parse(grants(16, 1, Any))),
         ("parse-16-1-plain", Work::Parse(grants(16, 1, Any))),
         ("parse-4-32-ids", Work::Parse(grants(4, 32, OneUser))),
-        ("lookup-100-flat", Work::Lookup(tree(Hundred, Flat))),
-        ("lookup-60000-deep", Work::Lookup(tree(SixtyThousand, Deep))),
-        ("create-1000-flat", Work::Create(tree(Thousand, Flat))),
-        ("create-10000-deep", Work::Create(tree(TenThousand, Deep))),
-        ("open-100", Work::Open(Hundred)),
-        ("revoke-60000", Work::Revoke(SixtyThousand)),
-        ("want-1000", Work::Want(Thousand)),
-        ("release-10000", Work::Release(TenThousand)),
-        ("share-100", Work::Share(Hundred)),
-        ("poll-1000", Work::Poll(Thousand)),
-        ("alter-10000", Work::Alter(TenThousand)),
-        ("rename-100", Work::Rename(Hundred)),
-        ("carry-60000", Work::Carry(SixtyThousand)),
+        ("lookup-100-flat", lookup(Hundred, Flat)),
+        ("lookup-60000-deep", lookup(SixtyThousand, Deep)),
+        ("create-1000-flat", create(Thousand, Flat)),
+        ("create-10000-deep", create(TenThousand, Deep)),
+        ("open-100", entries(EntryWork::Open, Hundred)),
+        ("revoke-60000", entries(EntryWork::Revoke, SixtyThousand)),
+        ("want-1000", entries(EntryWork::Want, Thousand)),
+        ("release-10000", entries(EntryWork::Release, TenThousand)),
+        ("share-100", entries(EntryWork::Share, Hundred)),
+        ("poll-1000", entries(EntryWork::Poll, Thousand)),
+        ("alter-10000", entries(EntryWork::Alter, TenThousand)),
+        ("rename-100", entries(EntryWork::Rename, Hundred)),
+        ("carry-60000", entries(EntryWork::Carry, SixtyThousand)),
         (
             "explain-4-1000",
             Work::Explain(asked(Readers::Four, Thousand, Way::Beside)),
@@ -60,7 +71,7 @@ fn works() -> [(&'static str, Work); 23] {
             "locked-1-100",
             Work::Explain(asked(Readers::One, Hundred, Way::Locked)),
         ),
-        ("retry", Work::Retry),
+        ("retry", Work::OnCore(CoreWork::Retry)),
         ("publish", Work::Publish),
     ]
 }
@@ -68,12 +79,12 @@ fn works() -> [(&'static str, Work); 23] {
 #[test]
 fn each_word_names_its_work(rt: HostRuntime) {
     for (word, wanted) in works() {
-        same(&rt, Work::read(word), Some(wanted), word);
+        holds(&rt, Work::read(word) == Some(wanted), word);
     }
 }
 
 /// Words that name no work.
-const NO_WORK: [&str; 27] = [
+const NO_WORK: &[&str] = &[
     "",
     "verdict",
     "verdict-1-plain",
@@ -106,7 +117,7 @@ const NO_WORK: [&str; 27] = [
 #[test]
 fn no_other_word_names_work(rt: HostRuntime) {
     for word in NO_WORK {
-        same(&rt, Work::read(word), None, word);
+        holds(&rt, Work::read(word) == None, *word);
     }
 }
 
@@ -126,21 +137,24 @@ fn texts() -> [(GrantShape, &'static str); 3] {
 }
 
 #[test]
-fn grants_differ_in_their_last_name(rt: HostRuntime) -> Result<(), Fail> {
+fn grants_differ_in_their_last_name(rt: HostRuntime) {
     for (shape, wanted) in texts() {
-        let text = grants_text(rt.alloc(), shape)?;
-        same(&rt, text.as_str(), wanted, shape);
+        let text = made(&rt, grants_text(rt.alloc(), shape), wanted);
+        same(&rt, text.as_str(), wanted, wanted);
     }
-    Ok(())
 }
 
-// The words behind the program's name, with it.
-fn line_of(alloc: Global, words: &[&str]) -> Result<Vec<String>, Fail> {
+fn as_strings(alloc: Global, words: &[&str]) -> Result<Vec<String>, AllocError> {
     let mut line = vec![in alloc; String::from_str(alloc, "capbench")?]?;
     for word in words {
         line.push(String::from_str(alloc, word)?)?;
     }
     Ok(line)
+}
+
+// The words behind the program's name, with it.
+fn line_of(rt: &impl Abort, alloc: Global, words: &[&str]) -> Vec<String> {
+    made(rt, as_strings(alloc, words), words)
 }
 
 // Runs the program on a line: its status, what it prints, and whether it says nothing of faults.
@@ -161,17 +175,16 @@ fn expect<R: Abort + Threads + Wait + Sync>(
     words: &[&str],
     printed: &str,
     status: u8,
-) -> Result<(), Fail> {
-    let line = line_of(alloc, words)?;
+) {
+    let line = line_of(rt, alloc, words);
     let (ended, text, is_quiet) = outcome(rt, alloc, line.as_slice());
     same(rt, text.as_slice(), printed.as_bytes(), ("text", words));
     same(rt, ended, status, ("status", words));
     same(rt, is_quiet, status == 0, ("no faults", words));
-    Ok(())
 }
 
 /// A piece of work, how many times it is done, and what is printed.
-const SUMS: [(&str, &str, &str); 23] = [
+const SUMS: &[(&str, &str, &str)] = &[
     // The last grant is the one that allows.
     ("verdict-1-1-plain", "7", "sum 7\n"),
     ("verdict-4-8-ids", "7", "sum 28\n"),
@@ -207,38 +220,25 @@ const SUMS: [(&str, &str, &str); 23] = [
     ("publish", "2", "sum 42\n"),
 ];
 
-// Runs the program on a piece of work twice.
-fn expect_twice<R: Abort + Threads + Wait + Sync>(
-    rt: &R,
-    alloc: Global,
-    words: &[&str],
-    printed: &str,
-) -> Result<(), Fail> {
-    for _ in 0..2 {
-        expect(rt, alloc, words, printed, 0)?;
-    }
-    Ok(())
-}
-
 #[test]
-fn each_work_prints_its_sum_twice(rt: HostRuntime) -> Result<(), Fail> {
+fn each_work_prints_its_sum_twice(rt: HostRuntime) {
     for (work, times, printed) in SUMS {
-        expect_twice(&rt, rt.alloc(), &[work, times], printed)?;
+        for _ in 0..2 {
+            expect(&rt, rt.alloc(), &[*work, *times], printed, 0);
+        }
     }
-    Ok(())
 }
 
 // Two clients share files, and what is answered is what the script says. The sum is a hash, which says only that all is the
 // same again.
 #[test]
-fn what_two_clients_share_is_the_same_twice(rt: HostRuntime) -> Result<(), Fail> {
-    let line = line_of(rt.alloc(), &["retry", "2"])?;
+fn what_two_clients_share_is_the_same_twice(rt: HostRuntime) {
+    let line = line_of(&rt, rt.alloc(), &["retry", "2"]);
     let (status, text, is_quiet) = outcome(&rt, rt.alloc(), line.as_slice());
     let (_, again, _) = outcome(&rt, rt.alloc(), line.as_slice());
     same(&rt, status, 0, "status");
     same(&rt, is_quiet, true, "no faults");
     same(&rt, text.as_slice(), again.as_slice(), "text");
-    Ok(())
 }
 
 const WRONG_LINES: &[&[&str]] = &[
@@ -255,9 +255,8 @@ const WRONG_LINES: &[&[&str]] = &[
 ];
 
 #[test]
-fn a_wrong_command_line_is_refused(rt: HostRuntime) -> Result<(), Fail> {
+fn a_wrong_command_line_is_refused(rt: HostRuntime) {
     for words in WRONG_LINES {
-        expect(&rt, rt.alloc(), words, "", 2)?;
+        expect(&rt, rt.alloc(), words, "", 2);
     }
-    Ok(())
 }

@@ -10,7 +10,6 @@ use std::marker::Brand;
 use std::process::Abort;
 use std::sync::Wait;
 use std::sync::ledger::Blank;
-use std::test::Fail;
 use std::thread::{Threads, scope, scope_env};
 
 const MADE: u32 = 200;
@@ -105,16 +104,15 @@ fn saw_all(rt: &impl Abort, rows: &[Numbers]) {
 }
 
 #[test]
-fn two_threads_make_four_hundred_files(rt: HostRuntime) -> Result<(), Fail> {
+fn two_threads_make_four_hundred_files(rt: HostRuntime) {
     match rows_by(&rt, 2) {
         Ok(rows) => saw_all(&rt, rows.as_slice()),
         Err(_) => holds(&rt, false, "start"),
     }
-    Ok(())
 }
 
 #[test]
-fn a_server_has_one_to_thirty_two_passes(rt: HostRuntime) -> Result<(), Fail> {
+fn a_server_has_one_to_thirty_two_passes(rt: HostRuntime) {
     for count in [0, 33] {
         let found = rows_by(&rt, count);
         holds(&rt, matches!(found, Err(StartFault::BadCount)), count);
@@ -124,5 +122,4 @@ fn a_server_has_one_to_thirty_two_passes(rt: HostRuntime) -> Result<(), Fail> {
         let found = rows_by(&rt, count);
         holds(&rt, found.is_ok_and(|rows| rows.len() == all), count);
     }
-    Ok(())
 }

@@ -16,7 +16,6 @@ use std::marker::Brand;
 use std::process::Abort;
 use std::sync::Wait;
 use std::sync::ledger::Blank;
-use std::test::Fail;
 
 // What is done by one pass.
 #[derive(Clone, Copy)]
@@ -254,23 +253,20 @@ const SNAPSHOT: &[(Turn, &str)] = &[
 ];
 
 #[test]
-fn questions_see_what_is_fresh(rt: HostRuntime) -> Result<(), Fail> {
+fn questions_see_what_is_fresh(rt: HostRuntime) {
     comes_out(&rt, MANY_ROWS, "a file is moved", MOVED);
     comes_out(&rt, MANY_ROWS, "a client is evicted", EVICTED);
     comes_out(&rt, MANY_ROWS, "a file that is open is unlinked", UNLINKED);
     comes_out(&rt, MANY_ROWS, "grants are taken", REGRANTED);
     comes_out(&rt, MANY_ROWS, "a mode is set", SETTLED);
-    Ok(())
 }
 
 #[test]
-fn a_full_history_leaves_what_is_published(rt: HostRuntime) -> Result<(), Fail> {
+fn a_full_history_leaves_what_is_published(rt: HostRuntime) {
     comes_out(&rt, 2, "a history of two rows", FULL);
-    Ok(())
 }
 
 #[test]
-fn what_was_refused_comes_with_the_next(rt: HostRuntime) -> Result<(), Fail> {
+fn what_was_refused_comes_with_the_next(rt: HostRuntime) {
     comes_out(&rt, MANY_ROWS, "a directory had a snapshot", SNAPSHOT);
-    Ok(())
 }

@@ -1,14 +1,14 @@
 //! Runs of the program in tests: words and a reader in, a status and two texts out.
 
-use crate::asserting::same;
+use crate::asserting::{made, same};
 use capcommand::dispatch;
-use std::alloc::Global;
+use std::alloc::{AllocError, Global};
 use std::fmt::Debug;
+use std::fs::Files;
 use std::io;
 use std::io::{ErrorKind, Read, Write};
 use std::process::Abort;
 use std::sync::Wait;
-use std::test::Fail;
 use std::thread::Threads;
 
 /// Gives its bytes one by one, and fails once it was read so often.
@@ -19,10 +19,6 @@ pub struct Input<'a> {
 }
 
 impl<'a> Input<'a> {
-    pub fn whole(bytes: &'a [u8]) -> Self {
-        Input::failing(bytes, usize::MAX)
-    }
-
     pub fn failing(bytes: &'a [u8], reads_left: usize) -> Self {
         Input { bytes, reads_left }
     }
@@ -68,15 +64,12 @@ impl Write for Output<'_> {
 /// How many bytes the output and that for faults take before they fail.
 pub type Rooms = (usize, usize);
 
-/// No output fails.
-pub const ALL_ROOM: Rooms = (usize::MAX, usize::MAX);
-
 /// The status of a run, what it wrote, and what it said of faults.
 pub type Outcome = (u8, Vec<u8>, Vec<u8>);
 
 /// Runs the program on these words.
 pub fn outcome(
-    rt: &(impl AllocGlobal + Threads + Wait + Sync),
+    rt: &(impl AllocGlobal + Files + Threads + Wait + Sync),
     words: &[Vec<u8>],
     reader: Input<'_>,
     (room, room_for_faults): Rooms,
@@ -107,8 +100,7 @@ pub fn had(
     same(rt, found.0, status, ("status", place));
 }
 
-/// The words as a program gets them.
-pub fn as_bytes(alloc: Global, words: &[&str]) -> Result<Vec<Vec<u8>>, Fail> {
+fn as_bytes(alloc: Global, words: &[&str]) -> Result<Vec<Vec<u8>>, AllocError> {
     let mut all = Vec::new(alloc);
     for word in words {
         all.push(word.as_bytes().to_vec(alloc)?)?;
@@ -116,19 +108,7 @@ pub fn as_bytes(alloc: Global, words: &[&str]) -> Result<Vec<Vec<u8>>, Fail> {
     Ok(all)
 }
 
-/// Runs the program on the words, with nothing to be read, and sees what it writes, what it says of faults and its status.
-pub fn expect(
-    rt: &(impl AllocGlobal + Abort + Threads + Wait + Sync),
-    words: &[Vec<u8>],
-    text: &str,
-    faults: &str,
-    status: u8,
-) {
-    let found = outcome(rt, words, Input::whole(b"never read"), ALL_ROOM);
-    had(
-        rt,
-        found,
-        (status, text.as_bytes(), faults.as_bytes()),
-        words,
-    );
+/// The words as a program gets them.
+pub fn words_of(rt: &impl Abort, alloc: Global, words: &[&str]) -> Vec<Vec<u8>> {
+    made(rt, as_bytes(alloc, words), words)
 }

@@ -1,10 +1,10 @@
 //! The words of command lines of all lengths, over an environment of the tests' own.
 
-use crate::asserting::same;
+use crate::asserting::{made, same};
 use capcommand::words;
-use std::alloc::Global;
+use std::alloc::{AllocError, Global};
 use std::env::{Env, FillError};
-use std::test::Fail;
+use std::process::Abort;
 
 // A command line. Its first word is the program's name.
 #[derive(Drop)]
@@ -31,16 +31,8 @@ impl Env for Line<'_> {
     }
 }
 
-// A line whose words have these lengths. The bytes of a word are its number and those that follow.
-fn line_of(alloc: Global, lengths: &[usize]) -> Result<Vec<Vec<u8>>, Fail> {
-    let mut line = Vec::new(alloc);
-    for (number, length) in lengths.iter().enumerate() {
-        line.push(word_of(alloc, number, *length)?)?;
-    }
-    Ok(line)
-}
-
-fn word_of(alloc: Global, number: usize, length: usize) -> Result<Vec<u8>, Fail> {
+// The bytes of a word are its number and those that follow.
+fn word_of(alloc: Global, number: usize, length: usize) -> Result<Vec<u8>, AllocError> {
     let mut word = Vec::new(alloc);
     for place in 0..length {
         word.push((number.wrapping_add(place) % 251) as u8)?;
@@ -48,9 +40,30 @@ fn word_of(alloc: Global, number: usize, length: usize) -> Result<Vec<u8>, Fail>
     Ok(word)
 }
 
-// The words that are read from a line.
-fn read_words(alloc: Global, line: &[Vec<u8>]) -> Result<Vec<Vec<u8>>, Fail> {
-    Ok(words(&Line { words: line }, alloc)?)
+// A line whose words have these lengths.
+fn line_of(alloc: Global, lengths: &[usize]) -> Result<Vec<Vec<u8>>, AllocError> {
+    let mut line = Vec::new(alloc);
+    for (number, length) in lengths.iter().enumerate() {
+        line.push(word_of(alloc, number, *length)?)?;
+    }
+    Ok(line)
+}
+
+// Sees that all words behind the first are read from a line whose words have these lengths.
+fn are_read(rt: &(impl Abort + AllocGlobal), lengths: &[usize]) {
+    let line = made(rt, line_of(rt.alloc(), lengths), "a line");
+    let found = made(
+        rt,
+        words(
+            &Line {
+                words: line.as_slice(),
+            },
+            rt.alloc(),
+        ),
+        "the words",
+    );
+    let wanted = line.as_slice().get(1..).unwrap_or(&[]);
+    same(rt, found.as_slice(), wanted, lengths);
 }
 
 // The lengths of the words of a line, that of the program's name first.
@@ -64,25 +77,13 @@ const LINES: &[&[usize]] = &[
     &[300, 256],
     &[0, 257, 0, 1000, 511, 512, 513, 1024, 1025],
     &[4, 70_000],
+    // Seventy words.
+    &[2; 71],
 ];
 
 #[test]
-fn all_bytes_of_all_words_are_read(rt: HostRuntime) -> Result<(), Fail> {
+fn all_bytes_of_all_words_are_read(rt: HostRuntime) {
     for lengths in LINES {
-        let line = line_of(rt.alloc(), lengths)?;
-        let found = read_words(rt.alloc(), line.as_slice())?;
-        let wanted = line.as_slice().get(1..).unwrap_or(&[]);
-        same(&rt, found.as_slice(), wanted, *lengths);
+        are_read(&rt, lengths);
     }
-    Ok(())
-}
-
-#[test]
-fn seventy_words_are_read(rt: HostRuntime) -> Result<(), Fail> {
-    let line = line_of(rt.alloc(), &[2; 71])?;
-    let found = read_words(rt.alloc(), line.as_slice())?;
-    same(&rt, found.len(), 70, "count");
-    let wanted = line.as_slice().get(1..).unwrap_or(&[]);
-    same(&rt, found.as_slice(), wanted, "words");
-    Ok(())
 }
