@@ -6,7 +6,7 @@ use capbits::ClientId;
 pub enum State {
     /// Every client may read the part and keep what it read.
     Sync,
-    /// No client may hold anything of the part, so the server may change it.
+    /// No client may hold anything of the part, but what it has read of a file's data, so the server may change it.
     Lock,
     /// Every client may read and write the file, and none may keep any of it. A state of the file lock alone.
     Mix,
