@@ -20,7 +20,7 @@ pub allowed_before : (s : Setting) (q : Question) (place : ℕ) → position (al
 allowed_before s q place somewhere = and_right (granted q s.new) (not (granted q s.old)) (not_from_true (granted q s.old) (sym (granted_somewhere q s.old place somewhere)))
 
 -- a place is within the list
-place_within : {X : Type 0} (p : X → Bool) (xs : List X) (place : ℕ) → position p xs ≡ Some place → place < length xs
+pub place_within : {X : Type 0} (p : X → Bool) (xs : List X) (place : ℕ) → position p xs ≡ Some place → place < length xs
 place_within p xs place is =
     let parts = cond_some (nat_lt (position_or_len p xs) (length xs)) (position_or_len p xs) place is in
     rw (← parts.1) (ltb-true (position_or_len p xs) (length xs) parts.0)

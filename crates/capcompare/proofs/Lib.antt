@@ -12,3 +12,8 @@ pub mod Cases
 pub mod Covering
 pub mod AskedFor
 pub mod Witnesses
+pub mod Leaving
+pub mod Squashed
+pub mod CephTexts
+pub mod Undoing
+pub mod Found

@@ -65,10 +65,10 @@ gids_passed q g passes = by_case (and_cases (not (length g.gids == 0)) (length (
 
 -- ---- the path
 
-below : (path dir : List (List ℕ)) → starts_with bytes_eq path dir ≡ true → (rest : List (List ℕ)) × (path ≡ dir ++ rest)
+pub below : (path dir : List (List ℕ)) → starts_with bytes_eq path dir ≡ true → (rest : List (List ℕ)) × (path ≡ dir ++ rest)
 below path dir is = (_, (starts_is bytes_eq-Decides path dir (starts_with bytes_eq path dir) refl).0 is)
 
-above : (path dir rest : List (List ℕ)) → path ≡ dir ++ rest → starts_with bytes_eq path dir ≡ true
+pub above : (path dir rest : List (List ℕ)) → path ≡ dir ++ rest → starts_with bytes_eq path dir ≡ true
 above path dir rest is = (starts_is bytes_eq-Decides path dir (starts_with bytes_eq path dir) refl).1 rest is
 
 pub path_kept : (path dir other : List (List ℕ)) → starts_with bytes_eq path dir ≡ true → starts_with bytes_eq dir other ≡ true → starts_with bytes_eq path other ≡ true

@@ -290,7 +290,8 @@ fn another(uid: u32) -> u32
     if uid == 0 { 1 } else { 0 }
 }
 
-fn mode_of(bits: u16) -> Mode
+/// The mode of these bits.
+pub(crate) fn mode_of(bits: u16) -> Mode
     requires { bits ≤ MAX_MODE }
     ensures { result ≡ bits }
 {
@@ -300,8 +301,8 @@ fn mode_of(bits: u16) -> Mode
     }
 }
 
-// A caller with no further group.
-fn caller(uid: u32, gid: u32) -> Caller
+/// A caller with no further group.
+pub(crate) fn caller(uid: u32, gid: u32) -> Caller
     ensures { result ≡ caller_of uid gid }
 {
     Caller {
@@ -311,8 +312,8 @@ fn caller(uid: u32, gid: u32) -> Caller
     }
 }
 
-// The same caller in one group more.
-fn with_group(caller: &Caller, gid: u32) -> Caller
+/// The same caller in one group more.
+pub(crate) fn with_group(caller: &Caller, gid: u32) -> Caller
     requires { length caller.now.groups < MAX_GROUPS }
     ensures { result ≡ with_group caller.now gid }
 {

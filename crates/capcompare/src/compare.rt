@@ -1,11 +1,11 @@
 //! What one list of grants allows and another denies.
 
-ghost use Rattle.std.specs.Prelude.{IsTrue, IfOk, IfSome, MatchOption};
+ghost use Rattle.std.specs.Prelude.{◌≤◌, length, IsTrue, IfOk, IfSome, MatchOption};
 ghost use Rattle.capcompare.specs.Comparing.{Covers, CoversBut, IsWitness, is_root};
 
 use crate::search::Search;
 use crate::witness::Witness;
-use capspec::Grants;
+use capspec::{Grant, Grants};
 use std::alloc::{AllocError, Global};
 
 /// A question that the new grants allow and the old ones deny, or None where every question that the new grants allow is
@@ -19,11 +19,7 @@ pub fn gained<'a>(
     ensures exact { IfOk result (λ found. MatchOption found (Covers old.now new.now) (IsWitness old.now new.now)) }
     ensures root_last { IfOk result (λ found. IfSome found (λ w. IsTrue (is_root w.caller) → CoversBut is_root old.now new.now)) }
 {
-    let search = Search::of(alloc, old.as_slice(), new.as_slice())?;
-    if let Some(witness) = search.find(alloc, false)? {
-        return Ok(Some(witness));
-    }
-    search.find(alloc, true)
+    difference(alloc, old.as_slice(), new.as_slice())
 }
 
 /// A question that the old grants allow and the new ones deny, or None where every question that the old grants allow is
@@ -37,4 +33,22 @@ pub fn lost<'a>(
     ensures root_last { IfOk result (λ found. IfSome found (λ w. IsTrue (is_root w.caller) → CoversBut is_root new.now old.now)) }
 {
     gained(alloc, new, old)
+}
+
+// The same of the grants of two lists.
+pub(crate) fn difference<'a>(
+    alloc: Global,
+    old: &[Grant],
+    new: &'a [Grant],
+) -> Result<Option<Witness<'a>>, AllocError>
+    requires old { length old.now ≤ 16 }
+    requires new { length new.now ≤ 16 }
+    ensures exact { IfOk result (λ found. MatchOption found (Covers old.now new.now) (IsWitness old.now new.now)) }
+    ensures root_last { IfOk result (λ found. IfSome found (λ w. IsTrue (is_root w.caller) → CoversBut is_root old.now new.now)) }
+{
+    let search = Search::of(alloc, old, new)?;
+    if let Some(witness) = search.find(alloc, false)? {
+        return Ok(Some(witness));
+    }
+    search.find(alloc, true)
 }

@@ -2,10 +2,16 @@
 #![tactic(auto)]
 
 mod asking;
+mod ceph;
 mod compare;
+mod dots;
+mod finding;
 mod free;
+mod redundant;
 mod search;
+mod squash;
 mod witness;
 
 pub use compare::{gained, lost};
+pub use finding::{Finding, lint};
 pub use witness::Witness;

@@ -66,10 +66,11 @@ impl Question<'_> {
         Rules::from(rules)
     }
 
-    // Whether the grant allows the access. What most grants fail by is their path, so it is tested first.
+    /// Whether the grant allows the access. Needs no memory.
+    // What most grants fail by is their path, so it is tested first.
     #[inline(always)]
     #[tactic(auto, unfolding(crate::specs::Failing::first_failing))]
-    fn allows(&self, grant: &Grant) -> bool
+    pub fn allows(&self, grant: &Grant) -> bool
         ensures { result ≡ allows self.now grant.now }
     {
         self.allows_where(grant, self.is_below(grant))

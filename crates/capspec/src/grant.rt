@@ -31,8 +31,8 @@ pub struct Grant {
 impl Grant {
     ghost use Rattle.std.specs.Prelude.{◌≡◌, IfOk};
 
-    // The same grant, in memory of its own.
-    pub(crate) fn copy(&self) -> Result<Grant, AllocError>
+    /// The same grant, in memory of its own.
+    pub fn copy(&self) -> Result<Grant, AllocError>
         ensures { IfOk result (λ copy. copy ≡ self.now) }
     {
         Ok(Grant {
