@@ -7,6 +7,7 @@ use crate::name::Name;
 use std::alloc::{AllocError, Global};
 use std::collections::{BTreeMap, btree_map};
 use std::marker::Model;
+use std::sync::Arc;
 
 /// How many attributes an inode may have.
 pub const MAX_ATTRIBUTES: usize = 64;
@@ -14,18 +15,19 @@ pub const MAX_ATTRIBUTES: usize = 64;
 /// How many bytes the value of an attribute may have.
 pub const MAX_VALUE: usize = 4096;
 
-/// The value of an attribute.
+/// The value of an attribute. Its bytes never change, so the tree, replies and the history share them.
 #[derive(Debug, Drop)]
 pub struct Value {
-    bytes: Vec<u8>,
+    bytes: Arc<Vec<u8>, Global>,
 }
 
 impl Model for Value {
     ghost use Rattle.std.specs.Prelude.{ℕ, List};
+    ghost use Rattle.std.specs.Arc.{arc_value};
 
     ghost Value = { List ℕ };
 
-    ghost view = { λ value. value.bytes.items };
+    ghost view = { λ value. (arc_value value.bytes).items };
 }
 
 impl Value {
@@ -33,10 +35,16 @@ impl Value {
     pub(crate) fn read(alloc: Global, bytes: &[u8]) -> Result<Value, AllocError>
         ensures { IfOk result (λ value. value ≡ bytes.now) }
     {
-        match Vec::from_slice(alloc, bytes) {
-            Ok(bytes) => Ok(Value { bytes }),
-            Err(AllocError) => Err(AllocError),
-        }
+        let bytes = Arc::new(alloc, Vec::from_slice(alloc, bytes)?)?;
+        Ok(Value { bytes })
+    }
+
+    // The same value once more. It takes no memory: the error is that of a count of owners which can't be reached.
+    fn again(&self) -> Result<Value, AllocError>
+        ensures { IfOk result (λ value. value ≡ self.now) }
+    {
+        let bytes = Arc::try_clone(&self.bytes)?;
+        Ok(Value { bytes })
     }
 
     /// The bytes of the value.
@@ -95,13 +103,13 @@ impl Attributes {
         self.values.iter()
     }
 
-    /// The same attributes once more.
+    /// The same attributes once more, with the same values, which take no memory of their own.
     pub fn copy(&self, alloc: Global) -> Result<Attributes, AllocError>
         ensures { IfOk result (λ copy. copy ≡ self.now) }
     {
         let mut made = Attributes::new(alloc);
         for (name, value) in self.iter() {
-            let value = Value::read(alloc, value.as_bytes())?;
+            let value = value.again()?;
             made.insert(name.copy(), value)?;
         }
         Ok(made)

@@ -14,7 +14,7 @@ loop-name-preserved c =
     let start = c.into_iter-name-iterator.ensures.into_iter_gives ∙ c.iter-name-items.ensures in
     let split = sym start ∙ rest_so_far deref_pair c.loop-name.yielded _ _ c.loop-name.yielded_by ∙ ap (λ rest. each deref_pair c.loop-name.yielded ++ rest) (rest_more deref_pair _ _ _ _ c.in-Some.is c.next.ensures.steps) in
     copied_turn name_total name_same deref_pair c.args.self.now c.loop-name.made c.insert.new.self c.loop-name.yielded (c.in-Some.name, c.in-Some.value) c.next.new.self split
-    (c.in_ok-insert.ensures.ok ∙ ap (λ k. map.insert c.loop-name.made k c.in_ok-value.value) c.copy.ensures ∙ ap (map.insert c.loop-name.made c.in-Some.name.now) (c.in_ok-value.ensures ∙ c.as_bytes.ensures)) c.loop-name.invariant
+    (c.in_ok-insert.ensures.ok ∙ ap (λ k. map.insert c.loop-name.made k c.in_ok-value.value) c.copy.ensures ∙ ap (map.insert c.loop-name.made c.in-Some.name.now) c.in_ok-value.ensures) c.loop-name.invariant
 
 pub returns : goal.returns
 returns c =
