@@ -224,5 +224,8 @@ fn read_all_grants(alloc: Global, text: &[u8]) -> Result<Grants, Refused>
     if text == b"none".as_slice() {
         return Ok(Grants::none(alloc)?);
     }
-    Ok(read_grants(alloc, text)?)
+    let mut grants = read_grants(alloc, text)?;
+    // the event stays in the history, and the grants in the session
+    grants.shrink_to_fit();
+    Ok(grants)
 }

@@ -98,11 +98,18 @@ impl Grants {
     pub fn copy(&self) -> Result<Grants, AllocError>
         ensures { IfOk result (λ copy. copy ≡ self.now) }
     {
-        let mut grants = Vec::new(*self.grants.allocator());
+        let mut grants = Vec::with_capacity(*self.grants.allocator(), self.grants.len())?;
         for grant in &self.grants {
             grants.push(grant.copy()?)?;
         }
         Ok(Grants { grants })
+    }
+
+    /// Gives the room back that these grants don't use, where they are kept for long: a list that is read has room for four at least.
+    pub fn shrink_to_fit(&mut self)
+        ensures { self.new ≡ self.old }
+    {
+        self.grants.shrink_to_fit();
     }
 
     /// How many grants there are: at most 16.
