@@ -19,13 +19,15 @@ use Rattle.inotree.specs.declared.node.Setting.{Setting}
 use Rattle.inotree.specs.declared.node.Setting.TheVariants.{Mode, Uid, Gid, Size, Time}
 use Rattle.inotree.specs.Inodes.{InodeMap, with_site, with_setting}
 use Rattle.inotree.specs.Index.{NameIndex, slot_cmp}
-use Rattle.inotree.specs.Tree.{IsTree, IsIndexed, IsUnder, IsChildless, Climbs, HasGoodNames, AllHaveGoodNames, site_of, kind_of, place, place_at, is_directory, is_directory_kind, depth, reaches, is_within, lies_below}
+use Rattle.inotree.specs.Heights.{HeightMap, AreKept, HeightsRise, HeightsRiseBut, SameBut}
+use Rattle.inotree.specs.Tree.{IsTree, IsIndexed, IsUnder, IsChildless, Climbs, HasGoodNames, AllHaveGoodNames, site_of, kind_of, dir_at, parent, place, place_at, is_directory, is_directory_kind, depth, reaches, is_within, lies_below}
 use Rattle.inotree.specs.Calls.{first_tree, new_node}
 use Rattle.numbered.proofs.Maps.{insert-here, insert-other, remove-here, remove-other, change-is, change-none}
 use Rattle.inotree.proofs.Inner.{some_same, good_none, moved_good, put_inner}
 use Rattle.inotree.proofs.Named.{node_of}
 use Rattle.inotree.proofs.Shape.{same_ino, slot, tree-buried, index-forgotten, index-unlinked, climb_keep, climb_split, climb_on}
 use Rattle.inotree.proofs.Growing.{depth-climb, off_here, off_next, reach_up, tree-placed, index-added, index-moved, tree-same, index-same}
+use Rattle.inotree.proofs.Rising.{all-rise, rise-same, rise-moved, rise-placed}
 use Rattle.inotree.proofs.Walks.{is_within-is}
 
 -- One inode is there and changes.
@@ -68,6 +70,9 @@ module _ (m : InodeMap) (last k : ℕ) (x : Node) (f : Node → Node) (here : ma
     pub index-changed : (index : NameIndex) → IsIndexed m index → IsIndexed (change_at f m k) index
     index-changed = index-same m (change_at f m k) last t changed_sites (changed_kinds kind) (changed_fresh t.given)
 
+    pub rise-changed : (heights : HeightMap) → HeightsRise m heights → HeightsRise (change_at f m k) heights
+    rise-changed heights = rise-same m (change_at f m k) heights changed_sites (changed_kinds kind)
+
 -- An inode that is not the root, with nothing below it, becomes a stray.
 module _ (m : InodeMap) (last k : ℕ) (x : Node) (here : map.get m k ≡ Some x) (t : IsTree (record { nodes = m; last = last })) (was_no_root : site_of m k ≡ Some Root → ⊥) (childless : IsChildless m k) where
   stray_off : (i : ℕ) → (i ≡ k → ⊥) → site_of (change_at (with_site Stray) m k) i ≡ site_of m i
@@ -100,17 +105,25 @@ module _ (m : InodeMap) (last k : ℕ) (x : Node) (here : map.get m k ≡ Some x
   pub index-stray : (index : NameIndex) → IsIndexed m index → (d : ℕ) (a : List ℕ) → IsUnder m k d a → IsIndexed (change_at (with_site Stray) m k) (map.remove index (slot d a))
   index-stray = index-unlinked m (change_at (with_site Stray) m k) last k t stray_off stray_kinds stray_fresh stray_no_site stray_no_root stray_not_here was_no_root childless
 
-pub kept-unlinked : (m : InodeMap) (last k d : ℕ) (a : List ℕ) (index : NameIndex) → IsTree (record { nodes = m; last = last }) → IsIndexed m index → IsUnder m k d a → IsChildless m k
-    → IsTree (record { nodes = change_at (with_site Stray) m k; last = last }) × IsIndexed (change_at (with_site Stray) m k) (map.remove index (slot d a))
-kept-unlinked m last k d a index t ix u childless =
+  -- it is no lower than anything
+  pub rise-stray : (heights : HeightMap) → HeightsRise m heights → HeightsRise (change_at (with_site Stray) m k) heights
+  rise-stray heights rise =
+      let nowhere : parent (change_at (with_site Stray) m k) k ≡ None = ap dir_at stray_now in
+      all-rise (change_at (with_site Stray) m k) heights k (rise-moved m (change_at (with_site Stray) m k) heights k stray_off (changed_kinds m last k x (with_site Stray) here refl) rise) (λ d at. cc)
+
+pub kept-unlinked : (heights : HeightMap) (m : InodeMap) (last k d : ℕ) (a : List ℕ) (index : NameIndex) → IsTree (record { nodes = m; last = last }) → AreKept m index heights → IsUnder m k d a → IsChildless m k
+    → IsTree (record { nodes = change_at (with_site Stray) m k; last = last }) × AreKept (change_at (with_site Stray) m k) (map.remove index (slot d a)) heights
+kept-unlinked heights m last k d a index t kept u childless =
     let node = node_of m k _ u in
-    let was_no_root : site_of m k ≡ Some Root → ⊥ = λ v. cc in
-    (tree-unlinked m last k node.0 node.1 t was_no_root childless, index-stray m last k node.0 node.1 t was_no_root childless index ix d a u)
+    let was_no_root : site_of m k ≡ Some Root → ⊥ = λ v. cc in (
+      tree-unlinked m last k node.0 node.1 t was_no_root childless,
+      (index-stray m last k node.0 node.1 t was_no_root childless index kept.0 d a u, rise-stray m last k node.0 node.1 t was_no_root childless heights kept.1),
+    )
 
 -- a stray is forgotten
-pub kept-forgotten : (m : InodeMap) (last k : ℕ) (index : NameIndex) → IsTree (record { nodes = m; last = last }) → IsIndexed m index → site_of m k ≡ Some Stray
-    → IsTree (record { nodes = map.remove m k; last = last }) × IsIndexed (map.remove m k) index
-kept-forgotten m last k index t ix was =
+pub kept-forgotten : (m : InodeMap) (last k : ℕ) (index : NameIndex) (old new : HeightMap) → IsTree (record { nodes = m; last = last }) → AreKept m index old → SameBut k old new → site_of m k ≡ Some Stray
+    → IsTree (record { nodes = map.remove m k; last = last }) × AreKept (map.remove m k) index new
+kept-forgotten m last k index old new t kept same was =
     let n : InodeMap = map.remove m k in
     let off_get : (i : ℕ) → (i ≡ k → ⊥) → map.get n i ≡ map.get m i = remove-other nat_cmp_total map.nat_cmp-IsAntisymmetric m k in
     let other : (i : ℕ) → (i ≡ k → ⊥) → site_of n i ≡ site_of m i = λ i off. ap (option_map (λ (n : Node). n.site)) (off_get i off) in
@@ -134,14 +147,25 @@ kept-forgotten m last k index t ix was =
       | inr off ↦ t.inner_names i y (sym (off_get i off) ∙ got)
     ] in (
       tree-buried m n last k t other kinds fresh no_site no_root not_here was_no_root childless inner,
-      index-forgotten m n last k t other kinds fresh no_site no_root not_here was_no_root childless index ix nowhere,
+      (
+        index-forgotten m n last k t other kinds fresh no_site no_root not_here was_no_root childless index kept.0 nowhere,
+        all-rise n new k (rise-placed m n old new k other kinds same childless kept.1) (λ d at. let none : parent n k ≡ None = ap dir_at now in cc),
+      ),
     )
 
+-- what there is of a tree once an inode has come to its place, and before the directories above are raised
+abbrev pub IsRaisable : InodeMap → ℕ → NameIndex → HeightMap → ℕ → Type 0
+IsRaisable m last index heights k = IsTree (record { nodes = m; last = last }) × IsIndexed m index × (place m k ≡ Here) × HeightsRiseBut m heights k
+
+pub raisable_at : (m n : InodeMap) (last k : ℕ) (x y : NameIndex) (heights : HeightMap) → n ≡ m → y ≡ x → IsRaisable m last x heights k → IsRaisable n last y heights k
+raisable_at m n last k x y heights p q now = subst (λ z. IsRaisable n last z heights k) (sym q) (subst (λ (z : InodeMap). IsRaisable z last x heights k) (sym p) now)
+
 -- a new inode
-pub kept-added : (m : InodeMap) (last d : ℕ) (a : List ℕ) (kind : Kind) (attr : Attr) (index : NameIndex) → IsTree (record { nodes = m; last = last }) → IsIndexed m index
-    → is_directory m d ≡ true → place m d ≡ Here → is_bad_name a ≡ false → map.get index (slot d a) ≡ None → depth m d < 32
-    → IsTree (record { nodes = map.insert m (last + 1) (new_node kind d a attr); last = last + 1 }) × IsIndexed (map.insert m (last + 1) (new_node kind d a attr)) (map.insert index (slot d a) (last + 1))
-kept-added m last d a kind attr index t ix dir_kind dir_here good free low =
+pub kept-added : (m : InodeMap) (last d : ℕ) (a : List ℕ) (kind : Kind) (attr : Attr) (index : NameIndex) (old new : HeightMap) → IsTree (record { nodes = m; last = last }) → AreKept m index old
+    → is_directory m d ≡ true → place m d ≡ Here → is_bad_name a ≡ false → map.get index (slot d a) ≡ None → depth m d < 32 → SameBut (last + 1) old new
+    → IsRaisable (map.insert m (last + 1) (new_node kind d a attr)) (last + 1) (map.insert index (slot d a) (last + 1)) new (last + 1)
+kept-added m last d a kind attr index old new t kept dir_kind dir_here good free low same_but =
+    let ix : IsIndexed m index = kept.0 in
     let k : ℕ = last + 1 in
     let n : InodeMap = map.insert m k (new_node kind d a attr) in
     let none : map.get m k ≡ None = t.given k (omega arith) in
@@ -171,6 +195,8 @@ kept-added m last d a kind attr index t ix dir_kind dir_here good free low =
     let inner : AllHaveGoodNames n = put_inner m k (new_node kind d a attr) t.inner_names (good_none _ refl refl) in (
       tree-placed m n last k k d a t other kinds fresh now was_no_root dir_kind dir_here dir_off good free_under dir_still reached inner,
       index-added m n last k k d a t other kinds fresh now was_no_root dir_kind dir_here dir_off good free_under index ix free nowhere,
+      ap place_at now,
+      rise-placed m n old new k other kinds same_but avoid kept.1,
     )
 
 -- a climb that meets no inode that moves
@@ -230,27 +256,36 @@ moves m last k d e a b t was dir_kind dir_here good free apart shallow =
       ]
 
 -- an inode moves
-pub kept-moved : (m : InodeMap) (last k d e : ℕ) (a b : List ℕ) (index : NameIndex) → IsTree (record { nodes = m; last = last }) → IsIndexed m index
+pub kept-moved : (m : InodeMap) (last k d e : ℕ) (a b : List ℕ) (index : NameIndex) (heights : HeightMap) → IsTree (record { nodes = m; last = last }) → AreKept m index heights
     → IsUnder m k e b → is_directory m d ≡ true → place m d ≡ Here → is_bad_name a ≡ false → map.get index (slot d a) ≡ None → is_within m d k ≡ false → reaches (32 - depth m d) m k ≡ false
-    → IsTree (record { nodes = change_at (with_site (Under (record { 0 = d }) a)) m k; last = last })
-    × IsIndexed (change_at (with_site (Under (record { 0 = d }) a)) m k) (map.remove (map.insert index (slot d a) k) (slot e b))
-kept-moved m last k d e a b index t ix was dir_kind dir_here good free apart shallow =
-    let free_under : (j : ℕ) → IsUnder m j d a → ⊥ = λ j u. let got = ix.taken j d a u in cc in
+    → IsRaisable (change_at (with_site (Under (record { 0 = d }) a)) m k) last (map.remove (map.insert index (slot d a) k) (slot e b)) heights k
+kept-moved m last k d e a b index heights t both was dir_kind dir_here good free apart shallow =
+    let site : Site = Under (record { 0 = d }) a in
+    let free_under : (j : ℕ) → IsUnder m j d a → ⊥ = λ j u. let got = both.0.taken j d a u in cc in
     let kept = moves m last k d e a b t was dir_kind dir_here good free_under apart shallow in
-    (kept.0, kept.1 index ix free)
+    let node = node_of m k _ was in
+    let other : (i : ℕ) → (i ≡ k → ⊥) → site_of (change_at (with_site site) m k) i ≡ site_of m i = λ i off. ap (option_map (λ (n : Node). n.site)) (changed_off m last k node.0 (with_site site) node.1 i off) in (
+      kept.0,
+      kept.1 index both.0 free,
+      ap (λ o. place_at (option_map (λ (n : Node). n.site) o)) (changed_at m last k node.0 (with_site site) node.1),
+      rise-moved m (change_at (with_site site) m k) heights k other (changed_kinds m last k node.0 (with_site site) node.1 refl) both.1,
+    )
 
 -- the same, for equal maps
-pub kept_at : (m n : InodeMap) (last : ℕ) (x y : NameIndex) → n ≡ m → y ≡ x → IsTree (record { nodes = m; last = last }) × IsIndexed m x → IsTree (record { nodes = n; last = last }) × IsIndexed n y
-kept_at m n last x y p q kept =
-    subst (λ z. IsTree (record { nodes = n; last = last }) × IsIndexed n z) (sym q) (subst (λ (k : InodeMap). IsTree (record { nodes = k; last = last }) × IsIndexed k x) (sym p) kept)
+pub kept_at : (heights : HeightMap) (m n : InodeMap) (last : ℕ) (x y : NameIndex) → n ≡ m → y ≡ x → IsTree (record { nodes = m; last = last }) × AreKept m x heights → IsTree (record { nodes = n; last = last }) × AreKept n y heights
+kept_at heights m n last x y p q kept =
+    subst (λ z. IsTree (record { nodes = n; last = last }) × AreKept n z heights) (sym q) (subst (λ (k : InodeMap). IsTree (record { nodes = k; last = last }) × AreKept k x heights) (sym p) kept)
 
 -- a change of fields, of an inode that may be there
-pub kept-any : (m : InodeMap) (last k : ℕ) (f : Node → Node) (index : NameIndex) → IsTree (record { nodes = m; last = last }) → IsIndexed m index → ((y : Node) → (f y).kind ≡ y.kind) → ((y : Node) → (f y).site ≡ y.site) → ((y : Node) → HasGoodNames y → HasGoodNames (f y))
-    → IsTree (record { nodes = change_at f m k; last = last }) × IsIndexed (change_at f m k) index
-kept-any m last k f index t ix kind site good = go (map.get m k) refl where
-  go : (o : Option Node) → map.get m k ≡ o → IsTree (record { nodes = change_at f m k; last = last }) × IsIndexed (change_at f m k) index
-  go None none = kept_at m (change_at f m k) last index index (change-none nat_cmp_total map.nat_cmp-IsAntisymmetric m k f none) refl (t, ix)
-  go (Some x) here = (tree-changed m last k x f here t (kind x) (site x) (good x), index-changed m last k x f here t (kind x) (site x) index ix)
+pub kept-any : (heights : HeightMap) (m : InodeMap) (last k : ℕ) (f : Node → Node) (index : NameIndex) → IsTree (record { nodes = m; last = last }) → AreKept m index heights → ((y : Node) → (f y).kind ≡ y.kind) → ((y : Node) → (f y).site ≡ y.site)
+    → ((y : Node) → HasGoodNames y → HasGoodNames (f y)) → IsTree (record { nodes = change_at f m k; last = last }) × AreKept (change_at f m k) index heights
+kept-any heights m last k f index t kept kind site good = go (map.get m k) refl where
+  go : (o : Option Node) → map.get m k ≡ o → IsTree (record { nodes = change_at f m k; last = last }) × AreKept (change_at f m k) index heights
+  go None none = kept_at heights m (change_at f m k) last index index (change-none nat_cmp_total map.nat_cmp-IsAntisymmetric m k f none) refl (t, kept)
+  go (Some x) here = (
+    tree-changed m last k x f here t (kind x) (site x) (good x),
+    (index-changed m last k x f here t (kind x) (site x) index kept.0, rise-changed m last k x f here t (kind x) (site x) heights kept.1),
+  )
 
 pub setting_kind : (s : Setting) (y : Node) → (with_setting s y).kind ≡ y.kind
 setting_kind (Mode mode) y = refl
@@ -267,8 +302,8 @@ setting_site (Size size) y = refl
 setting_site (Time time) y = refl
 
 -- a root alone
-pub kept-first : (attr : Attr) → IsTree (first_tree attr) × IsIndexed (first_tree attr).nodes map.empty
-kept-first attr =
+pub kept-first : (attr : Attr) (heights : HeightMap) → IsTree (first_tree attr) × AreKept (first_tree attr).nodes map.empty heights
+kept-first attr heights =
     let root : Node = record { kind = Directory; site = Root; attr = attr; size = 0; time = 0; attributes = map.empty; snapshots = set.empty } in
     let n : InodeMap = map.insert map.empty 1 root in
     let here : map.get n 1 ≡ Some root = insert-here nat_cmp_total map.nat_cmp-IsAntisymmetric map.empty 1 root in
@@ -295,8 +330,11 @@ kept-first attr =
         ];
         given = λ i above. none i (λ same. absurd (omega arith));
       },
-      record {
-        taken = λ i d a u. absurd (nowhere i d a u);
-        real = λ i d a g. let v = map.get-empty {X = ℕ} slot_cmp (slot d a) in cc;
-      },
+      (
+        record {
+          taken = λ i d a u. absurd (nowhere i d a u);
+          real = λ i d a g. let v = map.get-empty {X = ℕ} slot_cmp (slot d a) in cc;
+        },
+        record { higher = λ i d a u. absurd (nowhere i d a u) },
+      ),
     )

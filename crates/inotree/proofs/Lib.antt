@@ -14,6 +14,7 @@ pub mod Order
 pub mod Passing
 pub mod Reaching
 pub mod Results
+pub mod Rising
 pub mod Shape
 pub mod Slots
 pub mod Turning

@@ -6,3 +6,4 @@ pub mod Tree
 pub mod Calls
 pub mod Tests
 pub mod Alike
+pub mod Heights

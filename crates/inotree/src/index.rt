@@ -3,9 +3,12 @@ ghost use Rattle.std.specs.Prelude.{◌≡◌, ◌++◌, IfOk, OnOk, OnErr};
 ghost use Rattle.std.specs.FinMap as map;
 ghost use Rattle.inotree.specs.Index.{names_in, AreInodes, index_reaches, gathered};
 ghost use Rattle.inotree.specs.Tree.{StandInDirectories};
+ghost use Rattle.inotree.specs.Heights.{AreBounds};
 
+use crate::heights::Heights;
 use crate::inodes::Inodes;
 use crate::name::Name;
+use crate::names::MAX_NAMES;
 use capbits::Ino;
 use std::alloc::{AllocError, Global};
 use std::collections::{BTreeMap, btree_map};
@@ -120,20 +123,27 @@ impl Index {
     }
 
     // Whether something lies so many steps below one of these inodes.
-    pub(crate) fn reaches(&self, inodes: &Inodes, ino: u64, steps: usize) -> bool
+    pub(crate) fn reaches(
+        &self,
+        inodes: &Inodes,
+        heights: &Heights,
+        ino: u64,
+        steps: usize,
+    ) -> bool
         requires names { AreInodes self.now }
-        requires inside { StandInDirectories inodes.now self.now }
+        requires bounds { AreBounds inodes.now heights.now self.now }
         ensures { result ≡ index_reaches steps self.now ino }
     {
         if steps == 0 {
             return true;
         }
-        // No name is looked for below a file.
-        if !inodes.is_directory(ino) {
+        // No name is looked for below a file, nor where nothing can lie that far down.
+        let height = heights.of(inodes, ino);
+        if height < MAX_NAMES && height < steps {
             return false;
         }
         for (_, child) in self.names_in(ino) {
-            if self.reaches(inodes, *child, steps - 1) {
+            if self.reaches(inodes, heights, *child, steps - 1) {
                 return true;
             }
         }

@@ -4,6 +4,7 @@
 #![tactic(auto)]
 
 mod attributes;
+mod heights;
 mod index;
 mod inodes;
 mod laws;

@@ -11,6 +11,7 @@ ghost use Rattle.inotree.specs.Tests.{create_tests, unlink_tests, rmdir_tests, d
 ghost use Rattle.inotree.specs.Calls.{first_tree, with_new, changed, unlinked, moved, forgotten};
 
 use crate::attributes::{Attributes, MAX_ATTRIBUTES, MAX_VALUE, Value};
+use crate::heights::Heights;
 use crate::index::{Index, Slot};
 use crate::inodes::Inodes;
 use crate::name::{Name, is_bad_attribute, is_bad_name};
@@ -34,13 +35,16 @@ pub struct Tree {
     inodes: Inodes,
     // Which inode stands at each name.
     names: Index,
+    // How far down something may lie below each directory.
+    heights: Heights,
     // The last number given.
     last: u64,
     alloc: Global,
 }
 
 impl Model for Tree {
-    ghost use Rattle.inotree.specs.Tree.{Nodes, nodes_code, IsTree, IsIndexed};
+    ghost use Rattle.inotree.specs.Tree.{Nodes, nodes_code, IsTree};
+    ghost use Rattle.inotree.specs.Heights.{AreKept};
 
     ghost Value = { Nodes };
 
@@ -48,7 +52,7 @@ impl Model for Tree {
 
     ghost view = { λ t. record { nodes = t.inodes; last = t.last } };
 
-    ghost invariant = { λ t. IsTree (record { nodes = t.inodes; last = t.last }) × IsIndexed t.inodes t.names };
+    ghost invariant = { λ t. IsTree (record { nodes = t.inodes; last = t.last }) × AreKept t.inodes t.names t.heights };
 }
 
 // By hand, so that a caller which lets one go has one call to prove, and no step for each of its parts.
@@ -57,6 +61,7 @@ impl Drop for Tree {
         let Tree {
             inodes: _inodes,
             names: _names,
+            heights: _heights,
             last: _last,
             alloc: _alloc,
         } = self;
@@ -82,6 +87,7 @@ impl Tree {
         Ok(Tree {
             inodes,
             names: Index::new(alloc),
+            heights: Heights::new(alloc),
             last: 1,
             alloc,
         })
@@ -94,6 +100,7 @@ impl Tree {
         Ok(Tree {
             inodes: self.inodes.copy(self.alloc)?,
             names: self.names.copy(self.alloc)?,
+            heights: self.heights.copy(self.alloc)?,
             last: self.last,
             alloc: self.alloc,
         })
@@ -230,7 +237,8 @@ impl Tree {
         ensures { result ≡ reaches steps self.now.nodes ino.0 }
     {
         let _last = self.last;
-        self.names.reaches(&self.inodes, ino.0, steps)
+        self.names
+            .reaches(&self.inodes, &self.heights, ino.0, steps)
     }
 
     // ---- what would be refused
@@ -485,6 +493,8 @@ impl Tree {
             return Err(AllocError);
         }
         self.last = ino;
+        self.heights.begin(ino, kind);
+        self.heights.raise_above(&self.inodes, ino);
         Ok(Ino(ino))
     }
 
@@ -540,6 +550,7 @@ impl Tree {
             name: Name::of(name),
         };
         self.inodes.set_site(ino.0, site);
+        self.heights.raise_above(&self.inodes, ino.0);
         Ok(())
     }
 
@@ -608,5 +619,6 @@ impl Tree {
         ensures { self.new ≡ forgotten self.old ino.0 }
     {
         self.inodes.remove(ino.0);
+        self.heights.remove(ino.0);
     }
 }

@@ -11,11 +11,6 @@ use Rattle.inotree.proofs.index.Index.+reaches.Goals as goal
 pub returns-then-steps-eq0 : goal.returns-then-steps-eq0
 returns-then-steps-eq0 t c = sym (reaches-zero _ _ _ c.if-steps-eq0.true)
 
-pub returns-then-not-is_directory : goal.returns-then-not-is_directory
-returns-then-not-is_directory t c =
-    let none : names_in c.args.ino c.args.self.now ≡ [] = c.requires.inside c.args.ino (sym c.is_directory.ensures ∙ c.if-not-is_directory.true) in
-    sym (reaches-step _ _ _ c.if-steps-eq0.false ∙ ap (list_any (λ e. index_reaches (c.args.steps - 1) c.args.self.now e.1)) none)
-
 pub returns-then-reaches : goal.returns-then-reaches
 returns-then-reaches t c =
     let start = c.into_iter-child-iterator.ensures.into_iter_gives ∙ c.names_in-child-items.ensures in

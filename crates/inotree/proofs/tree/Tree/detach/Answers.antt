@@ -14,6 +14,6 @@ invariant_of-self c =
     let before : Nodes = record { nodes = m; last = c.self.inside.last } in
     let passed : first_failing (detach_tests before k) ≡ None = subst (λ (t : Nodes). first_failing (detach_tests t k) ≡ None) (sym c.self.view_is) c.requires.passed in
     let under : IsUnder m k c.in-Some.slot.dir c.in-Some.slot.name = slot_site (site_of m k) c.in-Some.slot (sym c.in-Some.ensures) in
-    kept_at _ _ c.self.inside.last _ _ c.set_site.ensures c.remove.ensures
-    (kept-unlinked m c.self.inside.last k c.in-Some.slot.dir c.in-Some.slot.name c.self.inside.names c.self.invariant.0 c.self.invariant.1 under
+    kept_at c.self.inside.heights _ _ c.self.inside.last _ _ c.set_site.ensures c.remove.ensures
+    (kept-unlinked c.self.inside.heights m c.self.inside.last k c.in-Some.slot.dir c.in-Some.slot.name c.self.inside.names c.self.invariant.0 c.self.invariant.1 under
     (childless_empty m k (passed-detach before k passed).1))

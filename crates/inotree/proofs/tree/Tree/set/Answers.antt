@@ -6,5 +6,5 @@ use Rattle.inotree.proofs.tree.Tree.set.Goals as goal
 
 pub invariant_of-self : goal.invariant_of-self
 invariant_of-self c =
-    kept_at _ _ c.self.inside.last _ _ c.set.ensures refl
-    (kept-any c.self.inside.inodes c.self.inside.last c.args.ino.0 (with_setting c.args.setting) c.self.inside.names c.self.invariant.0 c.self.invariant.1 (setting_kind c.args.setting) (setting_site c.args.setting) (setting_good c.args.setting))
+    kept_at c.self.inside.heights _ _ c.self.inside.last _ _ c.set.ensures refl
+    (kept-any c.self.inside.heights c.self.inside.inodes c.self.inside.last c.args.ino.0 (with_setting c.args.setting) c.self.inside.names c.self.invariant.0 c.self.invariant.1 (setting_kind c.args.setting) (setting_site c.args.setting) (setting_good c.args.setting))

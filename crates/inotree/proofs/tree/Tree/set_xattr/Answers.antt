@@ -15,6 +15,6 @@ invariant_of-self c =
     let good : is_bad_attribute c.of.result ≡ false = ap is_bad_attribute c.of.ensures ∙ passed in
     either c.set_attribute.result c.set_attribute.ensures.ok c.set_attribute.ensures.err
     (λ (done : c.set_attribute.new.self ≡ change_at (with_attribute c.of.result c.in_ok-value.value) m c.args.ino.0).
-    kept_at _ _ c.self.inside.last _ _ done refl
-    (kept-any m c.self.inside.last c.args.ino.0 (with_attribute c.of.result c.in_ok-value.value) c.self.inside.names c.self.invariant.0 c.self.invariant.1 (λ y. refl) (λ y. refl) (attribute_good c.of.result c.in_ok-value.value good)))
-    (λ (same : c.set_attribute.new.self ≡ m). kept_at _ _ c.self.inside.last _ _ same refl (c.self.invariant.0, c.self.invariant.1))
+    kept_at c.self.inside.heights _ _ c.self.inside.last _ _ done refl
+    (kept-any c.self.inside.heights m c.self.inside.last c.args.ino.0 (with_attribute c.of.result c.in_ok-value.value) c.self.inside.names c.self.invariant.0 c.self.invariant.1 (λ y. refl) (λ y. refl) (attribute_good c.of.result c.in_ok-value.value good)))
+    (λ (same : c.set_attribute.new.self ≡ m). kept_at c.self.inside.heights _ _ c.self.inside.last _ _ same refl (c.self.invariant.0, c.self.invariant.1))

@@ -6,5 +6,5 @@ use Rattle.inotree.proofs.tree.Tree.settle.Goals as goal
 
 pub invariant_of-self : goal.invariant_of-self
 invariant_of-self c =
-    kept_at _ _ c.self.inside.last _ _ c.settle.ensures refl
-    (kept-any c.self.inside.inodes c.self.inside.last c.args.ino.0 (with_attr c.args.attr) c.self.inside.names c.self.invariant.0 c.self.invariant.1 (λ y. refl) (λ y. refl) (attr_good c.args.attr))
+    kept_at c.self.inside.heights _ _ c.self.inside.last _ _ c.settle.ensures refl
+    (kept-any c.self.inside.heights c.self.inside.inodes c.self.inside.last c.args.ino.0 (with_attr c.args.attr) c.self.inside.names c.self.invariant.0 c.self.invariant.1 (λ y. refl) (λ y. refl) (attr_good c.args.attr))

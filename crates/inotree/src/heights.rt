@@ -1,0 +1,127 @@
+//! How far down something may lie below each directory.
+ghost use Rattle.std.specs.Prelude.{◌≡◌, IfOk, OnOk, OnErr};
+ghost use Rattle.std.specs.FinMap as map;
+ghost use Rattle.capbits.specs.Maps.{change_at};
+ghost use Rattle.inotree.specs.declared.node.Place.TheVariants.{Here};
+ghost use Rattle.inotree.specs.Tree.{place};
+ghost use Rattle.inotree.specs.Heights.{height, AreOfTree, HeightsRise, HeightsRiseBut, SameBut};
+
+use crate::inodes::Inodes;
+use crate::names::MAX_NAMES;
+use crate::node::Kind;
+use numbered::Numbered;
+use std::alloc::{AllocError, Global};
+use std::marker::Model;
+
+// For each directory how many steps below it something may lie. It may lie less far down, for what leaves a directory lowers nothing;
+// where no number is kept, or one of 32 or more, nothing is known.
+#[derive(Debug, Drop)]
+pub(crate) struct Heights {
+    heights: Numbered<usize>,
+}
+
+impl Model for Heights {
+    ghost use Rattle.inotree.specs.Heights.{HeightMap, height_map_code};
+
+    ghost Value = { HeightMap };
+
+    ghost coded = { height_map_code };
+
+    ghost view = { λ h. h.heights };
+}
+
+impl Heights {
+    // Nothing is known.
+    pub(crate) fn new(alloc: Global) -> Heights
+        ensures { result ≡ map.empty }
+    {
+        Heights {
+            heights: Numbered::new(alloc),
+        }
+    }
+
+    // The same heights once more.
+    pub(crate) fn copy(&self, alloc: Global) -> Result<Heights, AllocError>
+        ensures { IfOk result (λ copy. copy ≡ self.now) }
+    {
+        let mut made = Heights::new(alloc);
+        for dir in self.heights.keys() {
+            if let Some(height) = self.heights.get(*dir) {
+                made.insert(*dir, *height)?;
+            }
+        }
+        Ok(made)
+    }
+
+    // How many steps below an inode something may lie; 32 or more say nothing.
+    pub(crate) fn of(&self, inodes: &Inodes, ino: u64) -> usize
+        ensures { result ≡ height inodes.now self.now ino }
+    {
+        if inodes.is_directory(ino) {
+            self.heights.get(ino).copied().unwrap_or(MAX_NAMES)
+        } else {
+            0
+        }
+    }
+
+    // Keeps a number for a directory.
+    fn insert(&mut self, dir: u64, height: usize) -> Result<(), AllocError>
+        ensures ok { OnOk result (self.new ≡ map.insert self.old dir height) }
+        ensures err { OnErr result (self.new ≡ self.old) }
+    {
+        self.heights.insert(dir, height)
+    }
+
+    // A new directory has nothing in it. Where there is no memory to keep that, nothing is known of it.
+    pub(crate) fn begin(&mut self, ino: u64, kind: Kind)
+        ensures { SameBut ino self.old self.new }
+    {
+        match kind {
+            Kind::Directory => {
+                let _is_kept = self.insert(ino, 0).is_ok();
+            }
+            Kind::File => (),
+        }
+    }
+
+    // Nothing is known of this directory any more.
+    pub(crate) fn remove(&mut self, dir: u64)
+        ensures { self.new ≡ map.remove self.old dir }
+    {
+        self.heights.remove(dir);
+    }
+
+    // Keeps another number for a directory, where one is kept.
+    fn set(&mut self, dir: u64, height: usize)
+        ensures { self.new ≡ change_at (λ _. height) self.old dir }
+    {
+        if let Some(kept) = self.heights.get_mut(dir) {
+            *kept = height;
+        }
+    }
+
+    // Raises the directory of an inode above it, and each above that, until one is high enough. It takes no memory.
+    pub(crate) fn raise_above(&mut self, inodes: &Inodes, ino: u64)
+        requires tree { AreOfTree inodes.now }
+        requires here { place inodes.now ino ≡ Here }
+        requires rise { HeightsRiseBut inodes.now self.old ino }
+        ensures { HeightsRise inodes.now self.new }
+    {
+        let mut at = ino;
+        for _ in 0..MAX_NAMES {
+            let Some(dir) = inodes.parent(at) else {
+                return;
+            };
+            let below = self.of(inodes, at);
+            let height = self.of(inodes, dir.0);
+            if height >= MAX_NAMES {
+                return;
+            }
+            if below < height {
+                return;
+            }
+            self.set(dir.0, below.saturating_add(1));
+            at = dir.0;
+        }
+    }
+}
