@@ -107,6 +107,30 @@ const A_PAIR: &[Round] = &[(
     &[Parent(34, 32)],
 )];
 
+// A directory with another goes to and fro, and has had more below it than it has.
+const TO_AND_FRO: &[Round] = &[(
+    &[
+        (Mkdir(1, b"q"), Ok(34)),
+        (Mkdir(34, b"r"), Ok(35)),
+        (Rename(34, 32, b"p"), Err(Refusal::TooDeep)),
+        (Rename(34, 31, b"p"), Ok(0)),
+        (Rename(34, 1, b"q"), Ok(0)),
+        // Its path had 19 names, with 13 more below.
+        (Rename(20, 34, b"d"), Ok(0)),
+        (Rename(34, 19, b"p"), Err(Refusal::TooDeep)),
+        (Rename(34, 18, b"p"), Ok(0)),
+        (Rename(34, 1, b"q"), Ok(0)),
+        (Rename(20, 19, b"d"), Ok(0)),
+        (MayRename(34, 32, b"p"), Err(Refusal::TooDeep)),
+        (Rename(34, 31, b"p"), Ok(0)),
+        (Rmdir(35), Ok(0)),
+        (Forget(35), Ok(0)),
+        (Rename(34, 32, b"p"), Ok(0)),
+        (Create(34, b"f"), Err(Refusal::TooDeep)),
+    ],
+    &[PathLength(33, Some(32)), PathLength(34, Some(32))],
+)];
+
 const LONG_VALUE: &[u8] = &[0; 4096];
 
 const TOO_LONG_A_VALUE: &[u8] = &[0; 4097];
@@ -196,6 +220,7 @@ const CASES: &[(Full, Case)] = &[
         ("no path has more than thirty two names", THIRTY_TWO_NAMES),
     ),
     (Full::Path, ("what lies below counts too", A_PAIR)),
+    (Full::Path, ("what lay below counts no more", TO_AND_FRO)),
     (
         Full::Root,
         (
