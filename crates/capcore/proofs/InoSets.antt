@@ -86,7 +86,7 @@ pub none-there : (k : ℕ) → set.contains (set.empty {R = nat_cmp}) k ≡ fals
 none-there k = set.contains-empty nat_cmp k
 
 module _ (k : ℕ) (old new : InoSet) (is : new ≡ set.insert old k) where
-  at_more : (q : ℕ) → set.contains new q ≡ (eq_by_cmp nat_cmp q k || set.contains old q)
+  pub at_more : (q : ℕ) → set.contains new q ≡ (eq_by_cmp nat_cmp q k || set.contains old q)
   at_more q = ap (λ (t : InoSet). set.contains t q) is ∙ set.contains-insert nat_cmp_total old k q
 
   -- it is one of them

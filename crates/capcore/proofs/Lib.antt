@@ -68,6 +68,7 @@ pub mod Turned
 pub mod TurnStep
 pub mod Dropped
 pub mod Reaching
+pub mod Walked
 pub mod ShownSteps
 pub mod ShownWords
 pub mod HeldOn

@@ -1,5 +1,5 @@
 -- What a request that is served leaves of the tree.
-use Rattle.std.proofs.Common.{◌≡◌, ◌≢◌, ℕ, true, false, None, inl, inr, refl, subst}
+use Rattle.std.proofs.Common.{◌≡◌, ◌≢◌, ℕ, true, false, None, ◌⊎◌, inl, inr, refl, subst}
 use Rattle.std.specs.FinMap as map
 use Rattle.capbits.specs.Refusal.{first_failing}
 use Rattle.capbits.proofs.Tests.{pass-both}
@@ -11,7 +11,7 @@ use Rattle.inotree.specs.Calls.{changed}
 use Rattle.inotree.specs.Alike.{IsAlike}
 use Rattle.inotree.proofs.Changes.{setting_site}
 use Rattle.inotree.proofs.Elsewhere.{alike-changed}
-use Rattle.inotree.proofs.Moving.{moved-alike, moved-tree}
+use Rattle.inotree.proofs.Moving.{moved-alike, moved-tree, moved-within, changed-within}
 use Rattle.inotree.proofs.OneInode.{known-changed, place-other, alike-but, alike-unlinked, childless-file, childless-empty, sound-setting, sound-attribute, sound-no-attribute, sound-unlink, sound-rmdir}
 use Rattle.lockmachine.specs.declared.request.Change.{Change}
 use Rattle.lockmachine.specs.declared.request.Change.TheVariants.{Set, SetXattr, RemoveXattr}
@@ -21,6 +21,7 @@ use Rattle.lockmachine.specs.declared.request.Request.{Request}
 use Rattle.lockmachine.specs.Scene.{Scene}
 use Rattle.lockmachine.proofs.PolicyElsewhere.{alike-itself}
 use Rattle.capcore.specs.declared.outcome.Outcome.{Outcome}
+use Rattle.capcore.specs.declared.outcome.Outcome.TheVariants as outcome
 use Rattle.capcore.specs.Serving.{MayEndAs, tree_after, tree_with}
 use Rattle.capcore.specs.Asks.{ask_before, ask_needs, ask_after, change_tests, tree_changed}
 use Rattle.capcore.specs.Served.{is_rename}
@@ -87,7 +88,34 @@ sound_ask s ino Rmdir sound one more = sound-rmdir s.tree ino sound one more
 sound_ask s ino (Rename dir name) sound one more =
     moved-tree s.tree ino dir.0 name sound (pass-both (ask_before s ino (Rename dir name)) (ask_after s ino (Rename dir name)) one more)
 
+-- what lies below another did so before, or the inode moved and it lay at or below that
+abbrev Lay : Nodes → ℕ → Ask → ℕ → ℕ → Type 0
+Lay tree ino ask other above = (is_within tree.nodes other above ≡ true) ⊎ ((is_rename ask ≡ true) × (is_within tree.nodes other ino ≡ true))
+
+within_change : (tree : Nodes) (ino other above : ℕ) (change : Change) → is_within (tree_changed tree ino change).nodes other above ≡ true → is_within tree.nodes other above ≡ true
+within_change tree ino other above (Set setting) below = changed-within (with_setting setting) (λ n. inl (setting_site setting n)) tree ino other above below
+within_change tree ino other above (SetXattr name value) below = changed-within (with_attribute name value) (λ n. inl refl) tree ino other above below
+within_change tree ino other above (RemoveXattr name) below = changed-within (without_attribute name) (λ n. inl refl) tree ino other above below
+
+within_ask : (tree : Nodes) (ino other above : ℕ) (ask : Ask) → is_within (tree_with tree ino ask).nodes other above ≡ true → Lay tree ino ask other above
+within_ask tree ino other above (Get part) below = inl below
+within_ask tree ino other above (Alter change) below = inl (within_change tree ino other above change below)
+within_ask tree ino other above Unlink below = inl (changed-within (with_site Stray) (λ n. inr refl) tree ino other above below)
+within_ask tree ino other above Rmdir below = inl (changed-within (with_site Stray) (λ n. inr refl) tree ino other above below)
+within_ask tree ino other above (Rename dir name) below = elim (moved-within tree ino dir.0 name other above below) [
+  | inl lay ↦ inl lay
+  | inr moved ↦ inr (refl, moved)
+]
+
 -- ---- however it ends
+
+pub within-after : (tree : Nodes) (q : Request) (o : Outcome) (other above : ℕ) → is_within (tree_after tree q o).nodes other above ≡ true → Lay tree q.ino.0 q.ask other above
+within-after tree q outcome.Done other above below = within_ask tree q.ino.0 other above q.ask below
+within-after tree q (outcome.Values shown) other above below = inl below
+within-after tree q (outcome.Denied access rules) other above below = inl below
+within-after tree q (outcome.Refused refusal) other above below = inl below
+within-after tree q outcome.OutOfMemory other above below = inl below
+within-after tree q outcome.Dropped other above below = inl below
 
 pub alike-apart : (s : Scene) (q : Request) (o : Outcome) (ino : ℕ) → IsTree s.tree → MayEndAs s q o → ino ≢ q.ino.0
     → (is_rename q.ask ≡ true → is_within s.tree.nodes ino q.ino.0 ≡ false) → IsAlike s.tree (tree_after s.tree q o) ino

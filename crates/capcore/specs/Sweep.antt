@@ -76,11 +76,19 @@ abbrev pub GoesOn : Scene → Option Ticket → Type 0
 GoesOn s None = first_move s ≡ Settled
 GoesOn s (Some ticket) = first_move s ≡ Serve ticket
 
--- if the request moves its inode, every inode at or below it that somebody has an entry on is one of these, but for this one
+-- every inode at or below one that somebody has an entry on is one of these, but for this one
+abbrev pub CoversBelow : ℕ → ℕ → Nodes → Table → InoSet → Type 0
+CoversBelow above ino tree table others =
+    (row : EntryRow) → Contains table.rows row → row.holder.ino.0 ≢ ino →
+    is_within tree.nodes row.holder.ino.0 above ≡ true → set.contains others row.holder.ino.0 ≡ true
+
+-- if the request moves its inode, that is so of it
 abbrev pub Covers : Request → ℕ → Nodes → Table → InoSet → Type 0
-Covers q ino tree table others =
-    is_rename q.ask ≡ true → (row : EntryRow) → Contains table.rows row → row.holder.ino.0 ≢ ino →
-    is_within tree.nodes row.holder.ino.0 q.ino.0 ≡ true → set.contains others row.holder.ino.0 ≡ true
+Covers q ino tree table others = is_rename q.ask ≡ true → CoversBelow q.ino.0 ino tree table others
+
+-- and it is so of each inode from which a rename of this step has walked over what lies below
+abbrev pub AreWalked : InoSet → ℕ → Nodes → Table → InoSet → Type 0
+AreWalked walked ino tree table others = (above : ℕ) → set.contains walked above ≡ true → CoversBelow above ino tree table others
 
 -- inodes other than this one come besides
 pub record Widens (ino : ℕ) (old new : InoSet) : Type 0 where

@@ -38,6 +38,13 @@ impl InoSet {
         }
     }
 
+    // Whether the inode is one of them.
+    pub(crate) fn contains(&self, ino: Ino) -> bool
+        ensures { result ≡ set.contains self.now ino.0 }
+    {
+        self.numbers.contains(&ino.0)
+    }
+
     // The least one that has a number of at least this one. It is searched for, and not walked to.
     pub(crate) fn next(&self, from: Ino) -> Option<Ino>
         ensures { IsNext self.now from.0 result }

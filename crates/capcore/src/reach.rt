@@ -4,7 +4,7 @@ ghost use Rattle.std.specs.List.{list_any};
 ghost use Rattle.std.specs.FinSet as set;
 ghost use Rattle.captable.specs.Calls.{is_of_inode};
 ghost use Rattle.capcore.specs.Served.{is_rename};
-ghost use Rattle.capcore.specs.Sweep.{Covers, Widens};
+ghost use Rattle.capcore.specs.Sweep.{AreWalked, Covers, CoversBelow, Widens};
 
 use crate::changes::ChangeList;
 use crate::finish::is_held;
@@ -16,16 +16,19 @@ use lockmachine::{Ask, Request};
 use std::alloc::{AllocError, Global};
 
 // If the request moves its inode, adds every inode at or below it that somebody has an entry on, but for this one, with a place
-// for the change of each.
+// for the change of each. What renames of this step have walked over is touched, and stays so.
 pub(crate) fn reach(
     alloc: Global,
     tree: &Tree,
     table: &CapTable,
     request: &Request,
     ino: Ino,
+    walked: &mut InoSet,
     touched: &mut InoSet,
     changes: &mut ChangeList,
 ) -> Result<(), AllocError>
+    requires walked { AreWalked walked.old ino.0 tree.now table.now touched.old }
+    ensures walked { AreWalked walked.new ino.0 tree.now table.now touched.new }
     ensures widens { Widens ino.0 touched.old touched.new }
     ensures covers { OnOk result (Covers request.now ino.0 tree.now table.now touched.new) }
     ensures memory { OnErr result (is_rename request.now.ask ≡ true) }
@@ -36,11 +39,41 @@ pub(crate) fn reach(
 {
     match request.ask {
         Ask::Rename { .. } => {
-            let inos = tree.within(alloc, request.ino)?;
-            add_held(table, ino, inos.as_slice(), touched, changes)
+            let above = request.ino;
+            walk(alloc, tree, table, above, ino, walked, touched, changes)
         }
         Ask::Get(_) | Ask::Alter(_) | Ask::Unlink | Ask::Rmdir => Ok(()),
     }
+}
+
+// Adds those at or below this inode, unless a rename of the step has walked from it before: what lies there now was touched then,
+// or when it was moved there.
+fn walk(
+    alloc: Global,
+    tree: &Tree,
+    table: &CapTable,
+    above: Ino,
+    ino: Ino,
+    walked: &mut InoSet,
+    touched: &mut InoSet,
+    changes: &mut ChangeList,
+) -> Result<(), AllocError>
+    requires walked { AreWalked walked.old ino.0 tree.now table.now touched.old }
+    ensures walked { AreWalked walked.new ino.0 tree.now table.now touched.new }
+    ensures widens { Widens ino.0 touched.old touched.new }
+    ensures covers { OnOk result (CoversBelow above.0 ino.0 tree.now table.now touched.new) }
+    ensures items { changes.new.items ≡ changes.old.items }
+    ensures places { changes.old.room + set.len touched.new ≤ changes.new.room + set.len touched.old }
+    ensures room { changes.old.room ≤ changes.new.room }
+{
+    if walked.contains(above) {
+        return Ok(());
+    }
+    let inos = tree.within(alloc, above)?;
+    add_held(table, ino, inos.as_slice(), touched, changes)?;
+    // Where this finds no memory, the next rename of the inode walks once more.
+    let _walked = walked.insert(above);
+    Ok(())
 }
 
 // Adds each of these inodes that somebody has an entry on, but for this one.

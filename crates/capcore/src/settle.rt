@@ -19,7 +19,7 @@ ghost use Rattle.capcore.specs.Known.{HaveRoom, OthersHaveAll};
 ghost use Rattle.capcore.specs.Noted.{HavePlaces, LeadOn};
 ghost use Rattle.capcore.specs.Serves.{Serves, SettlesWith, EndsAt, EndsWith, is_touched};
 ghost use Rattle.capcore.specs.Settle.{Served as Serving, sized_by, sized_in};
-ghost use Rattle.capcore.specs.Sweep.{AreStill, GoesOn, GoesOnBehind, IsFirstPlace, IsLeastOf, IsNextOf, IsSwept, Reaches, StandsAt, changed_alone};
+ghost use Rattle.capcore.specs.Sweep.{AreStill, AreWalked, GoesOn, GoesOnBehind, IsFirstPlace, IsLeastOf, IsNextOf, IsSwept, Reaches, StandsAt, changed_alone};
 ghost use Rattle.capcore.specs.Untold.{HasRoom};
 
 use crate::changes::ChangeList;
@@ -265,6 +265,8 @@ fn settle(
     ensures places { HavePlaces endings.new.changes locks.new result }
 {
     let mut touched = others;
+    // The inodes from which a rename has walked over all below.
+    let mut walked = InoSet::new(endings.alloc());
     end_gathers(table, locks, ino, &touched);
     let mut place = first_place(&touched, ino);
     'servings: while let Some(ticket) = sweep(
@@ -280,6 +282,7 @@ fn settle(
             locks,
             ino,
             ticket,
+            &mut walked,
             &mut touched,
             endings,
         );
@@ -432,9 +435,11 @@ fn serve_next(
     locks: &mut Locks,
     ino: Ino,
     ticket: Ticket,
+    walked: &mut InoSet,
     touched: &mut InoSet,
     endings: &mut Endings,
 ) -> Option<Ino>
+    requires walked { AreWalked walked.old ino.0 tree.old table.now touched.old }
     requires waits { (q : Request) × (request_at locks.old ticket.0 ≡ Some q) }
     requires told { length endings.old.told.items < endings.old.told.room }
     requires kept { length endings.old.kept.items < endings.old.kept.room }
@@ -448,6 +453,8 @@ fn serve_next(
         → endings.new.sized.items ≡ endings.old.sized.items ++ sized_in (Serving q ended.outcome ∷ [])) }
     ensures reached { (q : Request) → request_at locks.old ticket.0 ≡ Some q
         → Reaches q ino.0 tree.old tree.new table.now touched.old touched.new }
+    // By the tree of before.
+    ensures walked { AreWalked walked.new ino.0 tree.old table.now touched.new }
     ensures changed { (q : Request) → request_at locks.old ticket.0 ≡ Some q → result ≡ changed_alone q }
     ensures room { (endings.old.told.room ≤ endings.new.told.room) × (endings.old.kept.room ≤ endings.new.kept.room)
         × (vec_capacity endings.old.sized ≤ vec_capacity endings.new.sized) }
@@ -460,7 +467,7 @@ fn serve_next(
         unreachable!()
     };
     let (alloc, changes) = (endings.alloc(), &mut endings.changes);
-    let reached = reach(alloc, tree, table, &request, ino, touched, changes);
+    let reached = reach(alloc, tree, table, &request, ino, walked, touched, changes);
     let served = serve(alloc, fs, tree, sessions, &request, reached.is_ok());
     changes.note_served(tree, &request, &served.outcome);
     let (client, ticket) = (request.client, request.ticket);

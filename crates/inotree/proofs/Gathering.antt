@@ -14,7 +14,7 @@ use Rattle.inotree.proofs.Growing.{last_step}
 use Rattle.inotree.proofs.Shape.{climb_on}
 use Rattle.inotree.proofs.Slots.{slot_total, slot_same}
 use Rattle.inotree.proofs.Walks.{or_first, same_test, test_same}
-use Rattle.inotree.proofs.Within.{within-climbs, climb_fits}
+use Rattle.inotree.proofs.Within.{within-climbs, climb_fits, or_second}
 
 -- ---- step by step
 
@@ -50,10 +50,6 @@ has-itself : (n : ℕ) (index : NameIndex) (k i : ℕ) → i ≡ k → has k (ga
 unfolding gathered
 has-itself zero index k i e = or_first (i == k) _ (same_test i k e)
 has-itself (suc n) index k i e = or_first (i == k) _ (same_test i k e)
-
-or_second : (a b : Bool) → b ≡ true → (a || b) ≡ true
-or_second true b e = refl
-or_second false b e = e
 
 module _ (m : InodeMap) (index : NameIndex) (x : IsIndexed m index) where
   -- what climbs so far is gathered

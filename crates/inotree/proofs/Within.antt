@@ -1,5 +1,5 @@
 -- What lies within an inode is what climbs to it, and the depth counts the names of the path.
-use Rattle.std.proofs.Common.{◌≡◌, ℕ, zero, suc, ◌-◌, ◌≤◌, Bool, true, false, ◌||◌, ◌==◌, ◌↔◌, List, [], ◌∷◌, length, reverse, Option, Some, None, refl, sym, ap, subst, ◌∙◌, arith}
+use Rattle.std.proofs.Common.{◌≡◌, ℕ, zero, suc, ◌-◌, ◌≤◌, Bool, true, false, ◌||◌, ◌==◌, ◌↔◌, ◌⊎◌, inl, inr, List, [], ◌∷◌, length, reverse, Option, Some, None, refl, sym, ap, subst, ◌∙◌, arith}
 use Rattle.std.proofs.lemmas.List.{length-reverse}
 use Rattle.inotree.specs.declared.node.Site.{Site}
 use Rattle.inotree.specs.declared.node.Site.TheVariants.{Root, Under, Stray}
@@ -73,3 +73,40 @@ names_of Here up names e = cc
 pub depth-path : (m : InodeMap) (i : ℕ) (names : List (List ℕ)) → path_of m i ≡ Some names → depth m i ≡ length names
 unfolding depth path_of
 depth-path m i names e = sym (length-reverse (names_up 32 m i)) ∙ ap length (names_of (place m i) (names_up 32 m i) names e)
+
+pub or_second : (a b : Bool) → b ≡ true → (a || b) ≡ true
+or_second true b e = refl
+or_second false b e = e
+
+-- Each inode that stands somewhere stood there before, or is one of some that may have moved.
+module _ (m n : InodeMap) (P : ℕ → Type 0) (was : (i d : ℕ) (a : List ℕ) → IsUnder n i d a → IsUnder m i d a ⊎ P i) where
+  -- it lay below before, or at or below one of those
+  abbrev Lay : ℕ → ℕ → ℕ → Type 0
+  Lay c i top = (lies_below c m i top ≡ true) ⊎ ((j : ℕ) × P j × (lies_below c m i j ≡ true))
+
+  below_here : (c i top : ℕ) → (i == top) ≡ true → lies_below (suc c) m i top ≡ true
+  unfolding lies_below
+  below_here c i top is = or_first (i == top) _ is
+
+  below_next : (c i d top : ℕ) (a : List ℕ) → IsUnder m i d a → lies_below c m d top ≡ true → lies_below (suc c) m i top ≡ true
+  unfolding lies_below
+  below_next c i d top a under below = ap (λ s. (i == top) || upward s false (λ dir name. lies_below c m dir top)) under ∙ or_second (i == top) (lies_below c m d top) below
+
+  lay_up : (c i top : ℕ) → ((d : ℕ) → lies_below c n d top ≡ true → Lay c d top)
+      → (b : Bool) → (i == top) ≡ b → (b || upward (site_of n i) false (λ dir name. lies_below c n dir top)) ≡ true → Lay (suc c) i top
+  lay_up c i top further true is below = inl (below_here c i top is)
+  lay_up c i top further false is below =
+      let up = stands n i c top (site_of n i) refl below in
+      elim (was i up.0 up.1 up.2) [
+        | inl under ↦ elim (further up.0 up.3) [
+          | inl lay ↦ inl (below_next c i up.0 top up.1 under lay)
+          | inr found ↦ inr (found.0, found.1, below_next c i up.0 found.0 up.1 under found.2)
+        ]
+        | inr moves ↦ inr (i, moves, below_here c i i (same_test i i refl))
+      ]
+
+  -- so it is of all that lies below another now
+  pub below-split : (c i top : ℕ) → lies_below c n i top ≡ true → Lay c i top
+  unfolding lies_below
+  below-split zero i top below = inl below
+  below-split (suc c) i top below = lay_up c i top (λ d. below-split c d top) (i == top) refl below

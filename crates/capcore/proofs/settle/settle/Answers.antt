@@ -17,6 +17,7 @@ use Rattle.capcore.specs.Settle.{Served, sets_size, is_done, sized_in}
 use Rattle.capcore.specs.Sweep.{GoesOn, GoesOnBehind, IsSwept, Reaches, StandsAt}
 use Rattle.capcore.proofs.Noting.{leads-none, leads-then}
 use Rattle.capcore.proofs.SoFar.{IsSoFar, so-far-begins, so-far-served, so-far-settled, so-far-swept, stands-behind, stands-first, turn-of_least}
+use Rattle.capcore.proofs.Walked.{none-walked, walked-served}
 use Rattle.capcore.proofs.settle.settle.Goals as goal
 use Rattle.capcore.proofs.settle.settle.Goals.{After-last-last, After-place_behind-place}
 
@@ -39,6 +40,7 @@ servings-init c =
           subst (λ (told : List Ended). IsSoFar c.args.ino.0 at c.args.others first now told c.args.endings.now.sized.items) (sym c.requires.none)
           (subst (IsSoFar c.args.ino.0 at c.args.others first now []) (sym c.requires.no_sizes) so);
       stands = stands-first c.args.ino.0 c.args.others now c.first_place-place.result (turn-of_least at now so.still c.end_gathers.ensures.ends) so.waits c.first_place-place.ensures;
+      walked = none-walked c.new-walked.result c.args.ino.0 c.args.tree.now c.args.table.now c.args.others c.new-walked.ensures;
       same = c.requires.same;
       lead = leads-none c.args.endings.now.changes.items c.args.tree.now;
       places = omega (arith, queue, c.requires.places);
@@ -158,6 +160,9 @@ servings-preserved c =
           subst (λ (told : List Ended). IsSoFar c.args.ino.0 (from (before_serving c)) c.serve_next-changed.new.touched (first (before_serving c)) (new c) told c.serve_next-changed.new.endings.sized.items) (sym all.2)
           (subst (IsSoFar c.args.ino.0 (from (before_serving c)) c.serve_next-changed.new.touched (first (before_serving c)) (new c) (c.servings.endings.told.items ++ ended c ∷ [])) (sym sizes) (served c));
       stands = stands c c.place_behind-place.result c.place_behind-place.ensures;
+      walked =
+          walked-served c.servings.tree c.serve_next-changed.new.tree request (ended c).outcome c.args.ino.0 c.args.table.now c.serve_next-changed.new.walked c.servings.touched c.serve_next-changed.new.touched
+          (ap (λ (s : Scene). s.tree) (serves c).is) (reaches c) c.serve_next-changed.ensures.walked;
       same = same;
       lead = leads-then c.args.endings.now.changes.items c.servings.endings.changes.items c.serve_next-changed.new.endings.changes.items c.args.tree.now c.servings.tree c.serve_next-changed.new.tree
           c.servings.invariant.lead c.serve_next-changed.ensures.lead;

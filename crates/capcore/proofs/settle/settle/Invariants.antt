@@ -3,7 +3,7 @@ use Rattle.std.specs.Prelude.{vec_capacity}
 use Rattle.lockmachine.specs.Scene.{scene}
 use Rattle.capcore.specs.Noted.{HavePlaces, LeadOn}
 use Rattle.capcore.specs.Serves.{is_touched}
-use Rattle.capcore.specs.Sweep.{StandsAt}
+use Rattle.capcore.specs.Sweep.{AreWalked, StandsAt}
 use Rattle.capcore.specs.Untold.{HasRoom}
 use Rattle.capcore.proofs.SoFar.{IsSoFar}
 use Rattle.capcore.proofs.settle.settle.Given as goal
@@ -15,6 +15,7 @@ abbrev pub invariant-servings : goal.invariant-servings
 invariant-servings l = record {
   so_far : IsSoFar l.ino.0 (is_touched l.ino.0 l.fn.others) l.touched (scene l.fs l.fn.tree l.sessions l.table l.fn.locks) (scene l.fs l.tree l.sessions l.table l.locks) l.endings.told.items l.endings.sized.items;
   stands : StandsAt (is_touched l.ino.0 l.touched) l.place (scene l.fs l.tree l.sessions l.table l.locks);
+  walked : AreWalked l.walked l.ino.0 l.tree l.table l.touched;
   same : l.endings.kept.items ≡ l.endings.told.items;
   told : HasRoom l.endings.told l.locks;
   kept : HasRoom l.endings.kept l.locks;
