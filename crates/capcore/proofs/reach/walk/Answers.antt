@@ -3,7 +3,7 @@ use Rattle.std.specs.FinSet as set
 use Rattle.std.specs.List.{list_any}
 use Rattle.capbits.specs.declared.ids.Ino.{Ino}
 use Rattle.captable.specs.Calls.{is_of_inode}
-use Rattle.capcore.specs.Sweep.{AreWalked, CoversBelow}
+use Rattle.capcore.specs.Sweep.{CoversBelow}
 use Rattle.capcore.proofs.Walked.{covers-listed, walked-tried, walked-wider}
 use Rattle.capcore.proofs.reach.walk.Goals as goal
 

@@ -9,7 +9,7 @@ returns-in_err-none c = λ event.
     let none : bytes_eq c.args.text.now (codes "none") ≡ true = ap (bytes_eq c.args.text.now) (sym c.as_slice.ensures) ∙ sym c.eq.ensures ∙ c.if-eq.true in
     rw none (missed c.from_residual.result _ (Says (event [])) c.from_residual.ensures.1 tt)
 
-pub returns-in_err-read_grants : goal.returns-in_err-read_grants
-returns-in_err-read_grants c = λ event.
+pub returns-in_err-grants : goal.returns-in_err-grants
+returns-in_err-grants c = λ event.
     let other : bytes_eq c.args.text.now (codes "none") ≡ false = ap (bytes_eq c.args.text.now) (sym c.as_slice.ensures) ∙ sym c.eq.ensures ∙ c.if-eq.false in
-    rw other (text_refused c.from_residual-in_err-read_grants.result _ event c.args.text.now c.in_err-read_grants.field-0.0 c.from_residual-in_err-read_grants.ensures.1 c.in_err-read_grants.ensures.fault)
+    rw other (text_refused c.from_residual-in_err-grants.result _ event c.args.text.now c.in_err-grants.field-0.0 c.from_residual-in_err-grants.ensures.1 c.in_err-grants.ensures.fault)
