@@ -1,5 +1,5 @@
 -- What the values of the options mean.
-use Rattle.std.specs.Prelude.{◌≡◌, ℕ, ◌≤◌, Option, Some, None, List, [], length, IsTrue}
+use Rattle.std.specs.Prelude.{◌≡◌, ℕ, ◌-◌, ◌≤◌, Bool, ◌||◌, Option, Some, None, List, [], length, take, drop, codes, bytes_eq, IsTrue, if◌then◌else◌}
 use Rattle.std.specs.Global.{Vec}
 use Rattle.std.specs.Str.Parse.{IsNumeral, digits_value}
 use Rattle.capspec.specs.Items.{is_comma, IsNumber}
@@ -25,8 +25,18 @@ pub record ArePathNames (text : List ℕ) (names : List (List ℕ)) : Type 0 whe
   pub same : names ≡ names_of text
   pub fit : IsTrue (are_few_and_short names)
 
--- one to four octal digits
+-- the kinds of inode that stat(2) tells apart, as they stand before the four digits of the mode in a line of the MDS's log
+abbrev pub is_kind : List ℕ → Bool
+is_kind digits =
+    bytes_eq digits (codes "010") || (bytes_eq digits (codes "04") || (bytes_eq digits (codes "012") || (bytes_eq digits (codes "01")
+    || (bytes_eq digits (codes "02") || (bytes_eq digits (codes "06") || bytes_eq digits (codes "014"))))))
+
+-- the last four digits, where a kind stands before them
+abbrev pub without_kind : List ℕ → List ℕ
+without_kind text = if is_kind (take (length text - 4) text) then drop (length text - 4) text else text
+
+-- one to four octal digits, or a kind and four of them
 pub record IsModeText (text : List ℕ) (mode : ℕ) : Type 0 where
-  pub numeral : IsNumeral 8 text
-  pub short : length text ≤ 4
-  pub value : mode ≡ digits_value 8 text
+  pub numeral : IsNumeral 8 (without_kind text)
+  pub short : length (without_kind text) ≤ 4
+  pub value : mode ≡ digits_value 8 (without_kind text)

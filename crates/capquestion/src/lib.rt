@@ -9,6 +9,7 @@
 mod comparing;
 mod fault;
 mod lists;
+mod modes;
 mod options;
 mod question;
 mod texts;

@@ -93,7 +93,7 @@ impl Opt {
                 "The place of the inode: at most 32 names of at most 255 bytes, with / between them",
             Opt::Owner => "The uid of the inode's owner",
             Opt::Group => "The gid of the inode's group",
-            Opt::Mode => "The inode's mode: 1 to 4 octal digits",
+            Opt::Mode => "The inode's mode: 1 to 4 octal digits; or as the MDS logs it, 0100640",
             Opt::Access =>
                 "What is asked for: read, write, vxattr, snapshot, chmod, chown:N or chgrp:N",
         }

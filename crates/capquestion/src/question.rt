@@ -10,9 +10,10 @@ ghost use Rattle.capquestion.specs.Values.{AreGroupsIf, ArePathNames};
 use crate::fault::QuestionFault;
 use crate::fault::QuestionFault::BadValue;
 use crate::lists::read_groups;
+use crate::modes::read_any_mode;
 use crate::options::Opt;
 use crate::texts::read_text;
-use capbits::{Caller, Groups, read_mode, read_u32};
+use capbits::{Caller, Groups, read_u32};
 use capexplain::{explain_line, read_access};
 use capgrant::{Access, Attr, Verdict, verdict};
 use capspec::{FsName, Grants, TreePath};
@@ -37,7 +38,7 @@ pub struct Values {
     pub owner: Vec<u8>,
     /// The gid of the inode's group: a decimal number of 32 bits.
     pub group: Vec<u8>,
-    /// The inode's mode: 1 to 4 octal digits.
+    /// The inode's mode: 1 to 4 octal digits, or the inode's kind before 4 of them.
     pub mode: Vec<u8>,
     /// What is asked for: a word that `read_access` reads.
     pub access: Vec<u8>,
@@ -85,7 +86,7 @@ impl Values {
         Ok(Attr {
             uid: read_number(Opt::Owner, self.owner.as_slice())?,
             gid: read_number(Opt::Group, self.group.as_slice())?,
-            mode: read_mode(self.mode.as_slice()).ok_or(BadValue(Opt::Mode))?,
+            mode: read_any_mode(self.mode.as_slice()).ok_or(BadValue(Opt::Mode))?,
         })
     }
 }
