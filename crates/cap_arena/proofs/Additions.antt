@@ -1,8 +1,7 @@
 -- The lists with one more node.
-use Rattle.std.proofs.Common.{◌≡◌, ◌≢◌, ℕ, ◌+◌, ◌<◌, ◌≤◌, Bool, true, false, not, ◌&&◌, ◌||◌, cond, Option, Some, None, IsSome, is_some, List, [], ◌∷◌, ◌++◌, count_by, refl, sym, ap, ◌∙◌, subst, arith, nat_eq, nat_le, Result, Ok, Err, OnErr}
+use Rattle.std.proofs.Common.{◌≡◌, ◌≢◌, ℕ, ◌+◌, ◌<◌, ◌≤◌, Bool, true, false, not, ◌&&◌, ◌||◌, cond, Option, Some, None, IsSome, is_some, List, [], ◌∷◌, ◌++◌, count_by, refl, sym, ap, ◌∙◌, subst, arith, nat_eq, nat_le, Result, Ok, Err, OnErr, IfOk}
 use Rattle.std.specs.Option.{option_map, option_map_or, option_and_then}
 use Rattle.std.proofs.lemmas.Bool.{eqb-true, eq-eqb, leb-false}
-use Rattle.std.specs.HashMap.{HashMap, get}
 use Rattle.std.specs.FinMap as map
 use Rattle.capbits.specs.declared.refusal.Refusal.TheVariants.{Limit}
 use Rattle.capbits.specs.Refusal.{first_failing}
@@ -15,46 +14,48 @@ use Rattle.cap_arena.specs.declared.nodes.Linked.{Linked}
 use Rattle.cap_arena.specs.declared.nodes.Node.{Node}
 use Rattle.cap_arena.specs.Nodes.{joint_of}
 use Rattle.cap_arena.specs.Places.{linked_at, next_at, previous_at, with_next_at, appended_ends}
-use Rattle.cap_arena.specs.Heads.{no_ends, ends_or_none, ends_at}
+use Rattle.cap_arena.specs.Heads.{Heads, no_ends, ends_or_none, ends_at, with_room}
 use Rattle.cap_arena.specs.Walks.{is_among}
 use Rattle.cap_arena.specs.Lists.{Lists, ListName, OfInode, OfClient, OfRecall, order_of, belongs, count, ends_of, keys, IsLists, KeepsNoEmpty, lists_of}
 use Rattle.cap_arena.specs.Calls.{Adds, add_tests}
 use Rattle.cap_arena.proofs.Rings.{among-append}
 use Rattle.cap_arena.proofs.Writes.{same_order, plain_at, Wrote, Wrote-next}
 use Rattle.cap_arena.proofs.Stands.{stands, Stand, Stand-alike, append_step, one_more, with_on, next_of_joint, previous_of_joint}
-use Rattle.cap_arena.proofs.HeadMaps.{get_number, same_numbers, heads_of, with_ends, with_ends-same, with_ends-inode, with_ends-client, recall_differs}
-use Rattle.cap_arena.proofs.Sound.{nowhere_off, off_all, stand_of, Stand-heads, keys_are, list_of, first_some, last_is_place, count-next, heads_are}
+use Rattle.cap_arena.proofs.HeadMaps.{room-others, room-ends, heads_of, with_ends, with_ends-same, with_ends-inode, with_ends-client, recall_differs}
+use Rattle.cap_arena.proofs.Sound.{nowhere_off, off_all, stand_of, Stand-heads, keys_are, list_of, first_some, last_is_place, count-next}
 
-pub on_err : {V E : Type 0} (r : Result V E) (P : Type 0) → P → OnErr r P
-on_err (Ok v) P p = tt
-on_err (Err e) P p = p
+pub if_ok : {V E : Type 0} (r : Result V E) (P Q : V → Type 0) → ((v : V) → P v → Q v) → IfOk r P → IfOk r Q
+if_ok (Ok v) P Q leads p = leads v p
+if_ok (Err e) P Q leads p = tt
+
+pub on_err : {V E : Type 0} (r : Result V E) (P Q : Type 0) → (P → Q) → OnErr r P → OnErr r Q
+on_err (Ok v) P Q leads p = tt
+on_err (Err e) P Q leads p = leads p
 
 -- what a map has, where one of its numbers has other ends
-ends_updated : {S : Type 0} (m n : HashMap ℕ Ends S) (number : ℕ) (ends : Ends) → ((q : ℕ) → get nat_eq n q ≡ cond (nat_eq number q) (Some ends) (get nat_eq m q)) → (q : ℕ) → ends_at n q ≡ with_ends (ends_at m) number ends q
+ends_updated : (m n : Heads) (number : ℕ) (ends : Ends) → ((q : ℕ) → map.get n q ≡ cond (nat_eq number q) (Some ends) (map.get m q)) → (q : ℕ) → ends_at n q ≡ with_ends (ends_at m) number ends q
 ends_updated m n number ends at q = ap ends_or_none (at q) ∙ out (nat_eq number q)
   where
-    out : (b : Bool) → ends_or_none (cond b (Some ends) (get nat_eq m q)) ≡ cond b ends (ends_at m q)
+    out : (b : Bool) → ends_or_none (cond b (Some ends) (map.get m q)) ≡ cond b ends (ends_at m q)
     out true = refl
     out false = refl
 
--- it keeps none of a list without nodes
-kept_updated : {S : Type 0} (m n : HashMap ℕ Ends S) (number : ℕ) (ends : Ends) → ((q : ℕ) → get nat_eq n q ≡ cond (nat_eq number q) (Some ends) (get nat_eq m q)) → IsSome ends.first
-    → KeepsNoEmpty (map.from_entries m.entries) → KeepsNoEmpty (map.from_entries n.entries)
-kept_updated m n number ends at some keeps q found is = by_test (nat_eq number q) (sym (sym (get_number n q) ∙ is) ∙ at q)
-  where
-    by_test : (b : Bool) → Some found ≡ cond b (Some ends) (get nat_eq m q) → IsSome found.first
-    by_test true e = let same : found ≡ ends = cc in subst (λ (x : Ends). IsSome x.first) (sym same) some
-    by_test false e = keeps q found (get_number m q ∙ sym e)
-
 -- the maps of ends before and after
-pub record HeadSteps {S : Type 0} (i i1 i2 : HashMap ℕ Ends S) (number key : ℕ) : Type 0 where
-  pub reserved : (q : ℕ) → get nat_eq i1 q ≡ get nat_eq i q
-  pub updated : (q : ℕ) → get nat_eq i2 q ≡ cond (nat_eq number q) (Some (appended_ends (ends_at i1 number) key)) (get nat_eq i1 q)
+pub record HeadSteps (i i1 i2 : Heads) (number key : ℕ) : Type 0 where
+  pub reserved : i1 ≡ with_room i number
+  pub updated : (q : ℕ) → map.get i2 q ≡ cond (nat_eq number q) (Some (appended_ends (ends_at i1 number) key)) (map.get i1 q)
 
-keeps : {S : Type 0} (i i1 i2 : HashMap ℕ Ends S) (number key : ℕ) → HeadSteps i i1 i2 number key → IsSome (appended_ends (ends_at i1 number) key).first → KeepsNoEmpty (map.from_entries i.entries) → KeepsNoEmpty (map.from_entries i2.entries)
-keeps i i1 i2 number key h some kept =
-    kept_updated i1 i2 number (appended_ends (ends_at i1 number) key) h.updated some
-    (λ q ends is. kept q ends (get_number i q ∙ sym (h.reserved q) ∙ sym (get_number i1 q) ∙ is))
+-- it keeps none of a list without nodes
+keeps : (i i1 i2 : Heads) (number key : ℕ) → HeadSteps i i1 i2 number key → IsSome (appended_ends (ends_at i1 number) key).first → KeepsNoEmpty i → KeepsNoEmpty i2
+keeps i i1 i2 number key h some kept q found is = by_test (nat_eq number q) refl (sym is ∙ h.updated q)
+  where
+    by_test : (b : Bool) → nat_eq number q ≡ b → Some found ≡ cond b (Some (appended_ends (ends_at i1 number) key)) (map.get i1 q) → IsSome found.first
+    by_test true e at = let same : found ≡ appended_ends (ends_at i1 number) key = cc in subst (λ (x : Ends). IsSome x.first) (sym same) some
+    by_test false e at = kept q found (sym (room-others i number q e) ∙ ap (λ m. map.get m q) (sym h.reserved) ∙ sym at)
+
+-- room changes no ends
+pub reserved-ends : (i i1 i2 : Heads) (number key : ℕ) → HeadSteps i i1 i2 number key → (q : ℕ) → ends_at i1 q ≡ ends_at i q
+reserved-ends i i1 i2 number key h q = ap (λ m. ends_at m q) h.reserved ∙ room-ends i number q
 
 -- the new node is out of no list after all three
 abbrev pub added_off : Order → Bool
@@ -217,7 +218,7 @@ module _ {T : Type 0} where
   lists_after s r i c key node s1 s2 s3 s4 ks a st OfRecall =
       ap (λ o. cond (option_map_or (belongs {T = T} OfRecall) o false) (ks OfRecall ++ key ∷ []) (ks OfRecall)) (st.nodes3 key ∙ st.nodes2 key ∙ ap (option_map (λ l. l.node)) a.at ∙ ap Some a.node_is)
 
-  pub added : {S : Type 0} (s : List (Option (Linked T))) (r : Ends) (i i1 i2 c c1 c2 : HashMap ℕ Ends S) (key : ℕ) (node : Node T) (s1 s2 s3 s4 : List (Option (Linked T))) (r' : Ends)
+  pub added : (s : List (Option (Linked T))) (r : Ends) (i i1 i2 c c1 c2 : Heads) (key : ℕ) (node : Node T) (s1 s2 s3 s4 : List (Option (Linked T))) (r' : Ends)
       → IsLists (lists_of s r i c) → count_by is_some s < 65536
       → AddSteps s r (ends_at i1) (ends_at c1) key node s1 s2 s3 s4 → HeadSteps i i1 i2 node.ino.0 key → HeadSteps c c1 c2 node.client.0 key → r' ≡ appended_ends r key
       → Added (lists_of s r i c) (lists_of s4 r' i2 c2) key node
@@ -257,13 +258,13 @@ module _ {T : Type 0} where
       or_true false = refl
 
       before : (name : ListName) → heads_of r (ends_at i1) (ends_at c1) name ≡ ends_of (lists_of s r i c) name
-      before (OfInode ino) = ap ends_or_none (hi.reserved ino.0) ∙ heads_are s r i c (OfInode ino)
-      before (OfClient client) = ap ends_or_none (hc.reserved client.0) ∙ heads_are s r i c (OfClient client)
+      before (OfInode ino) = reserved-ends i i1 i2 node.ino.0 key hi ino.0
+      before (OfClient client) = reserved-ends c c1 c2 node.client.0 key hc client.0
       before OfRecall = refl
 
       after : (name : ListName) → ends_of (lists_of s4 r' i2 c2) name ≡ added_heads r (ends_at i1) (ends_at c1) key node name
-      after (OfInode ino) = ap ends_or_none (get_number i2 ino.0) ∙ ends_updated i1 i2 node.ino.0 (appended_ends (ends_at i1 node.ino.0) key) hi.updated ino.0
-      after (OfClient client) = ap ends_or_none (get_number c2 client.0) ∙ ends_updated c1 c2 node.client.0 (appended_ends (ends_at c1 node.client.0) key) hc.updated client.0
+      after (OfInode ino) = ends_updated i1 i2 node.ino.0 (appended_ends (ends_at i1 node.ino.0) key) hi.updated ino.0
+      after (OfClient client) = ends_updated c1 c2 node.client.0 (appended_ends (ends_at c1 node.client.0) key) hc.updated client.0
       after OfRecall = ends
 
       counted : count_by is_some s4 ≤ 65536
@@ -274,14 +275,10 @@ module _ {T : Type 0} where
           let more = a.more in
           omega arith
 
-  -- maps that made room have the same lists
-  pub reserved_same : {S : Type 0} (s : List (Option (Linked T))) (r : Ends) (i i1 c c1 : HashMap ℕ Ends S) → ((q : ℕ) → get nat_eq i1 q ≡ get nat_eq i q) → ((q : ℕ) → get nat_eq c1 q ≡ get nat_eq c q)
-      → lists_of s r i1 c1 ≡ lists_of s r i c
-  reserved_same s r i i1 c c1 same_i same_c = λ t. record { slots = s; recall = r; inodes = same_numbers i i1 same_i t; clients = same_numbers c c1 same_c t }
-
-  pub reserved_lists : {S : Type 0} (s s1 : List (Option (Linked T))) (r : Ends) (i i1 c c1 : HashMap ℕ Ends S) → s1 ≡ s → ((q : ℕ) → get nat_eq i1 q ≡ get nat_eq i q) → ((q : ℕ) → get nat_eq c1 q ≡ get nat_eq c q)
-      → lists_of s1 r i1 c1 ≡ lists_of s r i c
-  reserved_lists s s1 r i i1 c c1 slots same_i same_c = ap (λ x. lists_of x r i1 c1) slots ∙ reserved_same s r i i1 c c1 same_i same_c
+  -- the lists are sound with the node, and as they were
+  pub sound_either : {E : Type 0} (r : Result ℕ E) (t t' : Lists T) (P : ℕ → Type 0) → IfOk r (λ key. IsLists t' × P key) → OnErr r (t' ≡ t) → IsLists t → IsLists t'
+  sound_either (Ok key) t t' P added same is = added.0
+  sound_either (Err e) t t' P added same is = subst IsLists (sym same) is
 
   -- there may be one more node where the tests pass
   pub room_passed : (t : Lists T) → first_failing (add_tests t) ≡ None → count t < 65536

@@ -1,45 +1,76 @@
 -- The ends of the lists of inodes and clients, as maps and by names.
-use Rattle.std.proofs.Common.{◌≡◌, ℕ, Bool, true, false, cond, Some, List, [], ◌∷◌, refl, sym, ap, ◌∙◌, nat_eq}
-use Rattle.std.specs.Ordering.{nat_cmp, eq_by_cmp, is_eq}
-use Rattle.std.specs.declared.cmp.Ordering.{Ordering}
-use Rattle.std.specs.declared.cmp.Ordering.TheVariants.{Less, Equal, Greater}
-use Rattle.std.proofs.lemmas.Cmp.{nat_cmp_total, eq_by_cmp_equiv}
+use Rattle.std.proofs.Common.{◌≡◌, ℕ, Bool, true, false, cond, Option, Some, None, IsSome, is_some, refl, sym, ap, subst, ◌∙◌, nat_eq}
+use Rattle.std.specs.Cmp.{nat_cmp_total}
 use Rattle.std.proofs.lemmas.Bool.{eqb-true, eq-eqb}
 use Rattle.std.specs.FinMap as map
-use Rattle.std.specs.FinMap.{nat_cmp-IsAntisymmetric, get-from_entries}
-use Rattle.std.specs.HashMap.{HashMap, get}
-use Rattle.std.specs.Map.{lookup}
+use Rattle.std.specs.FinMap.{nat_cmp-IsAntisymmetric}
 use Rattle.capbits.specs.declared.ids.ClientId.{ClientId}
 use Rattle.capbits.specs.declared.ids.Ino.{Ino}
+use Rattle.numbered.proofs.Maps.{insert-at, remove-at, insert-here, put_back}
 use Rattle.cap_arena.specs.declared.nodes.Ends.{Ends}
-use Rattle.cap_arena.specs.Lists.{ListName, OfInode, OfClient, OfRecall}
+use Rattle.cap_arena.specs.Heads.{Heads, no_ends, ends_or_none, ends_at, kept, kept_if, with_room, without_room}
+use Rattle.cap_arena.specs.Lists.{ListName, OfInode, OfClient, OfRecall, KeepsNoEmpty}
 
--- two numbers compare alike where they are equal
-cmp_eq : (a b : ℕ) → eq_by_cmp nat_cmp a b ≡ nat_eq a b
-cmp_eq a b = both (eq_by_cmp nat_cmp a b) (nat_eq a b) refl refl
+-- ends that are kept, and ends that go
+pub get-kept : (m : Heads) (k : ℕ) (ends : Ends) → is_some ends.first ≡ true → (q : ℕ) → map.get (map.insert m k ends) q ≡ cond (nat_eq k q) (kept ends) (map.get m q)
+get-kept m k ends there q = insert-at m k q ends ∙ by_first ends.first there
   where
-    equal : (o : Ordering) → is_eq o ≡ true → o ≡ Equal
-    equal Less e = absurd (cc)
-    equal Equal e = refl
-    equal Greater e = absurd (cc)
+    by_first : (f : Option ℕ) → is_some f ≡ true → cond (nat_eq k q) (Some ends) (map.get m q) ≡ cond (nat_eq k q) (kept_if f ends) (map.get m q)
+    by_first None is = absurd (cc)
+    by_first (Some key) is = refl
 
-    both : (x y : Bool) → eq_by_cmp nat_cmp a b ≡ x → nat_eq a b ≡ y → x ≡ y
-    both true true e f = refl
-    both false false e f = refl
-    both true false e f = sym (eq-eqb a b (nat_cmp-IsAntisymmetric a b (equal (nat_cmp a b) e))) ∙ f
-    both false true e f = sym e ∙ ap (eq_by_cmp nat_cmp a) (sym (eqb-true a b f)) ∙ (eq_by_cmp_equiv nat_cmp_total).refl a
+pub get-gone : (m : Heads) (k : ℕ) (ends : Ends) → is_some ends.first ≡ false → (q : ℕ) → map.get (map.remove (map.insert m k ends) k) q ≡ cond (nat_eq k q) (kept ends) (map.get m q)
+get-gone m k ends none q = remove-at (map.insert m k ends) k q ∙ ap (cond (nat_eq k q) None) (insert-at m k q ends) ∙ out (nat_eq k q) ∙ by_first ends.first none
+  where
+    out : (b : Bool) → cond b None (cond b (Some ends) (map.get m q)) ≡ cond b None (map.get m q)
+    out true = refl
+    out false = refl
 
-find_number : {X : Type 0} (es : List (ℕ × X)) (q : ℕ) → map.find nat_cmp q es ≡ lookup (nat_eq q) es
-find_number [] q = refl
-find_number (e ∷ es) q = ap (λ b. cond b (Some e.1) (map.find nat_cmp q es)) (cmp_eq q e.0) ∙ ap (cond (nat_eq q e.0) (Some e.1)) (find_number es q)
+    by_first : (f : Option ℕ) → is_some f ≡ false → cond (nat_eq k q) None (map.get m q) ≡ cond (nat_eq k q) (kept_if f ends) (map.get m q)
+    by_first None is = refl
+    by_first (Some key) is = absurd (cc)
 
--- what the map that the entries make has at a number
-pub get_number : {X S : Type 0} (m : HashMap ℕ X S) (q : ℕ) → map.get (map.from_entries {R = nat_cmp} m.entries) q ≡ get nat_eq m q
-get_number m q = get-from_entries nat_cmp_total m.entries q ∙ find_number m.entries q
+-- ---- room for the ends of a list
 
--- maps that have the same at each number are the same
-pub same_numbers : {X S : Type 0} (m n : HashMap ℕ X S) → ((q : ℕ) → get nat_eq n q ≡ get nat_eq m q) → map.from_entries {R = nat_cmp} n.entries ≡ map.from_entries {R = nat_cmp} m.entries
-same_numbers m n same = map.same_map nat_cmp_total nat_cmp-IsAntisymmetric _ _ (λ q. get_number n q ∙ same q ∙ sym (get_number m q))
+pub room_there : (m : Heads) (k : ℕ) → IsSome (map.get (with_room m k) k)
+room_there m k = by_case (map.get m k) refl
+  where
+    by_case : (o : Option Ends) → map.get m k ≡ o → IsSome (map.get (with_room m k) k)
+    by_case (Some ends) is = subst (λ o. IsSome (map.get (cond (is_some o) m (map.insert m k no_ends)) k)) (sym is) (subst IsSome (sym is) refl)
+    by_case None is = subst (λ o. IsSome (map.get (cond (is_some o) m (map.insert m k no_ends)) k)) (sym is) (subst IsSome (sym (insert-here nat_cmp_total nat_cmp-IsAntisymmetric m k no_ends)) refl)
+
+pub room-others : (m : Heads) (k q : ℕ) → nat_eq k q ≡ false → map.get (with_room m k) q ≡ map.get m q
+room-others m k q off = by_case (is_some (map.get m k))
+  where
+    by_case : (b : Bool) → map.get (cond b m (map.insert m k no_ends)) q ≡ map.get m q
+    by_case true = refl
+    by_case false = insert-at m k q no_ends ∙ ap (λ b. cond b (Some no_ends) (map.get m q)) off
+
+-- it changes no ends
+pub room-ends : (m : Heads) (k q : ℕ) → ends_at (with_room m k) q ≡ ends_at m q
+room-ends m k q = by_case (map.get m k) refl
+  where
+    by_test : (b : Bool) → nat_eq k q ≡ b → map.get m k ≡ None → ends_or_none (cond b (Some no_ends) (map.get m q)) ≡ ends_at m q
+    by_test true e is = sym (ap (λ x. ends_at m x) (sym (eqb-true k q e)) ∙ ap ends_or_none is)
+    by_test false e is = refl
+
+    by_case : (o : Option Ends) → map.get m k ≡ o → ends_at (with_room m k) q ≡ ends_at m q
+    by_case (Some ends) is = ap (λ o. ends_at (cond (is_some o) m (map.insert m k no_ends)) q) is
+    by_case None is = ap (λ o. ends_at (cond (is_some o) m (map.insert m k no_ends)) q) is ∙ ap ends_or_none (insert-at m k q no_ends) ∙ by_test (nat_eq k q) refl is
+
+-- given back, it leaves the map as it was
+pub room-back : (m : Heads) (k : ℕ) → KeepsNoEmpty m → without_room (with_room m k) k ≡ m
+room-back m k keeps = by_case (map.get m k) refl
+  where
+    by_case : (o : Option Ends) → map.get m k ≡ o → without_room (with_room m k) k ≡ m
+    by_case (Some ends) is =
+        let some : is_some (ends_at m k).first ≡ true = ap (λ o. is_some (ends_or_none o).first) is ∙ keeps k ends is in
+        ap (λ o. without_room (cond (is_some o) m (map.insert m k no_ends)) k) is ∙ ap (λ b. cond b m (map.remove m k)) some
+    by_case None is =
+        let more : Heads = map.insert m k no_ends in
+        let none : is_some (ends_at more k).first ≡ false = ap (λ o. is_some (ends_or_none o).first) (insert-here nat_cmp_total nat_cmp-IsAntisymmetric m k no_ends) in
+        ap (λ o. without_room (cond (is_some o) m more) k) is ∙ ap (λ b. cond b more (map.remove more k)) none
+        ∙ put_back nat_cmp_total nat_cmp-IsAntisymmetric m k no_ends is
 
 -- the ends of each list
 abbrev pub heads_of : Ends → (ℕ → Ends) → (ℕ → Ends) → ListName → Ends

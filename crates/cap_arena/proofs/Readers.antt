@@ -2,7 +2,6 @@
 use Rattle.std.proofs.Common.{◌≡◌, ℕ, Bool, true, false, ◌||◌, cond, Option, Some, None, List, [], ◌∷◌, refl, sym, ap, ◌∙◌, nat_eq, slice_get}
 use Rattle.std.specs.Option.{option_map, option_map_or, option_and_then}
 use Rattle.std.proofs.lemmas.Bool.{eqb-true, eq-eqb}
-use Rattle.std.specs.HashMap.{HashMap}
 use Rattle.cap_arena.specs.declared.nodes.Order.TheVariants as order
 use Rattle.cap_arena.specs.declared.nodes.Ends.{Ends}
 use Rattle.cap_arena.specs.declared.nodes.Linked.{Linked}
@@ -10,11 +9,10 @@ use Rattle.capbits.specs.declared.ids.ClientId.{ClientId}
 use Rattle.capbits.specs.declared.ids.Ino.{Ino}
 use Rattle.cap_arena.specs.Nodes.{joint_of}
 use Rattle.cap_arena.specs.Places.{linked_at, next_at}
-use Rattle.cap_arena.specs.Heads.{ends_or_none, ends_at}
+use Rattle.cap_arena.specs.Heads.{Heads, ends_at}
 use Rattle.cap_arena.specs.Walks.{is_among, IsWalk, key_after}
 use Rattle.cap_arena.specs.Lists.{Lists, ListName, OfInode, OfClient, OfRecall, order_of, belongs, node_at, belongs_at, ends_of, next_in, keys, IsLists, lists_of}
 use Rattle.cap_arena.proofs.Rings.{first_step}
-use Rattle.cap_arena.proofs.HeadMaps.{get_number}
 
 -- a walk leads from a key to the one after it
 walk_after : (step : Option ℕ → Option ℕ) (place : Option ℕ) (ks : List ℕ) (key : ℕ) → IsWalk step place ks → is_among ks key ≡ true → step (Some key) ≡ key_after ks key
@@ -39,11 +37,11 @@ module _ {T : Type 0} where
   first_is : (t : Lists T) → IsLists t → (name : ListName) → (ends_of t name).first ≡ slice_get (keys t name) 0
   first_is t is name = first_step (next_in t name) None (keys t name) (is.lists name).forth
 
-  pub first_of_inode : {S : Type 0} (s : List (Option (Linked T))) (r : Ends) (i c : HashMap ℕ Ends S) (ino : Ino) → IsLists (lists_of s r i c) → (ends_at i ino.0).first ≡ slice_get (keys (lists_of s r i c) (OfInode ino)) 0
-  first_of_inode s r i c ino is = ap (λ o. (ends_or_none o).first) (sym (get_number i ino.0)) ∙ first_is (lists_of s r i c) is (OfInode ino)
+  pub first_of_inode : (s : List (Option (Linked T))) (r : Ends) (i c : Heads) (ino : Ino) → IsLists (lists_of s r i c) → (ends_at i ino.0).first ≡ slice_get (keys (lists_of s r i c) (OfInode ino)) 0
+  first_of_inode s r i c ino is = first_is (lists_of s r i c) is (OfInode ino)
 
-  pub first_of_the_client : {S : Type 0} (s : List (Option (Linked T))) (r : Ends) (i c : HashMap ℕ Ends S) (client : ClientId) → IsLists (lists_of s r i c) → (ends_at c client.0).first ≡ slice_get (keys (lists_of s r i c) (OfClient client)) 0
-  first_of_the_client s r i c client is = ap (λ o. (ends_or_none o).first) (sym (get_number c client.0)) ∙ first_is (lists_of s r i c) is (OfClient client)
+  pub first_of_the_client : (s : List (Option (Linked T))) (r : Ends) (i c : Heads) (client : ClientId) → IsLists (lists_of s r i c) → (ends_at c client.0).first ≡ slice_get (keys (lists_of s r i c) (OfClient client)) 0
+  first_of_the_client s r i c client is = first_is (lists_of s r i c) is (OfClient client)
 
   pub first_of_recall : (t : Lists T) → IsLists t → t.recall.first ≡ slice_get (keys t OfRecall) 0
   first_of_recall t is = first_is t is OfRecall

@@ -2,7 +2,6 @@
 use Rattle.std.proofs.Common.{◌≡◌, ◌≢◌, ℕ, ◌+◌, ◌≤◌, Bool, true, false, not, ◌&&◌, cond, Option, Some, None, IsSome, is_some, List, reverse, count_by, refl, sym, ap, ◌∙◌, subst, arith, nat_eq, OnSome, IfNone}
 use Rattle.std.specs.Option.{option_map, option_map_or}
 use Rattle.std.proofs.lemmas.Bool.{eqb-true, eq-eqb}
-use Rattle.std.specs.HashMap.{HashMap, get}
 use Rattle.std.specs.FinMap as map
 use Rattle.slab.specs.Slab.{Slab, slab_len}
 use Rattle.cap_arena.specs.declared.nodes.Order.{Order}
@@ -12,14 +11,14 @@ use Rattle.cap_arena.specs.declared.nodes.Linked.{Linked}
 use Rattle.cap_arena.specs.declared.nodes.Node.{Node}
 use Rattle.cap_arena.specs.Nodes.{joint_of}
 use Rattle.cap_arena.specs.Places.{linked_at, next_at, previous_at, with_next_at, unlinked, unlinked_ends}
-use Rattle.cap_arena.specs.Heads.{no_ends, ends_or_none, ends_at, kept, kept_if}
+use Rattle.cap_arena.specs.Heads.{Heads, no_ends, ends_or_none, ends_at, kept, kept_if}
 use Rattle.cap_arena.specs.Walks.{is_among}
 use Rattle.cap_arena.specs.Lists.{ListName, OfInode, OfClient, OfRecall, order_of, belongs, ends_of, keys, IsLists, KeepsNoEmpty, lists_of}
 use Rattle.cap_arena.specs.Calls.{Removes, keys_without}
 use Rattle.cap_arena.proofs.Rings.{among-reverse, walk_stays, filter_none}
 use Rattle.cap_arena.proofs.Writes.{plain_at, Wrote, Wrote-unlinked, IsPlace}
 use Rattle.cap_arena.proofs.Stands.{stands, Stand, Stand-alike, unlink_step, one_less, with_off}
-use Rattle.cap_arena.proofs.HeadMaps.{get_number, heads_of, with_ends, with_ends-same, with_ends-inode, with_ends-client, recall_differs}
+use Rattle.cap_arena.proofs.HeadMaps.{heads_of, with_ends, with_ends-same, with_ends-inode, with_ends-client, recall_differs}
 use Rattle.cap_arena.proofs.Sound.{nowhere_off, place_of, stand_of, Stand-heads, keys_are, list_of, first_some, kept_is, count-next, count-previous, heads_are, heads_known}
 
 left : (a b : Bool) → (a && b) ≡ true → a ≡ true
@@ -32,15 +31,15 @@ fewer_left None old new len same = let e : slab_len new ≡ slab_len old = ap sl
 fewer_left (Some x) old new len same = omega (arith, len)
 
 -- ends that are there
-some_of_first : (o : Option Ends) → IsSome (ends_or_none o).first → IsSome o
+pub some_of_first : (o : Option Ends) → IsSome (ends_or_none o).first → IsSome o
 some_of_first None some = absurd (cc)
 some_of_first (Some ends) some = refl
 
 -- what a map has, where one of its numbers has other ends
-ends_kept : {S : Type 0} (m n : HashMap ℕ Ends S) (number : ℕ) (ends : Ends) → ends_or_none (kept ends) ≡ ends → ((q : ℕ) → get nat_eq n q ≡ cond (nat_eq number q) (kept ends) (get nat_eq m q)) → (q : ℕ) → ends_at n q ≡ with_ends (ends_at m) number ends q
+ends_kept : (m n : Heads) (number : ℕ) (ends : Ends) → ends_or_none (kept ends) ≡ ends → ((q : ℕ) → map.get n q ≡ cond (nat_eq number q) (kept ends) (map.get m q)) → (q : ℕ) → ends_at n q ≡ with_ends (ends_at m) number ends q
 ends_kept m n number ends whole at q = ap ends_or_none (at q) ∙ out (nat_eq number q)
   where
-    out : (b : Bool) → ends_or_none (cond b (kept ends) (get nat_eq m q)) ≡ cond b ends (ends_at m q)
+    out : (b : Bool) → ends_or_none (cond b (kept ends) (map.get m q)) ≡ cond b ends (ends_at m q)
     out true = whole
     out false = refl
 
@@ -49,13 +48,13 @@ kept_some : (f : Option ℕ) (ends found : Ends) → ends.first ≡ f → kept_i
 kept_some None ends found is e = absurd (cc)
 kept_some (Some k) ends found is e = let same : ends ≡ found = cc in subst (λ (x : Ends). IsSome x.first) same (subst IsSome (sym is) refl)
 
-keeps_less : {S : Type 0} (m n : HashMap ℕ Ends S) (number : ℕ) (ends : Ends) → ((q : ℕ) → get nat_eq n q ≡ cond (nat_eq number q) (kept ends) (get nat_eq m q))
-    → KeepsNoEmpty (map.from_entries m.entries) → KeepsNoEmpty (map.from_entries n.entries)
-keeps_less m n number ends at keeps q found is = by_test (nat_eq number q) (sym (at q) ∙ sym (get_number n q) ∙ is)
+keeps_less : (m n : Heads) (number : ℕ) (ends : Ends) → ((q : ℕ) → map.get n q ≡ cond (nat_eq number q) (kept ends) (map.get m q))
+    → KeepsNoEmpty m → KeepsNoEmpty n
+keeps_less m n number ends at keeps q found is = by_test (nat_eq number q) (sym (at q) ∙ is)
   where
-    by_test : (b : Bool) → cond b (kept ends) (get nat_eq m q) ≡ Some found → IsSome found.first
+    by_test : (b : Bool) → cond b (kept ends) (map.get m q) ≡ Some found → IsSome found.first
     by_test true e = kept_some ends.first ends found refl e
-    by_test false e = keeps q found (get_number m q ∙ e)
+    by_test false e = keeps q found e
 
 module _ {T : Type 0} where
   -- the places on both sides of a node of a list
@@ -212,26 +211,24 @@ module _ {T : Type 0} where
       by_test false e = sym (filter_none key (ks OfRecall) e)
 
   -- a node that is there has ends of its lists
-  pub inode_has_ends : {S : Type 0} (s : List (Option (Linked T))) (r : Ends) (i c : HashMap ℕ Ends S) (key : ℕ) (node : Node T) → IsLists (lists_of s r i c) → plain_at s key ≡ Some node → IsSome (get nat_eq i node.ino.0)
+  pub inode_has_ends : (s : List (Option (Linked T))) (r : Ends) (i c : Heads) (key : ℕ) (node : Node T) → IsLists (lists_of s r i c) → plain_at s key ≡ Some node → IsSome (ends_at i node.ino.0).first
   inode_has_ends s r i c key node is there =
       let t = lists_of s r i c in
       let st = stand_of t key is.lists (OfInode node.ino) in
-      some_of_first (get nat_eq i node.ino.0) (subst (λ o. IsSome (ends_or_none o).first) (get_number i node.ino.0)
-      (first_some s (ends_of t (OfInode node.ino)) (OfInode node.ino) (keys t (OfInode node.ino)) _ st key
-      ((is.lists (OfInode node.ino)).nodes key ∙ ap (λ o. option_map_or (belongs (OfInode node.ino)) o false) there ∙ eq-eqb node.ino.0 node.ino.0 refl)))
+      first_some s (ends_of t (OfInode node.ino)) (OfInode node.ino) (keys t (OfInode node.ino)) _ st key
+      ((is.lists (OfInode node.ino)).nodes key ∙ ap (λ o. option_map_or (belongs (OfInode node.ino)) o false) there ∙ eq-eqb node.ino.0 node.ino.0 refl)
 
-  pub client_has_ends : {S : Type 0} (s : List (Option (Linked T))) (r : Ends) (i c : HashMap ℕ Ends S) (key : ℕ) (node : Node T) → IsLists (lists_of s r i c) → plain_at s key ≡ Some node → IsSome (get nat_eq c node.client.0)
+  pub client_has_ends : (s : List (Option (Linked T))) (r : Ends) (i c : Heads) (key : ℕ) (node : Node T) → IsLists (lists_of s r i c) → plain_at s key ≡ Some node → IsSome (ends_at c node.client.0).first
   client_has_ends s r i c key node is there =
       let t = lists_of s r i c in
       let st = stand_of t key is.lists (OfClient node.client) in
-      some_of_first (get nat_eq c node.client.0) (subst (λ o. IsSome (ends_or_none o).first) (get_number c node.client.0)
-      (first_some s (ends_of t (OfClient node.client)) (OfClient node.client) (keys t (OfClient node.client)) _ st key
-      ((is.lists (OfClient node.client)).nodes key ∙ ap (λ o. option_map_or (belongs (OfClient node.client)) o false) there ∙ eq-eqb node.client.0 node.client.0 refl)))
+      first_some s (ends_of t (OfClient node.client)) (OfClient node.client) (keys t (OfClient node.client)) _ st key
+      ((is.lists (OfClient node.client)).nodes key ∙ ap (λ o. option_map_or (belongs (OfClient node.client)) o false) there ∙ eq-eqb node.client.0 node.client.0 refl)
 
-  pub removed : {S : Type 0} (s : List (Option (Linked T))) (r r1 : Ends) (i i1 c c1 : HashMap ℕ Ends S) (key : ℕ) (node : Node T) (s1 s2 s3 s4 : List (Option (Linked T)))
+  pub removed : (s : List (Option (Linked T))) (r r1 : Ends) (i i1 c c1 : Heads) (key : ℕ) (node : Node T) (s1 s2 s3 s4 : List (Option (Linked T)))
       → IsLists (lists_of s r i c) → OutSteps s r r1 (ends_at i) (ends_at c) key node s1 s2 s3 s4
-      → ((q : ℕ) → get nat_eq i1 q ≡ cond (nat_eq node.ino.0 q) (kept (unlinked_ends s (ends_at i node.ino.0) order.Inode key)) (get nat_eq i q))
-      → ((q : ℕ) → get nat_eq c1 q ≡ cond (nat_eq node.client.0 q) (kept (unlinked_ends s1 (ends_at c node.client.0) order.Client key)) (get nat_eq c q))
+      → ((q : ℕ) → map.get i1 q ≡ cond (nat_eq node.ino.0 q) (kept (unlinked_ends s (ends_at i node.ino.0) order.Inode key)) (map.get i q))
+      → ((q : ℕ) → map.get c1 q ≡ cond (nat_eq node.client.0 q) (kept (unlinked_ends s1 (ends_at c node.client.0) order.Client key)) (map.get c q))
       → IsLists (lists_of s4 r1 i1 c1) × Removes (lists_of s r i c) (lists_of s4 r1 i1 c1) key
   removed s r r1 i i1 c c1 key node s1 s2 s3 s4 is a at_i at_c =
       let t = lists_of s r i c in

@@ -4,19 +4,18 @@ use Rattle.std.specs.List.{IsDistinct}
 use Rattle.std.specs.Option.{option_map, option_map_or}
 use Rattle.std.proofs.lemmas.Map.Steps.{length-le_from_distinct_below}
 use Rattle.std.proofs.lemmas.List.Sums.{sum_by-set}
-use Rattle.std.specs.HashMap.{HashMap}
 use Rattle.cap_arena.specs.declared.nodes.Order.{Order}
 use Rattle.cap_arena.specs.declared.nodes.Ends.{Ends}
 use Rattle.cap_arena.specs.declared.nodes.Linked.{Linked}
 use Rattle.cap_arena.specs.Nodes.{with_next, with_previous}
 use Rattle.cap_arena.specs.Places.{linked_at, previous_at, changed_in, with_next_at, with_previous_at}
-use Rattle.cap_arena.specs.Heads.{ends_or_none, ends_at, kept, kept_if}
+use Rattle.cap_arena.specs.Heads.{Heads, ends_or_none, ends_at, kept, kept_if}
 use Rattle.cap_arena.specs.Walks.{is_among, IsWalk}
 use Rattle.cap_arena.specs.Lists.{Lists, ListName, OfInode, OfClient, OfRecall, order_of, belongs, belongs_at, ends_of, next_in, previous_in, walk, keys, IsList, lists_of}
 use Rattle.cap_arena.proofs.Rings.{first_step, among-reverse, head_among}
 use Rattle.cap_arena.proofs.Writes.{linked_at-within, IsPlace}
 use Rattle.cap_arena.proofs.Stands.{stands, Row, Stand, member, Row-alike}
-use Rattle.cap_arena.proofs.HeadMaps.{get_number, heads_of}
+use Rattle.cap_arena.proofs.HeadMaps.{heads_of}
 
 -- no list is without the node
 abbrev pub nowhere_off : Order → Bool
@@ -145,14 +144,14 @@ module _ {T : Type 0} where
 
 -- ---- the ends, by names
 
-pub heads_are : {T S : Type 0} (s : List (Option (Linked T))) (r : Ends) (i c : HashMap ℕ Ends S) (name : ListName) → heads_of r (ends_at i) (ends_at c) name ≡ ends_of (lists_of s r i c) name
-heads_are s r i c (OfInode ino) = ap ends_or_none (sym (get_number i ino.0))
-heads_are s r i c (OfClient client) = ap ends_or_none (sym (get_number c client.0))
+pub heads_are : {T : Type 0} (s : List (Option (Linked T))) (r : Ends) (i c : Heads) (name : ListName) → heads_of r (ends_at i) (ends_at c) name ≡ ends_of (lists_of s r i c) name
+heads_are s r i c (OfInode ino) = refl
+heads_are s r i c (OfClient client) = refl
 heads_are s r i c OfRecall = refl
 
 -- ends that are known at each number
-pub heads_known : {T S : Type 0} (s : List (Option (Linked T))) (r : Ends) (i c : HashMap ℕ Ends S) (f g : ℕ → Ends) → ((q : ℕ) → ends_at i q ≡ f q) → ((q : ℕ) → ends_at c q ≡ g q)
+pub heads_known : {T : Type 0} (s : List (Option (Linked T))) (r : Ends) (i c : Heads) (f g : ℕ → Ends) → ((q : ℕ) → ends_at i q ≡ f q) → ((q : ℕ) → ends_at c q ≡ g q)
     → (name : ListName) → ends_of (lists_of s r i c) name ≡ heads_of r f g name
-heads_known s r i c f g at_i at_c (OfInode ino) = ap ends_or_none (get_number i ino.0) ∙ at_i ino.0
-heads_known s r i c f g at_i at_c (OfClient client) = ap ends_or_none (get_number c client.0) ∙ at_c client.0
+heads_known s r i c f g at_i at_c (OfInode ino) = at_i ino.0
+heads_known s r i c f g at_i at_c (OfClient client) = at_c client.0
 heads_known s r i c f g at_i at_c OfRecall = refl

@@ -2,14 +2,13 @@
 use Rattle.std.proofs.Common.{◌≡◌, ℕ, ◌≤◌, Bool, true, false, not, ◌&&◌, cond, Option, Some, None, IsSome, IsTrue, is_some, List, [], ◌∷◌, ◌++◌, count_by, refl, sym, ap, ◌∙◌, arith, nat_eq}
 use Rattle.std.specs.Option.{option_map, option_map_or}
 use Rattle.std.proofs.lemmas.Bool.{eq-eqb}
-use Rattle.std.specs.HashMap.{HashMap}
 use Rattle.cap_arena.specs.declared.nodes.Order.{Order}
 use Rattle.cap_arena.specs.declared.nodes.Order.TheVariants as order
 use Rattle.cap_arena.specs.declared.nodes.Ends.{Ends}
 use Rattle.cap_arena.specs.declared.nodes.Linked.{Linked}
 use Rattle.cap_arena.specs.Nodes.{joint_of, with_next, with_previous}
 use Rattle.cap_arena.specs.Places.{linked_at, next_at, previous_at, unlinked, unlinked_ends, facing_last, moved_slots, moved_ends}
-use Rattle.cap_arena.specs.Heads.{no_ends, ends_at}
+use Rattle.cap_arena.specs.Heads.{Heads, no_ends, ends_at}
 use Rattle.cap_arena.specs.Walks.{is_among}
 use Rattle.cap_arena.specs.Lists.{ListName, OfInode, OfClient, OfRecall, order_of, belongs, ends_of, keys, IsLists, lists_of}
 use Rattle.cap_arena.specs.Calls.{Touches, keys_without}
@@ -92,7 +91,7 @@ module _ {T : Type 0} where
       ∙ ap (λ b. cond b (keys_without (ks OfRecall) key) (ks OfRecall) ++ key ∷ []) there
 
   -- the node is the last one in the order of recall
-  pub moved : {S : Type 0} (s : List (Option (Linked T))) (r : Ends) (i c : HashMap ℕ Ends S) (key : ℕ) (l : Linked T) → IsLists (lists_of s r i c) → linked_at s key ≡ Some l
+  pub moved : (s : List (Option (Linked T))) (r : Ends) (i c : Heads) (key : ℕ) (l : Linked T) → IsLists (lists_of s r i c) → linked_at s key ≡ Some l
       → IsLists (lists_of (moved_slots s r key) (moved_ends s r key) i c) × Touches (lists_of s r i c) (lists_of (moved_slots s r key) (moved_ends s r key) i c) key
   moved s r i c key l is at =
       let t = lists_of s r i c in
@@ -129,7 +128,7 @@ module _ {T : Type 0} where
           let room = is.room in
           omega arith
 
-  pub moved_there : {S : Type 0} (s : List (Option (Linked T))) (r : Ends) (i c : HashMap ℕ Ends S) (key : ℕ) (contains : Bool) → IsLists (lists_of s r i c) → (IsTrue contains → IsSome (linked_at s key)) → contains ≡ true
+  pub moved_there : (s : List (Option (Linked T))) (r : Ends) (i c : Heads) (key : ℕ) (contains : Bool) → IsLists (lists_of s r i c) → (IsTrue contains → IsSome (linked_at s key)) → contains ≡ true
       → IsLists (lists_of (moved_slots s r key) (moved_ends s r key) i c) × Touches (lists_of s r i c) (lists_of (moved_slots s r key) (moved_ends s r key) i c) key
   moved_there s r i c key false is tells there = absurd (cc)
   moved_there s r i c key true is tells there = by_slot (linked_at s key) refl (tells refl)

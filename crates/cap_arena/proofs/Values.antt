@@ -2,8 +2,6 @@
 use Rattle.std.proofs.Common.{◌≡◌, ℕ, ◌≤◌, Bool, true, false, not, ◌&&◌, cond, Option, Some, None, is_some, List, [], count_by, refl, sym, ap, ◌∙◌, subst, arith, nat_eq}
 use Rattle.std.specs.List.{IsDistinct}
 use Rattle.std.specs.Option.{option_map, option_map_or}
-use Rattle.std.specs.HashMap.{HashMap}
-use Rattle.std.specs.Map.{lookup}
 use Rattle.std.specs.FinMap as map
 use Rattle.std.specs.Ordering.{nat_cmp}
 use Rattle.cap_arena.specs.declared.nodes.Order.{Order}
@@ -13,17 +11,16 @@ use Rattle.cap_arena.specs.declared.nodes.Linked.{Linked}
 use Rattle.cap_arena.specs.declared.nodes.Node.{Node}
 use Rattle.cap_arena.specs.Nodes.{joint_of, with_node_value}
 use Rattle.cap_arena.specs.Places.{linked_at, changed_in}
-use Rattle.cap_arena.specs.Heads.{no_ends, ends_or_none}
+use Rattle.cap_arena.specs.Heads.{Heads, no_ends, ends_or_none}
 use Rattle.cap_arena.specs.Lists.{ListName, OfInode, OfClient, OfRecall, order_of, belongs, ends_of, keys, IsList, IsLists, lists_of}
 use Rattle.cap_arena.specs.Calls.{Sets, with_value}
 use Rattle.cap_arena.proofs.Writes.{joint_at, plain_at, linked_at-in}
 use Rattle.cap_arena.proofs.Stands.{stands, Stand, Stand-alike}
-use Rattle.cap_arena.proofs.HeadMaps.{get_number}
 use Rattle.cap_arena.proofs.Sound.{nowhere_off, stand_of, Stand-heads, keys_are, list_of, count-in}
 
 -- what the map of no entries has
-no_number : {S : Type 0} (m : HashMap ℕ Ends S) → m.entries ≡ [] → (q : ℕ) → map.get (map.from_entries {R = nat_cmp} m.entries) q ≡ None
-no_number m none q = get_number m q ∙ ap (lookup (nat_eq q)) none
+no_number : (m : Heads) → m ≡ map.empty → (q : ℕ) → map.get m q ≡ None
+no_number m none q = ap (λ m. map.get m q) none ∙ map.get-empty nat_cmp q
 
 module _ {T : Type 0} where
   abbrev valued : T → List (Option (Linked T)) → ℕ → List (Option (Linked T))
@@ -65,7 +62,7 @@ module _ {T : Type 0} where
       pick false q = refl
 
   -- a node with another value
-  pub sets_value : {S : Type 0} (s : List (Option (Linked T))) (r : Ends) (i c : HashMap ℕ Ends S) (key : ℕ) (value : T) → IsLists (lists_of s r i c)
+  pub sets_value : (s : List (Option (Linked T))) (r : Ends) (i c : Heads) (key : ℕ) (value : T) → IsLists (lists_of s r i c)
       → IsLists (lists_of (changed_in (with_node_value value) s key (linked_at s key)) r i c) × Sets (lists_of s r i c) (lists_of (changed_in (with_node_value value) s key (linked_at s key)) r i c) key value
   sets_value s r i c key value is =
       let t = lists_of s r i c in
@@ -90,7 +87,7 @@ module _ {T : Type 0} where
 
   -- ---- no nodes
 
-  pub no_nodes : {S : Type 0} (s : List (Option (Linked T))) (r : Ends) (i c : HashMap ℕ Ends S) → s ≡ [] → r ≡ no_ends → i.entries ≡ [] → c.entries ≡ [] → IsLists (lists_of s r i c)
+  pub no_nodes : (s : List (Option (Linked T))) (r : Ends) (i c : Heads) → s ≡ [] → r ≡ no_ends → i ≡ map.empty → c ≡ map.empty → IsLists (lists_of s r i c)
   unfolding IsDistinct
   no_nodes s r i c slots ends none_i none_c =
       subst (λ x. IsLists (lists_of x r i c)) (sym slots)

@@ -1,7 +1,11 @@
 -- The ends of many lists, each under a number.
-use Rattle.std.specs.Prelude.{ℕ, Option, Some, None, nat_eq}
-use Rattle.std.specs.HashMap.{HashMap, get}
+use Rattle.std.specs.Prelude.{ℕ, Option, Some, None, is_some, if◌then◌else◌}
+use Rattle.std.specs.FinMap as map
+use Rattle.std.specs.Ordering.{nat_cmp}
 use Rattle.cap_arena.specs.declared.nodes.Ends.{Ends}
+
+abbrev pub Heads : Type 0
+Heads = map.FinMap nat_cmp Ends
 
 -- the ends of a list without nodes
 abbrev pub no_ends : Ends
@@ -13,8 +17,8 @@ ends_or_none None = no_ends
 ends_or_none (Some ends) = ends
 
 -- the ends of the list with a number
-abbrev pub ends_at : {S : Type 0} → HashMap ℕ Ends S → ℕ → Ends
-ends_at heads number = ends_or_none (get nat_eq heads number)
+abbrev pub ends_at : Heads → ℕ → Ends
+ends_at heads number = ends_or_none (map.get heads number)
 
 -- the ends, if there is a first node
 abbrev pub kept_if : Option ℕ → Ends → Option Ends
@@ -24,3 +28,11 @@ kept_if (Some key) ends = Some ends
 -- the ends, as they are kept: those of a list without nodes are not
 abbrev pub kept : Ends → Option Ends
 kept ends = kept_if ends.first ends
+
+-- with room for the ends of the list with a number
+abbrev pub with_room : Heads → ℕ → Heads
+with_room heads number = if is_some (map.get heads number) then heads else map.insert heads number no_ends
+
+-- without that room, if the list has no nodes
+abbrev pub without_room : Heads → ℕ → Heads
+without_room heads number = if is_some (ends_at heads number).first then heads else map.remove heads number

@@ -3,7 +3,6 @@ use Rattle.std.specs.Prelude.{◌≡◌, ◌≤◌, ℕ, Bool, true, false, ◌=
 use Rattle.std.specs.Ordering.{nat_cmp}
 use Rattle.std.specs.List.{IsDistinct}
 use Rattle.std.specs.Option.{option_map, option_map_or}
-use Rattle.std.specs.HashMap.{HashMap}
 use Rattle.std.specs.FinMap as map
 use Rattle.capbits.specs.declared.ids.ClientId.{ClientId}
 use Rattle.capbits.specs.declared.ids.Ino.{Ino}
@@ -13,7 +12,7 @@ use Rattle.cap_arena.specs.declared.nodes.Node.{Node}
 use Rattle.cap_arena.specs.declared.nodes.Order.{Order}
 use Rattle.cap_arena.specs.declared.nodes.Order.TheVariants as order
 use Rattle.cap_arena.specs.Places.{linked_at, next_at, previous_at}
-use Rattle.cap_arena.specs.Heads.{no_ends, ends_or_none}
+use Rattle.cap_arena.specs.Heads.{Heads, no_ends, ends_or_none}
 use Rattle.cap_arena.specs.Walks.{is_among, IsWalk}
 
 -- each node with its links, or nothing, at each key from 0 on, and where each list begins and ends
@@ -101,7 +100,5 @@ module _ {T : Type 0} where
 abbrev pub empty : {T : Type 0} → Lists T
 empty = record { slots = []; recall = no_ends; inodes = map.empty; clients = map.empty }
 
--- the same, of heads that are kept by a hash
-abbrev pub lists_of : {T S : Type 0} → List (Option (Linked T)) → Ends → HashMap ℕ Ends S → HashMap ℕ Ends S → Lists T
-lists_of slots recall inodes clients =
-    record { slots = slots; recall = recall; inodes = map.from_entries inodes.entries; clients = map.from_entries clients.entries }
+abbrev pub lists_of : {T : Type 0} → List (Option (Linked T)) → Ends → Heads → Heads → Lists T
+lists_of slots recall inodes clients = record { slots = slots; recall = recall; inodes = inodes; clients = clients }

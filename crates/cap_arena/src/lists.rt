@@ -2,14 +2,14 @@
 ghost use Rattle.std.specs.Prelude.{◌≡◌, ◌+◌, ◌≤◌, Some, None, IsSome, IfOk, OnErr, IfSome, IfNone, slice_get, option_and_then};
 
 use crate::chain::{move_last, next_of};
-use crate::heads::first_in;
+use crate::heads::{Head, first_in};
 use crate::link::LinkWrites;
 use crate::moves::{put_value, take_in, take_out};
 use crate::nodes::{Ends, Linked, Node, Order};
 use capbits::{ClientId, Ino, Refusal};
+use numbered::Numbered;
 use slab::Slab;
 use std::alloc::{AllocError, Global};
-use std::collections::HashMap;
 use std::marker::{Brand, Model};
 use std::sync::ledger::{Blank, Ledger};
 
@@ -24,9 +24,9 @@ pub struct TripleLists<T> {
     nodes: Slab<Linked<T>>,
     recall: Ends,
     // By the inode's number.
-    inodes: HashMap<u64, Ends>,
+    inodes: Numbered<Head>,
     // By the client's number.
-    clients: HashMap<u64, Ends>,
+    clients: Numbered<Head>,
 }
 
 impl<T> Model for TripleLists<T> {
@@ -72,8 +72,8 @@ impl<T: Copy> TripleLists<T> {
         Ok(TripleLists {
             nodes: Slab::new(alloc),
             recall: no_ends::<Brand>(Blank::new(1)),
-            inodes: HashMap::new(alloc),
-            clients: HashMap::new(alloc),
+            inodes: Numbered::new(alloc),
+            clients: Numbered::new(alloc),
         })
     }
 
@@ -102,19 +102,16 @@ impl<T: Copy> TripleLists<T> {
         ensures count { writes.new ≤ writes.old + 12 }
         ensures sound { IsLists self.new }
     {
-        // Room comes first, for the node and for the ends of its lists.
         self.nodes.reserve(1)?;
-        self.inodes.reserve(1)?;
-        self.clients.reserve(1)?;
         let node = Node { client, ino, value };
-        Ok(take_in(
+        take_in(
             &mut self.nodes,
             &mut self.recall,
             &mut self.inodes,
             &mut self.clients,
             node,
             writes,
-        ))
+        )
     }
 
     /// The node with this key.

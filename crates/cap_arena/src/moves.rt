@@ -1,6 +1,5 @@
 //! A node that is taken into all its lists, or out of them, or has another value.
-ghost use Rattle.std.specs.Prelude.{◌≡◌, ◌+◌, ◌<◌, ◌≤◌, Some};
-ghost use Rattle.std.specs.HashMap.{spare};
+ghost use Rattle.std.specs.Prelude.{◌≡◌, ◌+◌, ◌<◌, ◌≤◌, Some, IfOk, OnErr};
 ghost use Rattle.slab.specs.Slab.{HasRoomFor};
 ghost use Rattle.cap_arena.specs.Nodes.{with_node_value};
 ghost use Rattle.cap_arena.specs.Places.{linked_at, changed_in};
@@ -8,31 +7,34 @@ ghost use Rattle.cap_arena.specs.Lists.{IsLists, lists_of, node_at, count};
 ghost use Rattle.cap_arena.specs.Calls.{Adds, Removes};
 
 use crate::chain::{append, unlink};
-use crate::heads::{append_in, last_in, unlink_in};
+use crate::heads::{Head, append_in, last_in, make_rooms, unlink_in};
 use crate::link::LinkWrites;
 use crate::nodes::{Ends, Joint, Linked, Node, Order};
+use numbered::Numbered;
 use slab::Slab;
-use std::collections::HashMap;
+use std::alloc::AllocError;
 use std::sync::ledger::Ledger;
 
-// Takes a node into its three lists, the last one of each, and answers its key. There is room for it.
+// Takes a node, for which there is room, into its three lists, the last one of each, and answers its key. For want of memory for the
+// ends of its lists nothing changes.
 pub(crate) fn take_in<T: Copy, L: Ledger>(
     nodes: &mut Slab<Linked<T>>,
     recall: &mut Ends,
-    inodes: &mut HashMap<u64, Ends>,
-    clients: &mut HashMap<u64, Ends>,
+    inodes: &mut Numbered<Head>,
+    clients: &mut Numbered<Head>,
     node: Node<T>,
     writes: &mut LinkWrites<L>,
-) -> usize
+) -> Result<usize, AllocError>
     requires sound { IsLists (lists_of nodes.old.slots recall.old inodes.old clients.old) }
     requires below { count (lists_of nodes.old.slots recall.old inodes.old clients.old) < 65536 }
     requires slot { HasRoomFor nodes.old 1 }
-    requires inode { 0 < spare inodes.old }
-    requires client { 0 < spare clients.old }
-    ensures added { IsLists (lists_of nodes.new.slots recall.new inodes.new clients.new) × Adds (lists_of nodes.old.slots recall.old inodes.old clients.old) (lists_of nodes.new.slots recall.new inodes.new clients.new) result node }
+    ensures added { IfOk result (λ key. IsLists (lists_of nodes.new.slots recall.new inodes.new clients.new) × Adds (lists_of nodes.old.slots recall.old inodes.old clients.old) (lists_of nodes.new.slots recall.new inodes.new clients.new) key node) }
+    ensures err { OnErr result (lists_of nodes.new.slots recall.new inodes.new clients.new ≡ lists_of nodes.old.slots recall.old inodes.old clients.old) }
+    ensures unwritten { OnErr result (writes.new ≡ writes.old) }
     ensures count { writes.new ≤ writes.old + 12 }
 {
     let (ino, client) = (node.ino.0, node.client.0 as u64);
+    make_rooms(inodes, ino, clients, client)?;
     let linked = Linked {
         node,
         of_ino: Joint::behind(last_in(inodes, ino), writes),
@@ -43,15 +45,15 @@ pub(crate) fn take_in<T: Copy, L: Ledger>(
     append_in(inodes, ino, nodes, Order::Inode, key, writes);
     append_in(clients, client, nodes, Order::Client, key, writes);
     append(nodes, recall, Order::Recall, key, writes);
-    key
+    Ok(key)
 }
 
 // Takes the node out of its three lists. Its key may be given again from then on.
 pub(crate) fn take_out<T: Copy, L: Ledger>(
     nodes: &mut Slab<Linked<T>>,
     recall: &mut Ends,
-    inodes: &mut HashMap<u64, Ends>,
-    clients: &mut HashMap<u64, Ends>,
+    inodes: &mut Numbered<Head>,
+    clients: &mut Numbered<Head>,
     key: usize,
     node: Node<T>,
     writes: &mut LinkWrites<L>,

@@ -1,11 +1,12 @@
 -- What a finite map has at one key and at the others, after a change.
-use Rattle.std.proofs.Common.{◌≡◌, true, false, cond, Some, None, ◌⊎◌, inl, inr, refl, sym, ap, subst, ◌∙◌}
+use Rattle.std.proofs.Common.{◌≡◌, ℕ, Bool, true, false, cond, Option, Some, None, ◌⊎◌, inl, inr, refl, sym, ap, subst, ◌∙◌, nat_eq}
 use Rattle.std.specs.declared.cmp.Ordering.{Ordering}
-use Rattle.std.specs.Cmp.{IsTotalOrder, eq_by_cmp_equiv, Equal-is}
+use Rattle.std.specs.Cmp.{IsTotalOrder, eq_by_cmp_equiv, Equal-is, nat_cmp_total}
 use Rattle.std.specs.FinMap as map
-use Rattle.std.specs.FinMap.{FinMap}
-use Rattle.std.specs.Option.{option_map_or}
-use Rattle.std.specs.Ordering.{eq_by_cmp}
+use Rattle.std.specs.FinMap.{FinMap, nat_cmp-IsAntisymmetric}
+use Rattle.std.specs.Option.{option_map, option_map_or}
+use Rattle.std.specs.Ordering.{eq_by_cmp, nat_cmp}
+use Rattle.std.proofs.lemmas.Bool.{eqb-true, eq-eqb}
 use Rattle.capbits.specs.Maps.{change_at}
 
 module _ {K : Type 0} {R : K → K → Ordering} (o : IsTotalOrder R) (same : map.IsAntisymmetric R) where
@@ -53,9 +54,52 @@ module _ {K : Type 0} {R : K → K → Ordering} (o : IsTotalOrder R) (same : ma
       | inr off ↦ insert-other v q off
     ])
 
+    -- a change that changes nothing
+    pub change-same : (f : X → X) → ((x : X) → f x ≡ x) → change_at f m k ≡ m
+    change-same f stays = elim (map.get m k) as (λ o. map.get m k ≡ o → change_at f m k ≡ m) [
+      | None ↦ λ is. change-none f is
+      | Some x ↦ λ is. change-is f x is ∙ ap (map.insert m k) (stays x) ∙ insert-same x is
+    ] refl
+
     -- a key that was not there is put in and taken out
     pub put_back : (v : X) → map.get m k ≡ None → map.remove (map.insert m k v) k ≡ m
     put_back v none = map.same_map o same _ _ (λ q. elim (same_or_other q k) as (λ _. map.get (map.remove (map.insert m k v) k) q ≡ map.get m q) [
       | inl is ↦ subst (λ x. map.get (map.remove (map.insert m k v) k) x ≡ map.get m x) (sym is) (map.get-remove o (map.insert m k v) k k ∙ ap (λ b. cond b None (map.get (map.insert m k v) k)) (tied_here k) ∙ sym none)
       | inr off ↦ map.get-remove o (map.insert m k v) k q ∙ ap (λ b. cond b None (map.get (map.insert m k v) q)) (apart q k off) ∙ insert-other v q off
     ])
+
+-- ---- by numbers
+
+tied_alike : (k q : ℕ) → eq_by_cmp nat_cmp q k ≡ nat_eq k q
+tied_alike k q = both (eq_by_cmp nat_cmp q k) (nat_eq k q) refl refl
+  where
+    both : (x y : Bool) → eq_by_cmp nat_cmp q k ≡ x → nat_eq k q ≡ y → x ≡ y
+    both true true e f = refl
+    both false false e f = refl
+    both true false e f = sym (eq-eqb k q (sym (tied nat_cmp_total nat_cmp-IsAntisymmetric q k e))) ∙ f
+    both false true e f = sym e ∙ ap (eq_by_cmp nat_cmp q) (eqb-true k q f) ∙ tied_here nat_cmp_total nat_cmp-IsAntisymmetric q
+
+module _ {X : Type 0} (m : FinMap nat_cmp X) (k q : ℕ) where
+  pub insert-at : (v : X) → map.get (map.insert m k v) q ≡ cond (nat_eq k q) (Some v) (map.get m q)
+  insert-at v = map.get-insert nat_cmp_total m k v q ∙ ap (λ b. cond b (Some v) (map.get m q)) (tied_alike k q)
+
+  pub remove-at : map.get (map.remove m k) q ≡ cond (nat_eq k q) None (map.get m q)
+  remove-at = map.get-remove nat_cmp_total m k q ∙ ap (λ b. cond b None (map.get m q)) (tied_alike k q)
+
+  pub change-at : (f : X → X) → map.get (change_at f m k) q ≡ cond (nat_eq k q) (option_map f (map.get m q)) (map.get m q)
+  change-at f = by_case (map.get m k) refl
+    where
+      here : (o : Option X) → map.get m k ≡ o → nat_eq k q ≡ true → map.get m q ≡ o
+      here o is e = ap (map.get m) (sym (eqb-true k q e)) ∙ is
+
+      none : (b : Bool) → nat_eq k q ≡ b → map.get m k ≡ None → map.get m q ≡ cond b (option_map f (map.get m q)) (map.get m q)
+      none true e is = here None is e ∙ ap (option_map f) (sym (here None is e))
+      none false e is = refl
+
+      some : (b : Bool) (x : X) → nat_eq k q ≡ b → map.get m k ≡ Some x → cond b (Some (f x)) (map.get m q) ≡ cond b (option_map f (map.get m q)) (map.get m q)
+      some true x e is = ap (option_map f) (sym (here (Some x) is e))
+      some false x e is = refl
+
+      by_case : (o : Option X) → map.get m k ≡ o → map.get (change_at f m k) q ≡ cond (nat_eq k q) (option_map f (map.get m q)) (map.get m q)
+      by_case None is = ap (λ n. map.get n q) (change-none nat_cmp_total nat_cmp-IsAntisymmetric m k f is) ∙ none (nat_eq k q) refl is
+      by_case (Some x) is = ap (λ n. map.get n q) (change-is nat_cmp_total nat_cmp-IsAntisymmetric m k f x is) ∙ insert-at (f x) ∙ some (nat_eq k q) x refl is

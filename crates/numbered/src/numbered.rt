@@ -73,18 +73,18 @@ impl<T: Drop> Numbered<T> {
                 self.rows[place] = Row { number, value };
                 Ok(())
             }
-            None => self.add(Row { number, value }),
+            None => self.add(number, value),
         }
     }
 
-    // Puts in a row whose number no other has.
-    fn add(&mut self, row: Row<T>) -> Result<(), AllocError>
-        requires absent { map.get self.old row.number ≡ None }
-        ensures ok { OnOk result (self.new ≡ map.insert self.old row.number row.value) }
+    /// Puts a value under a number that has none, which is not looked for again. For want of memory nothing changes.
+    pub fn add(&mut self, number: u64, value: T) -> Result<(), AllocError>
+        requires absent { map.get self.old number ≡ None }
+        ensures ok { OnOk result (self.new ≡ map.insert self.old number value) }
         ensures err { OnErr result (self.new ≡ self.old) }
     {
-        let (number, place) = (row.number, self.rows.len());
-        add(&mut self.places, &mut self.rows, row)?;
+        let place = self.rows.len();
+        add(&mut self.places, &mut self.rows, Row { number, value })?;
         self.guesses.grow(&self.rows);
         self.guesses.note(number, place);
         Ok(())

@@ -1,12 +1,20 @@
-use Rattle.std.proofs.Common.{None, ap, ◌∙◌, refl}
+use Rattle.std.proofs.Common.{None, IsSome, sym, ap, subst, ◌∙◌, refl}
+use Rattle.std.specs.FinMap as map
+use Rattle.cap_arena.proofs.HeadMaps.{room_there}
 use Rattle.cap_arena.proofs.Additions.{added}
 use Rattle.cap_arena.proofs.moves.take_in.Goals as goal
+
+pub append_in-requires : goal.append_in-requires
+append_in-requires g c = subst (λ m. IsSome (map.get m c.args.node.ino.0)) (sym c.in_ok-make_rooms.ensures.ok.0) (room_there c.args.inodes.now c.args.node.ino.0)
+
+pub append_in-requires-2 : goal.append_in-requires-2
+append_in-requires-2 g c = subst (λ m. IsSome (map.get m c.args.node.client.0)) (sym c.in_ok-make_rooms.ensures.ok.1) (room_there c.args.clients.now c.args.node.client.0)
 
 pub returns-clause-added : goal.returns-clause-added
 returns-clause-added g c =
     let s = c.args.nodes.now.slots in
     let key = c.insert_reserved-key.result in
-    let a = added s c.args.recall.now c.args.inodes.now c.args.inodes.now c.append_in.new.heads c.args.clients.now c.args.clients.now c.append_in-2.new.heads key c.args.node
+    let a = added s c.args.recall.now c.args.inodes.now c.make_rooms.new.inodes c.append_in.new.heads c.args.clients.now c.make_rooms.new.clients c.append_in-2.new.heads key c.args.node
     c.insert_reserved-key.new.self.slots c.append_in.new.nodes.slots c.append_in-2.new.nodes.slots c.append.new.nodes.slots c.append.new.ends c.requires.sound c.requires.below
     record {
       linked = record { node = c.args.node; of_ino = c.behind.result; of_client = c.behind-2.result; recall = c.behind-3.result };
@@ -22,7 +30,7 @@ returns-clause-added g c =
       third = ap (λ n. n.slots) c.append_in-2.ensures.nodes;
       fourth = ap (λ n. n.slots) c.append.ensures.nodes;
     }
-    record { reserved = λ q. refl; updated = c.append_in.ensures.heads }
-    record { reserved = λ q. refl; updated = c.append_in-2.ensures.heads }
+    record { reserved = c.in_ok-make_rooms.ensures.ok.0; updated = c.append_in.ensures.heads }
+    record { reserved = c.in_ok-make_rooms.ensures.ok.1; updated = c.append_in-2.ensures.heads }
     c.append.ensures.ends in
     (a.sound, a.adds)
