@@ -1,5 +1,5 @@
 -- The counts that are kept, after a change of the nodes.
-use Rattle.std.proofs.Common.{◌≡◌, ℕ, Bool, true, false, cond, Some, is_some, slice_get, filter, sym, ap, subst, ◌∙◌}
+use Rattle.std.proofs.Common.{◌≡◌, ℕ, Bool, true, false, cond, Option, Some, is_some, slice_get, filter, sym, ap, subst, ◌∙◌}
 use Rattle.std.specs.HashMap.{HashMap, get}
 use Rattle.std.specs.Option.{option_map, option_map_or}
 use Rattle.std.proofs.lemmas.Bool.{eq-eqb}
@@ -15,8 +15,9 @@ use Rattle.captable.specs.Table.{Table, same, is_row_of}
 use Rattle.captable.specs.Calls.{changed, without, is_of_client, is_due_entry}
 use Rattle.captable.specs.Nodes.{holder_of, table_of}
 use Rattle.captable.specs.Kept.{Kept}
-use Rattle.captable.specs.Places.{same_client, is_due_at, ArePlaced, left}
-use Rattle.captable.specs.Counts.{AreCounted, recounted}
+use Rattle.captable.specs.Places.{same_client, is_due_at, ArePlaced}
+use Rattle.captable.specs.Polls.{AreCounted, recounted}
+use Rattle.captable.proofs.Polled.{left}
 use Rattle.captable.proofs.ByHolder.{row_of-entry}
 use Rattle.captable.proofs.Counting.{counted-set, counted-without, counted-ended, no_entry}
 use Rattle.captable.proofs.Keeping.{is_in}
@@ -24,10 +25,10 @@ use Rattle.captable.proofs.Placed.{has-first}
 use Rattle.captable.proofs.Reading.{entry-found}
 use Rattle.std.specs.List.{find}
 
-module _ {S T : Type 0} (t t' : Lists Slot) (hs : HashMap Holder ℕ S) (made : ℕ) (h : Holder) (key : ℕ) (is_kept : Kept t hs made) (found : get same hs h ≡ Some key)
-    (n : Node Slot) (there : node_at t key ≡ Some n) (own : holder_of n ≡ h) (kept kept' : HashMap ClientId ℕ T) (was is : Bool) (was_is : was ≡ is_due_at t key)
+module _ {S : Type 0} (t t' : Lists Slot) (hs : HashMap Holder ℕ S) (made : ℕ) (h : Holder) (key : ℕ) (is_kept : Kept t hs made) (found : get same hs h ≡ Some key)
+    (n : Node Slot) (there : node_at t key ≡ Some n) (own : holder_of n ≡ h) (kept kept' : ClientId → Option ℕ) (was is : Bool) (was_is : was ≡ is_due_at t key)
     (placed : ArePlaced t kept)
-    (updates : (q : ClientId) → get same_client kept' q ≡ cond (same_client h.client q) (option_map (recounted was is) (get same_client kept q)) (get same_client kept q))
+    (updates : (q : ClientId) → kept' q ≡ cond (same_client h.client q) (option_map (recounted was is) (kept q)) (kept q))
     (all : AreCounted (table_of t made).rows kept) where
   abbrev row : EntryRow
   row = record { holder = h; entry = n.value.entry }
@@ -38,7 +39,7 @@ module _ {S T : Type 0} (t t' : Lists Slot) (hs : HashMap Holder ℕ S) (made : 
   was-due : is_due_entry n.value.entry ≡ was
   was-due = sym (was_is ∙ ap (λ o. option_map_or (λ (node : Node Slot). is_due_entry node.value.entry) o false) there)
 
-  counted : is_some (get same_client kept h.client) ≡ true
+  counted : is_some (kept h.client) ≡ true
   counted =
       let listed : is_among (keys t (OfClient h.client)) key ≡ true = is_in t is_kept.sound (OfClient h.client) key n there (eq-eqb n.client.0 h.client.0 (ap (λ (k : Holder). k.client.0) own)) in
       placed h.client ∙ has-first (keys t (OfClient h.client)) key listed
@@ -51,8 +52,8 @@ module _ {S T : Type 0} (t t' : Lists Slot) (hs : HashMap Holder ℕ S) (made : 
 
   -- the holder has none any more, and the count goes with the client's last
   pub counted-gone : {S' : Type 0} (hs' : HashMap Holder ℕ S') → is ≡ false → table_of t' made ≡ without (table_of t made) h → Kept t' hs' made
-      → (kept'' : HashMap ClientId ℕ T)
-      → ((q : ClientId) → get same_client kept'' q ≡ cond (same_client h.client q) (left (slice_get (keys t' (OfClient h.client)) 0) (get same_client kept' q)) (get same_client kept' q))
+      → (kept'' : ClientId → Option ℕ)
+      → ((q : ClientId) → kept'' q ≡ cond (same_client h.client q) (left (slice_get (keys t' (OfClient h.client)) 0) (kept' q)) (kept' q))
       → AreCounted (table_of t' made).rows kept''
   counted-gone hs' gone table is_kept' kept'' ends =
       let again : AreCounted (table_of t' made).rows kept' =

@@ -1,8 +1,6 @@
 -- How many entries of a client are due, after a change of one entry.
 use Rattle.std.proofs.Common.{◌≡◌, ◌≤◌, ◌<◌, ℕ, ◌+◌, Bool, true, false, not, cond, ◌&&◌, Option, Some, None, List, [], ◌∷◌, ◌++◌, is_some, slice_get, nat_eq, ◌||◌, map, length, filter, refl, sym, ap, subst, ◌∙◌, arith}
 use Rattle.std.specs.Prelude.{IfSome}
-use Rattle.std.specs.HashMap.{HashMap, get}
-use Rattle.std.specs.Map.{lookup}
 use Rattle.std.specs.Option.{option_map, option_map_or, unwrap_or}
 use Rattle.std.proofs.lemmas.Bool.{eqb-true}
 use Rattle.std.proofs.lemmas.List.{nil_from_length}
@@ -19,8 +17,9 @@ use Rattle.captable.specs.declared.entry.Holder.{Holder}
 use Rattle.captable.specs.Table.{same, is_row_of, holders_of_rows}
 use Rattle.captable.specs.Calls.{change_rows, is_of_client, is_due, is_due_entry}
 use Rattle.captable.specs.Nodes.{row_of, with_first, nodes_at, nodes_in}
-use Rattle.captable.specs.Places.{same_client, is_due_at, IsQuiet, left}
-use Rattle.captable.specs.Counts.{due_count, AreCounted, begun_count, recounted}
+use Rattle.captable.specs.Places.{same_client, is_due_at, IsQuiet}
+use Rattle.captable.specs.Polls.{due_count, AreCounted, recounted}
+use Rattle.captable.proofs.Polled.{begun_at, left}
 use Rattle.captable.proofs.Quiet.{clients-same}
 use Rattle.captable.proofs.Searches.{find_passes}
 use Rattle.captable.proofs.Tables.{same-is}
@@ -108,9 +107,9 @@ few client rows =
     omega (arith, length-filter is_due own, count_by-le-length is_due own, length-filter (is_of_client client) rows, count_by-le-length (is_of_client client) rows)
 
 -- a count can rise
-pub count-fits : {S : Type 0} (rows : List EntryRow) (kept : HashMap ClientId ℕ S) → length rows ≤ 65536 → AreCounted rows kept → (client : ClientId)
-    → IfSome (get same_client kept client) (λ n. n < 18446744073709551615)
-count-fits rows kept room all client = by_case (get same_client kept client) (all client)
+pub count-fits : (rows : List EntryRow) (kept : ClientId → Option ℕ) → length rows ≤ 65536 → AreCounted rows kept → (client : ClientId)
+    → IfSome (kept client) (λ n. n < 18446744073709551615)
+count-fits rows kept room all client = by_case (kept client) (all client)
   where
     by_case : (o : Option ℕ) → unwrap_or o 0 ≡ due_count client rows → IfSome o (λ n. n < 18446744073709551615)
     by_case None is = tt
@@ -126,9 +125,9 @@ recounts true true n d d' same change = omega (arith, same, change)
 owner : (k : Holder) (row : EntryRow) → is_row_of k row ≡ true → (q : ClientId) → is_of_client q row ≡ same_client k.client q
 owner k row is q = ap (λ (h : Holder). same_client h.client q) (sym (same-is k row.holder is))
 
-module _ {S : Type 0} (rows : List EntryRow) (k : Holder) (row : EntryRow) (found : find (is_row_of k) rows ≡ Some row) (kept kept' : HashMap ClientId ℕ S) (was is : Bool)
-    (due : is_due row ≡ was) (there : is_some (get same_client kept k.client) ≡ true)
-    (updates : (q : ClientId) → get same_client kept' q ≡ cond (same_client k.client q) (option_map (recounted was is) (get same_client kept q)) (get same_client kept q))
+module _ (rows : List EntryRow) (k : Holder) (row : EntryRow) (found : find (is_row_of k) rows ≡ Some row) (kept kept' : ClientId → Option ℕ) (was is : Bool)
+    (due : is_due row ≡ was) (there : is_some (kept k.client) ≡ true)
+    (updates : (q : ClientId) → kept' q ≡ cond (same_client k.client q) (option_map (recounted was is) (kept q)) (kept q))
     (all : AreCounted rows kept) where
   mine : is_row_of k row ≡ true
   mine = find_passes (is_row_of k) rows row found
@@ -136,7 +135,7 @@ module _ {S : Type 0} (rows : List EntryRow) (k : Holder) (row : EntryRow) (foun
   -- what is kept of one client, where its entries became these
   kept-again : (rows' : List EntryRow) (q : ClientId)
       → due_count q rows' + bit (same_client k.client q && was) ≡ due_count q rows + bit (same_client k.client q && is)
-      → unwrap_or (get same_client kept' q) 0 ≡ due_count q rows'
+      → unwrap_or (kept' q) 0 ≡ due_count q rows'
   kept-again rows' q change = ap (λ o. unwrap_or o 0) (updates q) ∙ by_test (same_client k.client q) refl change
     where
       own : (o : Option ℕ) → is_some o ≡ true → unwrap_or o 0 ≡ due_count q rows → due_count q rows' + bit was ≡ due_count q rows + bit is → unwrap_or (option_map (recounted was is) o) 0 ≡ due_count q rows'
@@ -144,9 +143,9 @@ module _ {S : Type 0} (rows : List EntryRow) (k : Holder) (row : EntryRow) (foun
       own (Some n) some same change = recounts was is n (due_count q rows) (due_count q rows') same change
 
       by_test : (b : Bool) → same_client k.client q ≡ b → due_count q rows' + bit (b && was) ≡ due_count q rows + bit (b && is)
-          → unwrap_or (cond b (option_map (recounted was is) (get same_client kept q)) (get same_client kept q)) 0 ≡ due_count q rows'
+          → unwrap_or (cond b (option_map (recounted was is) (kept q)) (kept q)) 0 ≡ due_count q rows'
       by_test false other change = omega (arith, all q, change)
-      by_test true same change = own (get same_client kept q) (ap (λ c. is_some (get same_client kept c)) (sym (clients-same k.client q same)) ∙ there) (all q) change
+      by_test true same change = own (kept q) (ap (λ c. is_some (kept c)) (sym (clients-same k.client q same)) ∙ there) (all q) change
 
   -- the holder has another entry
   pub counted-set : (x : Entry) → is_due_entry x ≡ is → AreCounted (change_rows rows k (λ _. x)) kept'
@@ -170,41 +169,37 @@ module _ {S : Type 0} (rows : List EntryRow) (k : Holder) (row : EntryRow) (foun
       never false = refl
 
 -- one more, which is not due
-pub counted-more : {S : Type 0} (rows : List EntryRow) (row : EntryRow) (client : ClientId) (kept kept' : HashMap ClientId ℕ S) → is_due row ≡ false
-    → ((q : ClientId) → get same_client kept' q ≡ cond (same_client client q) (begun_count (get same_client kept q)) (get same_client kept q))
+pub counted-more : (rows : List EntryRow) (row : EntryRow) (client : ClientId) (kept kept' : ClientId → Option ℕ) → is_due row ≡ false
+    → ((q : ClientId) → kept' q ≡ cond (same_client client q) (begun_at 0 (kept q)) (kept q))
     → AreCounted rows kept → AreCounted (rows ++ row ∷ []) kept'
 counted-more rows row client kept kept' not_due updates all q =
     let none : bit (counts q row) ≡ 0 = ap (λ b. bit (is_of_client q row && b)) not_due ∙ never (is_of_client q row) in
-    ap (λ o. unwrap_or o 0) (updates q) ∙ begun (same_client client q) (get same_client kept q) ∙ omega (arith, all q, count-more q rows row, none)
+    ap (λ o. unwrap_or o 0) (updates q) ∙ begun (same_client client q) (kept q) ∙ omega (arith, all q, count-more q rows row, none)
   where
     never : (b : Bool) → bit (b && false) ≡ 0
     never true = refl
     never false = refl
 
-    begun : (b : Bool) (o : Option ℕ) → unwrap_or (cond b (begun_count o) o) 0 ≡ unwrap_or o 0
+    begun : (b : Bool) (o : Option ℕ) → unwrap_or (cond b (begun_at 0 o) o) 0 ≡ unwrap_or o 0
     begun true None = refl
     begun true (Some n) = refl
     begun false o = refl
 
-pub begun_count-there : (o : Option ℕ) → is_some (begun_count o) ≡ true
-begun_count-there None = refl
-begun_count-there (Some n) = refl
-
 -- ---- the same, and none
 
-pub counted-same : {S : Type 0} (rows : List EntryRow) (kept kept' : HashMap ClientId ℕ S) → ((q : ClientId) → get same_client kept' q ≡ get same_client kept q) → AreCounted rows kept → AreCounted rows kept'
+pub counted-same : (rows : List EntryRow) (kept kept' : ClientId → Option ℕ) → ((q : ClientId) → kept' q ≡ kept q) → AreCounted rows kept → AreCounted rows kept'
 counted-same rows kept kept' same all q = ap (λ o. unwrap_or o 0) (same q) ∙ all q
 
-pub AreCounted-empty : {S : Type 0} (rows : List EntryRow) (kept : HashMap ClientId ℕ S) → rows ≡ [] → kept.entries ≡ [] → AreCounted rows kept
-AreCounted-empty rows kept no_rows none q = ap (λ es. unwrap_or (lookup (same_client q) es) 0) none ∙ ap (due_count q) (sym no_rows)
+pub AreCounted-empty : (rows : List EntryRow) (kept : ClientId → Option ℕ) → rows ≡ [] → ((q : ClientId) → kept q ≡ None) → AreCounted rows kept
+AreCounted-empty rows kept no_rows none q = ap (λ o. unwrap_or o 0) (none q) ∙ ap (due_count q) (sym no_rows)
 
 -- the count of a client without entries goes
-pub counted-ended : {S : Type 0} (rows : List EntryRow) (client : ClientId) (first : Option ℕ) (kept kept' : HashMap ClientId ℕ S)
-    → ((q : ClientId) → get same_client kept' q ≡ cond (same_client client q) (left first (get same_client kept q)) (get same_client kept q))
+pub counted-ended : (rows : List EntryRow) (client : ClientId) (first : Option ℕ) (kept kept' : ClientId → Option ℕ)
+    → ((q : ClientId) → kept' q ≡ cond (same_client client q) (left first (kept q)) (kept q))
     → (first ≡ None → filter (is_of_client client) rows ≡ []) → AreCounted rows kept → AreCounted rows kept'
 counted-ended rows client first kept kept' ends none all q = ap (λ o. unwrap_or o 0) (ends q) ∙ by_test (same_client client q) refl first refl
   where
-    by_test : (b : Bool) → same_client client q ≡ b → (o : Option ℕ) → first ≡ o → unwrap_or (cond b (left o (get same_client kept q)) (get same_client kept q)) 0 ≡ due_count q rows
+    by_test : (b : Bool) → same_client client q ≡ b → (o : Option ℕ) → first ≡ o → unwrap_or (cond b (left o (kept q)) (kept q)) 0 ≡ due_count q rows
     by_test false other o is = all q
     by_test true same (Some key) is = all q
     by_test true same None is = ap (λ own. length (filter is_due own)) (sym (none is)) ∙ ap (λ c. due_count c rows) (clients-same client q same)

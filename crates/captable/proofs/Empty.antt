@@ -13,7 +13,7 @@ use Rattle.captable.specs.declared.entry.Holder.{Holder}
 use Rattle.captable.specs.declared.entry.Slot.{Slot}
 use Rattle.captable.specs.Table.{same}
 use Rattle.captable.specs.Kept.{Kept}
-use Rattle.captable.specs.Places.{same_client, AreQuiet}
+use Rattle.captable.specs.Places.{AreQuiet}
 use Rattle.captable.proofs.Tables.{IsTable-empty}
 
 no_ends_at : (number : ℕ) → map.get (map.empty {X = Ends} {R = nat_cmp}) number ≡ None
@@ -51,5 +51,5 @@ Kept-empty t hs nodes keys =
       };
     }
 
-pub AreQuiet-empty : {S : Type 0} (t : Lists Slot) (places : HashMap ClientId (Option ℕ) S) → places.entries ≡ [] → AreQuiet t places
-AreQuiet-empty t places none client place e = absurd (let n : None ≡ Some place = sym (ap (lookup (same_client client)) none) ∙ e in cc)
+pub AreQuiet-empty : (t : Lists Slot) (places : ClientId → Option (Option ℕ)) → ((q : ClientId) → places q ≡ None) → AreQuiet t places
+AreQuiet-empty t places none client place e = absurd (let n : None ≡ Some place = sym (none client) ∙ e in cc)

@@ -13,6 +13,7 @@ pub mod OneByOne
 pub mod Opening
 pub mod Orders
 pub mod Placed
+pub mod Polled
 pub mod Quiet
 pub mod QuietKeys
 pub mod Reading

@@ -1,7 +1,6 @@
 -- The places that are kept, after a change of the nodes or of the places.
 use Rattle.std.proofs.Common.{◌≡◌, ◌<◌, ℕ, Bool, true, false, cond, Option, Some, None, [], ◌∷◌, ◌++◌, refl, sym, ap, subst, ◌∙◌, arith, length, nat_eq}
 use Rattle.std.specs.Option.{option_map, option_map_or, option_and_then}
-use Rattle.std.specs.HashMap.{HashMap, get}
 use Rattle.std.proofs.lemmas.Bool.{eq-eqb, eqb-true}
 use Rattle.capbits.specs.declared.ids.ClientId.{ClientId}
 use Rattle.cap_arena.specs.declared.nodes.Node.{Node}
@@ -40,19 +39,19 @@ changed-place f (Some was) place e = (was, refl, let is : f was ≡ place = cc i
 -- ---- another place
 
 -- one client has another place, which is quiet
-pub quiet-put : {S : Type 0} (places places' : HashMap ClientId (Option ℕ) S) (t : Lists Slot) (client : ClientId) (at : Option ℕ)
-    → ((q : ClientId) → get same_client places' q ≡ cond (same_client client q) (option_map (λ _. at) (get same_client places q)) (get same_client places q)) → IsQuiet t client at → AreQuiet t places → AreQuiet t places'
+pub quiet-put : (places places' : ClientId → Option (Option ℕ)) (t : Lists Slot) (client : ClientId) (at : Option ℕ)
+    → ((q : ClientId) → places' q ≡ cond (same_client client q) (option_map (λ _. at) (places q)) (places q)) → IsQuiet t client at → AreQuiet t places → AreQuiet t places'
 quiet-put places places' t client at updates own all q place e = by_test (same_client client q) refl (sym (updates q) ∙ e)
   where
-    by_test : (b : Bool) → same_client client q ≡ b → cond b (option_map (λ _. at) (get same_client places q)) (get same_client places q) ≡ Some place → IsQuiet t q place
+    by_test : (b : Bool) → same_client client q ≡ b → cond b (option_map (λ _. at) (places q)) (places q) ≡ Some place → IsQuiet t q place
     by_test true same e =
-        let is : at ≡ place = (changed-place (λ _. at) (get same_client places q) place e).2 in
+        let is : at ≡ place = (changed-place (λ _. at) (places q) place e).2 in
         subst (IsQuiet t q) is (subst (λ c. IsQuiet t c at) (clients-same client q same) own)
     by_test false other e = all q place e
 
 -- ---- another entry
 
-module _ {S : Type 0} (t t' : Lists Slot) (key : ℕ) (x : Entry) (sets : SetsEntry t t' key x) (places : HashMap ClientId (Option ℕ) S) (all : AreQuiet t places) where
+module _ (t t' : Lists Slot) (key : ℕ) (x : Entry) (sets : SetsEntry t t' key x) (places : ClientId → Option (Option ℕ)) (all : AreQuiet t places) where
   due-others : (k : ℕ) → nat_eq k key ≡ false → is_due_at t' k ≡ true → is_due_at t k ≡ true
   due-others k other is = sym (ap due_of (sets.nodes k ∙ ap (λ b. cond b (option_map (with_entry x) (node_at t k)) (node_at t k)) other)) ∙ is
 
@@ -74,7 +73,7 @@ module _ {S : Type 0} (t t' : Lists Slot) (key : ℕ) (x : Entry) (sets : SetsEn
 
   -- which is due: the place of its client is lowered
   pub quiet-due : (sound : IsLists t) (order : (client : ClientId) → AreInOrder (number_at t') (keys t' (OfClient client))) (client : ClientId) (n : Node Slot) → node_at t key ≡ Some n → n.client ≡ client
-      → (places' : HashMap ClientId (Option ℕ) S) → ((q : ClientId) → get same_client places' q ≡ cond (same_client client q) (option_map (lowered t' key) (get same_client places q)) (get same_client places q))
+      → (places' : ClientId → Option (Option ℕ)) → ((q : ClientId) → places' q ≡ cond (same_client client q) (option_map (lowered t' key) (places q)) (places q))
       → AreQuiet t' places'
   quiet-due sound order client n there of places' updates q place e = by_client (same_client client q) refl (sym (updates q) ∙ e)
     where
@@ -83,12 +82,12 @@ module _ {S : Type 0} (t t' : Lists Slot) (key : ℕ) (x : Entry) (sets : SetsEn
           absurd (elsewhere t sound key n there client q of other (ap (is_among (keys t (OfClient q))) (sym (eqb-true k key same)) ∙ listed))
       others other k listed is false apart = due-others k apart is
 
-      by_client : (b : Bool) → same_client client q ≡ b → cond b (option_map (lowered t' key) (get same_client places q)) (get same_client places q) ≡ Some place → IsQuiet t' q place
+      by_client : (b : Bool) → same_client client q ≡ b → cond b (option_map (lowered t' key) (places q)) (places q) ≡ Some place → IsQuiet t' q place
       by_client false other e =
           subst (λ ks. IsQuietIn ks (is_due_at t') place) (sym (sets.lists (OfClient q)))
           (quiet-fewer (keys t (OfClient q)) (is_due_at t) (is_due_at t') place (λ k listed is. others other k listed is (nat_eq k key) refl) (all q place e))
       by_client true same e =
-          let o = changed-place (lowered t' key) (get same_client places q) place e in
+          let o = changed-place (lowered t' key) (places q) place e in
           let own : belongs (OfClient q) n ≡ true = ap (λ c. same_client c q) of ∙ same in
           let listed : is_among (keys t (OfClient q)) key ≡ true = is_in t sound (OfClient q) key n there own in
           let ordered : AreInOrder (number_at t') (keys t (OfClient q)) = subst (AreInOrder (number_at t')) (sets.lists (OfClient q)) (order q) in
@@ -98,7 +97,7 @@ module _ {S : Type 0} (t t' : Lists Slot) (key : ℕ) (x : Entry) (sets : SetsEn
 
 -- ---- one node more, whose entry is not due
 
-pub quiet-added : {S : Type 0} (t t' : Lists Slot) (key : ℕ) (x : Node Slot) → Adds t t' key x → is_due_entry x.value.entry ≡ false → (places : HashMap ClientId (Option ℕ) S) → AreQuiet t places → AreQuiet t' places
+pub quiet-added : (t t' : Lists Slot) (key : ℕ) (x : Node Slot) → Adds t t' key x → is_due_entry x.value.entry ≡ false → (places : ClientId → Option (Option ℕ)) → AreQuiet t places → AreQuiet t' places
 quiet-added t t' key x adds not_due places all client place e =
     subst (λ ks. IsQuietIn ks (is_due_at t') place) (sym (adds.lists (OfClient client))) (by_test (belongs (OfClient client) x))
   where
@@ -118,9 +117,9 @@ quiet-added t t' key x adds not_due places all client place e =
 
 -- ---- one node less
 
-pub quiet-removed : {S : Type 0} (t t' : Lists Slot) (key : ℕ) → Removes t t' key → IsLists t → (client : ClientId) (n : Node Slot) → node_at t key ≡ Some n → n.client ≡ client
+pub quiet-removed : (t t' : Lists Slot) (key : ℕ) → Removes t t' key → IsLists t → (client : ClientId) (n : Node Slot) → node_at t key ≡ Some n → n.client ≡ client
     → (next : Option ℕ) → next ≡ key_after (keys t (OfClient client)) key
-    → (places places' : HashMap ClientId (Option ℕ) S) → ((q : ClientId) → get same_client places' q ≡ cond (same_client client q) (option_map (moved_on key next) (get same_client places q)) (get same_client places q))
+    → (places places' : ClientId → Option (Option ℕ)) → ((q : ClientId) → places' q ≡ cond (same_client client q) (option_map (moved_on key next) (places q)) (places q))
     → AreQuiet t places → AreQuiet t' places'
 quiet-removed t t' key removes sound client n there of next next_is places places' updates all q place e =
     subst (λ ks. IsQuietIn ks (is_due_at t') place) (sym (removes.lists (OfClient q))) (by_client (same_client client q) refl (sym (updates q) ∙ e))
@@ -132,7 +131,7 @@ quiet-removed t t' key removes sound client n there of next next_is places place
     was k is true e = absurd (let out : is_due_at t' k ≡ false = gone k e in cc)
     was k is false e = sym (ap due_of (removes.nodes k ∙ ap (λ b. cond b None (node_at t k)) e)) ∙ is
 
-    before : (p : Option ℕ) → get same_client places q ≡ Some p → IsQuietIn (keys t (OfClient q)) (is_due_at t') p
+    before : (p : Option ℕ) → places q ≡ Some p → IsQuietIn (keys t (OfClient q)) (is_due_at t') p
     before p e = quiet-fewer (keys t (OfClient q)) (is_due_at t) (is_due_at t') p (λ k listed is. was k is (nat_eq k key) refl) (all q p e)
 
     -- the place of another client is not the node's
@@ -146,11 +145,11 @@ quiet-removed t t' key removes sound client n there of next next_is places place
         by_test true e = absurd (elsewhere t sound key n there client q of other (ap (is_among (keys t (OfClient q))) (eqb-true key i e) ∙ listed))
         by_test false e = refl
 
-    by_client : (b : Bool) → same_client client q ≡ b → cond b (option_map (moved_on key next) (get same_client places q)) (get same_client places q) ≡ Some place
+    by_client : (b : Bool) → same_client client q ≡ b → cond b (option_map (moved_on key next) (places q)) (places q) ≡ Some place
         → IsQuietIn (keys_without (keys t (OfClient q)) key) (is_due_at t') place
     by_client false other e = quiet-left (keys t (OfClient q)) (is_due_at t') key place (apart other place (before place e)) (before place e)
     by_client true same e =
-        let o = changed-place (moved_on key next) (get same_client places q) place e in
+        let o = changed-place (moved_on key next) (places q) place e in
         let next_of : next ≡ key_after (keys t (OfClient q)) key = next_is ∙ ap (λ c. key_after (keys t (OfClient c)) key) (clients-same client q same) in
         let is : moved_on key (key_after (keys t (OfClient q)) key) o.0 ≡ place = ap (λ m. moved_on key m o.0) (sym next_of) ∙ o.2 in
         subst (IsQuietIn (keys_without (keys t (OfClient q)) key) (is_due_at t')) is
@@ -158,7 +157,7 @@ quiet-removed t t' key removes sound client n there of next next_is places place
 
 -- ---- a node that comes last in the order of recall
 
-pub quiet-touched : {S : Type 0} (t t' : Lists Slot) (key : ℕ) → Touches t t' key → (places : HashMap ClientId (Option ℕ) S) → AreQuiet t places → AreQuiet t' places
+pub quiet-touched : (t t' : Lists Slot) (key : ℕ) → Touches t t' key → (places : ClientId → Option (Option ℕ)) → AreQuiet t places → AreQuiet t' places
 quiet-touched t t' key touches places all client place e =
     subst (λ ks. IsQuietIn ks (is_due_at t') place) (sym (touches.clients client))
     (quiet-fewer (keys t (OfClient client)) (is_due_at t) (is_due_at t') place (λ k there is. sym (ap due_of (touches.nodes k)) ∙ is) (all client place e))

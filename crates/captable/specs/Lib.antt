@@ -1,11 +1,11 @@
 pub mod Table
 pub mod Calls
 pub mod Codes
-pub mod Counts
 pub mod Kept
 pub mod Many
 pub mod Nodes
 pub mod Places
+pub mod Polls
 pub mod Shown
 pub mod Tests
 pub mod Walks

@@ -1,7 +1,6 @@
 -- Places in the lists of clients, before which no entry is due.
 use Rattle.std.specs.Prelude.{◌≡◌, ◌<◌, ℕ, Bool, true, false, ◌==◌, Option, Some, None, List, nat_eq, nat_lt, is_some, slice_get, if◌then◌else◌}
 use Rattle.std.specs.Option.{option_map_or}
-use Rattle.std.specs.HashMap.{HashMap, get}
 use Rattle.capbits.specs.declared.ids.ClientId.{ClientId}
 use Rattle.cap_arena.specs.declared.nodes.Node.{Node}
 use Rattle.cap_arena.specs.Walks.{is_among}
@@ -39,12 +38,12 @@ abbrev pub IsQuiet : Lists Slot → ClientId → Option ℕ → Type 0
 IsQuiet lists client place = IsQuietIn (keys lists (OfClient client)) (is_due_at lists) place
 
 -- so it is of each place that is kept
-abbrev pub AreQuiet : {S : Type 0} → Lists Slot → HashMap ClientId (Option ℕ) S → Type 0
-AreQuiet lists places = (client : ClientId) (place : Option ℕ) → get same_client places client ≡ Some place → IsQuiet lists client place
+abbrev pub AreQuiet : Lists Slot → (ClientId → Option (Option ℕ)) → Type 0
+AreQuiet lists places = (client : ClientId) (place : Option ℕ) → places client ≡ Some place → IsQuiet lists client place
 
 -- who has an entry has a place, or whatever is kept of clients, and nobody else
-abbrev pub ArePlaced : {V S : Type 0} → Lists Slot → HashMap ClientId V S → Type 0
-ArePlaced lists places = (client : ClientId) → is_some (get same_client places client) ≡ is_some (slice_get (keys lists (OfClient client)) 0)
+abbrev pub ArePlaced : {V : Type 0} → Lists Slot → (ClientId → Option V) → Type 0
+ArePlaced lists places = (client : ClientId) → is_some (places client) ≡ is_some (slice_get (keys lists (OfClient client)) 0)
 
 -- the place that is kept; the end, where none is
 abbrev pub place_of : Option (Option ℕ) → Option ℕ
@@ -52,16 +51,6 @@ place_of None = None
 place_of (Some place) = place
 
 -- ---- changes of a place
-
--- one who has none gets one, the end
-abbrev pub begun : Option (Option ℕ) → Option (Option ℕ)
-begun None = Some None
-begun (Some place) = Some place
-
--- it stays where the list has a first key
-abbrev pub left : {V : Type 0} → Option ℕ → Option V → Option V
-left None place = None
-left (Some first) place = place
 
 -- whether the key's entry was made before that of the place
 abbrev pub is_before : Lists Slot → ℕ → Option ℕ → Bool

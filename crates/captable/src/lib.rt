@@ -3,12 +3,12 @@
 //! Public source: "Capabilities in CephFS" in the Ceph documentation.
 #![tactic(auto)]
 
-mod counts;
 mod entry;
 mod holders;
 mod laws;
 mod nodes;
 mod places;
+mod polls;
 mod table;
 mod walk;
 

@@ -1,16 +1,18 @@
 //! The table of entries.
 ghost use Rattle.std.specs.Prelude.{◌≡◌, ◌<◌, ◌^◌, ◌-◌, true, false, [], ◌∷◌, IfSome, IfOk, OnOk, OnErr, None, length, slice_get, take, filter};
 
-use crate::counts::{begin_count, count_again, count_of, end_count};
 use crate::entry::{Entry, Holder, Slot};
 use crate::holders::Holders;
 use crate::nodes::{add_node, holder_at, remove_node, set_entry, touch_node};
-use crate::places::{
-    begin_place, end_place, is_due_at, lower_place, move_place, quiet_place, set_place, skip_place,
+use crate::places::is_due_at;
+use crate::polls::{
+    Poll, begin_poll, count_again, count_of, end_poll, lower_place, move_place, quiet_place,
+    set_place, skip_place,
 };
 use crate::walk::Walk;
 use cap_arena::{MAX_NODES, TripleLists};
 use capbits::{Cap, CapSet, ClientId, Ino, Refusal};
+use numbered::Numbered;
 use std::alloc::{AllocError, Global};
 use std::collections::HashMap;
 use std::fmt;
@@ -28,10 +30,8 @@ pub struct CapTable {
     lists: TripleLists<Slot>,
     // The key of each holder's node.
     keys: HashMap<Holder, usize>,
-    // Of each client with an entry, a place in the list of its nodes, before which no entry is due.
-    quiet: HashMap<ClientId, Option<usize>>,
-    // And how many of its entries are due.
-    due: HashMap<ClientId, usize>,
+    // Of each client with an entry, from where on entries are due, and how many.
+    polls: Numbered<Poll>,
     // How many entries were made so far.
     made: u64,
 }
@@ -42,7 +42,7 @@ impl Model for CapTable {
     ghost use Rattle.captable.specs.Nodes.{table_of};
     ghost use Rattle.captable.specs.Kept.{Kept};
     ghost use Rattle.captable.specs.Places.{AreQuiet, ArePlaced};
-    ghost use Rattle.captable.specs.Counts.{AreCounted};
+    ghost use Rattle.captable.specs.Polls.{AreCounted, places_of, counts_of};
 
     ghost Value = { Table };
 
@@ -50,8 +50,8 @@ impl Model for CapTable {
 
     ghost view = { λ t. table_of t.lists t.made };
 
-    ghost invariant = { λ t. Kept t.lists t.keys t.made × AreQuiet t.lists t.quiet × ArePlaced t.lists t.quiet
-        × AreCounted (table_of t.lists t.made).rows t.due × ArePlaced t.lists t.due };
+    ghost invariant = { λ t. Kept t.lists t.keys t.made × AreQuiet t.lists (places_of t.polls) × ArePlaced t.lists (places_of t.polls)
+        × AreCounted (table_of t.lists t.made).rows (counts_of t.polls) };
 }
 
 // By hand, so that a caller which lets one go has one call to prove, and no step for each of its parts.
@@ -61,14 +61,13 @@ impl Drop for CapTable {
             alloc: _alloc,
             lists: _lists,
             keys: _keys,
-            quiet: _quiet,
-            due: _due,
+            polls: _polls,
             made: _made,
         } = self;
     }
 }
 
-// All but the places and the counts: they are no part of what the table keeps, but for how far polls have come.
+// All but what is kept for polls: it is no part of the table, but tells how far polls have come.
 impl fmt::Debug for CapTable {
     fn fmt<W: fmt::Write>(&self, f: &mut fmt::Formatter<W>) -> fmt::Result {
         f.debug_struct("CapTable")
@@ -98,14 +97,12 @@ impl CapTable {
     {
         let lists = TripleLists::new(alloc)?;
         let keys = HashMap::new(alloc);
-        let quiet = HashMap::new(alloc);
-        let due = HashMap::new(alloc);
+        let polls = Numbered::new(alloc);
         Ok(CapTable {
             alloc,
             lists,
             keys,
-            quiet,
-            due,
+            polls,
             made: 0,
         })
     }
@@ -220,20 +217,21 @@ impl CapTable {
         ensures err { OnErr result (self.new ≡ self.old) }
     {
         let holder = Holder { client, ino };
-        // Room for the key, the client's place and its count comes first, since a node that was added stays.
+        // Room for the key, and what is kept for polls, come first, since a node that was added stays.
         self.keys.reserve(1)?;
-        self.quiet.reserve(1)?;
-        self.due.reserve(1)?;
+        begin_poll(&mut self.polls, client)?;
         let entry = Entry::new();
         let number = self.made;
         let slot = Slot { entry, number };
-        let key = add_node::<Brand>(&mut self.lists, holder, slot, Blank::new(1))?;
+        let added = add_node::<Brand>(&mut self.lists, holder, slot, Blank::new(1));
+        let Ok(key) = added else {
+            end_poll(&mut self.polls, &self.lists, client);
+            return Err(AllocError);
+        };
         match self.keys.insert(holder, key) {
             Ok(_none) => {}
             Err(_) => unreachable!(),
         }
-        begin_place(&mut self.quiet, client);
-        begin_count(&mut self.due, client);
         self.made += 1;
         Ok(())
     }
@@ -246,9 +244,9 @@ impl CapTable {
             let was = is_due_at(&self.lists, *key);
             let is = entry.is_due();
             set_entry(&mut self.lists, *key, entry);
-            count_again(&mut self.due, holder.client, was, is);
+            count_again(&mut self.polls, holder.client, was, is);
             if is {
-                lower_place(&mut self.quiet, &self.lists, holder.client, *key);
+                lower_place(&mut self.polls, &self.lists, holder.client, *key);
             }
         }
     }
@@ -407,10 +405,9 @@ impl CapTable {
             let next = self.lists.next_of_client(key);
             let was = is_due_at(&self.lists, key);
             remove_node::<Brand>(&mut self.lists, key, Blank::new(1));
-            move_place(&mut self.quiet, holder.client, key, next);
-            end_place(&mut self.quiet, &self.lists, holder.client);
-            count_again(&mut self.due, holder.client, was, false);
-            end_count(&mut self.due, &self.lists, holder.client);
+            move_place(&mut self.polls, holder.client, key, next);
+            count_again(&mut self.polls, holder.client, was, false);
+            end_poll(&mut self.polls, &self.lists, holder.client);
         }
     }
 
@@ -446,7 +443,7 @@ impl CapTable {
         ensures due { filter is_due result ≡ filter is_due (filter (is_of_client client) self.now.rows) }
         ensures sound { IsTable self.now }
     {
-        let at = quiet_place(&self.quiet, &self.lists, client);
+        let at = quiet_place(&self.polls, &self.lists, client);
         Walk::from_place(&self.lists, client, at)
     }
 
@@ -454,7 +451,7 @@ impl CapTable {
     pub fn due_count(&self, client: ClientId) -> usize
         ensures { result ≡ length (filter is_due (filter (is_of_client client) self.now.rows)) }
     {
-        count_of(&self.due, client)
+        count_of(&self.polls, client)
     }
 
     /// Walks over those of the client's entries that are not due, up to the first that is, so that `due_of` begins there.
@@ -462,10 +459,10 @@ impl CapTable {
     pub fn skip_quiet(&mut self, client: ClientId)
         ensures { self.new ≡ self.old }
     {
-        if count_of(&self.due, client) == 0 {
-            set_place(&mut self.quiet, client, None);
+        if count_of(&self.polls, client) == 0 {
+            set_place(&mut self.polls, client, None);
         } else {
-            skip_place(&mut self.quiet, &self.lists, client);
+            skip_place(&mut self.polls, &self.lists, client);
         }
     }
 

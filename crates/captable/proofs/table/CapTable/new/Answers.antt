@@ -2,16 +2,18 @@ use Rattle.std.proofs.Common.{ap}
 use Rattle.cap_arena.specs.Lists.{Lists}
 use Rattle.captable.specs.declared.entry.Slot.{Slot}
 use Rattle.captable.specs.Nodes.{table_of}
+use Rattle.captable.specs.Polls.{places_of, counts_of}
 use Rattle.captable.proofs.Counting.{AreCounted-empty}
 use Rattle.captable.proofs.Empty.{Kept-empty, AreQuiet-empty}
 use Rattle.captable.proofs.Placed.{ArePlaced-empty}
+use Rattle.captable.proofs.Polled.{part-none}
 use Rattle.captable.proofs.table.CapTable.new.Goals as goal
 
 pub invariant_of-result : goal.invariant_of-result
 invariant_of-result c = (
   Kept-empty c.in_ok-lists.lists c.new-keys.result c.in_ok-lists.ensures c.new-keys.ensures.empty,
-  AreQuiet-empty c.in_ok-lists.lists c.new-quiet.result c.new-quiet.ensures.empty,
-  ArePlaced-empty c.in_ok-lists.lists c.new-quiet.result c.in_ok-lists.ensures c.new-quiet.ensures.empty,
-  AreCounted-empty (table_of c.in_ok-lists.lists 0).rows c.new-due.result (ap (λ (t : Lists Slot). (table_of t 0).rows) c.in_ok-lists.ensures) c.new-due.ensures.empty,
-  ArePlaced-empty c.in_ok-lists.lists c.new-due.result c.in_ok-lists.ensures c.new-due.ensures.empty,
+  AreQuiet-empty c.in_ok-lists.lists (places_of c.new-polls.result) (part-none (λ poll. poll.place) c.new-polls.result c.new-polls.ensures),
+  ArePlaced-empty c.in_ok-lists.lists (places_of c.new-polls.result) c.in_ok-lists.ensures (part-none (λ poll. poll.place) c.new-polls.result c.new-polls.ensures),
+  AreCounted-empty (table_of c.in_ok-lists.lists 0).rows (counts_of c.new-polls.result) (ap (λ (t : Lists Slot). (table_of t 0).rows) c.in_ok-lists.ensures)
+      (part-none (λ poll. poll.due) c.new-polls.result c.new-polls.ensures),
 )

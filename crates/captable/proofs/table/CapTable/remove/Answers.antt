@@ -1,4 +1,7 @@
-use Rattle.std.proofs.Common.{◌≡◌, true, false, Some, None, ◌∙◌, sym, ap, subst, refl, slice_get}
+use Rattle.std.proofs.Common.{◌≡◌, ◌<◌, true, false, cond, Some, None, ◌∙◌, sym, ap, subst, refl, slice_get}
+use Rattle.std.specs.Prelude.{IfSome}
+use Rattle.std.specs.FinMap as map
+use Rattle.std.specs.Option.{option_map}
 use Rattle.std.specs.HashMap.{get}
 use Rattle.std.proofs.lemmas.Bool.{eq-eqb}
 use Rattle.capbits.specs.declared.ids.ClientId.{ClientId}
@@ -9,14 +12,15 @@ use Rattle.captable.specs.Table.{IsTable, same, entry_at}
 use Rattle.captable.specs.Calls.{without}
 use Rattle.captable.specs.Kept.{Kept}
 use Rattle.captable.specs.Nodes.{table_of}
-use Rattle.captable.specs.Places.{AreQuiet, moved_on}
-use Rattle.captable.specs.Counts.{recounted}
+use Rattle.captable.specs.Places.{same_client, AreQuiet, moved_on}
+use Rattle.captable.specs.Polls.{places_of, counts_of, recounted}
 use Rattle.captable.proofs.Counting.{count-fits}
 use Rattle.captable.proofs.Counted.{counted-gone}
 use Rattle.captable.proofs.Absent.{without-none}
 use Rattle.captable.proofs.Reading.{entry-none, node-there}
 use Rattle.captable.proofs.Keeping.{held, is_in}
 use Rattle.captable.proofs.Placed.{quiet-ended, placed-removed}
+use Rattle.captable.proofs.Polled.{if_part, part-ended, places-changed, places-kept, counts-changed, counts-kept, counts-placed}
 use Rattle.captable.proofs.Quiet.{quiet-removed}
 use Rattle.captable.proofs.WalkOn.{next-of-client}
 use Rattle.captable.proofs.Removing.{Kept-left, table-left}
@@ -27,7 +31,14 @@ remove_node-requires-clause-there c = node-there c.self.inside.lists c.self.insi
 
 pub count_again-requires : goal.count_again-requires
 count_again-requires c =
-    record { fits = count-fits (table_of c.self.inside.lists c.self.inside.made).rows c.self.inside.due c.self.invariant.0.table.room c.self.invariant.3 c.args.holder.client }
+    let client = c.args.holder.client in
+    let m = c.self.inside.polls in
+    let n = c.move_place.new.polls in
+    record {
+      fits = if_part (λ poll. poll.due) (λ n. n < 18446744073709551615) (map.get n client.0)
+          (subst (λ o. IfSome o (λ n. n < 18446744073709551615)) (sym (counts-kept m client n (moved_on c.in-Some.key c.next_of_client-next.result) c.move_place.ensures client))
+          (count-fits (table_of c.self.inside.lists c.self.inside.made).rows (counts_of m) c.self.invariant.0.table.room c.self.invariant.3 client));
+    }
 
 pub invariant_of-self : goal.invariant_of-self
 invariant_of-self c =
@@ -39,23 +50,33 @@ invariant_of-self c =
     is_in t c.self.invariant.0.sound (OfClient c.args.holder.client) c.in-Some.key o.0 o.1.there (eq-eqb o.0.client.0 c.args.holder.client.0 (ap (λ (q : ClientId). q.0) of)) in
     let client = c.args.holder.client in
     let left = c.remove_node.new.lists in
-    let moved : AreQuiet left c.move_place.new.places =
+    let m = c.self.inside.polls in
+    let n = c.move_place.new.polls in
+    let again = c.count_again.new.polls in
+    let last = c.end_poll.new.polls in
+    let next = moved_on c.in-Some.key c.next_of_client-next.result in
+    let count = recounted c.is_due_at-was.result false in
+    let first = slice_get (keys left (OfClient client)) 0 in
+    let same_places = places-kept n client again count c.count_again.ensures in
+    let same_counts = counts-kept m client n next c.move_place.ensures in
+    let moves = λ (q : ClientId). same_places q ∙ places-changed m client n next c.move_place.ensures q in
+    let recounts = λ (q : ClientId). counts-changed n client again count c.count_again.ensures q
+    ∙ ap (λ o. cond (same_client client q) (option_map count o) o) (same_counts q) in
+    let moved : AreQuiet left (places_of again) =
     quiet-removed t left c.in-Some.key c.remove_node.ensures.removed c.self.invariant.0.sound client o.0 o.1.there of
     c.next_of_client-next.result (c.next_of_client-next.ensures.next ∙ next-of-client t c.self.invariant.0.sound client c.in-Some.key o.0 o.1.there listed)
-    c.self.inside.quiet c.move_place.new.places c.move_place.ensures c.self.invariant.1 in
+    (places_of m) (places_of again) moves c.self.invariant.1 in
     let kept : Kept left c.remove.new.self c.self.inside.made =
     Kept-left t c.remove_node.new.lists c.self.inside.keys c.remove.new.self c.self.inside.made c.args.holder c.in-Some.key c.self.invariant.0
-    found c.remove_node.ensures.removed c.remove.ensures.updates.0 c.remove_node.ensures.sound in
-    let first = slice_get (keys left (OfClient client)) 0 in (
+    found c.remove_node.ensures.removed c.remove.ensures.updates.0 c.remove_node.ensures.sound in (
       kept,
-      quiet-ended left client first c.move_place.new.places c.end_place.new.places c.end_place.ensures moved,
-      placed-removed left client first c.move_place.new.places c.end_place.new.places c.end_place.ensures t c.in-Some.key c.remove_node.ensures.removed c.self.invariant.0.sound o.0 o.1.there of refl
-          (moved_on c.in-Some.key c.next_of_client-next.result) c.self.inside.quiet c.move_place.ensures c.self.invariant.2,
-      counted-gone t left c.self.inside.keys c.self.inside.made c.args.holder c.in-Some.key c.self.invariant.0 found o.0 o.1.there o.2 c.self.inside.due c.count_again.new.counts
-          c.is_due_at-was.result false c.is_due_at-was.ensures c.self.invariant.4 c.count_again.ensures c.self.invariant.3 c.remove.new.self refl
-          (table-left t left c.self.inside.keys c.remove.new.self c.self.inside.made c.args.holder c.in-Some.key c.self.invariant.0 found c.remove_node.ensures.removed) kept c.end_count.new.counts c.end_count.ensures,
-      placed-removed left client first c.count_again.new.counts c.end_count.new.counts c.end_count.ensures t c.in-Some.key c.remove_node.ensures.removed c.self.invariant.0.sound o.0 o.1.there of refl
-          (recounted c.is_due_at-was.result false) c.self.inside.due c.count_again.ensures c.self.invariant.4,
+      quiet-ended left client first (places_of again) (places_of last) (part-ended (λ poll. poll.place) again client first last c.end_poll.ensures) moved,
+      placed-removed left client first (places_of again) (places_of last) (part-ended (λ poll. poll.place) again client first last c.end_poll.ensures)
+          t c.in-Some.key c.remove_node.ensures.removed c.self.invariant.0.sound o.0 o.1.there of refl next (places_of m) moves c.self.invariant.2,
+      counted-gone t left c.self.inside.keys c.self.inside.made c.args.holder c.in-Some.key c.self.invariant.0 found o.0 o.1.there o.2 (counts_of m) (counts_of again)
+          c.is_due_at-was.result false c.is_due_at-was.ensures (counts-placed t m c.self.invariant.2) recounts c.self.invariant.3 c.remove.new.self refl
+          (table-left t left c.self.inside.keys c.remove.new.self c.self.inside.made c.args.holder c.in-Some.key c.self.invariant.0 found c.remove_node.ensures.removed) kept
+          (counts_of last) (part-ended (λ poll. poll.due) again client first last c.end_poll.ensures),
     )
 
 pub returns-in-Some : goal.returns-in-Some

@@ -1,6 +1,6 @@
 use Rattle.std.proofs.Common.{◌≡◌, None, ◌∙◌, sym, ap, subst}
 use Rattle.std.specs.HashMap.{get}
-use Rattle.captable.specs.Counts.{AreCounted}
+use Rattle.captable.specs.Polls.{AreCounted, places_of, counts_of}
 use Rattle.captable.specs.Nodes.{table_of}
 use Rattle.captable.specs.Table.{Table, IsTable, holder, same, entry_at}
 use Rattle.captable.specs.Calls.{touched}
@@ -23,10 +23,9 @@ invariant_of-self c =
     (sym c.in-Some.ensures.value) c.touch_node.ensures.touched in (
       Kept-touched c.self.inside.lists c.touch_node.new.lists c.self.inside.keys c.self.inside.made (holder c.args.client c.args.ino) c.in-Some.key.now c.self.invariant.0
           (sym c.in-Some.ensures.value) c.touch_node.ensures.touched c.touch_node.ensures.sound,
-      quiet-touched c.self.inside.lists c.touch_node.new.lists c.in-Some.key.now c.touch_node.ensures.touched c.self.inside.quiet c.self.invariant.1,
-      placed-touched c.self.inside.lists c.touch_node.new.lists c.in-Some.key.now c.touch_node.ensures.touched c.self.inside.quiet c.self.invariant.2,
-      subst (λ (u : Table). AreCounted u.rows c.self.inside.due) (sym moved) c.self.invariant.3,
-      placed-touched c.self.inside.lists c.touch_node.new.lists c.in-Some.key.now c.touch_node.ensures.touched c.self.inside.due c.self.invariant.4,
+      quiet-touched c.self.inside.lists c.touch_node.new.lists c.in-Some.key.now c.touch_node.ensures.touched (places_of c.self.inside.polls) c.self.invariant.1,
+      placed-touched c.self.inside.lists c.touch_node.new.lists c.in-Some.key.now c.touch_node.ensures.touched (places_of c.self.inside.polls) c.self.invariant.2,
+      subst (λ (u : Table). AreCounted u.rows (counts_of c.self.inside.polls)) (sym moved) c.self.invariant.3,
     )
 
 pub returns-in-Some : goal.returns-in-Some
