@@ -1,0 +1,176 @@
+-- What is beyond, and why.
+use Rattle.std.proofs.Common.{◌≡◌, ℕ, ◌+◌, ◌<◌, take, zero, suc, Bool, true, false, not, Option, Some, None, is_none, List, [], ◌∷◌, ◌++◌, length, get_or, refl, sym, ap, ◌∙◌, arith}
+use Rattle.std.specs.Prelude.{◌↔◌, IfSome, IsTrue, All, slice_get, filter_map, position, if◌then◌else◌}
+use Rattle.std.specs.List.{list_all, cons_option}
+use Rattle.std.proofs.lemmas.Bool.{true≢false, or_parts, both_ways, and_parts, and_from, not-true, not_from_false}
+use Rattle.std.proofs.lemmas.List.{take_more}
+use Rattle.std.proofs.lemmas.List.Elements.{All-nil, All-cons, filter_map-append}
+use Rattle.std.proofs.lemmas.List.Folds.{list_any_at}
+use Rattle.capbits.specs.declared.caller.Caller.{Caller}
+use Rattle.capbits.specs.declared.cap.Cap.{Cap}
+use Rattle.capbits.specs.Caps.{Caps, has, caps_where}
+use Rattle.capbits.specs.Sets.{minus, no_caps, union, caps_in, has-minus, has-none}
+use Rattle.capspec.specs.declared.grant.Grant.{Grant}
+use Rattle.capgrant.specs.declared.access.Access.{Access}
+use Rattle.capgrant.specs.declared.access.Access.TheVariants.{Read, Write}
+use Rattle.capgrant.specs.declared.rule.Rule.{Rule}
+use Rattle.capgrant.specs.Question.{Question}
+use Rattle.capgrant.specs.Failing.{first_failing}
+use Rattle.capgrant.specs.Permitted.{for_either, for_readers, for_writers, caps_for, permitted_of}
+use Rattle.capgrant.specs.declared.answer.Verdict.{Verdict}
+use Rattle.capgrant.specs.declared.answer.Verdict.TheVariants.{Allowed, Denied}
+use Rattle.capgrant.specs.Verdict.{allows, granted, first_failures, verdict_of}
+use Rattle.capgrant.proofs.Verdicts.{allowed_nowhere, granted_somewhere}
+use Rattle.locktable.specs.Targets.{has_any}
+use Rattle.capcompare.proofs.Lists.{found}
+use Rattle.capaudit.specs.Callers.{Inode, asked, asker, permitted_to}
+use Rattle.capaudit.specs.Findings.{least_access, reason}
+use Rattle.capaudit.proofs.Permitting.{by_read, by_write}
+
+-- ---- what is beyond
+
+beyond_exactly : (held may : Caps) (cap : Cap) (P : Type 0) → (IsTrue (has may cap) ↔ P) → IsTrue (has (minus held may) cap) ↔ (IsTrue (has held cap) × (P → ⊥))
+beyond_exactly held may cap P exact = (forth, back)
+  where
+    forth : IsTrue (has (minus held may) cap) → IsTrue (has held cap) × (P → ⊥)
+    forth e =
+        let parts = and_parts (has held cap) (not (has may cap)) (sym (has-minus held may cap) ∙ e) in
+        (parts.0, λ p. both_ways (has may cap) (not-true (has may cap) parts.1) (exact.1 p))
+
+    back : IsTrue (has held cap) × (P → ⊥) → IsTrue (has (minus held may) cap)
+    back both = has-minus held may cap ∙ and_from (has held cap) (not (has may cap)) both.0 (not_from_false (has may cap) (by_test (has may cap) refl))
+      where
+        by_test : (b : Bool) → has may cap ≡ b → b ≡ false
+        by_test true e = absurd (both.1 (exact.0 e))
+        by_test false e = refl
+
+-- the same of the set that was found
+pub found_exactly : (held may found : Caps) (cap : Cap) (P : Type 0) → found ≡ minus held may → (IsTrue (has may cap) ↔ P) → IsTrue (has found cap) ↔ (IsTrue (has held cap) × (P → ⊥))
+found_exactly held may found cap P is exact =
+    let both = beyond_exactly held may cap P exact in
+    let same : has found cap ≡ has (minus held may) cap = ap (λ (s : Caps). has s cap) is in
+    ((λ e. both.0 (sym same ∙ e)), (λ own. same ∙ both.1 own))
+
+-- where nothing is, each is permitted
+pub none_beyond : (held may : Caps) → minus held may ≡ no_caps → (cap : Cap) (P : Type 0) → (IsTrue (has may cap) ↔ P) → IsTrue (has held cap) → P
+none_beyond held may none cap P exact own = exact.0 (by_test (has may cap) refl)
+  where
+    by_test : (b : Bool) → has may cap ≡ b → has may cap ≡ true
+    by_test true e = e
+    by_test false e =
+        let out : has (minus held may) cap ≡ true = has-minus held may cap ∙ and_from (has held cap) (not (has may cap)) own (not_from_false (has may cap) e) in
+        absurd (both_ways (has (minus held may) cap) (ap (λ (s : Caps). has s cap) none ∙ has-none cap) out)
+
+-- what is beyond is permitted to no caller at all
+pub to_nobody : (i : Inode) (grants : List Grant) (held may : Caps) → ((c : Caller) (cap : Cap) → has (permitted_to i grants c) cap ≡ true → has may cap ≡ true) → (cap : Cap) → has (minus held may) cap ≡ true → (c : Caller) → has (permitted_to i grants c) cap ≡ false
+to_nobody i grants held may all cap e c = by_test (has (permitted_to i grants c) cap) refl
+  where
+    by_test : (b : Bool) → has (permitted_to i grants c) cap ≡ b → b ≡ false
+    by_test false is = refl
+    by_test true is =
+        let parts = and_parts (has held cap) (not (has may cap)) (sym (has-minus held may cap) ∙ e) in
+        absurd (both_ways (has may cap) (not-true (has may cap) parts.1) (all c cap is))
+
+-- ---- the access that is missing
+
+of_list : {X : Type 0} (p : X → Bool) (xs : List X) → list_all p xs ≡ true → All (λ x. p x ≡ true) xs
+of_list p [] e = All-nil (λ x. p x ≡ true)
+of_list p (x ∷ xs) e =
+    let parts = and_parts (p x) (list_all p xs) e in
+    All-cons (λ y. p y ≡ true) x xs parts.0 (of_list p xs parts.1)
+
+readers : list_all (has (caps_for true false)) (for_either ++ for_readers) ≡ true
+unfolding has caps_where union caps_in no_caps
+readers = refl
+
+writers : list_all (has (caps_for false true)) for_writers ≡ true
+unfolding has caps_where union caps_in no_caps
+writers = refl
+
+nobody_reads : (i : Inode) (grants : List Grant) (cap : Cap) → has (caps_for true false) cap ≡ true → ((c : Caller) → has (permitted_to i grants c) cap ≡ false) → (c : Caller) → granted (asked i c Read) grants ≡ false
+unfolding permitted_of
+nobody_reads i grants cap is none c = by_test (granted (asked i c Read) grants) refl
+  where
+    by_test : (b : Bool) → granted (asked i c Read) grants ≡ b → b ≡ false
+    by_test false e = refl
+    by_test true e = absurd (both_ways (has (permitted_to i grants c) cap) (none c) (ap (λ (b : Bool). has (caps_for b (granted (asked i c Write) grants)) cap) e ∙ by_read (granted (asked i c Write) grants) cap is))
+
+nobody_writes : (i : Inode) (grants : List Grant) (cap : Cap) → has (caps_for false true) cap ≡ true → ((c : Caller) → has (permitted_to i grants c) cap ≡ false) → (c : Caller) → granted (asked i c Write) grants ≡ false
+unfolding permitted_of
+nobody_writes i grants cap is none c = by_test (granted (asked i c Write) grants) refl
+  where
+    by_test : (b : Bool) → granted (asked i c Write) grants ≡ b → b ≡ false
+    by_test false e = refl
+    by_test true e = absurd (both_ways (has (permitted_to i grants c) cap) (none c) (ap (λ (b : Bool). has (caps_for (granted (asked i c Read) grants) b) cap) e ∙ by_write (granted (asked i c Read) grants) cap is))
+
+-- nobody is allowed the access that is missing
+pub nobody_may : (i : Inode) (grants : List Grant) (caps : Caps) (missing : Option Access) → missing ≡ least_access caps → ((cap : Cap) → has caps cap ≡ true → (c : Caller) → has (permitted_to i grants c) cap ≡ false) → IfSome missing (λ a. (c : Caller) → granted (asked i c a) grants ≡ false)
+nobody_may i grants caps missing is none = rw is (by_read_cap (has_any caps (for_either ++ for_readers)) refl)
+  where
+    by_write_cap : (b : Bool) → has_any caps for_writers ≡ b → IfSome (if b then Some Write else None) (λ a. (c : Caller) → granted (asked i c a) grants ≡ false)
+    by_write_cap false e = tt
+    by_write_cap true e =
+        let one = found (λ cap. has (caps_for false true) cap ≡ true) (has caps) for_writers (of_list (has (caps_for false true)) for_writers writers) e in
+        nobody_writes i grants one.0 one.1 (none one.0 one.2)
+
+    by_read_cap : (b : Bool) → has_any caps (for_either ++ for_readers) ≡ b → IfSome (if b then Some Read else (if has_any caps for_writers then Some Write else None)) (λ a. (c : Caller) → granted (asked i c a) grants ≡ false)
+    by_read_cap true e =
+        let one = found (λ cap. has (caps_for true false) cap ≡ true) (has caps) (for_either ++ for_readers) (of_list (has (caps_for true false)) (for_either ++ for_readers) readers) e in
+        nobody_reads i grants one.0 one.1 (none one.0 one.2)
+    by_read_cap false e = by_write_cap (has_any caps for_writers) refl
+
+-- ---- why
+
+here : (found : Option Rule) (rest : List Rule) → is_none found ≡ false → slice_get (cons_option found rest) 0 ≡ found
+here None rest some = absurd (true≢false some)
+here (Some rule) rest some = refl
+
+later : (found : Option Rule) (rest : List Rule) (place : ℕ) → is_none found ≡ false → slice_get (cons_option found rest) (suc place) ≡ slice_get rest place
+later None rest place some = absurd (true≢false some)
+later (Some rule) rest place some = refl
+
+-- where no grant allows, the rule at a place is the one by which the grant there fails first
+pub failure_at : (q : Question) (grants : List Grant) (place : ℕ) (g : Grant) → granted q grants ≡ false → place < length grants → g ≡ get_or grants place g → slice_get (first_failures q grants) place ≡ first_failing q g
+failure_at q [] place g none within at = absurd (omega arith)
+failure_at q (h ∷ grants) zero g none within at = here (first_failing q h) (first_failures q grants) (or_parts (allows q h) (granted q grants) none).0 ∙ ap (first_failing q) (sym at)
+failure_at q (h ∷ grants) (suc place) g none within at =
+    let parts = or_parts (allows q h) (granted q grants) none in
+    later (first_failing q h) (first_failures q grants) place parts.0 ∙ failure_at q grants place g parts.1 (omega arith) at
+
+-- the rules of a denial
+abbrev rules_of : Verdict → List Rule
+rules_of (Allowed grant) = []
+rules_of (Denied rules) = rules
+
+denied : (q : Question) (grants : List Grant) → granted q grants ≡ false → verdict_of q grants ≡ Denied (first_failures q grants)
+denied q grants none = by_place (position (allows q) grants) refl
+  where
+    by_place : (place : Option ℕ) → position (allows q) grants ≡ place → verdict_of q grants ≡ Denied (first_failures q grants)
+    by_place None e = sym (allowed_nowhere q grants e)
+    by_place (Some place) e = absurd (both_ways (granted q grants) none (sym (granted_somewhere q grants place e)))
+
+-- nobody is allowed the access: each grant has a reason, which is found at its place in the denial of its own user
+pub reason_at : (i : Inode) (grants : List Grant) (a : Access) (place : ℕ) (g : Grant) (seen : Inode) (who : Caller) (gids : List ℕ) (rules : List Rule)
+    → ((c : Caller) → granted (asked i c a) grants ≡ false) → place < length grants → g ≡ get_or grants place g
+    → seen ≡ i → gids ≡ g.gids → who ≡ asker seen.attr g gids → Denied rules ≡ verdict_of (asked seen who a) grants → slice_get rules place ≡ reason i a g
+reason_at i grants a place g seen who gids rules nobody within at same listed is exact =
+    let asks : asked seen who a ≡ asked i (asker i.attr g g.gids) a =
+    ap (λ (w : Caller). asked seen w a) (is ∙ ap (asker seen.attr g) listed)
+    ∙ ap (λ (s : Inode). asked s (asker s.attr g g.gids) a) same in
+    let none : granted (asked seen who a) grants ≡ false = ap (λ (p : Question). granted p grants) asks ∙ nobody (asker i.attr g g.gids) in
+    ap (λ (v : Verdict). slice_get (rules_of v) place) (exact ∙ denied (asked seen who a) grants none)
+    ∙ failure_at (asked seen who a) grants place g none within at
+    ∙ ap (λ (p : Question). first_failing p g) asks
+
+pub has_reason : (i : Inode) (grants : List Grant) (a : Access) (place : ℕ) (g : Grant) → ((c : Caller) → granted (asked i c a) grants ≡ false) → place < length grants → g ≡ get_or grants place g → reason i a g ≡ None → ⊥
+has_reason i grants a place g nobody within at none =
+    let who : Caller = asker i.attr g g.gids in
+    both_ways (granted (asked i who a) grants) (nobody who) (list_any_at (allows (asked i who a)) grants place g within (ap (allows (asked i who a)) (sym at) ∙ ap is_none none))
+
+-- one grant more
+pub one_more : (i : Inode) (grants : List Grant) (a : Access) (rules : List Rule) (place : ℕ) (g : Grant) (rule : Rule) → place < length grants → g ≡ get_or grants place g → rules ≡ filter_map (reason i a) (take place grants) → reason i a g ≡ Some rule → rules ++ rule ∷ [] ≡ filter_map (reason i a) (take (place + 1) grants)
+one_more i grants a rules place g rule within at before is =
+    ap (λ (rs : List Rule). rs ++ rule ∷ []) before
+    ∙ ap (λ (o : Option Rule). filter_map (reason i a) (take place grants) ++ cons_option o []) (sym is)
+    ∙ sym (filter_map-append (reason i a) (take place grants) (g ∷ []))
+    ∙ sym (ap (filter_map (reason i a)) (take_more grants place g within ∙ ap (λ (x : Grant). take place grants ++ x ∷ []) (sym at)))

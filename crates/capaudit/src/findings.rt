@@ -1,0 +1,131 @@
+//! What a client holds and nobody behind its key is permitted.
+
+ghost use Rattle.std.specs.Prelude.{◌≡◌, ◌<◌, false, length, filter_map, get_or, slice_get, IsTrue, IfSome, MatchOption};
+ghost use Rattle.locktable.specs.Targets.{has_any};
+ghost use Rattle.capbits.specs.declared.caller.Caller.{Caller};
+ghost use Rattle.capbits.specs.declared.cap.Cap.{Cap};
+ghost use Rattle.capbits.specs.Caps.{has};
+ghost use Rattle.capgrant.specs.Verdict.{granted};
+ghost use Rattle.capaudit.specs.Callers.{asked, IsPermittedToSome};
+ghost use Rattle.capaudit.specs.Findings.{IsBeyond, least_access, reason, reasons};
+
+use crate::callers::{asker, listed, permitted_to_some};
+use crate::inode::Inode;
+use arrayvec::ArrayVec;
+use capbits::{Cap, CapSet};
+use capgrant::{Access, Rule, Rules, Verdict, verdict};
+use capspec::{Grant, Grants};
+
+/// What a client holds of an inode and no caller of it is permitted.
+#[derive(Debug, Drop)]
+pub struct Finding {
+    /// The capabilities, at least one.
+    pub caps: CapSet,
+    /// The least access that would permit some of them, to read or to write, which no grant allows to anybody. None for `Fa`
+    /// alone, which no access permits.
+    pub missing: Option<Access>,
+    /// For each grant, in order, the first rule by which it denies that access to its own user, or to user 1 where it names
+    /// none, in all of the groups that it lists. None where no access is missing.
+    pub rules: Rules,
+}
+
+/// What of the capabilities that a client with these grants holds of the inode none of its callers is permitted, or None where
+/// each is permitted to some caller. Needs no memory.
+pub fn beyond(held: CapSet, grants: &Grants, inode: &Inode) -> Option<Finding>
+    ensures { MatchOption result ((cap : Cap) → IsTrue (has held cap) → IsPermittedToSome inode.now grants.now cap) (IsBeyond held grants.now inode.now) }
+{
+    let caps = held.minus(permitted_to_some(grants, inode));
+    if caps.is_empty() {
+        return None;
+    }
+    let missing = least_access(caps);
+    Some(Finding {
+        caps,
+        missing,
+        rules: inode.reasons(grants, missing),
+    })
+}
+
+// The access that some of these capabilities need, to read before to write.
+fn least_access(caps: CapSet) -> Option<Access>
+    ensures { result ≡ least_access caps }
+{
+    if has_any(caps, &READERS) {
+        Some(Access::Read)
+    } else if has_any(caps, &WRITERS) {
+        Some(Access::Write)
+    } else {
+        None
+    }
+}
+
+// What leave to read permits; the pin, which leave to write permits too, is missing only where both are.
+const READERS: [Cap; 8] = [
+    Cap::P,
+    Cap::As,
+    Cap::Ls,
+    Cap::Xs,
+    Cap::Fs,
+    Cap::Fc,
+    Cap::Fr,
+    Cap::Fl,
+];
+
+// What leave to write permits.
+const WRITERS: [Cap; 6] = [Cap::Ax, Cap::Lx, Cap::Xx, Cap::Fx, Cap::Fw, Cap::Fb];
+
+fn has_any(caps: CapSet, of: &[Cap]) -> bool
+    ensures { result ≡ has_any caps of.now }
+{
+    of.iter().any(|cap| caps.has(*cap))
+}
+
+impl Inode<'_> {
+    // Why each grant denies the access that is missing.
+    fn reasons(&self, grants: &Grants, missing: Option<Access>) -> Rules
+        requires { IfSome missing (λ access. (caller : Caller) → granted (asked self.now caller access) grants.now ≡ false) }
+        ensures exact { result ≡ reasons self.now grants.now missing }
+        ensures one_each { IfSome missing (λ access. length result ≡ length grants.now) }
+    {
+        match missing {
+            Some(access) => self.each_reason(grants, access),
+            None => Rules::from(ArrayVec::new()),
+        }
+    }
+
+    // The same for an access that nobody is allowed.
+    fn each_reason(&self, grants: &Grants, access: Access) -> Rules
+        requires { (caller : Caller) → granted (asked self.now caller access) grants.now ≡ false }
+        ensures exact { result ≡ filter_map (reason self.now access) grants.now }
+        ensures one_each { length result ≡ length grants.now }
+    {
+        let mut rules = ArrayVec::new();
+        for (place, grant) in grants.as_slice().iter().enumerate() {
+            if let Some(rule) = self.reason(grants, place, grant, access) {
+                rules.push(rule);
+            }
+        }
+        Rules::from(rules)
+    }
+
+    // Why the grant at this place denies it.
+    fn reason(&self, grants: &Grants, place: usize, grant: &Grant, access: Access) -> Option<Rule>
+        requires within { place < length grants.now }
+        requires at { grant.now ≡ get_or grants.now place grant.now }
+        requires denied { (caller : Caller) → granted (asked self.now caller access) grants.now ≡ false }
+        ensures { result ≡ reason self.now access grant.now }
+    {
+        let caller = asker(self.attr, grant, listed(grant));
+        match verdict(grants, self.fs, &caller, self.path, self.attr, access) {
+            Verdict::Allowed { .. } => None,
+            Verdict::Denied { rules } => rule_at(&rules, place),
+        }
+    }
+}
+
+// The rule at a place, the first at 0.
+fn rule_at(rules: &Rules, place: usize) -> Option<Rule>
+    ensures { result ≡ slice_get rules.now place }
+{
+    rules.as_slice().get(place).copied()
+}
