@@ -12,7 +12,7 @@ fn reads_a_recorded_list(rt: HostRuntime) {
         panic!(rt; "not read")
     };
     assert_eq!(rt; list.entities().len(), 15);
-    assert_eq!(rt; list.entities()[0].name(), b"mds.a");
+    assert_eq!(rt; list.entities()[0].name(), b"mds.a".as_slice());
     let clients = list.entities().iter().filter(|entity| entity.is_client());
     assert_eq!(rt; clients.count(), 13);
     for (name, caps) in [
