@@ -9,6 +9,8 @@ mod asserting;
 #[cfg(test)]
 mod attributes;
 #[cfg(test)]
+mod auditing;
+#[cfg(test)]
 mod caller;
 #[cfg(test)]
 mod cap_table;

@@ -1,0 +1,217 @@
+//! What clients hold that nobody behind their key is permitted, and what two of them hold in conflict.
+
+use crate::asserting::{made, same};
+use crate::texts::grants_of;
+use capaudit::{Conflict, Finding, Holding, Inode, beyond, conflicts};
+use capbits::{CapSet, Mode, read_caps, write_caps};
+use capgrant::{Access, Attr, Rule};
+use capspec::FsName;
+use std::process::Abort;
+
+// The names of an inode.
+type Names = &'static [&'static [u8]];
+
+const A_Y: Names = &[b"a", b"y"];
+
+const B_D: Names = &[b"b", b"d"];
+
+const B_D_X: Names = &[b"b", b"d", b"x"];
+
+// Of what is held what nobody is permitted, with the access that is missing and why each grant denies it.
+type Found = (&'static str, Option<Access>, &'static [Rule]);
+
+const NOTHING: Found = ("-", None, &[]);
+
+// The grants of a client, an inode with its owner, its group and its mode, what the client holds of it, and what is found.
+const HELD: &[(&str, Names, (u32, u32, u16), &str, Found)] = &[
+    // Three findings in the texts of a running cluster.
+    (
+        "allow r",
+        A_Y,
+        (0, 0, 0o644),
+        "pAsLsXsFrw",
+        ("Fw", Some(Access::Write), &[Rule::NoWrite]),
+    ),
+    (
+        "allow rw path=/a",
+        B_D,
+        (0, 0, 0o777),
+        "pAsXs",
+        ("pAsXs", Some(Access::Read), &[Rule::Path]),
+    ),
+    (
+        "allow rw path=/a",
+        B_D_X,
+        (0, 0, 0o644),
+        "pAsxLsXsxFsxcrwb",
+        ("pAsxLsXsxFsxcrwb", Some(Access::Read), &[Rule::Path]),
+    ),
+    (
+        "allow rw path=/a",
+        A_Y,
+        (0, 0, 0o644),
+        "pAsLsXsFrw",
+        NOTHING,
+    ),
+    // Somebody else than root may write.
+    ("allow rw root_squash", A_Y, (0, 0, 0o644), "pFrw", NOTHING),
+    (
+        "allow rw uid=0 root_squash",
+        A_Y,
+        (0, 0, 0o644),
+        "pFrw",
+        ("Fw", Some(Access::Write), &[Rule::RootSquash]),
+    ),
+    // One caller may read, and another write.
+    (
+        "allow r path=/a, allow rw uid=9",
+        A_Y,
+        (9, 0, 0o200),
+        "pFrw",
+        NOTHING,
+    ),
+    // The mode denies to the group what it allows to others.
+    (
+        "allow rw uid=9 gids=50,60",
+        A_Y,
+        (7, 50, 0o606),
+        "pFrw",
+        NOTHING,
+    ),
+    (
+        "allow rw uid=9 gids=50",
+        A_Y,
+        (7, 50, 0o606),
+        "pFrw",
+        ("pFrw", Some(Access::Read), &[Rule::ModeBits]),
+    ),
+    (
+        "allow r path=/b, allow rw uid=9",
+        A_Y,
+        (7, 50, 0o604),
+        "pFrw",
+        ("Fw", Some(Access::Write), &[Rule::Path, Rule::ModeBits]),
+    ),
+    // No access permits to extend.
+    ("allow rw", A_Y, (7, 50, 0o604), "pFra", ("Fa", None, &[])),
+];
+
+fn caps_of(rt: &impl Abort, text: &str) -> CapSet {
+    made(rt, read_caps(text.as_bytes()), "caps")
+}
+
+fn fs_name(rt: &impl Abort) -> FsName {
+    FsName::read(b"cephfs").expect(rt, "a name")
+}
+
+fn attr_of(rt: &impl Abort, (uid, gid, bits): (u32, u32, u16)) -> Attr {
+    let mode = Mode::new(bits).expect(rt, "a mode");
+    Attr { uid, gid, mode }
+}
+
+fn audited(
+    rt: &(impl Abort + AllocGlobal),
+    grants: &str,
+    path: Names,
+    attr: Attr,
+    held: CapSet,
+) -> Option<Finding> {
+    let fs = fs_name(rt);
+    let inode = Inode {
+        fs: &fs,
+        path,
+        attr: &attr,
+    };
+    beyond(held, &grants_of(rt, grants.as_bytes()), &inode)
+}
+
+// Sees what was found.
+fn see(rt: &impl Abort, found: Option<Finding>, (caps, missing, rules): Found, place: &str) {
+    match found {
+        Some(found) => {
+            same(
+                rt,
+                write_caps(found.caps).as_slice(),
+                caps.as_bytes(),
+                place,
+            );
+            same(rt, found.missing, missing, place);
+            same(rt, found.rules.as_slice(), rules, place);
+        }
+        None => same(rt, "-", caps, place),
+    }
+}
+
+#[test]
+fn what_is_held_beyond_is_found(rt: HostRuntime) {
+    for row in HELD {
+        let (grants, path, attr, held, wanted) = *row;
+        let found = audited(&rt, grants, path, attr_of(&rt, attr), caps_of(&rt, held));
+        see(&rt, found, wanted, grants);
+    }
+}
+
+// Who holds what of an inode.
+const HOLDINGS: &[(u64, &str)] = &[
+    (4149, "pAsLsXsFrw"),
+    (4151, "pAsLsXsFrw"),
+    (4135, "pAsFsc"),
+    (4160, "pAx"),
+];
+
+// Which of them conflict, and by what.
+const CONFLICTS: &[(u64, &str, u64, &str)] = &[
+    (4149, "Fw", 4135, "Fsc"),
+    (4149, "As", 4160, "Ax"),
+    (4151, "Fw", 4135, "Fsc"),
+    (4151, "As", 4160, "Ax"),
+    (4135, "As", 4160, "Ax"),
+];
+
+fn holdings(rt: &(impl Abort + AllocGlobal)) -> Vec<Holding> {
+    let mut all = Vec::new(rt.alloc());
+    for row in HOLDINGS {
+        let (client, caps) = *row;
+        let holding = Holding {
+            client,
+            caps: caps_of(rt, caps),
+        };
+        made(rt, all.push(holding), "a holding");
+    }
+    all
+}
+
+fn meet(rt: &impl Abort, found: Conflict, wanted: (u64, &str, u64, &str)) {
+    let (one, caps, other, others) = wanted;
+    same(
+        rt,
+        (found.one.client, found.other.client),
+        (one, other),
+        "clients",
+    );
+    same(
+        rt,
+        write_caps(found.one.caps).as_slice(),
+        caps.as_bytes(),
+        one,
+    );
+    same(
+        rt,
+        write_caps(found.other.caps).as_slice(),
+        others.as_bytes(),
+        other,
+    );
+}
+
+#[test]
+fn conflicts_are_found_in_their_order(rt: HostRuntime) {
+    let found = made(
+        &rt,
+        conflicts(rt.alloc(), holdings(&rt).as_slice()),
+        "conflicts",
+    );
+    same(&rt, found.len(), CONFLICTS.len(), "how many");
+    for (conflict, wanted) in found.iter().zip(CONFLICTS.iter()) {
+        meet(&rt, *conflict, *wanted);
+    }
+}
