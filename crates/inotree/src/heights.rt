@@ -15,7 +15,7 @@ use std::marker::Model;
 
 // For each directory how many steps below it something may lie. It may lie less far down, for what leaves a directory lowers nothing;
 // where no number is kept, or one of 32 or more, nothing is known.
-#[derive(Debug, Drop)]
+#[derive(Drop)]
 pub(crate) struct Heights {
     heights: Numbered<usize>,
 }

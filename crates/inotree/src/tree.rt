@@ -21,6 +21,7 @@ use crate::snapshots::{MAX_SNAPSHOTS, Snapshots};
 use capbits::{Ino, Refusal};
 use capgrant::Attr;
 use std::alloc::{AllocError, Global};
+use std::fmt;
 use std::marker::Model;
 
 /// How many inodes there may be at a time, with the root and the strays.
@@ -30,7 +31,6 @@ pub const MAX_INODES: usize = 65536;
 pub const ROOT: Ino = Ino(1);
 
 /// The inodes of a file system: directories and files, each in one directory under one name, and strays.
-#[derive(Debug)]
 pub struct Tree {
     inodes: Inodes,
     // Which inode stands at each name.
@@ -53,6 +53,19 @@ impl Model for Tree {
     ghost view = { λ t. record { nodes = t.inodes; last = t.last } };
 
     ghost invariant = { λ t. IsTree (record { nodes = t.inodes; last = t.last }) × AreKept t.inodes t.names t.heights };
+}
+
+// All but the heights: they are no part of the tree, but tell how much of it was looked at, and a change that finds no memory may
+// leave higher ones.
+impl fmt::Debug for Tree {
+    fn fmt<W: fmt::Write>(&self, f: &mut fmt::Formatter<W>) -> fmt::Result {
+        f.debug_struct("Tree")
+            .field("inodes", &self.inodes)
+            .field("names", &self.names)
+            .field("last", &self.last)
+            .field("alloc", &self.alloc)
+            .finish()
+    }
 }
 
 // By hand, so that a caller which lets one go has one call to prove, and no step for each of its parts.
