@@ -8,8 +8,6 @@ mod entity;
 mod fault;
 mod list;
 mod reading;
-#[cfg(test)]
-mod recorded;
 
 pub use entity::Entity;
 pub use fault::AuthFault;

@@ -11,6 +11,8 @@ mod attributes;
 #[cfg(test)]
 mod auditing;
 #[cfg(test)]
+mod auth_lists;
+#[cfg(test)]
 mod caller;
 #[cfg(test)]
 mod cap_table;

@@ -3,7 +3,7 @@
 use crate::asserting::made;
 use capspec::{Grants, read_grants, write_grants};
 use std::alloc::{AllocError, Global};
-use std::fmt::Debug;
+use std::fmt::{Debug, Display};
 use std::process::Abort;
 
 /// A text that is `part`, so many times, between `head` and `tail`.
@@ -17,6 +17,11 @@ fn text_of(alloc: Global, (head, part, times, tail): Long) -> Result<String, All
 /// The text of these parts.
 pub fn long_text(rt: &(impl Abort + AllocGlobal), long: Long) -> String {
     made(rt, text_of(rt.alloc(), long), "a long text")
+}
+
+/// What a value prints.
+pub fn shown(rt: &impl Abort, alloc: Global, value: impl Display + Drop) -> String {
+    made(rt, format!(in alloc; "{value}"), "a text")
 }
 
 /// What `Debug` shows in one line.
