@@ -7,7 +7,7 @@ use Rattle.captable.specs.declared.entry.Holder.{Holder}
 use Rattle.std.proofs.lemmas.Bool.{ne_eqb}
 use Rattle.lockmachine.specs.Moves.{IsQuietOutside}
 use Rattle.lockmachine.specs.Scene.{Scene}
-use Rattle.capcore.specs.declared.outcome.Ended.{Ended}
+use Rattle.capevents.specs.declared.outcome.Ended.{Ended}
 use Rattle.capcore.specs.InoSets.{InoSet}
 use Rattle.capcore.specs.Serves.{EndsWith, is_touched}
 

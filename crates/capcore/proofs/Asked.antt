@@ -26,8 +26,8 @@ use Rattle.lockmachine.specs.Locks.{IsLockMap, queue_tests, next_request, with_r
 use Rattle.lockmachine.specs.Scene.{Scene}
 use Rattle.lockmachine.proofs.Queue.{with_request-kept}
 use Rattle.lockmachine.proofs.SameBut.{same-request}
-use Rattle.capcore.specs.declared.event.Event.{Event}
-use Rattle.capcore.specs.declared.event.Event.TheVariants as event
+use Rattle.capevents.specs.declared.event.Event.{Event}
+use Rattle.capevents.specs.declared.event.Event.TheVariants as event
 use Rattle.capcore.specs.State.{State}
 use Rattle.capcore.specs.Asks.{ask_before, ask_needs, ask_after}
 use Rattle.capcore.specs.Judge.{judged, asked_tests, asking_tests, waiting_tests, stop, stop_by, first_denied}

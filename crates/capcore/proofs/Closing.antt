@@ -19,9 +19,9 @@ use Rattle.lockmachine.proofs.Finding.{filter-contains}
 use Rattle.lockmachine.proofs.SameOutside.{outside-one, rest-outside}
 use Rattle.capbits.specs.declared.ids.Ino.{Ino}
 use Rattle.capbits.specs.declared.ids.Ticket.{Ticket}
-use Rattle.capcore.specs.declared.event.Event.{Event}
-use Rattle.capcore.specs.declared.outcome.Ended.{Ended}
-use Rattle.capcore.specs.declared.reply.Said.{Said}
+use Rattle.capevents.specs.declared.event.Event.{Event}
+use Rattle.capevents.specs.declared.outcome.Ended.{Ended}
+use Rattle.capcore.specs.declared.said.Said.{Said}
 use Rattle.capcore.specs.State.{State}
 use Rattle.capcore.specs.Answered.{IsAnswered}
 use Rattle.capcore.specs.Direct.{direct, reply_of, shown, with_scene}

@@ -21,15 +21,16 @@ use Rattle.lockmachine.specs.Locks.{IsLockMap, next_request, request_at}
 use Rattle.lockmachine.specs.Moves.{first_move, with_moved}
 use Rattle.lockmachine.specs.Scene.{Scene}
 use Rattle.lockmachine.proofs.Finding.{contains-filter, filter-contains}
-use Rattle.capcore.specs.declared.event.Event.{Event}
-use Rattle.capcore.specs.declared.event.Event.TheVariants as event
-use Rattle.capcore.specs.declared.outcome.Ended.{Ended}
-use Rattle.capcore.specs.declared.outcome.Outcome.{Outcome}
-use Rattle.capcore.specs.declared.outcome.Outcome.TheVariants as outcome
-use Rattle.capcore.specs.declared.reply.Reply.{Reply}
-use Rattle.capcore.specs.declared.reply.Reply.TheVariants as reply
+use Rattle.capevents.specs.declared.event.Event.{Event}
+use Rattle.capevents.specs.declared.event.Event.TheVariants as event
+use Rattle.capevents.specs.declared.outcome.Ended.{Ended}
+use Rattle.capevents.specs.declared.outcome.Outcome.{Outcome}
+use Rattle.capevents.specs.declared.outcome.Outcome.TheVariants as outcome
+use Rattle.capevents.specs.declared.reply.Reply.{Reply}
+use Rattle.capevents.specs.declared.reply.Reply.TheVariants as reply
 use Rattle.capcore.specs.declared.stopped.Stopped.{Stopped}
-use Rattle.capcore.specs.Direct.{Direct, Answer, Says, Shows, Gives, Awaits, direct, effect, effect_unless, asks, found, reply_of, shown, awaited_as, outcome_reply, is_of_ticket}
+use Rattle.capevents.specs.Replies.{outcome_reply}
+use Rattle.capcore.specs.Direct.{Direct, Answer, Says, Shows, Gives, Awaits, direct, effect, effect_unless, asks, found, reply_of, shown, awaited_as, is_of_ticket}
 use Rattle.capcore.specs.Finish.{sizes_owed, finished}
 use Rattle.capcore.specs.Headline.{move_of}
 use Rattle.capcore.specs.Judge.{judged}

@@ -8,7 +8,7 @@ use Rattle.captable.specs.declared.entry.Holder.{Holder}
 use Rattle.captable.specs.Table.{IsTable, same, entry_of}
 use Rattle.captable.proofs.ByHolder.{row_found}
 use Rattle.lockmachine.specs.Scene.{Scene, told_set}
-use Rattle.capcore.specs.declared.outcome.Ended.{Ended}
+use Rattle.capevents.specs.declared.outcome.Ended.{Ended}
 use Rattle.capcore.specs.State.{State}
 use Rattle.capcore.specs.Finish.{sizes_owed}
 use Rattle.capcore.specs.Known.{known_in, AreKnown, StillKept, KeptAnew}

@@ -20,8 +20,8 @@ use Rattle.lockmachine.specs.Moves.{IsQuiet}
 use Rattle.lockmachine.specs.Requests.{part_of_change}
 use Rattle.lockmachine.specs.Scene.{Scene}
 use Rattle.lockmachine.proofs.SameBut.{same-trans, same-tree, same-entries}
-use Rattle.capcore.specs.declared.event.Event.TheVariants as event
-use Rattle.capcore.specs.declared.reply.Reply.TheVariants as reply
+use Rattle.capevents.specs.declared.event.Event.TheVariants as event
+use Rattle.capevents.specs.declared.reply.Reply.TheVariants as reply
 use Rattle.capcore.specs.State.{State}
 use Rattle.capcore.specs.Asks.{change_tests, exclusive, tree_changed}
 use Rattle.capcore.specs.Judge.{judged}

@@ -3,7 +3,7 @@ use Rattle.std.proofs.Common.{◌≡◌, ℕ, ◌+◌, ◌<◌, ◌≤◌, List,
 use Rattle.inotree.specs.Tree.{Nodes}
 use Rattle.captable.specs.Table.{IsTable, entry_at}
 use Rattle.capview.specs.declared.change.ViewChange.{ViewChange}
-use Rattle.capcore.specs.declared.history.Row.{Row}
+use Rattle.capevents.specs.declared.row.Row.{Row}
 use Rattle.capcore.specs.State.{State}
 use Rattle.capcore.specs.Step.{Step}
 use Rattle.capcore.specs.Sound.{IsSound, AreGiven}

@@ -28,9 +28,9 @@ use Rattle.lockmachine.proofs.Finding.{contains-filter, fails_at, find_none}
 use Rattle.lockmachine.proofs.InRows.{one_keeps}
 use Rattle.lockmachine.proofs.Moving.{with_lock-each}
 use Rattle.lockmachine.proofs.Queue.{moved-kept}
-use Rattle.capcore.specs.declared.outcome.Outcome.{Outcome}
-use Rattle.capcore.specs.declared.outcome.Outcome.TheVariants as outcome
-use Rattle.capcore.specs.declared.outcome.Ended.{Ended}
+use Rattle.capevents.specs.declared.outcome.Outcome.{Outcome}
+use Rattle.capevents.specs.declared.outcome.Outcome.TheVariants as outcome
+use Rattle.capevents.specs.declared.outcome.Ended.{Ended}
 use Rattle.capcore.specs.Serving.{tree_with, tree_after, served}
 use Rattle.capcore.specs.Settle.{Made, Began, Gathered, Served, Makes, MakesAll, ended_in}
 use Rattle.capcore.proofs.Leaving.{found-contains}

@@ -14,7 +14,7 @@ use Rattle.captable.specs.Table.{Table}
 use Rattle.lockmachine.specs.Locks.{LockMap}
 use Rattle.lockmachine.specs.Policy.{permitted}
 use Rattle.lockmachine.specs.Scene.{Scene, scene}
-use Rattle.capcore.specs.declared.outcome.Ended.{Ended}
+use Rattle.capevents.specs.declared.outcome.Ended.{Ended}
 use Rattle.capcore.specs.Finishing.{due_under, told_under}
 use Rattle.capcore.specs.InoSets.{InoSet, IsNext}
 use Rattle.capcore.specs.Known.{OthersHaveAll}

@@ -35,8 +35,8 @@ use Rattle.lockmachine.specs.declared.request.Change.TheVariants.{Set, SetXattr,
 use Rattle.lockmachine.specs.declared.request.Request.{Request}
 use Rattle.capcore.specs.declared.client.Turn.{Turn}
 use Rattle.capcore.specs.declared.client.Turn.TheVariants.{Close, Stale, Renew, Regrant, Evict}
-use Rattle.capcore.specs.declared.outcome.Outcome.{Outcome}
-use Rattle.capcore.specs.declared.outcome.Outcome.TheVariants.{Done}
+use Rattle.capevents.specs.declared.outcome.Outcome.{Outcome}
+use Rattle.capevents.specs.declared.outcome.Outcome.TheVariants.{Done}
 use Rattle.capcore.specs.Asks.{tree_changed}
 use Rattle.capcore.specs.Noted.{LeadOn, sets_attr, view}
 use Rattle.capcore.specs.Serving.{tree_after, tree_with}

@@ -20,8 +20,8 @@ use Rattle.lockmachine.specs.declared.request.Ask.TheVariants.{Get, Alter, Unlin
 use Rattle.lockmachine.specs.declared.request.Request.{Request}
 use Rattle.lockmachine.specs.Scene.{Scene}
 use Rattle.lockmachine.proofs.PolicyElsewhere.{alike-itself}
-use Rattle.capcore.specs.declared.outcome.Outcome.{Outcome}
-use Rattle.capcore.specs.declared.outcome.Outcome.TheVariants as outcome
+use Rattle.capevents.specs.declared.outcome.Outcome.{Outcome}
+use Rattle.capevents.specs.declared.outcome.Outcome.TheVariants as outcome
 use Rattle.capcore.specs.Serving.{MayEndAs, tree_after, tree_with}
 use Rattle.capcore.specs.Asks.{ask_before, ask_needs, ask_after, change_tests, tree_changed}
 use Rattle.capcore.specs.Served.{is_rename}

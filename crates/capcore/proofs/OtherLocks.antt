@@ -11,9 +11,9 @@ use Rattle.lockmachine.specs.Locks.{LockMap, lock_at, with_lock}
 use Rattle.lockmachine.specs.Moves.{LockPlace, present_state, coming_state}
 use Rattle.lockmachine.specs.Scene.{Scene}
 use Rattle.lockmachine.proofs.Moving.{is_at, with_lock-each}
-use Rattle.capcore.specs.declared.event.Event.{Event}
-use Rattle.capcore.specs.declared.outcome.Ended.{Ended}
-use Rattle.capcore.specs.declared.reply.Reply.{Reply}
+use Rattle.capevents.specs.declared.event.Event.{Event}
+use Rattle.capevents.specs.declared.outcome.Ended.{Ended}
+use Rattle.capevents.specs.declared.reply.Reply.{Reply}
 use Rattle.capcore.specs.Direct.{Answer, Says, Shows, Gives, Awaits, direct, shown}
 use Rattle.capcore.specs.Finish.{is_kept, issue, sizes_owed}
 use Rattle.capcore.specs.Headline.{ByMoves, OtherLocksStay, is_of_lock_at}

@@ -30,11 +30,12 @@ use Rattle.lockmachine.proofs.Exact.{ends_not, begins_not, serves_not, settled}
 use Rattle.lockmachine.proofs.Moving.{IsMove, first_is, is_at, with_lock-each}
 use Rattle.lockmachine.proofs.Queue.{least_served, found_by_number, moved-kept}
 use Rattle.lockmachine.proofs.Rest.{same_part_is}
-use Rattle.capcore.specs.declared.outcome.Outcome.{Outcome}
-use Rattle.capcore.specs.declared.reply.Reply.{Reply}
-use Rattle.capcore.specs.declared.reply.Reply.TheVariants as reply
+use Rattle.capevents.specs.declared.outcome.Outcome.{Outcome}
+use Rattle.capevents.specs.declared.reply.Reply.{Reply}
+use Rattle.capevents.specs.declared.reply.Reply.TheVariants as reply
 use Rattle.capcore.specs.declared.stopped.Stopped.{Stopped}
-use Rattle.capcore.specs.Direct.{awaited_as, outcome_reply, is_of_ticket}
+use Rattle.capevents.specs.Replies.{outcome_reply}
+use Rattle.capcore.specs.Direct.{awaited_as, is_of_ticket}
 use Rattle.capcore.specs.Headline.{is_stop}
 use Rattle.capcore.specs.Serving.{judged_again, told_of, passed_as, outcome_unless, MayEndAs, As_judged, Without_memory}
 use Rattle.capcore.specs.Settle.{Made, Began, Gathered, Served, MakesAll, ended_in}

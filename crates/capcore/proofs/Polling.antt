@@ -23,9 +23,9 @@ use Rattle.captable.specs.Calls.{is_of_client, is_due, changed, told, with_asked
 use Rattle.captable.specs.Many.{changed_where, remade}
 use Rattle.captable.proofs.OneByOne.{fold-changed_by}
 use Rattle.lockmachine.specs.Scene.{Scene, told_set}
-use Rattle.capcore.specs.declared.outcome.Ended.{Ended}
-use Rattle.capcore.specs.declared.outcome.Message.{Message}
-use Rattle.capcore.specs.declared.outcome.Message.TheVariants as message
+use Rattle.capevents.specs.declared.outcome.Ended.{Ended}
+use Rattle.capevents.specs.declared.outcome.Message.{Message}
+use Rattle.capevents.specs.declared.outcome.Message.TheVariants as message
 use Rattle.capcore.specs.State.{State}
 use Rattle.capcore.specs.Messages.{row_messages, size_message, first_messages, end_messages, after_messages, is_caps_of, is_size_of, is_recall_of, told_if, sized_if, unasked_if}
 use Rattle.capcore.proofs.Telling.{map_alike, given_fields, given-fields}

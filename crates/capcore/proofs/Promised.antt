@@ -17,16 +17,16 @@ use Rattle.lockmachine.specs.declared.request.Ask.TheVariants.{Get, Alter, Unlin
 use Rattle.lockmachine.specs.Locks.{IsLockMap}
 use Rattle.lockmachine.specs.Scene.{Scene}
 use Rattle.lockmachine.specs.Policy.{failures}
-use Rattle.capcore.specs.declared.event.Event.{Event}
-use Rattle.capcore.specs.declared.event.Event.TheVariants as event
+use Rattle.capevents.specs.declared.event.Event.{Event}
+use Rattle.capevents.specs.declared.event.Event.TheVariants as event
 use Rattle.capbits.specs.declared.refusal.Refusal.{Refusal}
-use Rattle.capcore.specs.declared.reply.Reply.{Reply}
-use Rattle.capcore.specs.declared.reply.Reply.TheVariants as reply
+use Rattle.capevents.specs.declared.reply.Reply.{Reply}
+use Rattle.capevents.specs.declared.reply.Reply.TheVariants as reply
 use Rattle.capcore.specs.State.{State}
 use Rattle.capbits.specs.Refusal.{first_failing}
 use Rattle.capcore.specs.Judge.{judged, before, needs, after, first_denied, stop_by}
 use Rattle.capcore.specs.Needs.{Need}
-use Rattle.capcore.specs.declared.outcome.Ended.{Ended}
+use Rattle.capevents.specs.declared.outcome.Ended.{Ended}
 use Rattle.capcore.specs.declared.stopped.Stopped.{Stopped}
 use Rattle.capcore.specs.declared.stopped.Stopped.TheVariants.{ByPolicy, ByTest}
 use Rattle.capcore.specs.Direct.{Direct, effect, effect_unless, found, direct, opened_as, reply_of, IsDirect}

@@ -8,9 +8,9 @@ use Rattle.captable.specs.declared.entry.Holder.{Holder}
 use Rattle.captable.specs.Table.{Table, IsTable, is_among}
 use Rattle.captable.specs.Calls.{asked_row, recalled, with_asked}
 use Rattle.captable.proofs.Tables.{IsTable-recalled}
-use Rattle.capcore.specs.declared.event.Event.TheVariants as event
-use Rattle.capcore.specs.declared.reply.Reply.TheVariants as reply
-use Rattle.capcore.specs.declared.reply.Said.{Said}
+use Rattle.capevents.specs.declared.event.Event.TheVariants as event
+use Rattle.capevents.specs.declared.reply.Reply.TheVariants as reply
+use Rattle.capcore.specs.declared.said.Said.{Said}
 use Rattle.capcore.specs.State.{State}
 use Rattle.capcore.specs.Known.{AreKnown}
 use Rattle.capcore.specs.Answered.{IsAnswered}

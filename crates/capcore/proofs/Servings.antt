@@ -10,8 +10,8 @@ use Rattle.lockmachine.specs.declared.request.Ask.TheVariants.{Get, Alter, Unlin
 use Rattle.lockmachine.specs.declared.request.Request.{Request}
 use Rattle.lockmachine.specs.Policy.{failures}
 use Rattle.lockmachine.specs.Scene.{Scene}
-use Rattle.capcore.specs.declared.outcome.Outcome.{Outcome}
-use Rattle.capcore.specs.declared.outcome.Outcome.TheVariants as outcome
+use Rattle.capevents.specs.declared.outcome.Outcome.{Outcome}
+use Rattle.capevents.specs.declared.outcome.Outcome.TheVariants as outcome
 use Rattle.capbits.specs.declared.refusal.Refusal.{Refusal}
 use Rattle.capbits.specs.Refusal.{first_failing}
 use Rattle.capcore.specs.Judge.{first_denied, stop_by}

@@ -22,14 +22,14 @@ use Rattle.captable.proofs.ByHolder.{entry_at-changed}
 use Rattle.lockmachine.specs.Scene.{Scene, against}
 use Rattle.lockmachine.specs.Told.{is_taken}
 use Rattle.lockmachine.proofs.Told.{has-against, has-told, pin-takes_all}
-use Rattle.capcore.specs.declared.event.Event.{Event}
-use Rattle.capcore.specs.declared.event.Event.TheVariants as event
+use Rattle.capevents.specs.declared.event.Event.{Event}
+use Rattle.capevents.specs.declared.event.Event.TheVariants as event
 use Rattle.capcore.specs.declared.stopped.Stopped.{Stopped}
 use Rattle.capcore.specs.declared.touch.Touch.TheVariants.{Ack}
 use Rattle.capcore.specs.Direct.{Direct, direct, effect_unless}
 use Rattle.capcore.specs.Headline.{holds}
 use Rattle.capcore.specs.Judge.{judged, revoked_of}
-use Rattle.capcore.specs.declared.history.Row.{Row}
+use Rattle.capevents.specs.declared.row.Row.{Row}
 use Rattle.capcore.specs.State.{State}
 use Rattle.capcore.specs.Shown.{AreShown, ShowsWhatIsTold, ShowsOnlyPermitted, TakesUnshown, shown_of}
 use Rattle.capcore.specs.Sound.{IsSound, IsSoundEntry}

@@ -29,7 +29,7 @@ use Rattle.lockmachine.proofs.PolicyElsewhere.{alike-itself}
 use Rattle.lockmachine.proofs.SameBut.{begin-alike, first-moved}
 use Rattle.lockmachine.proofs.Turns.{served-ends, ends-turn}
 use Rattle.lockmachine.proofs.Waiting.{quiet-waits-at, waits-wider, waits-less-at, served-at}
-use Rattle.capcore.specs.declared.outcome.Ended.{Ended}
+use Rattle.capevents.specs.declared.outcome.Ended.{Ended}
 use Rattle.capcore.specs.InoSets.{InoSet}
 use Rattle.capcore.specs.declared.settle.SweepPlace.{SweepPlace}
 use Rattle.capcore.specs.Served.{is_rename}

@@ -31,7 +31,7 @@ use Rattle.lockmachine.specs.Moves.{first_move, IsQuiet, IsAtRest, WaitAtLocks}
 use Rattle.lockmachine.specs.Rows.{IsInRow}
 use Rattle.lockmachine.specs.Wants.{effective_want}
 use Rattle.lockmachine.proofs.Rest.{at_rest}
-use Rattle.capcore.specs.declared.outcome.Ended.{Ended}
+use Rattle.capevents.specs.declared.outcome.Ended.{Ended}
 use Rattle.capcore.specs.State.{State}
 use Rattle.capcore.specs.Finish.{due, allowed_to}
 use Rattle.capcore.specs.Sound.{IsSoundEntry, IsSound, AreGiven}

@@ -6,18 +6,19 @@ use Rattle.inotree.specs.Inodes.{with_snapshot, without_snapshot}
 use Rattle.inotree.specs.Tree.{IsTree, child}
 use Rattle.sessiontab.specs.Tests.{new_session_tests}
 use Rattle.captable.specs.Table.{IsTable, holder}
-use Rattle.capcore.specs.declared.event.Event.{Event}
-use Rattle.capcore.specs.declared.event.Event.TheVariants as event
-use Rattle.capcore.specs.declared.outcome.Ended.{Ended}
-use Rattle.capcore.specs.declared.reply.Reply.{Reply}
-use Rattle.capcore.specs.declared.reply.Said.{Said}
+use Rattle.capevents.specs.declared.event.Event.{Event}
+use Rattle.capevents.specs.declared.event.Event.TheVariants as event
+use Rattle.capevents.specs.declared.outcome.Ended.{Ended}
+use Rattle.capevents.specs.declared.reply.Reply.{Reply}
+use Rattle.capcore.specs.declared.said.Said.{Said}
 use Rattle.capcore.specs.declared.stopped.Stopped.{Stopped}
 use Rattle.capcore.specs.declared.stopped.Stopped.TheVariants.{ByPolicy, ByTest}
 use Rattle.capcore.specs.State.{State}
 use Rattle.capcore.specs.Answered.{IsAnswered}
 use Rattle.inotree.specs.declared.node.Kind.TheVariants.{Directory, File}
 use Rattle.capcore.specs.Judge.{judged}
-use Rattle.capcore.specs.Direct.{Answer, Says, Shows, Gives, Awaits, Direct, direct, effect, effect_unless, found, reply_of, shown, has_list, with_scene, IsDirect}
+use Rattle.capevents.specs.Replies.{has_list}
+use Rattle.capcore.specs.Direct.{Answer, Says, Shows, Gives, Awaits, Direct, direct, effect, effect_unless, found, reply_of, shown, with_scene, IsDirect}
 use Rattle.capcore.specs.Settle.{Settles}
 use Rattle.capcore.specs.Finish.{sizes_owed, finished}
 use Rattle.capcore.specs.Leaving.{with_parts, LeavesEntries}

@@ -5,9 +5,9 @@ use Rattle.lockmachine.specs.Scene.{Scene}
 use Rattle.lockmachine.proofs.Exact.{settled}
 use Rattle.lockmachine.specs.Moves.{first_move}
 use Rattle.lockmachine.specs.declared.moves.Move.TheVariants.{Begin, End, Serve, Settled}
-use Rattle.capcore.specs.declared.event.Event.{Event}
-use Rattle.capcore.specs.declared.outcome.Ended.{Ended}
-use Rattle.capcore.specs.declared.reply.Reply.{Reply}
+use Rattle.capevents.specs.declared.event.Event.{Event}
+use Rattle.capevents.specs.declared.outcome.Ended.{Ended}
+use Rattle.capevents.specs.declared.reply.Reply.{Reply}
 use Rattle.capcore.specs.declared.stopped.Stopped.{Stopped}
 use Rattle.capcore.specs.State.{State}
 use Rattle.capcore.specs.Judge.{judged, stop_reply}

@@ -11,7 +11,7 @@ use Rattle.captable.proofs.Searches.{find_passes}
 use Rattle.lockmachine.proofs.Positions.{at_position}
 use Rattle.lockmachine.proofs.Rest.{not_found}
 use Rattle.capbits.specs.declared.ids.Ticket.{Ticket}
-use Rattle.capcore.specs.declared.outcome.Ended.{Ended}
+use Rattle.capevents.specs.declared.outcome.Ended.{Ended}
 use Rattle.capcore.specs.Direct.{is_of_ticket}
 use Rattle.capcore.specs.Untold.{HaveOwnNumbers, but_for}
 

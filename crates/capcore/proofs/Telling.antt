@@ -26,8 +26,8 @@ use Rattle.lockmachine.specs.Locks.{lock_at}
 use Rattle.lockmachine.specs.Wants.{want_of}
 use Rattle.lockmachine.specs.Scene.{Scene, wants, outside}
 use Rattle.lockmachine.specs.Moves.{is_open}
-use Rattle.capcore.specs.declared.outcome.Ended.{Ended}
-use Rattle.capcore.specs.declared.outcome.Message.{Message}
+use Rattle.capevents.specs.declared.outcome.Ended.{Ended}
+use Rattle.capevents.specs.declared.outcome.Message.{Message}
 use Rattle.capcore.specs.State.{State}
 use Rattle.capcore.specs.Direct.{Answer, Says, Shows, Gives, Awaits, with_scene, shown}
 use Rattle.capcore.specs.Finish.{due}

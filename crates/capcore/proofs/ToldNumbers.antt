@@ -9,8 +9,8 @@ use Rattle.std.proofs.lemmas.List.Folds.{list_any_at, list_any_more, list_any_no
 use Rattle.std.proofs.lemmas.List.Sorted.{searched}
 use Rattle.capbits.specs.declared.ids.ClientId.{ClientId}
 use Rattle.capbits.specs.declared.ids.Ticket.{Ticket}
-use Rattle.capcore.specs.declared.outcome.Ended.{Ended}
-use Rattle.capcore.specs.declared.outcome.Message.{Message}
+use Rattle.capevents.specs.declared.outcome.Ended.{Ended}
+use Rattle.capevents.specs.declared.outcome.Message.{Message}
 use Rattle.capcore.specs.Messages.{AreEndsOf, is_end_of, is_left, is_to}
 
 -- the numbers of some messages, and of one more

@@ -11,12 +11,13 @@ use Rattle.captable.specs.Calls.{told}
 use Rattle.lockmachine.specs.Scene.{Scene}
 use Rattle.capcore.specs.declared.touch.Touch.{Touch}
 use Rattle.capcore.specs.declared.touch.Touch.TheVariants.{Open, Want, Ack, Release}
-use Rattle.capcore.specs.declared.event.Event.{Event}
-use Rattle.capcore.specs.declared.outcome.Ended.{Ended}
+use Rattle.capevents.specs.declared.event.Event.{Event}
+use Rattle.capevents.specs.declared.outcome.Ended.{Ended}
 use Rattle.capcore.specs.declared.stopped.Stopped.{Stopped}
 use Rattle.capcore.specs.State.{State}
 use Rattle.capcore.specs.Judge.{judged, revoked_of}
-use Rattle.capcore.specs.Direct.{direct, effect, effect_unless, reply_of, shown, opened_as, has_list}
+use Rattle.capevents.specs.Replies.{has_list}
+use Rattle.capcore.specs.Direct.{direct, effect, effect_unless, reply_of, shown, opened_as}
 use Rattle.capcore.specs.Sound.{IsSound}
 use Rattle.capcore.specs.Touch.{touch_event, touched_table, touch_answer}
 use Rattle.capcore.specs.Touching.{touched_by}

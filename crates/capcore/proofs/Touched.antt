@@ -51,10 +51,10 @@ use Rattle.lockmachine.specs.Turns.{WaitAt}
 use Rattle.lockmachine.specs.Moves.{present_state, is_open, IsQuiet}
 use Rattle.lockmachine.specs.Wants.{effective_want}
 use Rattle.lockmachine.proofs.SameBut.{same-entries}
-use Rattle.capcore.specs.declared.event.Event.{Event}
-use Rattle.capcore.specs.declared.event.Event.TheVariants as event
-use Rattle.capcore.specs.declared.event.OpenMode.{OpenMode}
-use Rattle.capcore.specs.declared.event.OpenMode.TheVariants as opening
+use Rattle.capevents.specs.declared.event.Event.{Event}
+use Rattle.capevents.specs.declared.event.Event.TheVariants as event
+use Rattle.capevents.specs.declared.event.OpenMode.{OpenMode}
+use Rattle.capevents.specs.declared.event.OpenMode.TheVariants as opening
 use Rattle.capcore.specs.declared.touch.Touch.{Touch}
 use Rattle.capcore.specs.declared.touch.Touch.TheVariants.{Open, Want, Ack, Release}
 use Rattle.capcore.specs.State.{State}

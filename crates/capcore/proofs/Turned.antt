@@ -33,7 +33,7 @@ use Rattle.lockmachine.proofs.Finding.{contains-filter, fails_at, find_none}
 use Rattle.lockmachine.proofs.SameOutside.{outside-itself, outside-then, outside-dropped}
 use Rattle.capcore.specs.declared.client.Turn.{Turn}
 use Rattle.capcore.specs.declared.client.Turn.TheVariants.{Close, Stale, Renew, Regrant, Evict}
-use Rattle.capcore.specs.declared.reply.Reply.TheVariants as reply
+use Rattle.capevents.specs.declared.reply.Reply.TheVariants as reply
 use Rattle.capcore.specs.State.{State}
 use Rattle.capcore.specs.Direct.{Direct, Says, direct, effect, effect_unless}
 use Rattle.capcore.specs.Judge.{judged}

@@ -19,7 +19,7 @@ use Rattle.captable.specs.Table.{IsTable}
 use Rattle.capcore.specs.State.{State}
 use Rattle.capcore.specs.Answered.{IsAnswered}
 use Rattle.capcore.specs.Asks.{ask_needs}
-use Rattle.capcore.specs.declared.reply.Said.{Said}
+use Rattle.capcore.specs.declared.said.Said.{Said}
 use Rattle.capcore.specs.Direct.{Answer, Awaits, Direct, direct, reply_of, shown, with_scene, awaited_as, is_of_ticket}
 use Rattle.capcore.specs.Judge.{judged, stop, asking_tests, waiting_tests}
 use Rattle.capcore.specs.Serves.{EndsWith}
@@ -30,9 +30,9 @@ use Rattle.capcore.proofs.EndKnown.{ends-known}
 use Rattle.capcore.proofs.Knowing.{HoldAlike, alike-less, still-there, still-knows}
 use Rattle.capcore.proofs.Closing.{told-own_numbers, told-but_own, touches-one, closed}
 use Rattle.capcore.proofs.Stops.{touched-asks}
-use Rattle.capcore.specs.declared.event.Event.{Event}
-use Rattle.capcore.specs.declared.event.Event.TheVariants as event
-use Rattle.capcore.specs.declared.outcome.Ended.{Ended}
+use Rattle.capevents.specs.declared.event.Event.{Event}
+use Rattle.capevents.specs.declared.event.Event.TheVariants as event
+use Rattle.capevents.specs.declared.outcome.Ended.{Ended}
 use Rattle.capcore.specs.Touching.{asks_for, Touches, Knows}
 use Rattle.capcore.specs.Known.{known_in, AreKnown, StillKept}
 use Rattle.capcore.specs.Untold.{HaveOwnNumbers, but_for}

@@ -11,7 +11,7 @@ use Rattle.captable.specs.Table.{Table}
 use Rattle.captable.specs.Calls.{is_of_inode}
 use Rattle.inotree.specs.Tree.{Nodes, is_within}
 use Rattle.lockmachine.specs.declared.request.Request.{Request}
-use Rattle.capcore.specs.declared.outcome.Outcome.{Outcome}
+use Rattle.capevents.specs.declared.outcome.Outcome.{Outcome}
 use Rattle.capcore.specs.InoSets.{InoSet}
 use Rattle.capcore.specs.Serving.{tree_after}
 use Rattle.capcore.specs.Sweep.{AreWalked, Covers, CoversBelow, Reaches, Widens}

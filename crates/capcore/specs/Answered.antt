@@ -1,7 +1,7 @@
 -- What a step says, and what it leaves.
 use Rattle.std.specs.Prelude.{◌≡◌, ℕ, ◌+◌}
-use Rattle.capcore.specs.declared.event.Event.{Event}
-use Rattle.capcore.specs.declared.reply.Said.{Said}
+use Rattle.capevents.specs.declared.event.Event.{Event}
+use Rattle.capcore.specs.declared.said.Said.{Said}
 use Rattle.capcore.specs.State.{State}
 use Rattle.capcore.specs.Direct.{direct}
 use Rattle.capcore.specs.Headline.{IssuesExactly}

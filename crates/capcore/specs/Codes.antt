@@ -8,12 +8,12 @@ use Rattle.captable.specs.Codes as entries
 use Rattle.lockmachine.specs.Locks.{LockMap}
 use Rattle.lockmachine.specs.Codes.{lock_map_code}
 use Rattle.lockmachine.specs.Scene.{Scene}
-use Rattle.capcore.specs.declared.outcome.Ended.{Ended}
-use Rattle.capcore.specs.declared.history.Row.{Row}
+use Rattle.capevents.specs.declared.outcome.Ended.{Ended}
+use Rattle.capevents.specs.declared.row.Row.{Row}
 use Rattle.capview.specs.declared.change.ViewChange.{ViewChange}
 use Rattle.capview.specs.contracts.change.ViewChange as view_change
-use Rattle.capcore.specs.contracts.outcome.Ended as ended
-use Rattle.capcore.specs.contracts.history.Row as history_row
+use Rattle.capevents.specs.contracts.outcome.Ended as ended
+use Rattle.capevents.specs.contracts.row.Row as history_row
 use Rattle.capcore.specs.State.{State}
 use Rattle.capcore.specs.Noted.{Noted}
 use Rattle.capcore.specs.Untold.{Untold}

@@ -29,15 +29,15 @@ use Rattle.lockmachine.specs.declared.request.Change.{Change}
 use Rattle.lockmachine.specs.declared.request.Request.{Request}
 use Rattle.lockmachine.specs.Locks.{with_ino, with_request, requests_of, without_requests_of}
 use Rattle.lockmachine.specs.Scene.{Scene, told_set}
-use Rattle.capcore.specs.declared.event.Event.{Event}
-use Rattle.capcore.specs.declared.event.Event.TheVariants as event
-use Rattle.capcore.specs.declared.event.OpenMode.{OpenMode}
-use Rattle.capcore.specs.declared.event.OpenMode.TheVariants as opening
-use Rattle.capcore.specs.declared.outcome.Ended.{Ended}
-use Rattle.capcore.specs.declared.outcome.Outcome.{Outcome}
-use Rattle.capcore.specs.declared.outcome.Outcome.TheVariants as outcome
-use Rattle.capcore.specs.declared.reply.Reply.{Reply}
-use Rattle.capcore.specs.declared.reply.Reply.TheVariants as reply
+use Rattle.capevents.specs.declared.event.Event.{Event}
+use Rattle.capevents.specs.declared.event.Event.TheVariants as event
+use Rattle.capevents.specs.declared.event.OpenMode.{OpenMode}
+use Rattle.capevents.specs.declared.event.OpenMode.TheVariants as opening
+use Rattle.capevents.specs.declared.outcome.Ended.{Ended}
+use Rattle.capevents.specs.declared.outcome.Outcome.{Outcome}
+use Rattle.capevents.specs.declared.outcome.Outcome.TheVariants as outcome
+use Rattle.capevents.specs.declared.reply.Reply.{Reply}
+use Rattle.capevents.specs.declared.reply.Reply.TheVariants as reply
 use Rattle.capcore.specs.State.{State}
 use Rattle.capcore.specs.declared.stopped.Stopped.{Stopped}
 use Rattle.capcore.specs.Asks.{tree_changed}
@@ -62,15 +62,6 @@ pub data Answer : Type 0 where
 abbrev pub opened_as : Scene → Option EntryRow → Reply
 opened_as last None = reply.Done
 opened_as last (Some row) = reply.Opened row.entry.seq (told_set last row)
-
--- how a request ended, as its answer; where its session has ended, there is none
-abbrev pub outcome_reply : Outcome → Option Reply
-outcome_reply outcome.Done = Some reply.Done
-outcome_reply (outcome.Values values) = Some (reply.Values values)
-outcome_reply (outcome.Denied access rules) = Some (reply.Denied access rules)
-outcome_reply (outcome.Refused refusal) = Some (reply.Refused refusal)
-outcome_reply outcome.OutOfMemory = Some reply.OutOfMemory
-outcome_reply outcome.Dropped = None
 
 -- the answer to a request, where it is among those that ended; else it waits
 abbrev pub awaited_as : Ticket → Option Ended → Reply
@@ -256,16 +247,3 @@ pub record IsDirect (old : State) (e : Event) (answer : Reply) (new : State) : T
 abbrev pub made_event : Kind → ClientId → Ino → List ℕ → Mode → Event
 made_event File client dir name mode = event.Create client dir name mode
 made_event Directory client dir name mode = event.Mkdir client dir name mode
-
--- the reply has a list, of which a copy takes memory
-abbrev pub has_list : Reply → Bool
-has_list (reply.Values values) = true
-has_list reply.Done = false
-has_list (reply.Ino ino) = false
-has_list (reply.Opened seq caps) = false
-has_list (reply.Waiting ticket) = false
-has_list (reply.Denied access rules) = false
-has_list (reply.Refused refusal) = false
-has_list (reply.Messages messages) = true
-has_list (reply.Recalled holders) = true
-has_list reply.OutOfMemory = false

@@ -26,17 +26,17 @@ use Rattle.lockmachine.specs.Moves.{is_open}
 use Rattle.lockmachine.specs.Runs.{AreFew}
 use Rattle.lockmachine.specs.declared.moves.Move.{Move}
 use Rattle.lockmachine.specs.declared.moves.Move.TheVariants.{Begin, End, Serve}
-use Rattle.capcore.specs.declared.outcome.Outcome.{Outcome}
-use Rattle.capcore.specs.declared.outcome.Outcome.TheVariants as outcome
+use Rattle.capevents.specs.declared.outcome.Outcome.{Outcome}
+use Rattle.capevents.specs.declared.outcome.Outcome.TheVariants as outcome
 use Rattle.capcore.specs.Asks.{ask_before, ask_needs}
 use Rattle.capcore.specs.Settle.{Made, Began, Gathered, Served, MakesAll, ended_in}
 use Rattle.capcore.specs.State.{State}
 use Rattle.capcore.specs.Direct.{direct}
 use Rattle.capcore.specs.Step.{StepBy}
-use Rattle.capcore.specs.declared.outcome.Ended.{Ended}
-use Rattle.capcore.specs.declared.event.Event.{Event}
-use Rattle.capcore.specs.declared.reply.Reply.{Reply}
-use Rattle.capcore.specs.declared.reply.Reply.TheVariants as reply
+use Rattle.capevents.specs.declared.outcome.Ended.{Ended}
+use Rattle.capevents.specs.declared.event.Event.{Event}
+use Rattle.capevents.specs.declared.reply.Reply.{Reply}
+use Rattle.capevents.specs.declared.reply.Reply.TheVariants as reply
 use Rattle.capbits.specs.Refusal.{Test, first_failing}
 use Rattle.capcore.specs.Needs.{Need}
 use Rattle.capcore.specs.Judge.{before, needs, first_denied}

@@ -10,10 +10,10 @@ use Rattle.inotree.specs.Tree.{Nodes, place}
 use Rattle.captable.specs.Table as table
 use Rattle.lockmachine.specs.Inodes.{in_sync}
 use Rattle.capview.specs.declared.change.ViewChange.{ViewChange}
-use Rattle.capcore.specs.declared.event.Event.{Event}
-use Rattle.capcore.specs.declared.history.Row.{Row}
-use Rattle.capcore.specs.declared.outcome.Ended.{Ended}
-use Rattle.capcore.specs.declared.reply.Reply.{Reply}
+use Rattle.capevents.specs.declared.event.Event.{Event}
+use Rattle.capevents.specs.declared.row.Row.{Row}
+use Rattle.capevents.specs.declared.outcome.Ended.{Ended}
+use Rattle.capevents.specs.declared.reply.Reply.{Reply}
 use Rattle.capcore.specs.State.{State}
 use Rattle.capcore.specs.Step.{Step}
 use Rattle.capcore.specs.Sound.{IsSound, AreGiven}

@@ -23,12 +23,12 @@ use Rattle.lockmachine.specs.Locks.{queue_tests}
 use Rattle.lockmachine.specs.Policy.{is_granted, failures}
 use Rattle.lockmachine.specs.Scene.{Scene, against}
 use Rattle.capbits.specs.declared.refusal.Refusal.{Refusal}
-use Rattle.capcore.specs.declared.event.Event.{Event}
-use Rattle.capcore.specs.declared.event.Event.TheVariants as event
-use Rattle.capcore.specs.declared.event.OpenMode.{OpenMode}
-use Rattle.capcore.specs.declared.event.OpenMode.TheVariants as opening
-use Rattle.capcore.specs.declared.reply.Reply.{Reply}
-use Rattle.capcore.specs.declared.reply.Reply.TheVariants as reply
+use Rattle.capevents.specs.declared.event.Event.{Event}
+use Rattle.capevents.specs.declared.event.Event.TheVariants as event
+use Rattle.capevents.specs.declared.event.OpenMode.{OpenMode}
+use Rattle.capevents.specs.declared.event.OpenMode.TheVariants as opening
+use Rattle.capevents.specs.declared.reply.Reply.{Reply}
+use Rattle.capevents.specs.declared.reply.Reply.TheVariants as reply
 use Rattle.capcore.specs.declared.stopped.Stopped.{Stopped}
 use Rattle.capcore.specs.declared.stopped.Stopped.TheVariants.{ByPolicy, ByTest}
 use Rattle.capcore.specs.Needs.{Need, need, need_if}

@@ -11,9 +11,9 @@ use Rattle.captable.specs.declared.entry.EntryRow.{EntryRow}
 use Rattle.captable.specs.Calls.{is_of_client, told, with_asked, with_size_due}
 use Rattle.captable.specs.Many.{changed_where}
 use Rattle.lockmachine.specs.Scene.{Scene, told_set}
-use Rattle.capcore.specs.declared.outcome.Ended.{Ended}
-use Rattle.capcore.specs.declared.outcome.Message.{Message}
-use Rattle.capcore.specs.declared.outcome.Message.TheVariants as message
+use Rattle.capevents.specs.declared.outcome.Ended.{Ended}
+use Rattle.capevents.specs.declared.outcome.Message.{Message}
+use Rattle.capevents.specs.declared.outcome.Message.TheVariants as message
 use Rattle.capcore.specs.State.{State}
 
 abbrev pub is_to : ClientId → Ended → Bool

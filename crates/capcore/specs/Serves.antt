@@ -10,7 +10,7 @@ use Rattle.inotree.specs.Tree.{IsTree}
 use Rattle.lockmachine.specs.declared.request.Request.{Request}
 use Rattle.lockmachine.specs.Locks.{request_at, without_request}
 use Rattle.lockmachine.specs.Scene.{Scene}
-use Rattle.capcore.specs.declared.outcome.Ended.{Ended}
+use Rattle.capevents.specs.declared.outcome.Ended.{Ended}
 use Rattle.capcore.specs.Serving.{MayEndAs, tree_after}
 use Rattle.capcore.specs.Finish.{sizes_owed}
 use Rattle.capcore.specs.InoSets.{InoSet}

@@ -14,10 +14,10 @@ use Rattle.lockmachine.specs.declared.request.Request.{Request}
 use Rattle.lockmachine.specs.declared.moves.Move.TheVariants.{Serve}
 use Rattle.lockmachine.specs.Moves.{moved as moved_locks}
 use Rattle.lockmachine.specs.Scene.{Scene}
-use Rattle.capcore.specs.declared.outcome.PartValues.{PartValues}
-use Rattle.capcore.specs.declared.outcome.PartValues.TheVariants as values
-use Rattle.capcore.specs.declared.outcome.Outcome.{Outcome}
-use Rattle.capcore.specs.declared.outcome.Outcome.TheVariants as outcome
+use Rattle.capevents.specs.declared.outcome.PartValues.{PartValues}
+use Rattle.capevents.specs.declared.outcome.PartValues.TheVariants as values
+use Rattle.capevents.specs.declared.outcome.Outcome.{Outcome}
+use Rattle.capevents.specs.declared.outcome.Outcome.TheVariants as outcome
 use Rattle.capcore.specs.declared.stopped.Stopped.{Stopped}
 use Rattle.capcore.specs.declared.stopped.Stopped.TheVariants.{ByPolicy, ByTest}
 use Rattle.capcore.specs.Asks.{ask_before, ask_needs, ask_after, tree_changed}

@@ -25,8 +25,8 @@ use Rattle.lockmachine.specs.Locks.{lock_at, without_ino}
 use Rattle.lockmachine.specs.Scene.{Scene, told_set}
 use Rattle.lockmachine.specs.Rows.{IsInRow}
 use Rattle.lockmachine.specs.Turns.{WaitAt}
-use Rattle.capcore.specs.declared.event.Event.{Event}
-use Rattle.capcore.specs.declared.event.Event.TheVariants as event
+use Rattle.capevents.specs.declared.event.Event.{Event}
+use Rattle.capevents.specs.declared.event.Event.TheVariants as event
 use Rattle.capcore.specs.Finish.{issue_row, is_kept}
 use Rattle.capcore.specs.Settle.{Made, Settles}
 use Rattle.capcore.specs.State.{State}

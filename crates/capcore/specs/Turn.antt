@@ -18,9 +18,9 @@ use Rattle.capview.specs.declared.change.ViewChange.{ViewChange}
 use Rattle.capview.specs.Changes.{AreChanges}
 use Rattle.capcore.specs.declared.client.Turn.{Turn}
 use Rattle.capcore.specs.declared.client.Turn.TheVariants.{Close, Stale, Renew, Regrant, Evict}
-use Rattle.capcore.specs.declared.event.Event.{Event}
-use Rattle.capcore.specs.declared.event.Event.TheVariants as event
-use Rattle.capcore.specs.declared.outcome.Ended.{Ended}
+use Rattle.capevents.specs.declared.event.Event.{Event}
+use Rattle.capevents.specs.declared.event.Event.TheVariants as event
+use Rattle.capevents.specs.declared.outcome.Ended.{Ended}
 use Rattle.capcore.specs.Direct.{dropped_of}
 use Rattle.capcore.specs.InoSets.{InoSet}
 use Rattle.capcore.specs.Messages.{is_to}

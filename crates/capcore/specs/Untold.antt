@@ -2,7 +2,7 @@
 use Rattle.std.specs.Prelude.{◌≢◌, ℕ, ◌+◌, ◌≤◌, ◌==◌, not, List, AllPairs, length, filter}
 use Rattle.capbits.specs.declared.ids.Ticket.{Ticket}
 use Rattle.lockmachine.specs.Locks.{LockMap}
-use Rattle.capcore.specs.declared.outcome.Ended.{Ended}
+use Rattle.capevents.specs.declared.outcome.Ended.{Ended}
 
 -- in the order in which they ended
 pub record Untold : Type 0 where

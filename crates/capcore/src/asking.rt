@@ -3,7 +3,7 @@ ghost use Rattle.std.specs.Prelude.{◌≡◌, ◌++◌, ℕ, List, None, Some, 
 ghost use Rattle.capbits.specs.Refusal.{first_failing};
 ghost use Rattle.captable.specs.Table.{holder};
 ghost use Rattle.lockmachine.specs.declared.request.Ask.TheVariants as ask_kind;
-ghost use Rattle.capcore.specs.declared.event.Event.{Event};
+ghost use Rattle.capevents.specs.declared.event.Event.{Event};
 ghost use Rattle.capcore.specs.Answered.{IsAnswered};
 ghost use Rattle.capcore.specs.Noted.{view_of};
 ghost use Rattle.capview.specs.Changes.{AreChanges};
@@ -13,14 +13,14 @@ ghost use Rattle.capcore.specs.Sound.{NumbersLeft};
 ghost use Rattle.capcore.specs.Touching.{asks_for};
 
 use crate::ended::close_with;
-use crate::history::Stop;
 use crate::judge::{by_test, denial};
-use crate::reply::Said;
+use crate::said::Said;
 use crate::serving::{
     after_refusal, ask_denial, before_refusal, change_access, change_refusal, places_refusal,
     rename_denial,
 };
 use crate::settle::end_at_one;
+use crate::stop::Stop;
 use crate::stopped::Stopped;
 use crate::world::World;
 use capbits::{ClientId, Ino, Refusal};

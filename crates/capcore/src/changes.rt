@@ -10,8 +10,8 @@ ghost use Rattle.capcore.specs.Asks.{tree_changed};
 ghost use Rattle.capcore.specs.Noted.{LeadOn, sets_attr};
 ghost use Rattle.capcore.specs.Serving.{tree_after};
 
-use crate::outcome::Outcome;
 use capbits::Ino;
+use capevents::Outcome;
 use capview::ViewChange;
 use inotree::{Kind, Node, Setting, Site, Tree};
 use lockmachine::{Ask, Change, Request};

@@ -24,15 +24,15 @@ ghost use Rattle.capcore.specs.Turn as words;
 
 use crate::changes::ChangeList;
 use crate::ended::close_dropped;
-use crate::history::Stop;
 use crate::ino_set::InoSet;
 use crate::known::Known;
 use crate::messages::{Endings, Messages};
-use crate::outcome::{Ended, Outcome};
-use crate::reply::{Reply, Said};
+use crate::said::Said;
 use crate::settle::end_at;
+use crate::stop::Stop;
 use crate::world::World;
 use capbits::{ClientId, Ino, Refusal};
+use capevents::{Ended, Outcome, Reply};
 use capspec::Grants;
 use captable::CapTable;
 use capview::ViewChange;

@@ -1,15 +1,15 @@
 //! What a step says of the requests that it ended.
 ghost use Rattle.std.specs.Prelude.{◌≡◌, ◌+◌, ◌≤◌, ◌++◌, false, length, unwrap_or};
 ghost use Rattle.std.specs.List.{find};
-ghost use Rattle.capcore.specs.Direct.{has_list, is_of_ticket, awaited_as, outcome_reply};
+ghost use Rattle.capevents.specs.Replies.{has_list, outcome_reply};
+ghost use Rattle.capcore.specs.Direct.{is_of_ticket, awaited_as};
 ghost use Rattle.capcore.specs.Untold.{HaveOwnNumbers, but_for};
-ghost use Rattle.capcore.specs.declared.reply.Reply.TheVariants as reply;
+ghost use Rattle.capevents.specs.declared.reply.Reply.TheVariants as reply;
 
-use crate::copies::copy_of_reply;
 use crate::messages::{Endings, Messages};
-use crate::outcome::{Ended, Outcome};
-use crate::reply::{Reply, Said};
+use crate::said::Said;
 use capbits::Ticket;
+use capevents::{Ended, Outcome, Reply, copy_of_reply};
 
 // A reply, which has no list, and the requests that the step ended: their clients are to be told of them, and the history keeps
 // them.

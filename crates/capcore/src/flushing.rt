@@ -2,7 +2,7 @@
 ghost use Rattle.std.specs.Prelude.{◌≡◌, IfOk, IfErr, OnErr};
 ghost use Rattle.capbits.specs.Refusal.{first_failing};
 ghost use Rattle.captable.specs.Table.{holder};
-ghost use Rattle.capcore.specs.declared.event.Event.TheVariants as event;
+ghost use Rattle.capevents.specs.declared.event.Event.TheVariants as event;
 ghost use Rattle.capcore.specs.Answered.{IsAnswered};
 ghost use Rattle.capcore.specs.Noted.{view_of};
 ghost use Rattle.capview.specs.Changes.{AreChanges};
@@ -11,14 +11,15 @@ ghost use Rattle.capcore.specs.Judge.{judged, flush_tests};
 ghost use Rattle.capcore.specs.Sound.{NumbersLeft};
 
 use crate::ended::close;
-use crate::history::Stop;
 use crate::judge::{by_test, denial};
-use crate::reply::{Reply, Said};
+use crate::said::Said;
 use crate::serving::{alter, change_access, change_refusal};
 use crate::settle::end_at_one;
+use crate::stop::Stop;
 use crate::stopped::Stopped;
 use crate::world::World;
 use capbits::{Cap, CapSet, ClientId, Ino, Part, Refusal};
+use capevents::Reply;
 use captable::Holder;
 use lockmachine::Change;
 

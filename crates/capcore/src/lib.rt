@@ -6,24 +6,20 @@
 mod asking;
 mod changes;
 mod client;
-mod copies;
 mod ended;
-mod event;
 mod finish;
 mod flushing;
 mod giving;
-mod history;
 mod ino_set;
 mod judge;
 mod known;
 mod laws;
 mod messages;
-mod outcome;
 mod own_laws;
 mod poll;
 mod reach;
 mod recalling;
-mod reply;
+mod said;
 mod serving;
 mod serving_laws;
 mod settle;
@@ -31,6 +27,7 @@ mod shown_laws;
 mod sizes;
 mod start;
 mod step;
+mod stop;
 mod stopped;
 mod told;
 mod told_numbers;
@@ -39,10 +36,11 @@ mod touch_laws;
 mod world;
 
 pub use capbits::Refusal;
+pub use capevents::{
+    Ended, EndedList, Event, Message, MessageList, OpenMode, Outcome, PartValues, Reply, Row,
+};
 pub use capview::ViewChange;
-pub use event::{Event, OpenMode};
 pub use giving::{a_recall_leaves_all_but_the_marks, telling_leaves_all_but_what_was_told};
-pub use history::{EndedList, Row, Stop};
 pub use laws::{
     a_row_fixes_its_step, a_settling_serves_at_most_who_waits,
     a_sound_state_has_nothing_left_to_do, a_step_that_finds_memory_has_one_end,
@@ -51,10 +49,9 @@ pub use laws::{
     the_same_events_have_the_same_history, the_served_are_denied_by_name,
     the_served_are_denied_exactly, what_leaves_entries_alone_leaves_nothing_to_do,
 };
-pub use outcome::{Ended, Message, MessageList, Outcome, PartValues};
 pub use own_laws::what_is_served_at_once_is_not_stopped;
-pub use reply::Reply;
 pub use serving_laws::{a_serving_changes_what_it_moves, a_serving_keeps_what_is_known};
 pub use step::Core;
+pub use stop::Stop;
 pub use stopped::Stopped;
 pub use touch_laws::an_event_is_a_step_once_it_has_ended;

@@ -3,15 +3,14 @@ ghost use Rattle.std.specs.Prelude.{◌≡◌, ◌==◌, ◌&&◌, ◌+◌, ◌�
 ghost use Rattle.std.specs.List.{find, filter_map, list_any, position};
 ghost use Rattle.capcore.specs.Direct.{is_of_ticket};
 ghost use Rattle.capcore.specs.Messages.{AreEndsOf, is_to, is_left};
-ghost use Rattle.capcore.specs.declared.outcome.Message.{Message};
+ghost use Rattle.capevents.specs.declared.outcome.Message.{Message};
 ghost use Rattle.capcore.specs.Untold.{HaveOwnNumbers, but_for};
 
 use crate::changes::ChangeList;
-use crate::history::EndedList;
-use crate::outcome::Ended;
 use crate::serving::Served;
 use crate::told_numbers::ToldNumbers;
 use capbits::{ClientId, Ino, Ticket};
+use capevents::{Ended, EndedList};
 use std::alloc::{AllocError, Global};
 use std::fmt;
 use std::marker::Model;

@@ -7,10 +7,9 @@ ghost use Rattle.capcore.specs.Known.{AreKnown, known_in};
 ghost use Rattle.capcore.specs.Messages.{after_messages, caps_messages, end_messages, first_messages, row_messages, size_messages};
 ghost use Rattle.capcore.specs.State.{State};
 
-use crate::copies::copy_of_outcome;
 use crate::known::Known;
-use crate::outcome::{Ended, Message, MessageList};
 use capbits::ClientId;
+use capevents::{Ended, Message, MessageList, copy_of_outcome};
 use captable::{CapTable, EntryRow};
 use inotree::Tree;
 use std::alloc::{AllocError, Global};

@@ -6,7 +6,7 @@ ghost use Rattle.inotree.specs.Tree.{IsTree, is_within, place};
 ghost use Rattle.inotree.specs.Alike.{IsAlike};
 ghost use Rattle.lockmachine.specs.declared.request.Request.{Request};
 ghost use Rattle.lockmachine.specs.Scene.{Scene};
-ghost use Rattle.capcore.specs.declared.outcome.Outcome.{Outcome};
+ghost use Rattle.capevents.specs.declared.outcome.Outcome.{Outcome};
 ghost use Rattle.capcore.specs.Serving.{MayEndAs, tree_after};
 ghost use Rattle.capcore.specs.Served.{is_rename};
 

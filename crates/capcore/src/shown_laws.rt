@@ -3,10 +3,10 @@
 ghost use Rattle.std.specs.Prelude.{◌≡◌, ◌++◌, [], ◌∷◌, List};
 ghost use Rattle.captable.specs.Table.{IsTable};
 ghost use Rattle.lockmachine.specs.Scene.{Scene};
-ghost use Rattle.capcore.specs.declared.history.Row.{Row};
+ghost use Rattle.capevents.specs.declared.row.Row.{Row};
 ghost use Rattle.capcore.specs.State.{State};
 ghost use Rattle.capcore.specs.Direct.{direct};
-ghost use Rattle.capcore.specs.declared.event.Event.{Event};
+ghost use Rattle.capevents.specs.declared.event.Event.{Event};
 ghost use Rattle.capcore.specs.Headline.{IssuesExactly};
 ghost use Rattle.capcore.specs.Sound.{IsSound};
 ghost use Rattle.capcore.specs.Step.{Step};

@@ -5,14 +5,14 @@ ghost use Rattle.capcore.specs.Promised.{IsPromised};
 ghost use Rattle.sessiontab.specs.Calls.{status_of};
 ghost use Rattle.captable.specs.Table.{holder, entry_at};
 ghost use Rattle.lockmachine.specs.Locks.{lock_at};
-ghost use Rattle.capcore.specs.declared.history.Stop.TheVariants as stop_kind;
+ghost use Rattle.capcore.specs.declared.stop.Stop.TheVariants as stop_kind;
 
 use crate::changes::ChangeList;
-use crate::event::Event;
-use crate::history::{Row, Stop};
-use crate::reply::{Reply, Said};
+use crate::said::Said;
+use crate::stop::Stop;
 use crate::world::World;
 use capbits::{ClientId, Ino, Part, PassId};
+use capevents::{Event, Reply, Row};
 use capspec::FsName;
 use captable::Entry;
 use capview::ViewChange;

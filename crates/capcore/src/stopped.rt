@@ -1,8 +1,8 @@
 //! What stops a request.
 ghost use Rattle.std.specs.Prelude.{◌≡◌};
 
-use crate::reply::Reply;
 use capbits::Refusal;
+use capevents::Reply;
 use capgrant::{Access, Rules};
 
 /// What stops a request, whether it has just come or was waiting for a lock.

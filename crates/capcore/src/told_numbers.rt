@@ -3,8 +3,8 @@ ghost use Rattle.std.specs.Prelude.{◌≡◌, ◌==◌, ◌||◌, true, IfOk, O
 ghost use Rattle.std.specs.List.{list_any};
 ghost use Rattle.capcore.specs.Messages.{AreEndsOf, is_end_of};
 
-use crate::outcome::Message;
 use capbits::Ticket;
+use capevents::Message;
 use std::alloc::{AllocError, Global};
 use std::marker::Model;
 

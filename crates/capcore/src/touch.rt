@@ -11,11 +11,10 @@ ghost use Rattle.capcore.specs.Direct.{reply_of, shown, with_table};
 ghost use Rattle.capcore.specs.Direct as effects;
 ghost use Rattle.capcore.specs.Touch as words;
 
-use crate::event::OpenMode;
 use crate::finish::show;
 use crate::known::Known;
-use crate::reply::Reply;
 use capbits::{Cap, CapSet};
+use capevents::{OpenMode, Reply};
 use captable::{CapTable, Holder};
 use std::alloc::AllocError;
 

@@ -2,8 +2,8 @@
 
 ghost use Rattle.std.specs.Prelude.{◌≡◌, List};
 ghost use Rattle.lockmachine.specs.Scene.{Scene};
-ghost use Rattle.capcore.specs.declared.event.Event.{Event};
-ghost use Rattle.capcore.specs.declared.reply.Reply.{Reply};
+ghost use Rattle.capevents.specs.declared.event.Event.{Event};
+ghost use Rattle.capevents.specs.declared.reply.Reply.{Reply};
 ghost use Rattle.capcore.specs.State.{State};
 ghost use Rattle.capcore.specs.Direct.{direct, reply_of, shown};
 ghost use Rattle.capcore.specs.Finish.{sizes_owed, finished};

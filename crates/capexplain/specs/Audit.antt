@@ -2,8 +2,8 @@
 use Rattle.std.specs.Prelude.{ℕ, List, ◌++◌, codes}
 use Rattle.std.specs.Fmt.{decimal}
 use Rattle.std.specs.List.{flat_map}
-use Rattle.capcore.specs.declared.history.Row.{Row}
-use Rattle.capcore.specs.declared.outcome.Ended.{Ended}
+use Rattle.capevents.specs.declared.row.Row.{Row}
+use Rattle.capevents.specs.declared.outcome.Ended.{Ended}
 use Rattle.capexplain.specs.EventTexts.{event_text}
 use Rattle.capexplain.specs.Replies.{reply_line, outcome_text}
 

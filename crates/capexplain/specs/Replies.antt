@@ -10,12 +10,12 @@ use Rattle.capgrant.specs.Access.{access_word}
 use Rattle.capgrant.specs.Rule.{rule_number}
 use Rattle.capbits.specs.Refusal.{refusal_word}
 use Rattle.captable.specs.declared.entry.Holder.{Holder}
-use Rattle.capcore.specs.declared.outcome.Message.{Message}
-use Rattle.capcore.specs.declared.outcome.Message.TheVariants as messages
-use Rattle.capcore.specs.declared.outcome.Outcome.{Outcome}
-use Rattle.capcore.specs.declared.reply.Reply.{Reply}
-use Rattle.capcore.specs.declared.reply.Reply.TheVariants.{Done, Ino, Opened, Values, Messages, Recalled, Waiting, Denied, Refused, OutOfMemory}
-use Rattle.capcore.specs.Direct.{outcome_reply}
+use Rattle.capevents.specs.declared.outcome.Message.{Message}
+use Rattle.capevents.specs.declared.outcome.Message.TheVariants as messages
+use Rattle.capevents.specs.declared.outcome.Outcome.{Outcome}
+use Rattle.capevents.specs.declared.reply.Reply.{Reply}
+use Rattle.capevents.specs.declared.reply.Reply.TheVariants.{Done, Ino, Opened, Values, Messages, Recalled, Waiting, Denied, Refused, OutOfMemory}
+use Rattle.capevents.specs.Replies.{outcome_reply}
 use Rattle.capexplain.specs.PartTexts.{values_text}
 
 -- the number of a grant, and that of the rule by which it fails

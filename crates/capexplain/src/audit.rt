@@ -7,7 +7,7 @@ use crate::event_text::print_event;
 use crate::message_text::{print_outcome, print_ticket};
 use crate::reply::print_reply;
 use crate::text::{print_number, print_numbered, print_str};
-use capcore::{Ended, Row};
+use capevents::{Ended, Row};
 use std::alloc::{AllocError, Global};
 
 // How many bytes most lines have at the most. A list for one grows but once.

@@ -2,7 +2,7 @@
 ghost use Rattle.std.specs.Prelude.{◌≡◌};
 ghost use Rattle.capexplain.specs.Words.{command_of, command_word};
 
-use capcore::Event;
+use capevents::Event;
 
 /// What a line says, by its first word.
 #[derive(Clone, Copy, Debug, PartialEq, Eq)]

@@ -11,7 +11,7 @@ use crate::command::Command;
 use crate::part_text::{print_bytes, print_mode};
 use crate::text::{print, print_caps, print_number, print_numbered, print_str};
 use capbits::{Caller, CapSet, ClientId, Groups, Ino, Mode, Part};
-use capcore::{Event, OpenMode};
+use capevents::{Event, OpenMode};
 use capspec::{Grants, write_grants};
 use inotree::Setting;
 use lockmachine::{Bytes, Change};

@@ -8,7 +8,7 @@ use crate::part_text::print_values;
 use crate::reply::print_denial;
 use crate::text::{print, print_caps, print_numbered, print_str};
 use capbits::{CapSet, Ino, Ticket};
-use capcore::{Message, Outcome};
+use capevents::{Message, Outcome};
 use std::alloc::AllocError;
 
 // A line for each message.

@@ -5,7 +5,7 @@ ghost use Rattle.capexplain.specs.PartTexts.{attr_text, attribute_text, byte_tex
 
 use crate::text::{print, print_number, print_str};
 use capbits::Mode;
-use capcore::PartValues;
+use capevents::PartValues;
 use capgrant::Attr;
 use inotree::Attributes;
 use std::alloc::AllocError;

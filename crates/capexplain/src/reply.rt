@@ -7,7 +7,7 @@ use crate::message_text::print_messages;
 use crate::part_text::print_values;
 use crate::text::{print, print_caps, print_number, print_numbered, print_str};
 use capbits::CapSet;
-use capcore::Reply;
+use capevents::Reply;
 use capgrant::{Access, Rule, Rules};
 use captable::Holder;
 use std::alloc::{AllocError, Global};

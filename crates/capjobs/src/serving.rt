@@ -2,7 +2,7 @@
 ghost use Rattle.std.specs.Prelude.{◌≡◌, ◌≢◌, ◌<◌, ◌≤◌, ◌+◌, ◌⊎◌, ◌↔◌, ℕ, List, Err, length, vec_len, IfOk, IfErr, IfSome, OnErr, IsTrue, IsFalse};
 ghost use Rattle.std.specs.Io.KnownBytes.{Appends, Keeps};
 ghost use Rattle.capcore.specs.History.{IsLegal};
-ghost use Rattle.capcore.specs.declared.history.Stop.TheVariants as stop_kind;
+ghost use Rattle.capcore.specs.declared.stop.Stop.TheVariants as stop_kind;
 ghost use Rattle.capserver.specs.Opened.{opened};
 ghost use Rattle.capscript.specs.Lines.{lines, longest_script};
 ghost use Rattle.capscript.specs.declared.fault.ScriptFault.TheVariants as stops;

@@ -13,8 +13,8 @@ use Rattle.inotree.specs.declared.node.Node.{Node}
 use Rattle.std.specs.FinSet as set
 use Rattle.lockmachine.specs.Inodes.{in_sync}
 use Rattle.inotree.specs.Calls.{first_tree}
-use Rattle.capcore.specs.declared.event.Event.{Event}
-use Rattle.capcore.specs.declared.history.Row.{Row}
+use Rattle.capevents.specs.declared.event.Event.{Event}
+use Rattle.capevents.specs.declared.row.Row.{Row}
 use Rattle.capcore.specs.History.{Told, IsOpening, Replays, AreNumbered, rows_of}
 use Rattle.capcore.specs.State.{State}
 use Rattle.capbits.specs.declared.ids.ClientId.{ClientId}

@@ -10,8 +10,8 @@ use Rattle.capspec.specs.Grants.{Reads as MeansGrants}
 use Rattle.inotree.specs.declared.node.Setting.TheVariants.{Mode, Uid, Gid, Size, Time}
 use Rattle.lockmachine.specs.declared.request.Change.{Change}
 use Rattle.lockmachine.specs.declared.request.Change.TheVariants.{Set, SetXattr, RemoveXattr}
-use Rattle.capcore.specs.declared.event.Event.{Event}
-use Rattle.capcore.specs.declared.event.Event.TheVariants as events
+use Rattle.capevents.specs.declared.event.Event.{Event}
+use Rattle.capevents.specs.declared.event.Event.TheVariants as events
 use Rattle.capexplain.specs.declared.change_word.ChangeWord.{ChangeWord}
 use Rattle.capexplain.specs.declared.change_word.ChangeWord.TheVariants as words
 use Rattle.capexplain.specs.declared.command.Command.{Command}

@@ -3,7 +3,7 @@ use Rattle.std.specs.Prelude.{◌≡◌, ◌≢◌, ℕ, List}
 use Rattle.capspec.specs.declared.fault.SpecFault.{SpecFault}
 use Rattle.capspec.specs.declared.fault.SpecFaultKind.TheVariants as kinds
 use Rattle.capspec.specs.Faults.{IsFault}
-use Rattle.capcore.specs.declared.event.Event.{Event}
+use Rattle.capevents.specs.declared.event.Event.{Event}
 use Rattle.capscript.specs.declared.fault.LineFault.{LineFault}
 use Rattle.capscript.specs.declared.fault.LineFault.TheVariants as faults
 use Rattle.capscript.specs.declared.fault.Refused.{Refused}

@@ -4,9 +4,9 @@ use Rattle.std.specs.List.{AllByRecursion, flat_map}
 use Rattle.capbits.specs.declared.ids.PassId.{PassId}
 use Rattle.capgrant.specs.declared.access.Attr.{Attr}
 use Rattle.inotree.specs.Calls.{first_tree}
-use Rattle.capcore.specs.declared.event.Event.{Event}
-use Rattle.capcore.specs.declared.history.Row.{Row}
-use Rattle.capcore.specs.declared.reply.Reply.{Reply}
+use Rattle.capevents.specs.declared.event.Event.{Event}
+use Rattle.capevents.specs.declared.row.Row.{Row}
+use Rattle.capevents.specs.declared.reply.Reply.{Reply}
 use Rattle.capcore.specs.History.{Told, IsOpening, IsLegal, IsNext}
 use Rattle.capcore.specs.State.{State}
 use Rattle.capscript.specs.declared.fault.LineFault.{LineFault}

@@ -1,7 +1,7 @@
 //! The changes that lines say.
 ghost use Rattle.std.specs.Prelude.{◌≡◌, ◌∷◌, [], map, MatchResult};
 ghost use Rattle.lockmachine.specs.declared.request.Change.{Change as AChange};
-ghost use Rattle.capcore.specs.declared.event.Event.{Event as AnEvent};
+ghost use Rattle.capevents.specs.declared.event.Event.{Event as AnEvent};
 ghost use Rattle.capscript.specs.Changes as changes;
 ghost use Rattle.capscript.specs.Events.{Tells, says_change, says_kind};
 ghost use Rattle.capscript.specs.Faults.{IsRefused};

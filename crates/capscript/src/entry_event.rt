@@ -3,15 +3,15 @@ ghost use Rattle.std.specs.Prelude.{map, MatchResult};
 ghost use Rattle.capbits.specs.Caps.{Caps};
 ghost use Rattle.capbits.specs.declared.ids.ClientId.{ClientId as AClient};
 ghost use Rattle.capbits.specs.declared.ids.Ino.{Ino as AnIno};
-ghost use Rattle.capcore.specs.declared.event.Event.{Event as AnEvent};
-ghost use Rattle.capcore.specs.declared.event.Event.TheVariants as events;
+ghost use Rattle.capevents.specs.declared.event.Event.{Event as AnEvent};
+ghost use Rattle.capevents.specs.declared.event.Event.TheVariants as events;
 ghost use Rattle.capscript.specs.Events.{Tells, ack_by, caps_by, open_by, poll_by};
 ghost use Rattle.capscript.specs.Faults.{IsRefused};
 
 use crate::fault::{LineFault, Refused};
 use crate::values::{read_cap_set, read_client, read_ino, read_number, read_open_mode, read_seq};
 use capbits::{CapSet, ClientId, Ino};
-use capcore::Event;
+use capevents::Event;
 
 // Capabilities on an inode, and whose they are.
 #[derive(Clone, Copy)]

@@ -2,7 +2,7 @@
 ghost use Rattle.std.specs.Prelude.{◌≡◌, ℕ, ◌<◌, List, IsTrue, IfOk, MatchResult};
 ghost use Rattle.std.specs.Char.{digit_value};
 ghost use Rattle.std.specs.List.{list_all};
-ghost use Rattle.capcore.specs.declared.event.Event.{Event as AnEvent};
+ghost use Rattle.capevents.specs.declared.event.Event.{Event as AnEvent};
 ghost use Rattle.capscript.specs.Events.{Tells, says_bytes};
 ghost use Rattle.capscript.specs.Faults.{IsRefused};
 ghost use Rattle.capscript.specs.Values.{hex_bytes, is_hex, is_hex_digit};

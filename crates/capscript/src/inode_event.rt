@@ -3,8 +3,8 @@ ghost use Rattle.std.specs.Prelude.{map, MatchResult};
 ghost use Rattle.capbits.specs.declared.ids.ClientId.{ClientId as AClient};
 ghost use Rattle.capbits.specs.declared.ids.Ino.{Ino as AnIno};
 ghost use Rattle.lockmachine.specs.declared.request.Change.{Change as AChange};
-ghost use Rattle.capcore.specs.declared.event.Event.{Event as AnEvent};
-ghost use Rattle.capcore.specs.declared.event.Event.TheVariants as events;
+ghost use Rattle.capevents.specs.declared.event.Event.{Event as AnEvent};
+ghost use Rattle.capevents.specs.declared.event.Event.TheVariants as events;
 ghost use Rattle.capscript.specs.Events.{Tells, change_by, get_by, inode_by, rename_by};
 ghost use Rattle.capscript.specs.Faults.{IsRefused};
 
@@ -12,7 +12,7 @@ use crate::change::{is_counted, read_change};
 use crate::fault::{LineFault, Refused};
 use crate::values::{read_client, read_ino, read_part};
 use capbits::{ClientId, Ino};
-use capcore::Event;
+use capevents::Event;
 use lockmachine::{Bytes, Change};
 use std::alloc::Global;
 

@@ -1,6 +1,6 @@
 //! Reading a line of a script.
 ghost use Rattle.std.specs.Prelude.{◌≡◌, ◌↔◌, ◌⊎◌, None, Some, Ok, Err, IsTrue, IfOk, IfErr, IfSome};
-ghost use Rattle.capcore.specs.declared.event.Event.{Event as AnEvent};
+ghost use Rattle.capevents.specs.declared.event.Event.{Event as AnEvent};
 ghost use Rattle.capscript.specs.declared.fault.LineFault.{LineFault as AKind};
 ghost use Rattle.capscript.specs.declared.fault.ScriptFault.TheVariants as stops;
 ghost use Rattle.capscript.specs.Events.{Reads, client_of};
@@ -10,7 +10,7 @@ ghost use Rattle.capscript.specs.Lines.{is_skipped};
 use crate::event::read_event;
 use crate::fault::{Refused, ScriptFault};
 use capbits::ClientId;
-use capcore::Event;
+use capevents::Event;
 use std::alloc::Global;
 
 /// How many bytes a line may have, without its line feed. A line that is skipped may have more.

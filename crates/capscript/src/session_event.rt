@@ -1,15 +1,15 @@
 //! The events that are about a client alone, or about none.
 ghost use Rattle.std.specs.Prelude.{map, MatchResult};
 ghost use Rattle.capbits.specs.declared.ids.ClientId.{ClientId as AClient};
-ghost use Rattle.capcore.specs.declared.event.Event.{Event as AnEvent};
-ghost use Rattle.capcore.specs.declared.event.Event.TheVariants as events;
+ghost use Rattle.capevents.specs.declared.event.Event.{Event as AnEvent};
+ghost use Rattle.capevents.specs.declared.event.Event.TheVariants as events;
 ghost use Rattle.capscript.specs.Events.{Tells, client_by, recall_by};
 ghost use Rattle.capscript.specs.Faults.{IsRefused};
 
 use crate::fault::{LineFault, Refused};
 use crate::values::{read_client, read_number};
 use capbits::ClientId;
-use capcore::Event;
+use capevents::Event;
 
 // A client that ends its session.
 pub(crate) fn read_close(arguments: &[&[u8]]) -> Result<Event, Refused>

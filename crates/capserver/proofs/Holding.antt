@@ -7,9 +7,9 @@ use Rattle.capview.specs.declared.view.View.{View}
 use Rattle.capview.specs.Changes.{AreChanges, view_by}
 use Rattle.capview.specs.Sight.{Shows}
 use Rattle.capview.proofs.Likeness.{shows-refl}
-use Rattle.capcore.specs.declared.event.Event.{Event}
-use Rattle.capcore.specs.declared.reply.Reply.{Reply}
-use Rattle.capcore.specs.declared.history.Row.{Row}
+use Rattle.capevents.specs.declared.event.Event.{Event}
+use Rattle.capevents.specs.declared.reply.Reply.{Reply}
+use Rattle.capevents.specs.declared.row.Row.{Row}
 use Rattle.capcore.specs.History.{AreNumbered, IsLegal, IsTold, Told, IsNext, Replays, made_row, rows_of}
 use Rattle.capcore.specs.State.{State}
 use Rattle.capcore.specs.Noted.{view_of}

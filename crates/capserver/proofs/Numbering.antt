@@ -1,7 +1,7 @@
 -- Passes one by one.
 use Rattle.std.proofs.Common.{◌≡◌, ℕ, zero, suc, ◌+◌, ◌<◌, ◌≤◌, List, [], ◌∷◌, ◌++◌, length, take, get_or, ap, subst, ◌∙◌, arith}
 use mathlib.Core.List.{IsPrefix}
-use Rattle.capcore.specs.declared.history.Row.{Row}
+use Rattle.capevents.specs.declared.row.Row.{Row}
 use Rattle.published.proofs.Beginnings.{prefix_trans}
 use Rattle.capserver.specs.Passes.{PassState, pass_state, AllNew, AllBegin}
 

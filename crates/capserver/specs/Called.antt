@@ -4,8 +4,8 @@ use Rattle.capbits.specs.declared.ids.PassId.{PassId}
 use Rattle.capcore.specs.History.{Told}
 use Rattle.capcore.specs.Promised.{IsPromised}
 use Rattle.capcore.specs.State.{State}
-use Rattle.capcore.specs.declared.event.Event.{Event}
-use Rattle.capcore.specs.declared.reply.Reply.{Reply}
+use Rattle.capevents.specs.declared.event.Event.{Event}
+use Rattle.capevents.specs.declared.reply.Reply.{Reply}
 use Rattle.capserver.specs.Held.{IsLed}
 
 -- from some state, to which a history leads from the opening, an event of this pass is answered so, with all that is promised of one

@@ -3,7 +3,7 @@ use Rattle.std.specs.Prelude.{◌≡◌, ◌<◌, ◌≤◌, ◌⊎◌, ℕ, ◌
 use Rattle.std.specs.Coded.{Coded, code_by, coded×, coded_ℕ}
 use mathlib.Core.List.{IsPrefix}
 use Rattle.capbits.specs.declared.ids.PassId.{PassId}
-use Rattle.capcore.specs.declared.history.Row.{Row}
+use Rattle.capevents.specs.declared.row.Row.{Row}
 use Rattle.capserver.specs.declared.server.StartFault.{StartFault}
 use Rattle.capserver.specs.declared.server.StartFault.TheVariants.{BadCount, NoMemory, NoReader}
 use Rattle.published.specs.Rows.{rows_code}

@@ -3,7 +3,7 @@ ghost use Rattle.std.specs.Prelude.{◌≡◌, ◌≤◌, ◌+◌, ◌↔◌, []
 ghost use mathlib.Core.List.{IsPrefix};
 ghost use Rattle.capcore.specs.History.{IsLegal};
 ghost use Rattle.capcore.specs.Promised.{IsPromised};
-ghost use Rattle.capcore.specs.declared.history.Stop.TheVariants as stop_kind;
+ghost use Rattle.capcore.specs.declared.stop.Stop.TheVariants as stop_kind;
 ghost use Rattle.capcore.specs.Noted.{view_of};
 ghost use Rattle.published.specs.Rows.{Legal};
 ghost use Rattle.capserver.specs.Fresh.{IsFresh};

@@ -2,7 +2,7 @@
 use Rattle.std.proofs.Common.{◌≡◌, ℕ, List, Result, Ok, Err, sym, subst}
 use Rattle.logbook.specs.Pages.{Book}
 use Rattle.capgrant.specs.declared.answer.Verdict.{Verdict}
-use Rattle.capcore.specs.declared.history.Row.{Row}
+use Rattle.capevents.specs.declared.row.Row.{Row}
 use Rattle.capcore.specs.State.{State}
 use Rattle.capview.specs.declared.answer.Question.{Question}
 use Rattle.capview.specs.declared.answer.Unknown.{Unknown}

@@ -1,7 +1,7 @@
 -- Rows that are added one by one: what begins a legal history is legal.
 use Rattle.std.proofs.Common.{◌≡◌, ℕ, zero, suc, ◌<◌, List, [], ◌∷◌, ◌++◌, length, take, drop, get_or, refl, ap, sym, ◌∙◌, subst, arith, append_assoc}
 use mathlib.Core.List.{IsPrefix}
-use Rattle.capcore.specs.declared.history.Row.{Row}
+use Rattle.capevents.specs.declared.row.Row.{Row}
 use Rattle.capcore.specs.History.{AreNumbered, IsLegal, Replays}
 use Rattle.capcore.specs.State.{State}
 use Rattle.published.specs.Rows.{Legal}

@@ -1,7 +1,7 @@
 -- What a question is answered by what is published.
 use Rattle.std.specs.Prelude.{List, Result}
 use Rattle.capgrant.specs.declared.answer.Verdict.{Verdict}
-use Rattle.capcore.specs.declared.history.Row.{Row}
+use Rattle.capevents.specs.declared.row.Row.{Row}
 use Rattle.capcore.specs.State.{State}
 use Rattle.capview.specs.declared.answer.Question.{Question}
 use Rattle.capview.specs.declared.answer.Unknown.{Unknown}

@@ -2,10 +2,10 @@
 use Rattle.std.specs.Prelude.{ℕ, ◌≡◌, ◌≤◌, ◌+◌, ◌*◌, ◌==◌, true, false, List, [], ◌∷◌, ◌++◌, length, replicate, MatchBool}
 use Rattle.std.specs.Coded.{Coded, coded_list}
 use Rattle.logbook.specs.Pages.{Cell, Step, View as Page, Book, Named, Nib, nib, may_make, may_write}
-use Rattle.capcore.specs.declared.event.Event.TheVariants.{Unblock}
-use Rattle.capcore.specs.declared.history.Row.{Row}
-use Rattle.capcore.specs.declared.reply.Reply.TheVariants.{Done}
-use Rattle.capcore.specs.contracts.history.Row as history_row
+use Rattle.capevents.specs.declared.event.Event.TheVariants.{Unblock}
+use Rattle.capevents.specs.declared.row.Row.{Row}
+use Rattle.capevents.specs.declared.reply.Reply.TheVariants.{Done}
+use Rattle.capevents.specs.contracts.row.Row as history_row
 use Rattle.capcore.specs.History.{IsLegal}
 use Rattle.capcore.specs.State.{State}
 

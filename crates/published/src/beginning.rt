@@ -121,7 +121,7 @@ pub struct Beginning<L: Server> {
 
 impl<L: Server> Model for Beginning<L> {
     ghost use Rattle.std.specs.Prelude.{◌≡◌, List, length};
-    ghost use Rattle.capcore.specs.declared.history.Row.{Row};
+    ghost use Rattle.capevents.specs.declared.row.Row.{Row};
     ghost use Rattle.published.specs.Rows.{Legal, rows_code};
 
     ghost Value = { List Row };

@@ -58,7 +58,7 @@ pub struct Recorder<L: Server> {
 
 impl<L: Server> Model for Recorder<L> {
     ghost use Rattle.std.specs.Prelude.{◌≡◌, List};
-    ghost use Rattle.capcore.specs.declared.history.Row.{Row};
+    ghost use Rattle.capevents.specs.declared.row.Row.{Row};
     ghost use Rattle.published.specs.Rows.{head_of, next_of, rows_code};
 
     ghost Value = { List Row };

@@ -27,7 +27,7 @@ pub struct Witness<L: Server> {
 impl<L: Server> Model for Witness<L> {
     ghost use Rattle.std.specs.Prelude.{◌≡◌, List, MatchOption};
     ghost use Rattle.left_right.specs.Sides.{view as place_view};
-    ghost use Rattle.capcore.specs.declared.history.Row.{Row};
+    ghost use Rattle.capevents.specs.declared.row.Row.{Row};
     ghost use Rattle.published.specs.Rows.{Legal, rows_code};
 
     ghost Value = { List Row };

@@ -2,7 +2,7 @@ use Rattle.std.proofs.Common.{◌≡◌, not, length, ap, arith}
 use Rattle.std.specs.Prelude.{◌==◌}
 use Rattle.std.proofs.lemmas.List.Sums.{length-filter, count_by-le-length}
 use Rattle.std.specs.List.{count_by}
-use Rattle.capcore.specs.declared.outcome.Ended.{Ended}
+use Rattle.capevents.specs.declared.outcome.Ended.{Ended}
 use Rattle.capcore.specs.Untold.{but_for}
 use Rattle.capcore.proofs.ended.close_with.Goals as goal
 

@@ -1,7 +1,7 @@
 use Rattle.std.proofs.Common.{◌≡◌, ◌++◌, List, [], ◌∷◌, take, sym, ap, ◌∙◌, append_assoc, if◌then◌else◌}
 use Rattle.captable.specs.declared.entry.EntryRow.{EntryRow}
-use Rattle.capcore.specs.declared.outcome.Message.{Message}
-use Rattle.capcore.specs.declared.outcome.Message.TheVariants.{Recall}
+use Rattle.capevents.specs.declared.outcome.Message.{Message}
+use Rattle.capevents.specs.declared.outcome.Message.TheVariants.{Recall}
 use Rattle.capcore.specs.Messages.{caps_messages, size_messages, recall_messages}
 use Rattle.capcore.proofs.Polling.{take-take_append}
 use Rattle.capcore.proofs.poll.add_due.Goals as goal

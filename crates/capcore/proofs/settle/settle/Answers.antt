@@ -9,8 +9,8 @@ use Rattle.lockmachine.specs.Moves.{first_move}
 use Rattle.lockmachine.specs.Scene.{Scene, scene}
 use Rattle.lockmachine.proofs.Exact.{ends_not}
 use Rattle.lockmachine.proofs.Waiting.{served-at}
-use Rattle.capcore.specs.declared.outcome.Ended.{Ended}
-use Rattle.capcore.specs.declared.outcome.Outcome.{Outcome}
+use Rattle.capevents.specs.declared.outcome.Ended.{Ended}
+use Rattle.capevents.specs.declared.outcome.Outcome.{Outcome}
 use Rattle.capcore.specs.declared.settle.SweepPlace.{SweepPlace}
 use Rattle.capcore.specs.Serves.{Serves, is_touched}
 use Rattle.capcore.specs.Settle.{Served, sets_size, is_done, sized_in}

@@ -4,7 +4,7 @@ use Rattle.std.specs.List.{find}
 use Rattle.std.specs.Option.{option_map}
 use Rattle.std.proofs.lemmas.Iterator.Search.{find_from_yields_List}
 use Rattle.std.proofs.lemmas.Iterator.Adapters.{YieldsList-from_rev_slice}
-use Rattle.capcore.specs.declared.history.Row.{Row}
+use Rattle.capevents.specs.declared.row.Row.{Row}
 use Rattle.capcore.specs.History.{rows_of}
 use Rattle.capcore.proofs.Numbered.{no_row_found, last_row_found, rows_of-le-length}
 use Rattle.capcore.proofs.step.next_number.Goals as goal

@@ -2,7 +2,7 @@ use Rattle.std.proofs.Common.{ℕ, ◌<◌, ◌≤◌, List, [], ◌∷◌, map,
 use Rattle.std.proofs.lemmas.Bool.Decides.{nat_tests}
 use Rattle.std.specs.Borrow.{Bor}
 use Rattle.lockmachine.specs.declared.request.Change.{Change}
-use Rattle.capcore.specs.declared.event.Event.{Event}
+use Rattle.capevents.specs.declared.event.Event.{Event}
 use Rattle.capexplain.specs.declared.change_word.ChangeWord.{ChangeWord}
 use Rattle.capexplain.specs.declared.change_word.ChangeWord.TheVariants as words
 use Rattle.capscript.specs.declared.fault.LineFault.TheVariants as faults

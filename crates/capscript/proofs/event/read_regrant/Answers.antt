@@ -1,5 +1,5 @@
 use Rattle.std.proofs.Common.{refl, sym}
-use Rattle.capcore.specs.declared.event.Event.TheVariants as events
+use Rattle.capevents.specs.declared.event.Event.TheVariants as events
 use Rattle.capscript.specs.declared.fault.Refused.TheVariants as refusals
 use Rattle.capscript.specs.Events.Line.{Faulty}
 use Rattle.capscript.proofs.SaidLines.{refused_by, regranted}

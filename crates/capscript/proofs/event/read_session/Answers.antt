@@ -1,5 +1,5 @@
 use Rattle.std.proofs.Common.{arith, sym}
-use Rattle.capcore.specs.declared.event.Event.TheVariants as events
+use Rattle.capevents.specs.declared.event.Event.TheVariants as events
 use Rattle.capscript.proofs.SaidLines.{refused_by, five}
 use Rattle.capscript.proofs.event.read_session.Goals as goal
 

@@ -1,4 +1,4 @@
-use Rattle.capcore.specs.declared.event.Event.TheVariants as events
+use Rattle.capevents.specs.declared.event.Event.TheVariants as events
 use Rattle.capscript.proofs.SaidLines.{refused_by}
 use Rattle.capscript.proofs.inode_event.read_unlink.Goals as goal
 

@@ -1,4 +1,4 @@
-use Rattle.capcore.specs.declared.event.Event.TheVariants as events
+use Rattle.capevents.specs.declared.event.Event.TheVariants as events
 use Rattle.capscript.proofs.SaidLines.{refused_by}
 use Rattle.capscript.proofs.session_event.read_close.Goals as goal
 

@@ -1,6 +1,6 @@
 use Rattle.std.proofs.Common.{◌≡◌, ◌∙◌, ℕ, suc, ◌+◌, List, take, subst, arith}
 use mathlib.Core.List.{IsPrefix}
-use Rattle.capcore.specs.declared.history.Row.{Row}
+use Rattle.capevents.specs.declared.row.Row.{Row}
 use Rattle.capserver.specs.Passes.{AllBegin}
 use Rattle.capserver.proofs.Numbering.{begin_more, begin_all}
 use Rattle.capserver.proofs.server.audit_all.Goals as goal

@@ -1,6 +1,6 @@
 use Rattle.std.proofs.Common.{◌≡◌, ◌∷◌, [], ◌++◌, List, sym, subst, ◌∙◌, arith, rules}
 use mathlib.Core.List.{IsPrefix}
-use Rattle.capcore.specs.declared.history.Row.{Row}
+use Rattle.capevents.specs.declared.row.Row.{Row}
 use Rattle.capcore.specs.State.{State}
 use Rattle.published.specs.Rows.{Legal}
 use Rattle.published.proofs.Gathering.{legal_more, take_begins}

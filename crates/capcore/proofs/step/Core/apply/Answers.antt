@@ -1,7 +1,7 @@
 use Rattle.std.proofs.Common.{◌≡◌, ◌+◌, ◌++◌, ◌∷◌, [], List, length, refl, ap, sym, subst, ◌∙◌}
 use Rattle.capcore.specs.State.{State}
-use Rattle.capcore.specs.declared.history.Row.{Row}
-use Rattle.capcore.specs.declared.reply.Reply.{Reply}
+use Rattle.capevents.specs.declared.row.Row.{Row}
+use Rattle.capevents.specs.declared.reply.Reply.{Reply}
 use Rattle.capcore.specs.Answered.{IsAnswered}
 use Rattle.capcore.specs.Direct.{direct}
 use Rattle.capcore.specs.Headline.{ServedDenied, ServedByName, EachServing, AreBounded}

@@ -2,8 +2,8 @@ use Rattle.std.proofs.Common.{◌≡◌, [], sym, ap, ◌∙◌}
 use Rattle.capgrant.specs.declared.access.Access.{Access}
 use Rattle.captable.specs.Table.{holder}
 use Rattle.lockmachine.specs.Scene.{Scene}
-use Rattle.capcore.specs.declared.event.Event.{Event}
-use Rattle.capcore.specs.declared.event.Event.TheVariants.{Flush}
+use Rattle.capevents.specs.declared.event.Event.{Event}
+use Rattle.capevents.specs.declared.event.Event.TheVariants.{Flush}
 use Rattle.capcore.specs.State.{State}
 use Rattle.capcore.specs.Asks.{change_access}
 use Rattle.capcore.specs.Judge.{stop, denial_of, before, needs, after}

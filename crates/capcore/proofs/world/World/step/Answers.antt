@@ -6,8 +6,8 @@ use Rattle.lockmachine.specs.declared.request.Ask.{Ask}
 use Rattle.lockmachine.specs.declared.request.Ask.TheVariants as ask_kind
 use Rattle.capcore.specs.Answered.{IsAnswered}
 use Rattle.capcore.specs.Touching.{asks_for}
-use Rattle.capcore.specs.declared.event.Event.{Event}
-use Rattle.capcore.specs.declared.reply.Said.{Said}
+use Rattle.capevents.specs.declared.event.Event.{Event}
+use Rattle.capcore.specs.declared.said.Said.{Said}
 use Rattle.capcore.specs.State.{State}
 use Rattle.capcore.proofs.world.World.step.Goals as goal
 

@@ -6,11 +6,12 @@ use Rattle.captable.specs.declared.entry.Entry.{Entry}
 use Rattle.captable.specs.declared.entry.Holder.{Holder}
 use Rattle.captable.specs.Table.{Table, IsTable, holder, entry_at}
 use Rattle.lockmachine.specs.Scene.{Scene}
-use Rattle.capcore.specs.declared.event.Event.{Event}
-use Rattle.capcore.specs.declared.outcome.Ended.{Ended}
+use Rattle.capevents.specs.declared.event.Event.{Event}
+use Rattle.capevents.specs.declared.outcome.Ended.{Ended}
 use Rattle.capcore.specs.State.{State}
 use Rattle.capcore.specs.Answered.{IsAnswered}
-use Rattle.capcore.specs.Direct.{Answer, direct, reply_of, shown, has_list}
+use Rattle.capevents.specs.Replies.{has_list}
+use Rattle.capcore.specs.Direct.{Answer, direct, reply_of, shown}
 use Rattle.capcore.specs.Judge.{judged}
 use Rattle.capcore.specs.Known.{known_in, AreKnown, StillKept}
 use Rattle.capcore.specs.Touching.{Knows}

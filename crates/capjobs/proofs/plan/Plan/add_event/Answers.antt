@@ -1,5 +1,5 @@
 use Rattle.std.proofs.Common.{◌≡◌, List, get_or, ap, rules}
-use Rattle.capcore.specs.declared.event.Event.{Event}
+use Rattle.capevents.specs.declared.event.Event.{Event}
 use Rattle.capjobs.specs.declared.plan.Job.{Job}
 use Rattle.capjobs.specs.Jobs.{Work, Calls, calls_by}
 use Rattle.capjobs.proofs.JobLists.{known_gets_event}

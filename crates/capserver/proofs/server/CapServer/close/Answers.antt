@@ -1,6 +1,6 @@
 use Rattle.std.proofs.Common.{◌≡◌, List, ap, sym, subst, arith, length}
 use mathlib.Core.List.{IsPrefix}
-use Rattle.capcore.specs.declared.history.Row.{Row}
+use Rattle.capevents.specs.declared.row.Row.{Row}
 use Rattle.capcore.specs.History.{Told}
 use Rattle.capserver.specs.Passes.{AllBegin}
 use Rattle.capserver.proofs.Numbering.{begin_longer}

@@ -100,8 +100,8 @@ pub struct MessageList {
 impl Model for MessageList {
     ghost use Rattle.std.specs.Prelude.{List};
     ghost use Rattle.std.specs.Coded.{coded_list};
-    ghost use Rattle.capcore.specs.declared.outcome.Message.{Message};
-    ghost use Rattle.capcore.specs.contracts.outcome.Message as message;
+    ghost use Rattle.capevents.specs.declared.outcome.Message.{Message};
+    ghost use Rattle.capevents.specs.contracts.outcome.Message as message;
 
     ghost Value = { List Message };
 
@@ -111,8 +111,8 @@ impl Model for MessageList {
 }
 
 impl MessageList {
-    // No message.
-    pub(crate) fn new(alloc: Global) -> MessageList
+    /// No message.
+    pub fn new(alloc: Global) -> MessageList
         ensures { result ≡ [] }
     {
         MessageList {
@@ -120,8 +120,8 @@ impl MessageList {
         }
     }
 
-    // One more.
-    pub(crate) fn push(&mut self, message: Message) -> Result<(), AllocError>
+    /// One message more, behind all others.
+    pub fn push(&mut self, message: Message) -> Result<(), AllocError>
         ensures ok { OnOk result (self.new ≡ self.old ++ message ∷ []) }
         ensures err { OnErr result (self.new ≡ self.old) }
     {

@@ -1,13 +1,12 @@
-//! The history: a row for each event that was answered.
+//! What is kept of an event.
 ghost use Rattle.std.specs.Prelude.{◌≡◌};
 
 use crate::event::Event;
 use crate::outcome::Ended;
 use crate::reply::Reply;
 use capbits::PassId;
-use std::alloc::{AllocError, AllocFailed, Global};
+use std::alloc::Global;
 use std::marker::Model;
-use thiserror::Error;
 
 /// A list of requests that ended, in the order in which they did.
 #[derive(Debug, Drop)]
@@ -17,9 +16,9 @@ pub struct EndedList {
 
 impl Model for EndedList {
     ghost use Rattle.std.specs.Prelude.{List};
-    ghost use Rattle.capcore.specs.declared.outcome.Ended.{Ended};
+    ghost use Rattle.capevents.specs.declared.outcome.Ended.{Ended};
     ghost use Rattle.std.specs.Coded.{coded_list};
-    ghost use Rattle.capcore.specs.contracts.outcome.Ended as ended;
+    ghost use Rattle.capevents.specs.contracts.outcome.Ended as ended;
 
     ghost Value = { List Ended };
 
@@ -31,8 +30,8 @@ impl Model for EndedList {
 impl EndedList {
     ghost use Rattle.std.specs.Prelude.{[]};
 
-    // No request.
-    pub(crate) fn new(alloc: Global) -> EndedList
+    /// No request.
+    pub fn new(alloc: Global) -> EndedList
         ensures { result ≡ [] }
     {
         EndedList {
@@ -77,35 +76,4 @@ pub struct Row {
     pub reply: Reply,
     /// The requests of earlier rows that it ended.
     pub ended: EndedList,
-}
-
-/// Why an event was not taken. Nothing has changed, and there is no row of it.
-#[derive(Clone, Copy, Debug, PartialEq, Eq, Error)]
-pub enum Stop {
-    /// There was no memory left.
-    #[error("NoMemory")]
-    NoMemory,
-    /// The history has as many rows as it may have.
-    #[error("Full")]
-    Full,
-}
-
-impl From<AllocError> for Stop {
-    ghost use Rattle.capcore.specs.declared.history.Stop.TheVariants as kind;
-
-    ghost from_gives = { λ _ stop. stop ≡ kind.NoMemory };
-
-    fn from(_refused: AllocError) -> Stop {
-        Stop::NoMemory
-    }
-}
-
-impl<T: Drop> From<AllocFailed<T>> for Stop {
-    ghost use Rattle.capcore.specs.declared.history.Stop.TheVariants as kind;
-
-    ghost from_gives = { λ _ stop. stop ≡ kind.NoMemory };
-
-    fn from(_failed: AllocFailed<T>) -> Stop {
-        Stop::NoMemory
-    }
 }

@@ -1,6 +1,6 @@
 //! Copies. What takes memory for one says so.
 ghost use Rattle.std.specs.Prelude.{◌≡◌, false, IfOk};
-ghost use Rattle.capcore.specs.Direct.{has_list};
+ghost use Rattle.capevents.specs.Replies.{has_list};
 
 use crate::outcome::{Message, MessageList, Outcome, PartValues};
 use crate::reply::Reply;
@@ -8,8 +8,8 @@ use arrayvec::ArrayVec;
 use capgrant::Rules;
 use std::alloc::{AllocError, Global};
 
-// The same rules once more.
-pub(crate) fn copy_of_rules(rules: &Rules) -> Rules
+/// The same rules once more.
+pub fn copy_of_rules(rules: &Rules) -> Rules
     ensures { result ≡ rules.now }
 {
     let Ok(rules) = ArrayVec::try_from(rules.as_slice()) else {
@@ -33,8 +33,8 @@ fn copy_of_values(alloc: Global, values: &PartValues) -> Result<PartValues, Allo
     }
 }
 
-// How a request ended once more. A list of attributes alone takes memory.
-pub(crate) fn copy_of_outcome(alloc: Global, outcome: &Outcome) -> Result<Outcome, AllocError>
+/// How a request ended once more. A list of attributes alone takes memory.
+pub fn copy_of_outcome(alloc: Global, outcome: &Outcome) -> Result<Outcome, AllocError>
     ensures { IfOk result (λ copy. copy ≡ outcome.now) }
 {
     match outcome {
@@ -50,11 +50,8 @@ pub(crate) fn copy_of_outcome(alloc: Global, outcome: &Outcome) -> Result<Outcom
     }
 }
 
-// The same messages once more.
-pub(crate) fn copy_of_messages(
-    alloc: Global,
-    messages: &[Message],
-) -> Result<MessageList, AllocError>
+/// The same messages once more, in their order.
+pub fn copy_of_messages(alloc: Global, messages: &[Message]) -> Result<MessageList, AllocError>
     ensures { IfOk result (λ copy. copy ≡ messages.now) }
 {
     let mut copy = MessageList::new(alloc);
@@ -85,8 +82,8 @@ fn copy_of_message(alloc: Global, message: &Message) -> Result<Message, AllocErr
     }
 }
 
-// The same reply once more, where it has no values: a list of attributes takes memory.
-pub(crate) fn copy_of_reply(reply: &Reply) -> Reply
+/// The same reply once more, which takes no memory: it is none of the replies that have a list.
+pub fn copy_of_reply(reply: &Reply) -> Reply
     requires { has_list reply.now ≡ false }
     ensures { result ≡ reply.now }
 {

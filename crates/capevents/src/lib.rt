@@ -1,0 +1,16 @@
+//! What happens to the server, and what it answers: events, replies, messages, and the rows of a history.
+//!
+//! Public source: "Capabilities in CephFS" in the Ceph documentation.
+#![tactic(auto)]
+
+mod copies;
+mod event;
+mod outcome;
+mod reply;
+mod row;
+
+pub use copies::{copy_of_messages, copy_of_outcome, copy_of_reply, copy_of_rules};
+pub use event::{Event, OpenMode};
+pub use outcome::{Ended, Message, MessageList, Outcome, PartValues};
+pub use reply::Reply;
+pub use row::{EndedList, Row};
