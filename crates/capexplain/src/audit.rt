@@ -6,8 +6,8 @@ ghost use Rattle.capexplain.specs.Audit.{audit_text, ended_text};
 use crate::event_text::print_event;
 use crate::message_text::{print_outcome, print_ticket};
 use crate::reply::print_reply;
-use crate::text::{print_number, print_numbered, print_str};
 use capevents::{Ended, Row};
+use captext::{print_number, print_numbered, print_str};
 use std::alloc::{AllocError, Global};
 
 // How many bytes most lines have at the most. A list for one grows but once.

@@ -6,10 +6,10 @@ use crate::event_text::print_groups;
 use crate::explaining::print_path;
 use crate::part_text::print_mode;
 use crate::quoting::print_quoted;
-use crate::text::print;
 use capbits::Caller;
 use capcompare::Witness;
 use capgrant::Attr;
+use captext::print;
 use std::alloc::{AllocError, Global};
 
 /// A line `gained: ..` for a question that was gained, and one `lost: ..` for one that was lost, or `the same` where there is

@@ -3,8 +3,8 @@ ghost use Rattle.std.specs.Prelude.{◌≡◌, ◌++◌, IfOk, OnOk, map};
 ghost use Rattle.capspec.specs.Names.{slashed};
 ghost use Rattle.capexplain.specs.Explaining.{explain_text, path_text, failure_text, failures_text};
 
-use crate::text::print;
 use capgrant::{Access, Rule, Verdict};
+use captext::print;
 use std::alloc::{AllocError, Global};
 
 // How many bytes most lines have at the most. A list for one grows but once.

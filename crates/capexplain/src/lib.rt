@@ -14,7 +14,6 @@ mod message_text;
 mod part_text;
 mod quoting;
 mod reply;
-mod text;
 
 pub use access::read_access;
 pub use audit::{append_audit_line, audit_line};

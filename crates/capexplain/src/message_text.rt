@@ -6,9 +6,9 @@ ghost use Rattle.capexplain.specs.Replies.{message_line, message_text, outcome_t
 
 use crate::part_text::print_values;
 use crate::reply::print_denial;
-use crate::text::{print, print_caps, print_numbered, print_str};
 use capbits::{CapSet, Ino, Ticket};
 use capevents::{Message, Outcome};
+use captext::{print, print_caps, print_numbered, print_str};
 use std::alloc::AllocError;
 
 // A line for each message.

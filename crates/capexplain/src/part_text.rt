@@ -3,10 +3,10 @@ ghost use Rattle.std.specs.Prelude.{◌≡◌, ◌<◌, ◌++◌, false, OnOk};
 ghost use Rattle.std.specs.Fmt.{digit_glyph};
 ghost use Rattle.capexplain.specs.PartTexts.{attr_text, attribute_text, byte_text, hex_text, mode_text, values_text};
 
-use crate::text::{print, print_number, print_str};
 use capbits::Mode;
 use capevents::PartValues;
 use capgrant::Attr;
+use captext::{print, print_number, print_str};
 use inotree::Attributes;
 use std::alloc::AllocError;
 

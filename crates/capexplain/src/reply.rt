@@ -5,11 +5,11 @@ ghost use Rattle.capexplain.specs.Replies.{denial_text, holder_text, holders_tex
 
 use crate::message_text::print_messages;
 use crate::part_text::print_values;
-use crate::text::{print, print_caps, print_number, print_numbered, print_str};
 use capbits::CapSet;
 use capevents::Reply;
 use capgrant::{Access, Rule, Rules};
 use captable::Holder;
+use captext::{print, print_caps, print_number, print_numbered, print_str};
 use std::alloc::{AllocError, Global};
 
 // How many bytes most replies have at the most. A list for one grows but once.

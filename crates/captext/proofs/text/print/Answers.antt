@@ -1,7 +1,7 @@
 use Rattle.std.proofs.Common.{◌≡◌, ◌++◌, Result, Ok, Err, OnOk, is_ok, ap, ◌∙◌}
 use Rattle.std.proofs.lemmas.Fmt.{contents_after_writes}
 use Rattle.std.proofs.lemmas.Option.{IfSome_then}
-use Rattle.capexplain.proofs.text.print.Goals as goal
+use Rattle.captext.proofs.text.print.Goals as goal
 
 -- what holds where one call went well, where another did just then
 on_ok : {X Y Z : Type 0} (r : Result X Y) (s : Result X Z) {P Q : Type 0} → is_ok s ≡ is_ok r → (P → Q) → OnOk r P → OnOk s Q

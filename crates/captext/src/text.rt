@@ -1,4 +1,4 @@
-//! What is printed into a text.
+//! What is appended to a text.
 ghost use Rattle.std.specs.Prelude.{◌≡◌, ◌++◌, decimal, IfSome, OnOk};
 ghost use Rattle.capbits.specs.Text.{text_of};
 
@@ -9,31 +9,33 @@ use std::fmt;
 use std::fmt::{Display, Write};
 use std::mem::replace;
 
-// Appends a word as it is. As a value that prints itself it would be asked for a width first.
-pub(crate) fn print_str(text: &mut Vec<u8>, word: &str) -> Result<(), AllocError>
+/// Appends a word as it is. As a value that prints itself it would be asked for a width first. `AllocError` where no memory is left
+/// for it.
+pub fn print_str(text: &mut Vec<u8>, word: &str) -> Result<(), AllocError>
     ensures { OnOk result (text.new.items ≡ text.old.items ++ word.now) }
 {
     text.extend_from_slice(word.as_bytes())
 }
 
-// Appends the digits of a number.
-pub(crate) fn print_number(text: &mut Vec<u8>, number: u64) -> Result<(), AllocError>
+/// Appends the decimal digits of a number, without leading zeros. `AllocError` where no memory is left for them.
+pub fn print_number(text: &mut Vec<u8>, number: u64) -> Result<(), AllocError>
     ensures { OnOk result (text.new.items ≡ text.old.items ++ decimal number) }
 {
     let mut digits = Buffer::new();
     print_str(text, digits.format(number))
 }
 
-// Appends a word and, behind it, a number.
-pub(crate) fn print_numbered(text: &mut Vec<u8>, word: &str, number: u64) -> Result<(), AllocError>
+/// Appends a word and, right behind it, the decimal digits of a number. `AllocError` where no memory is left for them; the word may
+/// stand in the text then.
+pub fn print_numbered(text: &mut Vec<u8>, word: &str, number: u64) -> Result<(), AllocError>
     ensures { OnOk result (text.new.items ≡ text.old.items ++ word.now ++ decimal number) }
 {
     print_str(text, word)?;
     print_number(text, number)
 }
 
-// Appends what a value prints. Only memory can be missing.
-pub(crate) fn print<D: Display + Drop>(text: &mut Vec<u8>, more: D) -> Result<(), AllocError>
+/// Appends what a value prints. Only memory can be missing: `AllocError` is told then, and some of it may stand in the text.
+pub fn print<D: Display + Drop>(text: &mut Vec<u8>, more: D) -> Result<(), AllocError>
     ensures { OnOk result (IfSome (D.output more) (λ bytes. text.new.items ≡ text.old.items ++ bytes)) }
 {
     let none = Vec::new(*text.allocator());
@@ -63,8 +65,8 @@ impl Write for Text {
     }
 }
 
-// The one spelling of a set of capabilities.
-pub(crate) fn print_caps(text: &mut Vec<u8>, caps: CapSet) -> Result<(), AllocError>
+/// Appends the one spelling of a set of capabilities. `AllocError` where no memory is left for it.
+pub fn print_caps(text: &mut Vec<u8>, caps: CapSet) -> Result<(), AllocError>
     ensures { OnOk result (text.new.items ≡ text.old.items ++ text_of caps) }
 {
     text.extend_from_slice(write_caps(caps).as_slice())?;
