@@ -10,9 +10,9 @@ use Rattle.capquestion.specs.declared.question.Question.{Question}
 use Rattle.capquestion.specs.Fault.{IsFaultOfText}
 use Rattle.capquestion.specs.Question.{AsksFor, IsFaultIn}
 use Rattle.capquestion.specs.Comparing.{IsComparison}
-use Rattle.capscript.specs.declared.fault.ScriptFault.{ScriptFault}
-use Rattle.capscript.specs.declared.fault.ScriptFault.TheVariants as stops
-use Rattle.capscript.specs.Lines.{lines, longest_script}
+use Rattle.caplines.specs.declared.fault.ScriptFault.{ScriptFault}
+use Rattle.caplines.specs.declared.fault.ScriptFault.TheVariants as stops
+use Rattle.caplines.specs.Lines.{lines, longest_script}
 use Rattle.capscript.specs.Transcript.{Ran, IsTranscript}
 use Rattle.capjobs.specs.declared.fault.ServeFault.{ServeFault}
 use Rattle.capjobs.specs.declared.fault.ServeFault.TheVariants.{Script as ServeScript}

@@ -6,8 +6,8 @@ use Rattle.capgrant.specs.Verdict.{is_allowed}
 use Rattle.capquestion.specs.declared.question.Question.{Question}
 use Rattle.capquestion.specs.declared.question.Values.{Values}
 use Rattle.capquestion.specs.Question.{verdict_on, answer_text}
-use Rattle.capscript.specs.declared.fault.ScriptFault.TheVariants as stops
-use Rattle.capscript.specs.Lines.{longest_script}
+use Rattle.caplines.specs.declared.fault.ScriptFault.TheVariants as stops
+use Rattle.caplines.specs.Lines.{longest_script}
 use Rattle.capkeyring.specs.declared.fault.KeyringFault.{KeyringFault}
 use Rattle.capkeyring.specs.declared.fault.KeyringFault.TheVariants.{NoMemory}
 use Rattle.capkeyring.specs.Keyring.{caps_in}

@@ -8,8 +8,8 @@ ghost use Rattle.capquestion.specs.declared.question.Question.{Question as Asked
 ghost use Rattle.capquestion.specs.Fault.{IsFaultOfText};
 ghost use Rattle.capquestion.specs.Comparing.{IsComparison};
 ghost use Rattle.capquestion.specs.Question.{AsksFor, IsFaultIn};
-ghost use Rattle.capscript.specs.declared.fault.ScriptFault.{ScriptFault as AScriptFault};
-ghost use Rattle.capscript.specs.Lines.{lines, longest_script};
+ghost use Rattle.caplines.specs.declared.fault.ScriptFault.{ScriptFault as AScriptFault};
+ghost use Rattle.caplines.specs.Lines.{lines, longest_script};
 ghost use Rattle.capscript.specs.Transcript.{IsTranscript};
 ghost use Rattle.capscript.specs.Watched.{inner_of, has_failed, has_ended};
 ghost use Rattle.capjobs.specs.declared.fault.ServeFault.{ServeFault as AServeFault};

@@ -1,7 +1,7 @@
 -- Plans that grow line by line.
 use Rattle.std.proofs.Common.{◌≡◌, ℕ, ◌+◌, ◌≤◌, ◌<◌, List, [], ◌∷◌, length, refl, sym, subst, arith, inl, inr}
 use Rattle.std.specs.Prelude.{Result, Ok, Err, IfErr, IsErrAnd}
-use Rattle.capscript.specs.Lines.{lines}
+use Rattle.caplines.specs.Lines.{lines}
 use Rattle.capjobs.specs.declared.fault.ServeFault.{ServeFault}
 use Rattle.capjobs.specs.Jobs.{Work, no_work, Takes, TakesAll, IsFaultAt, StopsAt}
 

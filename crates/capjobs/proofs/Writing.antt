@@ -3,9 +3,9 @@ use Rattle.std.proofs.Common.{◌≡◌, ℕ, ◌+◌, Option, Some, None, List,
 use Rattle.std.specs.Prelude.{◌⊎◌, Result, Err, IfSome}
 use Rattle.std.specs.Io.KnownBytes.{Appends, Consumes, IsAtEnd}
 use Rattle.std.proofs.lemmas.List.{append-nil}
-use Rattle.capscript.specs.Lines.{lines}
-use Rattle.capscript.specs.declared.fault.ScriptFault.{ScriptFault}
-use Rattle.capscript.specs.declared.fault.ScriptFault.TheVariants as stops
+use Rattle.caplines.specs.Lines.{lines}
+use Rattle.caplines.specs.declared.fault.ScriptFault.{ScriptFault}
+use Rattle.caplines.specs.declared.fault.ScriptFault.TheVariants as stops
 use Rattle.capscript.proofs.KnownBytes.{none_appended}
 use Rattle.capjobs.specs.declared.fault.ServeFault.{ServeFault}
 use Rattle.capjobs.specs.declared.fault.ServeFault.TheVariants.{Script, Clients, HistoryFull}

@@ -3,13 +3,13 @@ use Rattle.std.specs.Prelude.{◌≡◌, ◌≢◌, ◌⊎◌, ◌+◌, ◌≤�
 use Rattle.std.specs.List.{list_any, sum_by}
 use Rattle.capbits.specs.declared.ids.ClientId.{ClientId}
 use Rattle.capevents.specs.declared.event.Event.{Event}
-use Rattle.capscript.specs.declared.fault.LineFault.{LineFault}
-use Rattle.capscript.specs.declared.fault.LineFault.TheVariants as kinds
-use Rattle.capscript.specs.declared.fault.ScriptFault.TheVariants as stops
-use Rattle.capscript.specs.Events.{Reads, client_of}
-use Rattle.capscript.specs.Faults.{HasFault}
-use Rattle.capscript.specs.Lines.{is_skipped}
-use Rattle.capscript.specs.Words.{words}
+use Rattle.caplines.specs.declared.fault.LineFault.{LineFault}
+use Rattle.caplines.specs.declared.fault.LineFault.TheVariants as kinds
+use Rattle.caplines.specs.declared.fault.ScriptFault.TheVariants as stops
+use Rattle.caplines.specs.Events.{Reads, client_of}
+use Rattle.caplines.specs.Faults.{HasFault}
+use Rattle.caplines.specs.Lines.{is_skipped}
+use Rattle.caplines.specs.Words.{words}
 use Rattle.capjobs.specs.declared.fault.ServeFault.{ServeFault}
 use Rattle.capjobs.specs.declared.fault.ServeFault.TheVariants.{Script, Clients, HistoryFull}
 use Rattle.capjobs.specs.declared.plan.Job.{Job}

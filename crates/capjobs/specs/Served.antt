@@ -7,7 +7,7 @@ use Rattle.capcore.specs.History.{IsOpening, IsLegal}
 use Rattle.capcore.specs.State.{State}
 use Rattle.capexplain.specs.Audit.{audit_text}
 use Rattle.capscript.specs.Transcript.{fs_name, root_attr}
-use Rattle.capscript.specs.declared.fault.ScriptFault.TheVariants as stops
+use Rattle.caplines.specs.declared.fault.ScriptFault.TheVariants as stops
 use Rattle.capjobs.specs.declared.fault.ServeFault.{ServeFault}
 use Rattle.capjobs.specs.declared.fault.ServeFault.TheVariants.{Script, Clients, HistoryFull}
 use Rattle.capjobs.specs.Jobs.{Work, no_work, event_count, TakesAll, StopsAt}

@@ -1,6 +1,6 @@
 //! Why a script was not served.
 ghost use Rattle.std.specs.Prelude.{◌≡◌};
-ghost use Rattle.capscript.specs.declared.fault.ScriptFault.TheVariants as stops;
+ghost use Rattle.caplines.specs.declared.fault.ScriptFault.TheVariants as stops;
 ghost use Rattle.capjobs.specs.declared.fault.ServeFault.TheVariants as faults;
 
 use capcore::Stop;
@@ -61,7 +61,7 @@ impl From<Stop> for ServeFault {
 
 impl From<AllocError> for ServeFault {
     ghost use Rattle.std.specs.Prelude.{◌≡◌};
-    ghost use Rattle.capscript.specs.declared.fault.ScriptFault.TheVariants as stops;
+    ghost use Rattle.caplines.specs.declared.fault.ScriptFault.TheVariants as stops;
     ghost use Rattle.capjobs.specs.declared.fault.ServeFault.TheVariants as faults;
 
     ghost from_gives = { λ _ fault. fault ≡ faults.Script stops.NoMemory };
@@ -73,7 +73,7 @@ impl From<AllocError> for ServeFault {
 
 impl<T: Drop> From<AllocFailed<T>> for ServeFault {
     ghost use Rattle.std.specs.Prelude.{◌≡◌};
-    ghost use Rattle.capscript.specs.declared.fault.ScriptFault.TheVariants as stops;
+    ghost use Rattle.caplines.specs.declared.fault.ScriptFault.TheVariants as stops;
     ghost use Rattle.capjobs.specs.declared.fault.ServeFault.TheVariants as faults;
 
     ghost from_gives = { λ _ fault. fault ≡ faults.Script stops.NoMemory };

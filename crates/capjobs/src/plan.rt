@@ -1,8 +1,8 @@
 //! What the lines of a script call, and for whom.
 ghost use Rattle.std.specs.Prelude.{◌≡◌, ◌==◌, ◌≤◌, ◌⊎◌, ◌++◌, [], ◌∷◌, map, length, vec_len, Some, None, OnOk, OnErr, IfOk, IfErr, Err, false, IsFalse};
 ghost use Rattle.std.specs.List.{position};
-ghost use Rattle.capscript.specs.Lines.{lines, longest_script};
-ghost use Rattle.capscript.specs.declared.fault.ScriptFault.TheVariants as stops;
+ghost use Rattle.caplines.specs.Lines.{lines, longest_script};
+ghost use Rattle.caplines.specs.declared.fault.ScriptFault.TheVariants as stops;
 ghost use Rattle.capjobs.specs.declared.fault.ServeFault.TheVariants as faults;
 ghost use Rattle.capjobs.specs.Jobs.{work_of, no_work, calls_of, calls_by, with_event, is_known, first_word, Takes, TakesEvent, TakesAll, IsFaultBy, IsFaultAt, StopsAt};
 

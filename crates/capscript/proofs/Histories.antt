@@ -18,16 +18,16 @@ use Rattle.capevents.specs.declared.row.Row.{Row}
 use Rattle.capcore.specs.History.{Told, IsOpening, Replays, AreNumbered, rows_of}
 use Rattle.capcore.specs.State.{State}
 use Rattle.capbits.specs.declared.ids.ClientId.{ClientId}
-use Rattle.capscript.specs.Events.{Reads}
-use Rattle.capscript.specs.Faults.{IsStop}
-use Rattle.capscript.specs.declared.fault.ScriptFault.{ScriptFault}
-use Rattle.capscript.specs.declared.fault.ScriptFault.TheVariants as stops
-use Rattle.capscript.specs.Lines.{lines, is_skipped}
+use Rattle.caplines.specs.Events.{Reads}
+use Rattle.caplines.specs.Faults.{IsStop}
+use Rattle.caplines.specs.declared.fault.ScriptFault.{ScriptFault}
+use Rattle.caplines.specs.declared.fault.ScriptFault.TheVariants as stops
+use Rattle.caplines.specs.Lines.{lines, is_skipped}
 use Rattle.capexplain.specs.Replies.{reply_text}
 use Rattle.capscript.specs.Transcript.{LinesSay, replies_text, IsTranscript, Answered, Ran, Answers, AnswersLine, StopsIn, fs_name, root_attr}
 use Rattle.capcore.proofs.Growing.{replays-more}
 use Rattle.capcore.proofs.Numbered.{numbered-nil, numbered-snoc}
-use Rattle.capscript.proofs.SaidLines.{not_skipped}
+use Rattle.caplines.proofs.SaidLines.{not_skipped}
 use Rattle.capscript.proofs.KnownBytes.{none_appended, appends_more, appends_same}
 
 -- ---- there is an opening state on the first tree

@@ -9,12 +9,12 @@ use Rattle.capevents.specs.declared.row.Row.{Row}
 use Rattle.capevents.specs.declared.reply.Reply.{Reply}
 use Rattle.capcore.specs.History.{Told, IsOpening, IsLegal, IsNext}
 use Rattle.capcore.specs.State.{State}
-use Rattle.capscript.specs.declared.fault.LineFault.{LineFault}
-use Rattle.capscript.specs.declared.fault.ScriptFault.{ScriptFault}
-use Rattle.capscript.specs.declared.fault.ScriptFault.TheVariants as stops
-use Rattle.capscript.specs.Events.{Reads}
-use Rattle.capscript.specs.Faults.{HasFault}
-use Rattle.capscript.specs.Lines.{lines, is_skipped}
+use Rattle.caplines.specs.declared.fault.LineFault.{LineFault}
+use Rattle.caplines.specs.declared.fault.ScriptFault.{ScriptFault}
+use Rattle.caplines.specs.declared.fault.ScriptFault.TheVariants as stops
+use Rattle.caplines.specs.Events.{Reads}
+use Rattle.caplines.specs.Faults.{HasFault}
+use Rattle.caplines.specs.Lines.{lines, is_skipped}
 use Rattle.capexplain.specs.Replies.{reply_text}
 
 -- The lines say these events, in order: each line that is not skipped says one.

@@ -1,12 +1,12 @@
 //! Whole scripts in, texts out.
 ghost use Rattle.std.specs.Prelude.{◌≡◌, ◌⊎◌, ◌↔◌, ◌+◌, ◌<◌, ◌≤◌, ◌++◌, ℕ, List, length, IsTrue, IsFalse, IfOk, IfSome, OnOk, OnErr, Err};
 ghost use Rattle.std.specs.Io.KnownBytes.{Appends, Consumes, IsAtEnd};
-ghost use Rattle.capscript.specs.declared.fault.ScriptFault.TheVariants as stops;
-ghost use Rattle.capscript.specs.Lines.{longest_script};
+ghost use Rattle.caplines.specs.declared.fault.ScriptFault.TheVariants as stops;
+ghost use Rattle.caplines.specs.Lines.{longest_script};
 ghost use Rattle.capscript.specs.Watched.{inner_of, has_failed, has_ended};
 
-use crate::fault::ScriptFault;
 use crate::watched::Watched;
+use caplines::ScriptFault;
 use std::alloc::Global;
 use std::io::{Read, Write};
 

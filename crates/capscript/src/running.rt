@@ -1,21 +1,20 @@
 //! Running a script.
-ghost use Rattle.std.specs.Prelude.{◌≡◌, ◌≢◌, ◌⊎◌, ◌↔◌, ◌<◌, ◌≤◌, ◌+◌, ◌++◌, ℕ, List, [], length, IsTrue, IsFalse, IfOk, IfErr, IfSome, MatchOption, OnOk, OnErr, Err, ◌∷◌};
+ghost use Rattle.std.specs.Prelude.{◌≡◌, ◌≢◌, ◌⊎◌, ◌↔◌, ◌<◌, ◌≤◌, ◌+◌, ◌++◌, ℕ, List, [], length, IsTrue, IsFalse, IfOk, IfErr, IfSome, OnOk, OnErr, Err};
 ghost use Rattle.std.specs.Io.KnownBytes.{Keeps, Appends, Consumes};
 ghost use Rattle.inotree.specs.Calls.{first_tree};
 ghost use Rattle.capcore.specs.History.{HasNoStray, IsOpening};
-ghost use Rattle.capscript.specs.declared.fault.ScriptFault.TheVariants as stops;
-ghost use Rattle.capscript.specs.Lines.{lines, longest_script};
+ghost use Rattle.caplines.specs.declared.fault.ScriptFault.TheVariants as stops;
+ghost use Rattle.caplines.specs.Lines.{lines, longest_script};
 ghost use Rattle.capscript.specs.Transcript.{Ran, Answered, Answers, AnswersLine, StopsIn, fs_name, root_attr};
 ghost use Rattle.capscript.specs.Watched.{inner_of, has_failed, has_ended};
 
-use crate::fault::ScriptFault;
 use crate::input::{read_script, write_text};
-use crate::line::read_line;
 use crate::watched::Watched;
 use capbits::{Mode, PassId};
 use capcore::{Core, Event, Stop};
 use capexplain::reply_lines;
 use capgrant::Attr;
+use caplines::{ScriptFault, read_line, split_line};
 use capspec::FsName;
 use inotree::Tree;
 use std::alloc::{AllocError, Global};
@@ -153,17 +152,6 @@ fn answer_lines<W: Write>(
         number += 1;
     }
     answer_line(alloc, core, number, rest, writer)
-}
-
-/// The line before the first line feed and what stands behind it, if there is one.
-pub fn split_line(script: &[u8]) -> Option<(&[u8], &[u8])>
-    ensures lines { MatchOption result
-        (lines script.now ≡ script.now ∷ [])
-        (λ cut. lines script.now ≡ cut.0.now ∷ lines cut.1.now) }
-    ensures shorter { IfSome result (λ cut. length cut.1.now < length script.now) }
-{
-    let end = script.iter().position(|byte| *byte == b'\n')?;
-    Some((&script[..end], &script[end + 1..]))
 }
 
 // Answers the event of one line, if it is not skipped.

@@ -1,5 +1,5 @@
 use Rattle.std.proofs.Common.{arith}
-use Rattle.capscript.specs.Lines.{lines}
+use Rattle.caplines.specs.Lines.{lines}
 use Rattle.capjobs.specs.Jobs.{work_of, no_work, StopsAt}
 use Rattle.capjobs.proofs.Plans.{so_far_none, so_far_more, all_taken, stopped_at, handed_on}
 use Rattle.capjobs.proofs.plan.read_plan.Goals as goal

@@ -1,5 +1,5 @@
 use Rattle.std.proofs.Common.{ap, ◌∙◌}
-use Rattle.capscript.specs.Lines.{lines}
+use Rattle.caplines.specs.Lines.{lines}
 use Rattle.capjobs.specs.Jobs.{work_of}
 use Rattle.capjobs.specs.Served.{IsUnserved, audit_lines}
 use Rattle.capjobs.proofs.Plans.{handed_on}

@@ -1,0 +1,4 @@
+pub mod LineWords
+pub mod Numerals
+pub mod GroupNumbers
+pub mod SaidLines

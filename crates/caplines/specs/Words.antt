@@ -1,0 +1,48 @@
+-- The words of a line, and what the first of them says.
+use Rattle.std.specs.Prelude.{◌==◌, not, ℕ, Bool, Result, List, [], ◌∷◌, drop, find, bytes_eq}
+use Rattle.std.specs.List.{list_all, slice_split, join_with_byte}
+use Rattle.std.specs.Option.{ok_or}
+use Rattle.capexplain.specs.declared.command.Command.{Command}
+use Rattle.capexplain.specs.declared.command.Command.TheVariants.{Session, CloseSession, Stale, Renew, Regrant, Evict, Unblock, Recall, Lookup, Create, Mkdir, MakeSnapshot, RemoveSnapshot, Open, Want, Ack, Release, Get, Alter, Unlink, Rmdir, Rename, Flush, Poll}
+use Rattle.capexplain.specs.Words.{command_word}
+use Rattle.caplines.specs.declared.fault.LineFault.{LineFault}
+use Rattle.caplines.specs.declared.fault.LineFault.TheVariants as faults
+
+abbrev pub is_space : ℕ → Bool
+is_space b = b == 32
+
+-- The words of a line: there is one space between each two. So a word is empty where two spaces meet, and at an end of the line that is a
+-- space.
+abbrev pub words : List ℕ → List (List ℕ)
+words text = slice_split is_space text
+
+-- words with one space between each two
+abbrev pub spaced : List (List ℕ) → List ℕ
+spaced some = join_with_byte 32 some
+
+-- the words, with all from the sixth on as one
+abbrev pub six_parts : List (List ℕ) → List (List ℕ)
+six_parts (a ∷ b ∷ c ∷ d ∷ e ∷ f ∷ more) = a ∷ b ∷ c ∷ d ∷ e ∷ spaced (f ∷ more) ∷ []
+six_parts few = few
+
+-- the parts of a line: its words, of which the sixth is all that is left of it
+abbrev pub parts : List ℕ → List (List ℕ)
+parts text = six_parts (words text)
+
+-- the parts behind the first
+abbrev pub arguments_in : List ℕ → List (List ℕ)
+arguments_in text = drop 1 (parts text)
+
+-- The part is one word. The last part of a line with more words than parts has a space.
+abbrev pub is_one_word : List ℕ → Bool
+is_one_word part = list_all (λ b. not (is_space b)) part
+
+abbrev pub commands : List Command
+commands =
+    Open ∷ Want ∷ Ack ∷ Release ∷ Lookup ∷ Get ∷ Alter ∷ Poll ∷ Create
+    ∷ Flush ∷ Unlink ∷ Rename ∷ Mkdir ∷ Rmdir ∷ Recall ∷ Session ∷ CloseSession ∷ Stale
+    ∷ Renew ∷ Regrant ∷ Evict ∷ Unblock ∷ MakeSnapshot ∷ RemoveSnapshot ∷ []
+
+-- the command that a word is
+abbrev pub command_in : List ℕ → Result Command LineFault
+command_in word = ok_or (find (λ command. bytes_eq word (command_word command)) commands) faults.Command

@@ -1,0 +1,18 @@
+//! The lines of scripts: the one event that a line says, or its fault.
+#![tactic(auto)]
+
+mod change;
+mod command;
+mod entry_event;
+mod event;
+mod fault;
+mod hex;
+mod inode_event;
+mod line;
+mod session_event;
+mod values;
+mod words;
+
+pub use fault::{LineFault, ScriptFault};
+pub use line::{MAX_LINE, read_line, split_line};
+pub use words::split_at_space;
