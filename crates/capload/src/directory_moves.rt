@@ -16,6 +16,9 @@ const FILES: u64 = 100;
 /// How many clients listen after a move.
 const LISTENERS: u64 = 4;
 
+/// The line that opens a client's session.
+const SESSION: &str = "session # # # - allow r path=/pub, allow rw path=/inside";
+
 /// A directory that is moved, and where it stands.
 #[derive(Clone, Copy)]
 struct Folder {
@@ -40,20 +43,15 @@ pub(crate) fn move_about(core: &mut Core, talk: &mut Talk, count: u32) {
 }
 
 fn make_places(core: &mut Core, talk: &mut Talk) -> Places {
-    talk.say(core, "session 1 0 0 - allow rwps");
-    let inside = talk.make(core, "mkdir 1 1 inside 0777");
-    let outside = talk.make(core, "mkdir 1 1 outside 0777");
+    talk.say(core, "session 1 0 0 - allow rwps", &[]);
+    let inside = talk.make(core, "mkdir 1 1 inside 0777", &[]);
+    let outside = talk.make(core, "mkdir 1 1 outside 0777", &[]);
     Places { inside, outside }
 }
 
 fn let_all_in(core: &mut Core, talk: &mut Talk) {
     for client in 2..CLIENTS + 2 {
-        talk.say(
-            core,
-            format_args!(
-                "session {client} {client} {client} - allow r path=/pub, allow rw path=/inside"
-            ),
-        );
+        talk.say(core, SESSION, &[client, client, client]);
     }
 }
 
@@ -83,9 +81,9 @@ fn move_often(
 
 // Makes a directory with its files, each of which three clients open to read.
 fn make_folder(core: &mut Core, talk: &mut Talk, inside: u64, name: u64) -> Folder {
-    let ino = talk.make(core, format_args!("mkdir 1 {inside} folder{name} 0777"));
+    let ino = talk.make(core, "mkdir 1 # folder# 0777", &[inside, name]);
     for file in 0..FILES {
-        let made = talk.make(core, format_args!("create 1 {ino} file{file} 0666"));
+        let made = talk.make(core, "create 1 # file# 0666", &[ino, file]);
         open_file(core, talk, made, 3);
     }
     Folder {
@@ -99,7 +97,7 @@ fn make_folder(core: &mut Core, talk: &mut Talk, inside: u64, name: u64) -> Fold
 fn open_file(core: &mut Core, talk: &mut Talk, ino: u64, count: u64) {
     for _ in 0..count {
         let client = talk.among(2, CLIENTS);
-        talk.say(core, format_args!("open {client} {ino} r"));
+        talk.say(core, "open # # r", &[client, ino]);
     }
 }
 
@@ -115,7 +113,7 @@ fn move_folder(core: &mut Core, talk: &mut Talk, folder: &mut Folder, places: Pl
     } else {
         places.inside
     };
-    talk.say(core, format_args!("rename 1 {ino} {target} folder{ino}"));
+    talk.say(core, "rename 1 # # folder#", &[ino, target, ino]);
     folder.is_inside = !is_inside;
     listen_to_move(core, talk);
     if !is_inside {

@@ -32,7 +32,7 @@ pub(crate) enum Fault {
 impl Display for Fault {
     fn fmt<W: fmt::Write>(&self, f: &mut fmt::Formatter<W>) -> fmt::Result {
         f.write_str(match self {
-            Fault::Usage => "usage: capload tenants|shared|moves|script|questions|serve COUNT SEED",
+            Fault::Usage => "WORK, COUNT and SEED are wanted: --help names them",
             Fault::Script(fault) => return write!(f, "script: {fault}"),
             Fault::Serve(fault) => return write!(f, "serve: {fault}"),
             Fault::Question(fault) => return write!(f, "question: {fault}"),
@@ -41,6 +41,20 @@ impl Display for Fault {
             Fault::NoMemory => "no memory",
             Fault::WriteFailed => "write failed",
         })
+    }
+}
+
+impl Fault {
+    ghost use Rattle.std.specs.Prelude.{◌≤◌};
+
+    /// The status with which the program ends.
+    pub(crate) fn status(self) -> u8
+        ensures { result ≤ 2 }
+    {
+        match self {
+            Fault::Usage => 2,
+            _ => 1,
+        }
     }
 }
 

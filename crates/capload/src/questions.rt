@@ -4,14 +4,19 @@ use crate::fault::Fault;
 use crate::talk::Talk;
 use capquestion::{Question, Values};
 use std::alloc::Global;
-use std::fmt::Display;
 use std::hash::{DefaultHasher, Hasher};
 
 /// How many directories can stand in each.
 const NAMES: u64 = 4;
 
-/// How many users there are.
-const USERS: u64 = 6;
+/// The users of callers and of owners, the first of them, and how many they are.
+const USERS: &[&str] = &["1000", "1001", "1002", "1003", "1004", "1005"];
+
+const FIRST_USER: u64 = 1000;
+
+const USER_COUNT: u64 = 6;
+
+const MODES: &[&str] = &["0040", "0141", "0242", "0343", "0444", "0545", "0646", "0747"];
 
 /// What can be asked for.
 const ACCESSES: &[&str] = &["read", "write", "vxattr", "snapshot", "chmod", "chown:1002"];
@@ -19,73 +24,45 @@ const ACCESSES: &[&str] = &["read", "write", "vxattr", "snapshot", "chmod", "cho
 /// How many texts of grants, and how many paths, are made before the first question.
 const TEXTS: u64 = 1024;
 
-/// What questions are put together from.
+/// The texts that questions are put together from.
 #[derive(Drop)]
 struct Texts {
     grants: Vec<Vec<u8>>,
     paths: Vec<Vec<u8>>,
-    users: Vec<Vec<u8>>,
-    modes: Vec<Vec<u8>>,
-    accesses: Vec<Vec<u8>>,
 }
 
 /// Answers so many questions, and returns the digest of the answers.
 pub(crate) fn ask_all(alloc: Global, count: u32, seed: u32) -> Result<u64, Fault> {
     let mut talk = Talk::new(alloc, seed);
-    let texts = make_texts(alloc, &mut talk);
-    talk.check()?;
-    ask_often(alloc, &texts, &mut talk, count)
+    let texts = make_texts(&mut talk);
+    ask_often(&texts, &mut talk, count);
+    talk.digest()
 }
 
-fn ask_often(alloc: Global, texts: &Texts, talk: &mut Talk, count: u32) -> Result<u64, Fault> {
-    let mut digest = DefaultHasher::new();
-    let mut values = blank(alloc);
+fn make_texts(talk: &mut Talk) -> Texts {
+    let mut texts = Texts {
+        grants: Vec::new(talk.alloc()),
+        paths: Vec::new(talk.alloc()),
+    };
+    for _ in 0..TEXTS {
+        add_grants(talk, &mut texts.grants);
+        add_path(talk, &mut texts.paths);
+    }
+    texts
+}
+
+fn ask_often(texts: &Texts, talk: &mut Talk, count: u32) {
+    let mut values = blank(talk.alloc());
     for _ in 0..count {
         choose(texts, talk, &mut values);
-        talk.check()?;
-        let line = answer(alloc, &values)?;
-        digest.write(line.as_slice());
+        let answer = answer(talk.alloc(), &values);
+        talk.take(answer);
     }
-    Ok(digest.finish())
 }
 
 // The answer to a question. What is promised of it stays behind here.
 fn answer(alloc: Global, values: &Values) -> Result<Vec<u8>, Fault> {
     Ok(Question::read(alloc, values)?.answer(alloc)?)
-}
-
-fn make_texts(alloc: Global, talk: &mut Talk) -> Texts {
-    let mut texts = Texts {
-        grants: Vec::new(alloc),
-        paths: Vec::new(alloc),
-        users: Vec::new(alloc),
-        modes: Vec::new(alloc),
-        accesses: Vec::new(alloc),
-    };
-    add_texts(talk, &mut texts);
-    texts
-}
-
-fn add_texts(talk: &mut Talk, texts: &mut Texts) {
-    for _ in 0..TEXTS {
-        add_grants(talk, &mut texts.grants);
-        add_path(talk, &mut texts.paths);
-    }
-    for user in 0..USERS {
-        add_text(talk, &mut texts.users, user.saturating_add(1000));
-    }
-    for mode in 0..8 {
-        add_text(talk, &mut texts.modes, format_args!("0{mode}4{mode}"));
-    }
-    for access in ACCESSES {
-        add_text(talk, &mut texts.accesses, *access);
-    }
-}
-
-fn add_text<D: Display + Drop>(talk: &mut Talk, texts: &mut Vec<Vec<u8>>, value: D) {
-    let mut text = Vec::new(talk.alloc());
-    talk.write(&mut text, value);
-    talk.keep(texts, text);
 }
 
 // Values without a byte.
@@ -106,41 +83,52 @@ fn blank(alloc: Global) -> Values {
 
 // Puts one question together.
 fn choose(texts: &Texts, talk: &mut Talk, values: &mut Values) {
-    take(&texts.grants, talk, &mut values.grants);
-    take(&texts.paths, talk, &mut values.path);
-    take(&texts.modes, talk, &mut values.mode);
-    take(&texts.accesses, talk, &mut values.access);
-    choose_users(&texts.users, talk, values);
-    values.fs.clear();
-    talk.write(&mut values.fs, "cephfs");
+    take(talk, &texts.grants, &mut values.grants);
+    take(talk, &texts.paths, &mut values.path);
+    choose_word(talk, MODES, &mut values.mode);
+    choose_word(talk, ACCESSES, &mut values.access);
+    choose_users(talk, values);
+    put(talk, b"cephfs", &mut values.fs);
 }
 
 // The numbers of the caller and of the owner.
-fn choose_users(users: &Vec<Vec<u8>>, talk: &mut Talk, values: &mut Values) {
-    take(users, talk, &mut values.uid);
-    take(users, talk, &mut values.gid);
-    take(users, talk, &mut values.owner);
-    take(users, talk, &mut values.group);
+fn choose_users(talk: &mut Talk, values: &mut Values) {
+    choose_word(talk, USERS, &mut values.uid);
+    choose_word(talk, USERS, &mut values.gid);
+    choose_word(talk, USERS, &mut values.owner);
+    choose_word(talk, USERS, &mut values.group);
     if let Some(groups) = &mut values.groups {
-        take(users, talk, groups);
+        choose_word(talk, USERS, groups);
+    }
+}
+
+// One of the words, in the place of another.
+fn choose_word(talk: &mut Talk, words: &[&str], place: &mut Vec<u8>) {
+    let number = talk.below(words.len() as u64);
+    if let Some(word) = words.get(number as usize) {
+        put(talk, word.as_bytes(), place);
     }
 }
 
 // One of the texts, in the place of another.
-fn take(texts: &Vec<Vec<u8>>, talk: &mut Talk, place: &mut Vec<u8>) {
-    place.clear();
+fn take(talk: &mut Talk, texts: &Vec<Vec<u8>>, place: &mut Vec<u8>) {
     let number = talk.below(texts.len() as u64);
     if let Some(text) = texts.get(number as usize) {
-        if place.extend_from_slice(text.as_slice()).is_err() {
-            talk.fail(Fault::NoMemory);
-        }
+        put(talk, text.as_slice(), place);
+    }
+}
+
+fn put(talk: &mut Talk, text: &[u8], place: &mut Vec<u8>) {
+    place.clear();
+    if place.extend_from_slice(text).is_err() {
+        talk.fail(Fault::NoMemory);
     }
 }
 
 // One to sixteen grants, most of them few.
 fn add_grants(talk: &mut Talk, texts: &mut Vec<Vec<u8>>) {
     let mut grants = Vec::new(talk.alloc());
-    talk.write(&mut grants, "allow r path=/pub");
+    talk.write(&mut grants, "allow r path=/pub", &[]);
     let most = talk.below(15);
     for _ in 0..talk.below(most) {
         write_grant(talk, &mut grants);
@@ -150,18 +138,18 @@ fn add_grants(talk: &mut Talk, texts: &mut Vec<Vec<u8>>) {
 
 fn write_grant(talk: &mut Talk, grants: &mut Vec<u8>) {
     let kind = talk.below(4);
-    let flags = match kind {
-        0 => "r",
-        1 => "rwp",
-        _ => "rw",
+    let line = match kind {
+        0 => ", allow r path=",
+        1 => ", allow rwp path=",
+        _ => ", allow rw path=",
     };
-    talk.write(grants, format_args!(", allow {flags} path="));
+    talk.write(grants, line, &[]);
     write_path(talk, grants);
     match kind {
-        2 => talk.write(grants, " root_squash"),
+        2 => talk.write(grants, " root_squash", &[]),
         3 => {
-            let user = talk.among(1000, USERS);
-            talk.write(grants, format_args!(" uid={user} gids={user},1001"));
+            let user = talk.among(FIRST_USER, USER_COUNT);
+            talk.write(grants, " uid=# gids=#,1001", &[user, user]);
         }
         _ => {}
     }
@@ -176,6 +164,6 @@ fn add_path(talk: &mut Talk, texts: &mut Vec<Vec<u8>>) {
 fn write_path(talk: &mut Talk, text: &mut Vec<u8>) {
     for _ in 0..talk.among(1, 7) {
         let name = talk.below(NAMES);
-        talk.write(text, format_args!("/directory{name}"));
+        talk.write(text, "/directory#", &[name]);
     }
 }

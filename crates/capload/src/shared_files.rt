@@ -33,7 +33,7 @@ fn work_often(core: &mut Core, talk: &mut Talk, files: &[u64], count: u32) {
 fn make_all_files(core: &mut Core, talk: &mut Talk) -> Vec<u64> {
     let mut files = Vec::new(talk.alloc());
     for number in 0..FOLDERS {
-        let folder = talk.make(core, format_args!("mkdir 1 1 folder{number} 0755"));
+        let folder = talk.make(core, "mkdir 1 1 folder# 0755", &[number]);
         make_files(core, talk, folder, &mut files);
     }
     files
@@ -41,18 +41,19 @@ fn make_all_files(core: &mut Core, talk: &mut Talk) -> Vec<u64> {
 
 fn make_files(core: &mut Core, talk: &mut Talk, folder: u64, files: &mut Vec<u64>) {
     for name in 0..FILES {
-        let file = talk.make(core, format_args!("create 1 {folder} file{name} 0644"));
+        let file = talk.make(core, "create 1 # file# 0644", &[folder, name]);
         talk.keep(files, file);
     }
 }
 
 // Gives a client its session; every fifth may only read.
 fn let_in(core: &mut Core, talk: &mut Talk, client: u64) {
-    let caps = if client % 5 == 0 { "r" } else { "rw" };
-    talk.say(
-        core,
-        format_args!("session {client} {client} {client} - allow {caps}"),
-    );
+    let line = if client % 5 == 0 {
+        "session # # # - allow r"
+    } else {
+        "session # # # - allow rw"
+    };
+    talk.say(core, line, &[client, client, client]);
 }
 
 // One round: a client asks for something of a file, and one listens.
@@ -73,42 +74,32 @@ fn work(core: &mut Core, talk: &mut Talk, files: &[u64]) {
 }
 
 fn use_file(core: &mut Core, talk: &mut Talk, client: u64, ino: u64, dice: u64) {
-    let (word, rest) = match dice {
-        0..450 => ("open", "r"),
-        450..550 => ("open", "w"),
-        550..650 => ("open", "rw"),
-        650..750 => ("want", "pFscr"),
-        750..900 => ("release", "p"),
-        900..930 => ("get", "F"),
-        930..960 => return talk.alter_number(core, client, ino, "size", dice),
-        _ => ("alter", "chmod 0644"),
+    let line = match dice {
+        0..450 => "open # # r",
+        450..550 => "open # # w",
+        550..650 => "open # # rw",
+        650..750 => "want # # pFscr",
+        750..900 => "release # # p",
+        900..930 => "get # # F",
+        930..960 => "alter # # size #",
+        _ => "alter # # chmod 0644",
     };
-    talk.use_inode(core, word, client, ino, rest)
+    talk.say(core, line, &[client, ino, dice]);
 }
 
 // What happens to sessions, and what the server does by itself.
 fn disturb(core: &mut Core, talk: &mut Talk, client: u64, dice: u64) {
-    match dice {
-        990..993 => say_both(core, talk, client, "stale", "renew"),
-        993..995 => {
-            say_both(core, talk, client, "evict", "unblock");
-            let_in(core, talk, client);
-        }
-        995..998 => regrant_twice(core, talk, client),
-        _ => {
-            talk.say(core, "recall 100");
-        }
+    let lines: &[&str] = match dice {
+        990..993 => &["stale #", "renew #"],
+        993..995 => &["evict #", "unblock #"],
+        // For a moment it may only read.
+        995..998 => &["regrant # allow r", "regrant # allow rw"],
+        _ => &["recall 100"],
+    };
+    for line in lines {
+        talk.say(core, line, &[client]);
     }
-}
-
-// Says the one of a client, and then the other.
-fn say_both(core: &mut Core, talk: &mut Talk, client: u64, one: &str, other: &str) {
-    talk.say(core, format_args!("{one} {client}"));
-    talk.say(core, format_args!("{other} {client}"));
-}
-
-// For a moment the client may only read.
-fn regrant_twice(core: &mut Core, talk: &mut Talk, client: u64) {
-    talk.say(core, format_args!("regrant {client} allow r"));
-    talk.say(core, format_args!("regrant {client} allow rw"));
+    if let 993..995 = dice {
+        let_in(core, talk, client);
+    }
 }

@@ -7,8 +7,7 @@ use capexplain::reply_lines;
 use capscript::read_line;
 use rand_core::Rng;
 use rand_pcg::Pcg32;
-use std::alloc::Global;
-use std::fmt::Display;
+use std::alloc::{AllocError, Global};
 use std::hash::{DefaultHasher, Hasher};
 use std::io::Write;
 
@@ -18,7 +17,7 @@ const PASS: PassId = PassId(1);
 const STREAM: u64 = 54;
 
 /// How many messages a client takes at once.
-const MESSAGES: u32 = 64;
+const MESSAGES: u64 = 64;
 
 /// A change that a client was told of.
 #[derive(Clone, Copy)]
@@ -83,21 +82,31 @@ impl Talk {
 
     /// The digest of all answers, or the first fault.
     pub(crate) fn digest(&self) -> Result<u64, Fault> {
-        self.check()?;
-        Ok(self.digest.finish())
-    }
-
-    /// The first fault, if there was one.
-    pub(crate) fn check(&self) -> Result<(), Fault> {
         match self.fault {
-            None => Ok(()),
+            None => Ok(self.digest.finish()),
             Some(fault) => Err(fault),
         }
     }
 
-    /// Puts what a value shows behind a text.
-    pub(crate) fn write<D: Display + Drop>(&mut self, text: &mut Vec<u8>, value: D) {
-        if text.write_fmt(value).is_err() {
+    /// Takes in what was answered otherwise than by a core.
+    pub(crate) fn take(&mut self, answer: Result<Vec<u8>, Fault>) {
+        match answer {
+            Ok(text) => self.digest.write(text.as_slice()),
+            Err(fault) => self.fail(fault),
+        }
+    }
+
+    /// A text, if nothing failed; the talk ends.
+    pub(crate) fn made(self, text: Vec<u8>) -> Result<Vec<u8>, Fault> {
+        match self.fault {
+            None => Ok(text),
+            Some(fault) => Err(fault),
+        }
+    }
+
+    /// Puts a line behind a text. Each `#` of it stands for the next of the numbers; numbers that are left over do not count.
+    pub(crate) fn write(&mut self, text: &mut Vec<u8>, line: &str, numbers: &[u64]) {
+        if fill(text, line, numbers).is_err() {
             self.fail(Fault::NoMemory);
         }
     }
@@ -116,17 +125,12 @@ impl Talk {
         }
     }
 
-    /// Says a line, and hears what is answered.
-    pub(crate) fn say<D: Display + Drop>(&mut self, core: &mut Core, line: D) -> Heard {
+    /// Says a line, which is filled with numbers as in `write`, and hears what is answered.
+    pub(crate) fn say(&mut self, core: &mut Core, line: &str, numbers: &[u64]) -> Heard {
         if self.fault.is_some() {
             return Heard::NotDone;
         }
-        self.line.clear();
-        let asked = match self.line.write_fmt(line) {
-            Ok(()) => self.ask(core),
-            Err(_) => Err(Fault::NoMemory),
-        };
-        match asked {
+        match self.ask(core, line, numbers) {
             Ok(heard) => heard,
             Err(fault) => {
                 self.fail(fault);
@@ -136,8 +140,8 @@ impl Talk {
     }
 
     /// Says a line that has to be answered with an inode.
-    pub(crate) fn make<D: Display + Drop>(&mut self, core: &mut Core, line: D) -> u64 {
-        match self.say(core, line) {
+    pub(crate) fn make(&mut self, core: &mut Core, line: &str, numbers: &[u64]) -> u64 {
+        match self.say(core, line, numbers) {
             Heard::Ino(ino) => ino,
             _ => {
                 self.fail(Fault::Unexpected);
@@ -146,49 +150,21 @@ impl Talk {
         }
     }
 
-    /// A client asks for something of an inode: `word` says for what, and `rest` is what follows the inode's number.
-    pub(crate) fn use_inode(
-        &mut self,
-        core: &mut Core,
-        word: &str,
-        client: u64,
-        ino: u64,
-        rest: &str,
-    ) {
-        self.say(core, format_args!("{word} {client} {ino} {rest}"));
-    }
-
-    /// A client changes something of an inode to a number.
-    pub(crate) fn alter_number(
-        &mut self,
-        core: &mut Core,
-        client: u64,
-        ino: u64,
-        word: &str,
-        number: u64,
-    ) {
-        self.say(core, format_args!("alter {client} {ino} {word} {number}"));
-    }
-
     /// A client asks for its messages, and acknowledges each change that it is told of.
     pub(crate) fn listen(&mut self, core: &mut Core, client: u64) {
-        self.say(core, format_args!("poll {client} {MESSAGES}"));
+        self.say(core, "poll # #", &[client, MESSAGES]);
         for place in 0..self.told.len() {
-            let Some(told) = self.told.get(place).copied() else {
-                break;
-            };
-            self.acknowledge(core, client, told);
+            if let Some(Told { ino, seq }) = self.told.get(place).copied() {
+                self.say(core, "ack # # #", &[client, ino, seq]);
+            }
         }
         self.told.clear();
     }
 
-    fn acknowledge(&mut self, core: &mut Core, client: u64, told: Told) {
-        let Told { ino, seq } = told;
-        self.say(core, format_args!("ack {client} {ino} {seq}"));
-    }
-
     // Asks the core what the line says.
-    fn ask(&mut self, core: &mut Core) -> Result<Heard, Fault> {
+    fn ask(&mut self, core: &mut Core, line: &str, numbers: &[u64]) -> Result<Heard, Fault> {
+        self.line.clear();
+        fill(&mut self.line, line, numbers)?;
         let event = self.event()?;
         let reply = core.apply(PASS, event)?;
         let heard = self.hear(&reply);
@@ -228,4 +204,21 @@ impl Talk {
         }
         Ok(Heard::Done)
     }
+}
+
+// Puts a line behind a text, with the numbers in the places of its `#`.
+fn fill(text: &mut Vec<u8>, line: &str, numbers: &[u64]) -> Result<(), AllocError> {
+    let mut numbers = numbers.iter();
+    for byte in line.as_bytes() {
+        if *byte != b'#' {
+            text.push(*byte)?;
+        } else if let Some(number) = numbers.next() {
+            write_number(text, *number)?;
+        }
+    }
+    Ok(())
+}
+
+fn write_number(text: &mut Vec<u8>, number: u64) -> Result<(), AllocError> {
+    text.write_fmt(number).map_err(|_| AllocError)
 }

@@ -13,6 +13,14 @@ const FOLDERS: u64 = 8;
 /// The client that makes the directories of the tenants.
 const ADMINISTRATOR: u64 = 1;
 
+/// The lines that open a tenant's session, by grants of three kinds. Their numbers are the client, twice its user, the tenant's own, and
+/// twice the user again.
+const BY_PATH: &str = "session # # # - allow rw path=/tenant#";
+
+const BY_USER: &str = "session # # # 100,200 allow r path=/pub, allow rw path=/tenant# uid=# gids=#,100";
+
+const SQUASHED: &str = "session # # # 100 allow r path=/pub, allow rw path=/scratch root_squash, allow rwps path=/tenant#";
+
 /// A tenant, with what it made.
 #[derive(Drop)]
 struct Tenant {
@@ -31,7 +39,7 @@ struct File {
 
 /// Gives each tenant its directory, and has them work for so many rounds.
 pub(crate) fn serve_tenants(core: &mut Core, talk: &mut Talk, count: u32) {
-    talk.say(core, "session 1 0 0 - allow rwps");
+    talk.say(core, "session 1 0 0 - allow rwps", &[]);
     let mut tenants = let_all_in(core, talk);
     work_often(core, talk, &mut tenants, count)
 }
@@ -57,10 +65,7 @@ fn work_often(core: &mut Core, talk: &mut Talk, tenants: &mut Vec<Tenant>, count
 // Lets a tenant in: its directory is made, and it makes some in that.
 fn let_in(core: &mut Core, talk: &mut Talk, number: u64) -> Tenant {
     let client = number.saturating_add(2);
-    let home = talk.make(
-        core,
-        format_args!("mkdir {ADMINISTRATOR} 1 tenant{number} 0777"),
-    );
+    let home = talk.make(core, "mkdir # 1 tenant# 0777", &[ADMINISTRATOR, number]);
     open_session(core, talk, client, number);
     let folders = make_folders(core, talk, client, home);
     Tenant {
@@ -73,47 +78,19 @@ fn let_in(core: &mut Core, talk: &mut Talk, number: u64) -> Tenant {
 // Opens the tenant's session, by grants of one of three kinds.
 fn open_session(core: &mut Core, talk: &mut Talk, client: u64, number: u64) {
     let user = number.saturating_add(1000);
-    match number % 3 {
-        0 => open_by_path(core, talk, client, user, number),
-        1 => open_by_user(core, talk, client, user, number),
-        _ => open_squashed(core, talk, client, user, number),
-    }
-}
-
-fn open_by_path(core: &mut Core, talk: &mut Talk, client: u64, user: u64, number: u64) {
-    talk.say(
-        core,
-        format_args!("session {client} {user} {user} - allow rw path=/tenant{number}"),
-    );
-}
-
-fn open_by_user(core: &mut Core, talk: &mut Talk, client: u64, user: u64, number: u64) {
-    talk.say(
-        core,
-        format_args!(
-            "session {client} {user} {user} 100,200 allow r path=/pub, allow rw path=/tenant{number} uid={user} gids={user},100"
-        ),
-    );
-}
-
-// By grants of which one squashes root.
-fn open_squashed(core: &mut Core, talk: &mut Talk, client: u64, user: u64, number: u64) {
-    talk.say(
-        core,
-        format_args!(
-            "session {client} {user} {user} 100 allow r path=/pub, allow rw path=/scratch root_squash, allow rwps path=/tenant{number}"
-        ),
-    );
+    let line = match number % 3 {
+        0 => BY_PATH,
+        1 => BY_USER,
+        _ => SQUASHED,
+    };
+    talk.say(core, line, &[client, user, user, number, user, user]);
 }
 
 // The directories that a tenant makes in its own.
 fn make_folders(core: &mut Core, talk: &mut Talk, client: u64, home: u64) -> Vec<u64> {
     let mut folders = Vec::new(talk.alloc());
     for name in 0..FOLDERS {
-        let folder = talk.make(
-            core,
-            format_args!("mkdir {client} {home} folder{name} 0755"),
-        );
+        let folder = talk.make(core, "mkdir # # folder# 0755", &[client, home, name]);
         talk.keep(&mut folders, folder);
     }
     folders
@@ -145,54 +122,39 @@ fn any_folder(talk: &mut Talk, tenant: &Tenant) -> u64 {
 fn make_file(core: &mut Core, talk: &mut Talk, tenant: &mut Tenant, name: u64) {
     let client = tenant.client;
     let folder = any_folder(talk, tenant);
-    let heard = talk.say(
-        core,
-        format_args!("create {client} {folder} file{name} 0644"),
-    );
+    let heard = talk.say(core, "create # # file# 0644", &[client, folder, name]);
     if let Heard::Ino(ino) = heard {
         talk.keep(&mut tenant.files, File { ino, folder, name });
-        talk.say(core, format_args!("open {client} {ino} rw"));
+        talk.say(core, "open # # rw", &[client, ino]);
     }
 }
 
 // Uses a file of its own, or now and then one that is not.
 fn use_file(core: &mut Core, talk: &mut Talk, client: u64, file: File, dice: u64) {
-    let ino = file.ino;
-    let (word, ino, rest) = match dice {
-        0..25 => return look_up(core, talk, client, file),
-        25..45 => ("open", ino, "r"),
-        45..50 => ("open", ino, "rw"),
-        50..60 => ("want", ino, "pAsLsXsFsr"),
-        60..70 => ("release", ino, "p"),
+    let File { ino, folder, name } = file;
+    let (line, ino) = match dice {
+        0..25 => ("lookup # # file#", folder),
+        25..45 => ("open # # r", ino),
+        45..50 => ("open # # rw", ino),
+        50..60 => ("want # # pAsLsXsFsr", ino),
+        60..70 => ("release # # p", ino),
         70..80 => return change_file(core, talk, client, ino, dice),
-        80..82 => ("get", ino, "A"),
-        83 => ("open", ino / 2, "r"),
-        _ => ("alter", 1, "chmod 0700"),
+        80..82 => ("get # # A", ino),
+        83 => ("open # # r", ino / 2),
+        _ => ("alter # # chmod 0700", 1),
     };
-    talk.use_inode(core, word, client, ino, rest)
-}
-
-fn look_up(core: &mut Core, talk: &mut Talk, client: u64, file: File) {
-    let File { folder, name, .. } = file;
-    talk.say(core, format_args!("lookup {client} {folder} file{name}"));
+    talk.say(core, line, &[client, ino, name]);
 }
 
 fn change_file(core: &mut Core, talk: &mut Talk, client: u64, ino: u64, dice: u64) {
     let value = talk.below(1 << 20);
-    match dice % 4 {
-        0 => talk.alter_number(core, client, ino, "size", value),
-        1 => talk.alter_number(core, client, ino, "times", value),
-        2 => talk.use_inode(core, "alter", client, ino, "chmod 0664"),
-        _ => mark(core, talk, client, ino, value % 8),
-    }
-}
-
-// Gives a file an attribute whose name has this number.
-fn mark(core: &mut Core, talk: &mut Talk, client: u64, ino: u64, number: u64) {
-    talk.say(
-        core,
-        format_args!("alter {client} {ino} setx user.mark{number} 0123abcd"),
-    );
+    let (line, number) = match dice % 4 {
+        0 => ("alter # # size #", value),
+        1 => ("alter # # times #", value),
+        2 => ("alter # # chmod 0664", value),
+        _ => ("alter # # setx user.mark# 0123abcd", value % 8),
+    };
+    talk.say(core, line, &[client, ino, number]);
 }
 
 // Moves a file into another directory of the tenant's.
@@ -200,10 +162,7 @@ fn move_file(core: &mut Core, talk: &mut Talk, tenant: &mut Tenant, place: usize
     let client = tenant.client;
     let folder = any_folder(talk, tenant);
     let File { ino, name, .. } = file;
-    let heard = talk.say(
-        core,
-        format_args!("rename {client} {ino} {folder} file{name}"),
-    );
+    let heard = talk.say(core, "rename # # # file#", &[client, ino, folder, name]);
     match tenant.files.get_mut(place) {
         Some(file) if heard == Heard::Done => file.folder = folder,
         _ => {}

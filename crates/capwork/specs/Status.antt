@@ -7,7 +7,7 @@ use Rattle.capwork.specs.declared.fault.Fault.TheVariants.{TooManyCreations, Too
 abbrev pub status_of : Fault → ℕ
 status_of TooManyCreations = 2
 status_of TooManyOpenings = 2
-status_of (Grants fault) = 1
+status_of Grants = 1
 status_of Refused = 1
 status_of Changed = 1
 status_of OtherView = 1

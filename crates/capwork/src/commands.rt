@@ -62,19 +62,26 @@ fn run<T: Threads + Wait + Sync>(
     task: Task,
     writer: &mut impl Write,
 ) -> Result<(), Fault> {
-    let tally = tally_of(rt, alloc, task)?;
-    write_number(writer, "sum", tally.sum)?;
-    write_some(writer, "stops", tally.stops)?;
-    write_some(writer, "starved", tally.starved)?;
-    write_some(writer, "late", tally.late)
+    let tally = tally_of(rt, alloc, task);
+    match tally.fault {
+        Some(fault) => Err(fault),
+        None => write_tally(writer, tally),
+    }
 }
 
-// Writes a number as a line, unless it is 0.
-fn write_some(writer: &mut impl Write, word: &str, number: u64) -> Result<(), Fault> {
-    if number == 0 {
-        return Ok(());
+fn write_tally(writer: &mut impl Write, tally: Tally) -> Result<(), Fault> {
+    let more = [
+        ("stops", tally.stops),
+        ("starved", tally.starved),
+        ("late", tally.late),
+    ];
+    write_number(writer, "sum", tally.sum)?;
+    for (word, number) in more {
+        if number != 0 {
+            write_number(writer, word, number)?;
+        }
     }
-    write_number(writer, word, number)
+    Ok(())
 }
 
 // Writes a number as a line, behind the word that says what it counts.
@@ -83,14 +90,16 @@ fn write_number(writer: &mut impl Write, word: &str, number: u64) -> Result<(), 
 }
 
 // What a task comes to.
-fn tally_of<T: Threads + Wait + Sync>(rt: &T, alloc: Global, task: Task) -> Result<Tally, Fault> {
+fn tally_of<T: Threads + Wait + Sync>(rt: &T, alloc: Global, task: Task) -> Tally {
+    let mut tally = Tally::new();
     match task.work {
-        Work::Verdict(shape) => Tally::of_sum(judge(alloc, shape, task.times)),
-        Work::Parse(shape) => Tally::of_sum(read(alloc, shape, task.times)),
-        Work::OnCore(work) => on_a_core(alloc, work, task.times),
-        Work::Explain(shape) => Tally::of_sum(explain(rt, alloc, shape, task.times)),
-        Work::Publish => publish(rt, alloc, task.times),
+        Work::Verdict(shape) => tally.take(judge(alloc, shape, task.times)),
+        Work::Parse(shape) => tally.take(read(alloc, shape, task.times)),
+        Work::Explain(shape) => tally.take(explain(rt, alloc, shape, task.times)),
+        Work::OnCore(work) => return on_a_core(alloc, work, task.times),
+        Work::Publish => return publish(rt, alloc, task.times),
     }
+    tally
 }
 
 /// Writes the fault as a line, and returns its status.

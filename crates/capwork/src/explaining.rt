@@ -4,8 +4,10 @@ ghost use Rattle.std.specs.Prelude.{◌≡◌};
 ghost use Rattle.capserver.specs.Opened.{opened};
 
 use crate::fault::Fault;
-use crate::inodes::{ALL, CLIENT, birth, inode_at, root_opening, session_of, spread};
-use crate::moving::{mode_at, mode_change};
+use crate::inodes::{
+    ALL, CLIENT, birth, inode_at, mode_change, root_opening, session_of, spread,
+};
+use crate::moving::mode_at;
 use crate::work::{AskShape, Layout, Size, Way};
 use capbits::Ino;
 use capcore::Event;
@@ -16,7 +18,7 @@ use std::marker::Brand;
 use std::sync::atomic::{AtomicU64, Ordering};
 use std::sync::ledger::Blank;
 use std::sync::{Mutex, MutexGuard, Wait};
-use std::thread::{JoinHandle, Scope, Threads, join, scope, scope_env};
+use std::thread::{Threads, join, map_vec};
 
 /// What the word says that threads read while others still ask.
 const ASKING: u64 = 1;
@@ -71,14 +73,15 @@ fn ask_beside<L: Server + Send + Sync, T: Threads + Wait + Sync>(
     let Some(mut caller) = passes.pop() else {
         return Err(Fault::Refused);
     };
-    make_tree(rt, alloc, server, &mut caller, shape.size)?;
-    ask_while_called(rt, alloc, server, caller, passes, shape, times)
+    let made = make_tree(rt, alloc, server, &mut caller, shape.size);
+    let sum = ask_while_called(rt, server, caller, passes, shape, times);
+    made?;
+    sum
 }
 
-// Has one pass call events in a thread until the others have asked in theirs.
+// Has one pass call events until the others have asked in threads of their own.
 fn ask_while_called<L: Server + Send + Sync, T: Threads + Wait + Sync>(
     rt: &T,
-    alloc: Global,
     server: &CapServer<NoGate, L>,
     caller: Pass<L>,
     passes: Vec<Pass<L>>,
@@ -90,14 +93,14 @@ fn ask_while_called<L: Server + Send + Sync, T: Threads + Wait + Sync>(
         Way::Beside => None,
         Way::Locked => Some(&lock),
     };
-    let (called, sum) = join(
+    let (sum, called) = join(
         rt,
-        || call_while(rt, server, caller, &asking, turnstile, shape.size),
         || {
-            let sum = ask_all(rt, alloc, server, passes, turnstile, shape.size, times);
+            let sum = ask_all(rt, server, passes, turnstile, shape.size, times);
             asking.store(0, Ordering::SeqCst);
             sum
         },
+        || call_while(rt, server, caller, &asking, turnstile, shape.size),
     );
     called?;
     sum
@@ -111,9 +114,9 @@ fn make_tree<L: Server, T: Wait>(
     pass: &mut Pass<L>,
     size: Size,
 ) -> Result<(), Fault> {
-    call(rt, server, pass, None, session_of(alloc, CLIENT, ALL)?)?;
+    call_now(rt, server, pass, session_of(alloc, CLIENT, ALL))?;
     for place in 0..size.number() {
-        call(rt, server, pass, None, birth(alloc, Layout::Deep, place)?)?;
+        call_now(rt, server, pass, birth(alloc, Layout::Deep, place))?;
     }
     Ok(())
 }
@@ -131,16 +134,17 @@ fn call_while<L: Server, T: Wait>(
 ) -> Result<(), Fault> {
     let mut pass = pass;
     let mut turn: u32 = 0;
+    let mut called = Ok(());
     for _ in rt.forever() {
-        if asking.load(Ordering::SeqCst) != ASKING {
+        if called.is_err() || asking.load(Ordering::SeqCst) != ASKING {
             break;
         }
         let ino = inode_at(spread(turn, size.number()));
-        let event = mode_change(ino, mode_at(turn));
-        call(rt, server, &mut pass, turnstile, event)?;
+        let event = mode_change(CLIENT, ino, mode_at(turn));
+        called = call(rt, server, &mut pass, turnstile, event);
         turn = turn.wrapping_add(1);
     }
-    Ok(())
+    called
 }
 
 // Calls an event, under the lock if there is one.
@@ -149,7 +153,7 @@ fn call<L: Server, T: Wait>(
     server: &CapServer<NoGate, L>,
     pass: &mut Pass<L>,
     turnstile: Option<&Mutex<()>>,
-    event: Event,
+    event: Option<Event>,
 ) -> Result<(), Fault> {
     match turnstile {
         None => call_now(rt, server, pass, event),
@@ -167,59 +171,51 @@ fn call_now<L: Server, T: Wait>(
     rt: &T,
     server: &CapServer<NoGate, L>,
     pass: &mut Pass<L>,
-    event: Event,
+    event: Option<Event>,
 ) -> Result<(), Fault> {
-    let Answer { reply, fresh: _ } = server.call(rt, pass, event)?;
+    let Some(event) = event else {
+        return Err(Fault::NoMemory);
+    };
+    match server.call(rt, pass, event) {
+        Ok(answer) => {
+            forget(answer);
+            Ok(())
+        }
+        Err(stop) => Err(Fault::Stopped(stop)),
+    }
+}
+
+fn forget(answer: Answer) {
+    let Answer { reply, fresh: _ } = answer;
     drop(reply);
-    Ok(())
 }
 
 // ---- the threads that ask
 
-// Has each pass ask in a thread of its own, and waits for all.
+// Has each pass ask in a thread of its own, and returns how many questions were answered with yes.
 fn ask_all<L: Server + Send + Sync, T: Threads + Wait + Sync>(
     rt: &T,
-    alloc: Global,
     server: &CapServer<NoGate, L>,
     passes: Vec<Pass<L>>,
     turnstile: Option<&Mutex<()>>,
     size: Size,
     times: u32,
 ) -> Result<u64, Fault> {
-    scope(scope_env(), rt, |scope| {
-        let threads = start_all(scope, rt, alloc, server, passes, turnstile, size, times)?;
-        Ok(join_all(rt, threads))
-    })
+    let asked = map_vec(rt, passes, &|pass: Pass<L>| {
+        ask(rt, server, pass, turnstile, size, times)
+    });
+    match asked {
+        Ok(sums) => Ok(total(sums.as_slice())),
+        Err(_) => Err(Fault::NoMemory),
+    }
 }
 
-fn start_all<'s, E, L: Server + Send + Sync, T: Threads + Wait + Sync>(
-    scope: &Scope<'s, E>,
-    rt: &'s T,
-    alloc: Global,
-    server: &'s CapServer<NoGate, L>,
-    passes: Vec<Pass<L>>,
-    turnstile: Option<&'s Mutex<()>>,
-    size: Size,
-    times: u32,
-) -> Result<Vec<JoinHandle<u64>>, Fault> {
-    let mut threads = Vec::new(alloc);
-    for pass in passes {
-        let thread = scope.spawn(move || ask(rt, server, pass, turnstile, size, times));
-        let Ok(thread) = thread else {
-            return Err(Fault::NoMemory);
-        };
-        threads.push(thread)?;
+fn total(sums: &[u64]) -> u64 {
+    let mut total: u64 = 0;
+    for sum in sums {
+        total = total.wrapping_add(*sum);
     }
-    Ok(threads)
-}
-
-// The sum of what the threads come to.
-fn join_all<T: Threads>(rt: &T, threads: Vec<JoinHandle<u64>>) -> u64 {
-    let mut sum: u64 = 0;
-    for thread in threads {
-        sum = sum.wrapping_add(thread.join(rt));
-    }
-    sum
+    total
 }
 
 // Asks so many questions, and returns how many were answered with yes.

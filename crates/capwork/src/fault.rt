@@ -14,8 +14,8 @@ pub enum Fault {
     /// So many files are not made to be opened.
     TooManyOpenings,
     /// The grants can't be read.
-    Grants(SpecFault),
-    /// The core answered with no inode.
+    Grants,
+    /// The core answered otherwise than the work needs.
     Refused,
     /// The core is not what it was before it took no event.
     Changed,
@@ -34,15 +34,16 @@ pub enum Fault {
 impl Display for Fault {
     fn fmt<W: fmt::Write>(&self, f: &mut fmt::Formatter<W>) -> fmt::Result {
         f.write_str(match self {
-            Fault::Grants(fault) => return write!(f, "grants: {fault}"),
-            Fault::Stopped(stop) => return write!(f, "{stop}"),
             Fault::TooManyCreations =>
                 "too many creations: a tree has at most 65536 inodes, with its root",
             Fault::TooManyOpenings => "too many openings: 1024 files are made for them",
-            Fault::Refused => "the core refused",
+            Fault::Grants => "the grants can't be read",
+            Fault::Refused => "the core answered otherwise",
             Fault::Changed => "the core changed, where it found no memory",
             Fault::OtherView => "a question was answered by another view",
             Fault::InVain => "an event was called in vain",
+            Fault::Stopped(Stop::NoMemory) => "the core found no memory",
+            Fault::Stopped(Stop::Full) => "the history is full",
             Fault::NoMemory => "no memory",
             Fault::WriteFailed => "write failed",
         })
@@ -66,13 +67,7 @@ impl From<SpecFault> for Fault {
     fn from(fault: SpecFault) -> Self {
         match fault.kind {
             SpecFaultKind::NoMemory => Fault::NoMemory,
-            _ => Fault::Grants(fault),
+            _ => Fault::Grants,
         }
-    }
-}
-
-impl From<Stop> for Fault {
-    fn from(stop: Stop) -> Self {
-        Fault::Stopped(stop)
     }
 }

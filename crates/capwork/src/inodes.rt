@@ -2,25 +2,25 @@
 ghost use Rattle.std.specs.Prelude.{◌↔◌, ◌+◌, ◌<◌, ◌≤◌, IfOk, IsTrue};
 ghost use Rattle.capcore.specs.History.{HasNoStray};
 
-use crate::asked::{Answer, read_reply};
+use crate::asked::bytes;
+use crate::asking::Asker;
 use crate::fault::Fault;
 use crate::work::{Layout, TreeShape};
-use capbits::{Caller, ClientId, Groups, Ino, Mode, PassId};
-use capcore::{Core, Event, Stop};
+use capbits::{Caller, ClientId, Groups, Ino, Mode};
+use capcore::{Core, Event};
 use capgrant::Attr;
 use capserver::Opening;
 use capspec::{FsName, Grants, read_grants};
-use inotree::{MAX_INODES, ROOT, Tree};
-use lockmachine::Bytes;
+use inotree::{MAX_INODES, ROOT, Setting, Tree};
+use lockmachine::{Bytes, Change};
 use std::alloc::Global;
 
 pub(crate) const CLIENT: ClientId = ClientId(1);
 
-const PASS: PassId = PassId(1);
-
 pub(crate) const USER: u32 = 1000;
 
-const MODE: u16 = 0o755;
+/// The mode that inodes are made with.
+pub(crate) const MODE: u16 = 0o755;
 
 const FS: &[u8] = b"cephfs";
 
@@ -35,100 +35,81 @@ const CHAIN: u64 = 16;
 /// How far apart in the tree two operations are that follow each other. It shares no divisor with any size.
 const STRIDE: u64 = 7919;
 
-// What is asked of a core, again and again.
-#[derive(Clone, Copy)]
-pub(crate) enum Asking {
-    // For an inode, by its name.
-    Lookup,
-    // To make a file.
-    Create,
-}
-
-/// Builds a tree, looks up so many of its inodes, and returns the sum of their numbers.
-pub(crate) fn look_up(
-    alloc: Global,
-    core: &mut Core,
-    shape: TreeShape,
-    times: u32,
-) -> Result<u64, Fault> {
-    build(alloc, core, shape)?;
-    ask(alloc, core, shape, Asking::Lookup, times)
-}
-
-/// Builds a tree, makes so many files in it, and returns the sum of their numbers.
-pub(crate) fn create(
-    alloc: Global,
-    core: &mut Core,
-    shape: TreeShape,
-    times: u32,
-) -> Result<u64, Fault> {
-    if !is_room(shape.size.number(), times) {
-        return Err(Fault::TooManyCreations);
-    }
-    build(alloc, core, shape)?;
-    ask(alloc, core, shape, Asking::Create, times)
-}
-
-// Asks so many times, and returns the sum of the numbers in the answers.
-pub(crate) fn ask(
-    alloc: Global,
-    core: &mut Core,
-    shape: TreeShape,
-    asking: Asking,
-    times: u32,
-) -> Result<u64, Fault> {
-    let mut sum: u64 = 0;
+/// Builds a tree, looks up so many of its inodes, and adds their numbers.
+pub(crate) fn look_up(core: &mut Core, asker: &mut Asker, shape: TreeShape, times: u32) {
+    build(core, asker, shape);
     for turn in 0..times {
-        let event = event_at(alloc, shape, asking, turn)?;
-        sum = sum.wrapping_add(answer(core, event)?);
+        let event = lookup(asker.alloc, shape, turn);
+        let Ino(number) = asker.made(core, event);
+        asker.tally.add(number);
     }
-    Ok(sum)
 }
 
-// What is asked for at this turn.
-fn event_at(alloc: Global, shape: TreeShape, asking: Asking, turn: u32) -> Result<Event, Fault> {
-    match asking {
-        Asking::Lookup => lookup(alloc, shape, turn),
-        Asking::Create => creation(alloc, shape, turn),
+/// Builds a tree, makes so many files in it, and adds their numbers.
+pub(crate) fn create(core: &mut Core, asker: &mut Asker, shape: TreeShape, times: u32) {
+    if !is_room(shape.size.number(), times) {
+        return asker.tally.fail(Fault::TooManyCreations);
     }
+    build(core, asker, shape);
+    let sum = make_files(core, asker, shape, times);
+    asker.tally.add(sum);
+}
+
+/// Makes so many files, behind the inodes of the tree, and returns the sum of their numbers.
+pub(crate) fn make_files(
+    core: &mut Core,
+    asker: &mut Asker,
+    shape: TreeShape,
+    count: u32,
+) -> u64 {
+    let mut sum: u64 = 0;
+    for turn in 0..count {
+        let event = creation(asker.alloc, shape, turn);
+        let Ino(number) = asker.made(core, event);
+        sum = sum.wrapping_add(number);
+    }
+    sum
 }
 
 // The event that looks up an inode of the tree.
-fn lookup(alloc: Global, shape: TreeShape, turn: u32) -> Result<Event, Fault> {
+fn lookup(alloc: Global, shape: TreeShape, turn: u32) -> Option<Event> {
     let place = spread(turn, shape.size.number());
-    Ok(Event::Lookup {
-        client: CLIENT,
-        dir: directory_of(shape.layout, place),
-        name: name_of(alloc, place)?,
-    })
+    let dir = directory_of(shape.layout, place);
+    let name = name_of(alloc, place)?;
+    let client = CLIENT;
+    Some(Event::Lookup { client, dir, name })
 }
 
 // The event that makes one more file.
-fn creation(alloc: Global, shape: TreeShape, turn: u32) -> Result<Event, Fault> {
+fn creation(alloc: Global, shape: TreeShape, turn: u32) -> Option<Event> {
     let place = shape.size.number() + u64::from(turn);
     creation_of(alloc, directory_for(shape, turn), place)
 }
 
-// The event that makes a file, whose name has this number.
-pub(crate) fn creation_of(alloc: Global, dir: Ino, place: u64) -> Result<Event, Fault> {
-    let mode = mode();
-    Ok(Event::Create {
+/// The event that makes a file, whose name has this number.
+pub(crate) fn creation_of(alloc: Global, dir: Ino, place: u64) -> Option<Event> {
+    let name = name_of(alloc, place)?;
+    Some(Event::Create {
         client: CLIENT,
         dir,
-        name: name_of(alloc, place)?,
-        mode,
+        name,
+        mode: mode(),
     })
 }
 
-// The event that makes a directory, whose name has this number.
-pub(crate) fn directory_of_number(alloc: Global, dir: Ino, place: u64) -> Result<Event, Fault> {
-    let mode = mode();
-    Ok(Event::Mkdir {
+/// The event that makes a directory, whose name has this number.
+pub(crate) fn directory_of_number(alloc: Global, dir: Ino, place: u64) -> Option<Event> {
+    Some(directory(dir, name_of(alloc, place)?))
+}
+
+/// The event that makes a directory.
+pub(crate) fn directory(dir: Ino, name: Bytes) -> Event {
+    Event::Mkdir {
         client: CLIENT,
         dir,
-        name: name_of(alloc, place)?,
-        mode,
-    })
+        name,
+        mode: mode(),
+    }
 }
 
 // Whether so many files fit into a tree beside its root and its first inodes.
@@ -194,9 +175,9 @@ pub(crate) fn inode_at(place: u64) -> Ino
     Ino(ROOT.0 + 1 + place)
 }
 
-fn name_of(alloc: Global, place: u64) -> Result<Bytes, Fault> {
-    let name = format!(in alloc; "n{place}")?;
-    Ok(Bytes::read(alloc, name.as_bytes())?)
+fn name_of(alloc: Global, place: u64) -> Option<Bytes> {
+    let name = format!(in alloc; "n{place}").ok()?;
+    bytes(alloc, name.as_bytes())
 }
 
 pub(crate) fn mode() -> Mode {
@@ -206,38 +187,25 @@ pub(crate) fn mode() -> Mode {
     }
 }
 
-// The mode with these bits.
-pub(crate) fn mode_of(bits: u16) -> Result<Mode, Fault> {
-    Mode::new(bits).ok_or(Fault::Refused)
+/// The event by which a client changes a mode to these bits, if they are one.
+pub(crate) fn mode_change(client: ClientId, ino: Ino, bits: u16) -> Option<Event> {
+    let mode = Mode::new(bits)?;
+    Some(Event::Alter {
+        client,
+        ino,
+        change: Change::Set(Setting::Mode(mode)),
+    })
 }
 
-/// Asks the core, and reads what it answers. No other function does: what the core promises of a reply is dear to carry along, and
-/// a reply to let go. Both stay behind here.
-pub(crate) fn ask_core(core: &mut Core, event: Event) -> Result<Answer, Stop> {
-    let reply = core.apply(PASS, event)?;
-    let answer = read_reply(&reply);
-    drop(reply);
-    Ok(answer)
+/// Gives a client a session in which it may do all.
+pub(crate) fn open_session(core: &mut Core, asker: &mut Asker, client: ClientId) {
+    asker.done(core, session_of(asker.alloc, client, ALL));
 }
 
-// The number of the inode that the core answers with.
-pub(crate) fn answer(core: &mut Core, event: Event) -> Result<u64, Fault> {
-    match ask_core(core, event)? {
-        Answer::Inode(number) => Ok(number),
-        _ => Err(Fault::Refused),
-    }
-}
-
-// Gives a client a session in which it may do all.
-pub(crate) fn open_session(alloc: Global, core: &mut Core, client: ClientId) -> Result<(), Fault> {
-    let _done = ask_core(core, session_of(alloc, client, ALL)?)?;
-    Ok(())
-}
-
-// The event by which a client gets a session with these grants.
-pub(crate) fn session_of(alloc: Global, client: ClientId, grants: &str) -> Result<Event, Fault> {
+/// The event by which a client gets a session with these grants.
+pub(crate) fn session_of(alloc: Global, client: ClientId, grants: &str) -> Option<Event> {
     let grants = grants_of(alloc, grants.as_bytes())?;
-    Ok(Event::Session {
+    Some(Event::Session {
         client,
         caller: Caller {
             uid: USER,
@@ -249,51 +217,38 @@ pub(crate) fn session_of(alloc: Global, client: ClientId, grants: &str) -> Resul
 }
 
 // The grants of a text. What is promised of them stays behind here.
-fn grants_of(alloc: Global, text: &[u8]) -> Result<Grants, Fault> {
-    Ok(read_grants(alloc, text)?)
+fn grants_of(alloc: Global, text: &[u8]) -> Option<Grants> {
+    read_grants(alloc, text).ok()
 }
 
 /// The event by which a client may read everywhere from then on, and nothing else.
-pub(crate) fn regrant_to_read(alloc: Global, client: ClientId) -> Result<Event, Fault> {
+pub(crate) fn regrant_to_read(alloc: Global, client: ClientId) -> Option<Event> {
     let grants = grants_of(alloc, b"allow r")?;
-    Ok(Event::Regrant { client, grants })
+    Some(Event::Regrant { client, grants })
 }
 
 /// The event by which a client may do nothing from then on.
-pub(crate) fn regrant_to_nothing(alloc: Global, client: ClientId) -> Result<Event, Fault> {
-    let grants = Grants::none(alloc)?;
-    Ok(Event::Regrant { client, grants })
+pub(crate) fn regrant_to_nothing(alloc: Global, client: ClientId) -> Option<Event> {
+    let grants = Grants::none(alloc).ok()?;
+    Some(Event::Regrant { client, grants })
 }
 
-// Gives the client a session, and the core a tree of this shape.
-pub(crate) fn build(alloc: Global, core: &mut Core, shape: TreeShape) -> Result<(), Fault> {
-    open_session(alloc, core, CLIENT)?;
+/// Gives the client a session, and the core a tree of this shape.
+pub(crate) fn build(core: &mut Core, asker: &mut Asker, shape: TreeShape) {
+    open_session(core, asker, CLIENT);
     for place in 0..shape.size.number() {
-        let event = birth(alloc, shape.layout, place)?;
-        let _made = answer(core, event)?;
+        let event = birth(asker.alloc, shape.layout, place);
+        asker.made(core, event);
     }
-    Ok(())
 }
 
-// The event that makes the inode at this place.
-pub(crate) fn birth(alloc: Global, layout: Layout, place: u64) -> Result<Event, Fault>
+/// The event that makes the inode at this place.
+pub(crate) fn birth(alloc: Global, layout: Layout, place: u64) -> Option<Event>
     requires { place ≤ 60000 }
 {
     let dir = directory_of(layout, place);
-    let mode = mode();
-    let name = name_of(alloc, place)?;
-    Ok(match layout {
-        Layout::Flat => Event::Create {
-            client: CLIENT,
-            dir,
-            name,
-            mode,
-        },
-        Layout::Deep => Event::Mkdir {
-            client: CLIENT,
-            dir,
-            name,
-            mode,
-        },
-    })
+    match layout {
+        Layout::Flat => creation_of(alloc, dir, place),
+        Layout::Deep => directory_of_number(alloc, dir, place),
+    }
 }

@@ -96,29 +96,65 @@ fn caller() -> Result<Caller, Fault> {
 
 /// The text of the grants: on paths that differ in their last name, of which the last is the path that is asked for.
 pub fn grants_text(alloc: Global, shape: GrantShape) -> Result<String, AllocError> {
-    let mut text = String::new(alloc);
+    let mut text = Text {
+        text: String::new(alloc),
+        is_cut: false,
+    };
     for grant in 0..shape.grants {
-        if grant > 0 {
-            text.push_str(", ")?;
-        }
-        text.push_str("allow rw path=")?;
-        write_path(&mut text, shape, grant)?;
-        match shape.callers {
-            Callers::Any => (),
-            Callers::OneUser => text.push_str(" uid=1000 gids=1000,1001")?,
-        }
+        add_grant(&mut text, shape, grant);
     }
-    Ok(text)
+    text.whole()
 }
 
-// Appends the path of a grant.
-fn write_path(text: &mut String, shape: GrantShape, grant: u32) -> Result<(), AllocError> {
-    for place in 0..shape.depth {
-        if place + 1 == shape.depth && grant.saturating_add(1) < shape.grants {
-            write!(text, "/x{grant}")?;
-        } else {
-            write!(text, "/p{place}")?;
+/// A text that is put together. Where no memory is left for a piece, it is cut.
+#[derive(Drop)]
+struct Text {
+    text: String,
+    is_cut: bool,
+}
+
+impl Text {
+    fn add(&mut self, piece: &str) {
+        if self.text.push_str(piece).is_err() {
+            self.is_cut = true;
         }
     }
-    Ok(())
+
+    fn add_number(&mut self, number: u32) {
+        if write!(self.text, "{number}").is_err() {
+            self.is_cut = true;
+        }
+    }
+
+    fn whole(self) -> Result<String, AllocError> {
+        if self.is_cut {
+            return Err(AllocError);
+        }
+        Ok(self.text)
+    }
+}
+
+fn add_grant(text: &mut Text, shape: GrantShape, grant: u32) {
+    text.add(if grant > 0 {
+        ", allow rw path="
+    } else {
+        "allow rw path="
+    });
+    add_path(text, shape, grant);
+    text.add(match shape.callers {
+        Callers::Any => "",
+        Callers::OneUser => " uid=1000 gids=1000,1001",
+    });
+}
+
+fn add_path(text: &mut Text, shape: GrantShape, grant: u32) {
+    for place in 0..shape.depth {
+        if place + 1 == shape.depth && grant.saturating_add(1) < shape.grants {
+            text.add("/x");
+            text.add_number(grant);
+        } else {
+            text.add("/p");
+            text.add_number(place);
+        }
+    }
 }

@@ -4,6 +4,7 @@
 #![tactic(auto)]
 
 mod asked;
+mod asking;
 mod command_line;
 mod commands;
 mod core_work;

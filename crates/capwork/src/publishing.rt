@@ -3,7 +3,8 @@
 ghost use Rattle.std.specs.Prelude.{◌≡◌};
 ghost use Rattle.capserver.specs.Opened.{opened};
 
-use crate::asked::{Answer, Asked, Places, event, polling, read_reply};
+use crate::asked::{Asked, Places, event, polling};
+use crate::asking::{Answer, read_reply};
 use crate::fault::Fault;
 use crate::inodes::{ALL, BY_MODE, CLIENT, root_opening};
 use crate::tally::Tally;
@@ -86,6 +87,12 @@ struct Called {
     answer: Answer,
     is_fresh: bool,
 }
+
+/// What an event comes to for which there is no memory. It is called as often as one that the server finds none for.
+const NOT_CALLED: Called = Called {
+    answer: Answer::Stopped(Stop::NoMemory),
+    is_fresh: false,
+};
 
 const OPENED: &[Cap] = &[Cap::P, Cap::Fs, Cap::Fx, Cap::Fc, Cap::Fr, Cap::Fw, Cap::Fb];
 
@@ -277,19 +284,21 @@ impl Part {
 }
 
 /// Serves so many times, each time by a server of its own. The sum is that of the rows of their histories.
-pub(crate) fn publish<T: Wait>(rt: &T, alloc: Global, times: u32) -> Result<Tally, Fault> {
-    let mut tally = Tally::of(0);
+pub(crate) fn publish<T: Wait>(rt: &T, alloc: Global, times: u32) -> Tally {
+    let mut tally = Tally::new();
     for _ in 0..times {
-        serve(rt, alloc, &mut tally)?;
+        match root_opening(alloc) {
+            Ok(opening) => serve(rt, alloc, opening, &mut tally),
+            Err(fault) => tally.fail(fault),
+        }
     }
-    Ok(tally)
+    tally
 }
 
-fn serve<T: Wait>(rt: &T, alloc: Global, tally: &mut Tally) -> Result<(), Fault> {
-    let opening = root_opening(alloc)?;
-    // One calls, and one asks alone.
+// One pass calls, and one asks alone.
+fn serve<T: Wait>(rt: &T, alloc: Global, opening: Opening, tally: &mut Tally) {
     let count = 2;
-    served::<Brand, T>(rt, alloc, opening, Blank::new(32), count, tally)
+    served::<Brand, T>(rt, alloc, opening, Blank::new(32), count, tally);
 }
 
 fn served<L: Server, T: Wait>(
@@ -299,7 +308,7 @@ fn served<L: Server, T: Wait>(
     blank: Blank,
     count: u32,
     tally: &mut Tally,
-) -> Result<(), Fault>
+)
     requires opening { opening ≡ opened L.opening L.max_rows L.history }
     requires name { blank.name ≡ L.name }
     requires parts { (blank.parts ≡ L.parts) × (L.parts ≡ 32) }
@@ -307,11 +316,10 @@ fn served<L: Server, T: Wait>(
 {
     let Ok((server, passes)) = CapServer::<NoGate, L>::start(rt, opening, blank, count, NoGate)
     else {
-        return Err(Fault::NoMemory);
+        return tally.fail(Fault::NoMemory);
     };
-    let ended = take_all(rt, alloc, &server, passes, tally);
+    take_all(rt, alloc, &server, passes, tally);
     add_rows(rt, alloc, server, tally);
-    ended
 }
 
 // Ends the server, and adds the number of its rows to the sum.
@@ -324,7 +332,7 @@ fn add_rows<L: Server, T: Wait>(
     let closed = server.close(rt, Vec::new(alloc));
     let rows = closed.core.history().len() as u64;
     drop(closed);
-    tally.sum = tally.sum.wrapping_add(rows);
+    tally.add(rows);
 }
 
 // Takes all turns: the first pass calls.
@@ -332,17 +340,13 @@ fn take_all<L: Server, T: Wait>(
     rt: &T,
     alloc: Global,
     server: &CapServer<NoGate, L>,
-    passes: Vec<Pass<L>>,
+    mut passes: Vec<Pass<L>>,
     tally: &mut Tally,
-) -> Result<(), Fault> {
-    let mut passes = passes;
-    let Some(mut reader) = passes.pop() else {
-        return Err(Fault::Refused);
-    };
-    let Some(mut caller) = passes.pop() else {
-        return Err(Fault::Refused);
-    };
-    take_parts(rt, alloc, server, &mut caller, &mut reader, tally)
+) {
+    match passes.as_mut_slice() {
+        [caller, reader] => take_parts(rt, alloc, server, caller, reader, tally),
+        _ => tally.fail(Fault::Refused),
+    }
 }
 
 fn take_parts<L: Server, T: Wait>(
@@ -352,11 +356,10 @@ fn take_parts<L: Server, T: Wait>(
     caller: &mut Pass<L>,
     reader: &mut Pass<L>,
     tally: &mut Tally,
-) -> Result<(), Fault> {
+) {
     for part in PARTS {
-        take_turns(rt, alloc, server, caller, reader, part.turns(), tally)?;
+        take_turns(rt, alloc, server, caller, reader, part.turns(), tally);
     }
-    Ok(())
 }
 
 fn take_turns<L: Server, T: Wait>(
@@ -367,15 +370,16 @@ fn take_turns<L: Server, T: Wait>(
     reader: &mut Pass<L>,
     turns: &[Turn],
     tally: &mut Tally,
-) -> Result<(), Fault> {
+) {
     for turn in turns {
-        take(rt, alloc, server, caller, *turn, tally)?;
-        see(server, reader, turn.question, turn.after)?;
+        see(server, caller, turn.question, turn.before, tally);
+        take(rt, alloc, server, caller, *turn, tally);
+        see(server, caller, turn.question, turn.after, tally);
+        see(server, reader, turn.question, turn.after, tally);
     }
-    Ok(())
 }
 
-// Makes the event of a turn.
+// Makes the event of a turn. Where it isn't published, the question is answered as before until the next event is.
 fn take<L: Server, T: Wait>(
     rt: &T,
     alloc: Global,
@@ -383,28 +387,19 @@ fn take<L: Server, T: Wait>(
     pass: &mut Pass<L>,
     turn: Turn,
     tally: &mut Tally,
-) -> Result<(), Fault> {
-    see(server, pass, turn.question, turn.before)?;
-    if !make(rt, alloc, server, pass, turn, tally)? {
-        publish_late(rt, server, pass, turn, tally)?;
+) {
+    let called = make(rt, alloc, server, pass, turn, tally);
+    if called.answer != turn.answer {
+        tally.fail(Fault::Refused);
     }
-    see(server, pass, turn.question, turn.after)
+    if !called.is_fresh {
+        tally.late = tally.late.wrapping_add(1);
+        see(server, pass, turn.question, turn.before, tally);
+        catch_up(rt, server, pass, tally);
+    }
 }
 
-// Where the event isn't published, the question is answered as before until the next event is.
-fn publish_late<L: Server, T: Wait>(
-    rt: &T,
-    server: &CapServer<NoGate, L>,
-    pass: &mut Pass<L>,
-    turn: Turn,
-    tally: &mut Tally,
-) -> Result<(), Fault> {
-    tally.late = tally.late.wrapping_add(1);
-    see(server, pass, turn.question, turn.before)?;
-    catch_up(rt, server, pass, tally)
-}
-
-// Calls the event of a turn until it is made, and says whether it is published. A call that finds no memory changes nothing that is seen.
+// Calls the event of a turn until it is made. A call that finds no memory changes nothing that is seen.
 fn make<L: Server, T: Wait>(
     rt: &T,
     alloc: Global,
@@ -412,37 +407,29 @@ fn make<L: Server, T: Wait>(
     pass: &mut Pass<L>,
     turn: Turn,
     tally: &mut Tally,
-) -> Result<bool, Fault> {
+) -> Called {
     for _ in 0..TRIES {
-        let called = call_for(rt, alloc, server, pass, turn.asked);
-        if let Some(called) = made(called, tally)? {
-            return is_fresh(called, turn.answer);
+        let called = match event(alloc, PLACES, turn.asked) {
+            Some(event) => call(rt, server, pass, event),
+            None => NOT_CALLED,
+        };
+        if is_made(called, tally) {
+            return called;
         }
-        see(server, pass, turn.question, turn.before)?;
+        see(server, pass, turn.question, turn.before, tally);
     }
-    Err(Fault::InVain)
+    tally.fail(Fault::InVain);
+    NOT_CALLED
 }
 
-// What a call came to, unless it found no memory, which is counted.
-fn made(called: Result<Called, Stop>, tally: &mut Tally) -> Result<Option<Called>, Fault> {
-    match called {
-        Err(Stop::NoMemory) => tally.stops = tally.stops.wrapping_add(1),
-        Err(stop) => return Err(Fault::Stopped(stop)),
-        Ok(called) if called.answer == Answer::NoMemory => {
-            tally.starved = tally.starved.wrapping_add(1);
-        }
-        Ok(called) => return Ok(Some(called)),
+// Whether a call did not find too little memory, which is counted.
+fn is_made(called: Called, tally: &mut Tally) -> bool {
+    match called.answer {
+        Answer::Stopped(Stop::NoMemory) => tally.stops = tally.stops.wrapping_add(1),
+        Answer::NoMemory => tally.starved = tally.starved.wrapping_add(1),
+        _ => return true,
     }
-    Ok(None)
-}
-
-// Whether a call is published that has to be answered so.
-fn is_fresh(called: Called, wanted: Answer) -> Result<bool, Fault> {
-    if called.answer == wanted {
-        Ok(called.is_fresh)
-    } else {
-        Err(Fault::Refused)
-    }
+    false
 }
 
 // Calls for messages until that is published, and with it what was not.
@@ -451,30 +438,17 @@ fn catch_up<L: Server, T: Wait>(
     server: &CapServer<NoGate, L>,
     pass: &mut Pass<L>,
     tally: &mut Tally,
-) -> Result<(), Fault> {
+) {
     for _ in 0..TRIES {
-        match call(rt, server, pass, polling(CLIENT)) {
-            Err(Stop::NoMemory) => tally.stops = tally.stops.wrapping_add(1),
-            Err(stop) => return Err(Fault::Stopped(stop)),
-            Ok(Called { is_fresh: true, .. }) => return Ok(()),
-            Ok(_) => tally.late = tally.late.wrapping_add(1),
+        let called = call(rt, server, pass, polling(CLIENT));
+        if called.is_fresh {
+            return;
+        }
+        if is_made(called, tally) {
+            tally.late = tally.late.wrapping_add(1);
         }
     }
-    Err(Fault::InVain)
-}
-
-// What is answered to what is asked for, and whether that is published. It finds no memory either where there is none for the event.
-fn call_for<L: Server, T: Wait>(
-    rt: &T,
-    alloc: Global,
-    server: &CapServer<NoGate, L>,
-    pass: &mut Pass<L>,
-    asked: Asked,
-) -> Result<Called, Stop> {
-    match event(alloc, PLACES, asked) {
-        Ok(event) => call(rt, server, pass, event),
-        Err(_fault) => Err(Stop::NoMemory),
-    }
+    tally.fail(Fault::InVain);
 }
 
 fn call<L: Server, T: Wait>(
@@ -482,32 +456,42 @@ fn call<L: Server, T: Wait>(
     server: &CapServer<NoGate, L>,
     pass: &mut Pass<L>,
     event: Event,
-) -> Result<Called, Stop> {
-    let capserver::Answer { reply, fresh } = server.call(rt, pass, event)?;
+) -> Called {
+    match server.call(rt, pass, event) {
+        Ok(answer) => told(answer),
+        Err(stop) => Called {
+            answer: Answer::Stopped(stop),
+            is_fresh: false,
+        },
+    }
+}
+
+fn told(answer: capserver::Answer) -> Called {
+    let capserver::Answer { reply, fresh } = answer;
     let answer = read_reply(&reply);
     drop(reply);
-    Ok(Called {
+    Called {
         answer,
         is_fresh: fresh,
-    })
+    }
 }
 
 // Asks, and sees that the answer is the wanted one.
 fn see<L: Server>(
     server: &CapServer<NoGate, L>,
     pass: &mut Pass<L>,
-    (client, ino, access): Asks,
+    asks: Asks,
     wanted: Told,
-) -> Result<(), Fault> {
+    tally: &mut Tally,
+) {
+    let (client, ino, access) = asks;
     let question = Question {
         client,
         ino,
         access,
     };
-    if answer_of(server.explain(pass, &question)) == wanted {
-        Ok(())
-    } else {
-        Err(Fault::OtherView)
+    if answer_of(server.explain(pass, &question)) != wanted {
+        tally.fail(Fault::OtherView);
     }
 }
 

@@ -1,15 +1,14 @@
 //! The work that asks again: clients share files, wait for one and lose what they hold, and an event that finds no memory is
 //! asked for once more; and so is a request that found none when it was served.
 
-use crate::asked::{Answer, Asked, Places, event};
+use crate::asked::{Asked, Places, event};
+use crate::asking::{Answer, Asker};
 use crate::digest::digest_of;
 use crate::fault::Fault;
-use crate::inodes::{ALL, BY_MODE, CLIENT, ask_core};
-use crate::tally::Tally;
+use crate::inodes::{ALL, BY_MODE, CLIENT};
 use capbits::{Cap, ClientId, Ino, Part};
 use capcore::{Core, OpenMode, Stop};
 use inotree::ROOT;
-use std::alloc::Global;
 
 /// Who shares the files that the first client makes.
 const OTHER: ClientId = ClientId(2);
@@ -230,163 +229,114 @@ impl Scene {
     }
 }
 
+/// The three places where all files and directories are made in the root.
+const AT_ROOT: Places = Places {
+    file: ROOT,
+    here: ROOT,
+    there: ROOT,
+};
+
 /// Has two clients share so many files, one after another, then wait for one more, lose what they hold of others, and end
 /// their sessions. The sum is the hash of the core in the end.
-pub(crate) fn retry(alloc: Global, core: &mut Core, times: u32) -> Result<Tally, Fault> {
-    let mut tally = Tally::of(0);
-    let at_root = Places {
-        file: ROOT,
-        here: ROOT,
-        there: ROOT,
-    };
-    play(alloc, core, at_root, Scene::Sessions, &mut tally)?;
+pub(crate) fn retry(core: &mut Core, asker: &mut Asker, times: u32) {
+    play(core, asker, AT_ROOT, Scene::Sessions);
     for round in 0..times {
-        let file = made(
-            alloc,
-            core,
-            at_root,
-            Asked::Make(u64::from(round)),
-            &mut tally,
-        )?;
-        play(
-            alloc,
-            core,
-            Places { file, ..at_root },
-            Scene::Round,
-            &mut tally,
-        )?;
+        let file = made(core, asker, AT_ROOT, Asked::Make(u64::from(round)));
+        play(core, asker, Places { file, ..AT_ROOT }, Scene::Round);
     }
-    wait(alloc, core, at_root, &mut tally)?;
-    tally.sum = digest_of(core);
-    Ok(tally)
+    wait(core, asker);
+    asker.tally.sum = digest_of(core);
 }
 
 // Has the clients wait for a file, in a directory that it is moved out of, lose what they hold of others, and end their
 // sessions.
-fn wait(alloc: Global, core: &mut Core, at_root: Places, tally: &mut Tally) -> Result<(), Fault> {
-    let here = made(alloc, core, at_root, Asked::Directory(TENANT_NUMBER), tally)?;
-    let there = made(alloc, core, at_root, Asked::Directory(OTHER_NUMBER), tally)?;
-    let places = Places {
-        file: ROOT,
-        here,
-        there,
-    };
-    let file = made(alloc, core, places, Asked::Make(WAITING_NUMBER), tally)?;
-    play(
-        alloc,
-        core,
-        Places { file, ..places },
-        Scene::Waiting,
-        tally,
-    )?;
-    lose(alloc, core, here, tally)?;
-    play(alloc, core, Places { file, ..places }, Scene::Ending, tally)
+fn wait(core: &mut Core, asker: &mut Asker) {
+    let here = made(core, asker, AT_ROOT, Asked::Directory(TENANT_NUMBER));
+    let there = made(core, asker, AT_ROOT, Asked::Directory(OTHER_NUMBER));
+    let file = ROOT;
+    let places = Places { file, here, there };
+    let file = made(core, asker, places, Asked::Make(WAITING_NUMBER));
+    let places = Places { file, ..places };
+    play(core, asker, places, Scene::Waiting);
+    lose(core, asker, here);
+    play(core, asker, places, Scene::Ending);
 }
 
-// Has clients lose what they hold, by moves in and out of the third client's directory, by modes and by grants.
-fn lose(alloc: Global, core: &mut Core, tenants: Ino, tally: &mut Tally) -> Result<(), Fault> {
-    let places = made_to_lose(alloc, core, tenants, tally)?;
-    play(alloc, core, places, Scene::LosingByMoves, tally)?;
-    play(alloc, core, places, Scene::LosingByModes, tally)?;
-    play(alloc, core, places, Scene::LosingByGrants, tally)
-}
-
-// Makes a directory with two files, and has one of them opened. The other is the one that is then asked about.
-fn made_to_lose(
-    alloc: Global,
-    core: &mut Core,
-    tenants: Ino,
-    tally: &mut Tally,
-) -> Result<Places, Fault> {
-    let at_root = Places {
-        file: ROOT,
-        here: ROOT,
-        there: tenants,
-    };
-    let here = made(alloc, core, at_root, Asked::Directory(MOVED_NUMBER), tally)?;
-    let places = Places { here, ..at_root };
-    let file = made(alloc, core, places, Asked::Make(BESIDE_NUMBER), tally)?;
-    play(alloc, core, Places { file, ..places }, Scene::Beside, tally)?;
-    let file = made(alloc, core, places, Asked::Make(LOSING_NUMBER), tally)?;
-    Ok(Places { file, ..places })
+// Has clients lose what they hold, by moves in and out of the third client's directory, by modes and by grants. The directory that is
+// moved has two files, of which one is opened, and the other is then asked about.
+fn lose(core: &mut Core, asker: &mut Asker, there: Ino) {
+    let here = made(core, asker, AT_ROOT, Asked::Directory(MOVED_NUMBER));
+    let file = ROOT;
+    let places = Places { file, here, there };
+    let file = made(core, asker, places, Asked::Make(BESIDE_NUMBER));
+    play(core, asker, Places { file, ..places }, Scene::Beside);
+    let file = made(core, asker, places, Asked::Make(LOSING_NUMBER));
+    let places = Places { file, ..places };
+    play(core, asker, places, Scene::LosingByMoves);
+    play(core, asker, places, Scene::LosingByModes);
+    play(core, asker, places, Scene::LosingByGrants);
 }
 
 // Asks for all that a part of the script asks for, of one file.
-fn play(
-    alloc: Global,
-    core: &mut Core,
-    places: Places,
-    scene: Scene,
-    tally: &mut Tally,
-) -> Result<(), Fault> {
+fn play(core: &mut Core, asker: &mut Asker, places: Places, scene: Scene) {
     for (asked, wanted) in scene.lines() {
-        let answer = answer_to(alloc, core, places, *asked, tally)?;
+        let answer = answer_to(core, asker, places, *asked);
         if answer != *wanted {
-            return Err(Fault::Refused);
+            asker.miss(answer);
         }
     }
-    Ok(())
 }
 
 // The inode that is made.
-fn made(
-    alloc: Global,
-    core: &mut Core,
-    places: Places,
-    asked: Asked,
-    tally: &mut Tally,
-) -> Result<Ino, Fault> {
-    match answer_to(alloc, core, places, asked, tally)? {
-        Answer::Inode(number) => Ok(Ino(number)),
-        _ => Err(Fault::Refused),
+fn made(core: &mut Core, asker: &mut Asker, places: Places, asked: Asked) -> Ino {
+    match answer_to(core, asker, places, asked) {
+        Answer::Inode(number) => Ino(number),
+        answer => {
+            asker.miss(answer);
+            ROOT
+        }
     }
 }
 
 // What is answered to it, and once more where it was served and found no memory. The tree must not have changed then. A
 // request of an earlier step that ended so is counted, and is told as done.
-fn answer_to(
-    alloc: Global,
-    core: &mut Core,
-    places: Places,
-    asked: Asked,
-    tally: &mut Tally,
-) -> Result<Answer, Fault> {
+fn answer_to(core: &mut Core, asker: &mut Asker, places: Places, asked: Asked) -> Answer {
     let before = digest_of(core.tree());
-    match answer_once(alloc, core, places, asked, tally)? {
-        Answer::NoMemory => (),
-        Answer::EndedNoMemory => {
-            tally.starved = tally.starved.wrapping_add(1);
-            return Ok(Answer::EndedDone);
+    match answer_once(core, asker, places, asked) {
+        Answer::NoMemory => {
+            asker.tally.starved = asker.tally.starved.wrapping_add(1);
+            compare(asker, before, digest_of(core.tree()));
+            answer_once(core, asker, places, asked)
         }
-        answer => return Ok(answer),
+        Answer::EndedNoMemory => {
+            asker.tally.starved = asker.tally.starved.wrapping_add(1);
+            Answer::EndedDone
+        }
+        answer => answer,
     }
-    if digest_of(core.tree()) != before {
-        return Err(Fault::Changed);
-    }
-    tally.starved = tally.starved.wrapping_add(1);
-    answer_once(alloc, core, places, asked, tally)
 }
 
 // Asks the core, and once more where the event finds no memory. The core must not have changed then.
-fn answer_once(
-    alloc: Global,
-    core: &mut Core,
-    places: Places,
-    asked: Asked,
-    tally: &mut Tally,
-) -> Result<Answer, Fault> {
+fn answer_once(core: &mut Core, asker: &mut Asker, places: Places, asked: Asked) -> Answer {
     let before = digest_of(core);
-    match ask_for(alloc, core, places, asked) {
-        Err(Fault::Stopped(Stop::NoMemory)) => (),
-        answer => return answer,
+    match ask_for(core, asker, places, asked) {
+        Answer::Stopped(Stop::NoMemory) => {
+            asker.tally.stops = asker.tally.stops.wrapping_add(1);
+            compare(asker, before, digest_of(core));
+            ask_for(core, asker, places, asked)
+        }
+        answer => answer,
     }
-    if digest_of(core) != before {
-        return Err(Fault::Changed);
-    }
-    tally.stops = tally.stops.wrapping_add(1);
-    ask_for(alloc, core, places, asked)
 }
 
-fn ask_for(alloc: Global, core: &mut Core, places: Places, asked: Asked) -> Result<Answer, Fault> {
-    Ok(ask_core(core, event(alloc, places, asked)?)?)
+// What found no memory has changed nothing.
+fn compare(asker: &mut Asker, before: u64, now: u64) {
+    if before != now {
+        asker.tally.fail(Fault::Changed);
+    }
+}
+
+fn ask_for(core: &mut Core, asker: &mut Asker, places: Places, asked: Asked) -> Answer {
+    let event = event(asker.alloc, places, asked);
+    asker.ask(core, event)
 }
