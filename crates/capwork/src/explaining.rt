@@ -4,9 +4,7 @@ ghost use Rattle.std.specs.Prelude.{◌≡◌};
 ghost use Rattle.capserver.specs.Opened.{opened};
 
 use crate::fault::Fault;
-use crate::inodes::{
-    ALL, CLIENT, birth, inode_at, mode_change, root_opening, session_of, spread,
-};
+use crate::inodes::{ALL, CLIENT, birth, inode_at, mode_change, root_opening, session_of, spread};
 use crate::moving::mode_at;
 use crate::work::{AskShape, Layout, Size, Way};
 use capbits::Ino;
@@ -201,9 +199,11 @@ fn ask_all<L: Server + Send + Sync, T: Threads + Wait + Sync>(
     size: Size,
     times: u32,
 ) -> Result<u64, Fault> {
-    let asked = map_vec(rt, passes, &|pass: Pass<L>| {
-        ask(rt, server, pass, turnstile, size, times)
-    });
+    let asked = map_vec(
+        rt,
+        passes,
+        &|pass: Pass<L>| { ask(rt, server, pass, turnstile, size, times) },
+    );
     match asked {
         Ok(sums) => Ok(total(sums.as_slice())),
         Err(_) => Err(Fault::NoMemory),

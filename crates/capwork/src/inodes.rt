@@ -56,12 +56,7 @@ pub(crate) fn create(core: &mut Core, asker: &mut Asker, shape: TreeShape, times
 }
 
 /// Makes so many files, behind the inodes of the tree, and returns the sum of their numbers.
-pub(crate) fn make_files(
-    core: &mut Core,
-    asker: &mut Asker,
-    shape: TreeShape,
-    count: u32,
-) -> u64 {
+pub(crate) fn make_files(core: &mut Core, asker: &mut Asker, shape: TreeShape, count: u32) -> u64 {
     let mut sum: u64 = 0;
     for turn in 0..count {
         let event = creation(asker.alloc, shape, turn);

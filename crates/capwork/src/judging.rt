@@ -20,7 +20,7 @@ const GROUP: u32 = 1001;
 const MODE: u16 = 0o644;
 
 /// Reads grants once, judges an access by them so many times, and returns the sum of what the verdicts score.
-pub fn judge(alloc: Global, shape: GrantShape, times: u32) -> Result<u64, Fault> {
+pub(crate) fn judge(alloc: Global, shape: GrantShape, times: u32) -> Result<u64, Fault> {
     let grants = grants_of(alloc, shape)?;
     let names = last_path(alloc, &grants)?;
     judge_often(&grants, names.as_slice(), times)
@@ -64,7 +64,7 @@ fn judge_once(grants: &Grants, fs: &FsName, caller: &Caller, names: &[&[u8]], at
 }
 
 /// Reads a grant text so many times, and returns how many grants were read in all.
-pub fn read(alloc: Global, shape: GrantShape, times: u32) -> Result<u64, Fault> {
+pub(crate) fn read(alloc: Global, shape: GrantShape, times: u32) -> Result<u64, Fault> {
     let text = grants_text(alloc, shape)?;
     let mut sum: u64 = 0;
     for _ in 0..times {

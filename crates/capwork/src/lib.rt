@@ -23,6 +23,4 @@ mod work;
 pub use commands::{DONE, FAILED, USAGE, dispatch, report};
 pub use fault::Fault;
 pub use judging::grants_text;
-pub use work::{
-    AskShape, Callers, CoreWork, EntryWork, GrantShape, Layout, Readers, Size, TreeShape, Way, Work,
-};
+pub use work::{Callers, GrantShape};

@@ -1,8 +1,8 @@
 //! The pieces of work, and the words that name them.
 
 /// A piece of work.
-#[derive(Clone, Copy, PartialEq, Eq)]
-pub enum Work {
+#[derive(Clone, Copy)]
+pub(crate) enum Work {
     /// Judge an access by grants that were read before.
     Verdict(GrantShape),
     /// Read a grant text.
@@ -16,8 +16,8 @@ pub enum Work {
 }
 
 /// What is done with a core.
-#[derive(Clone, Copy, PartialEq, Eq)]
-pub enum CoreWork {
+#[derive(Clone, Copy)]
+pub(crate) enum CoreWork {
     /// It is asked for an inode of its tree by its name.
     Lookup(TreeShape),
     /// It makes a file in its tree.
@@ -29,8 +29,8 @@ pub enum CoreWork {
 }
 
 /// What is done with a core whose inodes a client has open.
-#[derive(Clone, Copy, PartialEq, Eq)]
-pub enum EntryWork {
+#[derive(Clone, Copy)]
+pub(crate) enum EntryWork {
     /// Open files, beside the other inodes.
     Open,
     /// Revoke what a client holds on a file, beside the other inodes.
@@ -52,19 +52,19 @@ pub enum EntryWork {
 }
 
 /// How questions on policy are asked.
-#[derive(Clone, Copy, PartialEq, Eq)]
-pub struct AskShape {
+#[derive(Clone, Copy)]
+pub(crate) struct AskShape {
     /// How many threads ask.
-    pub readers: Readers,
+    pub(crate) readers: Readers,
     /// How many inodes the tree has beside its root, in chains.
-    pub size: Size,
+    pub(crate) size: Size,
     /// Whether they wait for the thread that calls.
-    pub way: Way,
+    pub(crate) way: Way,
 }
 
 /// How many threads ask.
-#[derive(Clone, Copy, PartialEq, Eq)]
-pub enum Readers {
+#[derive(Clone, Copy)]
+pub(crate) enum Readers {
     /// One alone.
     One,
     /// Two.
@@ -74,8 +74,8 @@ pub enum Readers {
 }
 
 /// How threads ask beside one that calls events.
-#[derive(Clone, Copy, PartialEq, Eq)]
-pub enum Way {
+#[derive(Clone, Copy)]
+pub(crate) enum Way {
     /// They ask the server, which takes no lock for a question.
     Beside,
     /// They take a lock for each question, as the thread does that calls for each event.
@@ -83,7 +83,7 @@ pub enum Way {
 }
 
 /// What a grant text is like.
-#[derive(Clone, Copy, PartialEq, Eq)]
+#[derive(Clone, Copy)]
 pub struct GrantShape {
     /// How many grants it has. The last is the one that allows.
     pub grants: u32,
@@ -94,7 +94,7 @@ pub struct GrantShape {
 }
 
 /// Whom grants are for.
-#[derive(Clone, Copy, PartialEq, Eq)]
+#[derive(Clone, Copy)]
 pub enum Callers {
     /// Any caller.
     Any,
@@ -103,17 +103,17 @@ pub enum Callers {
 }
 
 /// What a tree is like.
-#[derive(Clone, Copy, PartialEq, Eq)]
-pub struct TreeShape {
+#[derive(Clone, Copy)]
+pub(crate) struct TreeShape {
     /// How many inodes it has beside its root.
-    pub size: Size,
+    pub(crate) size: Size,
     /// Where they stand.
-    pub layout: Layout,
+    pub(crate) layout: Layout,
 }
 
 /// How many inodes a tree has beside its root.
-#[derive(Clone, Copy, PartialEq, Eq)]
-pub enum Size {
+#[derive(Clone, Copy)]
+pub(crate) enum Size {
     /// A hundred.
     Hundred,
     /// A thousand.
@@ -125,8 +125,8 @@ pub enum Size {
 }
 
 /// Where the inodes of a tree stand.
-#[derive(Clone, Copy, PartialEq, Eq)]
-pub enum Layout {
+#[derive(Clone, Copy)]
+pub(crate) enum Layout {
     /// All in the root.
     Flat,
     /// In chains of sixteen directories, each in the one before it and the first in the root.
@@ -148,7 +148,7 @@ fn named<T: Copy>(word: &str, names: Names<T>) -> Option<T> {
 
 impl Work {
     /// The piece of work that a word names.
-    pub fn read(word: &str) -> Option<Work> {
+    pub(crate) fn read(word: &str) -> Option<Work> {
         match word {
             "retry" => return Some(Work::OnCore(CoreWork::Retry)),
             "publish" => return Some(Work::Publish),
@@ -223,7 +223,7 @@ impl Readers {
     ghost use Rattle.std.specs.Prelude.{◌≤◌};
 
     /// The number of threads.
-    pub fn number(self) -> u32
+    pub(crate) fn number(self) -> u32
         ensures { result ≤ 4 }
     {
         match self {
@@ -297,7 +297,7 @@ impl Size {
     ghost use Rattle.std.specs.Prelude.{◌≤◌};
 
     /// The number of inodes.
-    pub fn number(self) -> u64
+    pub(crate) fn number(self) -> u64
         ensures some { 100 ≤ result }
         ensures fits { result ≤ 60000 }
     {

@@ -1,10 +1,7 @@
 //! Words, grants and sums.
 
-use crate::asserting::{holds, made, same};
-use capwork::{
-    AskShape, Callers, CoreWork, EntryWork, GrantShape, Layout, Readers, Size, TreeShape, Way,
-    Work, dispatch, grants_text,
-};
+use crate::asserting::{made, same};
+use capwork::{Callers, GrantShape, dispatch, grants_text};
 use std::alloc::{AllocError, Global};
 use std::process::Abort;
 use std::sync::Wait;
@@ -15,71 +12,6 @@ fn grants(grants: u32, depth: u32, callers: Callers) -> GrantShape {
         grants,
         depth,
         callers,
-    }
-}
-
-fn asked(readers: Readers, size: Size, way: Way) -> AskShape {
-    AskShape { readers, size, way }
-}
-
-fn tree(size: Size, layout: Layout) -> TreeShape {
-    TreeShape { size, layout }
-}
-
-fn lookup(size: Size, layout: Layout) -> Work {
-    Work::OnCore(CoreWork::Lookup(tree(size, layout)))
-}
-
-fn create(size: Size, layout: Layout) -> Work {
-    Work::OnCore(CoreWork::Create(tree(size, layout)))
-}
-
-fn entries(work: EntryWork, size: Size) -> Work {
-    Work::OnCore(CoreWork::Entries(work, size))
-}
-
-// Words, and the work that each names.
-fn works() -> [(&'static str, Work); 23] {
-    use Callers::{Any, OneUser};
-    use Layout::{Deep, Flat};
-    use Size::{Hundred, SixtyThousand, TenThousand, Thousand};
-    [
-        ("verdict-1-1-plain", Work::Verdict(grants(1, 1, Any))),
-        ("verdict-4-8-ids", Work::Verdict(grants(4, 8, OneUser))),
-        ("verdict-16-32-plain", Work::Verdict(grants(16, 32, Any))),
-        ("parse-16-plain", Work::Parse(grants(16, 1, Any))),
-        ("parse-16-1-plain", Work::Parse(grants(16, 1, Any))),
-        ("parse-4-32-ids", Work::Parse(grants(4, 32, OneUser))),
-        ("lookup-100-flat", lookup(Hundred, Flat)),
-        ("lookup-60000-deep", lookup(SixtyThousand, Deep)),
-        ("create-1000-flat", create(Thousand, Flat)),
-        ("create-10000-deep", create(TenThousand, Deep)),
-        ("open-100", entries(EntryWork::Open, Hundred)),
-        ("revoke-60000", entries(EntryWork::Revoke, SixtyThousand)),
-        ("want-1000", entries(EntryWork::Want, Thousand)),
-        ("release-10000", entries(EntryWork::Release, TenThousand)),
-        ("share-100", entries(EntryWork::Share, Hundred)),
-        ("poll-1000", entries(EntryWork::Poll, Thousand)),
-        ("alter-10000", entries(EntryWork::Alter, TenThousand)),
-        ("rename-100", entries(EntryWork::Rename, Hundred)),
-        ("carry-60000", entries(EntryWork::Carry, SixtyThousand)),
-        (
-            "explain-4-1000",
-            Work::Explain(asked(Readers::Four, Thousand, Way::Beside)),
-        ),
-        (
-            "locked-1-100",
-            Work::Explain(asked(Readers::One, Hundred, Way::Locked)),
-        ),
-        ("retry", Work::OnCore(CoreWork::Retry)),
-        ("publish", Work::Publish),
-    ]
-}
-
-#[test]
-fn each_word_names_its_work(rt: HostRuntime) {
-    for (word, wanted) in works() {
-        holds(&rt, Work::read(word) == Some(wanted), word);
     }
 }
 
@@ -117,7 +49,7 @@ const NO_WORK: &[&str] = &[
 #[test]
 fn no_other_word_names_work(rt: HostRuntime) {
     for word in NO_WORK {
-        holds(&rt, Work::read(word) == None, *word);
+        expect(&rt, rt.alloc(), &[*word, "1"], "", 2);
     }
 }
 
@@ -189,6 +121,7 @@ const SUMS: &[(&str, &str, &str)] = &[
     ("verdict-1-1-plain", "7", "sum 7\n"),
     ("verdict-4-8-ids", "7", "sum 28\n"),
     ("verdict-16-32-ids", "3", "sum 48\n"),
+    ("verdict-1-8-plain", "3", "sum 3\n"),
     // Each time as many grants are read.
     ("parse-1-plain", "7", "sum 7\n"),
     ("parse-4-8-ids", "7", "sum 28\n"),
@@ -196,9 +129,14 @@ const SUMS: &[(&str, &str, &str)] = &[
     // The places are 0, 19 and 38, and the first of a hundred inodes has the number 2.
     ("lookup-100-flat", "3", "sum 63\n"),
     ("lookup-100-deep", "3", "sum 63\n"),
+    // In larger trees they are 0, 7919 and so on, and what is left of these.
+    ("lookup-1000-flat", "3", "sum 1763\n"),
+    ("lookup-10000-deep", "3", "sum 13763\n"),
+    ("lookup-60000-flat", "2", "sum 7923\n"),
     // After the hundred inodes come those with the numbers 102, 103 and 104.
     ("create-100-flat", "3", "sum 309\n"),
     ("create-100-deep", "3", "sum 309\n"),
+    ("create-1000-flat", "1", "sum 1002\n"),
     ("create-100-deep", "0", "sum 0\n"),
     // Each opening is the first change of its entry; the revocations are the changes 2, 4 and 6.
     ("open-100", "3", "sum 3\n"),
