@@ -16,7 +16,9 @@ const FIRST_USER: u64 = 1000;
 
 const USER_COUNT: u64 = 6;
 
-const MODES: &[&str] = &["0040", "0141", "0242", "0343", "0444", "0545", "0646", "0747"];
+const MODES: &[&str] = &[
+    "0040", "0141", "0242", "0343", "0444", "0545", "0646", "0747",
+];
 
 /// What can be asked for.
 const ACCESSES: &[&str] = &["read", "write", "vxattr", "snapshot", "chmod", "chown:1002"];

@@ -22,7 +22,8 @@ const FILES: u64 = 64;
 /// and another looks it up; the other opens the other file for a moment, and the first changes its mode.
 const INGEST: &str = "session 1 10 10 - allow rw\nsession 2 20 20 - allow r path=/pub, allow r\n";
 
-const UPLOAD: &str = "create 1 # upload# 0644\nopen 1 # w\nflush 1 # size #\nlookup 2 # upload#\nrelease 1 # p\n";
+const UPLOAD: &str =
+    "create 1 # upload# 0644\nopen 1 # w\nflush 1 # size #\nlookup 2 # upload#\nrelease 1 # p\n";
 
 const CHANGE: &str = "open 2 # r\nrelease 2 # p\nalter 1 # chmod 0640\n";
 
@@ -116,7 +117,11 @@ fn add_file(talk: &mut Talk, script: &mut Vec<u8>, round: u64) {
     let folder = talk.among(1, DEPTH + 1);
     let any = talk.among(DEPTH + 2, round.saturating_add(1));
     let made = round.saturating_add(DEPTH + 2);
-    talk.write(script, UPLOAD, &[folder, round, made, made, round, folder, round, made]);
+    talk.write(
+        script,
+        UPLOAD,
+        &[folder, round, made, made, round, folder, round, made],
+    );
     talk.write(script, CHANGE, &[any, any, any]);
 }
 

@@ -17,9 +17,11 @@ const ADMINISTRATOR: u64 = 1;
 /// twice the user again.
 const BY_PATH: &str = "session # # # - allow rw path=/tenant#";
 
-const BY_USER: &str = "session # # # 100,200 allow r path=/pub, allow rw path=/tenant# uid=# gids=#,100";
+const BY_USER: &str =
+    "session # # # 100,200 allow r path=/pub, allow rw path=/tenant# uid=# gids=#,100";
 
-const SQUASHED: &str = "session # # # 100 allow r path=/pub, allow rw path=/scratch root_squash, allow rwps path=/tenant#";
+const SQUASHED: &str =
+    "session # # # 100 allow r path=/pub, allow rw path=/scratch root_squash, allow rwps path=/tenant#";
 
 /// A tenant, with what it made.
 #[derive(Drop)]

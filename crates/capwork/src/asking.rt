@@ -85,7 +85,7 @@ impl Asker {
     }
 
     /// The inode that the core answers with.
-    pub(crate) fn made(&mut self, core: &mut Core, event: Option<Event>) -> Ino {
+    pub(crate) fn inode(&mut self, core: &mut Core, event: Option<Event>) -> Ino {
         match self.ask(core, event) {
             Answer::Inode(number) => Ino(number),
             answer => {

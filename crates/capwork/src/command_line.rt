@@ -5,11 +5,12 @@ use capbits::read_u32;
 
 /// What the program says of itself.
 pub(crate) const HELP: &str =
-    "Does a piece of the policy's work N times and prints a sum over its answers
+    "Does a piece of the policy's work N times and prints a sum over its answers, or a day's work of clients and prints a digest of theirs
 
 Usage: capbench <WORK> <N>
+       capbench <WORK> <COUNT> <SEED>
 
-WORK is one of
+WORK with N is one of
   verdict-G-D-plain  judge an access by G grants on paths of D names
   verdict-G-D-ids    the same, with a user and two groups in each grant
   parse-G-D-plain    read the text of such grants
@@ -33,10 +34,18 @@ WORK is one of
   retry              have clients share a file, wait for one and lose what they hold, and ask again for all that finds no memory
   publish            have a pass of a server call events, have two ask what came of each, and call again all that finds no memory
 with G of 1, 4 or 16, D of 1, 8 or 32, N of 1, 2 or 4, and T of 100, 1000, 10000 or 60000
+
+WORK with COUNT and SEED is one of
+  tenants            clients that work in directories of their own, for COUNT rounds
+  shared             clients that work on the same files, for COUNT rounds
+  moves              COUNT moves of directories with open files
+  script             a script of COUNT times eight lines
+  questions          COUNT questions on policy
+  serve              a script that is served, with COUNT lines of each of eight clients
 ";
 
 /// What it says of a command line that it does not understand.
-pub(crate) const WRONG_LINE: &str = "capbench: WORK and N are wanted: --help names them\n";
+pub(crate) const WRONG_LINE: &str = "capbench: WORK and N are wanted, or WORK, COUNT and SEED: --help names them\n";
 
 /// A piece of work, and how many times it is done.
 #[derive(Clone, Copy)]

@@ -40,7 +40,7 @@ pub(crate) fn look_up(core: &mut Core, asker: &mut Asker, shape: TreeShape, time
     build(core, asker, shape);
     for turn in 0..times {
         let event = lookup(asker.alloc, shape, turn);
-        let Ino(number) = asker.made(core, event);
+        let Ino(number) = asker.inode(core, event);
         asker.tally.add(number);
     }
 }
@@ -60,7 +60,7 @@ pub(crate) fn make_files(core: &mut Core, asker: &mut Asker, shape: TreeShape, c
     let mut sum: u64 = 0;
     for turn in 0..count {
         let event = creation(asker.alloc, shape, turn);
-        let Ino(number) = asker.made(core, event);
+        let Ino(number) = asker.inode(core, event);
         sum = sum.wrapping_add(number);
     }
     sum
@@ -233,7 +233,7 @@ pub(crate) fn build(core: &mut Core, asker: &mut Asker, shape: TreeShape) {
     open_session(core, asker, CLIENT);
     for place in 0..shape.size.number() {
         let event = birth(asker.alloc, shape.layout, place);
-        asker.made(core, event);
+        asker.inode(core, event);
     }
 }
 

@@ -64,14 +64,14 @@ fn make_directories(core: &mut Core, asker: &mut Asker) -> Journey {
 // Makes a directory.
 fn made_in(core: &mut Core, asker: &mut Asker, dir: Ino, name: &[u8]) -> Ino {
     let event = bytes(asker.alloc, name).map(|name| directory(dir, name));
-    asker.made(core, event)
+    asker.inode(core, event)
 }
 
 // Makes so many files in a directory, and has a client open each.
 fn fill(core: &mut Core, asker: &mut Asker, dir: Ino, count: u64) {
     for place in 0..count {
         let event = creation_of(asker.alloc, dir, place);
-        let file = asker.made(core, event);
+        let file = asker.inode(core, event);
         asker.shown(core, opening(HOLDER, file, OpenMode::Read));
     }
 }
