@@ -29,6 +29,7 @@ use Rattle.lockmachine.specs.declared.request.Change.{Change}
 use Rattle.lockmachine.specs.declared.request.Request.{Request}
 use Rattle.lockmachine.specs.Locks.{with_ino, with_request, requests_of, without_requests_of}
 use Rattle.lockmachine.specs.Scene.{Scene, told_set}
+use Rattle.capevents.specs.Replies.{outcome_reply}
 use Rattle.capevents.specs.declared.event.Event.{Event}
 use Rattle.capevents.specs.declared.event.Event.TheVariants as event
 use Rattle.capevents.specs.declared.event.OpenMode.{OpenMode}
