@@ -458,7 +458,7 @@ fn call<L: Server, T: Wait>(
     event: Event,
 ) -> Called {
     match server.call(rt, pass, event) {
-        Ok(answer) => told(answer),
+        Ok(answer) => read_answer(answer),
         Err(stop) => Called {
             answer: Answer::Stopped(stop),
             is_fresh: false,
@@ -466,7 +466,7 @@ fn call<L: Server, T: Wait>(
     }
 }
 
-fn told(answer: capserver::Answer) -> Called {
+fn read_answer(answer: capserver::Answer) -> Called {
     let capserver::Answer { reply, fresh } = answer;
     let answer = read_reply(&reply);
     drop(reply);
