@@ -45,7 +45,8 @@ WORK with COUNT and SEED is one of
 ";
 
 /// What it says of a command line that it does not understand.
-pub(crate) const WRONG_LINE: &str = "capbench: WORK and N are wanted, or WORK, COUNT and SEED: --help names them\n";
+pub(crate) const WRONG_LINE: &str =
+    "capbench: WORK and N are wanted, or WORK, COUNT and SEED: --help names them\n";
 
 /// A piece of work, and how many times it is done.
 #[derive(Clone, Copy)]
