@@ -1,8 +1,9 @@
 //! Worked runs: the fields of an inode, and what is kept by name: attributes and snapshots.
 
 use crate::tree_steps::Ask::*;
+use crate::tree_steps::Keeping::*;
 use crate::tree_steps::Look::*;
-use crate::tree_steps::{Case, Round, run_all};
+use crate::tree_steps::{Case, Field, Round, run_all};
 use capbits::Refusal;
 use inotree::Kind;
 
@@ -10,41 +11,49 @@ const FIELDS: &[Round] = &[
     (
         &[
             (Create(1, b"f"), Ok(2)),
-            (SetMode(2, 0o600), Ok(0)),
-            (SetUid(2, 1), Ok(0)),
-            (SetGid(2, 2), Ok(0)),
-            (SetSize(2, 3), Ok(0)),
-            (SetTime(2, 4), Ok(0)),
-            (SetSize(1, 3), Err(Refusal::IsDir)),
-            (SetTime(1, 3), Ok(0)),
-            (SetXattr(2, b"y", b"5"), Ok(0)),
-            (SetXattr(2, b"x", b"1"), Ok(0)),
-            (SetXattr(2, b"x", b"2"), Ok(0)),
-            (RemoveXattr(2, b"z"), Err(Refusal::NoXattr)),
-            (RemoveXattr(2, b"y"), Ok(0)),
+            (Set(2, Field::Mode(0o600)), Ok(0)),
+            (Set(2, Field::Uid(1)), Ok(0)),
+            (Set(2, Field::Gid(2)), Ok(0)),
+            (Set(2, Field::Size(3)), Ok(0)),
+            (Set(2, Field::Time(4)), Ok(0)),
+            (Set(1, Field::Size(3)), Err(Refusal::IsDir)),
+            (Set(1, Field::Time(3)), Ok(0)),
+            (Keep(2, b"y", Attribute(b"5")), Ok(0)),
+            (Keep(2, b"x", Attribute(b"1")), Ok(0)),
+            (Keep(2, b"x", Attribute(b"2")), Ok(0)),
+            (Keep(2, b"z", NoAttribute), Err(Refusal::NoXattr)),
+            (Keep(2, b"y", NoAttribute), Ok(0)),
         ],
-        &[
-            Owner(2, (1, 2, 0o600)),
-            Data(2, (Kind::File, 3, 4)),
-            FirstAttribute(2, b"x", b"2"),
-            AttributeCount(2, 1),
-        ],
+        &[Kept(
+            2,
+            (1, 2, 0o600),
+            (Kind::File, 3, 4),
+            (1, Some((b"x", b"2"))),
+            (0, None),
+        )],
     ),
-    (&[(SetXattr(2, b"", b"2"), Err(Refusal::NameBad))], &[]),
+    (
+        &[(Keep(2, b"", Attribute(b"2")), Err(Refusal::NameBad))],
+        &[],
+    ),
 ];
 
 const KEPT: &[Round] = &[(
     &[
-        (SetXattr(1, b"x", b"1"), Ok(0)),
-        (SnapAdd(1, b"s"), Ok(0)),
-        (SnapAdd(1, b"t"), Ok(0)),
+        (Keep(1, b"x", Attribute(b"1")), Ok(0)),
+        (Keep(1, b"s", Snapshot), Ok(0)),
+        (Keep(1, b"t", Snapshot), Ok(0)),
     ],
     &[
-        Attribute(1, b"x", Some(b"1")),
-        Attribute(1, b"t", None),
-        SnapshotCount(1, 2),
-        HasSnapshot(1, b"t", true),
-        HasSnapshot(1, b"x", false),
+        Named(1, b"x", Some(b"1"), false),
+        Named(1, b"t", None, true),
+        Kept(
+            1,
+            (10, 10, 0o755),
+            (Kind::Directory, 0, 0),
+            (1, Some((b"x", b"1"))),
+            (2, Some(b"s")),
+        ),
     ],
 )];
 

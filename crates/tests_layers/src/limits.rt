@@ -1,14 +1,26 @@
 //! The limits of a tree, each at the last value that passes and at the first that does not.
 
-use crate::asserting;
 use crate::asserting::{present, same};
 use crate::tree_steps::Ask::*;
+use crate::tree_steps::Keeping::*;
+use crate::tree_steps::Leaving::*;
 use crate::tree_steps::Look::*;
-use crate::tree_steps::{Answered, Case, Round, asked, create, made, runs_on, set_xattr, snap_add};
-use capbits::Refusal;
-use inotree::{MAX_INODES, MAX_NAMES, Name, Place, Tree, is_bad_attribute, is_bad_name};
-use std::alloc::{AllocError, Global};
+use crate::tree_steps::{Case, Round, asked, create, keep, made, numbered, runs_on};
+use capbits::{Ino, Refusal};
+use inotree::{Kind, MAX_INODES, MAX_NAMES, Name, Place, Tree, is_bad_attribute, is_bad_name};
 use std::process::Abort;
+
+// Each name of the chain.
+const NAME: &[u8] = b"d";
+
+// The names of the chain, from the root down.
+const DOWN: &[&[u8]] = &[NAME; 32];
+
+// The same, with another one at the end.
+const DOWN_TO_P: &[&[u8]] = &[
+    b"d", b"d", b"d", b"d", b"d", b"d", b"d", b"d", b"d", b"d", b"d", b"d", b"d", b"d", b"d", b"d",
+    b"d", b"d", b"d", b"d", b"d", b"d", b"d", b"d", b"d", b"d", b"d", b"d", b"d", b"d", b"d", b"p",
+];
 
 // What is in a tree before the rounds.
 #[derive(Clone, Copy)]
@@ -19,71 +31,59 @@ enum Full {
     Path,
     // As many attributes and as many snapshots of the root as there may be: n0 to n63.
     Root,
-    // As many inodes as there may be: the files 2 to 65536 in the root.
+    // As many inodes as there may be: the files 2 to 65536 in the root, n1 to n65535.
     Tree,
 }
 
 fn fill_path(rt: &impl Abort, tree: &mut Tree) {
-    for parent in 1..=MAX_NAMES {
-        let answer = asked(tree, Mkdir(parent as u64, b"d"));
-        same(rt, answer, Ok(Ok(parent as u64 + 1)), parent);
+    for parent in 1..=MAX_NAMES as u64 {
+        same(
+            rt,
+            asked(rt, tree, Mkdir(parent, b"d")),
+            Ok(parent + 1),
+            parent,
+        );
     }
 }
 
-fn name_of(alloc: Global, number: u32) -> Result<String, AllocError> {
-    format!(in alloc; "n{number}")
-}
-
-fn keep(rt: &impl Abort, alloc: Global, tree: &mut Tree, number: u32) {
-    let name = asserting::made(rt, name_of(alloc, number), number);
-    let attribute = set_xattr(tree, 1, name.as_bytes(), b"");
-    same(rt, attribute, Ok(Ok(0)), ("attribute", number));
-    let snapshot = snap_add(tree, 1, name.as_bytes());
-    same(rt, snapshot, Ok(Ok(0)), ("snapshot", number));
-}
-
-fn fill_root(rt: &impl Abort, alloc: Global, tree: &mut Tree) {
+fn fill_root(rt: &(impl Abort + AllocGlobal), tree: &mut Tree) {
     for number in 0..64 {
-        keep(rt, alloc, tree, number);
+        let name = numbered(rt, number);
+        let attribute = keep(rt, tree, 1, name.as_bytes(), Attribute(b""));
+        let snapshot = keep(rt, tree, 1, name.as_bytes(), Snapshot);
+        same(rt, (attribute, snapshot), (Ok(0), Ok(0)), number);
     }
 }
 
-fn create_numbered(alloc: Global, tree: &mut Tree, number: usize) -> Answered {
-    let name = format!(in alloc; "{number}")?;
-    create(tree, 1, name.as_bytes())
-}
-
-fn fill_tree(rt: &impl Abort, alloc: Global, tree: &mut Tree) {
-    for number in 1..MAX_INODES {
-        let answer = create_numbered(alloc, tree, number);
-        same(rt, answer, Ok(Ok(number as u64 + 1)), number);
+fn fill_tree(rt: &(impl Abort + AllocGlobal), tree: &mut Tree) {
+    for number in 1..MAX_INODES as u64 {
+        let answer = create(tree, 1, numbered(rt, number).as_bytes());
+        same(rt, answer, Ok(Ok(number + 1)), number);
     }
 }
 
-fn fill(rt: &impl Abort, alloc: Global, tree: &mut Tree, full: Full) {
+fn fill(rt: &(impl Abort + AllocGlobal), tree: &mut Tree, full: Full) {
     match full {
         Full::Nothing => (),
         Full::Path => fill_path(rt, tree),
-        Full::Root => fill_root(rt, alloc, tree),
-        Full::Tree => fill_tree(rt, alloc, tree),
+        Full::Root => fill_root(rt, tree),
+        Full::Tree => fill_tree(rt, tree),
     }
 }
 
 // Plays a case on a new tree once this is full.
 fn runs_full(rt: &(impl Abort + AllocGlobal), full: Full, case: Case) {
     let mut tree = made(rt);
-    fill(rt, rt.alloc(), &mut tree, full);
+    fill(rt, &mut tree, full);
     runs_on(rt, &mut tree, case);
 }
 
 const THIRTY_TWO_NAMES: &[Round] = &[
-    (&[], &[PathLength(33, Some(32)), LedByPath(33, 33)]),
+    (&[], &[PathOf(33, Some((32, DOWN))), Resolved(DOWN, 33)]),
     (
         &[
             (Create(33, b"f"), Err(Refusal::TooDeep)),
-            (MayCreate(33, b"f"), Err(Refusal::TooDeep)),
-            (MayCreate(1, b"d"), Err(Refusal::Exists)),
-            (MayCreate(1, b"f"), Ok(0)),
+            (Create(1, b"d"), Err(Refusal::Exists)),
             (Create(1, b"f"), Ok(34)),
             (Rename(34, 33, b"f"), Err(Refusal::TooDeep)),
             (Rename(34, 32, b"f"), Ok(0)),
@@ -92,20 +92,19 @@ const THIRTY_TWO_NAMES: &[Round] = &[
     ),
 ];
 
-const A_PAIR: &[Round] = &[(
-    &[
-        (Mkdir(1, b"q"), Ok(34)),
-        (Create(34, b"i"), Ok(35)),
-        (MayRename(34, 32, b"p"), Err(Refusal::TooDeep)),
-        (Rename(34, 32, b"p"), Err(Refusal::TooDeep)),
-        (MayRmdir(34), Err(Refusal::NotEmpty)),
-        (Unlink(35), Ok(0)),
-        (MayRmdir(34), Ok(0)),
-        (MayRename(34, 32, b"p"), Ok(0)),
-        (Rename(34, 32, b"p"), Ok(0)),
-    ],
-    &[Parent(34, 32)],
-)];
+const A_PAIR: &[Round] = &[
+    (
+        &[
+            (Mkdir(1, b"q"), Ok(34)),
+            (Create(34, b"i"), Ok(35)),
+            (Rename(34, 32, b"p"), Err(Refusal::TooDeep)),
+            (Leave(34, Rmdir), Err(Refusal::NotEmpty)),
+            (Leave(35, Unlink), Ok(0)),
+        ],
+        &[Empty(34)],
+    ),
+    (&[(Rename(34, 32, b"p"), Ok(0))], &[Parent(34, 32)]),
+];
 
 // A directory with another goes to and fro, and has had more below it than it has.
 const TO_AND_FRO: &[Round] = &[(
@@ -121,14 +120,17 @@ const TO_AND_FRO: &[Round] = &[(
         (Rename(34, 18, b"p"), Ok(0)),
         (Rename(34, 1, b"q"), Ok(0)),
         (Rename(20, 19, b"d"), Ok(0)),
-        (MayRename(34, 32, b"p"), Err(Refusal::TooDeep)),
+        (Rename(34, 32, b"p"), Err(Refusal::TooDeep)),
         (Rename(34, 31, b"p"), Ok(0)),
-        (Rmdir(35), Ok(0)),
+        (Leave(35, Rmdir), Ok(0)),
         (Forget(35), Ok(0)),
         (Rename(34, 32, b"p"), Ok(0)),
         (Create(34, b"f"), Err(Refusal::TooDeep)),
     ],
-    &[PathLength(33, Some(32)), PathLength(34, Some(32))],
+    &[
+        PathOf(33, Some((32, DOWN))),
+        PathOf(34, Some((32, DOWN_TO_P))),
+    ],
 )];
 
 const LONG_VALUE: &[u8] = &[0; 4096];
@@ -137,13 +139,22 @@ const TOO_LONG_A_VALUE: &[u8] = &[0; 4097];
 
 const SIXTY_FOUR: &[Round] = &[(
     &[
-        (SetXattr(1, b"n64", b""), Err(Refusal::Limit)),
-        (SetXattr(1, b"n63", TOO_LONG_A_VALUE), Err(Refusal::Limit)),
-        (SetXattr(1, b"n63", LONG_VALUE), Ok(0)),
-        (SetXattr(1, b"n0", b"v"), Ok(0)),
-        (SnapAdd(1, b"n64"), Err(Refusal::Limit)),
+        (Keep(1, b"n64", Attribute(b"")), Err(Refusal::Limit)),
+        (
+            Keep(1, b"n63", Attribute(TOO_LONG_A_VALUE)),
+            Err(Refusal::Limit),
+        ),
+        (Keep(1, b"n63", Attribute(LONG_VALUE)), Ok(0)),
+        (Keep(1, b"n0", Attribute(b"v")), Ok(0)),
+        (Keep(1, b"n64", Snapshot), Err(Refusal::Limit)),
     ],
-    &[FirstSnapshot(1, b"n0")],
+    &[Kept(
+        1,
+        (10, 10, 0o755),
+        (Kind::Directory, 0, 0),
+        (64, Some((b"n0", b"v"))),
+        (64, Some(b"n0")),
+    )],
 )];
 
 const LONG_NAME: &[u8] = &[b'n'; 255];
@@ -154,16 +165,19 @@ const LONG_NAMES: &[Round] = &[(
     &[
         (Create(1, LONG_NAME), Ok(2)),
         (Rename(2, 1, b"a/b"), Err(Refusal::NameBad)),
-        (SetXattr(1, LONG_NAME, b""), Ok(0)),
+        (Keep(1, LONG_NAME, Attribute(b"")), Ok(0)),
     ],
-    &[Child(1, LONG_NAME, Some(2))],
+    &[Child(1, LONG_NAME, Some(Ino(2)))],
 )];
 
 const TOO_LONG_NAMES: &[Round] = &[(
     &[
         (Create(1, LONG_NAME), Ok(2)),
         (Create(1, TOO_LONG_A_NAME), Err(Refusal::NameBad)),
-        (SetXattr(1, TOO_LONG_A_NAME, b""), Err(Refusal::NameBad)),
+        (
+            Keep(1, TOO_LONG_A_NAME, Attribute(b"")),
+            Err(Refusal::NameBad),
+        ),
     ],
     &[Child(1, TOO_LONG_A_NAME, None)],
 )];
@@ -201,14 +215,14 @@ fn names_that_can_not_be_given(rt: HostRuntime) {
 }
 
 const ALL_INODES: &[Round] = &[
-    (&[], &[Child(1, b"65535", Some(65536))]),
+    (&[], &[Child(1, b"n65535", Some(Ino(65536)))]),
     (
         &[
             (Create(1, b"m"), Err(Refusal::Limit)),
-            (Unlink(65536), Ok(0)),
+            (Leave(65536, Unlink), Ok(0)),
             (Create(1, b"m"), Err(Refusal::Limit)),
         ],
-        &[At(65536, Place::Gone)],
+        &[At(65536, Place::Gone, None)],
     ),
     (&[(Forget(65536), Ok(0)), (Create(1, b"m"), Ok(65537))], &[]),
 ];

@@ -3,8 +3,10 @@
 use crate::asserting;
 use crate::asserting::same;
 use crate::tree_steps::Ask::*;
+use crate::tree_steps::Keeping::*;
+use crate::tree_steps::Leaving::*;
 use crate::tree_steps::Look::*;
-use crate::tree_steps::{Case, Round, made, run_all, runs_on};
+use crate::tree_steps::{Case, Field, Round, made, run_all, runs_on};
 use crate::tree_text::inodes_text;
 use capbits::Refusal;
 use inotree::{Kind, Place, Tree};
@@ -19,14 +21,14 @@ const DIRECTORIES: &[Round] = &[(
         (Rename(2, 2, b"c"), Err(Refusal::Loop)),
         (Rename(1, 2, b"z"), Err(Refusal::Root)),
         (Rename(3, 2, b"b"), Err(Refusal::Exists)),
-        (Rmdir(2), Err(Refusal::NotEmpty)),
-        (Rmdir(1), Err(Refusal::Root)),
-        (Unlink(2), Err(Refusal::IsDir)),
+        (Leave(2, Rmdir), Err(Refusal::NotEmpty)),
+        (Leave(1, Rmdir), Err(Refusal::Root)),
+        (Leave(2, Unlink), Err(Refusal::IsDir)),
         (Rename(3, 1, b"b"), Ok(0)),
         (Mkdir(1, b"b"), Err(Refusal::Exists)),
         (Rename(2, 3, b"c"), Ok(0)),
         (Mkdir(1, b"a"), Ok(4)),
-        (Rmdir(2), Ok(0)),
+        (Leave(2, Rmdir), Ok(0)),
         (Rename(3, 2, b"d"), Err(Refusal::Gone)),
         (Rename(9, 1, b"d"), Err(Refusal::NoIno)),
     ],
@@ -50,23 +52,22 @@ const A_STRAY: &[Round] = &[
             (Create(1, b"f"), Ok(2)),
             (Create(1, b"f"), Err(Refusal::Exists)),
             (Mkdir(2, b"g"), Err(Refusal::NotDir)),
-            (Rmdir(2), Err(Refusal::NotDir)),
-            (Unlink(2), Ok(0)),
-            (Unlink(2), Err(Refusal::Gone)),
-            (SetUid(2, 5), Err(Refusal::Gone)),
+            (Leave(2, Rmdir), Err(Refusal::NotDir)),
+            (Leave(2, Unlink), Ok(0)),
+            (Leave(2, Unlink), Err(Refusal::Gone)),
+            (Set(2, Field::Uid(5)), Err(Refusal::Gone)),
         ],
         &[
-            At(2, Place::Gone),
-            Known(2, None),
-            PathLength(2, None),
+            At(2, Place::Gone, None),
+            PathOf(2, None),
             Child(1, b"f", None),
         ],
     ),
     (
         &[(Forget(2), Ok(0))],
-        &[Last(2), At(2, Place::NoIno), Known(2, Some(Refusal::NoIno))],
+        &[Last(2), At(2, Place::NoIno, Some(Refusal::NoIno))],
     ),
-    (&[(Create(1, b"f"), Ok(3))], &[At(3, Place::Here)]),
+    (&[(Create(1, b"f"), Ok(3))], &[At(3, Place::Here, None)]),
 ];
 
 const A_SNAPSHOT: &[Round] = &[
@@ -74,17 +75,17 @@ const A_SNAPSHOT: &[Round] = &[
         &[
             (Mkdir(1, b"d"), Ok(2)),
             (Create(1, b"f"), Ok(3)),
-            (SnapAdd(2, b"s"), Ok(0)),
-            (SnapAdd(2, b"s"), Err(Refusal::Exists)),
-            (SnapAdd(3, b"s"), Err(Refusal::NotDir)),
-            (Rmdir(2), Err(Refusal::NotEmpty)),
-            (SnapRemove(2, b"t"), Err(Refusal::NoEnt)),
-            (SnapRemove(2, b"s"), Ok(0)),
-            (Rmdir(2), Ok(0)),
+            (Keep(2, b"s", Snapshot), Ok(0)),
+            (Keep(2, b"s", Snapshot), Err(Refusal::Exists)),
+            (Keep(3, b"s", Snapshot), Err(Refusal::NotDir)),
+            (Leave(2, Rmdir), Err(Refusal::NotEmpty)),
+            (Keep(2, b"t", NoSnapshot), Err(Refusal::NoEnt)),
+            (Keep(2, b"s", NoSnapshot), Ok(0)),
+            (Leave(2, Rmdir), Ok(0)),
         ],
         &[Child(1, b"e", None)],
     ),
-    (&[(SnapAdd(1, b".."), Err(Refusal::NameBad))], &[]),
+    (&[(Keep(1, b"..", Snapshot), Err(Refusal::NameBad))], &[]),
 ];
 
 const DETACHED: &[Round] = &[
@@ -93,25 +94,28 @@ const DETACHED: &[Round] = &[
             (Mkdir(1, b"d"), Ok(2)),
             (Mkdir(2, b"e"), Ok(3)),
             (Create(1, b"f"), Ok(4)),
-            (SnapAdd(3, b"s"), Ok(0)),
-            (Detach(1), Err(Refusal::Root)),
-            (Detach(2), Err(Refusal::NotEmpty)),
-            (Rmdir(3), Err(Refusal::NotEmpty)),
-            (Detach(3), Ok(0)),
-            (Detach(3), Err(Refusal::Gone)),
-            (Detach(4), Ok(0)),
-            (Detach(9), Err(Refusal::NoIno)),
+            (Keep(3, b"s", Snapshot), Ok(0)),
+            (Leave(1, Detach), Err(Refusal::Root)),
+            (Leave(2, Detach), Err(Refusal::NotEmpty)),
+            (Leave(3, Rmdir), Err(Refusal::NotEmpty)),
+            (Leave(3, Detach), Ok(0)),
+            (Leave(3, Detach), Err(Refusal::Gone)),
+            (Leave(4, Detach), Ok(0)),
+            (Leave(9, Detach), Err(Refusal::NoIno)),
         ],
         &[
-            At(3, Place::Gone),
-            At(4, Place::Gone),
+            At(3, Place::Gone, None),
+            At(4, Place::Gone, None),
             Child(2, b"e", None),
             Child(1, b"f", None),
         ],
     ),
     (
-        &[(Forget(3), Ok(0)), (Detach(2), Ok(0))],
-        &[At(2, Place::Gone), At(3, Place::NoIno)],
+        &[(Forget(3), Ok(0)), (Leave(2, Detach), Ok(0))],
+        &[
+            At(2, Place::Gone, None),
+            At(3, Place::NoIno, Some(Refusal::NoIno)),
+        ],
     ),
 ];
 
@@ -121,10 +125,19 @@ const SETTLED: &[Round] = &[(
         (Create(2, b"f"), Ok(3)),
         (Settle(2, (5, 6, 0o640)), Ok(0)),
         (Settle(9, (5, 6, 0o640)), Err(Refusal::NoIno)),
-        (Unlink(3), Ok(0)),
+        (Leave(3, Unlink), Ok(0)),
         (Settle(3, (5, 6, 0o640)), Err(Refusal::Gone)),
     ],
-    &[Owner(2, (5, 6, 0o640)), Owner(3, (10, 10, 0o755))],
+    &[
+        Kept(
+            2,
+            (5, 6, 0o640),
+            (Kind::Directory, 0, 0),
+            (0, None),
+            (0, None),
+        ),
+        Kept(3, (10, 10, 0o755), (Kind::File, 0, 0), (0, None), (0, None)),
+    ],
 )];
 
 const THREE_NAMES: &[Round] = &[(
@@ -133,7 +146,7 @@ const THREE_NAMES: &[Round] = &[(
         (Mkdir(2, b"b"), Ok(3)),
         (Create(3, b"c"), Ok(4)),
     ],
-    &[PathLength(4, Some(3)), Path(4, &[b"a", b"b", b"c"])],
+    &[PathOf(4, Some((3, &[b"a", b"b", b"c"])))],
 )];
 
 const CASES: &[Case] = &[
@@ -158,6 +171,12 @@ fn inodes_are_made_moved_and_unlinked(rt: HostRuntime) {
 }
 
 const NAMES_OF_REFUSALS: &[(Refusal, &str)] = &[
+    (Refusal::Blocklisted, "Blocklisted"),
+    (Refusal::SessionOpen, "SessionOpen"),
+    (Refusal::NoSession, "NoSession"),
+    (Refusal::SessionStale, "SessionStale"),
+    (Refusal::NotStale, "NotStale"),
+    (Refusal::NotBlocked, "NotBlocked"),
     (Refusal::NoIno, "NoIno"),
     (Refusal::Gone, "Gone"),
     (Refusal::Root, "Root"),
@@ -205,14 +224,14 @@ const KEPT: &[Round] = &[(
         (Mkdir(1, b"d"), Ok(2)),
         (Create(2, b"f"), Ok(3)),
         (Create(1, b"g"), Ok(4)),
-        (Unlink(4), Ok(0)),
-        (SetMode(3, 0o640), Ok(0)),
-        (SetUid(3, 5), Ok(0)),
-        (SetGid(3, 6), Ok(0)),
-        (SetSize(3, 7), Ok(0)),
-        (SetTime(3, 8), Ok(0)),
-        (SetXattr(3, b"x", b"1"), Ok(0)),
-        (SnapAdd(2, b"s"), Ok(0)),
+        (Leave(4, Unlink), Ok(0)),
+        (Set(3, Field::Mode(0o640)), Ok(0)),
+        (Set(3, Field::Uid(5)), Ok(0)),
+        (Set(3, Field::Gid(6)), Ok(0)),
+        (Set(3, Field::Size(7)), Ok(0)),
+        (Set(3, Field::Time(8)), Ok(0)),
+        (Keep(3, b"x", Attribute(b"1")), Ok(0)),
+        (Keep(2, b"s", Snapshot), Ok(0)),
     ],
     &[],
 )];
@@ -220,15 +239,15 @@ const KEPT: &[Round] = &[(
 // All of it changes in the source.
 const SOURCE: &[Round] = &[(
     &[
-        (SetMode(3, 0o777), Ok(0)),
-        (SetUid(3, 15), Ok(0)),
-        (SetGid(3, 16), Ok(0)),
-        (SetSize(3, 17), Ok(0)),
-        (SetTime(3, 18), Ok(0)),
-        (RemoveXattr(3, b"x"), Ok(0)),
-        (SnapRemove(2, b"s"), Ok(0)),
+        (Set(3, Field::Mode(0o777)), Ok(0)),
+        (Set(3, Field::Uid(15)), Ok(0)),
+        (Set(3, Field::Gid(16)), Ok(0)),
+        (Set(3, Field::Size(17)), Ok(0)),
+        (Set(3, Field::Time(18)), Ok(0)),
+        (Keep(3, b"x", NoAttribute), Ok(0)),
+        (Keep(2, b"s", NoSnapshot), Ok(0)),
         (Create(1, b"h"), Ok(5)),
-        (Unlink(3), Ok(0)),
+        (Leave(3, Unlink), Ok(0)),
     ],
     &[],
 )];
@@ -238,20 +257,28 @@ const COPY: &[Round] = &[
         &[],
         &[
             Resolved(&[b"d", b"f"], 3),
-            Path(3, &[b"d", b"f"]),
-            At(4, Place::Gone),
-            Owner(3, (5, 6, 0o640)),
-            Data(3, (Kind::File, 7, 8)),
-            AttributeCount(3, 1),
-            FirstAttribute(3, b"x", b"1"),
-            SnapshotCount(2, 1),
-            FirstSnapshot(2, b"s"),
+            PathOf(3, Some((2, &[b"d", b"f"]))),
+            At(4, Place::Gone, None),
+            Kept(
+                3,
+                (5, 6, 0o640),
+                (Kind::File, 7, 8),
+                (1, Some((b"x", b"1"))),
+                (0, None),
+            ),
+            Kept(
+                2,
+                (10, 10, 0o755),
+                (Kind::Directory, 0, 0),
+                (0, None),
+                (1, Some(b"s")),
+            ),
             Last(4),
         ],
     ),
     (
         &[
-            (SnapAdd(2, b"s"), Err(Refusal::Exists)),
+            (Keep(2, b"s", Snapshot), Err(Refusal::Exists)),
             (Create(1, b"f"), Ok(5)),
         ],
         &[],

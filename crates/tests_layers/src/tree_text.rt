@@ -4,7 +4,8 @@ use crate::asserting::{holds, made, same};
 use crate::texts::{line_of, lines_of};
 use crate::tree_steps;
 use crate::tree_steps::Ask::*;
-use crate::tree_steps::{Answered, asked, create};
+use crate::tree_steps::Leaving::Unlink;
+use crate::tree_steps::{asked, create, numbered};
 use capbits::Ino;
 use inotree::Tree;
 use std::alloc::{AllocError, Global};
@@ -69,19 +70,14 @@ fn shows_as_before(rt: &impl Abort, alloc: Global, tree: &Tree, at: (&'static st
 // How many files come and go. There is room for a multiple of them when most have gone.
 const FILES: u64 = 48;
 
-fn create_numbered(alloc: Global, tree: &mut Tree, number: u64) -> Answered {
-    let name = format!(in alloc; "f{number}")?;
-    create(tree, 2 + number % 2, name.as_bytes())
-}
-
 // Makes the directories 2 and 3, and a file in one of them after the other.
-fn fill(rt: &impl Abort, alloc: Global, tree: &mut Tree) {
-    same(rt, asked(tree, Mkdir(1, b"a")), Ok(Ok(2)), "a");
-    same(rt, asked(tree, Mkdir(2, b"b")), Ok(Ok(3)), "b");
+fn fill(rt: &(impl Abort + AllocGlobal), tree: &mut Tree) {
+    same(rt, asked(rt, tree, Mkdir(1, b"a")), Ok(2), "a");
+    same(rt, asked(rt, tree, Mkdir(2, b"b")), Ok(3), "b");
     for number in 0..FILES {
-        let ino = create_numbered(alloc, tree, number);
+        let ino = create(tree, 2 + number % 2, numbered(rt, number).as_bytes());
         same(rt, ino, Ok(Ok(4 + number)), number);
-        shows_as_before(rt, alloc, tree, ("made", number));
+        shows_as_before(rt, rt.alloc(), tree, ("made", number));
     }
 }
 
@@ -89,9 +85,9 @@ fn fill(rt: &impl Abort, alloc: Global, tree: &mut Tree) {
 fn clear(rt: &impl Abort, alloc: Global, tree: &mut Tree) {
     for step in 1..FILES - 2 {
         let ino = 6 + step * 29 % (FILES - 2);
-        same(rt, asked(tree, Unlink(ino)), Ok(Ok(0)), ino);
+        same(rt, asked(rt, tree, Leave(ino, Unlink)), Ok(0), ino);
         shows_as_before(rt, alloc, tree, ("unlinked", ino));
-        same(rt, asked(tree, Forget(ino)), Ok(Ok(0)), ino);
+        same(rt, asked(rt, tree, Forget(ino)), Ok(0), ino);
         shows_as_before(rt, alloc, tree, ("forgotten", ino));
     }
 }
@@ -101,20 +97,20 @@ fn copy_shows_as_before(rt: &impl Abort, alloc: Global, tree: &Tree) {
     shows_as_before(rt, alloc, &copy, ("copied", 1));
 }
 
-fn comes_and_goes(rt: &impl Abort, alloc: Global, tree: &mut Tree) {
+fn comes_and_goes(rt: &(impl Abort + AllocGlobal), tree: &mut Tree) {
+    let alloc = rt.alloc();
     shows_as_before(rt, alloc, tree, ("the root alone", 1));
-    fill(rt, alloc, tree);
-    same(rt, asked(tree, Rename(3, 1, b"c")), Ok(Ok(0)), "c");
+    fill(rt, tree);
+    same(rt, asked(rt, tree, Rename(3, 1, b"c")), Ok(0), "c");
     shows_as_before(rt, alloc, tree, ("moved", 3));
     clear(rt, alloc, tree);
     copy_shows_as_before(rt, alloc, tree);
-    let ino = asked(tree, Create(3, b"new"));
-    same(rt, ino, Ok(Ok(4 + FILES)), "new");
+    same(rt, asked(rt, tree, Create(3, b"new")), Ok(4 + FILES), "new");
     shows_as_before(rt, alloc, tree, ("made again", 4 + FILES));
 }
 
 #[test]
 fn inodes_are_shown_by_number(rt: HostRuntime) {
     let mut tree = tree_steps::made(&rt);
-    comes_and_goes(&rt, rt.alloc(), &mut tree);
+    comes_and_goes(&rt, &mut tree);
 }

@@ -3,7 +3,8 @@
 use crate::asserting::{made, same};
 use crate::sessions::made as no_sessions;
 use crate::texts::grants_of;
-use crate::tree_steps::Ask::{Mkdir, SnapAdd};
+use crate::tree_steps::Ask::{Keep, Mkdir};
+use crate::tree_steps::Keeping::Snapshot;
 use crate::tree_steps::{Round as TreeRound, made as no_inodes, runs_on};
 use capbits::{Caller, ClientId, Groups, Ino, Mode};
 use capgrant::{Access, Attr, Verdict};
@@ -344,7 +345,10 @@ const OF_ANOTHER: &[Round] = &[
 ];
 
 // The tree had a snapshot when it was copied. That it went is not told.
-const A_SNAPSHOT: &[TreeRound] = &[(&[(Mkdir(1, b"d"), Ok(2)), (SnapAdd(2, b"s"), Ok(0))], &[])];
+const A_SNAPSHOT: &[TreeRound] = &[(
+    &[(Mkdir(1, b"d"), Ok(2)), (Keep(2, b"s", Snapshot), Ok(0))],
+    &[],
+)];
 
 const WITH_A_SNAPSHOT: &[Round] = &[(
     &[
