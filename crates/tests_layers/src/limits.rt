@@ -37,12 +37,8 @@ enum Full {
 
 fn fill_path(rt: &impl Abort, tree: &mut Tree) {
     for parent in 1..=MAX_NAMES as u64 {
-        same(
-            rt,
-            asked(rt, tree, Mkdir(parent, b"d")),
-            Ok(parent + 1),
-            parent,
-        );
+        let answer = asked(rt, tree, Mkdir(parent, b"d"));
+        same(rt, answer, Ok(parent + 1), parent);
     }
 }
 

@@ -1,17 +1,16 @@
 //! Worked runs: a view that follows a server by the changes that it is told, and what it answers.
 
-use crate::asserting::{made, same};
-use crate::sessions::made as no_sessions;
+use crate::asserting::{made, present, same};
+use crate::sessions::{caller, made as no_sessions};
 use crate::texts::grants_of;
 use crate::tree_steps::Ask::{Keep, Mkdir};
 use crate::tree_steps::Keeping::Snapshot;
-use crate::tree_steps::{Round as TreeRound, made as no_inodes, runs_on};
-use capbits::{Caller, ClientId, Groups, Ino, Mode};
-use capgrant::{Access, Attr, Verdict};
+use crate::tree_steps::{Round as TreeRound, attr_of, made as no_inodes, runs_on};
+use capbits::{ClientId, Ino};
+use capgrant::{Access, Verdict};
 use capspec::FsName;
 use capview::{Question, Unknown, View, ViewChange};
 use inotree::{Name, Tree};
-use std::alloc::{AllocError, Global};
 use std::process::Abort;
 
 // What a view is told. The first number is that of an inode or a client.
@@ -52,116 +51,78 @@ type At = (&'static str, usize, usize);
 // ---- what is told
 
 fn name_of(rt: &impl Abort, bytes: &[u8]) -> Name {
-    Name::read(bytes).expect(rt, "a name")
-}
-
-fn attr_of(rt: &impl Abort, (uid, gid, bits): (u32, u32, u16)) -> Attr {
-    let mode = Mode::new(bits).expect(rt, "a mode");
-    Attr { uid, gid, mode }
+    present(rt, Name::read(bytes), "a name")
 }
 
 // What is made is user 10's, who alone may write to it.
-fn born(rt: &impl Abort, ino: u64, dir: u64, name: &[u8], is_dir: bool) -> ViewChange {
-    ViewChange::Born {
-        ino: Ino(ino),
-        dir: Ino(dir),
-        name: name_of(rt, name),
-        attr: attr_of(rt, (10, 10, 0o640)),
-        is_dir,
-    }
-}
-
-fn moved(rt: &impl Abort, ino: u64, dir: u64, name: &[u8]) -> ViewChange {
-    ViewChange::Moved {
-        ino: Ino(ino),
-        dir: Ino(dir),
-        name: name_of(rt, name),
-    }
-}
-
-fn settled(rt: &impl Abort, ino: u64, to: (u32, u32, u16)) -> ViewChange {
-    ViewChange::Settled {
-        ino: Ino(ino),
-        attr: attr_of(rt, to),
-    }
-}
-
-fn opened(rt: &(impl Abort + AllocGlobal), client: u32, uid: u32, text: &str) -> ViewChange {
-    let caller = Caller {
-        uid,
-        gid: uid,
-        groups: Groups::new(),
-    };
-    ViewChange::Opened {
-        client: ClientId(client),
-        caller,
-        grants: grants_of(rt, text.as_bytes()),
-    }
-}
-
-fn regranted(rt: &(impl Abort + AllocGlobal), client: u32, text: &str) -> ViewChange {
-    ViewChange::Regranted {
-        client: ClientId(client),
-        grants: grants_of(rt, text.as_bytes()),
-    }
-}
-
 fn change(rt: &(impl Abort + AllocGlobal), told: Told) -> ViewChange {
     match told {
-        Born(ino, dir, name, is_dir) => born(rt, ino, dir, name, is_dir),
-        Moved(ino, dir, name) => moved(rt, ino, dir, name),
+        Born(ino, dir, name, is_dir) => ViewChange::Born {
+            ino: Ino(ino),
+            dir: Ino(dir),
+            name: name_of(rt, name),
+            attr: attr_of(rt, (10, 10, 0o640)),
+            is_dir,
+        },
+        Moved(ino, dir, name) => ViewChange::Moved {
+            ino: Ino(ino),
+            dir: Ino(dir),
+            name: name_of(rt, name),
+        },
         Removed(ino) => ViewChange::Removed { ino: Ino(ino) },
         Forgotten(ino) => ViewChange::Forgotten { ino: Ino(ino) },
-        Settled(ino, to) => settled(rt, ino, to),
-        Opened(client, uid, text) => opened(rt, client, uid, text),
+        Settled(ino, to) => ViewChange::Settled {
+            ino: Ino(ino),
+            attr: attr_of(rt, to),
+        },
+        Opened(client, uid, text) => ViewChange::Opened {
+            client: ClientId(client),
+            caller: caller(uid),
+            grants: grants_of(rt, text.as_bytes()),
+        },
         Ended(client) => ViewChange::Ended {
             client: ClientId(client),
         },
-        Regranted(client, text) => regranted(rt, client, text),
+        Regranted(client, text) => ViewChange::Regranted {
+            client: ClientId(client),
+            grants: grants_of(rt, text.as_bytes()),
+        },
     }
 }
 
-// A change, once it has been copied.
-fn copied(change: &ViewChange) -> Result<ViewChange, AllocError> {
-    change.copy()
-}
-
-fn can_follow(view: &mut View, change: &ViewChange) -> bool {
-    view.follow(change).is_ok()
-}
-
+// Tells it, once it has been copied.
 fn follow(rt: &(impl Abort + AllocGlobal), view: &mut View, (told, want): (Told, bool), at: At) {
     let source = change(rt, told);
-    let change = made(rt, copied(&source), at);
-    same(rt, can_follow(view, &change), want, at);
+    let change = made(rt, source.copy(), at);
+    same(rt, view.follow(&change).is_ok(), want, at);
 }
 
 // ---- what is answered
 
-fn answer(view: &View, fs: &FsName, question: &Question) -> Result<Verdict, Unknown> {
-    view.explain(fs, question)
-}
-
-fn text_of(alloc: Global, answer: Result<Verdict, Unknown>) -> Result<String, AllocError> {
+// No case is decided by another grant than the first.
+fn word_of(answer: Result<Verdict, Unknown>) -> &'static str {
     match answer {
-        Ok(Verdict::Allowed { grant }) => format!(in alloc; "grant {grant}"),
+        Ok(Verdict::Allowed { grant: 1 }) => "grant 1",
+        Ok(Verdict::Allowed { grant: _ }) => "another grant",
         Ok(Verdict::Denied { rules }) => match rules.as_slice().first() {
-            Some(rule) => String::from_str(alloc, rule.word()),
-            None => String::from_str(alloc, "no grants"),
+            Some(rule) => rule.word(),
+            None => "no grants",
         },
-        Err(unknown) => format!(in alloc; "{unknown:?}"),
+        Err(Unknown::NoSession) => "NoSession",
+        Err(Unknown::NoIno) => "NoIno",
+        Err(Unknown::Gone) => "Gone",
+        Err(Unknown::NoView) => "NoView",
     }
 }
 
-fn ask(rt: &(impl Abort + AllocGlobal), view: &View, (client, ino, access, want): Look, at: At) {
-    let fs = FsName::read(b"cephfs").expect(rt, "a name");
+fn ask(rt: &impl Abort, view: &View, (client, ino, access, want): Look, at: At) {
+    let fs = present(rt, FsName::read(b"cephfs"), "a name");
     let question = Question {
         client: ClientId(client),
         ino: Ino(ino),
         access,
     };
-    let text = made(rt, text_of(rt.alloc(), answer(view, &fs, &question)), at);
-    same(rt, text.as_str(), want, at);
+    same(rt, word_of(view.explain(&fs, &question)), want, at);
 }
 
 // ---- whole runs
@@ -187,10 +148,6 @@ fn view_of(rt: &(impl Abort + AllocGlobal), tree: &Tree) -> View {
     made(rt, View::of(tree, &sessions), "a view")
 }
 
-fn copy_of(rt: &impl Abort, view: &View) -> View {
-    made(rt, view.copy(), "a copy")
-}
-
 // Plays the rounds on a copy of the view, and then on the view itself, which is still as it was.
 fn plays_twice(
     rt: &(impl Abort + AllocGlobal),
@@ -198,7 +155,7 @@ fn plays_twice(
     rounds: (&'static str, &'static [Round]),
 ) {
     let mut view = view_of(rt, tree);
-    let mut copy = copy_of(rt, &view);
+    let mut copy = made(rt, view.copy(), "a copy");
     play(rt, &mut copy, rounds);
     play(rt, &mut view, rounds);
 }
