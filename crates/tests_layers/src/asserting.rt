@@ -19,7 +19,7 @@ pub fn same<T: PartialEq + Debug + Drop>(
 
 /// Fails the test unless the condition holds.
 pub fn holds(rt: &impl Abort, condition: bool, place: impl Debug + Copy) {
-    assert!(rt; condition, "does not hold: at {place:?}");
+    same(rt, condition, true, place);
 }
 
 /// What a call has made. Fails the test where it has not.

@@ -1,6 +1,6 @@
 //! What clients hold that nobody behind their key is permitted, and what two of them hold in conflict.
 
-use crate::asserting::{made, same};
+use crate::asserting::{made, present, same};
 use crate::texts::grants_of;
 use capaudit::{Conflict, Finding, Holding, Inode, beyond, conflicts};
 use capbits::{CapSet, Mode, read_caps, write_caps};
@@ -100,10 +100,6 @@ fn caps_of(rt: &impl Abort, text: &str) -> CapSet {
     made(rt, read_caps(text.as_bytes()), "caps")
 }
 
-fn fs_name(rt: &impl Abort) -> FsName {
-    FsName::read(b"cephfs").expect(rt, "a name")
-}
-
 fn attr_of(rt: &impl Abort, (uid, gid, bits): (u32, u32, u16)) -> Attr {
     let mode = Mode::new(bits).expect(rt, "a mode");
     Attr { uid, gid, mode }
@@ -116,7 +112,7 @@ fn audited(
     attr: Attr,
     held: CapSet,
 ) -> Option<Finding> {
-    let fs = fs_name(rt);
+    let fs = present(rt, FsName::read(b"cephfs"), "a name");
     let inode = Inode {
         fs: &fs,
         path,
@@ -168,50 +164,32 @@ const CONFLICTS: &[(u64, &str, u64, &str)] = &[
     (4135, "As", 4160, "Ax"),
 ];
 
+fn holding(rt: &impl Abort, client: u64, caps: &str) -> Holding {
+    let caps = caps_of(rt, caps);
+    Holding { client, caps }
+}
+
 fn holdings(rt: &(impl Abort + AllocGlobal)) -> Vec<Holding> {
     let mut all = Vec::new(rt.alloc());
     for row in HOLDINGS {
-        let (client, caps) = *row;
-        let holding = Holding {
-            client,
-            caps: caps_of(rt, caps),
-        };
-        made(rt, all.push(holding), "a holding");
+        made(rt, all.push(holding(rt, row.0, row.1)), row.1);
     }
     all
 }
 
-fn meet(rt: &impl Abort, found: Conflict, wanted: (u64, &str, u64, &str)) {
-    let (one, caps, other, others) = wanted;
-    same(
-        rt,
-        (found.one.client, found.other.client),
-        (one, other),
-        "clients",
-    );
-    same(
-        rt,
-        write_caps(found.one.caps).as_slice(),
-        caps.as_bytes(),
-        one,
-    );
-    same(
-        rt,
-        write_caps(found.other.caps).as_slice(),
-        others.as_bytes(),
-        other,
-    );
+// Sees that these are the conflicts of the holdings.
+fn meet(rt: &impl Abort, found: &[Conflict]) {
+    same(rt, found.len(), CONFLICTS.len(), "how many");
+    for (place, row) in CONFLICTS.iter().enumerate() {
+        let (one, other) = (holding(rt, row.0, row.1), holding(rt, row.2, row.3));
+        let conflict = found.get(place).copied();
+        same(rt, conflict, Some(Conflict { one, other }), place);
+    }
 }
 
 #[test]
 fn conflicts_are_found_in_their_order(rt: HostRuntime) {
-    let found = made(
-        &rt,
-        conflicts(rt.alloc(), holdings(&rt).as_slice()),
-        "conflicts",
-    );
-    same(&rt, found.len(), CONFLICTS.len(), "how many");
-    for (conflict, wanted) in found.iter().zip(CONFLICTS.iter()) {
-        meet(&rt, *conflict, *wanted);
-    }
+    let held = holdings(&rt);
+    let found = made(&rt, conflicts(rt.alloc(), held.as_slice()), "conflicts");
+    meet(&rt, found.as_slice());
 }

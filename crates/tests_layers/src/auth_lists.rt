@@ -12,12 +12,18 @@ const RECORDED: &str =
 
 // How many entities a list has, and how many clients.
 fn sizes(list: &AuthList) -> (usize, usize) {
-    let clients = list.entities().iter().filter(|entity| entity.is_client());
-    (list.entities().len(), clients.count())
+    let mut clients: usize = 0;
+    for entity in list.entities() {
+        clients = clients.saturating_add(usize::from(entity.is_client()));
+    }
+    (list.entities().len(), clients)
 }
 
 fn first_name(list: &AuthList) -> Option<&[u8]> {
-    Some(list.entities().first()?.name())
+    match list.entities().first() {
+        Some(entity) => Some(entity.name()),
+        None => None,
+    }
 }
 
 // The grants that some entities have for the MDS, or why they have none.
@@ -72,12 +78,8 @@ const NO_LISTS: &[(&str, &str)] = &[
     ),
 ];
 
-fn fault_in(alloc: Global, text: &str) -> Option<AuthFault> {
-    read_auth(alloc, text.as_bytes()).err()
-}
-
 fn is_no_list(rt: &impl Abort, alloc: Global, text: &str, wanted: &str) {
-    let fault = present(rt, fault_in(alloc, text), text);
+    let fault = present(rt, read_auth(alloc, text.as_bytes()).err(), text);
     same(rt, shown(rt, alloc, fault).as_str(), wanted, text);
 }
 

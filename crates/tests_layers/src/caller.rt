@@ -1,52 +1,34 @@
 //! A caller and its groups.
 
-use crate::asserting::{holds, same};
+use crate::asserting::same;
 use capbits::{Caller, Groups, TooManyGroups};
 use std::process::Abort;
 
-fn push(groups: &mut Groups, gid: u32) -> Result<(), TooManyGroups> {
-    groups.try_push(gid)
-}
-
-// A caller with these groups, once they have been a vector.
-fn caller_of(groups: Groups) -> Caller {
-    Caller {
-        uid: 10,
-        gid: 50,
-        groups: Groups::from(groups.into_inner()),
-    }
-}
-
-fn count(groups: &Groups) -> usize {
-    groups.len()
-}
-
-fn is_empty(groups: &Groups) -> bool {
-    groups.is_empty()
-}
-
-fn greatest(groups: &Groups) -> Option<u32> {
-    groups.iter().copied().max()
-}
-
-fn copy_of(caller: &Caller) -> Caller {
-    caller.copy()
-}
-
-fn has_gid(caller: &Caller, gid: u32) -> bool {
-    caller.has_gid(gid)
+// Whether there are no groups, how many there are, and the greatest of them.
+fn sizes(groups: &Groups) -> (bool, usize, Option<u32>) {
+    let greatest = groups.iter().copied().max();
+    (groups.is_empty(), groups.len(), greatest)
 }
 
 // Sixteen groups, and what is said of one more.
 fn sixteen_groups(rt: &impl Abort) -> Groups {
     let mut groups = Groups::new();
-    holds(rt, is_empty(&groups), "no groups");
+    same(rt, sizes(&groups), (true, 0, None), "no groups");
     for gid in 100..116 {
-        same(rt, push(&mut groups, gid), Ok(()), ("push", gid));
+        same(rt, groups.try_push(gid), Ok(()), gid);
     }
-    let more = push(&mut groups, 116);
-    same(rt, more, Err(TooManyGroups), ("push", 116));
+    same(rt, groups.try_push(116), Err(TooManyGroups), 116);
     groups
+}
+
+// A copy of a caller with these groups, once they have been a vector.
+fn copied(groups: Groups) -> Caller {
+    let source = Caller {
+        uid: 10,
+        gid: 50,
+        groups: Groups::from(groups.into_inner()),
+    };
+    source.copy()
 }
 
 // Group ids, and whether the caller has them.
@@ -62,13 +44,16 @@ const GIDS: &[(u32, bool)] = &[
 #[test]
 fn a_copy_of_a_caller_has_its_first_group_and_sixteen_more(rt: HostRuntime) {
     let groups = sixteen_groups(&rt);
-    same(&rt, count(&groups), 16, "len");
-    same(&rt, greatest(&groups), Some(115), "max");
-    let source = caller_of(groups);
-    let caller = copy_of(&source);
+    same(
+        &rt,
+        sizes(&groups),
+        (false, 16, Some(115)),
+        "sixteen groups",
+    );
+    let caller = copied(groups);
     same(&rt, caller.uid, 10, "uid");
     for row in GIDS {
         let (gid, wanted) = *row;
-        same(&rt, has_gid(&caller, gid), wanted, ("has", gid));
+        same(&rt, caller.has_gid(gid), wanted, gid);
     }
 }

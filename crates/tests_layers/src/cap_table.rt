@@ -1,14 +1,15 @@
 //! Worked runs: clients that take, give back and are asked for capabilities.
 
-use crate::asserting;
-use crate::asserting::same;
+use crate::asserting::{made, same};
 use capbits::{CapSet, ClientId, Ino, Refusal, read_caps};
 use captable::{CapTable, Entry, Holder, Holders, MAX_ENTRIES, Walk};
-use std::alloc::{AllocError, Global};
+use std::alloc::AllocError;
 use std::process::Abort;
 
-// Clients with the numbers of inodes.
-type Places = &'static [(u32, u64)];
+type Places = &'static [Holder];
+
+// The holders of the entries of a walk, and whether each is asked for capabilities.
+type Rows = &'static [(Holder, bool)];
 
 // What is done with the entries of a table, with the answer. A text names capabilities.
 #[derive(Clone, Copy)]
@@ -17,8 +18,8 @@ enum Act {
     Open(u32, u64),
     // As many entries are opened as there may be, of 64 clients.
     Fill,
-    // Of inode 2, a client wants the first, holds the second and is told of it.
-    Issue(u32, &'static str, &'static str),
+    // Of inode 2, a client wants these.
+    Want(u32, &'static str),
     // It holds these too.
     Give(u32, &'static str),
     // What it is to know of changes: before, and after.
@@ -35,8 +36,6 @@ enum Act {
     DropClient(u32),
     // So many entries are recalled, which are these.
     Recall(u32, Places),
-    // As that, from the list that the holders are made of.
-    RecallAsList(u32, Places),
     // An entry is marked as asked for capabilities, and what a message does to the mark of the entry that it goes to.
     Mark(u32, u64),
     Unmark(u32, u64),
@@ -61,18 +60,17 @@ enum Look {
     Wants(u32, &'static str),
     // The order of recall, one by one, and the orders of making, of an inode and of a client.
     Order(Places),
-    HoldersOf(u64, Places),
-    EntriesOf(u32, Places),
+    HoldersOf(u64, Rows),
+    EntriesOf(u32, Rows),
     // The client's entries from the first on that may be due.
-    DueOf(u32, Places),
+    DueOf(u32, Rows),
     // The first in the order of recall, and the next behind one.
-    Oldest(Option<(u32, u64)>),
-    Newer(u32, u64, Option<(u32, u64)>),
+    Oldest(Option<Holder>),
+    Newer(u32, u64, Option<Holder>),
     // So many would be recalled, which are these.
     FirstToRecall(u32, Places),
-    // Whether an entry is asked for capabilities, and which of the client's entries are, in the order of making.
+    // Whether an entry is asked for capabilities.
     IsAsked(u32, u64, bool),
-    Marks(u32, &'static [bool]),
 }
 
 use Act::*;
@@ -95,41 +93,24 @@ pub(crate) fn caps(text: &str) -> CapSet {
     }
 }
 
-pub(crate) fn made(alloc: Global) -> Result<CapTable, AllocError> {
-    CapTable::new(alloc)
-}
-
 // ---- what is done
 
-// Makes the entry where there is none, if that is not refused.
-pub(crate) fn open(
-    table: &mut CapTable,
-    client: u32,
-    ino: u64,
-) -> Result<Result<(), Refusal>, AllocError> {
+// Makes the entry where there is none. Answers whether there was room for one.
+pub(crate) fn open(rt: &impl Abort, table: &mut CapTable, client: u32, ino: u64) -> bool {
     let (client, ino) = (ClientId(client), Ino(ino));
-    if let Some(refusal) = table.open_refusal() {
-        return Ok(Err(refusal));
+    if table.open_refusal().is_some() || table.made() == u64::MAX {
+        return false;
     }
-    match table.find(client, ino) {
-        Some(_entry) => Ok(Ok(())),
-        None if table.made() < u64::MAX => {
-            table.open_entry(client, ino)?;
-            Ok(Ok(()))
-        }
-        None => Ok(Err(Refusal::Limit)),
+    if table.find(client, ino).is_none() {
+        made(rt, table.open_entry(client, ino), (client, ino));
     }
+    true
 }
 
-fn fill(table: &mut CapTable) -> Result<(), AllocError> {
+fn fill(rt: &impl Abort, table: &mut CapTable) {
     for n in 0..MAX_ENTRIES {
-        let _opened = open(table, (n % 64) as u32, (n / 64) as u64)?;
+        open(rt, table, (n % 64) as u32, (n / 64) as u64);
     }
-    Ok(())
-}
-
-pub(crate) fn set_want(table: &mut CapTable, client: u32, ino: u64, want: &str) {
-    table.set_want(ClientId(client), Ino(ino), caps(want));
 }
 
 pub(crate) fn renumber(table: &mut CapTable, client: u32, ino: u64, before: &str, after: &str) {
@@ -139,21 +120,6 @@ pub(crate) fn renumber(table: &mut CapTable, client: u32, ino: u64, before: &str
             table.renumber(client, ino, caps(before), caps(after));
         }
     }
-}
-
-pub(crate) fn tell(table: &mut CapTable, client: u32, ino: u64) {
-    table.tell(ClientId(client), Ino(ino));
-}
-
-pub(crate) fn give(table: &mut CapTable, client: u32, ino: u64, held: &str) {
-    table.issue(ClientId(client), Ino(ino), caps(held));
-}
-
-fn issue(table: &mut CapTable, client: u32, want: &str, held: &str) {
-    set_want(table, client, 2, want);
-    give(table, client, 2, held);
-    renumber(table, client, 2, "-", held);
-    tell(table, client, 2);
 }
 
 fn ack(table: &mut CapTable, ino: u64, seq: u64) -> Result<(), Refusal> {
@@ -181,85 +147,35 @@ pub(crate) fn release(
 
 // The client gives its whole entry back, where it has one.
 pub(crate) fn leave(table: &mut CapTable, client: u32, ino: u64) {
-    give(table, client, ino, "p");
+    table.issue(ClientId(client), Ino(ino), caps("p"));
     let _released = release(table, client, ino, "p");
 }
 
-pub(crate) fn touch(table: &mut CapTable, client: u32, ino: u64) {
-    table.touch(ClientId(client), Ino(ino));
+// Sees that these holders are named, and are the same once they have been a list.
+fn are(rt: &impl Abort, found: Result<Holders, AllocError>, want: Places, at: At) {
+    let holders = made(rt, found, at);
+    same(rt, holders.as_slice(), want, at);
+    let again = Holders::from_vec(holders.into_vec());
+    same(rt, again.as_slice(), want, at);
 }
 
-pub(crate) fn drop_client(table: &mut CapTable, client: u32) {
-    table.drop_client(ClientId(client));
-}
-
-fn named(alloc: Global, holders: &Holders) -> Result<Vec<(u32, u64)>, AllocError> {
-    let mut places = Vec::new(alloc);
-    for holder in holders.as_slice() {
-        places.push((holder.client.0, holder.ino.0))?;
-    }
-    Ok(places)
-}
-
-// Whose entries are named where so many are recalled.
-fn recalled(alloc: Global, table: &mut CapTable, n: u32) -> Result<Vec<(u32, u64)>, AllocError> {
-    let holders = table.recall(n)?;
-    named(alloc, &holders)
-}
-
-fn first_to_recall(alloc: Global, table: &CapTable, n: u32) -> Result<Vec<(u32, u64)>, AllocError> {
-    named(alloc, &table.first_to_recall(n)?)
-}
-
-fn recalled_as_list(
-    alloc: Global,
-    table: &mut CapTable,
-    n: u32,
-) -> Result<Vec<(u32, u64)>, AllocError> {
-    let list = table.recall(n)?.into_vec();
-    named(alloc, &Holders::from_vec(list))
-}
-
-pub(crate) fn ask(table: &mut CapTable, client: u32, ino: u64, asked: bool) {
-    table.ask(ClientId(client), Ino(ino), asked);
-}
-
-pub(crate) fn skip_quiet(table: &mut CapTable, client: u32) {
-    table.skip_quiet(ClientId(client));
-}
-
-// Sees that the places are the wanted ones.
-fn are(rt: &impl Abort, found: Result<Vec<(u32, u64)>, AllocError>, want: Places, at: At) {
-    let places = asserting::made(rt, found, at);
-    same(rt, places.as_slice(), want, at);
-}
-
-// Does what needs no memory.
 fn change(rt: &impl Abort, table: &mut CapTable, act: Act, at: At) {
     match act {
-        Issue(client, want, held) => issue(table, client, want, held),
-        Give(client, held) => give(table, client, 2, held),
+        Open(client, ino) => same(rt, open(rt, table, client, ino), true, at),
+        Fill => fill(rt, table),
+        Want(client, want) => table.set_want(ClientId(client), Ino(2), caps(want)),
+        Give(client, held) => table.issue(ClientId(client), Ino(2), caps(held)),
         Renumber(client, before, after) => renumber(table, client, 2, before, after),
-        Tell(client) => tell(table, client, 2),
+        Tell(client) => table.tell(ClientId(client), Ino(2)),
         Ack(ino, seq, want) => same(rt, ack(table, ino, seq), want, at),
         Release(ino, text, want) => same(rt, release(table, 1, ino, text), want, at),
         Leave(client, ino) => leave(table, client, ino),
-        Touch(client, ino) => touch(table, client, ino),
-        DropClient(client) => drop_client(table, client),
-        Mark(client, ino) => ask(table, client, ino, true),
-        Unmark(client, ino) => ask(table, client, ino, false),
-        SkipQuiet(client) => skip_quiet(table, client),
-        Open(..) | Fill | Recall(..) | RecallAsList(..) => (),
-    }
-}
-
-fn take(rt: &impl Abort, alloc: Global, table: &mut CapTable, act: Act, at: At) {
-    match act {
-        Open(client, ino) => same(rt, open(table, client, ino), Ok(Ok(())), at),
-        Fill => same(rt, fill(table), Ok(()), at),
-        Recall(n, want) => are(rt, recalled(alloc, table, n), want, at),
-        RecallAsList(n, want) => are(rt, recalled_as_list(alloc, table, n), want, at),
-        _ => change(rt, table, act, at),
+        Touch(client, ino) => table.touch(ClientId(client), Ino(ino)),
+        DropClient(client) => table.drop_client(ClientId(client)),
+        Recall(n, want) => are(rt, table.recall(n), want, at),
+        Mark(client, ino) => table.ask(ClientId(client), Ino(ino), true),
+        Unmark(client, ino) => table.ask(ClientId(client), Ino(ino), false),
+        SkipQuiet(client) => table.skip_quiet(ClientId(client)),
     }
 }
 
@@ -277,121 +193,64 @@ fn empty_entry() -> Entry {
     }
 }
 
-fn entry(table: &CapTable, client: u32, ino: u64) -> Option<Entry> {
-    table.find(ClientId(client), Ino(ino))
+// The entry of a client on an inode. Fails the test where there is none.
+fn entry(rt: &impl Abort, table: &CapTable, client: u32, ino: u64, at: At) -> Entry {
+    let found = table.find(ClientId(client), Ino(ino));
+    made(rt, found.ok_or("no entry"), at)
 }
 
-fn open_refusal(table: &CapTable) -> Option<Refusal> {
-    table.open_refusal()
+fn next_row(walk: &mut Walk<'_>) -> Option<(Holder, bool)> {
+    match walk.next() {
+        Some(row) => Some((row.holder, row.entry.asked)),
+        None => None,
+    }
 }
 
-fn entry_refusal(table: &CapTable, client: u32, ino: u64) -> Option<Refusal> {
-    table.entry_refusal(ClientId(client), Ino(ino))
-}
-
-fn numbers(table: &CapTable, client: u32) -> Option<(u64, u64, u64)> {
-    let entry = entry(table, client, 2)?;
-    Some((entry.seq, entry.revoke_seq, entry.told_seq))
-}
-
-fn held(table: &CapTable, client: u32) -> Option<CapSet> {
-    let entry = entry(table, client, 2)?;
-    Some(entry.held)
-}
-
-fn wanted(table: &CapTable, client: u32) -> Option<CapSet> {
-    let entry = entry(table, client, 2)?;
-    Some(entry.want)
-}
-
-fn is_asked(table: &CapTable, client: u32, ino: u64) -> Option<bool> {
-    let entry = entry(table, client, ino)?;
-    Some(entry.asked)
-}
-
-// The holders of a walk, as client and inode.
-fn walked(alloc: Global, walk: Walk<'_>) -> Result<Vec<(u32, u64)>, AllocError> {
+// Sees that a walk goes by these entries.
+fn goes_by(rt: &impl Abort, walk: Walk<'_>, want: Rows, at: At) {
     let mut walk = walk;
-    let mut places = Vec::new(alloc);
-    for _ in 0..10 {
-        if let Some(row) = walk.next() {
-            places.push((row.holder.client.0, row.holder.ino.0))?;
-        }
+    for row in want {
+        same(rt, next_row(&mut walk), Some(*row), at);
     }
-    Ok(places)
+    same(rt, next_row(&mut walk), None, at);
 }
 
-fn holders_of(alloc: Global, table: &CapTable, ino: u64) -> Result<Vec<(u32, u64)>, AllocError> {
-    walked(alloc, table.holders_of(Ino(ino)))
-}
-
-fn entries_of(alloc: Global, table: &CapTable, client: u32) -> Result<Vec<(u32, u64)>, AllocError> {
-    walked(alloc, table.entries_of(ClientId(client)))
-}
-
-fn due_of(alloc: Global, table: &CapTable, client: u32) -> Result<Vec<(u32, u64)>, AllocError> {
-    walked(alloc, table.due_of(ClientId(client)))
-}
-
-fn recall_order(alloc: Global, table: &CapTable) -> Result<Vec<(u32, u64)>, AllocError> {
-    let mut places = Vec::new(alloc);
+fn is_order(rt: &impl Abort, table: &CapTable, want: Places, at: At) {
     let mut next = table.oldest();
-    for _ in 0..10 {
-        if let Some(holder) = next {
-            places.push((holder.client.0, holder.ino.0))?;
-            next = table.newer(holder.client, holder.ino);
-        }
+    for holder in want {
+        same(rt, next, Some(*holder), at);
+        next = table.newer(holder.client, holder.ino);
     }
-    Ok(places)
+    same(rt, next, None, at);
 }
 
-fn place_of(holder: Option<Holder>) -> Option<(u32, u64)> {
-    let holder = holder?;
-    Some((holder.client.0, holder.ino.0))
-}
-
-fn oldest(table: &CapTable) -> Option<(u32, u64)> {
-    place_of(table.oldest())
-}
-
-fn newer(table: &CapTable, client: u32, ino: u64) -> Option<(u32, u64)> {
-    place_of(table.newer(ClientId(client), Ino(ino)))
-}
-
-fn marks(alloc: Global, table: &CapTable, client: u32) -> Result<Vec<bool>, AllocError> {
-    let mut walk = table.entries_of(ClientId(client));
-    let mut marks = Vec::new(alloc);
-    for _ in 0..10 {
-        if let Some(row) = walk.next() {
-            marks.push(row.entry.asked)?;
-        }
-    }
-    Ok(marks)
-}
-
-fn has_marks(rt: &impl Abort, found: Result<Vec<bool>, AllocError>, want: &[bool], at: At) {
-    let marks = asserting::made(rt, found, at);
-    same(rt, marks.as_slice(), want, at);
-}
-
-fn see(rt: &impl Abort, alloc: Global, table: &CapTable, look: Look, at: At) {
+fn see(rt: &impl Abort, table: &CapTable, look: Look, at: At) {
     match look {
-        NoEntry(client, ino) => same(rt, entry(table, client, ino), None, at),
-        EmptyEntry(client, ino) => same(rt, entry(table, client, ino), Some(empty_entry()), at),
-        OpenRefusal(want) => same(rt, open_refusal(table), want, at),
-        EntryRefusal(client, ino, want) => same(rt, entry_refusal(table, client, ino), want, at),
-        Numbers(client, want) => same(rt, numbers(table, client), Some(want), at),
-        Holds(client, want) => same(rt, held(table, client), Some(caps(want)), at),
-        Wants(client, want) => same(rt, wanted(table, client), Some(caps(want)), at),
-        Order(want) => are(rt, recall_order(alloc, table), want, at),
-        FirstToRecall(n, want) => are(rt, first_to_recall(alloc, table, n), want, at),
-        HoldersOf(ino, want) => are(rt, holders_of(alloc, table, ino), want, at),
-        EntriesOf(client, want) => are(rt, entries_of(alloc, table, client), want, at),
-        DueOf(client, want) => are(rt, due_of(alloc, table, client), want, at),
-        Oldest(want) => same(rt, oldest(table), want, at),
-        Newer(client, ino, want) => same(rt, newer(table, client, ino), want, at),
-        IsAsked(client, ino, want) => same(rt, is_asked(table, client, ino), Some(want), at),
-        Marks(client, want) => has_marks(rt, marks(alloc, table, client), want, at),
+        NoEntry(client, ino) => same(rt, table.find(ClientId(client), Ino(ino)), None, at),
+        EmptyEntry(client, ino) => same(rt, entry(rt, table, client, ino, at), empty_entry(), at),
+        OpenRefusal(want) => same(rt, table.open_refusal(), want, at),
+        EntryRefusal(client, ino, want) => {
+            same(
+                rt,
+                table.entry_refusal(ClientId(client), Ino(ino)),
+                want,
+                at,
+            )
+        }
+        Numbers(client, want) => {
+            let entry = entry(rt, table, client, 2, at);
+            same(rt, (entry.seq, entry.revoke_seq, entry.told_seq), want, at)
+        }
+        Holds(client, want) => same(rt, entry(rt, table, client, 2, at).held, caps(want), at),
+        Wants(client, want) => same(rt, entry(rt, table, client, 2, at).want, caps(want), at),
+        Order(want) => is_order(rt, table, want, at),
+        FirstToRecall(n, want) => are(rt, table.first_to_recall(n), want, at),
+        HoldersOf(ino, want) => goes_by(rt, table.holders_of(Ino(ino)), want, at),
+        EntriesOf(client, want) => goes_by(rt, table.entries_of(ClientId(client)), want, at),
+        DueOf(client, want) => goes_by(rt, table.due_of(ClientId(client)), want, at),
+        Oldest(want) => same(rt, table.oldest(), want, at),
+        Newer(client, ino, want) => same(rt, table.newer(ClientId(client), Ino(ino)), want, at),
+        IsAsked(client, ino, want) => same(rt, entry(rt, table, client, ino, at).asked, want, at),
     }
 }
 
@@ -399,26 +258,46 @@ fn see(rt: &impl Abort, alloc: Global, table: &CapTable, look: Look, at: At) {
 
 fn play(
     rt: &impl Abort,
-    alloc: Global,
     table: &mut CapTable,
     (title, number): (&'static str, usize),
     (acts, looks): Round,
 ) {
     for (nth, act) in acts.iter().enumerate() {
-        take(rt, alloc, table, *act, (title, number, nth));
+        change(rt, table, *act, (title, number, nth));
     }
     for (nth, look) in looks.iter().enumerate() {
-        see(rt, alloc, table, *look, (title, number, nth));
+        see(rt, table, *look, (title, number, nth));
     }
 }
 
 // Plays the rounds on a new table. No other function owns a table: each statement of one that does is dear to prove.
 fn runs(rt: &(impl Abort + AllocGlobal), (title, rounds): Case) {
-    let mut table = asserting::made(rt, made(rt.alloc()), title);
+    let mut table = made(rt, CapTable::new(rt.alloc()), title);
     for (number, round) in rounds.iter().enumerate() {
-        play(rt, rt.alloc(), &mut table, (title, number), *round);
+        play(rt, &mut table, (title, number), *round);
     }
 }
+
+// Client 1 on the inodes 2, 3 and 4, and client 2 on the inode 2.
+const ONE_2: Holder = Holder {
+    client: ClientId(1),
+    ino: Ino(2),
+};
+
+const ONE_3: Holder = Holder {
+    client: ClientId(1),
+    ino: Ino(3),
+};
+
+const ONE_4: Holder = Holder {
+    client: ClientId(1),
+    ino: Ino(4),
+};
+
+const TWO_2: Holder = Holder {
+    client: ClientId(2),
+    ino: Ino(2),
+};
 
 const A_NEW_ENTRY: &[Round] = &[
     (&[], &[NoEntry(1, 2)]),
@@ -438,9 +317,15 @@ const A_NEW_ENTRY: &[Round] = &[
 // writing.
 const SHARED_FILE: &[Act] = &[
     Open(1, 2),
-    Issue(1, "pFsxcrwb", "pFsxcrwb"),
+    Want(1, "pFsxcrwb"),
+    Give(1, "pFsxcrwb"),
+    Renumber(1, "-", "pFsxcrwb"),
+    Tell(1),
     Open(2, 2),
-    Issue(2, "pFscr", "p"),
+    Want(2, "pFscr"),
+    Give(2, "p"),
+    Renumber(2, "-", "p"),
+    Tell(2),
     Renumber(1, "pFsxcrwb", "pFrw"),
 ];
 
@@ -517,7 +402,11 @@ const THE_PIN: &[Round] = &[
     (HELD_ANEW, &[]),
     (
         &[Release(2, "pFscr", Ok(()))],
-        &[NoEntry(1, 2), Order(&[(2, 2)]), HoldersOf(2, &[(2, 2)])],
+        &[
+            NoEntry(1, 2),
+            Order(&[TWO_2]),
+            HoldersOf(2, &[(TWO_2, false)]),
+        ],
     ),
 ];
 
@@ -529,13 +418,13 @@ const ORDERS: &[Round] = &[
     (
         THREE_ENTRIES,
         &[
-            Order(&[(1, 3), (2, 2), (1, 2)]),
-            Oldest(Some((1, 3))),
+            Order(&[ONE_3, TWO_2, ONE_2]),
+            Oldest(Some(ONE_3)),
             // The newest, and no entry.
             Newer(1, 2, None),
             Newer(2, 3, None),
-            HoldersOf(2, &[(1, 2), (2, 2)]),
-            EntriesOf(1, &[(1, 2), (1, 3)]),
+            HoldersOf(2, &[(ONE_2, false), (TWO_2, false)]),
+            EntriesOf(1, &[(ONE_2, false), (ONE_3, false)]),
             EntriesOf(3, &[]),
         ],
     ),
@@ -546,7 +435,11 @@ const A_CLIENT_GOES: &[Round] = &[
     (THREE_ENTRIES, &[]),
     (
         &[DropClient(1)],
-        &[NoEntry(1, 3), Order(&[(2, 2)]), HoldersOf(2, &[(2, 2)])],
+        &[
+            NoEntry(1, 3),
+            Order(&[TWO_2]),
+            HoldersOf(2, &[(TWO_2, false)]),
+        ],
     ),
 ];
 
@@ -558,58 +451,67 @@ const RECALLS: &[Round] = &[
         ONE_CLIENT,
         &[
             FirstToRecall(0, &[]),
-            FirstToRecall(2, &[(1, 3), (1, 4)]),
-            FirstToRecall(9, &[(1, 3), (1, 4), (1, 2)]),
-            Marks(1, &[false, false, false]),
+            FirstToRecall(2, &[ONE_3, ONE_4]),
+            FirstToRecall(9, &[ONE_3, ONE_4, ONE_2]),
+            EntriesOf(1, &[(ONE_2, false), (ONE_3, false), (ONE_4, false)]),
         ],
     ),
     (
-        &[Recall(2, &[(1, 3), (1, 4)])],
-        &[Marks(1, &[false, true, true])],
+        &[Recall(2, &[ONE_3, ONE_4])],
+        &[EntriesOf(1, &[(ONE_2, false), (ONE_3, true), (ONE_4, true)])],
     ),
-    (&[Recall(0, &[])], &[Marks(1, &[false, true, true])]),
     (
-        &[Recall(9, &[(1, 3), (1, 4), (1, 2)])],
-        &[Marks(1, &[true, true, true])],
+        &[Recall(0, &[])],
+        &[EntriesOf(1, &[(ONE_2, false), (ONE_3, true), (ONE_4, true)])],
+    ),
+    (
+        &[Recall(9, &[ONE_3, ONE_4, ONE_2])],
+        &[EntriesOf(1, &[(ONE_2, true), (ONE_3, true), (ONE_4, true)])],
     ),
 ];
 
 const A_MESSAGE: &[Round] = &[
     (ONE_CLIENT, &[]),
     (
-        &[Recall(9, &[(1, 3), (1, 4), (1, 2)]), Unmark(1, 3)],
-        &[IsAsked(1, 3, false), Order(&[(1, 3), (1, 4), (1, 2)])],
+        &[Recall(9, &[ONE_3, ONE_4, ONE_2]), Unmark(1, 3)],
+        &[IsAsked(1, 3, false), Order(&[ONE_3, ONE_4, ONE_2])],
     ),
-    (&[RecallAsList(1, &[(1, 3)])], &[]),
+    (&[Recall(1, &[ONE_3])], &[]),
 ];
 
 const DUE: &[Round] = &[
     // A new entry is not due.
     (ONE_CLIENT, &[DueOf(1, &[])]),
     (&[SkipQuiet(1)], &[DueOf(1, &[])]),
-    (&[Mark(1, 3)], &[DueOf(1, &[(1, 3), (1, 4)])]),
-    (&[Mark(1, 4)], &[DueOf(1, &[(1, 3), (1, 4)])]),
-    (&[Mark(1, 2)], &[DueOf(1, &[(1, 2), (1, 3), (1, 4)])]),
+    (&[Mark(1, 3)], &[DueOf(1, &[(ONE_3, true), (ONE_4, false)])]),
+    (&[Mark(1, 4)], &[DueOf(1, &[(ONE_3, true), (ONE_4, true)])]),
+    (
+        &[Mark(1, 2)],
+        &[DueOf(1, &[(ONE_2, true), (ONE_3, true), (ONE_4, true)])],
+    ),
     (
         &[Unmark(1, 2), SkipQuiet(1)],
-        &[DueOf(1, &[(1, 3), (1, 4)])],
+        &[DueOf(1, &[(ONE_3, true), (ONE_4, true)])],
     ),
     // A change that the client was not told of.
     (
         &[Give(1, "p"), Renumber(1, "-", "p")],
-        &[DueOf(1, &[(1, 2), (1, 3), (1, 4)])],
+        &[DueOf(1, &[(ONE_2, false), (ONE_3, true), (ONE_4, true)])],
     ),
     // The entry at the place goes, and others come and go.
     (
         &[Tell(1), Release(2, "p", Ok(()))],
-        &[DueOf(1, &[(1, 3), (1, 4)])],
+        &[DueOf(1, &[(ONE_3, true), (ONE_4, true)])],
     ),
     (
         &[Open(1, 2), Open(2, 3), DropClient(2)],
-        &[DueOf(1, &[(1, 3), (1, 4), (1, 2)]), DueOf(2, &[])],
+        &[
+            DueOf(1, &[(ONE_3, true), (ONE_4, true), (ONE_2, false)]),
+            DueOf(2, &[]),
+        ],
     ),
     (&[DropClient(1), Open(1, 4), Open(1, 2)], &[DueOf(1, &[])]),
-    (&[Mark(1, 2)], &[DueOf(1, &[(1, 2)])]),
+    (&[Mark(1, 2)], &[DueOf(1, &[(ONE_2, true)])]),
 ];
 
 const ALL_ENTRIES: &[Round] = &[

@@ -1,13 +1,14 @@
 //! Sets of capabilities, their numbers and their texts.
 
-use crate::asserting::{holds, made, same};
-use capbits::{Cap, CapBytes, CapSet, CapText, Part, read_caps, write_caps};
-use std::alloc::{AllocError, Global};
+use crate::asserting::{made, present, same};
+use capbits::{Cap, CapSet, CapText, Part, read_caps, write_caps};
 use std::process::Abort;
 
-// The number of the set with this number.
-fn kept_bits(bits: u32) -> Option<u32> {
-    CapSet::from_bits(bits).map(CapSet::bits)
+fn bits_of(set: Option<CapSet>) -> Option<u32> {
+    match set {
+        Some(set) => Some(set.bits()),
+        None => None,
+    }
 }
 
 // The numbers of each known bit, and of sets of several.
@@ -21,63 +22,23 @@ const UNKNOWN: &[u32] = &[2, 3, 65535, 65536, 65537, u32::MAX];
 #[test]
 fn numbers_of_known_bits_are_sets(rt: HostRuntime) {
     for bits in KNOWN {
-        same(&rt, kept_bits(*bits), Some(*bits), *bits);
+        same(&rt, bits_of(CapSet::from_bits(*bits)), Some(*bits), *bits);
     }
     for bits in UNKNOWN {
-        same(&rt, kept_bits(*bits), None, *bits);
+        same(&rt, bits_of(CapSet::from_bits(*bits)), None, *bits);
     }
-}
-
-// The number of the set of these capabilities.
-fn bits_of(caps: &[Cap]) -> u32 {
-    CapSet::of(caps).bits()
 }
 
 // The set with this number.
 fn set_of(rt: &impl Abort, bits: u32) -> CapSet {
-    CapSet::from_bits(bits).expect(rt, "a set")
-}
-
-// Small readers: what a call promises stays behind in them.
-
-fn bits(set: CapSet) -> u32 {
-    set.bits()
-}
-
-fn has(set: CapSet, cap: Cap) -> bool {
-    set.has(cap)
-}
-
-fn minus(set: CapSet, other: CapSet) -> CapSet {
-    set.minus(other)
-}
-
-fn meet(set: CapSet, other: CapSet) -> CapSet {
-    set.meet(other)
-}
-
-fn union(set: CapSet, other: CapSet) -> CapSet {
-    set.union(other)
-}
-
-fn part(set: CapSet, part: Part) -> CapSet {
-    set.part(part)
-}
-
-fn contains(set: CapSet, other: CapSet) -> bool {
-    set.contains(other)
-}
-
-fn set_with(cap: Cap) -> CapSet {
-    CapSet::of(&[cap])
+    present(rt, CapSet::from_bits(bits), "a set")
 }
 
 // Sees that a capability has this bit, and that a set without it has not.
 fn has_bit(rt: &impl Abort, all: CapSet, cap: Cap, bit: u32) {
-    let set = set_with(cap);
-    same(rt, bits(set), bit, cap);
-    holds(rt, has(set, cap) && has(all, cap), ("has", cap));
-    holds(rt, !has(minus(all, set), cap), ("lacks", cap));
+    let set = CapSet::of(&[cap]);
+    let has = (set.has(cap), all.has(cap), all.minus(set).has(cap));
+    same(rt, (set.bits(), has), (bit, (true, true, false)), cap);
 }
 
 const BITS: &[(Cap, u32)] = &[
@@ -109,19 +70,15 @@ fn each_capability_has_a_bit(rt: HostRuntime) {
 
 #[test]
 fn a_set_has_the_sum_of_its_bits(rt: HostRuntime) {
-    same(&rt, bits(CapSet::empty()), 0, "nothing");
+    same(&rt, CapSet::empty().bits(), 0, "nothing");
     let opened = [Cap::P, Cap::Fs, Cap::Fx, Cap::Fc, Cap::Fr, Cap::Fw, Cap::Fb];
-    same(&rt, bits_of(&opened), 16129, "what is opened");
+    same(&rt, CapSet::of(&opened).bits(), 16129, "what is opened");
 }
 
 // Sees that a set has this number, and is empty exactly at 0.
 fn is_set(rt: &impl Abort, set: CapSet, wanted: u32) {
-    same(rt, bits(set), wanted, wanted);
-    same(rt, is_empty(set), wanted == 0, wanted);
-}
-
-fn is_empty(set: CapSet) -> bool {
-    set.is_empty()
+    let found = (set.bits(), set.is_empty());
+    same(rt, found, (wanted, wanted == 0), wanted);
 }
 
 // Two sets that share one capability. One stands twice in the list of the first.
@@ -135,24 +92,25 @@ fn two_sets() -> (CapSet, CapSet) {
 #[test]
 fn sets_join_and_part(rt: HostRuntime) {
     let (mine, other) = two_sets();
-    is_set(&rt, union(mine, other), 1 + 4 + 8 + 256 + 1024);
-    is_set(&rt, meet(mine, other), 1024);
-    is_set(&rt, minus(mine, other), 1 + 4 + 256);
-    is_set(&rt, part(mine, Part::A), 4);
-    is_set(&rt, part(mine, Part::L), 0);
-    is_set(&rt, part(mine, Part::X), 0);
-    is_set(&rt, part(mine, Part::F), 256 + 1024);
-    holds(&rt, contains(mine, meet(mine, other)), "what both have");
-    holds(&rt, !contains(mine, other), "all that the other has");
-    let halves = union(minus(mine, other), meet(mine, other));
-    same(&rt, halves, mine, "both halves");
+    let (both, rest) = (mine.meet(other), mine.minus(other));
+    is_set(&rt, mine.union(other), 1 + 4 + 8 + 256 + 1024);
+    is_set(&rt, both, 1024);
+    is_set(&rt, rest, 1 + 4 + 256);
+    is_set(&rt, mine.part(Part::A), 4);
+    is_set(&rt, mine.part(Part::L), 0);
+    is_set(&rt, mine.part(Part::X), 0);
+    is_set(&rt, mine.part(Part::F), 256 + 1024);
+    let contains = (mine.contains(both), mine.contains(other));
+    same(
+        &rt,
+        contains,
+        (true, false),
+        "what both have, and all that the other has",
+    );
+    same(&rt, rest.union(both), mine, "both halves");
 }
 
-// The number of the set of a part's capabilities.
-fn bits_of_part(part: Part) -> u32 {
-    bits_of(part.caps())
-}
-
+// Parts, and the numbers of the sets of their capabilities.
 const PARTS: &[(Part, u32)] = &[
     (Part::A, 12),
     (Part::L, 48),
@@ -164,13 +122,16 @@ const PARTS: &[(Part, u32)] = &[
 fn a_part_has_its_capabilities(rt: HostRuntime) {
     for row in PARTS {
         let (part, wanted) = *row;
-        same(&rt, bits_of_part(part), wanted, part);
+        same(&rt, CapSet::of(part.caps()).bits(), wanted, part);
     }
 }
 
 // The number of the set whose text this is.
 fn bits_read(text: &str) -> Result<u32, CapText> {
-    read_caps(text.as_bytes()).map(CapSet::bits)
+    match read_caps(text.as_bytes()) {
+        Ok(set) => Ok(set.bits()),
+        Err(fault) => Err(fault),
+    }
 }
 
 // Sees which sets texts name, or where the fault of each is.
@@ -224,28 +185,16 @@ fn a_fault_is_where_no_spelling_goes_on(rt: HostRuntime) {
     are_read(&rt, FAULTS);
 }
 
-fn fault_text(alloc: Global, at: usize) -> Result<String, AllocError> {
-    format!(in alloc; "{}", CapText { at })
-}
-
 #[test]
 fn a_fault_prints_its_place(rt: HostRuntime) {
-    let text = made(&rt, fault_text(rt.alloc(), 3), "a text");
+    let text = format!(in rt.alloc(); "{}", CapText { at: 3 });
+    let text = made(&rt, text, "a text");
     same(
         &rt,
         text.as_str(),
         "no set of capabilities, wrong at 3",
         "a fault at 3",
     );
-}
-
-// The text of the set with this number.
-fn text_of(rt: &impl Abort, bits: u32) -> CapBytes {
-    write_caps(set_of(rt, bits))
-}
-
-fn length(bytes: CapBytes) -> usize {
-    bytes.into_inner().len()
 }
 
 // The numbers of sets, and their texts.
@@ -262,8 +211,8 @@ const SETS: &[(u32, &str)] = &[
 fn each_set_has_one_text(rt: HostRuntime) {
     for row in SETS {
         let (number, text) = *row;
-        let bytes = text_of(&rt, number);
-        same(&rt, bytes.as_slice(), text.as_bytes(), ("text", number));
-        same(&rt, length(bytes), text.len(), ("length", number));
+        let bytes = write_caps(set_of(&rt, number));
+        same(&rt, bytes.as_slice(), text.as_bytes(), number);
+        same(&rt, bytes.into_inner().len(), text.len(), number);
     }
 }

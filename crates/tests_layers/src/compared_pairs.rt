@@ -51,6 +51,9 @@ const USERS: &[&str] = &[
 
 const SQUASHES: &[&str] = &["", "", "", " root_squash"];
 
+// The parts, in the order in which they stand.
+const PARTS: &[&[&str]] = &[FLAGS, FILE_SYSTEMS, PATHS, USERS, SQUASHES];
+
 // A question.
 #[derive(Drop)]
 struct Asked {
@@ -75,16 +78,13 @@ fn push(rt: &impl Abort, text: &mut Vec<u8>, part: &str) {
 }
 
 fn push_grant(rt: &impl Abort, seed: &mut u64, text: &mut Vec<u8>) {
-    push(
-        rt,
-        text,
-        if text.is_empty() {
-            "allow "
-        } else {
-            ", allow "
-        },
-    );
-    for words in [FLAGS, FILE_SYSTEMS, PATHS, USERS, SQUASHES] {
+    let before = if text.is_empty() {
+        "allow "
+    } else {
+        ", allow "
+    };
+    push(rt, text, before);
+    for words in PARTS {
         push(rt, text, one_of(seed, words));
     }
 }
@@ -104,8 +104,7 @@ fn text_near(rt: &(impl Abort + AllocGlobal), seed: &mut u64, first: &[u8]) -> V
     if number(seed, 4) == 0 {
         return some_text(rt, seed);
     }
-    let mut text = Vec::new(rt.alloc());
-    made(rt, text.extend_from_slice(first), "a text");
+    let mut text = made(rt, first.to_vec(rt.alloc()), "a text");
     push_grant(rt, seed, &mut text);
     text
 }
@@ -161,18 +160,11 @@ fn some_caller(seed: &mut u64) -> Caller {
     }
 }
 
-fn some_mode(seed: &mut u64) -> Option<Mode> {
-    match u16::try_from(number(seed, 512)) {
-        Ok(bits) => Mode::new(bits),
-        Err(_) => None,
-    }
-}
-
 fn some_attr(rt: &impl Abort, seed: &mut u64) -> Attr {
     Attr {
         uid: number(seed, 4),
         gid: number(seed, 5),
-        mode: present(rt, some_mode(seed), "a mode"),
+        mode: present(rt, Mode::new(number(seed, 512) as u16), "a mode"),
     }
 }
 
@@ -205,6 +197,17 @@ fn is_root(caller: &Caller) -> bool {
 
 // ---- what is seen
 
+fn verdict_on(grants: &Grants, witness: &Witness, path: &[&[u8]]) -> Verdict {
+    verdict(
+        grants,
+        &witness.fs,
+        &witness.caller,
+        path,
+        &witness.attr,
+        witness.access,
+    )
+}
+
 // Whether the new grants allow the witness, by the grant that it names, and the old ones deny it.
 fn is_shown(
     rt: &(impl Abort + AllocGlobal),
@@ -213,20 +216,14 @@ fn is_shown(
     witness: &Witness,
 ) -> bool {
     let names = made(rt, witness.path.names(rt.alloc()), "the names of a path");
-    let says = |grants: &Grants| {
-        verdict(
-            grants,
-            &witness.fs,
-            &witness.caller,
-            names.as_slice(),
-            &witness.attr,
-            witness.access,
-        )
-    };
     let by_new = Verdict::Allowed {
         grant: witness.grant,
     };
-    says(new) == by_new && matches!(says(old), Verdict::Denied { .. })
+    verdict_on(new, witness, names.as_slice()) == by_new
+        && matches!(
+            verdict_on(old, witness, names.as_slice()),
+            Verdict::Denied { .. }
+        )
 }
 
 // Whether no question shows a gain, or none of a caller who is not root.

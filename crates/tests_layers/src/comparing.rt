@@ -2,7 +2,9 @@
 
 use crate::asserting::{made, same};
 use crate::texts::grants_of;
+use capbits::Caller;
 use capcompare::{Witness, gained, lost};
+use std::alloc::AllocError;
 use std::process::Abort;
 
 // The number of the grant that allows more, and whether it takes root to see it.
@@ -59,21 +61,21 @@ const COMPARED: &[(&str, &str, Gain, Gain)] = &[
     ("allow rwps", "allow rwp, allow rws", None, None),
 ];
 
-fn is_root(witness: &Witness) -> bool {
-    witness.caller.uid == 0 || witness.caller.gid == 0
+fn is_root(caller: &Caller) -> bool {
+    caller.uid == 0 || caller.gid == 0
 }
 
-fn told(found: Option<Witness>) -> Gain {
-    match found {
-        Some(witness) => Some((witness.grant, is_root(&witness))),
+fn told(rt: &impl Abort, found: Result<Option<Witness>, AllocError>, new: &str) -> Gain {
+    match made(rt, found, new) {
+        Some(witness) => Some((witness.grant, is_root(&witness.caller))),
         None => None,
     }
 }
 
 fn compare(rt: &(impl Abort + AllocGlobal), old: &str, new: &str) -> (Gain, Gain) {
     let (before, after) = (grants_of(rt, old.as_bytes()), grants_of(rt, new.as_bytes()));
-    let more = told(made(rt, gained(rt.alloc(), &before, &after), new));
-    let less = told(made(rt, lost(rt.alloc(), &before, &after), new));
+    let more = told(rt, gained(rt.alloc(), &before, &after), new);
+    let less = told(rt, lost(rt.alloc(), &before, &after), new);
     (more, less)
 }
 

@@ -3,17 +3,9 @@
 
 use crate::asserting::{made, same};
 use crate::texts::{Long, copy_of, grants_of, long_text, written};
-use capspec::{Flags4, FsName, Grant, Grants, SpecFault, SpecFaultKind, TreePath, read_grants};
-use std::alloc::Global;
+use capspec::{Flags4, FsName, Grants, SpecFault, SpecFaultKind, TreePath, read_grants};
+use std::alloc::AllocError;
 use std::process::Abort;
-
-// The first fault of a text, with its place.
-fn fault_in(alloc: Global, text: &str) -> Option<(SpecFaultKind, usize)> {
-    match read_grants(alloc, text.as_bytes()) {
-        Ok(_) => None,
-        Err(SpecFault { at, kind }) => Some((kind, at)),
-    }
-}
 
 // The head and the part of long texts, how many parts the first of them has, and how many are one too many for the
 // last, their tail, and the fault of each.
@@ -23,17 +15,13 @@ type Longs = (
     usize,
     usize,
     &'static str,
-    Option<(SpecFaultKind, usize)>,
+    Option<SpecFault>,
 );
 
 // Sees the first fault of a long text.
-fn long_text_has(
-    rt: &(impl Abort + AllocGlobal),
-    long: Long,
-    fault: Option<(SpecFaultKind, usize)>,
-) {
+fn long_text_has(rt: &(impl Abort + AllocGlobal), long: Long, fault: Option<SpecFault>) {
     let text = long_text(rt, long);
-    let found = fault_in(rt.alloc(), text.as_str());
+    let found = read_grants(rt.alloc(), text.as_bytes()).err();
     same(rt, found, fault, long);
 }
 
@@ -46,7 +34,10 @@ fn long_texts_have(rt: &(impl Abort + AllocGlobal), rows: &[Longs]) {
     }
 }
 
-const TOO_MANY_GRANTS: Option<(SpecFaultKind, usize)> = Some((SpecFaultKind::TooMany, 128));
+const TOO_MANY_GRANTS: Option<SpecFault> = Some(SpecFault {
+    at: 128,
+    kind: SpecFaultKind::TooMany,
+});
 
 const GRANTS: &[Longs] = &[
     ("", "allow r,", 16, 17, "", TOO_MANY_GRANTS),
@@ -58,7 +49,10 @@ fn sixteen_grants_are_the_most(rt: HostRuntime) {
     long_texts_have(&rt, GRANTS);
 }
 
-const TOO_MANY_GIDS: Option<(SpecFaultKind, usize)> = Some((SpecFaultKind::TooMany, 14));
+const TOO_MANY_GIDS: Option<SpecFault> = Some(SpecFault {
+    at: 14,
+    kind: SpecFaultKind::TooMany,
+});
 
 const GIDS: &[Longs] = &[
     ("allow r uid=1 gids=0", ",1", 0, 16, "", None),
@@ -70,7 +64,10 @@ fn sixteen_gids_are_the_most(rt: HostRuntime) {
     long_texts_have(&rt, GIDS);
 }
 
-const BAD_PATH: Option<(SpecFaultKind, usize)> = Some((SpecFaultKind::BadPath, 8));
+const BAD_PATH: Option<SpecFault> = Some(SpecFault {
+    at: 8,
+    kind: SpecFaultKind::BadPath,
+});
 
 const NAMES: &[Longs] = &[
     ("allow r path=", "/a//b", 0, 1, "", BAD_PATH),
@@ -93,33 +90,27 @@ fn a_name_has_at_most_255_bytes(rt: HostRuntime) {
     long_texts_have(&rt, BYTES);
 }
 
-// Small readers of grants: what a call promises stays behind in them.
-
-fn count(grants: &Grants) -> usize {
-    grants.len()
-}
-
 // What a grant has besides its path: its flags, its file system, its uid, its gids, and whether it squashes root.
 type Fields<'a> = (Flags4, Option<&'a [u8]>, Option<u32>, &'a [u32], bool);
 
-fn fields(grant: &Grant) -> Fields<'_> {
-    (
-        grant.flags,
-        grant.fsname.as_ref().map(FsName::as_bytes),
-        grant.uid,
-        grant.gids.as_slice(),
-        grant.root_squash,
-    )
-}
-
 fn fields_of(grants: &Grants, place: usize) -> Option<Fields<'_>> {
-    let grant = grants.as_slice().get(place)?;
-    Some(fields(grant))
+    match grants.get(place) {
+        Some(grant) => Some((
+            grant.flags,
+            grant.fsname.as_ref().map(FsName::as_bytes),
+            grant.uid,
+            grant.gids.as_slice(),
+            grant.root_squash,
+        )),
+        None => None,
+    }
 }
 
 fn leads_to(grants: &Grants, place: usize, names: &[&[u8]]) -> Option<bool> {
-    let grant = grants.get(place)?;
-    Some(grant.path.leads_to(names))
+    match grants.get(place) {
+        Some(grant) => Some(grant.path.leads_to(names)),
+        None => None,
+    }
 }
 
 // The place of a grant, names, and whether these lead to its path or below it. None is said where no grant is.
@@ -158,7 +149,7 @@ fn grants_have_their_fields(rt: HostRuntime) {
     let text =
         " allow rw path=/a//b/ gids=50,0051 uid=7 fsname=cephfs;allow\tall path='a b,c' root_squash , allow r\n";
     let grants = grants_of(&rt, text.as_bytes());
-    same(&rt, count(&grants), 3, "len");
+    same(&rt, grants.len(), 3, "len");
     lead(&rt, &grants, LEADS);
     have_fields(&rt, &grants, FIELDS);
 }
@@ -177,25 +168,13 @@ fn a_prefix_is_one_of_names(rt: HostRuntime) {
     lead(&rt, &grants, LEADS_OF_A_PREFIX);
 }
 
-fn path_of(rt: &(impl Abort + AllocGlobal), text: &str) -> TreePath {
-    made(rt, TreePath::from_text(rt.alloc(), text.as_bytes()), text)
-}
-
-fn path_of_two_names(rt: &(impl Abort + AllocGlobal)) -> TreePath {
-    made(rt, TreePath::of(rt.alloc(), TWO_NAMES), "two names")
+// Sees which path was made of a text or of names.
+fn is_path(rt: &impl Abort, path: Result<TreePath, AllocError>, wanted: &str, of: &str) {
+    let path = made(rt, path, of);
+    same(rt, path.as_bytes(), wanted.as_bytes(), of);
 }
 
 const TWO_NAMES: &[&[u8]] = &[b"a", b"b c"];
-
-fn has_text(rt: &impl Abort, path: &TreePath, wanted: &str, place: &str) {
-    same(rt, path.as_bytes(), wanted.as_bytes(), place);
-}
-
-// Sees which path a text names.
-fn names_path(rt: &(impl Abort + AllocGlobal), text: &str, wanted: &str) {
-    let path = path_of(rt, text);
-    has_text(rt, &path, wanted, text);
-}
 
 // Texts, and the path that each names.
 const PATHS: &[(&str, &str)] = &[
@@ -212,14 +191,11 @@ const PATHS: &[(&str, &str)] = &[
 fn a_path_is_one_text(rt: HostRuntime) {
     for row in PATHS {
         let (text, wanted) = *row;
-        names_path(&rt, text, wanted);
+        let path = TreePath::from_text(rt.alloc(), text.as_bytes());
+        is_path(&rt, path, wanted, text);
     }
-    let path = path_of_two_names(&rt);
-    has_text(&rt, &path, "/a/b c", "two names");
-}
-
-fn is_name(bytes: &[u8]) -> bool {
-    FsName::read(bytes).is_some()
+    let path = TreePath::of(rt.alloc(), TWO_NAMES);
+    is_path(&rt, path, "/a/b c", "two names");
 }
 
 // Bytes, and whether they are the name of a file system.
@@ -237,24 +213,25 @@ const FS_NAMES: &[(&[u8], bool)] = &[
 fn a_file_system_has_a_name(rt: HostRuntime) {
     for row in FS_NAMES {
         let (name, wanted) = *row;
-        same(&rt, is_name(name), wanted, name);
+        same(&rt, FsName::read(name).is_some(), wanted, name);
     }
 }
 
 // Whether two grants at a place have equal file systems and gids, as these compare themselves.
-fn are_equal(grants: &Grants, others: &Grants, place: usize) -> Option<bool> {
-    let own = grants.get(place)?;
-    let other = others.get(place)?;
-    Some(own.fsname == other.fsname && own.gids == other.gids)
+fn are_equal(grants: &Grants, others: &Grants, place: usize) -> bool {
+    match (grants.get(place), others.get(place)) {
+        (Some(own), Some(other)) => own.fsname == other.fsname && own.gids == other.gids,
+        _ => false,
+    }
 }
 
 // Sees that grants have the fields of others, apart from the paths.
 fn all_same_fields(rt: &impl Abort, grants: &Grants, others: &Grants) {
-    same(rt, count(grants), count(others), "len");
-    for place in 0..count(others) {
+    same(rt, grants.len(), others.len(), "len");
+    for place in 0..others.len() {
         let (own, other) = (fields_of(grants, place), fields_of(others, place));
         same(rt, own, other, place);
-        same(rt, are_equal(grants, others, place), Some(true), place);
+        same(rt, are_equal(grants, others, place), true, place);
     }
 }
 
@@ -276,7 +253,7 @@ const LEADS_OF_A_COPY: &[Lead] = &[
 fn a_copy_equals_its_source(rt: HostRuntime) {
     let text = "allow rws fsname=f path='a \"/b' uid=7 gids=50,51 root_squash, allow r";
     let copy = copied(&rt, text);
-    same(&rt, count(&copy), 2, "len");
+    same(&rt, copy.len(), 2, "len");
     lead(&rt, &copy, LEADS_OF_A_COPY);
     let form = written(&rt, &copy);
     same(

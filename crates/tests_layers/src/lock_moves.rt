@@ -1,10 +1,9 @@
 //! Worked runs: what clients want and hold of inodes, and the moves that the locks make for it.
 
 use crate::asserting::{made, present, same};
-use crate::cap_table::{caps, give, open, release, set_want};
-use crate::sessions::{marked, opened_for};
-use crate::tree_steps::{create, unlink};
-use crate::{cap_table, locks, sessions, tree_steps};
+use crate::cap_table::{caps, open, release};
+use crate::sessions::{made as no_sessions, marked, opened_for};
+use crate::tree_steps::{create, made as no_inodes, unlink};
 use capbits::{CapSet, ClientId, Ino, Part};
 use capspec::FsName;
 use captable::CapTable;
@@ -12,16 +11,16 @@ use inotree::Tree;
 use lockmachine::{Locks, Move, Wants, wants_on};
 use locktable::State;
 use sessiontab::Sessions;
-use std::alloc::{AllocError, Global};
+use std::alloc::Global;
 use std::process::Abort;
 
-// What happens before the locks move. A client's user has the client's number.
+// What happens before the locks move, or is seen then. A client's user has the client's number.
 #[derive(Clone, Copy)]
 enum Act {
     // A client connects, with these grants.
     Connect(u32, &'static str),
     Goes(u32),
-    // The next file is made, in the root, with its locks.
+    // The file with this number is made, in the root, with its locks.
     File(u8),
     Unlink(u64),
     // A client wants these of an inode; its entry is made where there is none.
@@ -30,6 +29,8 @@ enum Act {
     Release(u32, u64, &'static str),
     // The locks move until no move applies.
     Settle,
+    // What somebody wants of inode 2, and the loner with what it wants.
+    Wanted(&'static str, Option<(u32, &'static str)>),
 }
 
 use Act::*;
@@ -57,63 +58,30 @@ struct Held {
     locks: Locks,
 }
 
-fn fs_name(rt: &impl Abort) -> FsName {
-    present(rt, FsName::read(b"cephfs"), "the name of the file system")
-}
-
 fn nobody_known(rt: &(impl Abort + AllocGlobal)) -> Known {
-    let sessions = made(rt, sessions::made(rt.alloc()), "sessions");
-    let tree = tree_steps::made(rt);
+    let sessions = made(rt, no_sessions(rt.alloc()), "sessions");
+    let tree = no_inodes(rt);
     Known { tree, sessions }
 }
 
 fn nothing_held(rt: &(impl Abort + AllocGlobal)) -> Held {
-    let table = made(rt, cap_table::made(rt.alloc()), "a table");
-    let locks = made(rt, locks::made(rt.alloc()), "locks");
+    let table = made(rt, CapTable::new(rt.alloc()), "a table");
+    let locks = made(rt, Locks::new(rt.alloc()), "locks");
     Held { table, locks }
 }
 
 fn empty_stage(rt: &(impl Abort + AllocGlobal)) -> Stage {
     let held = nothing_held(rt);
     let known = nobody_known(rt);
-    let fs = fs_name(rt);
+    let fs = present(rt, FsName::read(b"cephfs"), "the name of the file system");
     Stage { fs, known, held }
 }
 
-fn add_file(tree: &mut Tree, locks: &mut Locks, name: u8) -> Result<(), AllocError> {
-    if let Ok(ino) = create(tree, 1, &[name])? {
-        locks.add_ino(Ino(ino))?;
-    }
-    Ok(())
-}
+// What a case shows, and its number.
+type Numbered = (&'static str, usize);
 
-fn connect(
-    alloc: Global,
-    sessions: &mut Sessions,
-    client: u32,
-    grants: &str,
-) -> Result<(), AllocError> {
-    let _refusal = opened_for(alloc, sessions, client, client, grants)?;
-    Ok(())
-}
-
-fn go_stale(sessions: &mut Sessions, client: u32) {
-    let _refusal = marked(sessions, ClientId(client));
-}
-
-fn unlink_file(tree: &mut Tree, ino: u64) {
-    let _answer = unlink(tree, ino);
-}
-
-fn give_back(table: &mut CapTable, client: u32, ino: u64, text: &str) {
-    let _answer = release(table, client, ino, text);
-}
-
-fn want(table: &mut CapTable, client: u32, ino: u64, text: &str) -> Result<(), AllocError> {
-    let _opened = open(table, client, ino)?;
-    set_want(table, client, ino, text);
-    Ok(())
-}
+// Where a test fails: the case, and the number of the act or the move in it.
+type At = (&'static str, usize, usize);
 
 // The next move is made. Nobody waits, so no request is handed out.
 fn make_next(stage: &mut Stage) -> Move {
@@ -127,49 +95,23 @@ fn make_next(stage: &mut Stage) -> Move {
     next
 }
 
-// The moves until none applies, of which no run here has as many as twenty.
-fn settle(alloc: Global, stage: &mut Stage) -> Result<Vec<Move>, AllocError> {
-    let mut moves = Vec::new(alloc);
+// Makes moves until none applies, and answers whether it came to that: no run here has as many as twenty.
+fn settle(stage: &mut Stage) -> bool {
     for _ in 0..20 {
-        match make_next(stage) {
-            Move::Settled => break,
-            next => moves.push(next)?,
+        if matches!(make_next(stage), Move::Settled) {
+            return true;
         }
     }
-    Ok(moves)
+    false
 }
 
-fn come_to_rest(alloc: Global, stage: &mut Stage) -> Result<(), AllocError> {
-    let _moves = settle(alloc, stage)?;
-    Ok(())
-}
-
-// Does what needs no memory.
-fn change(stage: &mut Stage, act: Act) {
-    match act {
-        Goes(client) => go_stale(&mut stage.known.sessions, client),
-        Unlink(ino) => unlink_file(&mut stage.known.tree, ino),
-        Issue(client, ino, text) => give(&mut stage.held.table, client, ino, text),
-        Release(client, ino, text) => give_back(&mut stage.held.table, client, ino, text),
-        Connect(..) | File(_) | Want(..) | Settle => (),
+// A loner, and what it wants.
+fn loner_of(loner: Option<(u32, &str)>) -> Option<(ClientId, CapSet)> {
+    match loner {
+        Some((client, text)) => Some((ClientId(client), caps(text))),
+        None => None,
     }
 }
-
-fn take(alloc: Global, stage: &mut Stage, act: Act) -> Result<(), AllocError> {
-    match act {
-        Connect(client, grants) => connect(alloc, &mut stage.known.sessions, client, grants),
-        File(name) => add_file(&mut stage.known.tree, &mut stage.held.locks, name),
-        Want(client, ino, text) => want(&mut stage.held.table, client, ino, text),
-        Settle => come_to_rest(alloc, stage),
-        _ => {
-            change(stage, act);
-            Ok(())
-        }
-    }
-}
-
-// What was done and is wanted at the end: the moves, what is wanted of inode 2, and whether nothing moves any more.
-type Seen = (Vec<Move>, Wants, Move);
 
 // What is wanted of inode 2.
 fn wants(stage: &Stage) -> Wants {
@@ -182,37 +124,69 @@ fn wants(stage: &Stage) -> Wants {
     )
 }
 
-fn take_all(rt: &impl Abort, alloc: Global, stage: &mut Stage, acts: &[Act]) {
-    for (nth, act) in acts.iter().enumerate() {
-        same(rt, take(alloc, stage, *act), Ok(()), nth);
+fn take(rt: &impl Abort, alloc: Global, stage: &mut Stage, act: Act, at: At) {
+    let (known, held) = (&mut stage.known, &mut stage.held);
+    match act {
+        Connect(client, grants) => {
+            let refusal = opened_for(alloc, &mut known.sessions, client, client, grants);
+            same(rt, refusal, Ok(None), at)
+        }
+        Goes(client) => same(rt, marked(&mut known.sessions, ClientId(client)), None, at),
+        File(name) => {
+            same(
+                rt,
+                create(&mut known.tree, 1, &[name]),
+                Ok(Ok(name as u64)),
+                at,
+            );
+            same(rt, held.locks.add_ino(Ino(name as u64)), Ok(()), at)
+        }
+        Unlink(ino) => same(rt, unlink(&mut known.tree, ino), Ok(0), at),
+        Want(client, ino, text) => {
+            same(rt, open(rt, &mut held.table, client, ino), true, at);
+            held.table.set_want(ClientId(client), Ino(ino), caps(text))
+        }
+        Issue(client, ino, text) => held.table.issue(ClientId(client), Ino(ino), caps(text)),
+        Release(client, ino, text) => {
+            same(rt, release(&mut held.table, client, ino, text), Ok(()), at)
+        }
+        Settle => same(rt, settle(stage), true, at),
+        Wanted(text, loner) => {
+            let (wanted, loner) = (caps(text), loner_of(loner));
+            same(rt, wants(stage), Wants { wanted, loner }, at)
+        }
     }
 }
 
-// Plays the acts behind two clients and a file, and then lets the locks move.
-fn play_on(rt: &impl Abort, alloc: Global, stage: &mut Stage, acts: &[Act]) -> Seen {
-    take_all(rt, alloc, stage, TWO);
-    take_all(rt, alloc, stage, acts);
-    let moves = made(rt, settle(alloc, stage), "moves");
-    let wants = wants(stage);
-    let last = make_next(stage);
-    (moves, wants, last)
+// Does all that a case of this number has.
+fn take_all(rt: &impl Abort, alloc: Global, stage: &mut Stage, acts: &[Act], case: Numbered) {
+    for (nth, act) in acts.iter().enumerate() {
+        take(rt, alloc, stage, *act, (case.0, case.1, nth));
+    }
 }
 
 // A move: the inode, the part, and the state to which a gather begins, or none where one ends.
 type Row = (u64, Part, Option<State>);
 
 fn move_of((ino, part, to): Row) -> Move {
+    let ino = Ino(ino);
     match to {
-        Some(to) => Move::Begin {
-            ino: Ino(ino),
-            part,
-            to,
-        },
-        None => Move::End {
-            ino: Ino(ino),
-            part,
-        },
+        Some(to) => Move::Begin { ino, part, to },
+        None => Move::End { ino, part },
     }
+}
+
+// Sees that the locks make these moves, and no more after them.
+fn moves_are(rt: &impl Abort, stage: &mut Stage, rows: &[Row], (title, number): Numbered) {
+    for (nth, row) in rows.iter().enumerate() {
+        same(rt, make_next(stage), move_of(*row), (title, number, nth));
+    }
+    same(
+        rt,
+        make_next(stage),
+        Move::Settled,
+        (title, number, rows.len()),
+    );
 }
 
 const ALL: &str = "allow rw";
@@ -227,53 +201,24 @@ const WRITER: &str = "pFsxcrwb";
 // Two clients that may do all, and a file.
 const TWO: &[Act] = &[Connect(1, ALL), Connect(2, ALL), File(2)];
 
-// Where a test fails: what its cases show, and the number of the case.
-type At = (&'static str, usize);
-
-fn nth_move(seen: &Seen, nth: usize) -> Option<Move> {
-    seen.0.get(nth).copied()
-}
-
-// Sees that the locks make these moves behind the acts, and no more after them.
-fn moves_are(rt: &impl Abort, seen: &Seen, at: At, rows: &[Row]) {
-    same(rt, seen.0.len(), rows.len(), at);
-    for (nth, row) in rows.iter().enumerate() {
-        same(rt, nth_move(seen, nth), Some(move_of(*row)), at);
-    }
-    same(rt, seen.2, Move::Settled, at);
-}
-
-// A loner, and what it wants.
-fn loner_of(loner: Option<(u32, &str)>) -> Option<(ClientId, CapSet)> {
-    let (client, text) = loner?;
-    Some((ClientId(client), caps(text)))
-}
-
-// Sees what somebody wants of inode 2, and what the loner wants.
-fn wants_are(rt: &impl Abort, seen: &Seen, number: usize, (_, wanted, loner): Wanted) {
-    same(rt, seen.1.wanted, caps(wanted), number);
-    same(rt, seen.1.loner, loner_of(loner), number);
-}
-
-// Plays the acts on a new stage, which is dropped by a call: it has many parts.
-fn played(rt: &(impl Abort + AllocGlobal), acts: &[Act]) -> Seen {
-    let mut stage = empty_stage(rt);
-    let seen = play_on(rt, rt.alloc(), &mut stage, acts);
-    drop(stage);
-    seen
-}
-
 // The acts, and the moves behind them.
 type Case = (&'static [Act], &'static [Row]);
 
 // What some cases show, and the cases.
 type Titled = (&'static str, &'static [Case]);
 
-// Plays each case, and sees that the locks make its moves at the end.
-fn expect_all(rt: &(impl Abort + AllocGlobal), (title, cases): Titled) {
-    for (number, (acts, rows)) in cases.iter().enumerate() {
-        let seen = played(rt, acts);
-        moves_are(rt, &seen, (title, number), rows);
+// Plays a case on a new stage, behind two clients and a file. The stage is dropped by a call: it has many parts.
+fn runs(rt: &(impl Abort + AllocGlobal), (acts, rows): Case, case: Numbered) {
+    let mut stage = empty_stage(rt);
+    take_all(rt, rt.alloc(), &mut stage, TWO, case);
+    take_all(rt, rt.alloc(), &mut stage, acts, case);
+    moves_are(rt, &mut stage, rows, case);
+    drop(stage);
+}
+
+fn run_all(rt: &(impl Abort + AllocGlobal), (title, cases): Titled) {
+    for (number, case) in cases.iter().enumerate() {
+        runs(rt, *case, (title, number));
     }
 }
 
@@ -554,45 +499,72 @@ const MOVES: &[Titled] = &[
 #[test]
 fn locks_move_to_what_is_wanted(rt: HostRuntime) {
     for titled in MOVES {
-        expect_all(&rt, *titled);
+        run_all(&rt, *titled);
     }
 }
 
-// The acts, what somebody wants of the file at the end, and the loner.
-type Wanted = (&'static [Act], &'static str, Option<(u32, &'static str)>);
-
-const WANTED: &[Wanted] = &[
-    (&[], "-", None),
-    (&[Want(1, 2, "p")], "p", None),
-    (&[Want(1, 2, "pFr")], "pFr", Some((1, "pFr"))),
+const WANTED: &[Case] = &[
+    (&[Settle, Wanted("-", None)], &[]),
+    (&[Want(1, 2, "p"), Settle, Wanted("p", None)], &[]),
     (
-        &[Want(1, 2, "p"), Want(2, 2, "pAs")],
-        "pAs",
-        Some((2, "pAs")),
+        &[Want(1, 2, "pFr"), Settle, Wanted("pFr", Some((1, "pFr")))],
+        &[],
     ),
-    (&[Want(1, 2, "pFr"), Want(2, 2, "pAs")], "pAsFr", None),
+    (
+        &[
+            Want(1, 2, "p"),
+            Want(2, 2, "pAs"),
+            Settle,
+            Wanted("pAs", Some((2, "pAs"))),
+        ],
+        &[],
+    ),
+    (
+        &[
+            Want(1, 2, "pFr"),
+            Want(2, 2, "pAs"),
+            Settle,
+            Wanted("pAsFr", None),
+        ],
+        &[],
+    ),
     // Lazy io is permitted to nobody.
-    (&[Want(1, 2, "pFra")], "pFr", Some((1, "pFr"))),
-    (&[Want(1, 2, "pFa")], "p", None),
     (
-        &[Connect(3, READ), Want(3, 2, WRITER)],
-        "pFscr",
-        Some((3, "pFscr")),
+        &[Want(1, 2, "pFra"), Settle, Wanted("pFr", Some((1, "pFr")))],
+        &[],
+    ),
+    (&[Want(1, 2, "pFa"), Settle, Wanted("p", None)], &[]),
+    (
+        &[
+            Connect(3, READ),
+            Want(3, 2, WRITER),
+            Settle,
+            Wanted("pFscr", Some((3, "pFscr"))),
+        ],
+        &[],
     ),
     (
-        &[Want(1, 2, WRITER), Want(2, 2, "pAs"), Goes(1)],
-        "pAs",
-        Some((2, "pAs")),
+        &[
+            Want(1, 2, WRITER),
+            Want(2, 2, "pAs"),
+            Goes(1),
+            Settle,
+            Wanted("pAs", Some((2, "pAs"))),
+        ],
+        &[],
     ),
-    (&[Want(1, 2, WRITER), Unlink(2)], "p", None),
+    (
+        &[Want(1, 2, WRITER), Unlink(2), Settle, Wanted("p", None)],
+        &[],
+    ),
     // Another inode's wants are not this one's.
-    (&[File(3), Want(1, 3, WRITER)], "-", None),
+    (
+        &[File(3), Want(1, 3, WRITER), Settle, Wanted("-", None)],
+        &[],
+    ),
 ];
 
 #[test]
 fn wants_count_as_far_as_they_are_permitted(rt: HostRuntime) {
-    for (number, case) in WANTED.iter().enumerate() {
-        let seen = played(&rt, case.0);
-        wants_are(&rt, &seen, number, *case);
-    }
+    run_all(&rt, ("wants count as far as permitted", WANTED));
 }

@@ -9,26 +9,12 @@ const HOLDER: ClientId = ClientId(1);
 
 const OTHER: ClientId = ClientId(2);
 
-// Small readers: what a call promises stays behind in them.
-
-fn set_of(caps: &[Cap]) -> CapSet {
-    CapSet::of(caps)
-}
-
-fn row_of(part: Part, state: State) -> CapSet {
-    row(part, state, HOLDER)
-}
-
-fn allowed_to(part: Part, lock: LockState, client: ClientId) -> CapSet {
-    allowed(part, lock, client)
-}
-
 // Sees what client 1 may hold of a part in a state.
 fn has_cell(rt: &impl Abort, part: Part, state: State, caps: &[Cap]) {
-    let (held, stable) = (set_of(caps), LockState::Stable(state));
-    same(rt, row_of(part, state), held, (part, state));
-    let found = allowed_to(part, stable, HOLDER);
-    same(rt, found, held, (part, stable));
+    let held = CapSet::of(caps);
+    let stable = LockState::Stable(state);
+    let found = (row(part, state, HOLDER), allowed(part, stable, HOLDER));
+    same(rt, found, (held, held), (part, state));
 }
 
 // Sees what client 1 may hold of A, L, X and F in a state.
@@ -76,10 +62,9 @@ type Gather = (Part, State, State, &'static [Cap], &'static [Cap]);
 
 fn gather_has(rt: &impl Abort, (part, from, to, mine, theirs): Gather) {
     let lock = LockState::Gather { from, to };
-    let held = allowed_to(part, lock, HOLDER);
-    same(rt, held, set_of(mine), (part, lock, HOLDER));
-    let held = allowed_to(part, lock, OTHER);
-    same(rt, held, set_of(theirs), (part, lock, OTHER));
+    let found = (allowed(part, lock, HOLDER), allowed(part, lock, OTHER));
+    let held = (CapSet::of(mine), CapSet::of(theirs));
+    same(rt, found, held, (part, lock));
 }
 
 fn gathers_have(rt: &impl Abort, gathers: &[Gather]) {

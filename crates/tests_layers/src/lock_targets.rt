@@ -11,27 +11,6 @@ const TWO: ClientId = ClientId(2);
 
 const OWN: State = State::Excl(ONE);
 
-// Small readers: what a call promises stays behind in them.
-
-fn set_of(caps: &[Cap]) -> CapSet {
-    CapSet::of(caps)
-}
-
-fn is_served(state: State, head: Head) -> bool {
-    serves(state, head)
-}
-
-// Where a lock goes for a request at the head, and for what a loner and all clients want.
-fn goal(
-    part: Part,
-    state: State,
-    head: Head,
-    loner: Option<(ClientId, CapSet)>,
-    all: CapSet,
-) -> State {
-    target(part, state, head, loner, all)
-}
-
 // A state, a request at the head, and whether the state serves it. None serves an empty queue.
 const SERVED: &[(State, Head, bool)] = &[
     (State::Sync, Head::Change, false),
@@ -56,19 +35,16 @@ const SERVED: &[(State, Head, bool)] = &[
 fn what_each_state_serves(rt: HostRuntime) {
     for row in SERVED {
         let (state, head, wanted) = *row;
-        same(&rt, is_served(state, head), wanted, (state, head));
+        same(&rt, serves(state, head), wanted, (state, head));
     }
 }
 
-// Sees where a request at the head sends a lock, with a loner and without, of whatever part.
-fn is_sent(rt: &impl Abort, (state, head, to): (State, Head, State)) {
-    let writes = set_of(&[Cap::P, Cap::Ax, Cap::Fx, Cap::Fw, Cap::Fb]);
-    for part in [Part::A, Part::F] {
-        for loner in [None, Some((TWO, writes))] {
-            let reached = goal(part, state, head, loner, writes);
-            same(rt, reached, to, (part, state, head));
-        }
-    }
+// Sees where a request at the head sends the lock of a part, with a loner and without.
+fn is_sent(rt: &impl Abort, part: Part, (state, head, to): (State, Head, State)) {
+    let writes = CapSet::of(&[Cap::P, Cap::Ax, Cap::Fx, Cap::Fw, Cap::Fb]);
+    let alone = target(part, state, head, Some((TWO, writes)), writes);
+    let reached = target(part, state, head, None, writes);
+    same(rt, (reached, alone), (to, to), (part, state, head));
 }
 
 const SENT: &[(State, Head, State)] = &[
@@ -85,7 +61,8 @@ const SENT: &[(State, Head, State)] = &[
 #[test]
 fn a_request_at_the_head_decides(rt: HostRuntime) {
     for row in SENT {
-        is_sent(&rt, *row);
+        is_sent(&rt, Part::A, *row);
+        is_sent(&rt, Part::F, *row);
     }
 }
 
@@ -95,10 +72,10 @@ type Wanted = (Part, &'static [Cap], Option<State>);
 // Sees where the lock of a part goes from each of these states, with an empty queue, for what client 1 wants of it
 // alone, or several clients together.
 fn goes(rt: &impl Abort, (part, caps, to): Wanted, is_alone: bool, states: &[State]) {
-    let wants = set_of(caps);
+    let wants = CapSet::of(caps);
     for state in states {
         let loner = is_alone.then_some((ONE, wants));
-        let reached = goal(part, *state, Head::Empty, loner, wants);
+        let reached = target(part, *state, Head::Empty, loner, wants);
         let place = (part, caps, is_alone, *state);
         same(rt, reached, to.unwrap_or(*state), place);
     }

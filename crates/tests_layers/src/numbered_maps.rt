@@ -1,9 +1,9 @@
 //! Maps by number: what they have, and show, beside a tree map that takes the same steps.
 
-use crate::asserting::same;
+use crate::asserting::{made, same};
 use crate::texts::{line_of, lines_of};
 use numbered::Numbered;
-use std::alloc::{AllocError, Global};
+use std::alloc::Global;
 use std::collections::BTreeMap;
 use std::process::Abort;
 
@@ -31,11 +31,11 @@ impl Both {
     }
 
     // Takes the step in both, in which the value is used.
-    fn take(&mut self, step: Step, value: u64) -> Result<(), AllocError> {
+    fn take(&mut self, rt: &impl Abort, step: Step, value: u64) {
         match step {
             Step::Insert(number) => {
-                self.numbered.insert(number, value)?;
-                self.tree.insert(number, value)?;
+                made(rt, self.numbered.insert(number, value), value);
+                let _before = made(rt, self.tree.insert(number, value), value);
             }
             Step::Write(number) => {
                 write(self.numbered.get_mut(number), value);
@@ -46,15 +46,13 @@ impl Both {
                 self.tree.remove(&number);
             }
         }
-        Ok(())
     }
 
     // Sees that both have and show the same; the number is one to look up.
     fn agree(&self, rt: &impl Abort, alloc: Global, number: u64, at: u64) {
         let (numbered, tree) = (&self.numbered, &self.tree);
         same(rt, numbered.len(), tree.len(), ("len", at));
-        let (found, wanted) = (numbered.get(number).copied(), tree.get(&number).copied());
-        same(rt, found, wanted, ("get", at));
+        same(rt, numbered.get(number), tree.get(&number), ("get", at));
         let (line, wanted) = (line_of(rt, alloc, numbered), line_of(rt, alloc, tree));
         same(rt, line, wanted, ("one line", at));
         let (lines, wanted) = (lines_of(rt, alloc, numbered), lines_of(rt, alloc, tree));
@@ -94,10 +92,10 @@ fn run(rt: &impl Abort, alloc: Global, apart: u64) {
     let mut both = Both::new(alloc);
     both.agree(rt, alloc, 1, 0);
     for time in 0..3 * NUMBERS - 2 {
-        same(rt, both.take(step_at(time, apart), time), Ok(()), time);
+        both.take(rt, step_at(time, apart), time);
         both.agree(rt, alloc, number_at(time + 1, apart), time);
     }
-    same(rt, both.take(Step::Insert(7), 7), Ok(()), 7);
+    both.take(rt, Step::Insert(7), 7);
     both.agree(rt, alloc, 7, 3 * NUMBERS);
 }
 

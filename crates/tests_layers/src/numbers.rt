@@ -2,14 +2,6 @@
 
 use crate::asserting::{made, same};
 use capbits::{ClientId, Ino, Mode, PassId, Ticket, read_mode, read_u32, read_u64};
-use std::alloc::{AllocError, Global};
-use std::process::Abort;
-
-// Sees what number a text writes, if it has to fit 32 bits and if it has to fit 64.
-fn reads_as(rt: &impl Abort, text: &str, short: Option<u32>, long: Option<u64>) {
-    same(rt, read_u32(text.as_bytes()), short, ("32 bits", text));
-    same(rt, read_u64(text.as_bytes()), long, ("64 bits", text));
-}
 
 // Texts, and the numbers of 32 and of 64 bits that they write.
 const NUMBERS: &[(&str, Option<u32>, Option<u64>)] = &[
@@ -36,13 +28,16 @@ const NUMBERS: &[(&str, Option<u32>, Option<u64>)] = &[
 fn reads_decimal_numbers(rt: HostRuntime) {
     for row in NUMBERS {
         let (text, short, long) = *row;
-        reads_as(&rt, text, short, long);
+        let found = (read_u32(text.as_bytes()), read_u64(text.as_bytes()));
+        same(&rt, found, (short, long), text);
     }
 }
 
-// The bits of the mode that a text writes.
-fn mode_bits(text: &str) -> Option<u16> {
-    read_mode(text.as_bytes()).map(Mode::bits)
+fn bits_of(mode: Option<Mode>) -> Option<u16> {
+    match mode {
+        Some(mode) => Some(mode.bits()),
+        None => None,
+    }
 }
 
 // Texts, and the bits of the modes that they write.
@@ -64,13 +59,8 @@ const MODES: &[(&str, Option<u16>)] = &[
 fn reads_octal_modes(rt: HostRuntime) {
     for row in MODES {
         let (text, bits) = *row;
-        same(&rt, mode_bits(text), bits, text);
+        same(&rt, bits_of(read_mode(text.as_bytes())), bits, text);
     }
-}
-
-// The bits of the mode with these bits.
-fn kept_bits(bits: u16) -> Option<u16> {
-    Mode::new(bits).map(Mode::bits)
 }
 
 // Numbers, and the bits of the modes that have them.
@@ -86,19 +76,16 @@ const KEPT: &[(u16, Option<u16>)] = &[
 fn a_mode_has_at_most_twelve_bits(rt: HostRuntime) {
     for row in KEPT {
         let (bits, wanted) = *row;
-        same(&rt, kept_bits(bits), wanted, bits);
+        same(&rt, bits_of(Mode::new(bits)), wanted, bits);
     }
-}
-
-// Four ids as a text, the last one in four places.
-fn text_of_ids(alloc: Global) -> Result<String, AllocError> {
-    let (client, ino, ticket, pass) = (ClientId(7), Ino(u64::MAX), Ticket(0), PassId(32));
-    format!(in alloc; "{client} {ino} {ticket} {pass:>4}")
 }
 
 #[test]
 fn ids_print_in_decimal(rt: HostRuntime) {
-    let text = made(&rt, text_of_ids(rt.alloc()), "a text");
+    let (client, ino, ticket, pass) = (ClientId(7), Ino(u64::MAX), Ticket(0), PassId(32));
+    // The last one in four places.
+    let text = format!(in rt.alloc(); "{client} {ino} {ticket} {pass:>4}");
+    let text = made(&rt, text, "a text");
     same(
         &rt,
         text.as_str(),

@@ -1,11 +1,11 @@
 //! What grants permit to hold, and the list of rules in a denial. Which access they allow is asked in the talks of `casebook`.
 
-use crate::asserting::{holds, made, same};
+use crate::asserting::{made, present, same};
 use crate::texts::grants_of;
 use arrayvec::ArrayVec;
-use capbits::{Caller, CapBytes, Groups, Mode, write_caps};
+use capbits::{Caller, Groups, Mode, write_caps};
 use capgrant::{Attr, Rule, Rules, permitted};
-use capspec::{FsName, Grants};
+use capspec::FsName;
 use std::process::Abort;
 
 // A caller's uid, gid and further groups.
@@ -30,33 +30,12 @@ fn caller(rt: &impl Abort, (uid, gid, groups): Who) -> Caller {
     }
 }
 
-/// Whom is permitted what: grants on the file system `cephfs`, who asks, and the inode's attributes.
-#[derive(Drop)]
-struct Scene {
-    grants: Grants,
-    fs: FsName,
-    caller: Caller,
-    attr: Attr,
-}
-
-// What a scene is made of, each by itself: a call's promises stay behind in these.
-
-fn fs_name(rt: &impl Abort) -> FsName {
-    FsName::read(b"cephfs").expect(rt, "a name")
-}
-
 fn attr_of(rt: &impl Abort, owner: u32, bits: u16) -> Attr {
     let mode = Mode::new(bits).expect(rt, "a mode");
     Attr {
         uid: owner,
         gid: 50,
         mode,
-    }
-}
-
-impl Scene {
-    fn permitted(&self) -> CapBytes {
-        write_caps(permitted(&self.grants, &self.fs, &self.caller, B_X, &self.attr))
     }
 }
 
@@ -67,35 +46,20 @@ fn two_rules() -> Rules {
     Rules::from(given)
 }
 
-fn count(rules: &Rules) -> usize {
-    rules.len()
-}
-
-fn is_empty(rules: &Rules) -> bool {
-    rules.is_empty()
-}
-
-fn greatest(rules: &Rules) -> Option<u8> {
-    rules.iter().copied().map(Rule::number).max()
-}
-
-fn are(rt: &impl Abort, rules: &[Rule], wanted: &[Rule], place: &str) {
-    same(rt, rules, wanted, place);
-}
-
-fn given_back_are(rt: &impl Abort, rules: Rules, wanted: &[Rule]) {
-    are(rt, rules.into_inner().as_slice(), wanted, "into_inner");
+// How many rules there are, whether there are none, and the greatest number of one.
+fn sizes(rules: &Rules) -> (usize, bool, Option<u8>) {
+    let greatest = rules.iter().copied().map(Rule::number).max();
+    (rules.len(), rules.is_empty(), greatest)
 }
 
 #[test]
 fn a_list_of_rules_gives_its_vector_back(rt: HostRuntime) {
     let rules = two_rules();
-    let wanted = [Rule::Path, Rule::NoWrite];
-    same(&rt, count(&rules), 2, "len");
-    holds(&rt, !is_empty(&rules), "is_empty");
-    are(&rt, rules.as_slice(), &wanted, "as_slice");
-    same(&rt, greatest(&rules), Some(5), "iter");
-    given_back_are(&rt, rules, &wanted);
+    let wanted: &[Rule] = &[Rule::Path, Rule::NoWrite];
+    same(&rt, sizes(&rules), (2, false, Some(5)), "sizes");
+    same(&rt, rules.as_slice(), wanted, "as_slice");
+    let given = rules.into_inner();
+    same(&rt, given.as_slice(), wanted, "into_inner");
 }
 
 // All that a client may hold: nothing, for reading, for writing, and for both.
@@ -125,15 +89,12 @@ const PERMITTED: &[(&str, Who, u32, u16, &str)] = &[
     ("allow rw uid=9", ANA, 9, 0o200, WRITES),
 ];
 
-// Sees what the grants permit to hold.
+// Sees what the grants permit to hold on the file system `cephfs`.
 fn permit(rt: &(impl Abort + AllocGlobal), grants: &str, who: Who, attr: Attr, wanted: &str) {
-    let scene = Scene {
-        grants: grants_of(rt, grants.as_bytes()),
-        fs: fs_name(rt),
-        caller: caller(rt, who),
-        attr,
-    };
-    let found = scene.permitted();
+    let fs = present(rt, FsName::read(b"cephfs"), "a name");
+    let caller = caller(rt, who);
+    let given = grants_of(rt, grants.as_bytes());
+    let found = write_caps(permitted(&given, &fs, &caller, B_X, &attr));
     same(rt, found.as_slice(), wanted.as_bytes(), (grants, who));
 }
 

@@ -1,9 +1,8 @@
 //! The queue: who waits has a number, and no more wait than may.
 
 use crate::asserting::{made, same};
-use crate::locks;
 use capbits::{ClientId, Ino, Part, Refusal, Ticket};
-use lockmachine::{Ask, Locks, MAX_WAITING, Move, Request};
+use lockmachine::{Ask, Locks, MAX_WAITING, Move};
 use std::alloc::Global;
 use std::process::Abort;
 
@@ -12,6 +11,8 @@ use std::process::Abort;
 enum Step {
     // A client asks for a part of an inode, where it may: the number under which its request waits.
     Enqueue(u32, u64, Result<u64, Refusal>),
+    // As many wait as may: the client with each number from 1 on asks for an inode of ten times that.
+    Fill,
     // The request with this number is served, if one waits under it: its number, its client and its inode.
     Serve(u64, Option<(u64, u32, u64)>),
 }
@@ -30,22 +31,25 @@ fn enqueue(locks: &mut Locks, client: u32, ino: u64) -> Result<u64, Refusal> {
     Ok(ticket.0)
 }
 
-fn handed(request: &Request) -> (u64, u32, u64) {
-    (request.ticket.0, request.client.0, request.ino.0)
+fn serve(locks: &mut Locks, ticket: u64) -> Option<(u64, u32, u64)> {
+    match locks.apply_move(Move::Serve(Ticket(ticket))) {
+        Some(request) => Some((request.ticket.0, request.client.0, request.ino.0)),
+        None => None,
+    }
 }
 
-fn serve(locks: &mut Locks, ticket: u64) -> Option<(u64, u32, u64)> {
-    let request = locks.apply_move(Move::Serve(Ticket(ticket)))?;
-    let answer = handed(&request);
-    drop(request);
-    Some(answer)
+fn fill(rt: &impl Abort, locks: &mut Locks) {
+    for number in 1..1025u64 {
+        let ticket = enqueue(locks, number as u32, number * 10);
+        same(rt, ticket, Ok(number), number);
+    }
 }
 
 // A step, how many wait behind it, and the last number that was given.
 type Round = (Step, usize, u64);
 
-// What a case shows, whether as many wait before it as may, and its rounds.
-type Case = (&'static str, bool, &'static [Round]);
+// What a case shows, and its rounds.
+type Case = (&'static str, &'static [Round]);
 
 // Where a test fails: the case, and the number of the round.
 type At = (&'static str, usize);
@@ -53,31 +57,21 @@ type At = (&'static str, usize);
 fn play(rt: &impl Abort, locks: &mut Locks, at: At, (step, waiting, last): Round) {
     match step {
         Enqueue(client, ino, want) => same(rt, enqueue(locks, client, ino), want, at),
+        Fill => fill(rt, locks),
         Serve(ticket, want) => same(rt, serve(locks, ticket), want, at),
     }
-    same(rt, locks.waiting(), waiting, at);
-    same(rt, locks.last(), last, at);
+    same(rt, (locks.waiting(), locks.last()), (waiting, last), at);
 }
 
-// As many wait as may: the client with each number from 1 on asks for an inode of ten times that.
-fn fill(rt: &impl Abort, locks: &mut Locks) {
-    for number in 1..=1024u32 {
-        let ticket = u64::from(number);
-        same(rt, enqueue(locks, number, ticket * 10), Ok(ticket), number);
-    }
-}
-
-fn runs(rt: &impl Abort, alloc: Global, (title, is_full, rounds): Case) {
-    let mut locks = made(rt, locks::made(alloc), title);
-    if is_full {
-        fill(rt, &mut locks);
-    }
+fn runs(rt: &impl Abort, alloc: Global, (title, rounds): Case) {
+    let mut locks = made(rt, Locks::new(alloc), title);
     for (number, round) in rounds.iter().enumerate() {
         play(rt, &mut locks, (title, number), *round);
     }
 }
 
 const A_FULL_QUEUE: &[Round] = &[
+    (Fill, MAX_WAITING, 1024),
     (Enqueue(1, 2, Err(Refusal::Limit)), MAX_WAITING, 1024),
     (Serve(1025, None), 1024, 1024),
     (Serve(7, Some((7, 7, 70))), 1023, 1024),
@@ -104,8 +98,8 @@ const A_FEW: &[Round] = &[
 ];
 
 const CASES: &[Case] = &[
-    ("no more than 1024 requests wait", true, A_FULL_QUEUE),
-    ("who waits is served by number", false, A_FEW),
+    ("no more than 1024 requests wait", A_FULL_QUEUE),
+    ("who waits is served by number", A_FEW),
 ];
 
 #[test]

@@ -1,14 +1,11 @@
 //! A long run of a table of capabilities: many calls beside a plain list.
 
-use crate::asserting::same;
-use crate::cap_table::{
-    ask, caps, drop_client, leave, made, open, renumber, set_want, skip_quiet, tell, touch,
-};
+use crate::asserting::{made, same};
+use crate::cap_table::{caps, leave, open, renumber};
 use crate::random::number;
 use capbits::{CapSet, ClientId, Ino};
 use captable::{CapTable, Holder, Walk};
-use std::alloc::{AllocError, Global};
-use std::test::Fail;
+use std::process::Abort;
 
 // How many calls are made, of how many clients and on how many inodes.
 const CALLS: u32 = 100_000;
@@ -57,22 +54,19 @@ fn call_of(kind: u32) -> Call {
     }
 }
 
-fn call_table(table: &mut CapTable, call: Call, holder: Holder) -> Result<(), AllocError> {
-    let (client, ino) = (holder.client.0, holder.ino.0);
+fn call_table(rt: &impl Abort, table: &mut CapTable, call: Call, holder: Holder) {
+    let (client, ino) = (holder.client, holder.ino);
     match call {
-        Open => {
-            let _opened = open(table, client, ino)?;
-        }
-        Touch => touch(table, client, ino),
-        Want(text) => set_want(table, client, ino, text),
-        Ask(asked) => ask(table, client, ino, asked),
-        Change => renumber(table, client, ino, "-", "p"),
-        Tell => tell(table, client, ino),
-        SkipQuiet => skip_quiet(table, client),
-        Leave => leave(table, client, ino),
-        DropClient => drop_client(table, client),
+        Open => same(rt, open(rt, table, client.0, ino.0), true, holder),
+        Touch => table.touch(client, ino),
+        Want(text) => table.set_want(client, ino, caps(text)),
+        Ask(asked) => table.ask(client, ino, asked),
+        Change => renumber(table, client.0, ino.0, "-", "p"),
+        Tell => table.tell(client, ino),
+        SkipQuiet => table.skip_quiet(client),
+        Leave => leave(table, client.0, ino.0),
+        DropClient => table.drop_client(client),
     }
-    Ok(())
 }
 
 // ---- the same with a plain list
@@ -93,22 +87,17 @@ struct Plain {
     recall: Vec<Holder>,
 }
 
-fn new_row(holder: Holder) -> Row {
-    Row {
+fn add(rt: &impl Abort, plain: &mut Plain, holder: Holder) {
+    let row = Row {
         holder,
         want: CapSet::empty(),
         asked: false,
         untold: false,
+    };
+    if !plain.recall.contains(&holder) {
+        made(rt, plain.rows.push(row), holder);
+        made(rt, plain.recall.push(holder), holder);
     }
-}
-
-fn add(plain: &mut Plain, holder: Holder) -> Result<(), AllocError> {
-    if plain.recall.contains(&holder) {
-        return Ok(());
-    }
-    plain.rows.push(new_row(holder))?;
-    plain.recall.push(holder)?;
-    Ok(())
 }
 
 // Whether an entry goes where this holder leaves, or where all entries of its client go.
@@ -125,13 +114,11 @@ fn remove(plain: &mut Plain, leaver: Holder, all: bool) {
     forget(&mut plain.recall, leaver, all);
 }
 
-fn move_last(recall: &mut Vec<Holder>, holder: Holder) -> Result<(), AllocError> {
-    if !recall.contains(&holder) {
-        return Ok(());
+fn move_last(rt: &impl Abort, recall: &mut Vec<Holder>, holder: Holder) {
+    if recall.contains(&holder) {
+        forget(recall, holder, false);
+        made(rt, recall.push(holder), holder);
     }
-    forget(recall, holder, false);
-    recall.push(holder)?;
-    Ok(())
 }
 
 fn changed(row: Row, call: Call) -> Row {
@@ -154,15 +141,14 @@ fn change(rows: &mut Vec<Row>, call: Call, holder: Holder) {
     }
 }
 
-fn call_plain(plain: &mut Plain, call: Call, holder: Holder) -> Result<(), AllocError> {
+fn call_plain(rt: &impl Abort, plain: &mut Plain, call: Call, holder: Holder) {
     match call {
-        Open => add(plain, holder)?,
-        Touch => move_last(&mut plain.recall, holder)?,
+        Open => add(rt, plain, holder),
+        Touch => move_last(rt, &mut plain.recall, holder),
         Leave => remove(plain, holder, false),
         DropClient => remove(plain, holder, true),
         Want(_) | Ask(_) | Change | Tell | SkipQuiet => change(&mut plain.rows, call, holder),
     }
-    Ok(())
 }
 
 // ---- what is seen in both
@@ -187,9 +173,12 @@ fn entries_agree(table: &CapTable, rows: &[Row], client: ClientId) -> bool {
 // The next entry of a walk that is due.
 fn next_due(walk: &mut Walk<'_>) -> Option<Holder> {
     for _ in 0..INODES {
-        let row = walk.next()?;
-        if row.entry.asked || row.entry.told_seq < row.entry.seq {
-            return Some(row.holder);
+        match walk.next() {
+            Some(row) if row.entry.asked || row.entry.told_seq < row.entry.seq => {
+                return Some(row.holder);
+            }
+            Some(_) => (),
+            None => return None,
         }
     }
     None
@@ -243,32 +232,27 @@ fn holder(seed: &mut u64) -> Holder {
 }
 
 // Makes the calls, and answers after which one the two differ.
-fn differ(table: &mut CapTable, plain: &mut Plain) -> Result<Option<u32>, AllocError> {
+fn differ(rt: &impl Abort, table: &mut CapTable, plain: &mut Plain) -> Option<u32> {
     let mut seed = 20_260_801;
     for made in 0..CALLS {
         let call = call_of(number(&mut seed, 60));
         let holder = holder(&mut seed);
-        call_table(table, call, holder)?;
-        call_plain(plain, call, holder)?;
+        call_table(rt, table, call, holder);
+        call_plain(rt, plain, call, holder);
         if made % COMPARED == 0 && !agree(table, plain, holder) {
-            return Ok(Some(made));
+            return Some(made);
         }
     }
-    Ok(None)
-}
-
-fn run(alloc: Global) -> Result<Option<u32>, AllocError> {
-    let mut table = made(alloc)?;
-    let mut plain = Plain {
-        rows: Vec::new(alloc),
-        recall: Vec::new(alloc),
-    };
-    differ(&mut table, &mut plain)
+    None
 }
 
 #[test]
-fn walks_are_those_of_a_plain_list(rt: HostRuntime) -> Result<(), Fail> {
-    let differ = run(rt.alloc())?;
+fn walks_are_those_of_a_plain_list(rt: HostRuntime) {
+    let mut table = made(&rt, CapTable::new(rt.alloc()), "a table");
+    let mut plain = Plain {
+        rows: Vec::new(rt.alloc()),
+        recall: Vec::new(rt.alloc()),
+    };
+    let differ = differ(&rt, &mut table, &mut plain);
     same(&rt, differ, None, "the number of the call");
-    Ok(())
 }

@@ -2,24 +2,20 @@
 
 use crate::asserting::made;
 use capspec::{Grants, read_grants, write_grants};
-use std::alloc::{AllocError, Global};
+use std::alloc::Global;
 use std::fmt::{Debug, Display};
 use std::process::Abort;
 
 /// A text that is `part`, so many times, between `head` and `tail`.
 pub type Long<'a> = (&'a str, &'a str, usize, &'a str);
 
-fn text_of(alloc: Global, (head, part, times, tail): Long) -> Result<String, AllocError> {
-    let parts = part.repeat(alloc, times)?;
-    format!(in alloc; "{head}{parts}{tail}")
-}
-
 /// The text of these parts.
-pub fn long_text(rt: &(impl Abort + AllocGlobal), long: Long) -> String {
-    made(rt, text_of(rt.alloc(), long), "a long text")
+pub fn long_text(rt: &(impl Abort + AllocGlobal), (head, part, times, tail): Long) -> String {
+    let parts = made(rt, part.repeat(rt.alloc(), times), part);
+    made(rt, format!(in rt.alloc(); "{head}{parts}{tail}"), part)
 }
 
-/// What a value prints.
+// What a value prints.
 pub fn shown(rt: &impl Abort, alloc: Global, value: impl Display + Drop) -> String {
     made(rt, format!(in alloc; "{value}"), "a text")
 }
