@@ -1,4 +1,4 @@
 use Rattle.tests_layers.proofs.triple_lists.runs.Given as goal
 
 abbrev pub ghosts-counted : goal.ghosts-counted
-ghosts-counted a = record { name = a.blank.name; parts = a.blank.parts }
+ghosts-counted g a = record { name = a.blank.name; parts = a.blank.parts }
