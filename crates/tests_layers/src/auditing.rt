@@ -3,7 +3,7 @@
 use crate::asserting::{made, present, same};
 use crate::texts::grants_of;
 use capaudit::{Conflict, Finding, Holding, Inode, beyond, conflicts};
-use capbits::{CapSet, Mode, read_caps, write_caps};
+use capbits::{CapSet, Mode, read_caps};
 use capgrant::{Access, Attr, Rule};
 use capspec::FsName;
 use std::process::Abort;
@@ -125,13 +125,8 @@ fn audited(
 fn see(rt: &impl Abort, found: Option<Finding>, (caps, missing, rules): Found, place: &str) {
     match found {
         Some(found) => {
-            same(
-                rt,
-                write_caps(found.caps).as_slice(),
-                caps.as_bytes(),
-                place,
-            );
-            same(rt, found.missing, missing, place);
+            let held = (found.caps, found.missing);
+            same(rt, held, (caps_of(rt, caps), missing), place);
             same(rt, found.rules.as_slice(), rules, place);
         }
         None => same(rt, "-", caps, place),

@@ -95,21 +95,23 @@ pub(crate) fn caps(text: &str) -> CapSet {
 
 // ---- what is done
 
-// Makes the entry where there is none. Answers whether there was room for one.
-pub(crate) fn open(rt: &impl Abort, table: &mut CapTable, client: u32, ino: u64) -> bool {
+// Makes the entry where there is none. Answers whether there is one then.
+pub(crate) fn open(table: &mut CapTable, client: u32, ino: u64) -> bool {
     let (client, ino) = (ClientId(client), Ino(ino));
-    if table.open_refusal().is_some() || table.made() == u64::MAX {
-        return false;
+    let refusal = table.open_refusal();
+    match table.find(client, ino) {
+        Some(_entry) => true,
+        None if refusal.is_none() && table.made() < u64::MAX => {
+            table.open_entry(client, ino).is_ok()
+        }
+        None => false,
     }
-    if table.find(client, ino).is_none() {
-        made(rt, table.open_entry(client, ino), (client, ino));
-    }
-    true
 }
 
-fn fill(rt: &impl Abort, table: &mut CapTable) {
+// Opens as many entries as there may be, of 64 clients.
+fn fill(table: &mut CapTable) {
     for n in 0..MAX_ENTRIES {
-        open(rt, table, (n % 64) as u32, (n / 64) as u64);
+        open(table, (n % 64) as u32, (n / 64) as u64);
     }
 }
 
@@ -161,8 +163,8 @@ fn are(rt: &impl Abort, found: Result<Holders, AllocError>, want: Places, at: At
 
 fn change(rt: &impl Abort, table: &mut CapTable, act: Act, at: At) {
     match act {
-        Open(client, ino) => same(rt, open(rt, table, client, ino), true, at),
-        Fill => fill(rt, table),
+        Open(client, ino) => same(rt, open(table, client, ino), true, at),
+        Fill => fill(table),
         Want(client, want) => table.set_want(ClientId(client), Ino(2), caps(want)),
         Give(client, held) => table.issue(ClientId(client), Ino(2), caps(held)),
         Renumber(client, before, after) => renumber(table, client, 2, before, after),

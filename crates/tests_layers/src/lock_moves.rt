@@ -143,7 +143,7 @@ fn take(rt: &impl Abort, alloc: Global, stage: &mut Stage, act: Act, at: At) {
         }
         Unlink(ino) => same(rt, unlink(&mut known.tree, ino), Ok(0), at),
         Want(client, ino, text) => {
-            same(rt, open(rt, &mut held.table, client, ino), true, at);
+            same(rt, open(&mut held.table, client, ino), true, at);
             held.table.set_want(ClientId(client), Ino(ino), caps(text))
         }
         Issue(client, ino, text) => held.table.issue(ClientId(client), Ino(ino), caps(text)),

@@ -67,31 +67,17 @@ fn gather_has(rt: &impl Abort, (part, from, to, mine, theirs): Gather) {
     same(rt, found, held, (part, lock));
 }
 
-fn gathers_have(rt: &impl Abort, gathers: &[Gather]) {
-    for gather in gathers {
-        gather_has(rt, *gather);
-    }
-}
-
 const OWN: State = State::Excl(HOLDER);
 
 const LAZY: &[Cap] = &[Cap::Fr, Cap::Fl];
 
-const FILE_GATHERS: &[Gather] = &[
+const GATHERS: &[Gather] = &[
     (Part::F, OWN, State::Mix, &[Cap::Fr, Cap::Fw], &[]),
     (Part::F, OWN, State::Sync, &[Cap::Fs, Cap::Fc, Cap::Fr], &[]),
     (Part::F, OWN, State::Excl(OTHER), &[], &[]),
     (Part::F, State::Sync, State::Mix, LAZY, LAZY),
     (Part::F, State::Mix, State::Sync, LAZY, LAZY),
     (Part::F, State::Mix, State::Lock, &[], &[]),
-];
-
-#[test]
-fn a_gather_of_a_file_allows_what_both_rows_have(rt: HostRuntime) {
-    gathers_have(&rt, FILE_GATHERS);
-}
-
-const METADATA_GATHERS: &[Gather] = &[
     (Part::A, State::Sync, OWN, &[Cap::As], &[]),
     (Part::A, OWN, State::Sync, &[Cap::As], &[]),
     (Part::A, State::Sync, State::Lock, &[], &[]),
@@ -99,6 +85,8 @@ const METADATA_GATHERS: &[Gather] = &[
 ];
 
 #[test]
-fn a_gather_of_metadata_allows_what_both_rows_have(rt: HostRuntime) {
-    gathers_have(&rt, METADATA_GATHERS);
+fn a_gather_allows_what_both_rows_have(rt: HostRuntime) {
+    for gather in GATHERS {
+        gather_has(&rt, *gather);
+    }
 }

@@ -57,7 +57,7 @@ fn call_of(kind: u32) -> Call {
 fn call_table(rt: &impl Abort, table: &mut CapTable, call: Call, holder: Holder) {
     let (client, ino) = (holder.client, holder.ino);
     match call {
-        Open => same(rt, open(rt, table, client.0, ino.0), true, holder),
+        Open => same(rt, open(table, client.0, ino.0), true, holder),
         Touch => table.touch(client, ino),
         Want(text) => table.set_want(client, ino, caps(text)),
         Ask(asked) => table.ask(client, ino, asked),
