@@ -15,7 +15,14 @@ pub fn same<T: PartialEq + Debug + Drop>(
     assert_eq!(rt; found, wanted, "at {place:?}");
 }
 
-/// Fails the test unless the condition holds.
-pub fn holds(rt: &impl Abort, condition: bool, place: impl Debug + Copy) {
-    assert!(rt; condition, "at {place:?}");
+/// What a call has made. Fails the test where it has not.
+pub fn made<T, E: Debug + Drop>(
+    rt: &impl Abort,
+    found: Result<T, E>,
+    place: impl Debug + Copy,
+) -> T {
+    match found {
+        Ok(value) => value,
+        Err(error) => panic!(rt; "{error:?}: at {place:?}"),
+    }
 }

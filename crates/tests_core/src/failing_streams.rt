@@ -41,10 +41,12 @@ fn watched_shaky() -> Watched<Shaky> {
     Watched::new(Shaky { is_next_bad: false })
 }
 
-// Reads once: how many bytes came, or none for a failure, and whether the flag is set then.
-fn read_once<R: Read>(reader: &mut Watched<R>) -> (Option<usize>, bool) {
+// Reads once into so much room: how many bytes came, or none for a failure, whether the reader has failed by then, and whether
+// it came to its end.
+fn read_once<R: Read>(reader: &mut Watched<R>, room: usize) -> (Option<usize>, bool, bool) {
     let mut buffer = [0; 4];
-    (reader.read(&mut buffer).ok(), reader.failed())
+    let count = reader.read(&mut buffer[..room.min(4)]).ok();
+    (count, reader.failed(), reader.ended())
 }
 
 // Writes once: how many bytes were taken, or none for a failure, and whether the flag is set then.
@@ -61,11 +63,11 @@ fn flush_once<W: Write>(writer: &mut Watched<W>) -> (bool, bool) {
 fn a_flag_tells_of_a_failed_read(rt: HostRuntime) {
     let mut reader = watched_shaky();
     for (nth, wanted) in [
-        (1, (Some(1), false)),
-        (2, (None, true)),
-        (3, (Some(1), true)),
+        (1, (Some(1), false, false)),
+        (2, (None, true, false)),
+        (3, (Some(1), true, false)),
     ] {
-        same(&rt, read_once(&mut reader), wanted, nth);
+        same(&rt, read_once(&mut reader, 4), wanted, nth);
     }
 }
 
@@ -90,34 +92,23 @@ fn a_flag_tells_of_a_failed_flush(rt: HostRuntime) {
 
 #[test]
 fn a_clear_flag_stays_clear(rt: HostRuntime) {
-    let mut reader = Watched::new(b"ab".as_slice());
-    same(&rt, read_once(&mut reader), (Some(2), false), "all");
-    same(&rt, read_once(&mut reader), (Some(0), false), "the end");
     let mut writer = Watched::new(Vec::new(rt.alloc()));
     same(&rt, write_once(&mut writer, b"ab"), (Some(2), false), "ab");
     same(&rt, flush_once(&mut writer), (true, false), "flush");
-}
-
-// Reads once into so much room: whether the reader came to its end.
-fn ends_with<R: Read>(reader: &mut Watched<R>, room: usize) -> bool {
-    let mut buffer = [0; 4];
-    let _ = reader.read(&mut buffer[..room.min(4)]);
-    reader.ended()
 }
 
 #[test]
 fn a_flag_tells_of_the_end(rt: HostRuntime) {
     let mut reader = Watched::new(b"ab".as_slice());
     for (nth, room, wanted) in [
-        (1, 0, false),
-        (2, 4, false),
-        (3, 0, false),
-        (4, 1, true),
-        (5, 0, true),
+        (1, 0, (Some(0), false, false)),
+        (2, 4, (Some(2), false, false)),
+        (3, 0, (Some(0), false, false)),
+        (4, 1, (Some(0), false, true)),
+        (5, 0, (Some(0), false, true)),
     ] {
-        same(&rt, &ends_with(&mut reader, room), &wanted, nth);
+        same(&rt, read_once(&mut reader, room), wanted, nth);
     }
-    same(&rt, &ends_with(&mut watched_shaky(), 4), &false, "shaky");
 }
 
 // Gives so many bytes at a time, and fails once it was read so often.

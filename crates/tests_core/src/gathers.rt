@@ -1,9 +1,9 @@
 //! The life of a gather, step by step.
 
-use crate::asking::goes;
-use crate::steps::Step;
-use std::test::Fail;
+use crate::asking::Beside::Locks;
+use crate::asking::{Step, plays};
 
+// A lock gathers until all is told back.
 const A_GATHER: &[Step] = &[
     ("session 1 10 10 - allow rw", "done", "-; -; -"),
     ("session 2 20 20 - allow rw", "done", "-; -; -"),
@@ -28,6 +28,7 @@ const A_GATHER: &[Step] = &[
     ("poll 1 9", "messages 0", "MIX; pFrw 2; pFr 2"),
 ];
 
+// A lock that takes from nobody moves at once.
 const A_GATHER_OF_NOBODY: &[Step] = &[
     ("release 1 2 Fxw", "refused NotHeld", "MIX; pFrw 2; pFr 2"),
     ("release 1 2 Fw", "done", "SYNC; pFscr 3 due; pFscr 3 due"),
@@ -43,6 +44,7 @@ const A_GATHER_OF_NOBODY: &[Step] = &[
     ),
 ];
 
+// The last that wants gets the file for itself.
 const A_GATHER_OF_THE_OTHER: &[Step] = &[
     (
         "want 2 2 p",
@@ -58,16 +60,15 @@ const A_GATHER_OF_THE_OTHER: &[Step] = &[
 ];
 
 #[test]
-fn a_lock_gathers_until_all_is_told_back(rt: HostRuntime) -> Result<(), Fail> {
-    goes(&rt, &[A_GATHER])
-}
-
-#[test]
-fn a_lock_that_takes_from_nobody_moves_at_once(rt: HostRuntime) -> Result<(), Fail> {
-    goes(&rt, &[A_GATHER, A_GATHER_OF_NOBODY])
-}
-
-#[test]
-fn the_last_that_wants_gets_the_file_for_itself(rt: HostRuntime) -> Result<(), Fail> {
-    goes(&rt, &[A_GATHER, A_GATHER_OF_NOBODY, A_GATHER_OF_THE_OTHER])
+fn a_lock_goes_from_gather_to_gather(rt: HostRuntime) {
+    plays(
+        &rt,
+        100,
+        &[
+            (1, Locks, A_GATHER),
+            (1, Locks, A_GATHER_OF_NOBODY),
+            (1, Locks, A_GATHER_OF_THE_OTHER),
+        ],
+        &[],
+    );
 }

@@ -9,15 +9,13 @@ mod asking;
 #[cfg(test)]
 mod asserting;
 #[cfg(test)]
-mod attributes;
-#[cfg(test)]
 mod failing_streams;
 #[cfg(test)]
 mod gathers;
 #[cfg(test)]
 mod histories;
 #[cfg(test)]
-mod lines;
+mod long_scripts;
 #[cfg(test)]
 mod looking;
 #[cfg(test)]
@@ -33,16 +31,8 @@ mod sessions_end;
 #[cfg(test)]
 mod steps;
 #[cfg(test)]
-mod talks;
-#[cfg(test)]
-mod telling;
-#[cfg(test)]
 mod texts;
 #[cfg(test)]
 mod viewing;
 #[cfg(test)]
-mod waiting;
-#[cfg(test)]
 mod waits;
-#[cfg(test)]
-mod worked_scripts;

@@ -1,101 +1,77 @@
-//! What tests look at in a core.
+//! What tests look at in a core that was asked.
 
 use crate::steps::lock_text;
-use crate::telling::{inode_text, row_text};
-use crate::viewing::changes_text;
-use capbits::{ClientId, Ino, Part};
-use capcore::Core;
+use capbits::{Ino, Part};
+use capcore::{Core, Row};
 use capexplain::audit_line;
+use inotree::Node;
 use locktable::LockState;
-use sessiontab::Status;
 use std::alloc::{AllocError, Global};
 
 /// What is looked at.
-#[derive(Clone, Copy, Debug)]
+#[derive(Clone, Copy)]
 pub enum Look {
-    /// How many rows the history has.
-    Rows,
+    /// How many rows the history has, and the last inode that was made.
+    Counts,
     /// A row of the history, by its place from 0.
     Row(usize),
-    /// The text of a row of the history, by its place from 0.
-    Audit(usize),
     /// The lock of an inode's owner, group and mode.
     Auth(u64),
-    /// The last inode that was made.
-    Last,
-    /// The inode that a directory has under a name.
-    Child(u64, &'static [u8]),
-    /// How a client's session is.
-    Session(u32),
     /// What an inode is like.
     Inode(u64),
-    /// What the last step changed of what readers see.
-    Changes,
 }
 
-// Small readers, each with the text of what it reads: a match with a text made in each arm is dear to prove.
+// Small readers: what the core promises of each value stays there.
 
-fn row_count(core: &Core) -> usize {
-    core.history().len()
+fn counts(core: &Core) -> (usize, u64) {
+    (core.history().len(), core.tree().last().0)
 }
 
-fn rows(alloc: Global, core: &Core) -> Result<String, AllocError> {
-    format!(in alloc; "{}", row_count(core))
+fn counts_text(alloc: Global, (rows, last): (usize, u64)) -> Result<String, AllocError> {
+    format!(in alloc; "{rows} rows, inode {last}")
 }
 
-fn row(alloc: Global, core: &Core, place: usize) -> Result<String, AllocError> {
-    match core.history().get(place) {
-        Some(row) => row_text(alloc, row),
-        None => String::from_str(alloc, "no row"),
+fn row(core: &Core, place: usize) -> Option<&Row> {
+    core.history().get(place)
+}
+
+// The line of a row, and behind it whose each request was that it ended.
+fn row_text(alloc: Global, row: Option<&Row>) -> Result<String, AllocError> {
+    let Some(row) = row else {
+        return String::from_str(alloc, "no row");
+    };
+    let mut text = String::from_utf8_lossy(alloc, audit_line(alloc, row)?.as_slice())?;
+    for ended in row.ended.as_slice() {
+        let client = ended.client;
+        text.push_str(format!(in alloc; "; of {client}")?.as_str())?;
     }
-}
-
-fn audit(alloc: Global, core: &Core, place: usize) -> Result<String, AllocError> {
-    match core.history().get(place) {
-        Some(row) => String::from_utf8_lossy(alloc, audit_line(alloc, row)?.as_slice()),
-        None => String::from_str(alloc, "no row"),
-    }
+    Ok(text)
 }
 
 fn auth(core: &Core, number: u64) -> Option<LockState> {
     core.lock_state(Ino(number), Part::A)
 }
 
-fn last_number(core: &Core) -> u64 {
-    core.tree().last().0
+fn node(core: &Core, number: u64) -> Option<&Node> {
+    core.tree().node(Ino(number))
 }
 
-fn last(alloc: Global, core: &Core) -> Result<String, AllocError> {
-    format!(in alloc; "{}", last_number(core))
-}
-
-fn child_number(core: &Core, dir: u64, name: &[u8]) -> Option<u64> {
-    core.tree().child(Ino(dir), name).map(|ino| ino.0)
-}
-
-fn child(alloc: Global, core: &Core, dir: u64, name: &[u8]) -> Result<String, AllocError> {
-    format!(in alloc; "{:?}", child_number(core, dir, name))
-}
-
-fn status(core: &Core, client: u32) -> Option<Status> {
-    core.session(ClientId(client))
-}
-
-fn session(alloc: Global, core: &Core, client: u32) -> Result<String, AllocError> {
-    format!(in alloc; "{:?}", status(core, client))
+// Its kind, owner, group and mode, how many bytes it has, and when it was changed.
+fn inode_text(alloc: Global, node: Option<&Node>) -> Result<String, AllocError> {
+    let Some(node) = node else {
+        return String::from_str(alloc, "no inode");
+    };
+    let (kind, size, time) = (node.kind, node.size, node.time);
+    let (uid, gid, mode) = (node.attr.uid, node.attr.gid, node.attr.mode.bits());
+    format!(in alloc; "{kind:?} {uid}:{gid} {mode:o}, size {size}, time {time}")
 }
 
 /// What is seen there, as a text.
 pub fn seen(alloc: Global, core: &Core, look: Look) -> Result<String, AllocError> {
     match look {
-        Look::Rows => rows(alloc, core),
-        Look::Row(place) => row(alloc, core, place),
-        Look::Audit(place) => audit(alloc, core, place),
+        Look::Counts => counts_text(alloc, counts(core)),
+        Look::Row(place) => row_text(alloc, row(core, place)),
         Look::Auth(number) => lock_text(alloc, auth(core, number)),
-        Look::Last => last(alloc, core),
-        Look::Child(dir, name) => child(alloc, core, dir, name),
-        Look::Session(client) => session(alloc, core, client),
-        Look::Inode(number) => inode_text(alloc, core, number),
-        Look::Changes => changes_text(alloc, core),
+        Look::Inode(number) => inode_text(alloc, node(core, number)),
     }
 }

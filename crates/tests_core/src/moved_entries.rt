@@ -1,11 +1,10 @@
 //! What clients hold of inodes that are moved, and of all that stand below them: what they come to hold and what is taken
 //! back, in the step in which the rename is served.
 
-use crate::asking::leaves;
+use crate::asking::Beside::Locks;
+use crate::asking::{Step, plays};
 use crate::looking::Look;
-use crate::looking::Look::{Child, Row};
-use crate::steps::Step;
-use std::test::Fail;
+use crate::looking::Look::Row;
 
 // The row of the step has the ends in their order. The file lock of inode 2 stands beside each step.
 const A_DIRECTORY_IS_MOVED: &[Step] = &[
@@ -46,19 +45,32 @@ const A_DIRECTORY_IS_MOVED: &[Step] = &[
         "MIX to SYNC; pLsFr 4; pFrw 3 due",
     ),
     ("ack 1 2 4", "done", "MIX to SYNC; pLsFr 5 due; pFrw 3 due"),
+    (
+        "lookup 1 4 h",
+        "ino 2",
+        "MIX to SYNC; pLsFr 5 due; pFrw 3 due",
+    ),
+    (
+        "lookup 1 3 g",
+        "refused NoEnt",
+        "MIX to SYNC; pLsFr 5 due; pFrw 3 due",
+    ),
 ];
 
 const THE_ENDS_IN_THE_ROW: &[(Look, &str)] = &[
-    (Row(12), "1.13: rename 1 3 4 [97]: done; ended 0"),
+    (Row(12), "1.13 rename 1 3 4 a => done"),
     (
         Row(15),
-        "1.16: ack 1 2 4: done; ended 2, 2 of 2 denied Write, rule 4 path, 4 of 1 done",
+        "1.16 ack 1 2 4 => done; ended 2 denied write 1:4; ended 4 done; of 2; of 1",
     ),
-    (Child(4, b"h"), "Some(2)"),
-    (Child(3, b"g"), "None"),
 ];
 
 #[test]
-fn the_row_that_serves_renames_keeps_their_ends(rt: HostRuntime) -> Result<(), Fail> {
-    leaves(&rt, &[A_DIRECTORY_IS_MOVED], THE_ENDS_IN_THE_ROW)
+fn the_row_that_serves_renames_keeps_their_ends(rt: HostRuntime) {
+    plays(
+        &rt,
+        100,
+        &[(1, Locks, A_DIRECTORY_IS_MOVED)],
+        THE_ENDS_IN_THE_ROW,
+    );
 }

@@ -1,10 +1,9 @@
 //! Who is asked to give back, and who hears of it; and who comes off the blocklist.
 
-use crate::asking::leaves;
+use crate::asking::Beside::Locks;
+use crate::asking::{Step, plays};
 use crate::looking::Look;
-use crate::looking::Look::{Row, Rows};
-use crate::steps::Step;
-use std::test::Fail;
+use crate::looking::Look::{Counts, Row};
 
 // Two clients share a file, and a change waits for both.
 const A_CHANGE_WAITS: &[Step] = &[
@@ -35,11 +34,16 @@ const A_RECALL_MEANWHILE: &[Step] = &[
 ];
 
 const ITS_ROW: &[(Look, &str)] = &[
-    (Rows, "8"),
-    (Row(6), "1.7: recall 2: recalled 1:2 2:2; ended 0"),
+    (Counts, "8 rows, inode 2"),
+    (Row(6), "1.7 recall 2 => recalled 1:2 2:2"),
 ];
 
 #[test]
-fn a_recall_moves_nothing(rt: HostRuntime) -> Result<(), Fail> {
-    leaves(&rt, &[A_CHANGE_WAITS, A_RECALL_MEANWHILE], ITS_ROW)
+fn a_recall_moves_nothing(rt: HostRuntime) {
+    plays(
+        &rt,
+        100,
+        &[(1, Locks, A_CHANGE_WAITS), (1, Locks, A_RECALL_MEANWHILE)],
+        ITS_ROW,
+    );
 }

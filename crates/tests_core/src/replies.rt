@@ -1,53 +1,59 @@
 //! The texts of replies, refusals, stops and accesses.
 
-use crate::asserting::same;
-use crate::telling::answer_text;
+use crate::asserting::{made, same};
 use arrayvec::ArrayVec;
 use capbits::{Cap, CapSet, Ino, Mode, Ticket};
 use capcore::{Message, MessageList, Outcome, PartValues, Refusal, Reply, Stop};
 use capexplain::reply_lines;
 use capgrant::{Access, Attr, Rule, Rules};
-use std::alloc::Global;
-use std::test::Fail;
+use std::alloc::{AllocError, Global};
+use std::process::Abort;
 
 const REFUSALS: &[(Refusal, &str)] = &[
-    (Refusal::Blocklisted, "refused Blocklisted"),
-    (Refusal::SessionOpen, "refused SessionOpen"),
-    (Refusal::NoSession, "refused NoSession"),
-    (Refusal::SessionStale, "refused SessionStale"),
-    (Refusal::NoIno, "refused NoIno"),
-    (Refusal::Gone, "refused Gone"),
-    (Refusal::Root, "refused Root"),
-    (Refusal::NotDir, "refused NotDir"),
-    (Refusal::IsDir, "refused IsDir"),
-    (Refusal::NoEnt, "refused NoEnt"),
-    (Refusal::NameBad, "refused NameBad"),
-    (Refusal::Exists, "refused Exists"),
-    (Refusal::NotEmpty, "refused NotEmpty"),
-    (Refusal::Loop, "refused Loop"),
-    (Refusal::TooDeep, "refused TooDeep"),
-    (Refusal::NoXattr, "refused NoXattr"),
-    (Refusal::NoEntry, "refused NoEntry"),
-    (Refusal::NotHeld, "refused NotHeld"),
-    (Refusal::NothingToAck, "refused NothingToAck"),
-    (Refusal::BadSeq, "refused BadSeq"),
-    (Refusal::OldSeq { need: 12 }, "refused OldSeq 12"),
-    (Refusal::Limit, "refused Limit"),
+    (Refusal::Blocklisted, "refused Blocklisted\n"),
+    (Refusal::SessionOpen, "refused SessionOpen\n"),
+    (Refusal::NoSession, "refused NoSession\n"),
+    (Refusal::SessionStale, "refused SessionStale\n"),
+    (Refusal::NoIno, "refused NoIno\n"),
+    (Refusal::Gone, "refused Gone\n"),
+    (Refusal::Root, "refused Root\n"),
+    (Refusal::NotDir, "refused NotDir\n"),
+    (Refusal::IsDir, "refused IsDir\n"),
+    (Refusal::NoEnt, "refused NoEnt\n"),
+    (Refusal::NameBad, "refused NameBad\n"),
+    (Refusal::Exists, "refused Exists\n"),
+    (Refusal::NotEmpty, "refused NotEmpty\n"),
+    (Refusal::Loop, "refused Loop\n"),
+    (Refusal::TooDeep, "refused TooDeep\n"),
+    (Refusal::NoXattr, "refused NoXattr\n"),
+    (Refusal::NoEntry, "refused NoEntry\n"),
+    (Refusal::NotHeld, "refused NotHeld\n"),
+    (Refusal::NothingToAck, "refused NothingToAck\n"),
+    (Refusal::BadSeq, "refused BadSeq\n"),
+    (Refusal::OldSeq { need: 12 }, "refused OldSeq 12\n"),
+    (Refusal::Limit, "refused Limit\n"),
 ];
 
 const STOPS: &[(Stop, &str)] = &[(Stop::NoMemory, "stop NoMemory"), (Stop::Full, "stop Full")];
 
+fn prints(rt: &impl Abort, alloc: Global, reply: &Reply, wanted: &str) {
+    let text = made(rt, reply_lines(alloc, reply), wanted);
+    same(rt, text.as_slice(), wanted.as_bytes(), wanted);
+}
+
 #[test]
-fn refusals_and_stops_print_as_their_names(rt: HostRuntime) -> Result<(), Fail> {
+fn refusals_print_as_their_names(rt: HostRuntime) {
     for (refusal, wanted) in REFUSALS {
-        let text = answer_text(rt.alloc(), Ok(Reply::Refused(*refusal)))?;
-        same(&rt, text.as_str(), *wanted, *wanted);
+        prints(&rt, rt.alloc(), &Reply::Refused(*refusal), wanted);
     }
+}
+
+#[test]
+fn stops_print_as_their_names(rt: HostRuntime) {
     for (stop, wanted) in STOPS {
-        let text = answer_text(rt.alloc(), Err(*stop))?;
+        let text = made(&rt, format!(in rt.alloc(); "stop {stop}"), *wanted);
         same(&rt, text.as_str(), *wanted, *wanted);
     }
-    Ok(())
 }
 
 const DENIALS: &[(Access, &[Rule], &str)] = &[
@@ -61,15 +67,20 @@ const DENIALS: &[(Access, &[Rule], &str)] = &[
     (Access::Chown(9), &[], "denied chown:9 -\n"),
 ];
 
-fn denied(access: Access, rules: &[Rule]) -> Result<Reply, Fail> {
+fn list_of(rt: &impl Abort, rules: &[Rule]) -> Rules {
     let mut list = ArrayVec::new();
     for rule in rules {
-        list.try_push(*rule)?;
+        made(rt, list.try_push(*rule), "a rule");
     }
-    Ok(Reply::Denied {
-        access,
-        rules: Rules::from(list),
-    })
+    Rules::from(list)
+}
+
+#[test]
+fn denials_have_texts(rt: HostRuntime) {
+    for (access, rules, wanted) in DENIALS {
+        let (access, rules) = (*access, list_of(&rt, rules));
+        prints(&rt, rt.alloc(), &Reply::Denied { access, rules }, wanted);
+    }
 }
 
 fn opened(seq: u64, caps: &[Cap]) -> Reply {
@@ -79,7 +90,17 @@ fn opened(seq: u64, caps: &[Cap]) -> Reply {
     }
 }
 
-fn replies() -> [(Reply, &'static str); 7] {
+fn owner_values(rt: &impl Abort) -> PartValues {
+    let mode = made(rt, Mode::new(0o755).ok_or("no mode"), "a mode");
+    PartValues::Auth(Attr {
+        uid: 7,
+        gid: 8,
+        mode,
+    })
+}
+
+fn replies(rt: &impl Abort) -> [(Reply, &'static str); 12] {
+    let file = PartValues::File { size: 5, time: 9 };
     [
         (Reply::Done, "done\n"),
         (Reply::Ino(Ino(2)), "ino 2\n"),
@@ -88,50 +109,19 @@ fn replies() -> [(Reply, &'static str); 7] {
         (opened(12, &[Cap::P, Cap::Fr]), "caps 12 pFr\n"),
         (Reply::Refused(Refusal::NoIno), "refused NoIno\n"),
         (Reply::Refused(Refusal::TooDeep), "refused TooDeep\n"),
+        (Reply::Waiting(Ticket(3)), "waiting 3\n"),
+        (Reply::Values(owner_values(rt)), "attr A 7 8 0755\n"),
+        (Reply::Values(PartValues::Link), "attr L 1\n"),
+        (Reply::Values(file), "attr F 5 9\n"),
+        (Reply::OutOfMemory, "out-of-memory\n"),
     ]
 }
 
 #[test]
-fn replies_have_texts(rt: HostRuntime) -> Result<(), Fail> {
-    for (reply, wanted) in &replies() {
-        let text = reply_lines(rt.alloc(), reply)?;
-        same(&rt, text.as_slice(), wanted.as_bytes(), *wanted);
+fn replies_have_texts(rt: HostRuntime) {
+    for (reply, wanted) in &replies(&rt) {
+        prints(&rt, rt.alloc(), reply, wanted);
     }
-    Ok(())
-}
-
-#[test]
-fn denials_have_texts(rt: HostRuntime) -> Result<(), Fail> {
-    for (access, rules, wanted) in DENIALS {
-        let text = reply_lines(rt.alloc(), &denied(*access, *rules)?)?;
-        same(&rt, text.as_slice(), wanted.as_bytes(), *wanted);
-    }
-    Ok(())
-}
-
-fn replies_of_the_waiting() -> Result<[(Reply, &'static str); 5], Fail> {
-    let attr = Attr {
-        uid: 7,
-        gid: 8,
-        mode: Mode::new(0o755).ok_or("no mode")?,
-    };
-    let file = PartValues::File { size: 5, time: 9 };
-    Ok([
-        (Reply::Waiting(Ticket(3)), "waiting 3\n"),
-        (Reply::Values(PartValues::Auth(attr)), "attr A 7 8 0755\n"),
-        (Reply::Values(PartValues::Link), "attr L 1\n"),
-        (Reply::Values(file), "attr F 5 9\n"),
-        (Reply::OutOfMemory, "out-of-memory\n"),
-    ])
-}
-
-#[test]
-fn replies_of_the_waiting_have_texts(rt: HostRuntime) -> Result<(), Fail> {
-    for (reply, wanted) in &replies_of_the_waiting()? {
-        let text = reply_lines(rt.alloc(), reply)?;
-        same(&rt, text.as_slice(), wanted.as_bytes(), *wanted);
-    }
-    Ok(())
 }
 
 fn ended(ticket: u64, outcome: Outcome) -> Message {
@@ -141,18 +131,13 @@ fn ended(ticket: u64, outcome: Outcome) -> Message {
     }
 }
 
-fn some_messages(alloc: Global) -> Result<Reply, Fail> {
+fn some_messages(rt: &impl Abort, alloc: Global) -> Result<Vec<Message>, AllocError> {
     let file = PartValues::File { size: 5, time: 9 };
-    let mut rules = ArrayVec::new();
-    rules.try_push(Rule::NoWrite)?;
-    let denied = Outcome::Denied {
-        access: Access::Write,
-        rules: Rules::from(rules),
-    };
+    let (access, rules) = (Access::Write, list_of(rt, &[Rule::NoWrite]));
     let messages = vec![in alloc;
         ended(1, Outcome::Done),
         ended(2, Outcome::Values(file)),
-        ended(3, denied),
+        ended(3, Outcome::Denied { access, rules }),
         ended(4, Outcome::Refused(Refusal::NotEmpty)),
         ended(5, Outcome::OutOfMemory),
         ended(18446744073709551615, Outcome::Dropped),
@@ -168,7 +153,7 @@ fn some_messages(alloc: Global) -> Result<Reply, Fail> {
             caps: CapSet::empty()
         },
     ]?;
-    Ok(Reply::Messages(MessageList::from(messages)))
+    Ok(messages)
 }
 
 const MESSAGES: &str = "messages 9
@@ -184,19 +169,21 @@ const MESSAGES: &str = "messages 9
 ";
 
 #[test]
-fn messages_have_a_line_each(rt: HostRuntime) -> Result<(), Fail> {
-    let text = reply_lines(rt.alloc(), &some_messages(rt.alloc())?)?;
-    same(&rt, text.as_slice(), MESSAGES.as_bytes(), "some");
-    let none = Reply::Messages(MessageList::from(Vec::new(rt.alloc())));
-    let text = reply_lines(rt.alloc(), &none)?;
-    same(&rt, text.as_slice(), b"messages 0\n", "none");
-    Ok(())
+fn messages_have_a_line_each(rt: HostRuntime) {
+    let some = made(&rt, some_messages(&rt, rt.alloc()), "messages");
+    for (messages, wanted) in [(some, MESSAGES), (Vec::new(rt.alloc()), "messages 0\n")] {
+        let reply = Reply::Messages(MessageList::from(messages));
+        prints(&rt, rt.alloc(), &reply, wanted);
+    }
 }
 
 #[test]
-fn access_words_are_printed(rt: HostRuntime) -> Result<(), Fail> {
+fn access_words_are_printed(rt: HostRuntime) {
     let (vxattr, chmod, chgrp) = (Access::SetVxattr, Access::Chmod, Access::Chgrp(0));
-    let text = format!(in rt.alloc(); "{vxattr} {chmod} {chgrp}")?;
+    let text = made(
+        &rt,
+        format!(in rt.alloc(); "{vxattr} {chmod} {chgrp}"),
+        "words",
+    );
     same(&rt, text.as_str(), "vxattr chmod chgrp:0", "words");
-    Ok(())
 }

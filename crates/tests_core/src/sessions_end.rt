@@ -1,12 +1,9 @@
 //! Sessions that end, and what ends with them.
 
-use crate::asking::leaves;
+use crate::asking::Beside::Locks;
+use crate::asking::{Step, plays};
 use crate::looking::Look;
 use crate::looking::Look::Row;
-use crate::steps::Step;
-use crate::talks::Talk;
-use std::alloc::{AllocError, Global};
-use std::test::Fail;
 
 // Four requests wait, two of each client, the change of the second first.
 const FOUR_WAIT: &[Step] = &[
@@ -48,36 +45,15 @@ const THE_FIRST_CLOSES: &[Step] = &[
 
 const WHAT_ENDED: &[(Look, &str)] = &[(
     Row(8),
-    "1.9: close 1: done; ended 4, 2 of 1 dropped, 4 of 1 dropped, 1 of 2 done, 3 of 2 values File { size: 5, time: 0 }",
+    "1.9 close 1 => done; ended 2 dropped; ended 4 dropped; ended 1 done; ended 3 attr F 5 0; of 1; of 1; of 2; of 2",
 )];
 
 #[test]
-fn what_is_dropped_is_kept_before_what_is_served(rt: HostRuntime) -> Result<(), Fail> {
-    leaves(&rt, &[FOUR_WAIT, THE_FIRST_CLOSES], WHAT_ENDED)
-}
-
-fn throw_out_many(alloc: Global) -> Result<Talk, AllocError> {
-    let mut talk = Talk::new(alloc);
-    for client in 1..1025 {
-        let session = format!(in alloc; "session {client} 1 1 - none")?;
-        talk.says(session.as_str(), "done")?;
-        let evict = format!(in alloc; "evict {client}")?;
-        talk.says(evict.as_str(), "done")?;
-    }
-    // There is no room on the blocklist for one more, who may end its session all the same.
-    talk.says("session 1025 1 1 - none", "done")?;
-    talk.says("evict 1025", "refused Limit")?;
-    talk.says("session 1025 1 1 - none", "refused SessionOpen")?;
-    talk.says("stale 1025", "done")?;
-    talk.says("evict 1025", "refused Limit")?;
-    talk.says("evict 1", "refused NoSession")?;
-    talk.says("unblock 7", "done")?;
-    talk.says("evict 1025", "done")?;
-    talk.says("session 1025 1 1 - none", "refused Blocklisted")?;
-    Ok(talk)
-}
-
-#[test]
-fn a_full_blocklist_takes_no_more(rt: HostRuntime) -> Result<(), Fail> {
-    throw_out_many(rt.alloc())?.compare(&rt)
+fn what_is_dropped_is_kept_before_what_is_served(rt: HostRuntime) {
+    plays(
+        &rt,
+        100,
+        &[(1, Locks, FOUR_WAIT), (1, Locks, THE_FIRST_CLOSES)],
+        WHAT_ENDED,
+    );
 }

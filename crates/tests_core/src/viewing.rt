@@ -1,20 +1,40 @@
 //! What a step changes of what readers see.
 
-use crate::asking::Act::{Create, Lookup, Open};
-use crate::asking::{Ask, tells, works};
-use crate::looking::Look;
-use crate::looking::Look::Changes;
-use crate::steps::Told;
-use capbits::ClientId;
+use crate::asking::Beside::Changes;
+use crate::asking::{Step, plays};
+use capbits::{Caller, ClientId, Ino};
 use capcore::{Core, ViewChange};
 use capgrant::Attr;
 use capspec::{Grants, write_grants};
+use inotree::Name;
 use std::alloc::{AllocError, Global};
-use std::test::Fail;
 
-fn attr_text(alloc: Global, attr: Attr) -> Result<String, AllocError> {
+// ---- the text of a change: each kind in a function of its own, since a match with a text made in each arm is dear to prove
+
+fn numbered_text(alloc: Global, word: &str, number: u64) -> Result<String, AllocError> {
+    format!(in alloc; "{word} {number}")
+}
+
+fn born_text(
+    alloc: Global,
+    (ino, dir): (Ino, Ino),
+    name: &Name,
+    attr: Attr,
+    kind: &str,
+) -> Result<String, AllocError> {
+    let name = String::from_utf8_lossy(alloc, name.as_bytes())?;
     let (uid, gid, mode) = (attr.uid, attr.gid, attr.mode.bits());
-    format!(in alloc; "{uid}:{gid} {mode:o}")
+    format!(in alloc; "born {ino} in {dir} {name} {uid}:{gid} {mode:o} {kind}")
+}
+
+fn moved_text(alloc: Global, ino: Ino, dir: Ino, name: &Name) -> Result<String, AllocError> {
+    let name = String::from_utf8_lossy(alloc, name.as_bytes())?;
+    format!(in alloc; "moved {ino} to {dir} {name}")
+}
+
+fn settled_text(alloc: Global, ino: Ino, attr: Attr) -> Result<String, AllocError> {
+    let (uid, gid, mode) = (attr.uid, attr.gid, attr.mode.bits());
+    format!(in alloc; "settled {ino} {uid}:{gid} {mode:o}")
 }
 
 // A word, a client, and its grants.
@@ -28,6 +48,17 @@ fn granted_text(
     format!(in alloc; "{word} {client} {grants}")
 }
 
+fn opened_text(
+    alloc: Global,
+    client: ClientId,
+    caller: &Caller,
+    grants: &Grants,
+) -> Result<String, AllocError> {
+    let (uid, gid) = (caller.uid, caller.gid);
+    let opened = granted_text(alloc, "opened", client, grants)?;
+    format!(in alloc; "{opened} {uid}:{gid}")
+}
+
 fn change_text(alloc: Global, change: &ViewChange) -> Result<String, AllocError> {
     match change {
         ViewChange::Born {
@@ -37,31 +68,19 @@ fn change_text(alloc: Global, change: &ViewChange) -> Result<String, AllocError>
             attr,
             is_dir,
         } => {
-            let name = String::from_utf8_lossy(alloc, name.as_bytes())?;
-            let attr = attr_text(alloc, *attr)?;
             let kind = if *is_dir { "directory" } else { "file" };
-            format!(in alloc; "born {ino} in {dir} {name} {attr} {kind}")
+            born_text(alloc, (*ino, *dir), name, *attr, kind)
         }
-        ViewChange::Moved { ino, dir, name } => {
-            let name = String::from_utf8_lossy(alloc, name.as_bytes())?;
-            format!(in alloc; "moved {ino} to {dir} {name}")
-        }
-        ViewChange::Removed { ino } => format!(in alloc; "removed {ino}"),
-        ViewChange::Forgotten { ino } => format!(in alloc; "forgotten {ino}"),
-        ViewChange::Settled { ino, attr } => {
-            let attr = attr_text(alloc, *attr)?;
-            format!(in alloc; "settled {ino} {attr}")
-        }
+        ViewChange::Moved { ino, dir, name } => moved_text(alloc, *ino, *dir, name),
+        ViewChange::Removed { ino } => numbered_text(alloc, "removed", ino.0),
+        ViewChange::Forgotten { ino } => numbered_text(alloc, "forgotten", ino.0),
+        ViewChange::Settled { ino, attr } => settled_text(alloc, *ino, *attr),
         ViewChange::Opened {
             client,
             caller,
             grants,
-        } => {
-            let (uid, gid) = (caller.uid, caller.gid);
-            let opened = granted_text(alloc, "opened", *client, grants)?;
-            format!(in alloc; "{opened} {uid}:{gid}")
-        }
-        ViewChange::Ended { client } => format!(in alloc; "ended {client}"),
+        } => opened_text(alloc, *client, caller, grants),
+        ViewChange::Ended { client } => numbered_text(alloc, "ended", u64::from(client.0)),
         ViewChange::Regranted { client, grants } => {
             granted_text(alloc, "regranted", *client, grants)
         }
@@ -81,7 +100,7 @@ pub fn changes_text(alloc: Global, core: &Core) -> Result<String, AllocError> {
 }
 
 // A file, to which its maker alone has a lock; then it is unlinked, and goes once it is given back.
-const A_FILE_GOES: &[Told] = &[
+const A_FILE_GOES: &[Step] = &[
     (
         "session 1 10 11 - allow rws",
         "done",
@@ -101,7 +120,7 @@ const A_FILE_GOES: &[Told] = &[
 ];
 
 // What is made, moved and changed. Nobody sees sizes, times, attributes and snapshots.
-const ALL_IS_MOVED: &[Told] = &[
+const ALL_IS_MOVED: &[Step] = &[
     (
         "mkdir 1 1 a 0755",
         "ino 3",
@@ -126,7 +145,7 @@ const ALL_IS_MOVED: &[Told] = &[
 ];
 
 // A change waits for the caps of another client, and is told when it is made. A flush makes it at once.
-const WHAT_WAITS_IS_TOLD_LATER: &[Told] = &[
+const WHAT_WAITS_IS_TOLD_LATER: &[Step] = &[
     ("open 2 5 r", "caps 1 pFscr", ""),
     ("want 2 5 pAsxFscr", "caps 2 pAsxFscr", ""),
     ("alter 1 5 chmod 0640", "waiting 9", ""),
@@ -135,7 +154,7 @@ const WHAT_WAITS_IS_TOLD_LATER: &[Told] = &[
 ];
 
 // Sessions end, and have other grants. Nobody sees whether one is stale.
-const SESSIONS_TURN: &[Told] = &[
+const SESSIONS_TURN: &[Step] = &[
     ("stale 2", "done", ""),
     ("renew 2", "done", ""),
     ("regrant 2 none", "done", "regranted 2 "),
@@ -153,20 +172,22 @@ const SESSIONS_TURN: &[Told] = &[
 ];
 
 #[test]
-fn each_step_tells_readers_what_it_changes(rt: HostRuntime) -> Result<(), Fail> {
-    tells(
+fn each_step_tells_readers_what_it_changes(rt: HostRuntime) {
+    plays(
         &rt,
+        100,
         &[
-            A_FILE_GOES,
-            ALL_IS_MOVED,
-            WHAT_WAITS_IS_TOLD_LATER,
-            SESSIONS_TURN,
+            (1, Changes, A_FILE_GOES),
+            (1, Changes, ALL_IS_MOVED),
+            (1, Changes, WHAT_WAITS_IS_TOLD_LATER),
+            (1, Changes, SESSIONS_TURN),
         ],
-    )
+        &[],
+    );
 }
 
 // A client keeps files that were unlinked. With its session each of them goes, and nobody waits.
-const STRAYS_GO: &[Told] = &[
+const STRAYS_GO: &[Step] = &[
     (
         "session 1 10 10 - allow rw",
         "done",
@@ -194,20 +215,18 @@ const STRAYS_GO: &[Told] = &[
 ];
 
 #[test]
-fn a_client_that_goes_takes_its_strays_along(rt: HostRuntime) -> Result<(), Fail> {
-    tells(&rt, &[STRAYS_GO])
+fn a_client_that_goes_takes_its_strays_along(rt: HostRuntime) {
+    plays(&rt, 100, &[(1, Changes, STRAYS_GO)], &[]);
 }
 
-// The third step finds the history full.
-const TWO_ROWS: &[(Ask, &str)] = &[
-    ((1, Open, 0, b"allow rw"), "done"),
-    ((1, Create(0o644), 1, b"f"), "ino 2"),
-    ((1, Lookup, 1, b"f"), "stop Full"),
+// The third step finds the history full. What the one before it changed is still told.
+const TWO_ROWS: &[Step] = &[
+    ("session 1 0 0 - allow rw", "done", "opened 1 allow rw 0:0"),
+    ("create 1 1 f 0644", "ino 2", "born 2 in 1 f 0:0 644 file"),
+    ("lookup 1 1 f", "stop Full", "born 2 in 1 f 0:0 644 file"),
 ];
 
-const AS_BEFORE: &[(Look, &str)] = &[(Changes, "born 2 in 1 f 0:0 644 file")];
-
 #[test]
-fn a_step_that_is_not_answered_tells_nothing(rt: HostRuntime) -> Result<(), Fail> {
-    works(&rt, 2, &[(1, TWO_ROWS)], AS_BEFORE)
+fn a_step_that_is_not_answered_tells_nothing(rt: HostRuntime) {
+    plays(&rt, 2, &[(1, Changes, TWO_ROWS)], &[]);
 }

@@ -1,10 +1,9 @@
 //! Who waits for a file, step by step, and what is kept of it.
 
-use crate::asking::{goes, leaves};
+use crate::asking::Beside::Locks;
+use crate::asking::{Step, plays};
 use crate::looking::Look;
-use crate::looking::Look::{Child, Inode, Row, Rows};
-use crate::steps::Step;
-use std::test::Fail;
+use crate::looking::Look::{Counts, Inode, Row};
 
 const ONE_HAS_A_FILE: &[Step] = &[
     ("session 1 10 10 - allow rw", "done", "-; -; -"),
@@ -81,27 +80,31 @@ const A_REQUEST_FOR_VALUES: &[Step] = &[
     ),
 ];
 
-#[test]
-fn requests_wait_until_the_lock_serves_them(rt: HostRuntime) -> Result<(), Fail> {
-    goes(&rt, &[ONE_HAS_A_FILE, TWO_REQUESTS, A_REQUEST_FOR_VALUES])
-}
-
-// What the history has of them, from its fifth row on: none of the rows but the one that served them ended any.
-const TWO_REQUESTS_KEPT: &[(Look, &str)] = &[
-    (Rows, "15"),
-    (Row(4), "1.5: alter 2 2 size 5: waiting Ticket(1); ended 0"),
-    (Row(5), "1.6: get 2 2 F: waiting Ticket(2); ended 0"),
+// What the history has of the first two: none of these rows but the one that served them ended any.
+const THE_REQUESTS_KEPT: &[(Look, &str)] = &[
+    (Counts, "19 rows, inode 2"),
+    (Row(4), "1.5 alter 2 2 size 5 => waiting 1"),
+    (Row(5), "1.6 get 2 2 F => waiting 2"),
     (
         Row(8),
-        "1.9: ack 1 2 2: done; ended 2, 1 of 2 done, 2 of 2 values File { size: 5, time: 0 }",
+        "1.9 ack 1 2 2 => done; ended 1 done; ended 2 attr F 5 0; of 2; of 2",
     ),
-    (Row(9), "1.10: poll 2 1: messages 1; ended 0"),
+    (Row(9), "1.10 poll 2 1 => messages 1"),
     (Inode(2), "File 10:10 644, size 5, time 0"),
 ];
 
 #[test]
-fn the_row_that_serves_a_request_keeps_its_end(rt: HostRuntime) -> Result<(), Fail> {
-    leaves(&rt, &[ONE_HAS_A_FILE, TWO_REQUESTS], TWO_REQUESTS_KEPT)
+fn requests_wait_until_the_lock_serves_them_in_a_row(rt: HostRuntime) {
+    plays(
+        &rt,
+        100,
+        &[
+            (1, Locks, ONE_HAS_A_FILE),
+            (1, Locks, TWO_REQUESTS),
+            (1, Locks, A_REQUEST_FOR_VALUES),
+        ],
+        THE_REQUESTS_KEPT,
+    );
 }
 
 // A request that is served at once has its end in its reply alone.
@@ -116,16 +119,13 @@ const SERVED_AT_ONCE: &[Step] = &[
 ];
 
 const SERVED_AT_ONCE_KEPT: &[(Look, &str)] = &[
-    (Row(2), "1.3: alter 1 2 size 5: done; ended 0"),
-    (
-        Row(3),
-        "1.4: get 1 2 F: values File { size: 5, time: 0 }; ended 0",
-    ),
+    (Row(2), "1.3 alter 1 2 size 5 => done"),
+    (Row(3), "1.4 get 1 2 F => attr F 5 0"),
 ];
 
 #[test]
-fn what_is_served_at_once_has_no_other_end(rt: HostRuntime) -> Result<(), Fail> {
-    leaves(&rt, &[SERVED_AT_ONCE], SERVED_AT_ONCE_KEPT)
+fn what_is_served_at_once_has_no_other_end(rt: HostRuntime) {
+    plays(&rt, 100, &[(1, Locks, SERVED_AT_ONCE)], SERVED_AT_ONCE_KEPT);
 }
 
 // A flush of the data moves no lock, and neither does a holder that asks for what it holds for itself.
@@ -145,8 +145,13 @@ const A_FLUSH: &[Step] = &[
 ];
 
 #[test]
-fn a_flush_waits_for_no_lock(rt: HostRuntime) -> Result<(), Fail> {
-    goes(&rt, &[ONE_HAS_A_FILE, A_FLUSH])
+fn a_flush_waits_for_no_lock(rt: HostRuntime) {
+    plays(
+        &rt,
+        100,
+        &[(1, Locks, ONE_HAS_A_FILE), (1, Locks, A_FLUSH)],
+        &[],
+    );
 }
 
 // An unlinked file keeps its locks until it is forgotten. Nobody is permitted more of it than the pin, so all else is called
@@ -168,17 +173,19 @@ const AN_UNLINKED_FILE: &[Step] = &[
     ("get 2 2 F", "refused Gone", "MIX; -; p 1"),
     ("release 2 2 p", "done", "-; -; -"),
     ("get 2 2 F", "refused NoIno", "-; -; -"),
+    ("lookup 1 1 f", "refused NoEnt", "-; -; -"),
 ];
 
-const AN_UNLINKED_FILE_GONE: &[(Look, &str)] = &[(Inode(2), "no inode"), (Child(1, b"f"), "None")];
+const AN_UNLINKED_FILE_GONE: &[(Look, &str)] = &[(Inode(2), "no inode")];
 
 #[test]
-fn an_unlinked_file_keeps_its_locks_until_it_is_forgotten(rt: HostRuntime) -> Result<(), Fail> {
-    leaves(
+fn an_unlinked_file_keeps_its_locks_until_it_is_forgotten(rt: HostRuntime) {
+    plays(
         &rt,
-        &[ONE_HAS_A_FILE, AN_UNLINKED_FILE],
+        100,
+        &[(1, Locks, ONE_HAS_A_FILE), (1, Locks, AN_UNLINKED_FILE)],
         AN_UNLINKED_FILE_GONE,
-    )
+    );
 }
 
 // What is denied when it is served has moved the lock all the same, and the next request finds it where it is to be.
@@ -208,12 +215,17 @@ const DENIED_WHEN_SERVED: &[Step] = &[
 const DENIED_WHEN_SERVED_KEPT: &[(Look, &str)] = &[
     (
         Row(7),
-        "1.8: ack 1 2 2: done; ended 1, 1 of 2 denied Write, rule 11 mode-bits",
+        "1.8 ack 1 2 2 => done; ended 1 denied write 1:11; of 2",
     ),
     (Inode(2), "File 10:10 600, size 0, time 0"),
 ];
 
 #[test]
-fn a_denial_when_served_is_in_the_row_that_serves(rt: HostRuntime) -> Result<(), Fail> {
-    leaves(&rt, &[DENIED_WHEN_SERVED], DENIED_WHEN_SERVED_KEPT)
+fn a_denial_when_served_is_in_the_row_that_serves(rt: HostRuntime) {
+    plays(
+        &rt,
+        100,
+        &[(1, Locks, DENIED_WHEN_SERVED)],
+        DENIED_WHEN_SERVED_KEPT,
+    );
 }

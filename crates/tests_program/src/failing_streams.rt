@@ -1,6 +1,7 @@
 //! Streams that fail: what a command has written by then, what it says of it, and its status.
 
-use crate::runs::{Input, Rooms, had, outcome, words_of};
+use crate::asserting::{made, same};
+use crate::runs::{Input, Rooms, as_bytes, outcome};
 use std::fs::Files;
 use std::process::Abort;
 use std::sync::Wait;
@@ -23,9 +24,12 @@ fn comes_out(
     rt: &(impl AllocGlobal + Abort + Files + Threads + Wait + Sync),
     (words, given, rooms, ended): Run,
 ) {
-    let line = words_of(rt, rt.alloc(), words);
-    let found = outcome(rt, line.as_slice(), Input::failing(given.0, given.1), rooms);
-    had(rt, found, ended, (words, given, rooms));
+    let line = made(rt, as_bytes(rt.alloc(), words), words);
+    let (bytes, reads_left) = given;
+    let reader = Input { bytes, reads_left };
+    let (status, text, faults) = outcome(rt, line.as_slice(), reader, rooms);
+    let found = (status, text.as_slice(), faults.as_slice());
+    same(rt, found, ended, (words, given, rooms));
 }
 
 const READ_FAILED: &[u8] = b"capd: read failed\n";

@@ -26,24 +26,6 @@ struct Signs {
     met: AtomicU64,
 }
 
-fn new_signs(alloc: Global) -> Result<Arc<Signs, Global>, AllocError> {
-    let signs = Signs {
-        taken: AtomicU64::new(0),
-        met: AtomicU64::new(0),
-    };
-    match Arc::new(alloc, signs) {
-        Ok(signs) => Ok(signs),
-        Err(_) => Err(AllocError),
-    }
-}
-
-fn slow_by(signs: &Arc<Signs, Global>) -> Result<Slow, AllocError> {
-    match Arc::try_clone(signs) {
-        Ok(signs) => Ok(Slow { signs }),
-        Err(_) => Err(AllocError),
-    }
-}
-
 // Gives way in each call.
 #[derive(Drop)]
 struct Slow {
@@ -108,26 +90,38 @@ fn served_slowly<R: AllocGlobal + Threads + Wait + Sync>(
     rows.ok()
 }
 
-// Whether a row of one pass stands before some row of another.
-fn begins_before_end(rows: &[Numbers], one: u32, other: u32) -> bool {
-    let begin = rows.iter().position(|row| row.0 == one);
-    let end = rows.iter().rposition(|row| row.0 == other);
-    begin < end
+// The places of the first and of the last row of a pass.
+fn span(rows: &[Numbers], pass: u32) -> Option<(usize, usize)> {
+    let mut span = None;
+    for (place, row) in rows.iter().enumerate() {
+        if row.0 == pass {
+            let (first, _) = span.unwrap_or((place, place));
+            span = Some((first, place));
+        }
+    }
+    span
 }
 
 // Sees that both passes have made their calls, and that neither has waited for the other to end.
 fn alternate(rt: &impl Abort, rows: &[Numbers]) {
     same(rt, count_numbered(rows, 2), Some(20), "pass 2");
     same(rt, count_numbered(rows, 3), Some(19), "pass 3");
-    holds(rt, begins_before_end(rows, 2, 3), "pass 2 waits for pass 3");
-    holds(rt, begins_before_end(rows, 3, 2), "pass 3 waits for pass 2");
+    let two = present(rt, span(rows, 2), "pass 2");
+    let three = present(rt, span(rows, 3), "pass 3");
+    holds(rt, two.0 < three.1, "pass 2 waits for pass 3");
+    holds(rt, three.0 < two.1, "pass 3 waits for pass 2");
 }
 
 #[test]
 fn two_clients_of_a_script_call_at_once(rt: HostRuntime) {
     let script = made(&rt, two_clients(rt.alloc()), "a script");
-    let signs = made(&rt, new_signs(rt.alloc()), "signs");
-    let slow = made(&rt, slow_by(&signs), "a gate");
+    let signs = Signs {
+        taken: AtomicU64::new(0),
+        met: AtomicU64::new(0),
+    };
+    let signs = present(&rt, Arc::new(rt.alloc(), signs).ok(), "signs");
+    let theirs = present(&rt, Arc::try_clone(&signs).ok(), "signs");
+    let slow = Slow { signs: theirs };
     let rows = present(&rt, served_slowly(&rt, script.as_bytes(), slow), "serving");
     let met = signs.met.load(Ordering::SeqCst);
     same(&rt, met, 0, "calls under the lock at once");

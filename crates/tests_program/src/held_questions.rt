@@ -69,22 +69,10 @@ impl Gate for Hold {
     }
 }
 
-// What came of the calls and of the questions.
-#[derive(Clone, Copy, Debug, PartialEq, Eq)]
-struct Told {
-    // Of what stood there before, asked for while the call of pass 2 was held.
-    beside: &'static str,
-    // Of what that call made, at the same time.
-    unpublished: &'static str,
-    // Of the call that was held.
-    held: &'static str,
-    // Of what it made, asked for by its pass afterwards.
-    after: &'static str,
-    // Of the same, asked for by the pass that calls nothing, once both threads have ended.
-    by_the_other: &'static str,
-    // Whether somebody waited for too long.
-    late: bool,
-}
+// What came of the calls and of the questions: of what stood there before, asked for while the call of pass 2 was held; of
+// what that call made, at the same time; of the call that was held; of what it made, asked for by its pass afterwards; of the
+// same, asked for by the pass that calls nothing, once both threads have ended; and whether somebody waited for too long.
+type Told = ([&'static str; 5], bool);
 
 // Holds a call of the second pass, while the first one asks, which calls nothing at all.
 fn ask_beside<L: Server + Send + Sync, R: Threads + Wait + Sync>(
@@ -114,14 +102,9 @@ fn ask_beside<L: Server + Send + Sync, R: Threads + Wait + Sync>(
     );
     let (mut one, beside, unpublished) = asked;
     let (two, held, after) = called;
-    let told = Told {
-        beside,
-        unpublished,
-        held,
-        after,
-        by_the_other: ask_read(server, &mut one, 1, 2),
-        late: signs.late.load(Ordering::SeqCst) == 1,
-    };
+    let by_the_other = ask_read(server, &mut one, 1, 2);
+    let late = signs.late.load(Ordering::SeqCst) == 1;
+    let told = ([beside, unpublished, held, after, by_the_other], late);
     (one, two, told)
 }
 
@@ -169,14 +152,8 @@ fn told_beside<R: AllocGlobal + Threads + Wait + Sync>(rt: &R) -> Result<Told, S
 
 #[test]
 fn a_question_is_answered_beside_a_held_call(rt: HostRuntime) {
-    let want = Told {
-        beside: "allowed",
-        unpublished: "no inode",
-        held: "fresh",
-        after: "allowed",
-        by_the_other: "allowed",
-        late: false,
-    };
+    let answers = ["allowed", "no inode", "fresh", "allowed", "allowed"];
+    let want = (answers, false);
     match told_beside(&rt) {
         Ok(told) => same(&rt, told, want, "a held call"),
         Err(_) => holds(&rt, false, "start"),

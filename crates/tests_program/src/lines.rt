@@ -3,37 +3,10 @@
 use crate::asserting::{made, same};
 use arrayvec::ArrayVec;
 use capcommand::{Fault, report};
-use capexplain::{explain_line, read_access};
+use capexplain::explain_line;
 use capgrant::{Access, Rules, Verdict};
 use capquestion::spelled;
 use std::alloc::{AllocError, Global};
-
-const ACCESSES: &[(&str, Option<Access>)] = &[
-    ("read", Some(Access::Read)),
-    ("write", Some(Access::Write)),
-    ("vxattr", Some(Access::SetVxattr)),
-    ("snapshot", Some(Access::Snapshot)),
-    ("chmod", Some(Access::Chmod)),
-    ("chown:0", Some(Access::Chown(0))),
-    ("chown:4294967295", Some(Access::Chown(4_294_967_295))),
-    ("chgrp:0050", Some(Access::Chgrp(50))),
-    ("", None),
-    ("Read", None),
-    ("reads", None),
-    ("chown", None),
-    ("chown:", None),
-    ("chown:-1", None),
-    ("chown:4294967296", None),
-    ("chgrp:x", None),
-    ("chgrp: 5", None),
-];
-
-#[test]
-fn reads_the_words_of_accesses(rt: HostRuntime) {
-    for (word, access) in ACCESSES {
-        same(&rt, read_access(word.as_bytes()), *access, *word);
-    }
-}
 
 /// A text, and the bytes that it spells: a character above 255 stands for its bytes in UTF-8.
 const SPELLINGS: &[(&str, &[u8])] = &[

@@ -2,8 +2,9 @@
 ghost use Rattle.std.specs.Prelude.{◌≡◌};
 ghost use Rattle.capserver.specs.Opened.{opened};
 
-use crate::asserting::{holds, same};
-use crate::servers::{MANY_ROWS, Numbers, call, count_numbered, numbers, opening};
+use crate::asserting::{holds, made, same};
+use crate::questions::call_line;
+use crate::servers::{MANY_ROWS, Numbers, count_numbered, numbers, opening};
 use capserver::{CapServer, NoGate, Opening, Pass, Server, StartFault};
 use std::alloc::Global;
 use std::marker::Brand;
@@ -24,11 +25,11 @@ fn make_files<L: Server, R: Wait>(
     let mut pass = pass;
     let client = pass.number();
     if let Ok(line) = format!(in alloc; "session {client} 10 10 - allow rw") {
-        call(rt, alloc, server, &mut pass, line.as_str());
+        call_line(rt, alloc, server, &mut pass, line.as_str());
     }
     for nth in 0..MADE {
         if let Ok(line) = format!(in alloc; "create {client} 1 f{client}.{nth} 0644") {
-            call(rt, alloc, server, &mut pass, line.as_str());
+            call_line(rt, alloc, server, &mut pass, line.as_str());
         }
     }
     pass
@@ -57,7 +58,7 @@ fn make_all<L: Server + Send + Sync, R: Threads + Wait + Sync>(
 }
 
 // Serves with so many passes, and answers the rows.
-fn served<L: Server + Send + Sync, R: Threads + Wait + Sync>(
+fn served<L: Server + Send + Sync, R: Abort + Threads + Wait + Sync>(
     rt: &R,
     alloc: Global,
     opening: Opening,
@@ -72,13 +73,13 @@ fn served<L: Server + Send + Sync, R: Threads + Wait + Sync>(
     let (server, passes) = CapServer::<NoGate, L>::start(rt, opening, blank, count, NoGate)?;
     let back = make_all(rt, alloc, &server, passes);
     let closed = server.close(rt, back);
-    let rows = numbers(alloc, closed.core.history());
+    let rows = made(rt, numbers(alloc, closed.core.history()), "rows");
     drop(closed);
-    rows.map_err(|_| StartFault::NoMemory)
+    Ok(rows)
 }
 
 // The rows of a server with so many passes on a root alone.
-fn rows_by<R: AllocGlobal + Threads + Wait + Sync>(
+fn rows_by<R: AllocGlobal + Abort + Threads + Wait + Sync>(
     rt: &R,
     count: u32,
 ) -> Result<Vec<Numbers>, StartFault> {

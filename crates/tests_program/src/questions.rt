@@ -11,7 +11,7 @@ use capscript::read_line;
 use capserver::{
     Answer, CapServer, Gate, NoGate, Opening, Pass, Question, Server, StartFault, Unknown,
 };
-use std::alloc::{AllocError, Global};
+use std::alloc::Global;
 use std::marker::Brand;
 use std::process::Abort;
 use std::sync::Wait;
@@ -29,6 +29,9 @@ enum Turn {
 }
 
 use Turn::*;
+
+// What is done, with what comes of each turn, and in short what it shows.
+type Case = (&'static str, &'static [(Turn, &'static str)]);
 
 // So often an event is called that finds no memory.
 const TRIES: u32 = 3;
@@ -102,76 +105,69 @@ fn make<G: Gate, L: Server, R: Wait>(
     "no memory"
 }
 
-// What came of each turn.
-fn take_turns<G: Gate, L: Server, R: Wait>(
+// Takes the turns, and sees that each comes out as it is to.
+fn take_turns<G: Gate, L: Server, R: Abort + Wait>(
     rt: &R,
     alloc: Global,
     server: &CapServer<G, L>,
     pass: &mut Pass<L>,
-    turns: &[(Turn, &'static str)],
-) -> Result<Vec<&'static str>, AllocError> {
-    let mut told = Vec::new(alloc);
-    for (turn, _want) in turns {
+    (title, turns): Case,
+) {
+    for (nth, (turn, want)) in turns.iter().enumerate() {
         let came = match turn {
             Call(line) => call_line(rt, alloc, server, pass, line),
             Make(line) => make(rt, alloc, server, pass, line),
             Read(client, ino) => ask_read(server, pass, *client, *ino),
         };
-        told.push(came)?;
+        same(rt, came, *want, (title, nth));
     }
-    Ok(told)
 }
 
 // Takes the turns by the first of the passes, and ends the server.
-fn served<L: Server, R: Wait>(
+fn served<L: Server, R: Abort + Wait>(
     rt: &R,
     alloc: Global,
     opening: Opening,
     blank: Blank,
     count: u32,
-    turns: &[(Turn, &'static str)],
-) -> Result<Vec<&'static str>, StartFault>
+    case: Case,
+) -> Result<(), StartFault>
     requires opening { opening ≡ opened L.opening L.max_rows L.history }
     requires name { blank.name ≡ L.name }
     requires parts { (blank.parts ≡ L.parts) × (L.parts ≡ 32) }
     requires passes { count ≡ L.passes }
 {
     let (server, mut passes) = CapServer::<NoGate, L>::start(rt, opening, blank, count, NoGate)?;
-    let told = match passes.first_mut() {
-        Some(pass) => take_turns(rt, alloc, &server, pass, turns),
-        None => Err(AllocError),
-    };
+    match passes.first_mut() {
+        Some(pass) => take_turns(rt, alloc, &server, pass, case),
+        None => holds(rt, false, case.0),
+    }
     let closed = server.close(rt, passes);
     drop(closed);
-    told.map_err(|_| StartFault::NoMemory)
+    Ok(())
 }
 
-// What comes of the turns of one pass of a server on a root alone, whose history takes so many rows.
-fn told_by<R: AllocGlobal + Wait>(
+// Takes the turns by one pass of a server on a root alone, whose history takes so many rows.
+fn told_by<R: AllocGlobal + Abort + Wait>(
     rt: &R,
     max_rows: u32,
-    turns: &[(Turn, &'static str)],
-) -> Result<Vec<&'static str>, StartFault> {
+    case: Case,
+) -> Result<(), StartFault> {
     let Ok(opening) = opening(rt.alloc(), max_rows) else {
         return Err(StartFault::NoMemory);
     };
-    served::<Brand, R>(rt, rt.alloc(), opening, Blank::new(32), 2, turns)
+    served::<Brand, R>(rt, rt.alloc(), opening, Blank::new(32), 2, case)
 }
 
-// Sees that each turn came out as it is to.
-fn comes_out<R: AllocGlobal + Wait + Abort>(
+// Sees that each turn comes out as it is to.
+fn comes_out<R: AllocGlobal + Abort + Wait>(
     rt: &R,
     max_rows: u32,
-    title: &str,
-    turns: &[(Turn, &'static str)],
+    title: &'static str,
+    turns: &'static [(Turn, &'static str)],
 ) {
-    let Ok(told) = told_by(rt, max_rows, turns) else {
-        holds(rt, false, title);
-        return;
-    };
-    for (nth, (_turn, want)) in turns.iter().enumerate() {
-        same(rt, told.get(nth).copied(), Some(*want), (title, nth));
-    }
+    let told = told_by(rt, max_rows, (title, turns));
+    holds(rt, told.is_ok(), title);
 }
 
 // Three clients, the third of which may go below /a alone, and the file /a/x.

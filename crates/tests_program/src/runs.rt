@@ -1,27 +1,18 @@
 //! Runs of the program in tests: words and a reader in, a status and two texts out.
 
-use crate::asserting::{made, same};
 use capcommand::dispatch;
 use std::alloc::{AllocError, Global};
-use std::fmt::Debug;
 use std::fs::Files;
 use std::io;
 use std::io::{ErrorKind, Read, Write};
-use std::process::Abort;
 use std::sync::Wait;
 use std::thread::Threads;
 
 /// Gives its bytes one by one, and fails once it was read so often.
 #[derive(Drop)]
 pub struct Input<'a> {
-    bytes: &'a [u8],
-    reads_left: usize,
-}
-
-impl<'a> Input<'a> {
-    pub fn failing(bytes: &'a [u8], reads_left: usize) -> Self {
-        Input { bytes, reads_left }
-    }
+    pub bytes: &'a [u8],
+    pub reads_left: usize,
 }
 
 impl Read for Input<'_> {
@@ -88,27 +79,11 @@ pub fn outcome(
     (status, text, faults)
 }
 
-/// Sees that a run had this status, and that these bytes were written and said of faults.
-pub fn had(
-    rt: &impl Abort,
-    found: Outcome,
-    (status, text, faults): (u8, &[u8], &[u8]),
-    place: impl Debug + Copy,
-) {
-    same(rt, found.1.as_slice(), text, ("output", place));
-    same(rt, found.2.as_slice(), faults, ("faults", place));
-    same(rt, found.0, status, ("status", place));
-}
-
-fn as_bytes(alloc: Global, words: &[&str]) -> Result<Vec<Vec<u8>>, AllocError> {
+/// The words as a program gets them.
+pub fn as_bytes(alloc: Global, words: &[&str]) -> Result<Vec<Vec<u8>>, AllocError> {
     let mut all = Vec::new(alloc);
     for word in words {
         all.push(word.as_bytes().to_vec(alloc)?)?;
     }
     Ok(all)
-}
-
-/// The words as a program gets them.
-pub fn words_of(rt: &impl Abort, alloc: Global, words: &[&str]) -> Vec<Vec<u8>> {
-    made(rt, as_bytes(alloc, words), words)
 }

@@ -1,10 +1,9 @@
-//! Servers in tests: events are called by the lines that say them, and the rows that they leave are seen as numbers.
+//! Servers in tests: what they begin with, and the rows that they leave, which are seen as numbers.
 
 use capcore::{Reply, Row};
-use capscript::{file_system, read_line};
-use capserver::{CapServer, Gate, Opening, Pass, Server};
+use capscript::file_system;
+use capserver::Opening;
 use std::alloc::{AllocError, Global};
-use std::sync::Wait;
 
 /// How many rows the history of a server in a test may have, where that doesn't matter.
 pub const MANY_ROWS: u32 = 1000;
@@ -13,20 +12,6 @@ pub const MANY_ROWS: u32 = 1000;
 pub fn opening(alloc: Global, max_rows: u32) -> Result<Opening, AllocError> {
     let (fs, tree) = file_system(alloc)?;
     Opening::new(alloc, fs, tree, max_rows)
-}
-
-/// Calls the event that a line says, and tells whether it was answered.
-pub fn call<G: Gate, L: Server, R: Wait>(
-    rt: &R,
-    alloc: Global,
-    server: &CapServer<G, L>,
-    pass: &mut Pass<L>,
-    line: &str,
-) -> bool {
-    match read_line(alloc, 1, line.as_bytes()) {
-        Ok(Some((_, event))) => server.call(rt, pass, event).is_ok(),
-        _ => false,
-    }
 }
 
 /// The numbers of a row: its pass, its number there, and the inode that was answered, or 0.
