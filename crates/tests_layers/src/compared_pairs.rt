@@ -160,11 +160,18 @@ fn some_caller(seed: &mut u64) -> Caller {
     }
 }
 
+fn some_mode(seed: &mut u64) -> Option<Mode> {
+    match u16::try_from(number(seed, 512)) {
+        Ok(bits) => Mode::new(bits),
+        Err(_) => None,
+    }
+}
+
 fn some_attr(rt: &impl Abort, seed: &mut u64) -> Attr {
     Attr {
         uid: number(seed, 4),
         gid: number(seed, 5),
-        mode: present(rt, Mode::new(number(seed, 512) as u16), "a mode"),
+        mode: present(rt, some_mode(seed), "a mode"),
     }
 }
 
