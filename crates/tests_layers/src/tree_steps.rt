@@ -294,12 +294,16 @@ fn forget(tree: &mut Tree, ino: Ino) -> Answer {
 // ---- what is seen
 
 fn see_path(rt: &impl Abort, tree: &Tree, ino: u64, want: Option<Path>, at: Where) {
-    let path = tree.path_of(Ino(ino));
-    let found = match &path {
-        Some(names) => Some((names.len(), names.as_slice())),
-        None => None,
-    };
-    same(rt, found, want, at);
+    match want {
+        Some((length, names)) => has_path(rt, tree, ino, (length, names), at),
+        None => same(rt, tree.path_of(Ino(ino)).is_some(), false, at),
+    }
+}
+
+fn has_path(rt: &impl Abort, tree: &Tree, ino: u64, (length, names): (usize, &[&[u8]]), at: Where) {
+    let path = present(rt, tree.path_of(Ino(ino)), "a path");
+    same(rt, path.len(), length, at);
+    same(rt, path.as_slice(), names, at);
 }
 
 // An inode that is there.
