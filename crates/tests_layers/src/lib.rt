@@ -19,8 +19,6 @@ mod cap_table;
 #[cfg(test)]
 mod caps;
 #[cfg(test)]
-mod compared_pairs;
-#[cfg(test)]
 mod comparing;
 #[cfg(test)]
 mod grant_forms;

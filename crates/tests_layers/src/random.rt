@@ -15,12 +15,3 @@ pub fn number(seed: &mut u64, bound: u32) -> u32 {
         _ => bits % bound,
     }
 }
-
-/// The next as a place in a list of so many.
-pub fn place(seed: &mut u64, count: usize) -> usize {
-    let bits = next(seed) as usize;
-    match count {
-        0 => 0,
-        _ => bits % count,
-    }
-}
