@@ -5,9 +5,16 @@ use crate::fault::AuthFault;
 use std::marker::Model;
 
 /// The entities of an auth list, in their order.
-#[derive(Debug, Drop)]
+#[derive(Debug)]
 pub struct AuthList {
     entities: Vec<Entity>,
+}
+
+// By hand, so that whoever lets one go has one call to prove.
+impl Drop for AuthList {
+    fn drop(self) {
+        let AuthList { entities: _ } = self;
+    }
 }
 
 impl Model for AuthList {

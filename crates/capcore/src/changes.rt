@@ -28,11 +28,20 @@ const MAX_KEPT_PLACES: usize = 1152;
 const SPARE_PLACES: usize = 64;
 
 // In the order in which they were made. Their room is made before a step changes anything.
-#[derive(Drop)]
 pub(crate) struct ChangeList {
     items: Vec<ViewChange>,
     // For how many there is room. The vector may have more, as it grows by more than one at a time.
     places: usize,
+}
+
+// By hand, so that whoever lets one go has one call to prove.
+impl Drop for ChangeList {
+    fn drop(self) {
+        let ChangeList {
+            items: _,
+            places: _,
+        } = self;
+    }
 }
 
 // Tells nothing of the list: what room is kept is no part of a core, and an event that finds no memory may leave less of it.

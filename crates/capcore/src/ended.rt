@@ -1,7 +1,7 @@
 //! What a step says of the requests that it ended.
-ghost use Rattle.std.specs.Prelude.{◌≡◌, ◌+◌, ◌≤◌, ◌++◌, false, length, unwrap_or};
+ghost use Rattle.std.specs.Prelude.{◌≡◌, ◌+◌, ◌≤◌, ◌++◌, false, length};
 ghost use Rattle.std.specs.List.{find};
-ghost use Rattle.capevents.specs.Replies.{has_list, outcome_reply};
+ghost use Rattle.capevents.specs.Replies.{has_list};
 ghost use Rattle.capcore.specs.Direct.{is_of_ticket, awaited_as};
 ghost use Rattle.capcore.specs.Untold.{HaveOwnNumbers, but_for};
 ghost use Rattle.capevents.specs.declared.reply.Reply.TheVariants as reply;
@@ -9,7 +9,7 @@ ghost use Rattle.capevents.specs.declared.reply.Reply.TheVariants as reply;
 use crate::messages::{Endings, Messages};
 use crate::said::Said;
 use capbits::Ticket;
-use capevents::{Ended, Outcome, Reply, copy_of_reply};
+use capevents::{Ended, Reply, copy_of_reply};
 
 // A reply, which has no list, and the requests that the step ended: their clients are to be told of them, and the history keeps
 // them.
@@ -86,22 +86,11 @@ pub(crate) fn close_with(messages: &mut Messages, ticket: Ticket, endings: &mut 
 fn awaited(ticket: Ticket, ended: Option<Ended>) -> Reply
     ensures { result ≡ awaited_as ticket ended }
 {
-    match ended {
-        Some(Ended { outcome, .. }) => of_outcome(ticket, outcome),
+    let Some(ended) = ended else {
+        return Reply::Waiting(ticket);
+    };
+    match ended.into_outcome().into_reply() {
+        Some(reply) => reply,
         None => Reply::Waiting(ticket),
-    }
-}
-
-// How a request ended, as a reply. Of one that was dropped there is none.
-fn of_outcome(ticket: Ticket, outcome: Outcome) -> Reply
-    ensures { result ≡ unwrap_or (outcome_reply outcome) (reply.Waiting ticket) }
-{
-    match outcome {
-        Outcome::Done => Reply::Done,
-        Outcome::Values(values) => Reply::Values(values),
-        Outcome::Denied { access, rules } => Reply::Denied { access, rules },
-        Outcome::Refused(refusal) => Reply::Refused(refusal),
-        Outcome::OutOfMemory => Reply::OutOfMemory,
-        Outcome::Dropped => Reply::Waiting(ticket),
     }
 }

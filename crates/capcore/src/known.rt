@@ -12,9 +12,16 @@ use std::alloc::{AllocError, Global};
 use std::collections::HashMap;
 
 // Of each entry the set that its client is to know of, so that it is known after the tree or the grants have changed.
-#[derive(Debug, Drop)]
+#[derive(Debug)]
 pub(crate) struct Known {
     sets: HashMap<Holder, CapSet>,
+}
+
+// By hand, so that whoever lets one go has one call to prove.
+impl Drop for Known {
+    fn drop(self) {
+        let Known { sets: _ } = self;
+    }
 }
 
 impl Known {

@@ -17,9 +17,16 @@ use std::marker::Model;
 use std::mem::replace;
 
 // In the order in which they ended. Their room is made when they begin to wait, so that none is lost.
-#[derive(Debug, Drop)]
+#[derive(Debug)]
 pub(crate) struct Messages {
     items: Vec<Ended>,
+}
+
+// By hand, so that whoever lets one go has one call to prove.
+impl Drop for Messages {
+    fn drop(self) {
+        let Messages { items: _ } = self;
+    }
 }
 
 impl Model for Messages {
@@ -165,12 +172,23 @@ impl Messages {
 
 // The requests that a step ends: once to be told to their clients, and once for the history; the inodes whose sizes they
 // changed; and what the step changes of what readers see. Between steps their room alone is of use, and is no part of a state.
-#[derive(Drop)]
 pub(crate) struct Endings {
     pub(crate) told: Messages,
     pub(crate) kept: Messages,
     pub(crate) sized: Vec<Ino>,
     pub(crate) changes: ChangeList,
+}
+
+// By hand, so that whoever lets one go has one call to prove.
+impl Drop for Endings {
+    fn drop(self) {
+        let Endings {
+            told: _,
+            kept: _,
+            sized: _,
+            changes: _,
+        } = self;
+    }
 }
 
 // Tells nothing of the room that is kept, of which an event that finds no memory may leave less.

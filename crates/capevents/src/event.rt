@@ -17,7 +17,6 @@ pub enum OpenMode {
 }
 
 /// Something that happens to the server: what a client asks for, or what is told of one.
-#[derive(Drop)]
 pub enum Event {
     /// A client opens a session.
     Session {
@@ -214,6 +213,100 @@ pub enum Event {
         /// How many it takes at most.
         max: u32,
     },
+}
+
+// By hand, so that whoever lets one go has one call to prove.
+impl Drop for Event {
+    fn drop(self) {
+        match self {
+            Event::Session {
+                client: _,
+                caller: _,
+                grants: _,
+            } => {}
+            Event::CloseSession { client: _ } => {}
+            Event::Stale { client: _ } => {}
+            Event::Renew { client: _ } => {}
+            Event::Regrant {
+                client: _,
+                grants: _,
+            } => {}
+            Event::Evict { client: _ } => {}
+            Event::Unblock { client: _ } => {}
+            Event::Recall { count: _ } => {}
+            Event::Lookup {
+                client: _,
+                dir: _,
+                name: _,
+            } => {}
+            Event::Create {
+                client: _,
+                dir: _,
+                name: _,
+                mode: _,
+            } => {}
+            Event::Mkdir {
+                client: _,
+                dir: _,
+                name: _,
+                mode: _,
+            } => {}
+            Event::MakeSnapshot {
+                client: _,
+                ino: _,
+                name: _,
+            } => {}
+            Event::RemoveSnapshot {
+                client: _,
+                ino: _,
+                name: _,
+            } => {}
+            Event::Open {
+                client: _,
+                ino: _,
+                mode: _,
+            } => {}
+            Event::Want {
+                client: _,
+                ino: _,
+                caps: _,
+            } => {}
+            Event::Ack {
+                client: _,
+                ino: _,
+                seq: _,
+            } => {}
+            Event::Release {
+                client: _,
+                ino: _,
+                caps: _,
+            } => {}
+            Event::Get {
+                client: _,
+                ino: _,
+                part: _,
+            } => {}
+            Event::Alter {
+                client: _,
+                ino: _,
+                change: _,
+            } => {}
+            Event::Unlink { client: _, ino: _ } => {}
+            Event::Rmdir { client: _, ino: _ } => {}
+            Event::Rename {
+                client: _,
+                ino: _,
+                dir: _,
+                name: _,
+            } => {}
+            Event::Flush {
+                client: _,
+                ino: _,
+                change: _,
+            } => {}
+            Event::Poll { client: _, max: _ } => {}
+        }
+    }
 }
 
 /// Tells nothing of the event: its one text is the line that says it.

@@ -1,6 +1,8 @@
 //! How requests end that wait for a lock, and the messages that clients are given.
 ghost use Rattle.std.specs.Prelude.{◌≡◌, ◌++◌, ◌∷◌, [], OnOk, OnErr};
+ghost use Rattle.capevents.specs.Replies.{outcome_reply};
 
+use crate::reply::Reply;
 use capbits::{CapSet, ClientId, Ino, Refusal, Ticket};
 use capgrant::{Access, Attr, Rules};
 use inotree::Attributes;
@@ -8,7 +10,7 @@ use std::alloc::{AllocError, Global};
 use std::marker::Model;
 
 /// What an inode keeps of one part.
-#[derive(Debug, Drop)]
+#[derive(Debug)]
 pub enum PartValues {
     /// Its owner, group and mode.
     Auth(Attr),
@@ -25,8 +27,20 @@ pub enum PartValues {
     },
 }
 
+// By hand, so that whoever lets one go has one call to prove.
+impl Drop for PartValues {
+    fn drop(self) {
+        match self {
+            PartValues::Auth(_) => {}
+            PartValues::Link => {}
+            PartValues::Xattr(_) => {}
+            PartValues::File { size: _, time: _ } => {}
+        }
+    }
+}
+
 /// How a request ended that waited for a lock.
-#[derive(Debug, Drop)]
+#[derive(Debug)]
 pub enum Outcome {
     /// The change was made.
     Done,
@@ -47,8 +61,41 @@ pub enum Outcome {
     Dropped,
 }
 
+// By hand, so that whoever lets one go has one call to prove.
+impl Drop for Outcome {
+    fn drop(self) {
+        match self {
+            Outcome::Done => {}
+            Outcome::Values(_) => {}
+            Outcome::Denied {
+                access: _,
+                rules: _,
+            } => {}
+            Outcome::Refused(_) => {}
+            Outcome::OutOfMemory => {}
+            Outcome::Dropped => {}
+        }
+    }
+}
+
+impl Outcome {
+    /// The reply that says so; none of a request that was dropped, whose client is there no more.
+    pub fn into_reply(self) -> Option<Reply>
+        ensures { result ≡ outcome_reply self }
+    {
+        match self {
+            Outcome::Done => Some(Reply::Done),
+            Outcome::Values(values) => Some(Reply::Values(values)),
+            Outcome::Denied { access, rules } => Some(Reply::Denied { access, rules }),
+            Outcome::Refused(refusal) => Some(Reply::Refused(refusal)),
+            Outcome::OutOfMemory => Some(Reply::OutOfMemory),
+            Outcome::Dropped => None,
+        }
+    }
+}
+
 /// A request that waited for a lock and ended, in a later step or in the one that brought it.
-#[derive(Debug, Drop)]
+#[derive(Debug)]
 pub struct Ended {
     /// Whose it was.
     pub client: ClientId,
@@ -58,8 +105,33 @@ pub struct Ended {
     pub outcome: Outcome,
 }
 
+// By hand, so that whoever lets one go has one call to prove.
+impl Drop for Ended {
+    fn drop(self) {
+        let Ended {
+            client: _,
+            ticket: _,
+            outcome: _,
+        } = self;
+    }
+}
+
+impl Ended {
+    /// How it ended.
+    pub fn into_outcome(self) -> Outcome
+        ensures { result ≡ self.outcome }
+    {
+        let Ended {
+            client: _,
+            ticket: _,
+            outcome,
+        } = self;
+        outcome
+    }
+}
+
 /// What a client is told when it asks for its messages.
-#[derive(Debug, Drop)]
+#[derive(Debug)]
 pub enum Message {
     /// A request of its own ended.
     Ended {
@@ -91,10 +163,36 @@ pub enum Message {
     },
 }
 
+// By hand, so that whoever lets one go has one call to prove.
+impl Drop for Message {
+    fn drop(self) {
+        match self {
+            Message::Ended {
+                ticket: _,
+                outcome: _,
+            } => {}
+            Message::Caps {
+                ino: _,
+                seq: _,
+                caps: _,
+            } => {}
+            Message::Size { ino: _, size: _ } => {}
+            Message::Recall { ino: _ } => {}
+        }
+    }
+}
+
 /// A list of messages, in the order in which they are given.
-#[derive(Debug, Drop)]
+#[derive(Debug)]
 pub struct MessageList {
     items: Vec<Message>,
+}
+
+// By hand, so that whoever lets one go has one call to prove.
+impl Drop for MessageList {
+    fn drop(self) {
+        let MessageList { items: _ } = self;
+    }
 }
 
 impl Model for MessageList {

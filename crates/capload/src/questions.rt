@@ -27,10 +27,19 @@ const ACCESSES: &[&str] = &["read", "write", "vxattr", "snapshot", "chmod", "cho
 const TEXTS: u64 = 1024;
 
 /// The texts that questions are put together from.
-#[derive(Drop)]
 struct Texts {
     grants: Vec<Vec<u8>>,
     paths: Vec<Vec<u8>>,
+}
+
+// By hand, so that whoever lets one go has one call to prove.
+impl Drop for Texts {
+    fn drop(self) {
+        let Texts {
+            grants: _,
+            paths: _,
+        } = self;
+    }
 }
 
 /// Answers so many questions, and returns the digest of the answers.

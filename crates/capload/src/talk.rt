@@ -39,7 +39,6 @@ pub(crate) enum Heard {
 
 /// The talk of all clients, with what it is made from. After its first fault nothing more is said, and every answer is that nothing
 /// was done: so who talks need not look for a fault until the end.
-#[derive(Drop)]
 pub(crate) struct Talk {
     alloc: Global,
     random: Pcg32,
@@ -47,6 +46,20 @@ pub(crate) struct Talk {
     line: Vec<u8>,
     told: Vec<Told>,
     fault: Option<Fault>,
+}
+
+// By hand, so that whoever lets one go has one call to prove.
+impl Drop for Talk {
+    fn drop(self) {
+        let Talk {
+            alloc: _,
+            random: _,
+            digest: _,
+            line: _,
+            told: _,
+            fault: _,
+        } = self;
+    }
 }
 
 impl Talk {

@@ -20,7 +20,7 @@ use capspec::{FsName, Grants, TreePath};
 use std::alloc::{AllocError, Global};
 
 /// The values of the options as they stand on the command line, as bytes.
-#[derive(Debug, Drop)]
+#[derive(Debug)]
 pub struct Values {
     /// The client's grants, as `ceph fs authorize` writes them.
     pub grants: Vec<u8>,
@@ -44,8 +44,26 @@ pub struct Values {
     pub access: Vec<u8>,
 }
 
+// By hand, so that whoever lets one go has one call to prove.
+impl Drop for Values {
+    fn drop(self) {
+        let Values {
+            grants: _,
+            fs: _,
+            uid: _,
+            gid: _,
+            groups: _,
+            path: _,
+            owner: _,
+            group: _,
+            mode: _,
+            access: _,
+        } = self;
+    }
+}
+
 /// Whether these grants let a caller make an access to an inode.
-#[derive(Debug, Drop)]
+#[derive(Debug)]
 pub struct Question {
     /// The grants of the client.
     pub grants: Grants,
@@ -59,6 +77,20 @@ pub struct Question {
     pub attr: Attr,
     /// What is asked for.
     pub access: Access,
+}
+
+// By hand, so that whoever lets one go has one call to prove.
+impl Drop for Question {
+    fn drop(self) {
+        let Question {
+            grants: _,
+            fs: _,
+            caller: _,
+            path: _,
+            attr: _,
+            access: _,
+        } = self;
+    }
 }
 
 impl Values {

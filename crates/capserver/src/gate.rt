@@ -18,10 +18,16 @@ impl Gate for NoGate {
 }
 
 /// What a call answers.
-#[derive(Drop)]
 pub struct Answer {
     /// What the core answered to the event.
     pub reply: Reply,
     /// Whether the event is published. Then the pass knows its row.
     pub fresh: bool,
+}
+
+// By hand, so that whoever lets one go has one call to prove.
+impl Drop for Answer {
+    fn drop(self) {
+        let Answer { reply: _, fresh: _ } = self;
+    }
 }

@@ -9,7 +9,6 @@ use crate::tree_path::TreePath;
 use std::alloc::{AllocError, Global};
 
 /// What the items of one grant have said so far. It takes no memory: its path is still a part of the text.
-#[derive(Drop)]
 pub(crate) struct Draft<'a> {
     pub flags: Flags4,
     pub fsname: Option<Option<FsName>>,
@@ -17,6 +16,20 @@ pub(crate) struct Draft<'a> {
     pub uid: Option<u32>,
     pub gids: Option<Gids>,
     pub root_squash: bool,
+}
+
+// By hand, so that whoever lets one go has one call to prove.
+impl Drop for Draft<'_> {
+    fn drop(self) {
+        let Draft {
+            flags: _,
+            fsname: _,
+            path: _,
+            uid: _,
+            gids: _,
+            root_squash: _,
+        } = self;
+    }
 }
 
 impl<'a> Draft<'a> {
@@ -54,14 +67,22 @@ impl<'a> Draft<'a> {
     pub fn into_grant(self, alloc: Global) -> Result<Grant, AllocError>
         ensures { IfOk result (λ grant. grant ≡ grant_of self.entry) }
     {
-        let path = TreePath::from_text(alloc, self.path.unwrap_or(&[]))?;
-        Ok(Grant {
-            flags: self.flags,
-            fsname: self.fsname.flatten(),
+        let Draft {
+            flags,
+            fsname,
             path,
-            uid: self.uid,
-            gids: self.gids.unwrap_or_default(),
-            root_squash: self.root_squash,
+            uid,
+            gids,
+            root_squash,
+        } = self;
+        let path = TreePath::from_text(alloc, path.unwrap_or(&[]))?;
+        Ok(Grant {
+            flags,
+            fsname: fsname.flatten(),
+            path,
+            uid,
+            gids: gids.unwrap_or_default(),
+            root_squash,
         })
     }
 }

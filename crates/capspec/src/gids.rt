@@ -7,9 +7,16 @@ use std::marker::Model;
 pub const MAX_GIDS: usize = 16;
 
 /// The group numbers that a grant lists, as they stand in its text: at most 16, and none where it lists none.
-#[derive(Clone, Debug, PartialEq, Eq, Drop)]
+#[derive(Clone, Debug, PartialEq, Eq)]
 pub struct Gids {
     gids: ArrayVec<u32, MAX_GIDS>,
+}
+
+// By hand, so that whoever lets one go has one call to prove.
+impl Drop for Gids {
+    fn drop(self) {
+        let Gids { gids: _ } = self;
+    }
 }
 
 impl Model for Gids {

@@ -5,9 +5,16 @@ use crate::entry::Holder;
 use std::marker::Model;
 
 /// A list of holders.
-#[derive(Debug, Drop)]
+#[derive(Debug)]
 pub struct Holders {
     list: Vec<Holder>,
+}
+
+// By hand, so that whoever lets one go has one call to prove.
+impl Drop for Holders {
+    fn drop(self) {
+        let Holders { list: _ } = self;
+    }
 }
 
 impl Model for Holders {
@@ -31,7 +38,8 @@ impl Holders {
     pub fn into_vec(self) -> Vec<Holder>
         ensures { result.items ≡ self }
     {
-        self.list
+        let Holders { list } = self;
+        list
     }
 
     /// These holders, in their order.

@@ -10,7 +10,6 @@ use std::alloc::AllocError;
 use std::fmt;
 
 /// One change of what readers see.
-#[derive(Drop)]
 pub enum ViewChange {
     /// An inode was made.
     Born {
@@ -72,6 +71,39 @@ pub enum ViewChange {
         /// What it may do now, and where.
         grants: Grants,
     },
+}
+
+// By hand, so that whoever lets one go has one call to prove.
+impl Drop for ViewChange {
+    fn drop(self) {
+        match self {
+            ViewChange::Born {
+                ino: _,
+                dir: _,
+                name: _,
+                attr: _,
+                is_dir: _,
+            } => {}
+            ViewChange::Moved {
+                ino: _,
+                dir: _,
+                name: _,
+            } => {}
+            ViewChange::Removed { ino: _ } => {}
+            ViewChange::Forgotten { ino: _ } => {}
+            ViewChange::Settled { ino: _, attr: _ } => {}
+            ViewChange::Opened {
+                client: _,
+                caller: _,
+                grants: _,
+            } => {}
+            ViewChange::Ended { client: _ } => {}
+            ViewChange::Regranted {
+                client: _,
+                grants: _,
+            } => {}
+        }
+    }
 }
 
 /// Tells nothing of the change but that it is one.

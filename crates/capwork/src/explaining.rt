@@ -10,7 +10,7 @@ use crate::work::{AskShape, Layout, Size, Way};
 use capbits::Ino;
 use capcore::Event;
 use capgrant::{Access, Verdict};
-use capserver::{Answer, CapServer, NoGate, Opening, Pass, Question, Server};
+use capserver::{CapServer, NoGate, Opening, Pass, Question, Server};
 use std::alloc::Global;
 use std::marker::Brand;
 use std::sync::atomic::{AtomicU64, Ordering};
@@ -175,17 +175,9 @@ fn call_now<L: Server, T: Wait>(
         return Err(Fault::NoMemory);
     };
     match server.call(rt, pass, event) {
-        Ok(answer) => {
-            forget(answer);
-            Ok(())
-        }
+        Ok(_answer) => Ok(()),
         Err(stop) => Err(Fault::Stopped(stop)),
     }
-}
-
-fn forget(answer: Answer) {
-    let Answer { reply, fresh: _ } = answer;
-    drop(reply);
 }
 
 // ---- the threads that ask

@@ -467,12 +467,9 @@ fn call<L: Server, T: Wait>(
 }
 
 fn read_answer(answer: capserver::Answer) -> Called {
-    let capserver::Answer { reply, fresh } = answer;
-    let answer = read_reply(&reply);
-    drop(reply);
     Called {
-        answer,
-        is_fresh: fresh,
+        answer: read_reply(&answer.reply),
+        is_fresh: answer.fresh,
     }
 }
 

@@ -17,10 +17,16 @@ pub struct Talk<'a> {
 }
 
 /// The lines of a file, and its talks.
-#[derive(Drop)]
 pub struct Book<'a> {
     lines: Vec<Line<'a>>,
     talks: Vec<Talk<'a>>,
+}
+
+// By hand, so that whoever lets one go has one call to prove.
+impl Drop for Book<'_> {
+    fn drop(self) {
+        let Book { lines: _, talks: _ } = self;
+    }
 }
 
 impl<'a> Book<'a> {

@@ -9,10 +9,17 @@ use std::marker::Model;
 pub const MAX_NAME: usize = 255;
 
 /// A name of at most `MAX_NAME` bytes. Names are ordered by their bytes.
-#[derive(Debug, PartialEq, Eq, PartialOrd, Ord, Drop)]
+#[derive(Debug, PartialEq, Eq, PartialOrd, Ord)]
 pub struct Name {
     // They lie in the value itself, so that a look-up by a name takes no memory.
     bytes: ArrayVec<u8, MAX_NAME>,
+}
+
+// By hand, so that whoever lets one go has one call to prove.
+impl Drop for Name {
+    fn drop(self) {
+        let Name { bytes: _ } = self;
+    }
 }
 
 impl Model for Name {

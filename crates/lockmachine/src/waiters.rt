@@ -68,9 +68,16 @@ fn place_in_order(part: Part) -> u8
 }
 
 /// All who wait, by the inode and then by the part, and at each lock the oldest first. It has room for as many as may wait.
-#[derive(Debug, Drop)]
+#[derive(Debug)]
 pub(crate) struct Waiters {
     list: Vec<Waiter>,
+}
+
+// By hand, so that whoever lets one go has one call to prove.
+impl Drop for Waiters {
+    fn drop(self) {
+        let Waiters { list: _ } = self;
+    }
 }
 
 impl Model for Waiters {

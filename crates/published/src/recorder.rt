@@ -12,7 +12,6 @@ use std::alloc::AllocError;
 use std::marker::Model;
 
 /// A book with no row, which has no name yet.
-#[derive(Drop)]
 pub struct NewRows {
     head: Head,
     // The right to the word of the first row.
@@ -22,6 +21,17 @@ pub struct NewRows {
     pub ghost head_is: { head ≡ head_of seen.book },
     pub ghost pen_of: { pen.book ≡ seen.book },
     pub ghost pen_is: { pen.nib ≡ next_of [] },
+}
+
+// By hand, so that whoever lets one go has one call to prove.
+impl Drop for NewRows {
+    fn drop(self) {
+        let NewRows {
+            head: _,
+            pen: _,
+            seen: _,
+        } = self;
+    }
 }
 
 impl NewRows {
@@ -48,12 +58,22 @@ impl NewRows {
 }
 
 /// Who adds rows to the book of a server, alone. Contracts see it as these rows.
-#[derive(Drop)]
 pub struct Recorder<L: Server> {
     head: Head,
     // The right to the word of the next row.
     pen: Pen,
     rows: Beginning<L>,
+}
+
+// By hand, so that whoever lets one go has one call to prove.
+impl<L: Server> Drop for Recorder<L> {
+    fn drop(self) {
+        let Recorder {
+            head: _,
+            pen: _,
+            rows: _,
+        } = self;
+    }
 }
 
 impl<L: Server> Model for Recorder<L> {

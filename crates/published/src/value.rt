@@ -7,12 +7,18 @@ use left_right::Absorb;
 use std::alloc::AllocError;
 
 /// What readers see: a beginning of the history, and the view to which it leads.
-#[derive(Drop)]
 pub struct Published {
     /// The beginning of the history.
     pub rows: Counted,
     /// The view.
     pub view: View,
+}
+
+// By hand, so that whoever lets one go has one call to prove.
+impl Drop for Published {
+    fn drop(self) {
+        let Published { rows: _, view: _ } = self;
+    }
 }
 
 impl Published {
@@ -27,7 +33,6 @@ impl Published {
 }
 
 /// What brings a published value up to date, one step at a time: each is made as a whole or not at all.
-#[derive(Drop)]
 pub enum Stage {
     /// There are more rows.
     Rows(Counted),
@@ -35,6 +40,17 @@ pub enum Stage {
     Change(Box<ViewChange>),
     /// The view is this one, whatever it was.
     Whole(Box<View>),
+}
+
+// By hand, so that whoever lets one go has one call to prove.
+impl Drop for Stage {
+    fn drop(self) {
+        match self {
+            Stage::Rows(_) => {}
+            Stage::Change(_) => {}
+            Stage::Whole(_) => {}
+        }
+    }
 }
 
 impl Absorb<Stage> for Published {

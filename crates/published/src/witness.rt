@@ -17,11 +17,17 @@ use capview::{Question, Unknown};
 use std::marker::Model;
 
 /// Who has a reader's place, and knows what it saw there. To contracts it is the rows that it knows.
-#[derive(Drop)]
 pub struct Witness<L: Server> {
     known: Beginning<L>,
     // Its place, which it has between two calls.
     place: Option<PublishedReader<L>>,
+}
+
+// By hand, so that whoever lets one go has one call to prove.
+impl<L: Server> Drop for Witness<L> {
+    fn drop(self) {
+        let Witness { known: _, place: _ } = self;
+    }
 }
 
 impl<L: Server> Model for Witness<L> {
