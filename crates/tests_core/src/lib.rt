@@ -7,8 +7,6 @@
 #[cfg(test)]
 mod asking;
 #[cfg(test)]
-mod asserting;
-#[cfg(test)]
 mod failing_streams;
 #[cfg(test)]
 mod gathers;

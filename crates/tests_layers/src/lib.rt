@@ -5,8 +5,6 @@
 #![tactic(auto)]
 
 #[cfg(test)]
-mod asserting;
-#[cfg(test)]
 mod attributes;
 #[cfg(test)]
 mod auditing;

@@ -5,24 +5,12 @@
 #![tactic(auto)]
 
 #[cfg(test)]
-mod asserting;
-#[cfg(test)]
 mod failing_streams;
-#[cfg(test)]
-mod gates;
-#[cfg(test)]
-mod held_questions;
 #[cfg(test)]
 mod lines;
 #[cfg(test)]
 mod measured_work;
 #[cfg(test)]
-mod passes;
-#[cfg(test)]
-mod questions;
-#[cfg(test)]
 mod runs;
-#[cfg(test)]
-mod servers;
 #[cfg(test)]
 mod words;
