@@ -9,22 +9,11 @@ use std::io::{Read, Write};
 /// A reader or a writer that reads and writes as the inner one does, with two flags, which are clear at first and stay once they are
 /// set. `failed` is set once a read, a write or a flush failed, or a write of one byte or more took none; `ended`, once a read of one
 /// byte or more gave none.
-#[derive(Debug)]
+#[derive(Debug, Drop)]
 pub struct Watched<T> {
     inner: T,
     failed: bool,
     ended: bool,
-}
-
-// By hand, so that whoever lets one go has one call to prove.
-impl<T: Drop> Drop for Watched<T> {
-    fn drop(self) {
-        let Watched {
-            inner: _,
-            failed: _,
-            ended: _,
-        } = self;
-    }
 }
 
 impl<T> Watched<T> {
