@@ -1,9 +1,9 @@
 //! The core that is asked: steps of passes, what is seen beside each answer, and what is left.
 
+use crate::asserting::{made, same};
 use crate::looking::{Look, seen};
 use crate::steps::locks_text;
 use crate::viewing::changes_text;
-use asserting::{made, same};
 use capbits::PassId;
 use capcore::{Core, Event, Reply, Stop};
 use capexplain::reply_lines;

@@ -1,7 +1,7 @@
 //! Readers and writers that fail: what their flags tell, and what a run over them leaves.
 
+use crate::asserting::same;
 use crate::runs::{SNAPSHOTS, SNAPSHOTS_ANSWERED};
-use asserting::same;
 use capscript::{ScriptFault, Watched, run};
 use std::alloc::Global;
 use std::io;

@@ -7,6 +7,8 @@
 #[cfg(test)]
 mod asking;
 #[cfg(test)]
+mod asserting;
+#[cfg(test)]
 mod failing_streams;
 #[cfg(test)]
 mod gathers;

@@ -1,7 +1,7 @@
 //! Scripts that are too long for a talk: parts that stand there over and over, with what is written.
 
+use crate::asserting::{made, same};
 use crate::runs::transcript;
-use asserting::{made, same};
 use capscript::MAX_SCRIPT;
 use std::alloc::{AllocError, Global};
 use std::process::Abort;

@@ -1,7 +1,7 @@
 //! The texts of replies, refusals, stops and accesses.
 
+use crate::asserting::{made, same};
 use arrayvec::ArrayVec;
-use asserting::{made, same};
 use capbits::{Cap, CapSet, Ino, Mode, Ticket};
 use capcore::{Message, MessageList, Outcome, PartValues, Refusal, Reply, Stop};
 use capexplain::reply_lines;

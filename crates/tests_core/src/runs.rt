@@ -1,6 +1,6 @@
 //! Scripts with what they write.
 
-use asserting::same;
+use crate::asserting::same;
 use capscript::{ScriptFault, Watched, run};
 use std::alloc::{AllocError, Global};
 use std::io;

@@ -1,7 +1,7 @@
 //! What clients hold that nobody behind their key is permitted, and what two of them hold in conflict.
 
+use crate::asserting::{made, present, same};
 use crate::texts::grants_of;
-use asserting::{made, present, same};
 use capaudit::{Conflict, Finding, Holding, Inode, beyond, conflicts};
 use capbits::{CapSet, Mode, read_caps};
 use capgrant::{Access, Attr, Rule};

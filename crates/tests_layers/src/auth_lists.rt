@@ -1,7 +1,7 @@
 //! Auth lists: a text of a real cluster, and texts that are none.
 
+use crate::asserting::{made, present, same};
 use crate::texts::shown;
-use asserting::{made, present, same};
 use capauth::{AuthFault, AuthList, read_auth};
 use std::alloc::Global;
 use std::process::Abort;

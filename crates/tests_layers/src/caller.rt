@@ -1,6 +1,6 @@
 //! A caller and its groups.
 
-use asserting::same;
+use crate::asserting::same;
 use capbits::{Caller, Groups, TooManyGroups};
 use std::process::Abort;
 

@@ -1,6 +1,6 @@
 //! Worked runs: clients that take, give back and are asked for capabilities.
 
-use asserting::{made, same};
+use crate::asserting::{made, same};
 use capbits::{CapSet, ClientId, Ino, Refusal, read_caps};
 use captable::{CapTable, Entry, Holder, Holders, MAX_ENTRIES, Walk};
 use std::alloc::AllocError;

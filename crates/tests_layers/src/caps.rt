@@ -1,6 +1,6 @@
 //! Sets of capabilities, their numbers and their texts.
 
-use asserting::{made, present, same};
+use crate::asserting::{made, present, same};
 use capbits::{Cap, CapSet, CapText, Part, read_caps, write_caps};
 use std::process::Abort;
 

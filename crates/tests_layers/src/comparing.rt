@@ -1,7 +1,7 @@
 //! What one list of grants allows and another denies.
 
+use crate::asserting::{made, same};
 use crate::texts::grants_of;
-use asserting::{made, same};
 use capbits::Caller;
 use capcompare::{Witness, gained, lost};
 use std::alloc::AllocError;

@@ -1,7 +1,7 @@
 //! The one form in which grants are written, of the longest and of none. Other forms stand in the talks of `casebook`.
 
+use crate::asserting::{holds, made, same};
 use crate::texts::{copy_of, grants_of, long_text, written};
-use asserting::{holds, made, same};
 use capspec::Grants;
 use std::alloc::{AllocError, Global};
 use std::process::Abort;

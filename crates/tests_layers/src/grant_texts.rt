@@ -1,8 +1,8 @@
 //! Grant texts: how long they may be, the grants that they mean, and the paths and names in them. Their faults are asked for in
 //! the talks of `casebook`.
 
+use crate::asserting::{made, same};
 use crate::texts::{Long, copy_of, grants_of, long_text, written};
-use asserting::{made, same};
 use capspec::{Flags4, FsName, Grants, SpecFault, SpecFaultKind, TreePath, read_grants};
 use std::alloc::AllocError;
 use std::process::Abort;

@@ -1,11 +1,11 @@
 //! The limits of a tree, each at the last value that passes and at the first that does not.
 
+use crate::asserting::{present, same};
 use crate::tree_steps::Ask::*;
 use crate::tree_steps::Keeping::*;
 use crate::tree_steps::Leaving::*;
 use crate::tree_steps::Look::*;
 use crate::tree_steps::{Case, Round, asked, create, keep, made, numbered, runs_on};
-use asserting::{present, same};
 use capbits::{Ino, Refusal};
 use inotree::{Kind, MAX_INODES, MAX_NAMES, Name, Place, Tree, is_bad_attribute, is_bad_name};
 use std::process::Abort;

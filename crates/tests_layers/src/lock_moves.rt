@@ -1,9 +1,9 @@
 //! Worked runs: what clients want and hold of inodes, and the moves that the locks make for it.
 
+use crate::asserting::{made, present, same};
 use crate::cap_table::{caps, open, release};
 use crate::sessions::{made as no_sessions, marked, opened_for};
 use crate::tree_steps::{create, made as no_inodes, unlink};
-use asserting::{made, present, same};
 use capbits::{CapSet, ClientId, Ino, Part};
 use capspec::FsName;
 use captable::CapTable;

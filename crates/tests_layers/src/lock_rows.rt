@@ -1,6 +1,6 @@
 //! What a client may hold of a part by the state of the part's lock.
 
-use asserting::same;
+use crate::asserting::same;
 use capbits::{Cap, CapSet, ClientId, Part};
 use locktable::{LockState, State, allowed, row};
 use std::process::Abort;

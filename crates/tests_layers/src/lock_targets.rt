@@ -1,6 +1,6 @@
 //! Which requests a state serves, and where a lock is to go.
 
-use asserting::same;
+use crate::asserting::same;
 use capbits::{Cap, CapSet, ClientId, Part};
 use locktable::{Head, State, serves, target};
 use std::process::Abort;

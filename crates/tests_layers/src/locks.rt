@@ -1,6 +1,6 @@
 //! Worked runs: inodes that come and go with their locks, and what is kept beside them.
 
-use asserting::{made, same};
+use crate::asserting::{made, same};
 use capbits::{ClientId, Ino, Part};
 use lockmachine::{Bytes, InodeLocks, Locks};
 use locktable::{LockState, State};

@@ -1,7 +1,7 @@
 //! Maps by number: what they have, and show, beside a tree map that takes the same steps.
 
+use crate::asserting::{made, same};
 use crate::texts::{line_of, lines_of};
-use asserting::{made, same};
 use numbered::Numbered;
 use std::alloc::Global;
 use std::collections::BTreeMap;

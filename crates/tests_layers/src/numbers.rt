@@ -1,6 +1,6 @@
 //! Numbers: as texts write them, as modes, and as the ids of clients, inodes, requests and passes.
 
-use asserting::{made, same};
+use crate::asserting::{made, same};
 use capbits::{ClientId, Ino, Mode, PassId, Ticket, read_mode, read_u32, read_u64};
 
 // Texts, and the numbers of 32 and of 64 bits that they write.

@@ -1,8 +1,8 @@
 //! What grants permit to hold, and the list of rules in a denial. Which access they allow is asked in the talks of `casebook`.
 
+use crate::asserting::{made, present, same};
 use crate::texts::grants_of;
 use arrayvec::ArrayVec;
-use asserting::{made, present, same};
 use capbits::{Caller, Groups, Mode, write_caps};
 use capgrant::{Attr, Rule, Rules, permitted};
 use capspec::FsName;

@@ -1,6 +1,6 @@
 //! The queue: who waits has a number, and no more wait than may.
 
-use asserting::{made, same};
+use crate::asserting::{made, same};
 use capbits::{ClientId, Ino, Part, Refusal, Ticket};
 use lockmachine::{Ask, Locks, MAX_WAITING, Move};
 use std::alloc::Global;

@@ -1,7 +1,8 @@
 //! Worked runs: clients that connect, go stale, leave, are thrown out, and come back; and after each round, a copy of the sessions.
 
+use crate::asserting;
+use crate::asserting::{present, same};
 use crate::texts::{grants_of, line_of};
-use asserting::{present, same};
 use capbits::{Caller, ClientId, Groups, Refusal};
 use capspec::{Flags4, Grants, read_grants};
 use sessiontab::{Connected, MAX_BLOCKED, MAX_SESSIONS, NoSession, Sessions, Status};

@@ -1,8 +1,8 @@
 //! A long run of a table of capabilities: many calls beside a plain list.
 
+use crate::asserting::{made, same};
 use crate::cap_table::{caps, leave, open, renumber};
 use crate::random::number;
-use asserting::{made, same};
 use capbits::{CapSet, ClientId, Ino};
 use captable::{CapTable, Holder, Walk};
 use std::process::Abort;

@@ -1,6 +1,6 @@
 //! Texts that are made of parts, and the grants that texts say.
 
-use asserting::made;
+use crate::asserting::made;
 use capspec::{Grants, read_grants, write_grants};
 use std::alloc::Global;
 use std::fmt::{Debug, Display};

@@ -1,12 +1,13 @@
 //! Worked runs: inodes that are made, moved and unlinked, their paths, and what a copy of the tree keeps.
 
+use crate::asserting;
+use crate::asserting::same;
 use crate::tree_steps::Ask::*;
 use crate::tree_steps::Keeping::*;
 use crate::tree_steps::Leaving::*;
 use crate::tree_steps::Look::*;
 use crate::tree_steps::{Case, Field, Round, made, run_all, runs_on};
 use crate::tree_text::inodes_text;
-use asserting::same;
 use capbits::Refusal;
 use inotree::{Kind, Place, Tree};
 use std::alloc::{AllocError, Global};

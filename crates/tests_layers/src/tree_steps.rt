@@ -1,6 +1,7 @@
 //! What the tests ask of a tree, what they see in it, and the runs that they play.
 
-use asserting::{present, same};
+use crate::asserting;
+use crate::asserting::{present, same};
 use capbits::{Ino, Mode, Refusal};
 use capgrant::Attr;
 use inotree::{Kind, Name, Node, Place, Setting, Tree};

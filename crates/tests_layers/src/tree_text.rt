@@ -1,11 +1,11 @@
 //! What `Debug` shows of a tree: its inodes in the order of their numbers, as where they stood in a tree map by number.
 
+use crate::asserting::{holds, made, same};
 use crate::texts::{line_of, lines_of};
 use crate::tree_steps;
 use crate::tree_steps::Ask::*;
 use crate::tree_steps::Leaving::Unlink;
 use crate::tree_steps::{asked, create, numbered};
-use asserting::{holds, made, same};
 use capbits::Ino;
 use inotree::Tree;
 use std::alloc::{AllocError, Global};

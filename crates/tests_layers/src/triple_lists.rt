@@ -1,7 +1,7 @@
 //! Nodes in three lists: those of an inode, those of a client, and all of them in the order of recall.
 ghost use Rattle.std.specs.Prelude.{◌≡◌, ◌≤◌};
 
-use asserting::{made, same};
+use crate::asserting::{made, same};
 use cap_arena::{LinkWrites, MAX_NODES, TripleLists};
 use capbits::{ClientId, Ino, Refusal};
 use std::alloc::Global;

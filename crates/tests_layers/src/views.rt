@@ -1,11 +1,11 @@
 //! Worked runs: a view that follows a server by the changes that it is told, and what it answers.
 
+use crate::asserting::{made, present, same};
 use crate::sessions::{caller, made as no_sessions};
 use crate::texts::grants_of;
 use crate::tree_steps::Ask::{Keep, Mkdir};
 use crate::tree_steps::Keeping::Snapshot;
 use crate::tree_steps::{Round as TreeRound, attr_of, made as no_inodes, runs_on};
-use asserting::{made, present, same};
 use capbits::{ClientId, Ino};
 use capgrant::{Access, Verdict};
 use capspec::FsName;

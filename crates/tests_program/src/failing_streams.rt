@@ -1,7 +1,7 @@
 //! Streams that fail: what a command has written by then, what it says of it, and its status.
 
+use crate::asserting::{made, same};
 use crate::runs::{Input, Rooms, as_bytes, outcome};
-use asserting::{made, same};
 use std::fs::Files;
 use std::process::Abort;
 use std::sync::Wait;

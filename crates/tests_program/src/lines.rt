@@ -1,7 +1,7 @@
 //! What the calls behind the commands answer. What a whole command line is answered with stands in the talks of `casebook`.
 
+use crate::asserting::{made, same};
 use arrayvec::ArrayVec;
-use asserting::{made, same};
 use capcommand::{Fault, report};
 use capexplain::explain_line;
 use capgrant::{Access, Rules, Verdict};

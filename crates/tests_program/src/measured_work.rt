@@ -1,6 +1,6 @@
 //! Words, grants and sums.
 
-use asserting::{made, same};
+use crate::asserting::{made, same};
 use capwork::{Callers, GrantShape, dispatch, grants_text};
 use std::alloc::{AllocError, Global};
 use std::process::Abort;

@@ -1,6 +1,6 @@
 //! The words of command lines of all lengths, over an environment of the tests' own.
 
-use asserting::{made, same};
+use crate::asserting::{made, same};
 use capcommand::words;
 use std::alloc::{AllocError, Global};
 use std::env::{Env, FillError};

@@ -1,7 +1,7 @@
 //! A gate at which each call gives way to the others: the calls of two clients alternate, and stand one behind the other.
 
+use crate::asserting::{holds, made, present, same};
 use crate::servers::{Numbers, count_numbered, numbers};
-use asserting::{holds, made, present, same};
 use capjobs::{read_plan, serve_plan};
 use capscript::MAX_SCRIPT;
 use capserver::Gate;

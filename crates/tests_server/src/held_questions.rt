@@ -3,9 +3,9 @@
 ghost use Rattle.std.specs.Prelude.{◌≡◌};
 ghost use Rattle.capserver.specs.Opened.{opened};
 
+use crate::asserting::{holds, same};
 use crate::questions::{ask_read, call_line};
 use crate::servers::{MANY_ROWS, opening};
-use asserting::{holds, same};
 use capserver::{CapServer, Gate, Opening, Pass, Server, StartFault};
 use std::alloc::{AllocError, Global};
 use std::marker::Brand;

@@ -2,9 +2,9 @@
 ghost use Rattle.std.specs.Prelude.{◌≡◌};
 ghost use Rattle.capserver.specs.Opened.{opened};
 
+use crate::asserting::{holds, made, same};
 use crate::questions::call_line;
 use crate::servers::{MANY_ROWS, Numbers, count_numbered, numbers, opening};
-use asserting::{holds, made, same};
 use capserver::{CapServer, NoGate, Opening, Pass, Server, StartFault};
 use std::alloc::Global;
 use std::marker::Brand;

@@ -2,8 +2,8 @@
 ghost use Rattle.std.specs.Prelude.{◌≡◌};
 ghost use Rattle.capserver.specs.Opened.{opened};
 
+use crate::asserting::{holds, same};
 use crate::servers::{MANY_ROWS, opening};
-use asserting::{holds, same};
 use capbits::{ClientId, Ino};
 use capcore::{Reply, Stop};
 use capgrant::{Access, Verdict};

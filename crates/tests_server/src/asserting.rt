@@ -1,9 +1,6 @@
-//! The asserts of the crates of tests.
+//! The asserts of the tests.
 //!
-//! None of these functions has a contract: a test needs nothing of what they saw, and so its proof carries none of it. They
-//! take values and not references to temporaries, of which each costs every later goal. A failure is told with a line of this
-//! file, so `place` has to say which one it is.
-#![tactic(auto)]
+//! None of these functions has a contract: a test needs nothing of what they saw, and so its proof carries none of it.
 
 use std::fmt::Debug;
 use std::process::Abort;
@@ -20,7 +17,7 @@ pub fn same<T: PartialEq + Debug + Drop>(
 
 /// Fails the test unless the condition holds.
 pub fn holds(rt: &impl Abort, condition: bool, place: impl Debug + Copy) {
-    same(rt, condition, true, place);
+    assert!(rt; condition, "at {place:?}");
 }
 
 /// What a call has made. Fails the test where it has not.
