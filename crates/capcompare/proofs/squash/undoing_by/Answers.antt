@@ -10,7 +10,7 @@ use Rattle.capcompare.proofs.squash.undoing_by.Goals as goal
 
 pub returns-in_default : goal.returns-in_default
 returns-in_default c =
-    keeps_against c.args.grants.now c.args.grant.now c.args.other.now c.any_fs-any.result c.fs_of-fs.result.now c.root_of-caller.result (map (λ (name : Bor (List ℕ)). name.now) c.as_slice.result.now) c.owned_by-attr.result
+    keeps_against c.args.grants.now c.args.grant.now c.args.other.now c.any_fs.result c.fs_of-fs.result.now c.root_of-caller.result (map (λ (name : Bor (List ℕ)). name.now) c.as_slice.result.now) c.owned_by-attr.result
     c.requires.among c.fs_of-fs.ensures c.root_of-caller.ensures
     (ap (map (λ (name : Bor (List ℕ)). name.now)) c.as_slice.ensures.value ∙ c.in_ok-names.ensures ∙ c.in_ok-path.ensures)
     c.owned_by-attr.ensures
