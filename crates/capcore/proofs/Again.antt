@@ -24,7 +24,8 @@ use Rattle.capcore.specs.declared.stopped.Stopped.{Stopped}
 use Rattle.capcore.specs.declared.stopped.Stopped.TheVariants.{ByPolicy, ByTest}
 use Rattle.capcore.specs.Judge.{is_met, first_denied, stop_by, stop, denial_of}
 use Rattle.capcore.specs.Needs.{Need, need}
-use Rattle.capcore.specs.Serving.{MayEndAs, As_judged, Without_memory, judged_again, passed_as, told_of, stop_outcome, outcome_unless, takes_memory, tree_after, tree_with}
+use Rattle.capcore.specs.Serving.{MayEndAs, As_judged, Without_memory, judged_again, passed_as, told_of, stop_outcome, outcome_unless, takes_memory}
+use Rattle.capnotes.specs.Changing.{tree_after, tree_with}
 use Rattle.capcore.specs.Asks.{ask_before, ask_needs, ask_after, change_tests}
 use Rattle.capcore.specs.Served.{call_tests, change_call_tests}
 

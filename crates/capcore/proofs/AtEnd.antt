@@ -24,7 +24,7 @@ use Rattle.lockmachine.specs.declared.states.InodeLocks.{InodeLocks}
 use Rattle.lockmachine.specs.Inodes.{StateMap}
 use Rattle.lockmachine.specs.Scene.{Scene}
 use Rattle.capcore.specs.Finishing.{due_under, told_at, numbered_as, entry_under, entry_by}
-use Rattle.capcore.specs.InoSets.{InoSet}
+use Rattle.capnotes.specs.InoSets.{InoSet}
 use Rattle.capcore.specs.Touching.{forget_at, forget_among}
 use Rattle.capcore.specs.Serves.{is_touched}
 use Rattle.capcore.proofs.Leaving.{found-contains}

@@ -33,7 +33,7 @@ use Rattle.capcore.specs.Sound.{IsSoundEntry, IsSound, NumbersLeft}
 use Rattle.capcore.specs.Step.{earlier, all_ended, state_at_end}
 use Rattle.capcore.specs.Touching.{touched_by, IsTouchedEntry, Touches, TouchesOne, SettlesAt, Knows, finished_at}
 use Rattle.capcore.specs.Known.{known_in, AreKnown, StillKept}
-use Rattle.capcore.specs.Untold.{HaveOwnNumbers, but_for}
+use Rattle.capnotes.specs.Untold.{HaveOwnNumbers, but_for}
 use Rattle.capcore.proofs.Concluded.{IsConcluded, GivesOne, concluded}
 use Rattle.capcore.proofs.EndKnown.{ends-known}
 use Rattle.capcore.proofs.EndedIn.{earlier-all, earlier-but_own, own-numbers}

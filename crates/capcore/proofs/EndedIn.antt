@@ -13,7 +13,7 @@ use Rattle.lockmachine.specs.Scene.{Scene}
 use Rattle.capevents.specs.declared.outcome.Ended.{Ended}
 use Rattle.capcore.specs.Settle.{Made, Began, Gathered, Served, Makes, MakesAll, ended_in}
 use Rattle.capcore.specs.Step.{earlier}
-use Rattle.capcore.specs.Untold.{HaveOwnNumbers, but_for}
+use Rattle.capnotes.specs.Untold.{HaveOwnNumbers, but_for}
 use Rattle.capcore.proofs.Moved.{Waited, ended-waited}
 
 -- ---- lists that are filtered alike

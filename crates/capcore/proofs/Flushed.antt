@@ -23,7 +23,8 @@ use Rattle.lockmachine.proofs.SameBut.{same-trans, same-tree, same-entries}
 use Rattle.capevents.specs.declared.event.Event.TheVariants as event
 use Rattle.capevents.specs.declared.reply.Reply.TheVariants as reply
 use Rattle.capcore.specs.State.{State}
-use Rattle.capcore.specs.Asks.{change_tests, exclusive, tree_changed}
+use Rattle.capcore.specs.Asks.{change_tests, exclusive}
+use Rattle.capnotes.specs.Changing.{tree_changed}
 use Rattle.capcore.specs.Judge.{judged}
 use Rattle.capcore.specs.Direct.{direct, effect_unless, says, with_flush}
 use Rattle.capcore.specs.Served.{change_call_tests}

@@ -1,5 +1,4 @@
 pub mod Again
-pub mod ToldNumbers
 pub mod Among
 pub mod Apart
 pub mod AtEnd
@@ -57,7 +56,6 @@ pub mod Untouched
 pub mod Verdicts
 pub mod TouchStep
 pub mod TouchWhole
-pub mod Taking
 pub mod EndedIn
 pub mod Closing
 pub mod Waits

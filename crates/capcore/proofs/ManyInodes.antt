@@ -11,15 +11,14 @@ use Rattle.capbits.specs.declared.ids.Ino.{Ino}
 use Rattle.captable.specs.declared.entry.Entry.{Entry}
 use Rattle.captable.specs.declared.entry.EntryRow.{EntryRow}
 use Rattle.captable.specs.declared.entry.Holder.{Holder}
-use Rattle.captable.specs.Table.{Table}
+use Rattle.captable.specs.Table.{Table, same, is_row_of}
 use Rattle.capbits.specs.Caps.{Caps}
 use Rattle.std.specs.HashMap.{HashMap, get}
 use Rattle.std.proofs.lemmas.List.Folds.{list_any-append}
 use Rattle.captable.specs.Calls.{is_of_inode, entries_on}
 use Rattle.captable.specs.Many.{changed_where, remade}
-use Rattle.captable.specs.Table.{same, is_row_of}
 use Rattle.captable.proofs.OneByOne.{same_holder}
-use Rattle.capcore.specs.InoSets.{InoSet, IsListOf}
+use Rattle.capnotes.specs.InoSets.{InoSet, IsListOf}
 use Rattle.capcore.specs.Known.{KeptAnew}
 use Rattle.capcore.proofs.KeptSets.{kept-nobody, kept-same, kept-then, kept-not, found-stays}
 

@@ -31,7 +31,8 @@ use Rattle.lockmachine.proofs.Queue.{moved-kept}
 use Rattle.capevents.specs.declared.outcome.Outcome.{Outcome}
 use Rattle.capevents.specs.declared.outcome.Outcome.TheVariants as outcome
 use Rattle.capevents.specs.declared.outcome.Ended.{Ended}
-use Rattle.capcore.specs.Serving.{tree_with, tree_after, served}
+use Rattle.capcore.specs.Serving.{served}
+use Rattle.capnotes.specs.Changing.{tree_with, tree_after}
 use Rattle.capcore.specs.Settle.{Made, Began, Gathered, Served, Makes, MakesAll, ended_in}
 use Rattle.capcore.proofs.Leaving.{found-contains}
 use Rattle.capcore.proofs.OneChange.{by_ask}

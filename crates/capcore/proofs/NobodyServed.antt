@@ -16,7 +16,7 @@ use Rattle.lockmachine.specs.Policy.{permitted}
 use Rattle.lockmachine.specs.Scene.{Scene, scene}
 use Rattle.capevents.specs.declared.outcome.Ended.{Ended}
 use Rattle.capcore.specs.Finishing.{due_under, told_under}
-use Rattle.capcore.specs.InoSets.{InoSet, IsNext}
+use Rattle.capnotes.specs.InoSets.{InoSet, IsNext}
 use Rattle.capcore.specs.Known.{OthersHaveAll}
 use Rattle.capcore.specs.Serves.{SettlesWith, EndsAt, EndsWith, is_touched}
 use Rattle.capcore.specs.Settle.{Made, Began, Gathered, Served, MakesAll, ended_in, sized_in}

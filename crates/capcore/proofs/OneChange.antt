@@ -22,8 +22,9 @@ use Rattle.lockmachine.specs.Scene.{Scene}
 use Rattle.lockmachine.proofs.PolicyElsewhere.{alike-itself}
 use Rattle.capevents.specs.declared.outcome.Outcome.{Outcome}
 use Rattle.capevents.specs.declared.outcome.Outcome.TheVariants as outcome
-use Rattle.capcore.specs.Serving.{MayEndAs, tree_after, tree_with}
-use Rattle.capcore.specs.Asks.{ask_before, ask_needs, ask_after, change_tests, tree_changed}
+use Rattle.capcore.specs.Serving.{MayEndAs}
+use Rattle.capnotes.specs.Changing.{tree_after, tree_with, tree_changed}
+use Rattle.capcore.specs.Asks.{ask_before, ask_needs, ask_after, change_tests}
 use Rattle.capcore.specs.Served.{is_rename}
 use Rattle.capcore.proofs.Again.{leaves-or-makes, passed-all}
 

@@ -19,7 +19,8 @@ use Rattle.capcore.specs.Answered.{IsAnswered}
 use Rattle.capcore.specs.Judge.{judged, stop_by, first_denied}
 use Rattle.capcore.specs.Direct.{Direct, Gives, direct, effect_unless, reply_of, shown}
 use Rattle.capcore.specs.Headline.{IssuesExactly}
-use Rattle.capcore.specs.Messages.{first_messages, with_given, after_messages, is_left}
+use Rattle.capcore.specs.Messages.{first_messages, with_given, after_messages}
+use Rattle.capnotes.specs.Untold.{is_left}
 use Rattle.capcore.specs.Settle.{Settles}
 use Rattle.capcore.specs.Sound.{IsSound, AreGiven}
 use Rattle.capcore.specs.Step.{Step, all_ended, state_after}

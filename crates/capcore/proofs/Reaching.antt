@@ -2,7 +2,7 @@
 use Rattle.std.proofs.Common.{◌≡◌, ℕ, Bool, true, false, ◌⊎◌, inl, inr, Result, Ok, Err, OnOk, List, [], ◌∷◌, Contains, zero, suc, refl, ap, subst, ◌∙◌, arith}
 use Rattle.std.specs.FinSet as set
 use Rattle.captable.specs.declared.entry.EntryRow.{EntryRow}
-use Rattle.capcore.specs.InoSets.{InoSet}
+use Rattle.capnotes.specs.InoSets.{InoSet}
 use Rattle.capcore.specs.Serves.{is_touched}
 use Rattle.capcore.specs.Sweep.{Widens}
 use Rattle.capcore.proofs.Among.{more-touched, other-touched}

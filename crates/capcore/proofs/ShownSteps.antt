@@ -44,7 +44,8 @@ use Rattle.capcore.specs.State.{State}
 use Rattle.capcore.specs.Direct.{Direct, Shows, Gives, direct, effect, effect_unless, with_entry, with_opening, with_wanted, reply_of, shown, found, opened_as}
 use Rattle.capcore.specs.Finish.{is_sized, owed, sizes_owed, due, issue_row, issue, forget, told_before, number_row}
 use Rattle.capcore.specs.Judge.{judged, stop_reply, revoked_of}
-use Rattle.capcore.specs.Messages.{first_messages, messages_to, after_messages, row_messages, caps_messages, size_message, size_messages, recall_messages, end_message, end_messages, is_caps_of, is_size_of, is_recall_of, is_to, told_if, sized_if, unasked_if}
+use Rattle.capcore.specs.Messages.{first_messages, messages_to, after_messages, row_messages, caps_messages, size_message, size_messages, recall_messages, end_message, end_messages, is_caps_of, is_size_of, is_recall_of, told_if, sized_if, unasked_if}
+use Rattle.capnotes.specs.Untold.{is_to}
 use Rattle.capcore.specs.Settle.{Made, Settles, ended_in, sized_in}
 use Rattle.capcore.specs.Shown.{AreShown, shown_by, shown_of, shown_opened, shown_less, shown_given, shown_in}
 use Rattle.capcore.specs.Sound.{IsSound, IsSoundEntry}

@@ -30,11 +30,11 @@ use Rattle.lockmachine.proofs.SameBut.{begin-alike, first-moved}
 use Rattle.lockmachine.proofs.Turns.{served-ends, ends-turn}
 use Rattle.lockmachine.proofs.Waiting.{quiet-waits-at, waits-wider, waits-less-at, served-at}
 use Rattle.capevents.specs.declared.outcome.Ended.{Ended}
-use Rattle.capcore.specs.InoSets.{InoSet}
+use Rattle.capnotes.specs.InoSets.{InoSet}
 use Rattle.capcore.specs.declared.settle.SweepPlace.{SweepPlace}
 use Rattle.capcore.specs.Served.{is_rename}
 use Rattle.capcore.specs.Serves.{Serves, SettlesWith, is_touched}
-use Rattle.capcore.specs.Serving.{tree_after}
+use Rattle.capnotes.specs.Changing.{tree_after}
 use Rattle.capcore.specs.Settle.{Made, Began, Gathered, Served, Makes, MakesAll, ended_by, ended_in, sized_by, sized_in}
 use Rattle.capcore.specs.Sweep.{AreStill, GoesOnBehind, IsFirstPlace, IsSwept, IsTurnOfLeast, StandsAt, Widens, Covers, Reaches, changed_alone}
 use Rattle.capcore.specs.Touching.{IsSameOff}

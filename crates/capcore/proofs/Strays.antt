@@ -21,7 +21,7 @@ use Rattle.captable.specs.declared.entry.EntryRow.{EntryRow}
 use Rattle.captable.specs.Calls.{is_of_inode}
 use Rattle.lockmachine.specs.Locks.{without_ino}
 use Rattle.lockmachine.specs.Scene.{Scene}
-use Rattle.capcore.specs.InoSets.{InoSet, IsListOf}
+use Rattle.capnotes.specs.InoSets.{InoSet, IsListOf}
 use Rattle.capcore.specs.Finish.{is_kept}
 use Rattle.capcore.specs.Touching.{stays, forget_at, forget_among}
 use Rattle.capcore.proofs.Finishing.{same_kept}

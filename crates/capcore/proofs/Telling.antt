@@ -32,7 +32,8 @@ use Rattle.capcore.specs.State.{State}
 use Rattle.capcore.specs.Direct.{Answer, Says, Shows, Gives, Awaits, with_scene, shown}
 use Rattle.capcore.specs.Finish.{due}
 use Rattle.capcore.specs.Headline.{holds, is_due, IssuesExactly, IsInPlace, AreInPlace}
-use Rattle.capcore.specs.Messages.{first_messages, after_messages, is_caps_of, is_size_of, is_recall_of, is_end_of, is_to, told_if, sized_if, unasked_if}
+use Rattle.capcore.specs.Messages.{first_messages, after_messages, is_caps_of, is_size_of, is_recall_of, told_if, sized_if, unasked_if}
+use Rattle.capnotes.specs.Untold.{is_end_of, is_to}
 use Rattle.capcore.specs.Sound.{IsSoundEntry, IsSound, AreGiven}
 use Rattle.capcore.proofs.StillQuiet.{still_quiet}
 

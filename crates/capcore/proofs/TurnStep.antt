@@ -25,7 +25,7 @@ use Rattle.lockmachine.specs.Moves.{IsQuietOutside}
 use Rattle.lockmachine.specs.Scene.{Scene}
 use Rattle.lockmachine.proofs.Queue.{without_requests_of-kept}
 use Rattle.lockmachine.proofs.SameOutside.{rest-outside}
-use Rattle.capcore.specs.InoSets.{InoSet}
+use Rattle.capnotes.specs.InoSets.{InoSet}
 use Rattle.capcore.specs.declared.client.Turn.{Turn}
 use Rattle.capcore.specs.declared.client.Turn.TheVariants.{Close, Stale, Renew, Regrant, Evict}
 use Rattle.capevents.specs.declared.event.Event.{Event}
@@ -37,7 +37,7 @@ use Rattle.capcore.specs.State.{State}
 use Rattle.capcore.specs.Answered.{IsAnswered}
 use Rattle.capcore.specs.Direct.{Direct, direct, reply_of, shown}
 use Rattle.capcore.specs.Judge.{judged, stop}
-use Rattle.capcore.specs.Messages.{is_to}
+use Rattle.capnotes.specs.Untold.{is_to}
 use Rattle.capcore.specs.Serves.{SettlesWith, EndsWith, is_touched}
 use Rattle.capcore.specs.Finish.{sizes_owed}
 use Rattle.capcore.specs.Settle.{ended_in, sized_in}

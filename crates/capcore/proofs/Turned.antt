@@ -37,7 +37,7 @@ use Rattle.capevents.specs.declared.reply.Reply.TheVariants as reply
 use Rattle.capcore.specs.State.{State}
 use Rattle.capcore.specs.Direct.{Direct, Says, direct, effect, effect_unless}
 use Rattle.capcore.specs.Judge.{judged}
-use Rattle.capcore.specs.Messages.{is_to}
+use Rattle.capnotes.specs.Untold.{is_to}
 use Rattle.capcore.specs.Sound.{IsSound}
 use Rattle.capcore.specs.Touching.{Touches, IsTouchedEntry}
 use Rattle.capcore.specs.Turn.{turn_event, turned_sessions, is_end, table_left, locks_left, messages_left, dropped_by, turned}

@@ -20,7 +20,8 @@ use Rattle.capcore.specs.State.{State}
 use Rattle.capcore.specs.Answered.{IsAnswered}
 use Rattle.capcore.specs.Asks.{ask_needs}
 use Rattle.capcore.specs.declared.said.Said.{Said}
-use Rattle.capcore.specs.Direct.{Answer, Awaits, Direct, direct, reply_of, shown, with_scene, awaited_as, is_of_ticket}
+use Rattle.capcore.specs.Direct.{Answer, Awaits, Direct, direct, reply_of, shown, with_scene, awaited_as}
+use Rattle.capnotes.specs.Untold.{is_of_ticket, HaveOwnNumbers, but_for}
 use Rattle.capcore.specs.Judge.{judged, stop, asking_tests, waiting_tests}
 use Rattle.capcore.specs.Serves.{EndsWith}
 use Rattle.capcore.specs.Sound.{IsSound}
@@ -35,7 +36,6 @@ use Rattle.capevents.specs.declared.event.Event.TheVariants as event
 use Rattle.capevents.specs.declared.outcome.Ended.{Ended}
 use Rattle.capcore.specs.Touching.{asks_for, Touches, Knows}
 use Rattle.capcore.specs.Known.{known_in, AreKnown, StillKept}
-use Rattle.capcore.specs.Untold.{HaveOwnNumbers, but_for}
 
 -- an event asks for it
 pub some-asking : (k : Holder) (ask : Ask) → (e : Event) × (asks_for e ≡ Some (k, ask))

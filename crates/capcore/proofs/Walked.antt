@@ -12,8 +12,8 @@ use Rattle.captable.specs.Calls.{is_of_inode}
 use Rattle.inotree.specs.Tree.{Nodes, is_within}
 use Rattle.lockmachine.specs.declared.request.Request.{Request}
 use Rattle.capevents.specs.declared.outcome.Outcome.{Outcome}
-use Rattle.capcore.specs.InoSets.{InoSet}
-use Rattle.capcore.specs.Serving.{tree_after}
+use Rattle.capnotes.specs.InoSets.{InoSet}
+use Rattle.capnotes.specs.Changing.{tree_after}
 use Rattle.capcore.specs.Sweep.{AreWalked, Covers, CoversBelow, Reaches, Widens}
 use Rattle.capcore.proofs.InoSets.{at_more, none-there}
 use Rattle.capcore.proofs.OneChange.{within-after}

@@ -12,9 +12,7 @@ use Rattle.capgrant.specs.declared.access.Access.TheVariants as access
 use Rattle.inotree.specs.declared.node.Setting.{Setting}
 use Rattle.inotree.specs.declared.node.Setting.TheVariants.{Mode, Uid, Gid, Size, Time}
 use Rattle.inotree.specs.Names.{name_cmp}
-use Rattle.inotree.specs.Inodes.{with_setting, with_attribute, without_attribute}
-use Rattle.inotree.specs.Tree.{Nodes, parent}
-use Rattle.inotree.specs.Calls.{changed}
+use Rattle.inotree.specs.Tree.{parent}
 use Rattle.inotree.specs.Tests.{inode_tests, root_test, directory_test, file_test, empty_test, new_place_tests, setting_tests, new_attribute_tests, old_attribute_tests}
 use Rattle.lockmachine.specs.declared.request.Change.{Change}
 use Rattle.lockmachine.specs.declared.request.Change.TheVariants.{Set, SetXattr, RemoveXattr}
@@ -85,9 +83,3 @@ exclusive A = Ax
 exclusive L = Lx
 exclusive X = Xx
 exclusive F = Fx
-
--- the tree with the change of the inode
-abbrev pub tree_changed : Nodes → ℕ → Change → Nodes
-tree_changed tree ino (Set setting) = changed (with_setting setting) tree ino
-tree_changed tree ino (SetXattr name value) = changed (with_attribute name value) tree ino
-tree_changed tree ino (RemoveXattr name) = changed (without_attribute name) tree ino

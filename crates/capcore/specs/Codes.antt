@@ -15,20 +15,7 @@ use Rattle.capview.specs.contracts.change.ViewChange as view_change
 use Rattle.capevents.specs.contracts.outcome.Ended as ended
 use Rattle.capevents.specs.contracts.row.Row as history_row
 use Rattle.capcore.specs.State.{State}
-use Rattle.capcore.specs.Noted.{Noted}
-use Rattle.capcore.specs.Untold.{Untold}
 use Rattle.capcore.specs.History.{Told, told}
-
--- a list with room as its parts
-abbrev pub untold_code : Coded Untold
-untold_code =
-    code_by (List Ended × ℕ) (coded× (coded_list ended.the_row.coded) coded_ℕ)
-    (λ m. (m.items, m.room)) (λ p. record { items = p.0; room = p.1 }) (λ _. refl)
-
-abbrev pub noted_code : Coded Noted
-noted_code =
-    code_by (List ViewChange × ℕ) (coded× (coded_list view_change.the_row.coded) coded_ℕ)
-    (λ n. (n.items, n.room)) (λ p. record { items = p.0; room = p.1 }) (λ _. refl)
 
 -- a state as its parts
 abbrev pub scene_code : Coded Scene

@@ -1,5 +1,5 @@
 -- What an event does by itself, before any lock moves; and what it answers and shows, some of it once all has moved.
-use Rattle.std.specs.Prelude.{◌≡◌, ℕ, ◌+◌, ◌==◌, Bool, true, false, List, [], ◌∷◌, map as each, filter, not, take, Option, Some, None, is_some, unwrap_or, if◌then◌else◌}
+use Rattle.std.specs.Prelude.{◌≡◌, ℕ, ◌+◌, List, [], ◌∷◌, map as each, filter, not, take, Option, Some, None, is_some, unwrap_or, if◌then◌else◌}
 use Rattle.std.specs.List.{find}
 use Rattle.std.specs.FinMap as map
 use Rattle.capbits.specs.declared.cap.Cap.TheVariants.{P, Fs, Fx, Fc, Fr, Fw, Fb}
@@ -35,15 +35,15 @@ use Rattle.capevents.specs.declared.event.Event.TheVariants as event
 use Rattle.capevents.specs.declared.event.OpenMode.{OpenMode}
 use Rattle.capevents.specs.declared.event.OpenMode.TheVariants as opening
 use Rattle.capevents.specs.declared.outcome.Ended.{Ended}
-use Rattle.capevents.specs.declared.outcome.Outcome.{Outcome}
 use Rattle.capevents.specs.declared.outcome.Outcome.TheVariants as outcome
 use Rattle.capevents.specs.declared.reply.Reply.{Reply}
 use Rattle.capevents.specs.declared.reply.Reply.TheVariants as reply
+use Rattle.capnotes.specs.Untold.{is_of_ticket, is_to}
 use Rattle.capcore.specs.State.{State}
 use Rattle.capcore.specs.declared.stopped.Stopped.{Stopped}
-use Rattle.capcore.specs.Asks.{tree_changed}
+use Rattle.capnotes.specs.Changing.{tree_changed}
 use Rattle.capcore.specs.Judge.{judged, stop_reply, revoked_of}
-use Rattle.capcore.specs.Messages.{is_to, first_messages, with_given}
+use Rattle.capcore.specs.Messages.{first_messages, with_given}
 
 abbrev pub with_scene : State → Scene → State
 with_scene s scene = record s { scene = scene }
@@ -68,9 +68,6 @@ opened_as last (Some row) = reply.Opened row.entry.seq (told_set last row)
 abbrev pub awaited_as : Ticket → Option Ended → Reply
 awaited_as ticket None = reply.Waiting ticket
 awaited_as ticket (Some m) = unwrap_or (outcome_reply m.outcome) (reply.Waiting ticket)
-
-abbrev pub is_of_ticket : Ticket → Ended → Bool
-is_of_ticket ticket m = m.ticket.0 == ticket.0
 
 -- what is answered at the end, in the last state, by what the moves ended
 abbrev pub reply_of : State → List Ended → Answer → Reply

@@ -21,7 +21,7 @@ use Rattle.lockmachine.specs.Scene.{against_lock}
 use Rattle.lockmachine.specs.Policy.{permitted}
 use Rattle.lockmachine.specs.Wants.{effective_want}
 use Rattle.capcore.specs.Finish.{allowed_by}
-use Rattle.capcore.specs.InoSets.{InoSet}
+use Rattle.capnotes.specs.InoSets.{InoSet}
 
 -- the clients of these entries
 abbrev pub clients_of : List EntryRow → List ℕ

@@ -1,5 +1,4 @@
 pub mod State
-pub mod Untold
 pub mod Needs
 pub mod Asks
 pub mod Judge
@@ -20,7 +19,6 @@ pub mod Headline
 pub mod Sound
 pub mod Leaving
 pub mod Answered
-pub mod InoSets
 pub mod Noted
 pub mod Serves
 pub mod Sweep

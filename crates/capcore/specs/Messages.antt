@@ -1,10 +1,9 @@
 -- The messages that are due to a client, and what is left when it was given some of them.
-use Rattle.std.specs.Prelude.{◌≡◌, ℕ, Bool, false, not, ◌&&◌, ◌==◌, nat_lt, List, [], ◌∷◌, ◌++◌, map, filter, take, Option, Some, None, if◌then◌else◌}
+use Rattle.std.specs.Prelude.{ℕ, Bool, false, not, ◌==◌, nat_lt, List, [], ◌∷◌, ◌++◌, map, filter, take, Option, Some, None, if◌then◌else◌}
 use Rattle.std.specs.FinMap as finite
 use Rattle.std.specs.List.{flat_map, list_any}
 use Rattle.capbits.specs.declared.ids.ClientId.{ClientId}
 use Rattle.capbits.specs.declared.ids.Ino.{Ino}
-use Rattle.capbits.specs.declared.ids.Ticket.{Ticket}
 use Rattle.inotree.specs.declared.node.Node.{Node}
 use Rattle.captable.specs.declared.entry.Entry.{Entry}
 use Rattle.captable.specs.declared.entry.EntryRow.{EntryRow}
@@ -14,10 +13,8 @@ use Rattle.lockmachine.specs.Scene.{Scene, told_set}
 use Rattle.capevents.specs.declared.outcome.Ended.{Ended}
 use Rattle.capevents.specs.declared.outcome.Message.{Message}
 use Rattle.capevents.specs.declared.outcome.Message.TheVariants as message
+use Rattle.capnotes.specs.Untold.{is_to, is_left}
 use Rattle.capcore.specs.State.{State}
-
-abbrev pub is_to : ClientId → Ended → Bool
-is_to client m = m.client.0 == client.0
 
 -- what the client is to know that it holds has changed since it was told
 abbrev pub caps_messages : Scene → EntryRow → List Message
@@ -63,17 +60,6 @@ first_messages s client max = take max (messages_to s client)
 
 -- ---- what is left
 
--- the message tells how the request with this number ended
-abbrev pub is_end_of : Ticket → Message → Bool
-is_end_of ticket (message.Ended t outcome) = t.0 == ticket.0
-is_end_of ticket (message.Caps ino seq caps) = false
-is_end_of ticket (message.Size ino size) = false
-is_end_of ticket (message.Recall ino) = false
-
--- the numbers are those of the requests of whose ends the messages tell
-abbrev pub AreEndsOf : List Message → List ℕ → Type 0
-AreEndsOf messages numbers = (ticket : Ticket) → list_any (λ number. number == ticket.0) numbers ≡ list_any (is_end_of ticket) messages
-
 -- the message tells what the client is to know that it holds on the inode
 abbrev pub is_caps_of : Ino → Message → Bool
 is_caps_of ino (message.Ended ticket outcome) = false
@@ -110,10 +96,6 @@ abbrev pub after_messages : List Message → EntryRow → Entry
 after_messages given row =
     unasked_if (list_any (is_recall_of row.holder.ino) given)
     (sized_if (list_any (is_size_of row.holder.ino) given) (told_if (list_any (is_caps_of row.holder.ino) given) row.entry))
-
--- a request that ended is still due to its client, once a client was given these messages
-abbrev pub is_left : ClientId → List Message → Ended → Bool
-is_left client given m = not (is_to client m && list_any (is_end_of m.ticket) given)
 
 -- the state, once a client was given messages: those are due no more, and all others are
 abbrev pub with_given : State → ClientId → List Message → State

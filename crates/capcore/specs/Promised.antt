@@ -8,8 +8,7 @@ use Rattle.capevents.specs.declared.event.Event.{Event}
 use Rattle.capevents.specs.declared.reply.Reply.{Reply}
 use Rattle.capcore.specs.State.{State}
 use Rattle.capcore.specs.Direct.{direct}
-use Rattle.capcore.specs.Headline.{DeniedExactly, DeniesByName, ServedDenied, ServedByName, EachServing, ByMoves, AreBounded, OtherLocksStay}
-use Rattle.capcore.specs.Headline.{IssuesExactly, AreInPlace, AreRevoked, NoneConflict, is_stop}
+use Rattle.capcore.specs.Headline.{DeniedExactly, DeniesByName, ServedDenied, ServedByName, EachServing, ByMoves, AreBounded, OtherLocksStay, IssuesExactly, AreInPlace, AreRevoked, NoneConflict, is_stop}
 use Rattle.capcore.specs.History.{Told, IsNext, InItsRow, Replays}
 use Rattle.capcore.specs.Noted.{view_of}
 use Rattle.capcore.specs.Shown.{ShowsWhatIsTold, ShowsOnlyPermitted, TakesUnshown, TakesOnlySo}

@@ -11,9 +11,10 @@ use Rattle.lockmachine.specs.declared.request.Request.{Request}
 use Rattle.lockmachine.specs.Locks.{request_at, without_request}
 use Rattle.lockmachine.specs.Scene.{Scene}
 use Rattle.capevents.specs.declared.outcome.Ended.{Ended}
-use Rattle.capcore.specs.Serving.{MayEndAs, tree_after}
+use Rattle.capcore.specs.Serving.{MayEndAs}
+use Rattle.capnotes.specs.Changing.{tree_after}
 use Rattle.capcore.specs.Finish.{sizes_owed}
-use Rattle.capcore.specs.InoSets.{InoSet}
+use Rattle.capnotes.specs.InoSets.{InoSet}
 use Rattle.capcore.specs.Settle.{Made, ended_in, sized_in}
 use Rattle.capcore.specs.Touching.{SettlesAt, told_then, finished_at}
 use Rattle.capcore.specs.Known.{known_in, KeptAnew}

@@ -4,8 +4,6 @@ use Rattle.std.specs.FinMap as map
 use Rattle.capbits.specs.declared.cap.Part.{Part}
 use Rattle.capbits.specs.declared.cap.Part.TheVariants.{A, L, X, F}
 use Rattle.inotree.specs.declared.node.Node.{Node}
-use Rattle.inotree.specs.Tree.{Nodes}
-use Rattle.inotree.specs.Calls.{unlinked, moved}
 use Rattle.lockmachine.specs.declared.request.Change.{Change}
 use Rattle.lockmachine.specs.declared.request.Change.TheVariants.{Set, SetXattr, RemoveXattr}
 use Rattle.lockmachine.specs.declared.request.Ask.{Ask}
@@ -20,7 +18,8 @@ use Rattle.capevents.specs.declared.outcome.Outcome.{Outcome}
 use Rattle.capevents.specs.declared.outcome.Outcome.TheVariants as outcome
 use Rattle.capcore.specs.declared.stopped.Stopped.{Stopped}
 use Rattle.capcore.specs.declared.stopped.Stopped.TheVariants.{ByPolicy, ByTest}
-use Rattle.capcore.specs.Asks.{ask_before, ask_needs, ask_after, tree_changed}
+use Rattle.capcore.specs.Asks.{ask_before, ask_needs, ask_after}
+use Rattle.capnotes.specs.Changing.{tree_after}
 use Rattle.capcore.specs.Judge.{stop}
 
 -- what stops the request now
@@ -80,23 +79,6 @@ takes_memory (Rename dir name) = true
 pub data MayEndAs (s : Scene) (q : Request) : Outcome → Type 0 where
   As_judged : MayEndAs s q (outcome_of s q)
   Without_memory : judged_again s q ≡ None → IsTrue (takes_memory q.ask) → MayEndAs s q outcome.OutOfMemory
-
--- the tree with what is asked for
-abbrev pub tree_with : Nodes → ℕ → Ask → Nodes
-tree_with tree ino (Get part) = tree
-tree_with tree ino (Alter change) = tree_changed tree ino change
-tree_with tree ino Unlink = unlinked tree ino
-tree_with tree ino Rmdir = unlinked tree ino
-tree_with tree ino (Rename dir name) = moved tree ino dir.0 name
-
--- a request that ends otherwise than as done changes nothing
-abbrev pub tree_after : Nodes → Request → Outcome → Nodes
-tree_after tree q outcome.Done = tree_with tree q.ino.0 q.ask
-tree_after tree q (outcome.Values shown) = tree
-tree_after tree q (outcome.Denied access rules) = tree
-tree_after tree q (outcome.Refused refusal) = tree
-tree_after tree q outcome.OutOfMemory = tree
-tree_after tree q outcome.Dropped = tree
 
 -- it waits no more
 abbrev pub served : Scene → Request → Outcome → Scene

@@ -13,7 +13,7 @@ use Rattle.lockmachine.specs.declared.moves.Move.TheVariants.{Serve, Settled}
 use Rattle.lockmachine.specs.Scene.{Scene}
 use Rattle.lockmachine.specs.Moves.{first_move, may_end, may_begin}
 use Rattle.lockmachine.specs.Turns.{IsTurnOf, NobodyElsewhere, WaitAt}
-use Rattle.capcore.specs.InoSets.{InoSet}
+use Rattle.capnotes.specs.InoSets.{InoSet}
 use Rattle.capcore.specs.declared.settle.SweepPlace.{SweepPlace}
 use Rattle.capcore.specs.Served.{is_rename}
 use Rattle.capcore.specs.Serves.{is_touched}

@@ -22,9 +22,9 @@ use Rattle.capevents.specs.declared.event.Event.{Event}
 use Rattle.capevents.specs.declared.event.Event.TheVariants as event
 use Rattle.capevents.specs.declared.outcome.Ended.{Ended}
 use Rattle.capcore.specs.Direct.{dropped_of}
-use Rattle.capcore.specs.InoSets.{InoSet}
-use Rattle.capcore.specs.Messages.{is_to}
-use Rattle.capcore.specs.Noted.{view}
+use Rattle.capnotes.specs.InoSets.{InoSet}
+use Rattle.capnotes.specs.Untold.{is_to}
+use Rattle.capnotes.specs.Noted.{view}
 use Rattle.capcore.specs.Serves.{is_touched}
 use Rattle.capcore.specs.State.{State}
 

@@ -1,5 +1,5 @@
 //! Steps by which a client's session ends, becomes stale, is open again or has other grants.
-ghost use Rattle.std.specs.Prelude.{Some, ◌≡◌, ◌+◌, ◌≤◌, ◌<◌, ◌++◌, true, [], ◌∷◌, None, All, IsTrue, Contains, length, map as each, IfOk, IfErr, OnOk, OnErr, vec_capacity};
+ghost use Rattle.std.specs.Prelude.{Some, ◌≡◌, ◌+◌, ◌≤◌, ◌<◌, ◌++◌, true, [], ◌∷◌, None, All, Contains, length, map as each, IfOk, IfErr, OnOk, OnErr, vec_capacity};
 ghost use Rattle.std.specs.HashMap.{get};
 ghost use Rattle.capbits.specs.Refusal.{first_failing};
 ghost use Rattle.sessiontab.specs.Calls.{with_grants};
@@ -13,7 +13,8 @@ ghost use Rattle.lockmachine.specs.declared.request.Request.{Request};
 ghost use Rattle.lockmachine.specs.Locks.{requests_of, without_requests_of};
 ghost use Rattle.lockmachine.specs.Requests.{is_of_client as is_asked_by};
 ghost use Rattle.capcore.specs.Answered.{IsAnswered};
-ghost use Rattle.capcore.specs.Noted.{HavePlaces, view_of};
+ghost use Rattle.capcore.specs.Noted.{view_of};
+ghost use Rattle.capnotes.specs.Noted.{HavePlaces};
 ghost use Rattle.capview.specs.Changes.{AreChanges};
 ghost use Rattle.capcore.specs.Direct.{dropped_of};
 ghost use Rattle.capcore.specs.Serves.{is_touched};
@@ -22,17 +23,16 @@ ghost use Rattle.capcore.specs.Sweep.{Widens};
 ghost use Rattle.capcore.specs.Turn.{Notes, ReachesClient, turn_event, turn_tests, turned_sessions, is_end};
 ghost use Rattle.capcore.specs.Turn as words;
 
-use crate::changes::ChangeList;
 use crate::ended::close_dropped;
-use crate::ino_set::InoSet;
+use crate::endings::Endings;
 use crate::known::Known;
-use crate::messages::{Endings, Messages};
 use crate::said::Said;
 use crate::settle::end_at;
 use crate::stop::Stop;
 use crate::world::World;
 use capbits::{ClientId, Ino, Refusal};
 use capevents::{Ended, Outcome, Reply};
+use capnotes::{ChangeList, InoSet, Messages};
 use capspec::Grants;
 use captable::CapTable;
 use capview::ViewChange;

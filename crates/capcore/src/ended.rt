@@ -2,14 +2,15 @@
 ghost use Rattle.std.specs.Prelude.{◌≡◌, ◌+◌, ◌≤◌, ◌++◌, false, length};
 ghost use Rattle.std.specs.List.{find};
 ghost use Rattle.capevents.specs.Replies.{has_list};
-ghost use Rattle.capcore.specs.Direct.{is_of_ticket, awaited_as};
-ghost use Rattle.capcore.specs.Untold.{HaveOwnNumbers, but_for};
+ghost use Rattle.capcore.specs.Direct.{awaited_as};
+ghost use Rattle.capnotes.specs.Untold.{is_of_ticket, HaveOwnNumbers, but_for};
 ghost use Rattle.capevents.specs.declared.reply.Reply.TheVariants as reply;
 
-use crate::messages::{Endings, Messages};
+use crate::endings::Endings;
 use crate::said::Said;
 use capbits::Ticket;
 use capevents::{Ended, Reply, copy_of_reply};
+use capnotes::Messages;
 
 // A reply, which has no list, and the requests that the step ended: their clients are to be told of them, and the history keeps
 // them.

@@ -18,15 +18,14 @@ ghost use Rattle.capcore.specs.Direct.{opened_as};
 ghost use Rattle.capcore.specs.Known.{AreKnown, HaveRoom, KeptAnew, OthersHaveAll, known_in};
 ghost use Rattle.capcore.specs.Touching.{forget_at, forget_among, finished_at, told_then};
 ghost use Rattle.capcore.specs.Serves.{EndsAt, is_touched};
-ghost use Rattle.capcore.specs.Noted.{LeadOn};
+ghost use Rattle.capnotes.specs.Noted.{LeadOn};
 
-use crate::changes::ChangeList;
-use crate::ino_set::InoSet;
 use crate::known::Known;
 use crate::told::{lock_under, told_under};
 use arrayvec::ArrayVec;
 use capbits::{Cap, CapSet, ClientId, Ino, Part};
 use capevents::Reply;
+use capnotes::{ChangeList, InoSet};
 use capspec::FsName;
 use captable::{CapTable, Entry, EntryRow, Holder};
 use capview::ViewChange;

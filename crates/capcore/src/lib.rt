@@ -4,17 +4,15 @@
 #![tactic(auto)]
 
 mod asking;
-mod changes;
 mod client;
 mod ended;
+mod endings;
 mod finish;
 mod flushing;
 mod giving;
-mod ino_set;
 mod judge;
 mod known;
 mod laws;
-mod messages;
 mod own_laws;
 mod poll;
 mod reach;
@@ -30,7 +28,6 @@ mod step;
 mod stop;
 mod stopped;
 mod told;
-mod told_numbers;
 mod touch;
 mod touch_laws;
 mod world;

@@ -6,10 +6,9 @@ ghost use Rattle.captable.specs.Calls.{is_of_inode};
 ghost use Rattle.capcore.specs.Served.{is_rename};
 ghost use Rattle.capcore.specs.Sweep.{AreWalked, Covers, CoversBelow, Widens};
 
-use crate::changes::ChangeList;
 use crate::finish::is_held;
-use crate::ino_set::InoSet;
 use capbits::Ino;
+use capnotes::{ChangeList, InoSet};
 use captable::CapTable;
 use inotree::Tree;
 use lockmachine::{Ask, Request};

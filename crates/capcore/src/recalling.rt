@@ -5,11 +5,11 @@ ghost use Rattle.capcore.specs.Answered.{IsAnswered};
 ghost use Rattle.capcore.specs.Noted.{view_of};
 ghost use Rattle.capview.specs.Changes.{AreChanges};
 
-use crate::changes::ChangeList;
 use crate::said::Said;
 use crate::stop::Stop;
 use crate::world::World;
 use capevents::{EndedList, Reply};
+use capnotes::ChangeList;
 
 impl World {
     // A step that marks the first entries in the order of recall as asked for, and names them. It moves none.

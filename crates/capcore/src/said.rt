@@ -2,8 +2,8 @@
 ghost use Rattle.std.specs.Prelude.{◌≡◌, false, []};
 ghost use Rattle.capevents.specs.Replies.{has_list};
 
-use crate::changes::ChangeList;
 use capevents::{EndedList, Reply, copy_of_reply};
+use capnotes::ChangeList;
 use std::alloc::Global;
 
 // What a step says: its reply, the same once more for the history, the requests of earlier steps that it ended, and what it

@@ -7,7 +7,8 @@ ghost use Rattle.inotree.specs.Alike.{IsAlike};
 ghost use Rattle.lockmachine.specs.declared.request.Request.{Request};
 ghost use Rattle.lockmachine.specs.Scene.{Scene};
 ghost use Rattle.capevents.specs.declared.outcome.Outcome.{Outcome};
-ghost use Rattle.capcore.specs.Serving.{MayEndAs, tree_after};
+ghost use Rattle.capcore.specs.Serving.{MayEndAs};
+ghost use Rattle.capnotes.specs.Changing.{tree_after};
 ghost use Rattle.capcore.specs.Served.{is_rename};
 
 /// However a request ends that is served, every other inode than its own has the same path, owner, group and mode, unless the

@@ -7,12 +7,12 @@ ghost use Rattle.captable.specs.Table.{holder, entry_at};
 ghost use Rattle.lockmachine.specs.Locks.{lock_at};
 ghost use Rattle.capcore.specs.declared.stop.Stop.TheVariants as stop_kind;
 
-use crate::changes::ChangeList;
 use crate::said::Said;
 use crate::stop::Stop;
 use crate::world::World;
 use capbits::{ClientId, Ino, Part, PassId};
 use capevents::{Event, Reply, Row};
+use capnotes::ChangeList;
 use capspec::FsName;
 use captable::Entry;
 use capview::ViewChange;

@@ -3,7 +3,7 @@ use Rattle.std.specs.Prelude.{◌==◌}
 use Rattle.std.proofs.lemmas.List.Sums.{length-filter, count_by-le-length}
 use Rattle.std.specs.List.{count_by}
 use Rattle.capevents.specs.declared.outcome.Ended.{Ended}
-use Rattle.capcore.specs.Untold.{but_for}
+use Rattle.capnotes.specs.Untold.{but_for}
 use Rattle.capcore.proofs.ended.close_with.Goals as goal
 
 pub append-requires : goal.append-requires

@@ -18,14 +18,14 @@ use Rattle.captable.specs.Many.{changed_where}
 use Rattle.lockmachine.specs.declared.states.InodeLocks.{InodeLocks}
 use Rattle.lockmachine.specs.Scene.{Scene, scene}
 use Rattle.capcore.specs.Finishing.{told_at, told_by, entry_under, entry_by, is_on}
-use Rattle.capcore.specs.InoSets.{InoSet}
+use Rattle.capnotes.specs.InoSets.{InoSet}
 use Rattle.capcore.specs.Known.{known_in, HaveRoom}
 use Rattle.capcore.specs.Serves.{is_touched}
 use Rattle.capcore.specs.Touching.{forget_at, forget_among}
 use Rattle.capcore.proofs.AtEnd.{or_turned, entry-alike, forget-all}
 use Rattle.capcore.proofs.KeptSets.{kept-as, kept-same, kept-then, kept-not, found-stays, room-still}
 use Rattle.capcore.proofs.ManyInodes.{changed-twice_where, entries_on-stay, holders-stay}
-use Rattle.capcore.proofs.Noting.{leads-then}
+use Rattle.capnotes.proofs.Noting.{leads-then}
 use Rattle.capcore.proofs.finish.finish.Goals as goal
 
 pub finish_entries-requires : goal.finish_entries-requires

@@ -16,7 +16,7 @@ use Rattle.captable.specs.Table.{Table}
 use Rattle.captable.specs.Calls.{is_of_inode, entries_on}
 use Rattle.lockmachine.specs.declared.states.InodeLocks.{InodeLocks}
 use Rattle.capcore.specs.Finishing.{told_at, told_by, entry_under, entry_by}
-use Rattle.capcore.specs.InoSets.{InoSet, IsListOf}
+use Rattle.capnotes.specs.InoSets.{InoSet, IsListOf}
 use Rattle.capcore.specs.Known.{known_in, HaveRoom}
 use Rattle.capcore.proofs.AtEnd.{entry-alike}
 use Rattle.capcore.proofs.KeptSets.{kept-as, room-still}

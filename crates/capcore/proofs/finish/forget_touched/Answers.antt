@@ -3,8 +3,8 @@ use Rattle.std.specs.List.{fold}
 use Rattle.std.specs.Map.Iter.{deref}
 use Rattle.std.proofs.lemmas.Map.Iter.{rest_more, rest_all}
 use Rattle.lockmachine.specs.Scene.{Scene, scene}
-use Rattle.capcore.specs.InoSets.{IsListOf}
-use Rattle.capcore.proofs.Noting.{leads-none, leads-then}
+use Rattle.capnotes.specs.InoSets.{IsListOf}
+use Rattle.capnotes.proofs.Noting.{leads-none, leads-then}
 use Rattle.capcore.proofs.Strays.{forget_on, forget-all_of}
 use Rattle.capcore.proofs.finish.forget_touched.Goals as goal
 

@@ -3,7 +3,7 @@ use Rattle.std.specs.FinSet as set
 use Rattle.std.specs.List.{fold}
 use Rattle.sessiontab.specs.Table.{SessionTable}
 use Rattle.lockmachine.specs.Scene.{scene}
-use Rattle.capcore.specs.Noted.{LeadOn}
+use Rattle.capnotes.specs.Noted.{LeadOn}
 use Rattle.capcore.proofs.Strays.{forget_on}
 use Rattle.capcore.proofs.finish.forget_touched.Given as goal
 

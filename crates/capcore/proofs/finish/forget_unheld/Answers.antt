@@ -1,4 +1,4 @@
-use Rattle.capcore.proofs.Noting.{leads-forgotten}
+use Rattle.capnotes.proofs.Noting.{leads-forgotten}
 use Rattle.capcore.proofs.finish.forget_unheld.Goals as goal
 
 pub returns-then-not-is_held-clause-lead : goal.returns-then-not-is_held-clause-lead

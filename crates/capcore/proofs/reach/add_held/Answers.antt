@@ -2,8 +2,8 @@ use Rattle.std.proofs.Common.{◌≢◌, ℕ, ◌+◌, get_or, List, sym, ap, su
 use Rattle.std.specs.List.{AllWithin}
 use Rattle.capbits.specs.declared.ids.Ino.{Ino}
 use Rattle.captable.specs.declared.entry.EntryRow.{EntryRow}
-use Rattle.capcore.specs.InoSets.{InoSet}
-use Rattle.capcore.specs.Noted.{Noted}
+use Rattle.capnotes.specs.InoSets.{InoSet}
+use Rattle.capnotes.specs.Noted.{Noted}
 use Rattle.capcore.specs.Sweep.{Widens}
 use Rattle.capcore.proofs.Adding.{differ, same-one, IsAdded, added-more}
 use Rattle.capcore.proofs.InoSets.{added, widens-added, widens-then}

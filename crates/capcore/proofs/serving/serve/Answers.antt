@@ -1,7 +1,7 @@
 use Rattle.std.proofs.Common.{[], refl, sym, ap, ◌∙◌}
 use Rattle.lockmachine.specs.Locks.{no_locks}
 use Rattle.lockmachine.specs.Scene.{Scene, scene}
-use Rattle.capcore.specs.Serving.{tree_after}
+use Rattle.capnotes.specs.Changing.{tree_after}
 use Rattle.capcore.proofs.Again.{calls-passed, ends-stopped, ends-passed, ends-without_memory, tree-stopped, tree-passed}
 use Rattle.capcore.proofs.Memory.{rename-takes}
 use Rattle.capcore.proofs.serving.serve.Goals as goal

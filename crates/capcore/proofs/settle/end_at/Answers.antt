@@ -3,7 +3,7 @@ use Rattle.capbits.specs.declared.ids.Ino.{Ino}
 use Rattle.lockmachine.specs.Scene.{Scene, scene}
 use Rattle.capcore.specs.Serves.{EndsAt, is_touched}
 use Rattle.capcore.proofs.NobodyServed.{settled-ends}
-use Rattle.capcore.proofs.Noting.{leads-then}
+use Rattle.capnotes.proofs.Noting.{leads-then}
 use Rattle.capcore.proofs.settle.end_at.Goals as goal
 
 pub returns-clause-ends : goal.returns-clause-ends

@@ -5,13 +5,13 @@ use Rattle.std.proofs.lemmas.List.Elements.{All-filter}
 use Rattle.capbits.specs.declared.ids.Ino.{Ino}
 use Rattle.captable.specs.Calls.{is_of_inode}
 use Rattle.lockmachine.specs.Scene.{Scene, scene}
-use Rattle.capcore.specs.InoSets.{InoSet}
+use Rattle.capnotes.specs.InoSets.{InoSet}
 use Rattle.capcore.specs.Serves.{EndsAt, is_touched}
 use Rattle.capcore.proofs.Among.{quiet-among, ends-one}
 use Rattle.capcore.proofs.AtEnd.{entry-on}
 use Rattle.capcore.proofs.InoSets.{none-there}
 use Rattle.capcore.proofs.NobodyServed.{settled-ends, settles-alone, still-all_there, tree-stays}
-use Rattle.capcore.proofs.Noting.{leads-then}
+use Rattle.capnotes.proofs.Noting.{leads-then}
 use Rattle.capcore.proofs.settle.end_at_entry.Goals as goal
 
 pub settle-touched-requires-clause-quiet : goal.settle-touched-requires-clause-quiet

@@ -2,7 +2,7 @@ use Rattle.std.proofs.Common.{ap, ◌∙◌, arith}
 use Rattle.std.specs.FinSet as set
 use Rattle.std.specs.Ordering.{nat_cmp}
 use Rattle.lockmachine.specs.Scene.{scene}
-use Rattle.capcore.specs.InoSets.{InoSet}
+use Rattle.capnotes.specs.InoSets.{InoSet}
 use Rattle.capcore.proofs.Among.{quiet-among, ends-one}
 use Rattle.capcore.proofs.InoSets.{none-there}
 use Rattle.capcore.proofs.settle.end_at_one.Goals as goal

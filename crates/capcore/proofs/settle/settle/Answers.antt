@@ -15,7 +15,7 @@ use Rattle.capcore.specs.declared.settle.SweepPlace.{SweepPlace}
 use Rattle.capcore.specs.Serves.{Serves, is_touched}
 use Rattle.capcore.specs.Settle.{Served, sets_size, is_done, sized_in}
 use Rattle.capcore.specs.Sweep.{GoesOn, GoesOnBehind, IsSwept, Reaches, StandsAt}
-use Rattle.capcore.proofs.Noting.{leads-none, leads-then}
+use Rattle.capnotes.proofs.Noting.{leads-none, leads-then}
 use Rattle.capcore.proofs.SoFar.{IsSoFar, so-far-begins, so-far-served, so-far-settled, so-far-swept, stands-behind, stands-first, turn-of_least}
 use Rattle.capcore.proofs.Walked.{none-walked, walked-served}
 use Rattle.capcore.proofs.settle.settle.Goals as goal

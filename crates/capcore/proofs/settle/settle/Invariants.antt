@@ -1,10 +1,10 @@
 use Rattle.std.proofs.Common.{◌≡◌, ◌≤◌, ◌+◌, length}
 use Rattle.std.specs.Prelude.{vec_capacity}
 use Rattle.lockmachine.specs.Scene.{scene}
-use Rattle.capcore.specs.Noted.{HavePlaces, LeadOn}
+use Rattle.capnotes.specs.Noted.{HavePlaces, LeadOn}
 use Rattle.capcore.specs.Serves.{is_touched}
 use Rattle.capcore.specs.Sweep.{AreWalked, StandsAt}
-use Rattle.capcore.specs.Untold.{HasRoom}
+use Rattle.capnotes.specs.Untold.{HasRoom}
 use Rattle.capcore.proofs.SoFar.{IsSoFar}
 use Rattle.capcore.proofs.settle.settle.Given as goal
 

@@ -6,7 +6,8 @@ use Rattle.capcore.specs.Direct.{IsDirect}
 use Rattle.capcore.specs.Sound.{IsSound}
 use Rattle.capcore.proofs.Steps.{alone-answered, no_list-direct}
 use Rattle.capview.specs.Changes.{AreChanges}
-use Rattle.capcore.specs.Noted.{Noted, view_of}
+use Rattle.capcore.specs.Noted.{view_of}
+use Rattle.capnotes.specs.Noted.{Noted}
 use Rattle.capcore.proofs.world.World.act_alone.Goals as goal
 
 pub with_changes-requires : goal.with_changes-requires

@@ -4,7 +4,7 @@ use Rattle.inotree.specs.Tests.{create_tests}
 use Rattle.inotree.proofs.Passing.{passed-create}
 use Rattle.lockmachine.specs.Locks.{LockMap}
 use Rattle.capcore.specs.Known.{AreKnown}
-use Rattle.capcore.specs.Untold.{HasRoom}
+use Rattle.capnotes.specs.Untold.{HasRoom}
 use Rattle.capcore.specs.State.{State}
 use Rattle.capcore.proofs.Undone.{added-dropped, not_given}
 use Rattle.capcore.proofs.Untouched.{birth-sound, birth-known}

@@ -9,7 +9,7 @@ use Rattle.capcore.specs.Sound.{IsSound}
 use Rattle.capcore.proofs.Asked.{asking-stop}
 use Rattle.capcore.proofs.Stops.{stopped-answered}
 use Rattle.capcore.specs.Noted.{view_of}
-use Rattle.capcore.proofs.Noting.{changes-still}
+use Rattle.capnotes.proofs.Noting.{changes-still}
 use Rattle.capcore.proofs.world.World.ask_rename.Goals as goal
 
 pub returns-in-Some-clause-answered : goal.returns-in-Some-clause-answered

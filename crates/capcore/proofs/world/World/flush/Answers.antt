@@ -23,7 +23,7 @@ use Rattle.capcore.proofs.Flushed.{flush-calls, flush-direct}
 use Rattle.capcore.proofs.Stops.{stopped-answered}
 use Rattle.capview.specs.Changes.{AreChanges}
 use Rattle.capcore.specs.Noted.{view_of}
-use Rattle.capcore.proofs.Noting.{changes-all, changes-still, leads-then}
+use Rattle.capnotes.proofs.Noting.{changes-all, changes-still, leads-then}
 use Rattle.capcore.proofs.world.World.flush.Goals as goal
 use Rattle.capcore.proofs.world.World.flush.Goals.{After-touch, After-close}
 

@@ -3,7 +3,7 @@ use Rattle.capview.specs.declared.change.ViewChange.TheVariants as change
 use Rattle.capview.specs.Changes.{AreChanges}
 use Rattle.capcore.specs.State.{State}
 use Rattle.capcore.specs.Noted.{view_of}
-use Rattle.capcore.proofs.Noting.{changes-one}
+use Rattle.capnotes.proofs.Noting.{changes-one}
 use Rattle.capcore.proofs.world.World.open_session.Goals as goal
 
 pub returns-clause-changes : goal.returns-clause-changes

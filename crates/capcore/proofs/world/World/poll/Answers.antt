@@ -13,7 +13,8 @@ use Rattle.capcore.specs.declared.said.Said.{Said}
 use Rattle.capcore.specs.declared.stopped.Stopped.TheVariants.{ByTest}
 use Rattle.capcore.specs.State.{State}
 use Rattle.capcore.specs.Answered.{IsAnswered}
-use Rattle.capcore.specs.Messages.{AreEndsOf, first_messages, with_given, after_messages, is_left}
+use Rattle.capcore.specs.Messages.{first_messages, with_given, after_messages}
+use Rattle.capnotes.specs.Untold.{AreEndsOf, is_left}
 use Rattle.capcore.specs.Sound.{IsSound}
 use Rattle.capcore.proofs.Again.{stopped-before}
 use Rattle.capcore.proofs.Polled.{poll-answered, polled-new}
@@ -22,7 +23,7 @@ use Rattle.capcore.proofs.Telling.{given-held}
 use Rattle.capcore.proofs.Knowing.{HoldAlike, known-alike, alike-where}
 use Rattle.capview.specs.Changes.{AreChanges}
 use Rattle.capcore.specs.Noted.{view_of}
-use Rattle.capcore.proofs.Noting.{changes-still}
+use Rattle.capnotes.proofs.Noting.{changes-still}
 use Rattle.capcore.proofs.world.World.poll.Goals as goal
 use Rattle.capcore.proofs.world.World.poll.Goals.{After-drop-told-inside}
 

@@ -8,7 +8,7 @@ use Rattle.capcore.specs.Direct.{with_table}
 use Rattle.capcore.proofs.Recalled.{recalled-sound, recalled-known, recall-answered}
 use Rattle.capview.specs.Changes.{AreChanges}
 use Rattle.capcore.specs.Noted.{view_of}
-use Rattle.capcore.proofs.Noting.{changes-still}
+use Rattle.capnotes.proofs.Noting.{changes-still}
 use Rattle.capcore.proofs.world.World.recall.Goals as goal
 use Rattle.capcore.proofs.world.World.recall.Goals.{After-new-2}
 

@@ -28,7 +28,7 @@ use Rattle.capcore.proofs.TouchWhole.{passed-of, table-of, first-is, touch-answe
 use Rattle.capcore.proofs.Touched.{touched-tests}
 use Rattle.capview.specs.Changes.{AreChanges}
 use Rattle.capcore.specs.Noted.{view_of}
-use Rattle.capcore.proofs.Noting.{changes-all, changes-still}
+use Rattle.capnotes.proofs.Noting.{changes-all, changes-still}
 use Rattle.capcore.proofs.world.World.touch.Goals as goal
 use Rattle.capcore.proofs.world.World.touch.Goals.{In_ok-touch_entry, After-close}
 

@@ -20,8 +20,9 @@ use Rattle.capcore.proofs.Stops.{stopped-answered}
 use Rattle.capcore.proofs.TurnStep.{turn-stop, few-waiting, few-messages, turn-quiet, turn-clients, turn-numbers, turn-alike, turn-known, turn-closed}
 use Rattle.capcore.proofs.Knowing.{HoldAlike, still-there, still-room}
 use Rattle.capview.specs.Changes.{AreChanges}
-use Rattle.capcore.specs.Noted.{view, view_of}
-use Rattle.capcore.proofs.Noting.{changes-still}
+use Rattle.capcore.specs.Noted.{view_of}
+use Rattle.capnotes.specs.Noted.{view}
+use Rattle.capnotes.proofs.Noting.{changes-still}
 use Rattle.capcore.proofs.world.World.turn.Goals as goal
 use Rattle.capcore.proofs.world.World.turn.Goals.{After-leave, After-close_dropped}
 

@@ -11,12 +11,12 @@ use Rattle.capcore.specs.Answered.{IsAnswered}
 use Rattle.capcore.specs.Asks.{ask_needs}
 use Rattle.capcore.specs.Judge.{stop, asking_tests, waiting_tests}
 use Rattle.capcore.specs.Touching.{asks_for}
-use Rattle.capcore.specs.Untold.{but_for}
+use Rattle.capnotes.specs.Untold.{but_for}
 use Rattle.capcore.proofs.Asked.{asking-room}
 use Rattle.capcore.proofs.Waits.{some-asking, room-left, few-others, wait-quiet, wait-differ, wait-known, wait-answered}
 use Rattle.capview.specs.Changes.{AreChanges}
 use Rattle.capcore.specs.Noted.{view_of}
-use Rattle.capcore.proofs.Noting.{changes-all}
+use Rattle.capnotes.proofs.Noting.{changes-all}
 use Rattle.capcore.proofs.world.World.wait.Goals as goal
 use Rattle.capcore.proofs.world.World.wait.Goals.{After-oldest-oldest, After-close_with}
 

@@ -1,0 +1,4 @@
+pub mod EndNumbers
+pub mod InoSets
+pub mod Noting
+pub mod Taking

@@ -1,0 +1,199 @@
+-- What was noted leads on, change by change.
+use Rattle.std.proofs.Common.{◌≡◌, ℕ, ◌+◌, Bool, true, false, List, [], ◌∷◌, ◌++◌, ◌⊎◌, inl, inr, Option, Some, None, refl, sym, ap, subst, ◌∙◌}
+use Rattle.std.specs.Cmp.{nat_cmp_total}
+use Rattle.std.specs.FinMap as map
+use Rattle.std.specs.FinSet as set
+use Rattle.std.specs.Option.{option_map}
+use Rattle.capbits.specs.declared.ids.Ino.{Ino}
+use Rattle.numbered.proofs.Maps.{change-none, change-is, insert-here}
+use Rattle.capgrant.specs.declared.access.Attr.{Attr}
+use Rattle.inotree.specs.declared.node.Kind.{Kind}
+use Rattle.inotree.specs.declared.node.Node.{Node}
+use Rattle.inotree.specs.declared.node.Site.{Site}
+use Rattle.inotree.specs.declared.node.Site.TheVariants.{Under}
+use Rattle.inotree.specs.Inodes.{InodeMap, with_attr, with_setting, with_attribute, without_attribute}
+use Rattle.inotree.specs.declared.node.Setting.TheVariants.{Mode, Uid, Gid, Size, Time}
+use Rattle.inotree.specs.Tree.{Nodes}
+use Rattle.inotree.specs.Calls.{changed, moved, new_node, unlinked, with_new}
+use Rattle.sessiontab.specs.Connected.{SessionMap}
+use Rattle.capview.specs.declared.change.ViewChange.{ViewChange}
+use Rattle.capview.specs.declared.change.ViewChange.TheVariants as change
+use Rattle.capview.specs.declared.view.View.{View}
+use Rattle.capview.specs.Changes.{AreChanges, kind_by, tree_by, view_by}
+use Rattle.capview.specs.Sight.{IsLike, Shows, sight_of}
+use Rattle.capview.proofs.Likeness.{like-unseen, like-settled, shows-tree}
+use Rattle.capview.proofs.Telling.{changes-none, changes-more, changes-alike}
+use Rattle.lockmachine.specs.declared.request.Ask.TheVariants.{Unlink, Rmdir}
+use Rattle.lockmachine.specs.declared.request.Change.{Change}
+use Rattle.lockmachine.specs.declared.request.Change.TheVariants.{Set, SetXattr, RemoveXattr}
+use Rattle.lockmachine.specs.declared.request.Request.{Request}
+use Rattle.capevents.specs.declared.outcome.Outcome.{Outcome}
+use Rattle.capevents.specs.declared.outcome.Outcome.TheVariants.{Done}
+use Rattle.capnotes.specs.Changing.{tree_changed, tree_after, tree_with}
+use Rattle.capnotes.specs.Noted.{LeadOn, sets_attr, view}
+
+-- nothing was noted, and the tree stays
+pub leads-none : (items : List ViewChange) (tree : Nodes) → LeadOn items items tree tree
+leads-none items tree = record { on = λ first sessions told. told }
+
+pub leads-same : (items : List ViewChange) (before after : Nodes) → after ≡ before → LeadOn items items before after
+leads-same items before after same = subst (LeadOn items items before) (sym same) (leads-none items before)
+
+pub leads-then : (a b c : List ViewChange) (first mid last : Nodes) → LeadOn a b first mid → LeadOn b c mid last → LeadOn a c first last
+leads-then a b c first mid last one two = record { on = λ view sessions told. two.on view sessions (one.on view sessions told) }
+
+-- what was noted leads to all that looks the same
+pub leads-alike : (a b : List ViewChange) (first mid last : Nodes) → LeadOn a b first mid → IsLike mid last → LeadOn a b first last
+leads-alike a b first mid last leads like = record {
+  on = λ from sessions told. changes-alike b from (view mid sessions) (view last sessions) (leads.on from sessions told) (shows-tree mid last sessions like);
+}
+
+-- ---- one change more
+
+module _ (items : List ViewChange) (before : Nodes) (ino : Ino) where
+  pub leads-born : (dir : Ino) (name : List ℕ) (attr : Attr) (is_dir : Bool)
+      → LeadOn items (items ++ change.Born ino dir name attr is_dir ∷ []) before (tree_by before (change.Born ino dir name attr is_dir))
+  leads-born dir name attr is_dir = record { on = λ first sessions told. changes-more items first (view before sessions) (change.Born ino dir name attr is_dir) told }
+
+  pub leads-moved : (dir : Ino) (name : List ℕ) → LeadOn items (items ++ change.Moved ino dir name ∷ []) before (tree_by before (change.Moved ino dir name))
+  leads-moved dir name = record { on = λ first sessions told. changes-more items first (view before sessions) (change.Moved ino dir name) told }
+
+  pub leads-removed : LeadOn items (items ++ change.Removed ino ∷ []) before (tree_by before (change.Removed ino))
+  leads-removed = record { on = λ first sessions told. changes-more items first (view before sessions) (change.Removed ino) told }
+
+  pub leads-forgotten : LeadOn items (items ++ change.Forgotten ino ∷ []) before (tree_by before (change.Forgotten ino))
+  leads-forgotten = record { on = λ first sessions told. changes-more items first (view before sessions) (change.Forgotten ino) told }
+
+  pub leads-settled : (attr : Attr) → LeadOn items (items ++ change.Settled ino attr ∷ []) before (tree_by before (change.Settled ino attr))
+  leads-settled attr = record { on = λ first sessions told. changes-more items first (view before sessions) (change.Settled ino attr) told }
+
+-- ---- an inode, as it is read off the tree after the change
+
+module _ (items : List ViewChange) (before after : Nodes) (ino : Ino) where
+  -- where there is none, the change of it changes nothing
+  pub leads-not_there : (f : Node → Node) → after ≡ changed f before ino.0 → map.get after.nodes ino.0 ≡ None → LeadOn items items before after
+  leads-not_there f is none = leads-same items before after (is ∙ ap (λ (m : InodeMap). record { nodes = m; last = before.last }) (change-none nat_cmp_total map.nat_cmp-IsAntisymmetric before.nodes ino.0 f (was (map.get before.nodes ino.0) refl)))
+    where
+      there : (node : Node) → map.get before.nodes ino.0 ≡ Some node → map.get after.nodes ino.0 ≡ Some (f node)
+      there node e =
+          ap (λ (t : Nodes). map.get t.nodes ino.0) is
+          ∙ ap (λ (m : InodeMap). map.get m ino.0) (change-is nat_cmp_total map.nat_cmp-IsAntisymmetric before.nodes ino.0 f node e)
+          ∙ insert-here nat_cmp_total map.nat_cmp-IsAntisymmetric before.nodes ino.0 (f node)
+
+      was : (o : Option Node) → map.get before.nodes ino.0 ≡ o → map.get before.nodes ino.0 ≡ None
+      was None e = e
+      was (Some node) e = absurd (let here : Some (f node) ≡ None = sym (there node e) ∙ none in cc)
+
+  -- of one that is there after the change, what it was before
+  changed_from : (f : Node → Node) → after ≡ changed f before ino.0 → (node : Node) → map.get after.nodes ino.0 ≡ Some node → (old : Node) × (node ≡ f old)
+  changed_from f is node here = was (map.get before.nodes ino.0) refl
+    where
+      was : (o : Option Node) → map.get before.nodes ino.0 ≡ o → (old : Node) × (node ≡ f old)
+      was None e =
+          let same : changed f before ino.0 ≡ before = ap (λ (m : InodeMap). record { nodes = m; last = before.last }) (change-none nat_cmp_total map.nat_cmp-IsAntisymmetric before.nodes ino.0 f e) in
+          let none : Some node ≡ None = sym here ∙ ap (λ (t : Nodes). map.get t.nodes ino.0) (is ∙ same) ∙ e in
+          absurd (cc)
+      was (Some old) e =
+          let there : Some node ≡ Some (f old) =
+          sym here ∙ ap (λ (t : Nodes). map.get t.nodes ino.0) is
+          ∙ ap (λ (m : InodeMap). map.get m ino.0) (change-is nat_cmp_total map.nat_cmp-IsAntisymmetric before.nodes ino.0 f old e)
+          ∙ insert-here nat_cmp_total map.nat_cmp-IsAntisymmetric before.nodes ino.0 (f old) in (old, cc)
+
+  -- its owner, group or mode was set
+  pub leads-attr : (f : Node → Node) → ((node : Node) → (f node).kind ≡ node.kind) → ((node : Node) → (f node).site ≡ node.site) → after ≡ changed f before ino.0
+      → (node : Node) → map.get after.nodes ino.0 ≡ Some node → LeadOn items (items ++ change.Settled ino node.attr ∷ []) before after
+  leads-attr f kinds sites is node here =
+      let told : List ViewChange = items ++ change.Settled ino node.attr ∷ [] in
+      subst (LeadOn items told before) (sym is)
+      (leads-alike items told before (changed (with_attr node.attr) before ino.0) (changed f before ino.0) (leads-settled items before ino node.attr)
+      (like-settled before f ino.0 node.attr kinds sites (ap (option_map (λ (n : Node). n.attr)) (ap (λ (t : Nodes). map.get t.nodes ino.0) (sym is) ∙ here))))
+
+  -- what no reader sees was changed
+  pub leads-unseen : (f : Node → Node) → ((node : Node) → sight_of (f node) ≡ sight_of node) → after ≡ changed f before ino.0 → LeadOn items items before after
+  leads-unseen f law is =
+      subst (LeadOn items items before) (sym is) (leads-alike items items before before (changed f before ino.0) (leads-none items before) (like-unseen before f ino.0 law))
+
+  -- it was moved
+  pub stands : (dir : ℕ) (name : List ℕ) → after ≡ moved before ino.0 dir name → (node : Node) → map.get after.nodes ino.0 ≡ Some node → node.site ≡ Under (record { 0 = dir }) name
+  stands dir name is node here = let from = changed_from (λ n. record n { site = Under (record { 0 = dir }) name }) is node here in ap (λ (n : Node). n.site) from.1
+
+  pub leads-place : (dir : ℕ) (name : List ℕ) → after ≡ moved before ino.0 dir name → (node : Node) → map.get after.nodes ino.0 ≡ Some node → (d : Ino) (n : List ℕ) → node.site ≡ Under d n
+      → LeadOn items (items ++ change.Moved ino d n ∷ []) before after
+  leads-place dir name is node here d n site =
+      let told : List ViewChange = items ++ change.Moved ino d n ∷ [] in
+      subst (LeadOn items told before) (ap (λ (s : Site). changed (λ m. record m { site = s }) before ino.0) (sym site ∙ stands dir name is node here) ∙ sym is) (leads-moved items before ino d n)
+
+  -- it was made
+  module _ (kind : Kind) (dir : ℕ) (name : List ℕ) (attr : Attr) (is : after ≡ with_new before kind dir name attr) (next : ino.0 ≡ before.last + 1) where
+    pub born_there : map.get after.nodes ino.0 ≡ Some (new_node kind dir name attr)
+    born_there =
+        ap (λ (t : Nodes). map.get t.nodes ino.0) is ∙ ap (map.get (map.insert before.nodes (before.last + 1) (new_node kind dir name attr))) next
+        ∙ insert-here nat_cmp_total map.nat_cmp-IsAntisymmetric before.nodes (before.last + 1) (new_node kind dir name attr)
+
+    pub leads-birth : (node : Node) → map.get after.nodes ino.0 ≡ Some node → (d : Ino) (n : List ℕ) → node.site ≡ Under d n → (is_dir : Bool) → kind_by is_dir ≡ node.kind
+        → LeadOn items (items ++ change.Born ino d n node.attr is_dir ∷ []) before after
+    leads-birth node here d n site is_dir kinds =
+        let told : List ViewChange = items ++ change.Born ino d n node.attr is_dir ∷ [] in
+        let same : Some node ≡ Some (new_node kind dir name attr) = sym here ∙ born_there in
+        let born : node ≡ new_node kind dir name attr = cc in
+        let of_kind : kind_by is_dir ≡ kind = kinds ∙ ap (λ (m : Node). m.kind) born in
+        let at : Under d n ≡ Under (record { 0 = dir }) name = sym site ∙ ap (λ (m : Node). m.site) born in
+        let by : node.attr ≡ attr = ap (λ (m : Node). m.attr) born in
+        let made : new_node (kind_by is_dir) d.0 n node.attr ≡ new_node kind dir name attr =
+        λ i. record { kind = of_kind i; site = at i; attr = by i; size = 0; time = 0; attributes = map.empty; snapshots = set.empty } in
+        let tree : tree_by before (change.Born ino d n node.attr is_dir) ≡ with_new before kind dir name attr =
+        λ i. record { nodes = map.insert before.nodes (next i) (made i); last = next i } in
+        subst (LeadOn items told before) (tree ∙ sym is) (leads-born items before ino d n node.attr is_dir)
+
+-- ---- what a client changed, or asked for
+
+module _ (items : List ViewChange) (before after : Nodes) (ino : Ino) where
+  -- its owner, group or mode, as they are now
+  pub leads-set : (c : Change) → sets_attr c ≡ true → after ≡ tree_changed before ino.0 c → (more : List ViewChange)
+      → ((f : Node → Node) → ((node : Node) → (f node).kind ≡ node.kind) → ((node : Node) → (f node).site ≡ node.site) → after ≡ changed f before ino.0 → LeadOn items more before after)
+      → LeadOn items more before after
+  leads-set (Set (Mode mode)) seen is more lead = lead (with_setting (Mode mode)) (λ node. refl) (λ node. refl) is
+  leads-set (Set (Uid uid)) seen is more lead = lead (with_setting (Uid uid)) (λ node. refl) (λ node. refl) is
+  leads-set (Set (Gid gid)) seen is more lead = lead (with_setting (Gid gid)) (λ node. refl) (λ node. refl) is
+  leads-set (Set (Size size)) seen is more lead = absurd (cc)
+  leads-set (Set (Time time)) seen is more lead = absurd (cc)
+  leads-set (SetXattr name value) seen is more lead = absurd (cc)
+  leads-set (RemoveXattr name) seen is more lead = absurd (cc)
+
+  -- anything else
+  pub leads-not_set : (c : Change) → sets_attr c ≡ false → after ≡ tree_changed before ino.0 c → LeadOn items items before after
+  leads-not_set (Set (Mode mode)) seen is = absurd (cc)
+  leads-not_set (Set (Uid uid)) seen is = absurd (cc)
+  leads-not_set (Set (Gid gid)) seen is = absurd (cc)
+  leads-not_set (Set (Size size)) seen is = leads-unseen items before after ino (with_setting (Size size)) (λ node. refl) is
+  leads-not_set (Set (Time time)) seen is = leads-unseen items before after ino (with_setting (Time time)) (λ node. refl) is
+  leads-not_set (SetXattr name value) seen is = leads-unseen items before after ino (with_attribute name value) (λ node. refl) is
+  leads-not_set (RemoveXattr name) seen is = leads-unseen items before after ino (without_attribute name) (λ node. refl) is
+
+-- an inode that was unlinked, or removed, is a stray
+pub leads-unlinked : (items : List ViewChange) (before after : Nodes) (q : Request) (o : Outcome) → o ≡ Done → (q.ask ≡ Unlink) ⊎ (q.ask ≡ Rmdir) → after ≡ tree_after before q o
+    → LeadOn items (items ++ change.Removed q.ino ∷ []) before after
+leads-unlinked items before after q o done asked is =
+    subst (LeadOn items (items ++ change.Removed q.ino ∷ []) before) (sym (is ∙ ap (tree_after before q) done ∙ by asked)) (leads-removed items before q.ino)
+  where
+    by : (q.ask ≡ Unlink) ⊎ (q.ask ≡ Rmdir) → tree_with before q.ino.0 q.ask ≡ unlinked before q.ino.0
+    by (inl e) = ap (tree_with before q.ino.0) e
+    by (inr e) = ap (tree_with before q.ino.0) e
+
+-- ---- what a step noted in all
+
+-- nothing, as nothing changed
+pub changes-still : (items : List ViewChange) (seen : View) → items ≡ [] → AreChanges items seen seen
+changes-still items seen none = subst (λ (told : List ViewChange). AreChanges told seen seen) (sym none) (changes-none seen)
+
+-- nothing, as readers see nothing of what changed
+pub changes-unseen : (items : List ViewChange) (old new : View) → items ≡ [] → Shows old new → AreChanges items old new
+changes-unseen items old new none shows = changes-alike items old old new (changes-still items old none) shows
+
+-- what leads on from nothing, while the sessions stay
+pub changes-all : (none items : List ViewChange) (before after : Nodes) (sessions : SessionMap) → none ≡ [] → LeadOn none items before after → AreChanges items (view before sessions) (view after sessions)
+changes-all none items before after sessions is leads = leads.on (view before sessions) sessions (changes-still none (view before sessions) is)
+
+-- one change
+pub changes-one : (none items : List ViewChange) (seen : View) (c : ViewChange) → none ≡ [] → items ≡ none ++ c ∷ [] → AreChanges items seen (view_by seen c)
+changes-one none items seen c is more = subst (λ (told : List ViewChange). AreChanges told seen (view_by seen c)) (sym more) (changes-more none seen seen c (changes-still none seen is))

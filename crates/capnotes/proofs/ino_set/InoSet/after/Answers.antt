@@ -1,0 +1,17 @@
+use Rattle.std.proofs.Common.{◌+◌, sym, subst}
+use Rattle.std.specs.Ordering.{nat_cmp}
+use Rattle.std.specs.declared.ops.Bound.TheVariants.{Excluded, Unbounded}
+use Rattle.std.specs.BTreeSet.{IsKeyRangeOf}
+use Rattle.capnotes.specs.InoSets.{IsNext}
+use Rattle.capnotes.proofs.InoSets.{begins-behind, none-from, least-from}
+use Rattle.capnotes.proofs.ino_set.InoSet.after.Goals as goal
+
+pub returns-in_err-number : goal.returns-in_err-number
+returns-in_err-number c =
+    let range = subst (IsKeyRangeOf nat_cmp (Excluded c.args.ino.0) Unbounded c.self.inside.numbers) c.in_err-number.ensures.steps.0 (c.range.ensures.in_range tt) in
+    subst (IsNext c.args.self.now (c.args.ino.0 + 1)) (sym c.from_residual.ensures) (none-from c.self.inside.numbers c.args.self.now c.self.view_is (Excluded c.args.ino.0) (c.args.ino.0 + 1) (begins-behind c.args.ino.0) range)
+
+pub returns : goal.returns
+returns c =
+    let range = subst (IsKeyRangeOf nat_cmp (Excluded c.args.ino.0) Unbounded c.self.inside.numbers) c.in_ok-number.ensures.steps (c.range.ensures.in_range tt) in
+    least-from c.self.inside.numbers c.args.self.now c.self.view_is (Excluded c.args.ino.0) (c.args.ino.0 + 1) (begins-behind c.args.ino.0) c.in_ok-number.number.now c.next.new.self range

@@ -1,0 +1,33 @@
+use Rattle.std.proofs.Common.{◌≡◌, Some, sym, ap, subst, ◌∙◌}
+use Rattle.std.specs.List.{find, position, remove}
+use Rattle.lockmachine.proofs.Positions.{no_position}
+use Rattle.capnotes.specs.Untold.{is_of_ticket, Untold, HaveOwnNumbers, but_for}
+use Rattle.capnotes.proofs.Taking.{taken, none_taken}
+use Rattle.capnotes.proofs.messages.Messages.take.Goals as goal
+use Rattle.capnotes.proofs.messages.Messages.take.Goals.{After-remove}
+
+pub returns-in_err-place-clause-left : goal.returns-in_err-place-clause-left
+returns-in_err-place-clause-left c =
+    none_taken c.args.ticket c.args.self.now.items (no_position (is_of_ticket c.args.ticket) c.args.self.now.items (sym c.place_of.ensures ∙ c.in_err-place.was))
+
+pub returns-in_err-place-clause-taken : goal.returns-in_err-place-clause-taken
+returns-in_err-place-clause-taken c =
+    c.from_residual.ensures ∙ sym (no_position (is_of_ticket c.args.ticket) c.args.self.now.items (sym c.place_of.ensures ∙ c.in_err-place.was))
+
+module _ (c : After-remove) where
+  both : (find (is_of_ticket c.args.ticket) c.self.inside.items.items ≡ Some c.remove.result)
+      × (remove c.self.inside.items.items c.in_ok-place.place ≡ but_for c.args.ticket c.self.inside.items.items)
+  both =
+      let at = ap (λ (u : Untold). position (is_of_ticket c.args.ticket) u.items) c.self.view_is ∙ sym c.place_of.ensures ∙ c.in_ok-place.was in
+      let differ : HaveOwnNumbers c.self.inside.items.items = subst (λ (u : Untold). HaveOwnNumbers u.items) (sym c.self.view_is) c.requires.differ in
+      taken c.self.inside.items.items c.args.ticket c.in_ok-place.place c.remove.result differ at c.remove.ensures.value
+
+pub returns-clause-left : goal.returns-clause-left
+returns-clause-left c =
+    let b = both c in
+    c.remove.ensures.items ∙ b.1 ∙ ap (λ (u : Untold). but_for c.args.ticket u.items) c.self.view_is
+
+pub returns-clause-taken : goal.returns-clause-taken
+returns-clause-taken c =
+    let b = both c in
+    sym b.0 ∙ ap (λ (u : Untold). find (is_of_ticket c.args.ticket) u.items) c.self.view_is

@@ -1,0 +1,35 @@
+-- What becomes of a tree when a request is served.
+use Rattle.std.specs.Prelude.{ℕ}
+use Rattle.inotree.specs.Tree.{Nodes}
+use Rattle.inotree.specs.Inodes.{with_setting, with_attribute, without_attribute}
+use Rattle.inotree.specs.Calls.{changed, unlinked, moved}
+use Rattle.lockmachine.specs.declared.request.Change.{Change}
+use Rattle.lockmachine.specs.declared.request.Change.TheVariants.{Set, SetXattr, RemoveXattr}
+use Rattle.lockmachine.specs.declared.request.Ask.{Ask}
+use Rattle.lockmachine.specs.declared.request.Ask.TheVariants.{Get, Alter, Unlink, Rmdir, Rename}
+use Rattle.lockmachine.specs.declared.request.Request.{Request}
+use Rattle.capevents.specs.declared.outcome.Outcome.{Outcome}
+use Rattle.capevents.specs.declared.outcome.Outcome.TheVariants as outcome
+
+-- the tree with the change of the inode
+abbrev pub tree_changed : Nodes → ℕ → Change → Nodes
+tree_changed tree ino (Set setting) = changed (with_setting setting) tree ino
+tree_changed tree ino (SetXattr name value) = changed (with_attribute name value) tree ino
+tree_changed tree ino (RemoveXattr name) = changed (without_attribute name) tree ino
+
+-- the tree with what is asked for
+abbrev pub tree_with : Nodes → ℕ → Ask → Nodes
+tree_with tree ino (Get part) = tree
+tree_with tree ino (Alter change) = tree_changed tree ino change
+tree_with tree ino Unlink = unlinked tree ino
+tree_with tree ino Rmdir = unlinked tree ino
+tree_with tree ino (Rename dir name) = moved tree ino dir.0 name
+
+-- a request that ends otherwise than as done changes nothing
+abbrev pub tree_after : Nodes → Request → Outcome → Nodes
+tree_after tree q outcome.Done = tree_with tree q.ino.0 q.ask
+tree_after tree q (outcome.Values shown) = tree
+tree_after tree q (outcome.Denied access rules) = tree
+tree_after tree q (outcome.Refused refusal) = tree
+tree_after tree q outcome.OutOfMemory = tree
+tree_after tree q outcome.Dropped = tree

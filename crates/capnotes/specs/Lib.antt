@@ -1,0 +1,5 @@
+pub mod Untold
+pub mod InoSets
+pub mod Noted
+pub mod Changing
+pub mod Codes
