@@ -1,4 +1,4 @@
--- What was noted leads on, change by change.
+-- What becomes of a session is noted.
 use Rattle.std.proofs.Common.{◌≡◌, ◌+◌, List, [], ◌∷◌, ◌++◌, ◌⊎◌, inl, inr, Bor, refl, sym, ap, subst}
 use Rattle.std.specs.FinMap as map
 use Rattle.capbits.specs.declared.ids.ClientId.{ClientId}
@@ -16,9 +16,8 @@ use Rattle.capview.proofs.Likeness.{guests-unseen, shows-sessions}
 use Rattle.capcore.specs.declared.client.Turn.{Turn}
 use Rattle.capcore.specs.declared.client.Turn.TheVariants.{Close, Stale, Renew, Regrant, Evict}
 use Rattle.capnotes.specs.Noted.{view}
+use Rattle.capnotes.proofs.Noting.{changes-one, changes-unseen}
 use Rattle.capcore.specs.Turn.{Notes, turned_sessions}
-
--- ---- what becomes of a session
 
 module _ (items : List ViewChange) (client : ClientId) (turn : Turn) where
   -- it ends
