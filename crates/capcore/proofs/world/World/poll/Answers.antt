@@ -25,7 +25,7 @@ use Rattle.capview.specs.Changes.{AreChanges}
 use Rattle.capcore.specs.Noted.{view_of}
 use Rattle.capnotes.proofs.Noting.{changes-still}
 use Rattle.capcore.proofs.world.World.poll.Goals as goal
-use Rattle.capcore.proofs.world.World.poll.Goals.{After-drop-told-inside}
+use Rattle.capcore.proofs.world.World.poll.Goals.{After-drop-told}
 
 -- ---- no open session
 
@@ -41,7 +41,7 @@ returns-in-Some-clause-answered c =
 
 -- ---- an open session
 
-module _ (c : After-drop-told-inside) where
+module _ (c : After-drop-told) where
   -- the state before the event
   abbrev old : State
   old = record { scene = record { fs = c.self.inside.fs; tree = c.self.inside.tree; sessions = c.self.inside.sessions; table = c.self.inside.table; locks = c.self.inside.locks }; messages = c.self.inside.messages.items }
