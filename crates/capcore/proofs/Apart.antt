@@ -24,9 +24,9 @@ use Rattle.captable.proofs.Searches.{find_passes}
 use Rattle.lockmachine.specs.Locks.{lock_at}
 use Rattle.lockmachine.specs.Scene.{Scene}
 use Rattle.lockmachine.specs.Moves.{present_state}
-use Rattle.capcore.specs.State.{State}
-use Rattle.capcore.specs.Headline.{IsInPlace, AreInPlace, NoneConflict}
-use Rattle.capcore.specs.Sound.{IsSound}
+use Rattle.capsteps.specs.State.{State}
+use Rattle.capsteps.specs.Headline.{IsInPlace, AreInPlace, NoneConflict}
+use Rattle.capsteps.specs.Sound.{IsSound}
 
 -- ---- capabilities that conflict are of one part
 

@@ -28,16 +28,16 @@ use Rattle.lockmachine.proofs.Queue.{with_request-kept}
 use Rattle.lockmachine.proofs.SameBut.{same-request}
 use Rattle.capevents.specs.declared.event.Event.{Event}
 use Rattle.capevents.specs.declared.event.Event.TheVariants as event
-use Rattle.capcore.specs.State.{State}
-use Rattle.capcore.specs.Asks.{ask_before, ask_needs, ask_after}
-use Rattle.capcore.specs.Judge.{judged, asked_tests, asking_tests, waiting_tests, stop, stop_by, first_denied}
-use Rattle.capcore.specs.Needs.{Need}
-use Rattle.capcore.specs.Direct.{direct, effect, effect_unless, asks}
-use Rattle.capcore.specs.Serving.{judged_again}
-use Rattle.capcore.specs.Sound.{IsSound, AreGiven}
-use Rattle.capcore.specs.Touching.{asks_for, IsTouchedEntry, TouchesOne}
-use Rattle.capcore.proofs.NothingServed.{sound-pinned}
-use Rattle.capcore.proofs.Touched.{all-left, asked-session, asked-there, AreBelow}
+use Rattle.capsteps.specs.State.{State}
+use Rattle.capsteps.specs.Asks.{ask_before, ask_needs, ask_after}
+use Rattle.capsteps.specs.Judge.{judged, asked_tests, asking_tests, waiting_tests, stop, stop_by, first_denied}
+use Rattle.capsteps.specs.Needs.{Need}
+use Rattle.capsteps.specs.Direct.{direct, effect, effect_unless, asks}
+use Rattle.capsteps.specs.Serving.{judged_again}
+use Rattle.capsteps.specs.Sound.{IsSound, AreGiven}
+use Rattle.capsteps.specs.Touching.{asks_for, IsTouchedEntry, TouchesOne}
+use Rattle.capsteps.proofs.NothingServed.{sound-pinned}
+use Rattle.capsteps.proofs.Touched.{all-left, asked-session, asked-there, AreBelow}
 
 -- ---- which events ask, and what
 

@@ -11,16 +11,16 @@ use Rattle.capevents.specs.declared.event.Event.{Event}
 use Rattle.capevents.specs.declared.event.Event.TheVariants as event
 use Rattle.capevents.specs.declared.outcome.Ended.{Ended}
 use Rattle.capevents.specs.declared.reply.Reply.{Reply}
-use Rattle.capcore.specs.declared.stopped.Stopped.{Stopped}
-use Rattle.capcore.specs.State.{State}
-use Rattle.capcore.specs.Direct.{direct, effect, effect_unless, found}
-use Rattle.capcore.specs.Headline.{ByMoves, AreBounded, move_of}
-use Rattle.capcore.specs.Judge.{judged}
-use Rattle.capcore.specs.Settle.{Made, Began, Gathered, Served, MakesAll, ended_in}
-use Rattle.capcore.specs.Step.{Step}
-use Rattle.capcore.specs.Touching.{touched_by}
+use Rattle.capsteps.specs.declared.stopped.Stopped.{Stopped}
+use Rattle.capsteps.specs.State.{State}
+use Rattle.capsteps.specs.Direct.{direct, effect, effect_unless, found}
+use Rattle.capsteps.specs.Headline.{ByMoves, AreBounded, move_of}
+use Rattle.capsteps.specs.Judge.{judged}
+use Rattle.capsteps.specs.Settle.{Made, Began, Gathered, Served, MakesAll, ended_in}
+use Rattle.capsteps.specs.Step.{Step}
+use Rattle.capsteps.specs.Touching.{touched_by}
 use Rattle.capcore.proofs.OfInode.{event-order}
-use Rattle.capcore.proofs.Served.{served-count}
+use Rattle.capsteps.proofs.Served.{served-count}
 
 -- ---- the queue stays in order, whatever the event
 

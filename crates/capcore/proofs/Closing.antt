@@ -21,25 +21,25 @@ use Rattle.capbits.specs.declared.ids.Ino.{Ino}
 use Rattle.capbits.specs.declared.ids.Ticket.{Ticket}
 use Rattle.capevents.specs.declared.event.Event.{Event}
 use Rattle.capevents.specs.declared.outcome.Ended.{Ended}
-use Rattle.capcore.specs.declared.said.Said.{Said}
-use Rattle.capcore.specs.State.{State}
-use Rattle.capcore.specs.Answered.{IsAnswered}
-use Rattle.capcore.specs.Direct.{direct, reply_of, shown, with_scene}
-use Rattle.capcore.specs.Judge.{judged}
-use Rattle.capcore.specs.Serves.{SettlesWith, EndsWith}
-use Rattle.capcore.specs.Finish.{sizes_owed}
-use Rattle.capcore.specs.Settle.{MakesAll, ended_in, sized_in}
-use Rattle.capcore.specs.Sound.{IsSoundEntry, IsSound, NumbersLeft}
-use Rattle.capcore.specs.Step.{earlier, all_ended, state_at_end}
-use Rattle.capcore.specs.Touching.{touched_by, IsTouchedEntry, Touches, TouchesOne, SettlesAt, Knows, finished_at}
-use Rattle.capcore.specs.Known.{known_in, AreKnown, StillKept}
+use Rattle.capsteps.specs.declared.said.Said.{Said}
+use Rattle.capsteps.specs.State.{State}
+use Rattle.capsteps.specs.Answered.{IsAnswered}
+use Rattle.capsteps.specs.Direct.{direct, reply_of, shown, with_scene}
+use Rattle.capsteps.specs.Judge.{judged}
+use Rattle.capsteps.specs.Serves.{SettlesWith, EndsWith}
+use Rattle.capsteps.specs.Finish.{sizes_owed}
+use Rattle.capsteps.specs.Settle.{MakesAll, ended_in, sized_in}
+use Rattle.capsteps.specs.Sound.{IsSoundEntry, IsSound, NumbersLeft}
+use Rattle.capsteps.specs.Step.{earlier, all_ended, state_at_end}
+use Rattle.capsteps.specs.Touching.{touched_by, IsTouchedEntry, Touches, TouchesOne, SettlesAt, Knows, finished_at}
+use Rattle.capsteps.specs.Known.{known_in, AreKnown, StillKept}
 use Rattle.capnotes.specs.Untold.{HaveOwnNumbers, but_for}
 use Rattle.capcore.proofs.Concluded.{IsConcluded, GivesOne, concluded}
 use Rattle.capcore.proofs.EndKnown.{ends-known}
 use Rattle.capcore.proofs.EndedIn.{earlier-all, earlier-but_own, own-numbers}
-use Rattle.capcore.proofs.Forgotten.{all_rows}
+use Rattle.capsteps.proofs.Forgotten.{all_rows}
 use Rattle.capcore.proofs.OfInode.{event-touches, event-table, event-below, event-keeps}
-use Rattle.capcore.proofs.SameOff.{row_elsewhere}
+use Rattle.capsteps.proofs.SameOff.{row_elsewhere}
 
 -- ---- the numbers of those that a settling ends
 

@@ -11,17 +11,17 @@ use Rattle.lockmachine.specs.Scene.{Scene}
 use Rattle.capevents.specs.declared.event.Event.{Event}
 use Rattle.capevents.specs.declared.outcome.Ended.{Ended}
 use Rattle.capevents.specs.declared.reply.Reply.{Reply}
-use Rattle.capcore.specs.State.{State}
-use Rattle.capcore.specs.Direct.{direct, reply_of, shown}
-use Rattle.capcore.specs.Headline.{IssuesExactly}
-use Rattle.capcore.specs.Finish.{sizes_owed}
-use Rattle.capcore.specs.Settle.{Made, ended_in, sized_in}
-use Rattle.capcore.specs.Sound.{IsSound, AreGiven}
-use Rattle.capcore.specs.Step.{Step, all_ended, state_at_end}
-use Rattle.capcore.specs.Touching.{Touches, SettlesAt, Knows, finished_at}
-use Rattle.capcore.proofs.SizesOwed.{sizes-end, sizes-sound, sizes-issues, sizes-given}
-use Rattle.capcore.proofs.StayingSound.{given-touched}
-use Rattle.capcore.proofs.Telling.{shown-sound, shown-issued, shown-given}
+use Rattle.capsteps.specs.State.{State}
+use Rattle.capsteps.specs.Direct.{direct, reply_of, shown}
+use Rattle.capsteps.specs.Headline.{IssuesExactly}
+use Rattle.capsteps.specs.Finish.{sizes_owed}
+use Rattle.capsteps.specs.Settle.{Made, ended_in, sized_in}
+use Rattle.capsteps.specs.Sound.{IsSound, AreGiven}
+use Rattle.capsteps.specs.Step.{Step, all_ended, state_at_end}
+use Rattle.capsteps.specs.Touching.{Touches, SettlesAt, Knows, finished_at}
+use Rattle.capsteps.proofs.SizesOwed.{sizes-end, sizes-sound, sizes-issues, sizes-given}
+use Rattle.capsteps.proofs.StayingSound.{given-touched}
+use Rattle.capsteps.proofs.Telling.{shown-sound, shown-issued, shown-given}
 use Rattle.capcore.proofs.TouchStep.{one-step}
 
 -- what is promised of a step

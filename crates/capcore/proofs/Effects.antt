@@ -14,13 +14,13 @@ use Rattle.inotree.specs.Tests.{new_inode_tests, new_snapshot_tests, old_snapsho
 use Rattle.capevents.specs.declared.event.Event.{Event}
 use Rattle.capevents.specs.declared.event.Event.TheVariants as event
 use Rattle.capevents.specs.declared.reply.Reply.TheVariants as reply
-use Rattle.capcore.specs.declared.stopped.Stopped.{Stopped}
-use Rattle.capcore.specs.declared.stopped.Stopped.TheVariants.{ByTest}
-use Rattle.capcore.specs.State.{State}
-use Rattle.capcore.specs.Judge.{stop, stop_reply, judged, asked_tests}
-use Rattle.capcore.specs.Needs.{Need, need}
-use Rattle.capcore.specs.Direct.{Says, IsDirect, with_birth, owned_by, made_event}
-use Rattle.capcore.proofs.Judging.{stopped, passed, direct-stopped, direct-passed}
+use Rattle.capsteps.specs.declared.stopped.Stopped.{Stopped}
+use Rattle.capsteps.specs.declared.stopped.Stopped.TheVariants.{ByTest}
+use Rattle.capsteps.specs.State.{State}
+use Rattle.capsteps.specs.Judge.{stop, stop_reply, judged, asked_tests}
+use Rattle.capsteps.specs.Needs.{Need, need}
+use Rattle.capsteps.specs.Direct.{Says, IsDirect, with_birth, owned_by, made_event}
+use Rattle.capsteps.proofs.Judging.{stopped, passed, direct-stopped, direct-passed}
 
 -- the tests behind policy, where what stands before them stops nothing
 module _ (old : State) (e : Event) (tests more : List Test) (needed : List Need) (splits : judged old.scene e ≡ stop old.scene tests needed more) (free : stop old.scene tests needed [] ≡ None) where

@@ -9,15 +9,15 @@ use Rattle.captable.specs.Table.{IsTable, same, entry_of}
 use Rattle.captable.proofs.ByHolder.{row_found}
 use Rattle.lockmachine.specs.Scene.{Scene, told_set}
 use Rattle.capevents.specs.declared.outcome.Ended.{Ended}
-use Rattle.capcore.specs.State.{State}
-use Rattle.capcore.specs.Finish.{sizes_owed}
-use Rattle.capcore.specs.Known.{known_in, AreKnown, StillKept, KeptAnew}
-use Rattle.capcore.specs.Serves.{SettlesWith, EndsWith}
-use Rattle.capcore.specs.Sound.{IsSound}
-use Rattle.capcore.specs.Touching.{Touches, Knows, told_then, finished_at}
-use Rattle.capcore.proofs.Knowing.{still-known}
-use Rattle.capcore.proofs.SameOff.{row_elsewhere}
-use Rattle.capcore.proofs.SizesOwed.{sizes-known}
+use Rattle.capsteps.specs.State.{State}
+use Rattle.capsteps.specs.Finish.{sizes_owed}
+use Rattle.capsteps.specs.Known.{known_in, AreKnown, StillKept, KeptAnew}
+use Rattle.capsteps.specs.Serves.{SettlesWith, EndsWith}
+use Rattle.capsteps.specs.Sound.{IsSound}
+use Rattle.capsteps.specs.Touching.{Touches, Knows, told_then, finished_at}
+use Rattle.capsteps.proofs.Knowing.{still-known}
+use Rattle.capsteps.proofs.SameOff.{row_elsewhere}
+use Rattle.capsteps.proofs.SizesOwed.{sizes-known}
 
 module _ {S : Type 0} (before was now : HashMap Holder Caps S) (from : ℕ → Bool) (old touched : State) (sound : IsSound old) (old_table : IsTable old.scene.table) (table : IsTable touched.scene.table)
     (touches : Touches from old touched) (known : AreKnown before old.scene) (still : StillKept old.scene.table touched.scene.table before was) (knows : Knows (known_in was) old.scene touched.scene.table)

@@ -11,10 +11,10 @@ use Rattle.lockmachine.specs.Requests.{is_numbered}
 use Rattle.lockmachine.specs.Locks.{IsLockMap}
 use Rattle.lockmachine.specs.Scene.{Scene}
 use Rattle.capevents.specs.declared.outcome.Ended.{Ended}
-use Rattle.capcore.specs.Settle.{Made, Began, Gathered, Served, Makes, MakesAll, ended_in}
-use Rattle.capcore.specs.Step.{earlier}
+use Rattle.capsteps.specs.Settle.{Made, Began, Gathered, Served, Makes, MakesAll, ended_in}
+use Rattle.capsteps.specs.Step.{earlier}
 use Rattle.capnotes.specs.Untold.{HaveOwnNumbers, but_for}
-use Rattle.capcore.proofs.Moved.{Waited, ended-waited}
+use Rattle.capsteps.proofs.Moved.{Waited, ended-waited}
 
 -- ---- lists that are filtered alike
 

@@ -22,18 +22,18 @@ use Rattle.lockmachine.specs.Scene.{Scene}
 use Rattle.lockmachine.proofs.SameBut.{same-trans, same-tree, same-entries}
 use Rattle.capevents.specs.declared.event.Event.TheVariants as event
 use Rattle.capevents.specs.declared.reply.Reply.TheVariants as reply
-use Rattle.capcore.specs.State.{State}
-use Rattle.capcore.specs.Asks.{change_tests, exclusive}
+use Rattle.capsteps.specs.State.{State}
+use Rattle.capsteps.specs.Asks.{change_tests, exclusive}
 use Rattle.capnotes.specs.Changing.{tree_changed}
-use Rattle.capcore.specs.Judge.{judged}
-use Rattle.capcore.specs.Direct.{direct, effect_unless, says, with_flush}
-use Rattle.capcore.specs.Served.{change_call_tests}
-use Rattle.capcore.specs.Sound.{IsSound, AreGiven}
-use Rattle.capcore.specs.Touching.{IsTouchedEntry, TouchesOne}
-use Rattle.capcore.proofs.Again.{change-passed}
-use Rattle.capcore.proofs.OneChange.{by_change, alike_change}
-use Rattle.capcore.proofs.NothingServed.{sound-pinned}
-use Rattle.capcore.proofs.Touched.{all-left, before-passed, after-passed, AreBelow}
+use Rattle.capsteps.specs.Judge.{judged}
+use Rattle.capsteps.specs.Direct.{direct, effect_unless, says, with_flush}
+use Rattle.capsteps.specs.Served.{change_call_tests}
+use Rattle.capsteps.specs.Sound.{IsSound, AreGiven}
+use Rattle.capsteps.specs.Touching.{IsTouchedEntry, TouchesOne}
+use Rattle.capsteps.proofs.Again.{change-passed}
+use Rattle.capsteps.proofs.OneChange.{by_change, alike_change}
+use Rattle.capsteps.proofs.NothingServed.{sound-pinned}
+use Rattle.capsteps.proofs.Touched.{all-left, before-passed, after-passed, AreBelow}
 
 known_change : (tree : Nodes) (ino : ℕ) (change : Change) (other : ℕ) → map.contains_key (tree_changed tree ino change).nodes other ≡ map.contains_key tree.nodes other
 known_change tree ino change other =

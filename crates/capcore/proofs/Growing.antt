@@ -4,12 +4,12 @@ use Rattle.inotree.specs.Tree.{Nodes}
 use Rattle.captable.specs.Table.{IsTable, entry_at}
 use Rattle.capview.specs.declared.change.ViewChange.{ViewChange}
 use Rattle.capevents.specs.declared.row.Row.{Row}
-use Rattle.capcore.specs.State.{State}
-use Rattle.capcore.specs.Step.{Step}
-use Rattle.capcore.specs.Sound.{IsSound, AreGiven}
-use Rattle.capcore.specs.History.{Told, told, IsTold, IsOpening, HasNoStray, Replays, rows_of}
-use Rattle.capcore.proofs.Numbered.{numbered-nil, numbered-snoc}
-use Rattle.capcore.proofs.ShownSteps.{step-shown}
+use Rattle.capsteps.specs.State.{State}
+use Rattle.capsteps.specs.Step.{Step}
+use Rattle.capsteps.specs.Sound.{IsSound, AreGiven}
+use Rattle.capsteps.specs.History.{Told, told, IsTold, IsOpening, HasNoStray, Replays, rows_of}
+use Rattle.capsteps.proofs.Numbered.{numbered-nil, numbered-snoc}
+use Rattle.capsteps.proofs.ShownSteps.{step-shown}
 use Rattle.capcore.proofs.Sounding.{opening-sound, opening-given}
 
 pub replays-more : (first : State) (rows : List Row) (old : State) (row : Row) (new : State) → Replays first rows old → Step old row.event row.reply row.ended new → Replays first (rows ++ row ∷ []) new

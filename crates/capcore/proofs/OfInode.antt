@@ -9,18 +9,18 @@ use Rattle.lockmachine.specs.declared.request.Change.{Change}
 use Rattle.lockmachine.specs.Locks.{IsLockMap}
 use Rattle.capevents.specs.declared.event.Event.{Event}
 use Rattle.capevents.specs.declared.event.Event.TheVariants as event
-use Rattle.capcore.specs.declared.stopped.Stopped.{Stopped}
-use Rattle.capcore.specs.declared.touch.Touch.{Touch}
-use Rattle.capcore.specs.declared.touch.Touch.TheVariants.{Open, Want, Ack, Release}
-use Rattle.capcore.specs.State.{State}
-use Rattle.capcore.specs.Judge.{judged}
-use Rattle.capcore.specs.Direct.{Direct, direct, effect, effect_unless}
-use Rattle.capcore.specs.Touch.{touch_event}
-use Rattle.capcore.specs.Touching.{touched_by, asks_for, TouchesOne}
-use Rattle.capcore.specs.Sound.{IsSound, AreGiven}
+use Rattle.capsteps.specs.declared.stopped.Stopped.{Stopped}
+use Rattle.capsteps.specs.declared.touch.Touch.{Touch}
+use Rattle.capsteps.specs.declared.touch.Touch.TheVariants.{Open, Want, Ack, Release}
+use Rattle.capsteps.specs.State.{State}
+use Rattle.capsteps.specs.Judge.{judged}
+use Rattle.capsteps.specs.Direct.{Direct, direct, effect, effect_unless}
+use Rattle.capsteps.specs.Touch.{touch_event}
+use Rattle.capsteps.specs.Touching.{touched_by, asks_for, TouchesOne}
+use Rattle.capsteps.specs.Sound.{IsSound, AreGiven}
 use Rattle.capcore.proofs.Asked.{asking, asking-stop, asking-direct, asking-touches, below-of_ask, order-of_ask}
 use Rattle.capcore.proofs.Flushed.{flush-touches, flush-table, below-of_flush}
-use Rattle.capcore.proofs.Touched.{touches-touched, table-of_touch, below-of_touch, keeps-of_touch, locks-of_touch, AreBelow, Keeps}
+use Rattle.capsteps.proofs.Touched.{touches-touched, table-of_touch, below-of_touch, keeps-of_touch, locks-of_touch, AreBelow, Keeps}
 
 -- ---- what is asked
 

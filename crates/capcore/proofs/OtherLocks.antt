@@ -14,13 +14,13 @@ use Rattle.lockmachine.proofs.Moving.{is_at, with_lock-each}
 use Rattle.capevents.specs.declared.event.Event.{Event}
 use Rattle.capevents.specs.declared.outcome.Ended.{Ended}
 use Rattle.capevents.specs.declared.reply.Reply.{Reply}
-use Rattle.capcore.specs.Direct.{Answer, Says, Shows, Gives, Awaits, direct, shown}
-use Rattle.capcore.specs.Finish.{is_kept, issue, sizes_owed}
-use Rattle.capcore.specs.Headline.{ByMoves, OtherLocksStay, is_of_lock_at}
-use Rattle.capcore.specs.Settle.{Made, Began, Gathered, Served, Makes, MakesAll, sized_in}
-use Rattle.capcore.specs.State.{State}
-use Rattle.capcore.specs.Step.{Step, state_after}
-use Rattle.capcore.proofs.Strays.{retained-here, retained-gone}
+use Rattle.capsteps.specs.Direct.{Answer, Says, Shows, Gives, Awaits, direct, shown}
+use Rattle.capsteps.specs.Finish.{is_kept, issue, sizes_owed}
+use Rattle.capsteps.specs.Headline.{ByMoves, OtherLocksStay, is_of_lock_at}
+use Rattle.capsteps.specs.Settle.{Made, Began, Gathered, Served, Makes, MakesAll, sized_in}
+use Rattle.capsteps.specs.State.{State}
+use Rattle.capsteps.specs.Step.{Step, state_after}
+use Rattle.capsteps.proofs.Strays.{retained-here, retained-gone}
 
 -- ---- the moves
 

@@ -12,22 +12,22 @@ use Rattle.capevents.specs.declared.outcome.Ended.{Ended}
 use Rattle.capevents.specs.declared.outcome.Message.{Message}
 use Rattle.capevents.specs.declared.reply.Reply.{Reply}
 use Rattle.capevents.specs.declared.reply.Reply.TheVariants as reply
-use Rattle.capcore.specs.declared.said.Said.{Said}
-use Rattle.capcore.specs.declared.stopped.Stopped.{Stopped}
-use Rattle.capcore.specs.State.{State}
-use Rattle.capcore.specs.Answered.{IsAnswered}
-use Rattle.capcore.specs.Judge.{judged, stop_by, first_denied}
-use Rattle.capcore.specs.Direct.{Direct, Gives, direct, effect_unless, reply_of, shown}
-use Rattle.capcore.specs.Headline.{IssuesExactly}
-use Rattle.capcore.specs.Messages.{first_messages, with_given, after_messages}
+use Rattle.capsteps.specs.declared.said.Said.{Said}
+use Rattle.capsteps.specs.declared.stopped.Stopped.{Stopped}
+use Rattle.capsteps.specs.State.{State}
+use Rattle.capsteps.specs.Answered.{IsAnswered}
+use Rattle.capsteps.specs.Judge.{judged, stop_by, first_denied}
+use Rattle.capsteps.specs.Direct.{Direct, Gives, direct, effect_unless, reply_of, shown}
+use Rattle.capsteps.specs.Headline.{IssuesExactly}
+use Rattle.capsteps.specs.Messages.{first_messages, with_given, after_messages}
 use Rattle.capnotes.specs.Untold.{is_left}
-use Rattle.capcore.specs.Settle.{Settles}
-use Rattle.capcore.specs.Sound.{IsSound, AreGiven}
-use Rattle.capcore.specs.Step.{Step, all_ended, state_after}
-use Rattle.capcore.proofs.Finishing.{sound-ends, sound-settles}
+use Rattle.capsteps.specs.Settle.{Settles}
+use Rattle.capsteps.specs.Sound.{IsSound, AreGiven}
+use Rattle.capsteps.specs.Step.{Step, all_ended, state_after}
+use Rattle.capsteps.proofs.Finishing.{sound-ends, sound-settles}
 use Rattle.capcore.proofs.Promised.{has-due}
 use Rattle.capcore.proofs.Sounding.{later-given}
-use Rattle.capcore.proofs.Telling.{shown-sound, shown-given, shown-issued}
+use Rattle.capsteps.proofs.Telling.{shown-sound, shown-given, shown-issued}
 
 module _ (old : State) (sound : IsSound old) (table : IsTable old.scene.table) (client : ClientId) (max : ℕ) where
   abbrev poll : Event

@@ -22,24 +22,24 @@ use Rattle.capevents.specs.declared.event.Event.TheVariants as event
 use Rattle.capbits.specs.declared.refusal.Refusal.{Refusal}
 use Rattle.capevents.specs.declared.reply.Reply.{Reply}
 use Rattle.capevents.specs.declared.reply.Reply.TheVariants as reply
-use Rattle.capcore.specs.State.{State}
+use Rattle.capsteps.specs.State.{State}
 use Rattle.capbits.specs.Refusal.{first_failing}
-use Rattle.capcore.specs.Judge.{judged, before, needs, after, first_denied, stop_by}
-use Rattle.capcore.specs.Needs.{Need}
+use Rattle.capsteps.specs.Judge.{judged, before, needs, after, first_denied, stop_by}
+use Rattle.capsteps.specs.Needs.{Need}
 use Rattle.capevents.specs.declared.outcome.Ended.{Ended}
-use Rattle.capcore.specs.declared.stopped.Stopped.{Stopped}
-use Rattle.capcore.specs.declared.stopped.Stopped.TheVariants.{ByPolicy, ByTest}
-use Rattle.capcore.specs.Direct.{Direct, effect, effect_unless, found, direct, opened_as, reply_of, IsDirect}
-use Rattle.capcore.specs.Settle.{Made, MakesAll, ended_in}
-use Rattle.capcore.specs.Touching.{asks_for}
+use Rattle.capsteps.specs.declared.stopped.Stopped.{Stopped}
+use Rattle.capsteps.specs.declared.stopped.Stopped.TheVariants.{ByPolicy, ByTest}
+use Rattle.capsteps.specs.Direct.{Direct, effect, effect_unless, found, direct, opened_as, reply_of, IsDirect}
+use Rattle.capsteps.specs.Settle.{Made, MakesAll, ended_in}
+use Rattle.capsteps.specs.Touching.{asks_for}
 use Rattle.capcore.proofs.Asked.{asking, asking-stop, asking-direct, asking-again, order-of_ask}
 use Rattle.capcore.proofs.OwnServed.{own-not_stopped}
-use Rattle.capcore.specs.Step.{Step, state_after}
-use Rattle.capcore.proofs.Stopping.{stopped-only}
-use Rattle.capcore.specs.Finish.{due}
-use Rattle.capcore.specs.Sound.{IsSoundEntry, IsSound}
-use Rattle.capcore.proofs.Leaving.{found-contains}
-use Rattle.capcore.specs.Headline.{DeniedExactly, DeniesByName, IssuesExactly, is_stop}
+use Rattle.capsteps.specs.Step.{Step, state_after}
+use Rattle.capsteps.proofs.Stopping.{stopped-only}
+use Rattle.capsteps.specs.Finish.{due}
+use Rattle.capsteps.specs.Sound.{IsSoundEntry, IsSound}
+use Rattle.capsteps.proofs.Leaving.{found-contains}
+use Rattle.capsteps.specs.Headline.{DeniedExactly, DeniesByName, IssuesExactly, is_stop}
 
 -- ---- an event that nothing stops
 

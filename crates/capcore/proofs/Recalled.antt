@@ -10,18 +10,18 @@ use Rattle.captable.specs.Calls.{asked_row, recalled, with_asked}
 use Rattle.captable.proofs.Tables.{IsTable-recalled}
 use Rattle.capevents.specs.declared.event.Event.TheVariants as event
 use Rattle.capevents.specs.declared.reply.Reply.TheVariants as reply
-use Rattle.capcore.specs.declared.said.Said.{Said}
-use Rattle.capcore.specs.State.{State}
-use Rattle.capcore.specs.Known.{AreKnown}
-use Rattle.capcore.specs.Answered.{IsAnswered}
-use Rattle.capcore.specs.Direct.{with_table}
-use Rattle.capcore.specs.Finish.{finished}
-use Rattle.capcore.specs.Sound.{IsSound, AreGiven}
-use Rattle.capcore.proofs.Finishing.{same-finished}
-use Rattle.capcore.proofs.Knowing.{HoldAlike, known-alike, alike-where}
+use Rattle.capsteps.specs.declared.said.Said.{Said}
+use Rattle.capsteps.specs.State.{State}
+use Rattle.capsteps.specs.Known.{AreKnown}
+use Rattle.capsteps.specs.Answered.{IsAnswered}
+use Rattle.capsteps.specs.Direct.{with_table}
+use Rattle.capsteps.specs.Finish.{finished}
+use Rattle.capsteps.specs.Sound.{IsSound, AreGiven}
+use Rattle.capsteps.proofs.Finishing.{same-finished}
+use Rattle.capsteps.proofs.Knowing.{HoldAlike, known-alike, alike-where}
 use Rattle.capcore.proofs.Sounding.{later-given}
 use Rattle.capcore.proofs.Steps.{direct-answered}
-use Rattle.capcore.proofs.Telling.{as_told, as_sized, map_alike, retold, retold_table, retold-sound}
+use Rattle.capsteps.proofs.Telling.{as_told, as_sized, map_alike, retold, retold_table, retold-sound}
 
 -- who was named is asked, and who was asked before
 abbrev asked_too : List Holder → EntryRow → Bool

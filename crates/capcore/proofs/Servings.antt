@@ -14,12 +14,12 @@ use Rattle.capevents.specs.declared.outcome.Outcome.{Outcome}
 use Rattle.capevents.specs.declared.outcome.Outcome.TheVariants as outcome
 use Rattle.capbits.specs.declared.refusal.Refusal.{Refusal}
 use Rattle.capbits.specs.Refusal.{first_failing}
-use Rattle.capcore.specs.Judge.{first_denied, stop_by}
-use Rattle.capcore.specs.Needs.{Need}
-use Rattle.capcore.specs.Serving.{MayEndAs, As_judged, Without_memory, told_of, passed_as, outcome_unless}
-use Rattle.capcore.specs.Asks.{ask_before, ask_needs, ask_after}
-use Rattle.capcore.specs.Settle.{Made, Began, Gathered, Served, Makes, MakesAll}
-use Rattle.capcore.specs.Headline.{ServedDenied, ServedByName, EachServing}
+use Rattle.capsteps.specs.Judge.{first_denied, stop_by}
+use Rattle.capsteps.specs.Needs.{Need}
+use Rattle.capsteps.specs.Serving.{MayEndAs, As_judged, Without_memory, told_of, passed_as, outcome_unless}
+use Rattle.capsteps.specs.Asks.{ask_before, ask_needs, ask_after}
+use Rattle.capsteps.specs.Settle.{Made, Began, Gathered, Served, Makes, MakesAll}
+use Rattle.capsteps.specs.Headline.{ServedDenied, ServedByName, EachServing}
 
 -- ---- one serving
 

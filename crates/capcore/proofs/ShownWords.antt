@@ -24,20 +24,20 @@ use Rattle.lockmachine.specs.Told.{is_taken}
 use Rattle.lockmachine.proofs.Told.{has-against, has-told, pin-takes_all}
 use Rattle.capevents.specs.declared.event.Event.{Event}
 use Rattle.capevents.specs.declared.event.Event.TheVariants as event
-use Rattle.capcore.specs.declared.stopped.Stopped.{Stopped}
-use Rattle.capcore.specs.declared.touch.Touch.TheVariants.{Ack}
-use Rattle.capcore.specs.Direct.{Direct, direct, effect_unless}
-use Rattle.capcore.specs.Headline.{holds}
-use Rattle.capcore.specs.Judge.{judged, revoked_of}
+use Rattle.capsteps.specs.declared.stopped.Stopped.{Stopped}
+use Rattle.capsteps.specs.declared.touch.Touch.TheVariants.{Ack}
+use Rattle.capsteps.specs.Direct.{Direct, direct, effect_unless}
+use Rattle.capsteps.specs.Headline.{holds}
+use Rattle.capsteps.specs.Judge.{judged, revoked_of}
 use Rattle.capevents.specs.declared.row.Row.{Row}
-use Rattle.capcore.specs.State.{State}
-use Rattle.capcore.specs.Shown.{AreShown, ShowsWhatIsTold, ShowsOnlyPermitted, TakesUnshown, shown_of}
-use Rattle.capcore.specs.Sound.{IsSound, IsSoundEntry}
-use Rattle.capcore.proofs.Leaving.{found-contains}
-use Rattle.capcore.proofs.Placed.{told-permitted}
-use Rattle.capcore.proofs.Revoking.{revoked-found}
-use Rattle.capcore.proofs.ShownSteps.{at, entry_found}
-use Rattle.capcore.proofs.Touched.{touched-tests}
+use Rattle.capsteps.specs.State.{State}
+use Rattle.capsteps.specs.Shown.{AreShown, ShowsWhatIsTold, ShowsOnlyPermitted, TakesUnshown, shown_of}
+use Rattle.capsteps.specs.Sound.{IsSound, IsSoundEntry}
+use Rattle.capsteps.proofs.Leaving.{found-contains}
+use Rattle.capsteps.proofs.Placed.{told-permitted}
+use Rattle.capsteps.proofs.Revoking.{revoked-found}
+use Rattle.capsteps.proofs.ShownSteps.{at, entry_found}
+use Rattle.capsteps.proofs.Touched.{touched-tests}
 
 pub shows-told : (rows : List Row) (s : State) → IsSound s → AreShown rows s.scene → ShowsWhatIsTold rows s.scene
 shows-told rows s sound was k e there none_due =

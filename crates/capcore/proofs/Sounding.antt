@@ -15,10 +15,10 @@ use Rattle.lockmachine.specs.Inodes.{in_sync}
 use Rattle.lockmachine.specs.Requests.{first_for}
 use Rattle.lockmachine.proofs.Idle.{InSync, idle}
 use Rattle.lockmachine.proofs.Rest.{at_rest}
-use Rattle.capcore.specs.State.{State}
-use Rattle.capcore.specs.History.{HasNoStray, IsOpening}
-use Rattle.capcore.specs.Sound.{IsSoundEntry, IsSound, AreGiven}
-use Rattle.capcore.proofs.Leaving.{some_same}
+use Rattle.capsteps.specs.State.{State}
+use Rattle.capsteps.specs.History.{HasNoStray, IsOpening}
+use Rattle.capsteps.specs.Sound.{IsSoundEntry, IsSound, AreGiven}
+use Rattle.capsteps.proofs.Leaving.{some_same}
 
 -- ---- numbers
 

@@ -10,24 +10,24 @@ use Rattle.capevents.specs.declared.event.Event.{Event}
 use Rattle.capevents.specs.declared.event.Event.TheVariants as event
 use Rattle.capevents.specs.declared.outcome.Ended.{Ended}
 use Rattle.capevents.specs.declared.reply.Reply.{Reply}
-use Rattle.capcore.specs.declared.said.Said.{Said}
-use Rattle.capcore.specs.declared.stopped.Stopped.{Stopped}
-use Rattle.capcore.specs.declared.stopped.Stopped.TheVariants.{ByPolicy, ByTest}
-use Rattle.capcore.specs.State.{State}
-use Rattle.capcore.specs.Answered.{IsAnswered}
+use Rattle.capsteps.specs.declared.said.Said.{Said}
+use Rattle.capsteps.specs.declared.stopped.Stopped.{Stopped}
+use Rattle.capsteps.specs.declared.stopped.Stopped.TheVariants.{ByPolicy, ByTest}
+use Rattle.capsteps.specs.State.{State}
+use Rattle.capsteps.specs.Answered.{IsAnswered}
 use Rattle.inotree.specs.declared.node.Kind.TheVariants.{Directory, File}
-use Rattle.capcore.specs.Judge.{judged}
+use Rattle.capsteps.specs.Judge.{judged}
 use Rattle.capevents.specs.Replies.{has_list}
-use Rattle.capcore.specs.Direct.{Answer, Says, Shows, Gives, Awaits, Direct, direct, effect, effect_unless, found, reply_of, shown, with_scene, IsDirect}
-use Rattle.capcore.specs.Settle.{Settles}
-use Rattle.capcore.specs.Finish.{sizes_owed, finished}
-use Rattle.capcore.specs.Leaving.{with_parts, LeavesEntries}
-use Rattle.capcore.specs.Sound.{IsSound, AreGiven}
-use Rattle.capcore.specs.Step.{Step, state_after}
-use Rattle.capcore.specs.Touching.{touched_by, turned_by, is_listing}
-use Rattle.capcore.proofs.Finishing.{none-sized, sound-settles}
-use Rattle.capcore.proofs.Judging.{no_test}
-use Rattle.capcore.proofs.Leaving.{kept-sound, kept-finished}
+use Rattle.capsteps.specs.Direct.{Answer, Says, Shows, Gives, Awaits, Direct, direct, effect, effect_unless, found, reply_of, shown, with_scene, IsDirect}
+use Rattle.capsteps.specs.Settle.{Settles}
+use Rattle.capsteps.specs.Finish.{sizes_owed, finished}
+use Rattle.capsteps.specs.Leaving.{with_parts, LeavesEntries}
+use Rattle.capsteps.specs.Sound.{IsSound, AreGiven}
+use Rattle.capsteps.specs.Step.{Step, state_after}
+use Rattle.capsteps.specs.Touching.{touched_by, turned_by, is_listing}
+use Rattle.capsteps.proofs.Finishing.{none-sized, sound-settles}
+use Rattle.capsteps.proofs.Judging.{no_test}
+use Rattle.capsteps.proofs.Leaving.{kept-sound, kept-finished}
 use Rattle.capcore.proofs.Promised.{issues-exactly}
 use Rattle.capcore.proofs.Sounding.{later-given}
 use Rattle.capcore.proofs.Untouched.{nothing-leaves, session-leaves, unblocked-leaves, changed-leaves, birth-leaves}

@@ -7,19 +7,19 @@ use Rattle.capevents.specs.declared.event.Event.{Event}
 use Rattle.capevents.specs.declared.event.Event.TheVariants as event
 use Rattle.capevents.specs.declared.outcome.Ended.{Ended}
 use Rattle.capevents.specs.declared.reply.Reply.{Reply}
-use Rattle.capcore.specs.declared.said.Said.{Said}
-use Rattle.capcore.specs.declared.stopped.Stopped.{Stopped}
-use Rattle.capcore.specs.State.{State}
-use Rattle.capcore.specs.Answered.{IsAnswered}
-use Rattle.capcore.specs.Direct.{Direct, direct, effect_unless, says}
-use Rattle.capcore.specs.Headline.{IssuesExactly}
-use Rattle.capcore.specs.Judge.{judged, stop_reply}
-use Rattle.capcore.specs.Sound.{IsSound}
-use Rattle.capcore.specs.Step.{Step}
-use Rattle.capcore.specs.Touching.{asks_for, touched_by}
+use Rattle.capsteps.specs.declared.said.Said.{Said}
+use Rattle.capsteps.specs.declared.stopped.Stopped.{Stopped}
+use Rattle.capsteps.specs.State.{State}
+use Rattle.capsteps.specs.Answered.{IsAnswered}
+use Rattle.capsteps.specs.Direct.{Direct, direct, effect_unless, says}
+use Rattle.capsteps.specs.Headline.{IssuesExactly}
+use Rattle.capsteps.specs.Judge.{judged, stop_reply}
+use Rattle.capsteps.specs.Sound.{IsSound}
+use Rattle.capsteps.specs.Step.{Step}
+use Rattle.capsteps.specs.Touching.{asks_for, touched_by}
 use Rattle.capcore.proofs.Promised.{has-due}
 use Rattle.capcore.proofs.Sounding.{later-given}
-use Rattle.capcore.proofs.Stopping.{stopped-step}
+use Rattle.capsteps.proofs.Stopping.{stopped-step}
 
 -- ---- what is stopped
 

@@ -9,21 +9,21 @@ use Rattle.captable.specs.declared.entry.Holder.{Holder}
 use Rattle.captable.specs.Table.{Table, IsTable, holder, is_row_of}
 use Rattle.captable.specs.Calls.{told}
 use Rattle.lockmachine.specs.Scene.{Scene}
-use Rattle.capcore.specs.declared.touch.Touch.{Touch}
-use Rattle.capcore.specs.declared.touch.Touch.TheVariants.{Open, Want, Ack, Release}
+use Rattle.capsteps.specs.declared.touch.Touch.{Touch}
+use Rattle.capsteps.specs.declared.touch.Touch.TheVariants.{Open, Want, Ack, Release}
 use Rattle.capevents.specs.declared.event.Event.{Event}
 use Rattle.capevents.specs.declared.outcome.Ended.{Ended}
-use Rattle.capcore.specs.declared.stopped.Stopped.{Stopped}
-use Rattle.capcore.specs.State.{State}
-use Rattle.capcore.specs.Judge.{judged, revoked_of}
+use Rattle.capsteps.specs.declared.stopped.Stopped.{Stopped}
+use Rattle.capsteps.specs.State.{State}
+use Rattle.capsteps.specs.Judge.{judged, revoked_of}
 use Rattle.capevents.specs.Replies.{has_list}
-use Rattle.capcore.specs.Direct.{direct, effect, effect_unless, reply_of, shown, opened_as}
-use Rattle.capcore.specs.Sound.{IsSound}
-use Rattle.capcore.specs.Touch.{touch_event, touched_table, touch_answer}
-use Rattle.capcore.specs.Touching.{touched_by}
-use Rattle.capcore.proofs.Knowing.{HoldAlike}
-use Rattle.capcore.proofs.TouchKept.{alike-changed}
-use Rattle.capcore.proofs.Touched.{touched-state}
+use Rattle.capsteps.specs.Direct.{direct, effect, effect_unless, reply_of, shown, opened_as}
+use Rattle.capsteps.specs.Sound.{IsSound}
+use Rattle.capsteps.specs.Touch.{touch_event, touched_table, touch_answer}
+use Rattle.capsteps.specs.Touching.{touched_by}
+use Rattle.capsteps.proofs.Knowing.{HoldAlike}
+use Rattle.capsteps.proofs.TouchKept.{alike-changed}
+use Rattle.capsteps.proofs.Touched.{touched-state}
 
 no_list-opened : (s : Scene) (o : Option EntryRow) → has_list (opened_as s o) ≡ false
 no_list-opened s None = refl

@@ -7,7 +7,7 @@ use Rattle.std.specs.FinMap as map
 use Rattle.std.specs.HashMap.{HashMap}
 use Rattle.capbits.specs.Caps.{Caps}
 use Rattle.captable.specs.declared.entry.Holder.{Holder}
-use Rattle.capcore.specs.Known.{AreKnown}
+use Rattle.capsteps.specs.Known.{AreKnown}
 use Rattle.std.specs.FinSet as set
 use Rattle.std.specs.FinSet.{FinSet}
 use Rattle.std.proofs.lemmas.List.Elements.{All-weaker}
@@ -34,11 +34,11 @@ use Rattle.lockmachine.specs.Locks.{with_ino}
 use Rattle.lockmachine.specs.Policy.{permitted}
 use Rattle.lockmachine.specs.Wants.{effective_want}
 use Rattle.lockmachine.proofs.PolicyElsewhere.{permitted-session, permitted-new, permitted-changed, want-session, want-new, want-changed}
-use Rattle.capcore.specs.State.{State}
-use Rattle.capcore.specs.Direct.{with_scene, with_tree, with_birth}
-use Rattle.capcore.specs.Sound.{IsSoundEntry, IsSound}
-use Rattle.capcore.specs.Leaving.{LeavesEntries}
-use Rattle.capcore.proofs.Leaving.{kept-sound, none_if, some_same, no_locks, kept-known}
+use Rattle.capsteps.specs.State.{State}
+use Rattle.capsteps.specs.Direct.{with_scene, with_tree, with_birth}
+use Rattle.capsteps.specs.Sound.{IsSoundEntry, IsSound}
+use Rattle.capsteps.specs.Leaving.{LeavesEntries}
+use Rattle.capsteps.proofs.Leaving.{kept-sound, none_if, some_same, no_locks, kept-known}
 
 -- the locks that an inode begins with, where there is an inode
 abbrev first_of : Option Node → Option InodeLocks

@@ -16,26 +16,26 @@ use Rattle.lockmachine.specs.Scene.{Scene}
 use Rattle.lockmachine.specs.Moves.{IsQuietOutside}
 use Rattle.lockmachine.proofs.SameOutside.{rest-outside}
 use Rattle.captable.specs.Table.{IsTable}
-use Rattle.capcore.specs.State.{State}
-use Rattle.capcore.specs.Answered.{IsAnswered}
-use Rattle.capcore.specs.Asks.{ask_needs}
-use Rattle.capcore.specs.declared.said.Said.{Said}
-use Rattle.capcore.specs.Direct.{Answer, Awaits, Direct, direct, reply_of, shown, with_scene, awaited_as}
+use Rattle.capsteps.specs.State.{State}
+use Rattle.capsteps.specs.Answered.{IsAnswered}
+use Rattle.capsteps.specs.Asks.{ask_needs}
+use Rattle.capsteps.specs.declared.said.Said.{Said}
+use Rattle.capsteps.specs.Direct.{Answer, Awaits, Direct, direct, reply_of, shown, with_scene, awaited_as}
 use Rattle.capnotes.specs.Untold.{is_of_ticket, HaveOwnNumbers, but_for}
-use Rattle.capcore.specs.Judge.{judged, stop, asking_tests, waiting_tests}
-use Rattle.capcore.specs.Serves.{EndsWith}
-use Rattle.capcore.specs.Sound.{IsSound}
-use Rattle.capcore.specs.Step.{earlier}
+use Rattle.capsteps.specs.Judge.{judged, stop, asking_tests, waiting_tests}
+use Rattle.capsteps.specs.Serves.{EndsWith}
+use Rattle.capsteps.specs.Sound.{IsSound}
+use Rattle.capsteps.specs.Step.{earlier}
 use Rattle.capcore.proofs.Asked.{asking-touches, asking-direct, asking-stop, order-of_ask}
 use Rattle.capcore.proofs.EndKnown.{ends-known}
-use Rattle.capcore.proofs.Knowing.{HoldAlike, alike-less, still-there, still-knows}
+use Rattle.capsteps.proofs.Knowing.{HoldAlike, alike-less, still-there, still-knows}
 use Rattle.capcore.proofs.Closing.{told-own_numbers, told-but_own, touches-one, closed}
 use Rattle.capcore.proofs.Stops.{touched-asks}
 use Rattle.capevents.specs.declared.event.Event.{Event}
 use Rattle.capevents.specs.declared.event.Event.TheVariants as event
 use Rattle.capevents.specs.declared.outcome.Ended.{Ended}
-use Rattle.capcore.specs.Touching.{asks_for, Touches, Knows}
-use Rattle.capcore.specs.Known.{known_in, AreKnown, StillKept}
+use Rattle.capsteps.specs.Touching.{asks_for, Touches, Knows}
+use Rattle.capsteps.specs.Known.{known_in, AreKnown, StillKept}
 
 -- an event asks for it
 pub some-asking : (k : Holder) (ask : Ask) → (e : Event) × (asks_for e ≡ Some (k, ask))

@@ -14,8 +14,8 @@ use Rattle.capview.specs.declared.change.ViewChange.{ViewChange}
 use Rattle.capview.specs.contracts.change.ViewChange as view_change
 use Rattle.capevents.specs.contracts.outcome.Ended as ended
 use Rattle.capevents.specs.contracts.row.Row as history_row
-use Rattle.capcore.specs.State.{State}
-use Rattle.capcore.specs.History.{Told, told}
+use Rattle.capsteps.specs.State.{State}
+use Rattle.capsteps.specs.History.{Told, told}
 
 -- a state as its parts
 abbrev pub scene_code : Coded Scene

@@ -6,13 +6,13 @@ use Rattle.capview.specs.Changes.{AreChanges}
 use Rattle.lockmachine.specs.Moves.{IsAtRest}
 use Rattle.capevents.specs.declared.event.Event.{Event}
 use Rattle.capevents.specs.declared.reply.Reply.{Reply}
-use Rattle.capcore.specs.State.{State}
-use Rattle.capcore.specs.Direct.{direct}
-use Rattle.capcore.specs.Headline.{DeniedExactly, DeniesByName, ServedDenied, ServedByName, EachServing, ByMoves, AreBounded, OtherLocksStay, IssuesExactly, AreInPlace, AreRevoked, NoneConflict, is_stop}
-use Rattle.capcore.specs.History.{Told, IsNext, InItsRow, Replays}
-use Rattle.capcore.specs.Noted.{view_of}
-use Rattle.capcore.specs.Shown.{ShowsWhatIsTold, ShowsOnlyPermitted, TakesUnshown, TakesOnlySo}
-use Rattle.capcore.specs.Sound.{IsSound}
+use Rattle.capsteps.specs.State.{State}
+use Rattle.capsteps.specs.Direct.{direct}
+use Rattle.capsteps.specs.Headline.{DeniedExactly, DeniesByName, ServedDenied, ServedByName, EachServing, ByMoves, AreBounded, OtherLocksStay, IssuesExactly, AreInPlace, AreRevoked, NoneConflict, is_stop}
+use Rattle.capsteps.specs.History.{Told, IsNext, InItsRow, Replays}
+use Rattle.capsteps.specs.Noted.{view_of}
+use Rattle.capsteps.specs.Shown.{ShowsWhatIsTold, ShowsOnlyPermitted, TakesUnshown, TakesOnlySo}
+use Rattle.capsteps.specs.Sound.{IsSound}
 
 pub record IsPromised (old : Told) (pass : PassId) (event : Event) (answer : Reply) (new : Told) : Type 0 where
   -- one step of the rules, and one row

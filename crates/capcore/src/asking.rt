@@ -1,29 +1,29 @@
 //! Steps of requests that wait for a lock of their inode.
-ghost use Rattle.std.specs.Prelude.{◌≡◌, ◌++◌, ℕ, List, None, Some, IfOk, IfErr, OnErr};
+ghost use Rattle.std.specs.Prelude.{◌≡◌, ℕ, List, None, Some, IfOk, IfErr, OnErr};
 ghost use Rattle.capbits.specs.Refusal.{first_failing};
 ghost use Rattle.captable.specs.Table.{holder};
 ghost use Rattle.lockmachine.specs.declared.request.Ask.TheVariants as ask_kind;
 ghost use Rattle.capevents.specs.declared.event.Event.{Event};
-ghost use Rattle.capcore.specs.Answered.{IsAnswered};
-ghost use Rattle.capcore.specs.Noted.{view_of};
+ghost use Rattle.capsteps.specs.Answered.{IsAnswered};
+ghost use Rattle.capsteps.specs.Noted.{view_of};
 ghost use Rattle.capview.specs.Changes.{AreChanges};
-ghost use Rattle.capcore.specs.Asks.{ask_needs};
-ghost use Rattle.capcore.specs.Judge.{asking_tests, waiting_tests, stop};
-ghost use Rattle.capcore.specs.Sound.{NumbersLeft};
-ghost use Rattle.capcore.specs.Touching.{asks_for};
+ghost use Rattle.capsteps.specs.Asks.{ask_needs};
+ghost use Rattle.capsteps.specs.Judge.{asking_tests, waiting_tests, stop};
+ghost use Rattle.capsteps.specs.Sound.{NumbersLeft};
+ghost use Rattle.capsteps.specs.Touching.{asks_for};
 
-use crate::ended::close_with;
-use crate::judge::{by_test, denial};
-use crate::said::Said;
-use crate::serving::{
+use crate::world::World;
+use capbits::{ClientId, Ino, Refusal};
+use capsteps::ended::close_with;
+use capsteps::judge::{by_test, denial};
+use capsteps::said::Said;
+use capsteps::serving::{
     after_refusal, ask_denial, before_refusal, change_access, change_refusal, places_refusal,
     rename_denial,
 };
-use crate::settle::end_at_one;
-use crate::stop::Stop;
-use crate::stopped::Stopped;
-use crate::world::World;
-use capbits::{ClientId, Ino, Refusal};
+use capsteps::settle::end_at_one;
+use capsteps::stop::Stop;
+use capsteps::stopped::Stopped;
 use captable::Holder;
 use lockmachine::{Ask, Bytes, Change};
 

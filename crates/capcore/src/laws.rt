@@ -20,18 +20,18 @@ ghost use Rattle.capevents.specs.declared.event.Event.{Event};
 ghost use Rattle.capevents.specs.declared.row.Row.{Row};
 ghost use Rattle.capevents.specs.declared.outcome.Ended.{Ended};
 ghost use Rattle.capevents.specs.declared.reply.Reply.{Reply};
-ghost use Rattle.capcore.specs.declared.stopped.Stopped.{Stopped};
-ghost use Rattle.capcore.specs.State.{State};
-ghost use Rattle.capcore.specs.Direct.{with_scene};
-ghost use Rattle.capcore.specs.Leaving.{with_parts, LeavesEntries};
-ghost use Rattle.capcore.specs.Judge.{judged, stop_reply};
-ghost use Rattle.capcore.specs.Step.{Step, StepBy};
-ghost use Rattle.capcore.specs.History.{HasNoStray, IsOpening, Replays, IsLegal};
+ghost use Rattle.capsteps.specs.declared.stopped.Stopped.{Stopped};
+ghost use Rattle.capsteps.specs.State.{State};
+ghost use Rattle.capsteps.specs.Direct.{with_scene};
+ghost use Rattle.capsteps.specs.Leaving.{with_parts, LeavesEntries};
+ghost use Rattle.capsteps.specs.Judge.{judged, stop_reply};
+ghost use Rattle.capsteps.specs.Step.{Step, StepBy};
+ghost use Rattle.capsteps.specs.History.{HasNoStray, IsOpening, Replays, IsLegal};
 ghost use Rattle.capcore.specs.SameEvents.{FoundMemory, AllFoundMemory, events_of, ends_of, passes_of};
-ghost use Rattle.capcore.specs.Settle.{Made, MakesAll, Settles, ended_in};
-ghost use Rattle.capcore.specs.Finish.{finished};
-ghost use Rattle.capcore.specs.Headline.{EachServing, ServedDenied, ServedByName, NoneConflict};
-ghost use Rattle.capcore.specs.Sound.{IsSound};
+ghost use Rattle.capsteps.specs.Settle.{Made, MakesAll, Settles, ended_in};
+ghost use Rattle.capsteps.specs.Finish.{finished};
+ghost use Rattle.capsteps.specs.Headline.{EachServing, ServedDenied, ServedByName, NoneConflict};
+ghost use Rattle.capsteps.specs.Sound.{IsSound};
 
 /// The opening state is sound.
 pub fn an_opening_is_sound()

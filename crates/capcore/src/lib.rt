@@ -4,38 +4,24 @@
 #![tactic(auto)]
 
 mod asking;
-mod client;
-mod ended;
-mod endings;
-mod finish;
 mod flushing;
 mod giving;
-mod judge;
-mod known;
 mod laws;
 mod own_laws;
-mod poll;
-mod reach;
 mod recalling;
-mod said;
-mod serving;
-mod serving_laws;
-mod settle;
 mod shown_laws;
-mod sizes;
-mod start;
 mod step;
-mod stop;
-mod stopped;
-mod told;
-mod touch;
 mod touch_laws;
+mod turning;
 mod world;
 
 pub use capbits::Refusal;
 pub use capevents::{
     Ended, EndedList, Event, Message, MessageList, OpenMode, Outcome, PartValues, Reply, Row,
 };
+pub use capsteps::serving_laws::{a_serving_changes_what_it_moves, a_serving_keeps_what_is_known};
+pub use capsteps::stop::Stop;
+pub use capsteps::stopped::Stopped;
 pub use capview::ViewChange;
 pub use giving::{a_recall_leaves_all_but_the_marks, telling_leaves_all_but_what_was_told};
 pub use laws::{
@@ -47,8 +33,5 @@ pub use laws::{
     the_served_are_denied_exactly, what_leaves_entries_alone_leaves_nothing_to_do,
 };
 pub use own_laws::what_is_served_at_once_is_not_stopped;
-pub use serving_laws::{a_serving_changes_what_it_moves, a_serving_keeps_what_is_known};
 pub use step::Core;
-pub use stop::Stop;
-pub use stopped::Stopped;
 pub use touch_laws::an_event_is_a_step_once_it_has_ended;

@@ -6,12 +6,12 @@ ghost use Rattle.capbits.specs.declared.ids.Ino.{Ino};
 ghost use Rattle.lockmachine.specs.declared.request.Ask.{Ask};
 ghost use Rattle.lockmachine.specs.Locks.{IsLockMap, next_request, with_request};
 ghost use Rattle.lockmachine.specs.Scene.{Scene};
-ghost use Rattle.capcore.specs.State.{State};
-ghost use Rattle.capcore.specs.Direct.{Awaits, reply_of};
-ghost use Rattle.capcore.specs.Headline.{is_stop};
-ghost use Rattle.capcore.specs.Serving.{judged_again};
-ghost use Rattle.capcore.specs.Settle.{Made, MakesAll, ended_in};
-ghost use Rattle.capcore.specs.Sound.{IsSound};
+ghost use Rattle.capsteps.specs.State.{State};
+ghost use Rattle.capsteps.specs.Direct.{Awaits, reply_of};
+ghost use Rattle.capsteps.specs.Headline.{is_stop};
+ghost use Rattle.capsteps.specs.Serving.{judged_again};
+ghost use Rattle.capsteps.specs.Settle.{Made, MakesAll, ended_in};
+ghost use Rattle.capsteps.specs.Sound.{IsSound};
 
 /// A request that nothing stops when it comes, and that is served in the same step, is neither denied nor refused: no
 /// request of an earlier step is served before it, so it is judged on the tree and the sessions on which it came.

@@ -1,15 +1,15 @@
 //! The step of a recall: clients are asked to give back what they have not used for longest.
 ghost use Rattle.std.specs.Prelude.{◌≡◌, IfOk, IfErr, OnErr};
 ghost use Rattle.capevents.specs.declared.event.Event.TheVariants as event;
-ghost use Rattle.capcore.specs.Answered.{IsAnswered};
-ghost use Rattle.capcore.specs.Noted.{view_of};
+ghost use Rattle.capsteps.specs.Answered.{IsAnswered};
+ghost use Rattle.capsteps.specs.Noted.{view_of};
 ghost use Rattle.capview.specs.Changes.{AreChanges};
 
-use crate::said::Said;
-use crate::stop::Stop;
 use crate::world::World;
 use capevents::{EndedList, Reply};
 use capnotes::ChangeList;
+use capsteps::said::Said;
+use capsteps::stop::Stop;
 
 impl World {
     // A step that marks the first entries in the order of recall as asked for, and names them. It moves none.

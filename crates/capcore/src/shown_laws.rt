@@ -1,16 +1,16 @@
 //! What clients were last shown of what they hold. No program needs to call these laws.
 
-ghost use Rattle.std.specs.Prelude.{◌≡◌, ◌++◌, [], ◌∷◌, List};
+ghost use Rattle.std.specs.Prelude.{◌++◌, [], ◌∷◌, List};
 ghost use Rattle.captable.specs.Table.{IsTable};
 ghost use Rattle.lockmachine.specs.Scene.{Scene};
 ghost use Rattle.capevents.specs.declared.row.Row.{Row};
-ghost use Rattle.capcore.specs.State.{State};
-ghost use Rattle.capcore.specs.Direct.{direct};
+ghost use Rattle.capsteps.specs.State.{State};
+ghost use Rattle.capsteps.specs.Direct.{direct};
 ghost use Rattle.capevents.specs.declared.event.Event.{Event};
-ghost use Rattle.capcore.specs.Headline.{IssuesExactly};
-ghost use Rattle.capcore.specs.Sound.{IsSound};
-ghost use Rattle.capcore.specs.Step.{Step};
-ghost use Rattle.capcore.specs.Shown.{AreShown, ShowsWhatIsTold, TakesUnshown, TakesOnlySo};
+ghost use Rattle.capsteps.specs.Headline.{IssuesExactly};
+ghost use Rattle.capsteps.specs.Sound.{IsSound};
+ghost use Rattle.capsteps.specs.Step.{Step};
+ghost use Rattle.capsteps.specs.Shown.{AreShown, ShowsWhatIsTold, TakesUnshown, TakesOnlySo};
 
 /// Where the numbers of entries say what clients were last shown, they say it after one step more.
 pub fn a_step_shows_what_it_tells()

@@ -1,19 +1,20 @@
 //! The core and its steps.
-ghost use Rattle.std.specs.Prelude.{◌≡◌, ◌↔◌, ◌+◌, ◌≤◌, ◌<◌, ◌^◌, ◌++◌, [], ◌∷◌, length, vec_len, vec_capacity, Err, IfOk, OnOk, OnErr};
-ghost use Rattle.capcore.specs.History.{HasNoStray, IsOpening, IsTold, rows_of, AreNumbered};
+ghost use Rattle.std.specs.Prelude.{◌≡◌, ◌↔◌, ◌<◌, [], length, Err, IfOk, OnErr};
+ghost use Rattle.capsteps.specs.History.{HasNoStray, IsOpening, IsTold};
 ghost use Rattle.capcore.specs.Promised.{IsPromised};
 ghost use Rattle.sessiontab.specs.Calls.{status_of};
 ghost use Rattle.captable.specs.Table.{holder, entry_at};
 ghost use Rattle.lockmachine.specs.Locks.{lock_at};
-ghost use Rattle.capcore.specs.declared.stop.Stop.TheVariants as stop_kind;
+ghost use Rattle.capsteps.specs.declared.stop.Stop.TheVariants as stop_kind;
 
-use crate::said::Said;
-use crate::stop::Stop;
 use crate::world::World;
 use capbits::{ClientId, Ino, Part, PassId};
 use capevents::{Event, Reply, Row};
 use capnotes::ChangeList;
 use capspec::FsName;
+use capsteps::history::{add_row, make_room};
+use capsteps::said::Said;
+use capsteps::stop::Stop;
 use captable::Entry;
 use capview::ViewChange;
 use inotree::Tree;
@@ -34,7 +35,7 @@ pub struct Core {
 }
 
 impl Model for Core {
-    ghost use Rattle.capcore.specs.History.{Told, IsTold, told};
+    ghost use Rattle.capsteps.specs.History.{Told, IsTold, told};
     ghost use Rattle.capcore.specs.Codes.{told_code};
 
     ghost Value = { Told };
@@ -155,22 +156,6 @@ impl Core {
     }
 }
 
-// Makes room for one row more, where there may be one, and answers which number it has among those of its pass.
-fn make_room(rows: &mut Vec<Row>, max_rows: u32, pass: PassId) -> Result<u64, Stop>
-    requires numbered { AreNumbered rows.old.items }
-    requires most { length rows.old.items ≤ max_rows }
-    ensures items { rows.new.items ≡ rows.old.items }
-    ensures number { IfOk result (λ nth. nth ≡ rows_of pass rows.old.items + 1) }
-    ensures room { OnOk result ((length rows.old.items < max_rows) × (vec_len rows.new < vec_capacity rows.new)) }
-    ensures full { (result ≡ Err stop_kind.Full) ↔ (length rows.old.items ≡ max_rows) }
-{
-    if rows.len() >= max_rows as usize {
-        return Err(Stop::Full);
-    }
-    rows.reserve(1)?;
-    Ok(next_number(rows, pass))
-}
-
 // These changes are told in the place of those of the step before. The list that is not needed is kept for a later step.
 fn tell(told: &mut ChangeList, changes: ChangeList, world: &mut World)
     ensures told { told.new.items ≡ changes.items }
@@ -182,27 +167,5 @@ fn tell(told: &mut ChangeList, changes: ChangeList, world: &mut World)
         world.keep_room(changes);
     } else {
         world.keep_room(replace(told, changes));
-    }
-}
-
-// Adds a row for which there is room.
-fn add_row(rows: &mut Vec<Row>, row: Row)
-    requires room { vec_len rows.old < vec_capacity rows.old }
-    ensures { rows.new.items ≡ rows.old.items ++ row ∷ [] }
-{
-    let Ok(()) = rows.push(row) else {
-        unreachable!()
-    };
-}
-
-// The number of a pass's next row.
-fn next_number(rows: &[Row], pass: PassId) -> u64
-    requires numbered { AreNumbered rows.now }
-    requires room { length rows.now < 2 ^ 32 }
-    ensures { result ≡ rows_of pass rows.now + 1 }
-{
-    match rows.iter().rev().find(|row| row.pass == pass) {
-        Some(row) => row.nth + 1,
-        None => 1,
     }
 }

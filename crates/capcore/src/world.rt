@@ -3,44 +3,44 @@ ghost use Rattle.std.specs.Prelude.{◌≡◌, ◌+◌, ◌++◌, false, [], ◌
 ghost use Rattle.inotree.specs.Tree.{is_directory};
 ghost use Rattle.inotree.specs.Calls.{with_new};
 ghost use Rattle.inotree.specs.Tests.{create_tests};
-ghost use Rattle.capcore.specs.Sound.{IsSound, NumbersLeft};
-ghost use Rattle.capcore.specs.Touch.{touch_event};
-ghost use Rattle.capcore.specs.Touching.{touched_by, turned_by, is_listing};
+ghost use Rattle.capsteps.specs.Sound.{IsSound, NumbersLeft};
+ghost use Rattle.capsteps.specs.Touch.{touch_event};
+ghost use Rattle.capsteps.specs.Touching.{touched_by, turned_by, is_listing};
 ghost use Rattle.captable.specs.Table.{IsTable, holder, entry_at};
 ghost use Rattle.lockmachine.specs.Locks.{lock_at, IsLockMap};
 ghost use Rattle.sessiontab.specs.Calls.{status_of, with_session};
 ghost use Rattle.sessiontab.specs.Tests.{new_session_tests};
-ghost use Rattle.capcore.specs.Judge.{judged, stop, before, asked_tests, connected_tests, opening_needs, opening_tests, room_for};
-ghost use Rattle.capcore.specs.Needs.{need};
+ghost use Rattle.capsteps.specs.Judge.{judged, stop, before, asked_tests, connected_tests, opening_needs, opening_tests, room_for};
+ghost use Rattle.capsteps.specs.Needs.{need};
 ghost use Rattle.captable.specs.Tests.{entry_test};
 ghost use Rattle.std.specs.FinMap as map;
-ghost use Rattle.capcore.specs.Direct.{Says, IsDirect, direct, made_event, owned_by, with_birth, with_sessions};
-ghost use Rattle.capcore.specs.History.{IsOpening, HasNoStray};
-ghost use Rattle.capcore.specs.Answered.{IsAnswered};
-ghost use Rattle.capcore.specs.Noted.{view_of};
+ghost use Rattle.capsteps.specs.Direct.{Says, IsDirect, direct, made_event, owned_by, with_birth, with_sessions};
+ghost use Rattle.capsteps.specs.History.{IsOpening, HasNoStray};
+ghost use Rattle.capsteps.specs.Answered.{IsAnswered};
+ghost use Rattle.capsteps.specs.Noted.{view_of};
 ghost use Rattle.capview.specs.Changes.{AreChanges};
 ghost use Rattle.capview.specs.Sight.{Shows};
 ghost use Rattle.capbits.specs.Refusal.{first_failing};
 ghost use Rattle.capevents.specs.declared.event.Event.TheVariants as event;
 
-use crate::client::Turn;
-use crate::ended::close;
-use crate::endings::Endings;
-use crate::judge::{by_test, denial};
-use crate::known::Known;
-use crate::poll::{due_messages, give};
-use crate::said::Said;
-use crate::settle::end_at_entry;
-use crate::start::first_locks;
-use crate::stop::Stop;
-use crate::stopped::Stopped;
-use crate::told::revoked_of;
-use crate::touch::{Touch, tell, touch_entry};
 use capbits::{Caller, CapSet, ClientId, Ino, Mode, Part, Refusal};
 use capevents::{EndedList, Event, OpenMode, Reply, copy_of_messages, copy_of_reply};
 use capgrant::{Access, Attr};
 use capnotes::{ChangeList, Messages, ToldNumbers};
 use capspec::{FsName, Grants};
+use capsteps::client::Turn;
+use capsteps::ended::close;
+use capsteps::endings::Endings;
+use capsteps::judge::{by_test, denial};
+use capsteps::known::Known;
+use capsteps::poll::{due_messages, give};
+use capsteps::said::Said;
+use capsteps::settle::end_at_entry;
+use capsteps::start::first_locks;
+use capsteps::stop::Stop;
+use capsteps::stopped::Stopped;
+use capsteps::told::revoked_of;
+use capsteps::touch::{Touch, tell, touch_entry};
 use captable::{CapTable, Entry, Holder};
 use capview::ViewChange;
 use inotree::{Kind, Tree};
@@ -84,13 +84,13 @@ impl Drop for World {
 }
 
 impl Model for World {
-    ghost use Rattle.capcore.specs.State.{State};
+    ghost use Rattle.capsteps.specs.State.{State};
     ghost use Rattle.capcore.specs.Codes.{state_code};
-    ghost use Rattle.capcore.specs.Sound.{IsSound, NumbersLeft};
-    ghost use Rattle.capcore.specs.Touch.{touch_event};
-    ghost use Rattle.capcore.specs.Touching.{touched_by, is_listing};
+    ghost use Rattle.capsteps.specs.Sound.{IsSound, NumbersLeft};
+    ghost use Rattle.capsteps.specs.Touch.{touch_event};
+    ghost use Rattle.capsteps.specs.Touching.{touched_by, is_listing};
     ghost use Rattle.capnotes.specs.Untold.{HasRoom};
-    ghost use Rattle.capcore.specs.Known.{AreKnown};
+    ghost use Rattle.capsteps.specs.Known.{AreKnown};
 
     ghost Value = { State };
 

@@ -3,8 +3,8 @@ use Rattle.std.specs.Prelude.{◌≡◌, ◌≤◌, ℕ, List, [], ◌++◌, Res
 use Rattle.std.specs.List.{flat_map}
 use Rattle.inotree.specs.Calls.{first_tree}
 use Rattle.capevents.specs.declared.row.Row.{Row}
-use Rattle.capcore.specs.History.{IsOpening, IsLegal}
-use Rattle.capcore.specs.State.{State}
+use Rattle.capsteps.specs.History.{IsOpening, IsLegal}
+use Rattle.capsteps.specs.State.{State}
 use Rattle.capexplain.specs.Audit.{audit_text}
 use Rattle.capscript.specs.Transcript.{fs_name, root_attr}
 use Rattle.caplines.specs.declared.fault.ScriptFault.TheVariants as stops

@@ -1,8 +1,8 @@
 //! Serving a script: what its lines call is called by the passes of a server, and the history of that is written.
 ghost use Rattle.std.specs.Prelude.{◌≡◌, ◌≢◌, ◌<◌, ◌≤◌, ◌+◌, ◌⊎◌, ◌↔◌, ℕ, List, Err, length, vec_len, IfOk, IfErr, IfSome, OnErr, IsTrue, IsFalse};
 ghost use Rattle.std.specs.Io.KnownBytes.{Appends, Keeps};
-ghost use Rattle.capcore.specs.History.{IsLegal};
-ghost use Rattle.capcore.specs.declared.stop.Stop.TheVariants as stop_kind;
+ghost use Rattle.capsteps.specs.History.{IsLegal};
+ghost use Rattle.capsteps.specs.declared.stop.Stop.TheVariants as stop_kind;
 ghost use Rattle.capserver.specs.Opened.{opened};
 ghost use Rattle.caplines.specs.Lines.{lines, longest_script};
 ghost use Rattle.caplines.specs.declared.fault.ScriptFault.TheVariants as stops;

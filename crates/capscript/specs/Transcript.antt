@@ -7,8 +7,8 @@ use Rattle.inotree.specs.Calls.{first_tree}
 use Rattle.capevents.specs.declared.event.Event.{Event}
 use Rattle.capevents.specs.declared.row.Row.{Row}
 use Rattle.capevents.specs.declared.reply.Reply.{Reply}
-use Rattle.capcore.specs.History.{Told, IsOpening, IsLegal, IsNext}
-use Rattle.capcore.specs.State.{State}
+use Rattle.capsteps.specs.History.{Told, IsOpening, IsLegal, IsNext}
+use Rattle.capsteps.specs.State.{State}
 use Rattle.caplines.specs.declared.fault.LineFault.{LineFault}
 use Rattle.caplines.specs.declared.fault.ScriptFault.{ScriptFault}
 use Rattle.caplines.specs.declared.fault.ScriptFault.TheVariants as stops

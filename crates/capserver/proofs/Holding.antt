@@ -10,9 +10,9 @@ use Rattle.capview.proofs.Likeness.{shows-refl}
 use Rattle.capevents.specs.declared.event.Event.{Event}
 use Rattle.capevents.specs.declared.reply.Reply.{Reply}
 use Rattle.capevents.specs.declared.row.Row.{Row}
-use Rattle.capcore.specs.History.{AreNumbered, IsLegal, IsTold, Told, IsNext, Replays, made_row, rows_of}
-use Rattle.capcore.specs.State.{State}
-use Rattle.capcore.specs.Noted.{view_of}
+use Rattle.capsteps.specs.History.{AreNumbered, IsLegal, IsTold, Told, IsNext, Replays, made_row, rows_of}
+use Rattle.capsteps.specs.State.{State}
+use Rattle.capsteps.specs.Noted.{view_of}
 use Rattle.published.specs.Publishing.{Publishing, IsReady}
 use Rattle.published.specs.Rows.{Legal}
 use Rattle.published.proofs.Beginnings.{prefix_more, prefix_trans, prefix_length}

@@ -1,7 +1,7 @@
 -- What a fresh call leaves.
 use Rattle.std.specs.Prelude.{◌≡◌, ℕ, ◌<◌, List, [], ◌∷◌, ◌++◌, length}
 use mathlib.Core.List.{IsPrefix}
-use Rattle.capcore.specs.History.{made_row}
+use Rattle.capsteps.specs.History.{made_row}
 use Rattle.capevents.specs.declared.event.Event.{Event}
 use Rattle.capevents.specs.declared.row.Row.{Row}
 use Rattle.capevents.specs.declared.outcome.Ended.{Ended}

@@ -1,10 +1,10 @@
 -- What stands under the lock.
 use Rattle.std.specs.Prelude.{◌≡◌, ◌≤◌, ℕ, false, length}
 use mathlib.Core.List.{IsPrefix}
-use Rattle.capcore.specs.State.{State}
-use Rattle.capcore.specs.History.{Told, Replays}
+use Rattle.capsteps.specs.State.{State}
+use Rattle.capsteps.specs.History.{Told, Replays}
 use Rattle.capview.specs.Sight.{Shows}
-use Rattle.capcore.specs.Noted.{view_of}
+use Rattle.capsteps.specs.Noted.{view_of}
 use Rattle.published.specs.Publishing.{Publishing}
 
 -- the history leads from the opening state to that of the core, and takes as many rows as the opening said

@@ -2,7 +2,7 @@
 ghost use Rattle.std.specs.Prelude.{◌≡◌, ◌≢◌, ◌⊎◌, ◌≤◌, ◌<◌, ◌+◌, [], Err, length, IsTrue, IfOk, IfErr, OnOk, OnErr, vec_len};
 ghost use Rattle.std.specs.List.{sum_by};
 ghost use mathlib.Core.List.{IsPrefix};
-ghost use Rattle.capcore.specs.History.{IsLegal};
+ghost use Rattle.capsteps.specs.History.{IsLegal};
 ghost use Rattle.capview.specs.declared.answer.Unknown.TheVariants as unknown;
 ghost use Rattle.published.specs.Answers.{IsAnswered};
 ghost use Rattle.published.specs.Rows.{Legal};

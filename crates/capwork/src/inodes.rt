@@ -1,6 +1,6 @@
 //! The work on inodes: events of one client, which may do all, on the tree of a core.
 ghost use Rattle.std.specs.Prelude.{◌↔◌, ◌+◌, ◌<◌, ◌≤◌, IfOk, IsTrue};
-ghost use Rattle.capcore.specs.History.{HasNoStray};
+ghost use Rattle.capsteps.specs.History.{HasNoStray};
 
 use crate::asked::bytes;
 use crate::asking::Asker;

@@ -3,7 +3,7 @@ use Rattle.std.proofs.Common.{◌≡◌, ℕ, List, Result, Ok, Err, sym, subst}
 use Rattle.logbook.specs.Pages.{Book}
 use Rattle.capgrant.specs.declared.answer.Verdict.{Verdict}
 use Rattle.capevents.specs.declared.row.Row.{Row}
-use Rattle.capcore.specs.State.{State}
+use Rattle.capsteps.specs.State.{State}
 use Rattle.capview.specs.declared.answer.Question.{Question}
 use Rattle.capview.specs.declared.answer.Unknown.{Unknown}
 use Rattle.capview.specs.declared.answer.Unknown.TheVariants as unknown
@@ -11,7 +11,7 @@ use Rattle.capview.specs.declared.view.View.{View}
 use Rattle.capview.specs.Answers.{IsAnswer}
 use Rattle.capview.specs.Sight.{Shows}
 use Rattle.published.specs.declared.value.Published.{Published}
-use Rattle.capcore.specs.Noted.{view_of}
+use Rattle.capsteps.specs.Noted.{view_of}
 use Rattle.published.specs.Places.{IsPublished}
 use Rattle.published.specs.Answers.{IsAnswered}
 

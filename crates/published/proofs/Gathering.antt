@@ -2,8 +2,8 @@
 use Rattle.std.proofs.Common.{◌≡◌, ℕ, zero, suc, ◌<◌, List, [], ◌∷◌, ◌++◌, length, take, drop, get_or, refl, ap, sym, ◌∙◌, subst, arith, append_assoc}
 use mathlib.Core.List.{IsPrefix}
 use Rattle.capevents.specs.declared.row.Row.{Row}
-use Rattle.capcore.specs.History.{AreNumbered, IsLegal, Replays}
-use Rattle.capcore.specs.State.{State}
+use Rattle.capsteps.specs.History.{AreNumbered, IsLegal, Replays}
+use Rattle.capsteps.specs.State.{State}
 use Rattle.published.specs.Rows.{Legal}
 
 no_row : (earlier later : List Row) (row : Row) → [] ≡ earlier ++ row ∷ later → ⊥

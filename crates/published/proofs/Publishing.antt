@@ -4,14 +4,14 @@ use mathlib.Core.List.{IsPrefix}
 use Rattle.logbook.specs.Pages.{Book}
 use Rattle.crossbeam_utils.specs.Register.{TurnsAt}
 use Rattle.capevents.specs.declared.row.Row.{Row}
-use Rattle.capcore.specs.History.{IsLegal}
-use Rattle.capcore.specs.State.{State}
+use Rattle.capsteps.specs.History.{IsLegal}
+use Rattle.capsteps.specs.State.{State}
 use Rattle.capview.specs.declared.view.View.{View}
 use Rattle.capview.specs.Sight.{Shows}
 use Rattle.published.specs.declared.place.Place.{Place}
 use Rattle.published.specs.declared.value.Published.{Published}
 use Rattle.published.specs.declared.value.Stage.{Stage}
-use Rattle.capcore.specs.Noted.{view_of}
+use Rattle.capsteps.specs.Noted.{view_of}
 use Rattle.published.specs.Places.{IsPublished, Keeps, Saw}
 use Rattle.published.specs.Publishing.{IsReady, IsStaging, publishing}
 use Rattle.published.specs.Value.{staged_all}

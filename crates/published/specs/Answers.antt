@@ -2,11 +2,11 @@
 use Rattle.std.specs.Prelude.{List, Result}
 use Rattle.capgrant.specs.declared.answer.Verdict.{Verdict}
 use Rattle.capevents.specs.declared.row.Row.{Row}
-use Rattle.capcore.specs.State.{State}
+use Rattle.capsteps.specs.State.{State}
 use Rattle.capview.specs.declared.answer.Question.{Question}
 use Rattle.capview.specs.declared.answer.Unknown.{Unknown}
 use Rattle.capview.specs.Answers.{IsAnswer}
-use Rattle.capcore.specs.Noted.{view_of}
+use Rattle.capsteps.specs.Noted.{view_of}
 use Rattle.published.specs.Rows.{Legal}
 
 -- the rows that are known are legal, and the answer is that of the state to which they lead

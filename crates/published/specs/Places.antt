@@ -4,8 +4,8 @@ use mathlib.Core.Option.{some}
 use mathlib.Core.List.{IsPrefix}
 use lib.ListN.{get_elem?}
 use Rattle.logbook.specs.Pages.{Book}
-use Rattle.capcore.specs.Noted.{view_of}
-use Rattle.capcore.specs.State.{State}
+use Rattle.capsteps.specs.Noted.{view_of}
+use Rattle.capsteps.specs.State.{State}
 use Rattle.capview.specs.Sight.{Shows}
 use Rattle.published.specs.declared.value.Published.{Published}
 use Rattle.published.specs.declared.place.Place.{Place}

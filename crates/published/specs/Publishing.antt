@@ -4,13 +4,13 @@ use Rattle.std.specs.Coded.{Coded, code_by, coded×, coded_bool}
 use mathlib.Core.List.{IsPrefix}
 use Rattle.logbook.specs.Pages.{Book}
 use Rattle.capevents.specs.declared.row.Row.{Row}
-use Rattle.capcore.specs.State.{State}
+use Rattle.capsteps.specs.State.{State}
 use Rattle.capview.specs.declared.view.View.{View}
 use Rattle.capview.specs.Codes.{view_code}
 use Rattle.capview.specs.Sight.{Shows}
 use Rattle.published.specs.declared.value.Published.{Published}
 use Rattle.published.specs.declared.value.Stage.{Stage}
-use Rattle.capcore.specs.Noted.{view_of}
+use Rattle.capsteps.specs.Noted.{view_of}
 use Rattle.published.specs.Rows.{Legal, rows_code}
 use Rattle.published.specs.Value.{staged_all}
 

@@ -6,8 +6,8 @@ use Rattle.capevents.specs.declared.event.Event.TheVariants.{Unblock}
 use Rattle.capevents.specs.declared.row.Row.{Row}
 use Rattle.capevents.specs.declared.reply.Reply.TheVariants.{Done}
 use Rattle.capevents.specs.contracts.row.Row as history_row
-use Rattle.capcore.specs.History.{IsLegal}
-use Rattle.capcore.specs.State.{State}
+use Rattle.capsteps.specs.History.{IsLegal}
+use Rattle.capsteps.specs.State.{State}
 
 -- a list of rows is stored as their codes
 abbrev pub rows_code : Coded (List Row)

@@ -10,7 +10,7 @@ pub const MAX_PASSES: u32 = 32;
 /// and the book of its rows. Contracts alone see the last four.
 pub trait Server: Ledger {
     ghost use Rattle.std.specs.Prelude.{ℕ};
-    ghost use Rattle.capcore.specs.State.{State};
+    ghost use Rattle.capsteps.specs.State.{State};
     ghost use Rattle.logbook.specs.Pages.{Book};
 
     ghost passes: { ℕ };

@@ -2,7 +2,7 @@
 ghost use Rattle.std.specs.Prelude.{◌≡◌, ◌<◌, ◌≤◌, true, false, [], length, fold, IfOk, IfSome};
 ghost use mathlib.Core.List.{IsPrefix};
 ghost use Rattle.capview.specs.Changes.{view_by};
-ghost use Rattle.capcore.specs.Noted.{view_of};
+ghost use Rattle.capsteps.specs.Noted.{view_of};
 ghost use Rattle.published.specs.Publishing.{IsReady};
 ghost use Rattle.published.specs.Rows.{Legal};
 

@@ -1,4 +1,4 @@
-use Rattle.capcore.proofs.Finishing.{sound-settles, sound-finished}
+use Rattle.capsteps.proofs.Finishing.{sound-settles, sound-finished}
 use Rattle.capcore.proofs.laws.a_sound_state_has_nothing_left_to_do.Goals as goal
 
 pub returns-clause-settles : goal.returns-clause-settles

@@ -1,4 +1,4 @@
-use Rattle.capcore.proofs.Stopping.{stopped-step, stopped-only}
+use Rattle.capsteps.proofs.Stopping.{stopped-step, stopped-only}
 use Rattle.capcore.proofs.laws.a_stop_changes_nothing.Goals as goal
 
 pub returns-clause-step : goal.returns-clause-step

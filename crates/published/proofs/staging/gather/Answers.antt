@@ -1,7 +1,7 @@
 use Rattle.std.proofs.Common.{◌≡◌, ◌∷◌, [], ◌++◌, List, sym, subst, ◌∙◌, arith, rules}
 use mathlib.Core.List.{IsPrefix}
 use Rattle.capevents.specs.declared.row.Row.{Row}
-use Rattle.capcore.specs.State.{State}
+use Rattle.capsteps.specs.State.{State}
 use Rattle.published.specs.Rows.{Legal}
 use Rattle.published.proofs.Gathering.{legal_more, take_begins}
 use Rattle.published.proofs.staging.gather.Goals as goal

@@ -1,24 +1,24 @@
 use Rattle.std.proofs.Common.{◌≡◌, ◌+◌, ◌++◌, ◌∷◌, [], List, length, refl, ap, sym, subst, ◌∙◌}
-use Rattle.capcore.specs.State.{State}
+use Rattle.capsteps.specs.State.{State}
 use Rattle.capevents.specs.declared.row.Row.{Row}
 use Rattle.capevents.specs.declared.reply.Reply.{Reply}
-use Rattle.capcore.specs.Answered.{IsAnswered}
-use Rattle.capcore.specs.Direct.{direct}
-use Rattle.capcore.specs.Headline.{ServedDenied, ServedByName, EachServing, AreBounded}
-use Rattle.capcore.specs.History.{Told, told, made_row, rows_of}
+use Rattle.capsteps.specs.Answered.{IsAnswered}
+use Rattle.capsteps.specs.Direct.{direct}
+use Rattle.capsteps.specs.Headline.{ServedDenied, ServedByName, EachServing, AreBounded}
+use Rattle.capsteps.specs.History.{Told, told, made_row, rows_of}
 use Rattle.capcore.specs.Promised.{IsPromised}
-use Rattle.capcore.specs.Shown.{ShowsWhatIsTold}
-use Rattle.capcore.specs.Sound.{IsSound}
-use Rattle.capcore.specs.Step.{Step}
+use Rattle.capsteps.specs.Shown.{ShowsWhatIsTold}
+use Rattle.capsteps.specs.Sound.{IsSound}
+use Rattle.capsteps.specs.Step.{Step}
 use Rattle.capcore.proofs.Apart.{held-apart}
 use Rattle.capcore.proofs.Bounded.{direct-order, moves-bounded, by-moves}
 use Rattle.capcore.proofs.OtherLocks.{other-locks}
 use Rattle.capcore.proofs.Servings.{served-denied, served-by_name}
 use Rattle.capcore.proofs.Promised.{denied-exactly, denies-by_name, stopped-unchanged}
 use Rattle.capcore.proofs.Growing.{more-told, replays-more}
-use Rattle.capcore.proofs.Placed.{all-revoked}
+use Rattle.capsteps.proofs.Placed.{all-revoked}
 use Rattle.capcore.proofs.HeldOn.{takes-only_so}
-use Rattle.capcore.proofs.ShownSteps.{step-shown}
+use Rattle.capsteps.proofs.ShownSteps.{step-shown}
 use Rattle.capcore.proofs.ShownWords.{shows-told, shows-permitted, all-takes_unshown}
 use Rattle.capcore.proofs.step.Core.apply.Goals as goal
 use Rattle.capcore.proofs.step.Core.apply.Goals.{After-add_row}

@@ -3,9 +3,9 @@ use Rattle.capbits.specs.Refusal.{first_failing}
 use Rattle.captable.specs.Table.{holder}
 use Rattle.captable.specs.Tests.{ack_tests}
 use Rattle.lockmachine.specs.Scene.{Scene}
-use Rattle.capcore.specs.State.{State}
-use Rattle.capcore.specs.Judge.{connected_tests, revoked_of}
-use Rattle.capcore.proofs.Revoking.{passed-front}
+use Rattle.capsteps.specs.State.{State}
+use Rattle.capsteps.specs.Judge.{connected_tests, revoked_of}
+use Rattle.capsteps.proofs.Revoking.{passed-front}
 use Rattle.capcore.proofs.world.World.ack_stop.Goals as goal
 
 pub returns-in-None : goal.returns-in-None

@@ -1,5 +1,5 @@
 use Rattle.std.proofs.lemmas.Result.{on_ok_weaker}
-use Rattle.capcore.specs.Noted.{view_of}
+use Rattle.capsteps.specs.Noted.{view_of}
 use Rattle.capnotes.proofs.Noting.{changes-still, changes-unseen}
 use Rattle.capcore.proofs.world.World.act.Goals as goal
 

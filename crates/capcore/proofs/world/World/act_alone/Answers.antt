@@ -1,12 +1,12 @@
 use Rattle.std.proofs.Common.{sym, subst}
 use Rattle.inotree.specs.Tree.{IsTree}
 use Rattle.captable.specs.Table.{IsTable}
-use Rattle.capcore.specs.State.{State}
-use Rattle.capcore.specs.Direct.{IsDirect}
-use Rattle.capcore.specs.Sound.{IsSound}
+use Rattle.capsteps.specs.State.{State}
+use Rattle.capsteps.specs.Direct.{IsDirect}
+use Rattle.capsteps.specs.Sound.{IsSound}
 use Rattle.capcore.proofs.Steps.{alone-answered, no_list-direct}
 use Rattle.capview.specs.Changes.{AreChanges}
-use Rattle.capcore.specs.Noted.{view_of}
+use Rattle.capsteps.specs.Noted.{view_of}
 use Rattle.capnotes.specs.Noted.{Noted}
 use Rattle.capcore.proofs.world.World.act_alone.Goals as goal
 

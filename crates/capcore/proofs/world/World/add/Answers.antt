@@ -3,9 +3,9 @@ use Rattle.capbits.specs.Refusal.{first_failing}
 use Rattle.inotree.specs.Tests.{create_tests}
 use Rattle.inotree.proofs.Passing.{passed-create}
 use Rattle.lockmachine.specs.Locks.{LockMap}
-use Rattle.capcore.specs.Known.{AreKnown}
+use Rattle.capsteps.specs.Known.{AreKnown}
 use Rattle.capnotes.specs.Untold.{HasRoom}
-use Rattle.capcore.specs.State.{State}
+use Rattle.capsteps.specs.State.{State}
 use Rattle.capcore.proofs.Undone.{added-dropped, not_given}
 use Rattle.capcore.proofs.Untouched.{birth-sound, birth-known}
 use Rattle.capcore.proofs.world.World.add.Goals as goal

@@ -1,10 +1,10 @@
 use Rattle.std.proofs.Common.{sym, subst, ◌∙◌}
 use Rattle.captable.specs.Table.{IsTable, holder}
-use Rattle.capcore.specs.State.{State}
-use Rattle.capcore.specs.Sound.{IsSound}
+use Rattle.capsteps.specs.State.{State}
+use Rattle.capsteps.specs.Sound.{IsSound}
 use Rattle.capcore.proofs.Asked.{asking-stop}
 use Rattle.capcore.proofs.Stops.{stopped-answered}
-use Rattle.capcore.specs.Noted.{view_of}
+use Rattle.capsteps.specs.Noted.{view_of}
 use Rattle.capnotes.proofs.Noting.{changes-still}
 use Rattle.capcore.proofs.world.World.ask.Goals as goal
 

@@ -1,14 +1,14 @@
 use Rattle.std.proofs.Common.{ℕ, List, Option, sym, ap, subst, ◌∙◌}
 use Rattle.captable.specs.Table.{IsTable, holder}
 use Rattle.lockmachine.specs.declared.request.Ask.TheVariants.{Rename}
-use Rattle.capcore.specs.declared.stopped.Stopped.{Stopped}
-use Rattle.capcore.specs.State.{State}
-use Rattle.capcore.specs.Asks.{ask_needs}
-use Rattle.capcore.specs.Judge.{asking_tests, waiting_tests, stop}
-use Rattle.capcore.specs.Sound.{IsSound}
+use Rattle.capsteps.specs.declared.stopped.Stopped.{Stopped}
+use Rattle.capsteps.specs.State.{State}
+use Rattle.capsteps.specs.Asks.{ask_needs}
+use Rattle.capsteps.specs.Judge.{asking_tests, waiting_tests, stop}
+use Rattle.capsteps.specs.Sound.{IsSound}
 use Rattle.capcore.proofs.Asked.{asking-stop}
 use Rattle.capcore.proofs.Stops.{stopped-answered}
-use Rattle.capcore.specs.Noted.{view_of}
+use Rattle.capsteps.specs.Noted.{view_of}
 use Rattle.capnotes.proofs.Noting.{changes-still}
 use Rattle.capcore.proofs.world.World.ask_rename.Goals as goal
 

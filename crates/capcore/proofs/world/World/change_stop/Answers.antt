@@ -7,12 +7,12 @@ use Rattle.captable.specs.Table.{holder}
 use Rattle.lockmachine.specs.declared.request.Ask.TheVariants.{Alter}
 use Rattle.lockmachine.specs.Locks.{queue_tests}
 use Rattle.lockmachine.specs.Scene.{Scene}
-use Rattle.capcore.specs.declared.stopped.Stopped.TheVariants.{ByTest}
-use Rattle.capcore.specs.State.{State}
-use Rattle.capcore.specs.Asks.{ask_needs, change_access, change_tests}
-use Rattle.capcore.specs.Judge.{stop, denial_of, asking_tests, waiting_tests}
-use Rattle.capcore.proofs.Again.{denial-stop, stopped-policy, stopped-after}
-use Rattle.capcore.proofs.Revoking.{passed-front}
+use Rattle.capsteps.specs.declared.stopped.Stopped.TheVariants.{ByTest}
+use Rattle.capsteps.specs.State.{State}
+use Rattle.capsteps.specs.Asks.{ask_needs, change_access, change_tests}
+use Rattle.capsteps.specs.Judge.{stop, denial_of, asking_tests, waiting_tests}
+use Rattle.capsteps.proofs.Again.{denial-stop, stopped-policy, stopped-after}
+use Rattle.capsteps.proofs.Revoking.{passed-front}
 use Rattle.capcore.proofs.world.World.change_stop.Goals as goal
 use Rattle.capcore.proofs.world.World.change_stop.Goals.{in-Some-change_refusal, in-None}
 

@@ -1,8 +1,8 @@
 use Rattle.std.proofs.Common.{ap, ◌∙◌}
 use Rattle.captable.specs.Table.{holder}
-use Rattle.capcore.specs.State.{State}
-use Rattle.capcore.specs.Judge.{denial_of}
-use Rattle.capcore.proofs.Again.{denial-stop}
+use Rattle.capsteps.specs.State.{State}
+use Rattle.capsteps.specs.Judge.{denial_of}
+use Rattle.capsteps.proofs.Again.{denial-stop}
 use Rattle.capcore.proofs.world.World.denial.Goals as goal
 
 pub returns : goal.returns

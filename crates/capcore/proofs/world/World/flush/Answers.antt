@@ -7,22 +7,22 @@ use Rattle.capevents.specs.declared.event.Event.{Event}
 use Rattle.capevents.specs.declared.event.Event.TheVariants as event
 use Rattle.capevents.specs.declared.outcome.Ended.{Ended}
 use Rattle.capevents.specs.declared.reply.Reply.TheVariants as reply
-use Rattle.capcore.specs.State.{State}
-use Rattle.capcore.specs.Answered.{IsAnswered}
-use Rattle.capcore.specs.Direct.{Answer, Says, Direct, direct, reply_of, shown, says, with_flush}
-use Rattle.capcore.specs.Judge.{judged}
-use Rattle.capcore.specs.Known.{known_in, StillKept}
-use Rattle.capcore.specs.Touching.{Knows}
-use Rattle.capcore.specs.Serves.{EndsWith}
-use Rattle.capcore.specs.Sound.{IsSound}
-use Rattle.capcore.specs.Step.{earlier}
+use Rattle.capsteps.specs.State.{State}
+use Rattle.capsteps.specs.Answered.{IsAnswered}
+use Rattle.capsteps.specs.Direct.{Answer, Says, Direct, direct, reply_of, shown, says, with_flush}
+use Rattle.capsteps.specs.Judge.{judged}
+use Rattle.capsteps.specs.Known.{known_in, StillKept}
+use Rattle.capsteps.specs.Touching.{Knows}
+use Rattle.capsteps.specs.Serves.{EndsWith}
+use Rattle.capsteps.specs.Sound.{IsSound}
+use Rattle.capsteps.specs.Step.{earlier}
 use Rattle.capcore.proofs.Closing.{first-quiet, told-all, closed-known, closed}
-use Rattle.capcore.proofs.Knowing.{HoldAlike, alike-less, still-there, still-room, still-knows}
+use Rattle.capsteps.proofs.Knowing.{HoldAlike, alike-less, still-there, still-room, still-knows}
 use Rattle.capcore.proofs.OfInode.{event-table}
 use Rattle.capcore.proofs.Flushed.{flush-calls, flush-direct}
 use Rattle.capcore.proofs.Stops.{stopped-answered}
 use Rattle.capview.specs.Changes.{AreChanges}
-use Rattle.capcore.specs.Noted.{view_of}
+use Rattle.capsteps.specs.Noted.{view_of}
 use Rattle.capnotes.proofs.Noting.{changes-all, changes-still, leads-then}
 use Rattle.capcore.proofs.world.World.flush.Goals as goal
 use Rattle.capcore.proofs.world.World.flush.Goals.{After-touch, After-close}

@@ -7,10 +7,10 @@ use Rattle.capbits.proofs.Tests.{failing-front}
 use Rattle.captable.specs.Table.{holder}
 use Rattle.captable.specs.Tests.{release_tests}
 use Rattle.lockmachine.specs.Scene.{Scene}
-use Rattle.capcore.specs.State.{State}
-use Rattle.capcore.specs.Asks.{change_tests, exclusive}
-use Rattle.capcore.specs.Judge.{flush_tests}
-use Rattle.capcore.proofs.Revoking.{passed-front}
+use Rattle.capsteps.specs.State.{State}
+use Rattle.capsteps.specs.Asks.{change_tests, exclusive}
+use Rattle.capsteps.specs.Judge.{flush_tests}
+use Rattle.capsteps.proofs.Revoking.{passed-front}
 use Rattle.capcore.proofs.world.World.flush_refusal.Goals as goal
 
 pub returns-in-Some : goal.returns-in-Some

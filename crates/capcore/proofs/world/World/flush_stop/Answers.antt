@@ -4,10 +4,10 @@ use Rattle.captable.specs.Table.{holder}
 use Rattle.lockmachine.specs.Scene.{Scene}
 use Rattle.capevents.specs.declared.event.Event.{Event}
 use Rattle.capevents.specs.declared.event.Event.TheVariants.{Flush}
-use Rattle.capcore.specs.State.{State}
-use Rattle.capcore.specs.Asks.{change_access}
-use Rattle.capcore.specs.Judge.{stop, denial_of, before, needs, after}
-use Rattle.capcore.proofs.Again.{denial-stop, stopped-policy}
+use Rattle.capsteps.specs.State.{State}
+use Rattle.capsteps.specs.Asks.{change_access}
+use Rattle.capsteps.specs.Judge.{stop, denial_of, before, needs, after}
+use Rattle.capsteps.proofs.Again.{denial-stop, stopped-policy}
 use Rattle.capcore.proofs.world.World.flush_stop.Goals as goal
 
 pub returns-in-Some-denial : goal.returns-in-Some-denial

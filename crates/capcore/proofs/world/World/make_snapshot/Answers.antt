@@ -6,8 +6,8 @@ use Rattle.capcore.proofs.Effects.{making-stopped, snapshot-refused}
 use Rattle.capcore.proofs.Untouched.{changed-sound, changed-known}
 use Rattle.capview.specs.Sight.{IsLike, Shows}
 use Rattle.capview.proofs.Likeness.{like-unseen, shows-tree}
-use Rattle.capcore.specs.State.{State}
-use Rattle.capcore.specs.Noted.{view_of}
+use Rattle.capsteps.specs.State.{State}
+use Rattle.capsteps.specs.Noted.{view_of}
 use Rattle.capnotes.specs.Noted.{view}
 use Rattle.capcore.proofs.world.World.make_snapshot.Goals as goal
 

@@ -1,8 +1,8 @@
 use Rattle.std.proofs.Common.{◌++◌, ◌∷◌, [], sym, ap, subst, ◌∙◌}
 use Rattle.capview.specs.declared.change.ViewChange.TheVariants as change
 use Rattle.capview.specs.Changes.{AreChanges}
-use Rattle.capcore.specs.State.{State}
-use Rattle.capcore.specs.Noted.{view_of}
+use Rattle.capsteps.specs.State.{State}
+use Rattle.capsteps.specs.Noted.{view_of}
 use Rattle.capnotes.proofs.Noting.{changes-one}
 use Rattle.capcore.proofs.world.World.open_session.Goals as goal
 

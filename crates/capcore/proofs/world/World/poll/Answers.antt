@@ -9,20 +9,20 @@ use Rattle.capevents.specs.declared.event.Event.TheVariants as event
 use Rattle.capevents.specs.declared.outcome.Ended.{Ended}
 use Rattle.capevents.specs.declared.outcome.Message.{Message}
 use Rattle.capevents.specs.declared.reply.Reply.TheVariants as reply
-use Rattle.capcore.specs.declared.said.Said.{Said}
-use Rattle.capcore.specs.declared.stopped.Stopped.TheVariants.{ByTest}
-use Rattle.capcore.specs.State.{State}
-use Rattle.capcore.specs.Answered.{IsAnswered}
-use Rattle.capcore.specs.Messages.{first_messages, with_given, after_messages}
+use Rattle.capsteps.specs.declared.said.Said.{Said}
+use Rattle.capsteps.specs.declared.stopped.Stopped.TheVariants.{ByTest}
+use Rattle.capsteps.specs.State.{State}
+use Rattle.capsteps.specs.Answered.{IsAnswered}
+use Rattle.capsteps.specs.Messages.{first_messages, with_given, after_messages}
 use Rattle.capnotes.specs.Untold.{AreEndsOf, is_left}
-use Rattle.capcore.specs.Sound.{IsSound}
-use Rattle.capcore.proofs.Again.{stopped-before}
+use Rattle.capsteps.specs.Sound.{IsSound}
+use Rattle.capsteps.proofs.Again.{stopped-before}
 use Rattle.capcore.proofs.Polled.{poll-answered, polled-new}
 use Rattle.capcore.proofs.Stops.{stopped-answered}
-use Rattle.capcore.proofs.Telling.{given-held}
-use Rattle.capcore.proofs.Knowing.{HoldAlike, known-alike, alike-where}
+use Rattle.capsteps.proofs.Telling.{given-held}
+use Rattle.capsteps.proofs.Knowing.{HoldAlike, known-alike, alike-where}
 use Rattle.capview.specs.Changes.{AreChanges}
-use Rattle.capcore.specs.Noted.{view_of}
+use Rattle.capsteps.specs.Noted.{view_of}
 use Rattle.capnotes.proofs.Noting.{changes-still}
 use Rattle.capcore.proofs.world.World.poll.Goals as goal
 use Rattle.capcore.proofs.world.World.poll.Goals.{After-drop-told}

@@ -1,11 +1,11 @@
 use Rattle.std.proofs.Common.{◌≡◌, [], sym, ap, ◌∙◌}
 use Rattle.std.specs.Option.{option_map}
 use Rattle.lockmachine.specs.declared.request.Ask.TheVariants.{Rename}
-use Rattle.capcore.specs.declared.stopped.Stopped.TheVariants.{ByTest}
-use Rattle.capcore.specs.State.{State}
-use Rattle.capcore.specs.Asks.{ask_needs}
-use Rattle.capcore.specs.Judge.{stop, asking_tests, waiting_tests}
-use Rattle.capcore.proofs.Again.{stopped-before, stopped-policy, stopped-after}
+use Rattle.capsteps.specs.declared.stopped.Stopped.TheVariants.{ByTest}
+use Rattle.capsteps.specs.State.{State}
+use Rattle.capsteps.specs.Asks.{ask_needs}
+use Rattle.capsteps.specs.Judge.{stop, asking_tests, waiting_tests}
+use Rattle.capsteps.proofs.Again.{stopped-before, stopped-policy, stopped-after}
 use Rattle.capcore.proofs.world.World.rename_stop.Goals as goal
 
 pub returns-in-Some : goal.returns-in-Some

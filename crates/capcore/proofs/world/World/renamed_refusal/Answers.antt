@@ -4,10 +4,10 @@ use Rattle.capbits.proofs.Tests.{failing-front}
 use Rattle.lockmachine.specs.declared.request.Ask.TheVariants.{Rename}
 use Rattle.lockmachine.specs.Locks.{queue_tests}
 use Rattle.lockmachine.specs.Scene.{Scene}
-use Rattle.capcore.specs.State.{State}
-use Rattle.capcore.specs.Asks.{ask_after}
-use Rattle.capcore.specs.Judge.{waiting_tests}
-use Rattle.capcore.proofs.Revoking.{passed-front}
+use Rattle.capsteps.specs.State.{State}
+use Rattle.capsteps.specs.Asks.{ask_after}
+use Rattle.capsteps.specs.Judge.{waiting_tests}
+use Rattle.capsteps.proofs.Revoking.{passed-front}
 use Rattle.capcore.proofs.world.World.renamed_refusal.Goals as goal
 
 pub returns-in-Some : goal.returns-in-Some

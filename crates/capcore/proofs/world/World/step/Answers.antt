@@ -4,11 +4,11 @@ use Rattle.captable.specs.declared.entry.Holder.{Holder}
 use Rattle.captable.specs.Table.{holder}
 use Rattle.lockmachine.specs.declared.request.Ask.{Ask}
 use Rattle.lockmachine.specs.declared.request.Ask.TheVariants as ask_kind
-use Rattle.capcore.specs.Answered.{IsAnswered}
-use Rattle.capcore.specs.Touching.{asks_for}
+use Rattle.capsteps.specs.Answered.{IsAnswered}
+use Rattle.capsteps.specs.Touching.{asks_for}
 use Rattle.capevents.specs.declared.event.Event.{Event}
-use Rattle.capcore.specs.declared.said.Said.{Said}
-use Rattle.capcore.specs.State.{State}
+use Rattle.capsteps.specs.declared.said.Said.{Said}
+use Rattle.capsteps.specs.State.{State}
 use Rattle.capcore.proofs.world.World.step.Goals as goal
 
 -- whichever event it was that asked, it is this one

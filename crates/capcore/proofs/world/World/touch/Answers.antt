@@ -8,26 +8,26 @@ use Rattle.captable.specs.Table.{Table, IsTable, holder, entry_at}
 use Rattle.lockmachine.specs.Scene.{Scene}
 use Rattle.capevents.specs.declared.event.Event.{Event}
 use Rattle.capevents.specs.declared.outcome.Ended.{Ended}
-use Rattle.capcore.specs.State.{State}
-use Rattle.capcore.specs.Answered.{IsAnswered}
+use Rattle.capsteps.specs.State.{State}
+use Rattle.capsteps.specs.Answered.{IsAnswered}
 use Rattle.capevents.specs.Replies.{has_list}
-use Rattle.capcore.specs.Direct.{Answer, direct, reply_of, shown}
-use Rattle.capcore.specs.Judge.{judged}
-use Rattle.capcore.specs.Known.{known_in, AreKnown, StillKept}
-use Rattle.capcore.specs.Touching.{Knows}
-use Rattle.capcore.specs.Serves.{EndsWith}
-use Rattle.capcore.specs.Sound.{IsSound, NumbersLeft}
-use Rattle.capcore.specs.Step.{earlier}
-use Rattle.capcore.specs.Touch.{touch_event, touch_tests, touch_answer}
+use Rattle.capsteps.specs.Direct.{Answer, direct, reply_of, shown}
+use Rattle.capsteps.specs.Judge.{judged}
+use Rattle.capsteps.specs.Known.{known_in, AreKnown, StillKept}
+use Rattle.capsteps.specs.Touching.{Knows}
+use Rattle.capsteps.specs.Serves.{EndsWith}
+use Rattle.capsteps.specs.Sound.{IsSound, NumbersLeft}
+use Rattle.capsteps.specs.Step.{earlier}
+use Rattle.capsteps.specs.Touch.{touch_event, touch_tests, touch_answer}
 use Rattle.capcore.proofs.Closing.{first-quiet, first-numbers, first-clients, told-all, closed-known, closed}
-use Rattle.capcore.proofs.Knowing.{held_at, HoldAlike, known-alike, still-room, still-knows, still-all}
+use Rattle.capsteps.proofs.Knowing.{held_at, HoldAlike, known-alike, still-room, still-knows, still-all}
 use Rattle.capcore.proofs.OfInode.{event-table}
 use Rattle.capcore.proofs.Stops.{stopped-answered}
-use Rattle.capcore.proofs.TouchKept.{touch-less, others-have_all}
+use Rattle.capsteps.proofs.TouchKept.{touch-less, others-have_all}
 use Rattle.capcore.proofs.TouchWhole.{passed-of, table-of, first-is, touch-answered, touched-by, touch-reply, no_list-touch, tell-alike}
-use Rattle.capcore.proofs.Touched.{touched-tests}
+use Rattle.capsteps.proofs.Touched.{touched-tests}
 use Rattle.capview.specs.Changes.{AreChanges}
-use Rattle.capcore.specs.Noted.{view_of}
+use Rattle.capsteps.specs.Noted.{view_of}
 use Rattle.capnotes.proofs.Noting.{changes-all, changes-still}
 use Rattle.capcore.proofs.world.World.touch.Goals as goal
 use Rattle.capcore.proofs.world.World.touch.Goals.{In_ok-touch_entry, After-close}

@@ -8,19 +8,19 @@ use Rattle.lockmachine.specs.Moves.{IsQuietOutside}
 use Rattle.lockmachine.specs.Scene.{Scene}
 use Rattle.capevents.specs.declared.event.Event.{Event}
 use Rattle.capevents.specs.declared.outcome.Ended.{Ended}
-use Rattle.capcore.specs.declared.stopped.Stopped.TheVariants.{ByTest}
-use Rattle.capcore.specs.State.{State}
-use Rattle.capcore.specs.Answered.{IsAnswered}
-use Rattle.capcore.specs.Judge.{judged}
-use Rattle.capcore.specs.Known.{AreKnown, StillKept}
-use Rattle.capcore.specs.Serves.{EndsWith, is_touched}
-use Rattle.capcore.specs.Sound.{IsSound, NumbersLeft}
-use Rattle.capcore.specs.Turn.{turn_event, turned, is_end, dropped_by}
+use Rattle.capsteps.specs.declared.stopped.Stopped.TheVariants.{ByTest}
+use Rattle.capsteps.specs.State.{State}
+use Rattle.capsteps.specs.Answered.{IsAnswered}
+use Rattle.capsteps.specs.Judge.{judged}
+use Rattle.capsteps.specs.Known.{AreKnown, StillKept}
+use Rattle.capsteps.specs.Serves.{EndsWith, is_touched}
+use Rattle.capsteps.specs.Sound.{IsSound, NumbersLeft}
+use Rattle.capsteps.specs.Turn.{turn_event, turned, is_end, dropped_by}
 use Rattle.capcore.proofs.Stops.{stopped-answered}
 use Rattle.capcore.proofs.TurnStep.{turn-stop, few-waiting, few-messages, turn-quiet, turn-clients, turn-numbers, turn-alike, turn-known, turn-closed}
-use Rattle.capcore.proofs.Knowing.{HoldAlike, still-there, still-room}
+use Rattle.capsteps.proofs.Knowing.{HoldAlike, still-there, still-room}
 use Rattle.capview.specs.Changes.{AreChanges}
-use Rattle.capcore.specs.Noted.{view_of}
+use Rattle.capsteps.specs.Noted.{view_of}
 use Rattle.capnotes.specs.Noted.{view}
 use Rattle.capnotes.proofs.Noting.{changes-still}
 use Rattle.capcore.proofs.world.World.turn.Goals as goal

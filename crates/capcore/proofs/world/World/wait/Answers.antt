@@ -6,16 +6,16 @@ use Rattle.lockmachine.specs.Locks.{LockMap, next_request}
 use Rattle.lockmachine.specs.Scene.{Scene}
 use Rattle.capevents.specs.declared.event.Event.{Event}
 use Rattle.capevents.specs.declared.outcome.Ended.{Ended}
-use Rattle.capcore.specs.State.{State}
-use Rattle.capcore.specs.Answered.{IsAnswered}
-use Rattle.capcore.specs.Asks.{ask_needs}
-use Rattle.capcore.specs.Judge.{stop, asking_tests, waiting_tests}
-use Rattle.capcore.specs.Touching.{asks_for}
+use Rattle.capsteps.specs.State.{State}
+use Rattle.capsteps.specs.Answered.{IsAnswered}
+use Rattle.capsteps.specs.Asks.{ask_needs}
+use Rattle.capsteps.specs.Judge.{stop, asking_tests, waiting_tests}
+use Rattle.capsteps.specs.Touching.{asks_for}
 use Rattle.capnotes.specs.Untold.{but_for}
 use Rattle.capcore.proofs.Asked.{asking-room}
 use Rattle.capcore.proofs.Waits.{some-asking, room-left, few-others, wait-quiet, wait-differ, wait-known, wait-answered}
 use Rattle.capview.specs.Changes.{AreChanges}
-use Rattle.capcore.specs.Noted.{view_of}
+use Rattle.capsteps.specs.Noted.{view_of}
 use Rattle.capnotes.proofs.Noting.{changes-all}
 use Rattle.capcore.proofs.world.World.wait.Goals as goal
 use Rattle.capcore.proofs.world.World.wait.Goals.{After-oldest-oldest, After-close_with}

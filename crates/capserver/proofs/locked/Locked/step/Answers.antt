@@ -4,8 +4,8 @@ use mathlib.Core.List.{IsPrefix}
 use Rattle.capview.specs.declared.change.ViewChange.{ViewChange}
 use Rattle.capview.specs.Changes.{AreChanges}
 use Rattle.capbits.specs.declared.ids.PassId.{PassId}
-use Rattle.capcore.specs.History.{Told}
-use Rattle.capcore.specs.Noted.{view_of}
+use Rattle.capsteps.specs.History.{Told}
+use Rattle.capsteps.specs.Noted.{view_of}
 use Rattle.capcore.specs.Promised.{IsPromised}
 use Rattle.published.specs.Publishing.{Publishing}
 use Rattle.capserver.specs.Held.{IsHeld}

@@ -1,7 +1,0 @@
--- What readers see of a state.
-use Rattle.capview.specs.declared.view.View.{View}
-use Rattle.capnotes.specs.Noted.{view}
-use Rattle.capcore.specs.State.{State}
-
-abbrev pub view_of : State → View
-view_of s = view s.scene.tree s.scene.sessions.sessions

@@ -1,0 +1,315 @@
+-- The step of an event ends at the inodes that it touched.
+use Rattle.std.proofs.Common.{◌≡◌, ℕ, suc, ◌+◌, ◌==◌, Bool, true, false, cond, not, ◌||◌, Option, Some, None, List, [], ◌∷◌, map, refl, sym, ap, subst, ◌∙◌, Contains, arith}
+use Rattle.std.specs.List.{find, list_any}
+use Rattle.std.specs.Option.{option_map, option_map_or}
+use Rattle.std.specs.Ordering.{nat_cmp}
+use Rattle.std.specs.FinMap as finite
+use Rattle.std.specs.HashMap.{HashMap, get}
+use Rattle.std.proofs.lemmas.List.Elements.{All-contains}
+use Rattle.capbits.specs.declared.cap.Cap.{Cap}
+use Rattle.capbits.specs.declared.cap.Cap.TheVariants.{P}
+use Rattle.capbits.specs.declared.cap.Part.{Part}
+use Rattle.capbits.specs.declared.cap.Part.TheVariants.{A, L, X, F}
+use Rattle.capbits.specs.Caps.{Caps, has}
+use Rattle.capbits.specs.Sets.{caps_in, union, minus, meet, is_empty, IsSubset, has-union}
+use Rattle.inotree.specs.Tree.{IsTree, place}
+use Rattle.inotree.specs.Tests.{is_gone}
+use Rattle.captable.specs.declared.entry.Entry.{Entry}
+use Rattle.captable.specs.declared.entry.EntryRow.{EntryRow}
+use Rattle.captable.specs.declared.entry.Holder.{Holder}
+use Rattle.captable.specs.Table.{Table, IsTable, same, is_row_of, entry_of, entry_at}
+use Rattle.captable.specs.Calls.{is_of_inode, renumbered}
+use Rattle.captable.specs.Many.{remade}
+use Rattle.captable.proofs.ByHolder.{row_found}
+use Rattle.captable.proofs.Searches.{find-map, find_passes}
+use Rattle.captable.proofs.Tables.{same-is}
+use Rattle.lockmachine.specs.Locks.{lock_at}
+use Rattle.lockmachine.specs.Wants.{effective_want}
+use Rattle.lockmachine.specs.Policy.{permitted}
+use Rattle.lockmachine.specs.Scene.{Scene, told_set}
+use Rattle.lockmachine.specs.Inodes.{lock_in}
+use Rattle.lockmachine.proofs.PolicyElsewhere.{permitted-kept, want-kept}
+use Rattle.lockmachine.proofs.Told.{told-same}
+use Rattle.capsteps.specs.State.{State}
+use Rattle.capsteps.specs.Finish.{allowed_by, due, issue_row, issue, is_kept, forget, told_before, number_row, finished}
+use Rattle.capsteps.specs.Headline.{holds, IssuesExactly}
+use Rattle.capsteps.specs.Sound.{IsSound, IsSoundEntry}
+use Rattle.capsteps.specs.Settle.{Made}
+use Rattle.capsteps.specs.Touching.{Touches, SettlesAt, Knows, stays, told_then, finished_entry, finished_at}
+use Rattle.capsteps.specs.Known.{AreKnown, kept_anew, KeptAnew}
+use Rattle.capsteps.proofs.Finishing.{same-issue_row, same-renumbered, or_inside, kept_by}
+use Rattle.capsteps.proofs.Forgotten.{due-left}
+use Rattle.capsteps.proofs.Leaving.{found-contains}
+use Rattle.capsteps.proofs.Moved.{moved-all}
+use Rattle.capsteps.proofs.SameOff.{row_elsewhere, any_elsewhere, IsSameFrom, from-first}
+use Rattle.capsteps.proofs.Strays.{retained-here, kept-held, goes, alike-retained}
+
+-- ---- lists of rows
+
+pub any-map : (p : EntryRow → Bool) (g : EntryRow → EntryRow) → ((row : EntryRow) → p (g row) ≡ p row) → (rows : List EntryRow) → list_any p (map g rows) ≡ list_any p rows
+any-map p g same [] = refl
+any-map p g same (x ∷ xs) = λ i. same x i || any-map p g same xs i
+
+-- two changes of each row are one
+pub two_changes : (f g h : EntryRow → EntryRow) (rows : List EntryRow) → ((row : EntryRow) → Contains rows row → f (g row) ≡ h row) → map f (map g rows) ≡ map h rows
+two_changes f g h [] each = refl
+two_changes f g h (row ∷ rows) each =
+    λ i. each row (0, omega arith, refl) i ∷ two_changes f g h rows (λ x inside. each x (suc inside.0, omega (arith, inside.1), inside.2)) i
+
+-- ---- an entry at the end
+
+-- a new number changes no other field
+pub field-renumbered : {V : Type 0} (field : Entry → V) → ((e : Entry) (seq revoked : ℕ) → field (record e { seq = seq; revoke_seq = revoked }) ≡ field e)
+    → (before after : Caps) (e : Entry) → field (renumbered before after e) ≡ field e
+field-renumbered field same before after e =
+    elim (not (is_empty (minus before after))) as (λ lost. field (cond lost (record e { seq = e.seq + 1; revoke_seq = e.seq + 1 }) (cond (not (is_empty (minus after before))) (record e { seq = e.seq + 1 }) e)) ≡ field e) [
+      | true ↦ same e (e.seq + 1) (e.seq + 1)
+      | false ↦ elim (not (is_empty (minus after before))) as (λ more. field (cond more (record e { seq = e.seq + 1 }) e) ≡ field e) [ true ↦ same e (e.seq + 1) e.revoke_seq | false ↦ refl ]
+    ]
+
+pub held-renumbered : (before after : Caps) (e : Entry) → (renumbered before after e).held ≡ e.held
+held-renumbered = field-renumbered (λ e. e.held) (λ e seq revoked. refl)
+
+pub want-renumbered : (before after : Caps) (e : Entry) → (renumbered before after e).want ≡ e.want
+want-renumbered = field-renumbered (λ e. e.want) (λ e seq revoked. refl)
+
+-- what is due depends on what is wanted alone
+due-want : (s : Scene) (row : EntryRow) (e : Entry) → e.want ≡ row.entry.want → due s (record row { entry = e }) ≡ due s row
+due-want s row e want = ap (λ (w : Caps). due s (record row { entry = record row.entry { want = w } })) want
+
+-- ---- the end of the step
+
+-- of a scene that is the old one off the inodes that the step touched
+module _ (at : ℕ → Bool) (known : Holder → Caps) (old : State) (now : Scene) (sound : IsSound old) (is_table : IsTable now.table) (same_from : IsSameFrom at old.scene now)
+    (tree : IsTree now.tree) (knows : Knows known old.scene now.table) where
+  abbrev last : Scene
+  last = forget (issue now)
+
+  -- a row as it is at the end, and all of them
+  abbrev pub ended : EntryRow → EntryRow
+  ended row = cond (at row.holder.ino.0) (remade (finished_entry known now) row) row
+
+  abbrev pub numbered : Scene
+  numbered = record now { table = record now.table { rows = map ended now.table.rows } }
+
+  -- ---- elsewhere nothing happens
+
+  elsewhere : (other : ℕ) (part : Part) → at other ≡ false → lock_at now.locks other part ≡ lock_at old.scene.locks other part
+  elsewhere = same_from.locks
+
+  off_want : (row : EntryRow) → Contains now.table.rows row → at row.holder.ino.0 ≡ false → effective_want now.fs now.tree now.sessions row ≡ effective_want old.scene.fs old.scene.tree old.scene.sessions row
+  off_want row inside off =
+      ap (λ fs. effective_want fs now.tree now.sessions row) same_from.fs
+      ∙ want-kept old.scene.fs old.scene.tree now.tree old.scene.sessions now.sessions row (same_from.alike row inside off) (same_from.sessions row inside off)
+
+  pub off_due : (row : EntryRow) → Contains now.table.rows row → at row.holder.ino.0 ≡ false → due now row ≡ due old.scene row
+  off_due row inside off = λ i.
+      meet (off_want row inside off i)
+      (union (caps_in (P ∷ []))
+      (union (allowed_by A row (elsewhere row.holder.ino.0 A off i))
+      (union (allowed_by L row (elsewhere row.holder.ino.0 L off i))
+      (union (allowed_by X row (elsewhere row.holder.ino.0 X off i)) (allowed_by F row (elsewhere row.holder.ino.0 F off i))))))
+
+  off_may : (row : EntryRow) → Contains now.table.rows row → at row.holder.ino.0 ≡ false → permitted now.fs now.tree now.sessions row.holder ≡ permitted old.scene.fs old.scene.tree old.scene.sessions row.holder
+  off_may row inside off =
+      ap (λ fs. permitted fs now.tree now.sessions row.holder) same_from.fs
+      ∙ permitted-kept old.scene.fs old.scene.tree now.tree old.scene.sessions now.sessions row.holder (same_from.alike row inside off) (same_from.sessions row inside off)
+
+  pub off_told : (row : EntryRow) → Contains now.table.rows row → at row.holder.ino.0 ≡ false → told_set now row ≡ told_set old.scene row
+  off_told row inside off = told-same now old.scene row (λ part. elsewhere row.holder.ino.0 part off) (off_may row inside off)
+
+  pub off_held : (row : EntryRow) → Contains now.table.rows row → at row.holder.ino.0 ≡ false → IsSubset (due now row) row.entry.held
+  off_held row inside off =
+      let was = All-contains (IsSoundEntry old.scene) old.scene.table.rows row sound.entries (row_elsewhere at old.scene.table now.table same_from.entries row inside off) in
+      subst (λ caps. IsSubset caps row.entry.held) (sym (off_due row inside off)) was.has_due
+
+  -- ---- which inodes are kept
+
+  kept_elsewhere : (q : ℕ) → at q ≡ false → is_kept (issue now) q ≡ true
+  kept_elsewhere q off = kept_by (place now.tree.nodes q) _ (λ gone.
+      any-map (is_of_inode (record { 0 = q })) (issue_row now) (λ row. refl) now.table.rows
+      ∙ any_elsewhere at old.scene.table now.table same_from.entries q off ∙ sound.strays q (sym (same_from.places q off) ∙ gone))
+
+  pub holder_ended : (row : EntryRow) → (ended row).holder ≡ row.holder
+  holder_ended row =
+      elim (at row.holder.ino.0) as (λ b. (cond b (remade (finished_entry known now) row) row).holder ≡ row.holder) [ true ↦ refl | false ↦ refl ]
+
+  any_ended : (q : ℕ) → list_any (is_of_inode (record { 0 = q })) (map ended now.table.rows) ≡ list_any (is_of_inode (record { 0 = q })) now.table.rows
+  any_ended q = any-map (is_of_inode (record { 0 = q })) ended (λ row. ap (λ (h : Holder). h.ino.0 == q) (holder_ended row)) now.table.rows
+
+  any_issued : (q : ℕ) → list_any (is_of_inode (record { 0 = q })) (map (issue_row now) now.table.rows) ≡ list_any (is_of_inode (record { 0 = q })) now.table.rows
+  any_issued q = any-map (is_of_inode (record { 0 = q })) (issue_row now) (λ row. refl) now.table.rows
+
+  -- once they are issued as once they are numbered, the same inodes are kept
+  kept_issued : (q : ℕ) → is_kept (issue now) q ≡ is_kept now q
+  kept_issued q = ap (λ b. not (is_gone (place now.tree.nodes q)) || b) (any_issued q)
+
+  kept_numbered : (q : ℕ) → is_kept numbered q ≡ is_kept now q
+  kept_numbered q = ap (λ b. not (is_gone (place now.tree.nodes q)) || b) (any_ended q)
+
+  -- and all others are
+  stays_so : (q : ℕ) → is_kept (issue now) q ≡ stays at numbered q
+  stays_so q = elim (at q) as (λ b. at q ≡ b → is_kept (issue now) q ≡ (not b || is_kept numbered q)) [
+    | true ↦ λ is. kept_issued q ∙ sym (kept_numbered q)
+    | false ↦ λ off. kept_elsewhere q off
+  ] refl
+
+  kept_map : {V : Type 0} (m : finite.FinMap nat_cmp V) → finite.retain_keys m (is_kept (issue now)) ≡ finite.retain_keys m (stays at numbered)
+  kept_map m = λ i. finite.retain_keys m (λ q. stays_so q i)
+
+  kept_row : (row : EntryRow) → Contains now.table.rows row → is_kept (issue now) row.holder.ino.0 ≡ true
+  kept_row row inside = kept_issued row.holder.ino.0 ∙ kept-held now row inside
+
+  -- ---- the rows
+
+  -- an inode that somebody has an entry on keeps its locks
+  locks_kept : (row : EntryRow) → Contains now.table.rows row → finite.get last.locks.states row.holder.ino.0 ≡ finite.get now.locks.states row.holder.ino.0
+  locks_kept row inside =
+      retained-here now.locks.states (is_kept (issue now)) row.holder.ino.0 (kept_row row inside)
+
+  -- and what is permitted there, as what is forgotten is another inode
+  may_last : (row : EntryRow) → Contains now.table.rows row → permitted last.fs last.tree last.sessions row.holder ≡ permitted now.fs now.tree now.sessions row.holder
+  may_last row inside =
+      permitted-kept now.fs now.tree last.tree now.sessions now.sessions row.holder
+      (alike-retained now.tree (is_kept (issue now)) tree (λ q gone. (goes (λ _. true) (issue now) q gone).1) row.holder.ino.0 (kept_row row inside)) refl
+
+  told_last : (row : EntryRow) → Contains now.table.rows row → (e : Entry) → told_set last (record row { entry = e }) ≡ told_set now (record row { entry = e })
+  told_last row inside e = told-same last now (record row { entry = e }) (λ part. ap (option_map (lock_in part)) (locks_kept row inside)) (may_last row inside)
+
+  numbered_row : (row : EntryRow) → Contains now.table.rows row → number_row old.scene now last (issue_row now row) ≡ remade (finished_entry known now) row
+  numbered_row row inside =
+      let before : told_before old.scene (find (is_row_of row.holder) now.table.rows) ≡ meet (known row.holder) row.entry.held =
+      ap (told_before old.scene) (row_found now.table row is_table inside) ∙ sym (knows row inside) in
+      λ i. record row { entry = renumbered (before i) (told_last row inside (issue_row now row).entry i) (issue_row now row).entry }
+
+  -- elsewhere none has another number
+  off_numbered : (row : EntryRow) → Contains now.table.rows row → at row.holder.ino.0 ≡ false → number_row old.scene now last (issue_row now row) ≡ row
+  off_numbered row inside off =
+      let before : told_before old.scene (find (is_row_of row.holder) now.table.rows) ≡ told_set old.scene row = ap (told_before old.scene) (row_found now.table row is_table inside) in
+      let after : told_set last row ≡ told_set old.scene row = told_last row inside row.entry ∙ off_told row inside off in
+      ap (λ (r : EntryRow). record row { entry = renumbered (told_before old.scene (find (is_row_of row.holder) now.table.rows)) (told_set last r) r.entry }) (same-issue_row now row (off_held row inside off))
+      ∙ ap (λ (e : Entry). record row { entry = e }) (same-renumbered _ _ row.entry (before ∙ sym after))
+
+  one_row : (row : EntryRow) → Contains now.table.rows row → number_row old.scene now last (issue_row now row) ≡ ended row
+  one_row row inside = elim (at row.holder.ino.0) as (λ b. at row.holder.ino.0 ≡ b
+      → number_row old.scene now last (issue_row now row) ≡ cond b (remade (finished_entry known now) row) row) [
+        | true ↦ λ e. numbered_row row inside
+        | false ↦ λ e. off_numbered row inside e
+      ] refl
+
+  -- ---- all together
+
+  pub ends_there : finished old.scene now now ≡ finished_at at known now
+  ends_there = λ i. record now {
+    tree = record now.tree { nodes = kept_map now.tree.nodes i };
+    table = record now.table { rows = two_changes (number_row old.scene now last) (issue_row now) ended now.table.rows one_row i };
+    locks = record now.locks { states = kept_map now.locks.states i };
+  }
+
+  -- ---- what is known of each entry
+
+  -- what is forgotten has no entry, so each client is told as before
+  told_finished : (row : EntryRow) → Contains now.table.rows row → (e : Entry) → told_set (finished_at at known now) (record row { entry = e }) ≡ told_set now (record row { entry = e })
+  told_finished row inside e =
+      sym (λ i. told_set (record now { tree = record now.tree { nodes = kept_map now.tree.nodes i }; locks = record now.locks { states = kept_map now.locks.states i } }) (record row { entry = e }))
+      ∙ told_last row inside e
+
+  module _ {S : Type 0} (was sets : HashMap Holder Caps S) (off_known : (row : EntryRow) → Contains now.table.rows row → at row.holder.ino.0 ≡ false → get same was row.holder ≡ Some (told_set old.scene row))
+      (kept : KeptAnew (λ k. at k.ino.0) (told_then now) now.table was sets) where
+    by_place : (row : EntryRow) → Contains now.table.rows row → (b : Bool) → at row.holder.ino.0 ≡ b
+        → kept_anew b (told_then now) (Some row) (get same was row.holder) ≡ Some (told_set (finished_at at known now) (record row { entry = (cond b (remade (finished_entry known now) row) row).entry }))
+    by_place row inside true on =
+        let e : Entry = finished_entry known now row in
+        let held : (issue_row now row).entry.held ≡ e.held = sym (held-renumbered (meet (known row.holder) row.entry.held) (told_then now row) (issue_row now row).entry) in
+        ap (λ (caps : Caps). Some (told_set now (record row { entry = record (issue_row now row).entry { held = caps } }))) held ∙ ap Some (sym (told_finished row inside e))
+    by_place row inside false off = off_known row inside off ∙ ap Some (sym (off_told row inside off)) ∙ ap Some (sym (told_finished row inside row.entry))
+
+    pub known-there : AreKnown sets (finished_at at known now)
+    known-there k e there = by_found (find (is_row_of k) now.table.rows) refl
+      where
+        found : find (is_row_of k) (finished_at at known now).table.rows ≡ option_map ended (find (is_row_of k) now.table.rows)
+        found = find-map (is_row_of k) ended (λ row. ap (same k) (holder_ended row)) now.table.rows
+
+        by_found : (o : Option EntryRow) → find (is_row_of k) now.table.rows ≡ o → get same sets k ≡ Some (told_set (finished_at at known now) (record { holder = k; entry = e }))
+        by_found None none = let gone : entry_at (finished_at at known now).table k ≡ None = ap entry_of (found ∙ ap (option_map ended) none) in absurd (cc)
+        by_found (Some row) is =
+            let inside : Contains now.table.rows row = found-contains (is_row_of k) now.table.rows row is in
+            let mine : k ≡ row.holder = same-is k row.holder (find_passes (is_row_of k) now.table.rows row is) in
+            let then : entry_at (finished_at at known now).table k ≡ Some (ended row).entry = ap entry_of (found ∙ ap (option_map ended) is) in
+            let e_is : e ≡ (ended row).entry = cc in
+            kept k ∙ (λ i. kept_anew (at (mine i).ino.0) (told_then now) (is i) (get same was (mine i))) ∙ by_place row inside (at row.holder.ino.0) refl
+            ∙ (λ i. Some (told_set (finished_at at known now) (record { holder = sym mine i; entry = sym e_is i })))
+
+  -- ---- what is newly held
+
+  module _ where
+    -- what is forgotten has no entry, and none elsewhere reads it
+    pub due_last : (row : EntryRow) → Contains now.table.rows row → due (finished_at at known now) row ≡ due now row
+    due_last row inside = due-left at numbered tree row (kept_numbered row.holder.ino.0 ∙ kept-held now row inside)
+
+    pub held_last : (row : EntryRow) (cap : Cap) → Contains now.table.rows row → has (ended row).entry.held cap ≡ (has row.entry.held cap || has (due (finished_at at known now) (ended row)) cap)
+    held_last row cap inside = elim (at row.holder.ino.0) as (λ b. at row.holder.ino.0 ≡ b
+        → has (cond b (remade (finished_entry known now) row) row).entry.held cap
+        ≡ (has row.entry.held cap || has (due (finished_at at known now) (cond b (remade (finished_entry known now) row) row)) cap)) [
+          | true ↦ λ e. (let before = meet (known row.holder) row.entry.held in
+              let after = told_set now (issue_row now row) in
+              let same_due = due-want (finished_at at known now) row (finished_entry known now row) (want-renumbered before after (issue_row now row).entry) ∙ due_last row inside in
+              ap (λ caps. has caps cap) (held-renumbered before after (issue_row now row).entry) ∙ has-union row.entry.held (due now row) cap
+              ∙ sym (ap (λ caps. has row.entry.held cap || has caps cap) same_due))
+          | false ↦ λ e. sym (or_inside (has row.entry.held cap) (has (due (finished_at at known now) row) cap)
+              (λ d. off_held row inside e cap (ap (λ caps. has caps cap) (sym (due_last row inside)) ∙ d)))
+        ] refl
+
+    -- what is held, and what is due, by the row that was found
+    abbrev held_of : Cap → Option EntryRow → Bool
+    held_of cap o = option_map_or (λ row. has row.entry.held cap) o false
+
+    abbrev due_of : Cap → Option EntryRow → Bool
+    due_of cap o = option_map_or (λ row. has (due (finished_at at known now) row) cap) o false
+
+    by_row : (cap : Cap) (k : Holder) (o : Option EntryRow) → find (is_row_of k) now.table.rows ≡ o → held_of cap (option_map ended o) ≡ (held_of cap o || due_of cap (option_map ended o))
+    by_row cap k None e = refl
+    by_row cap k (Some row) e = held_last row cap (found-contains (is_row_of k) now.table.rows row e)
+
+    pub found_last : (k : Holder) → find (is_row_of k) (finished_at at known now).table.rows ≡ option_map ended (find (is_row_of k) now.table.rows)
+    found_last k = find-map (is_row_of k) ended (λ row. ap (same k) (holder_ended row)) now.table.rows
+
+    pub issues_there : IssuesExactly now (finished_at at known now)
+    issues_there k cap =
+        ap (held_of cap) (found_last k) ∙ by_row cap k (find (is_row_of k) now.table.rows) refl
+        ∙ sym (ap (λ o. holds now k cap || due_of cap o) (found_last k))
+
+-- ---- of an event
+
+module _ (at from : ℕ → Bool) (known : Holder → Caps) (old touched : State) (moves : List Made) (settled : Scene) (sound : IsSound old) (tree : IsTree settled.tree) (table : IsTable touched.scene.table)
+    (touches : Touches from old touched) (knows : Knows known old.scene touched.scene.table) (settles : SettlesAt at from moves touched.scene settled) where
+  -- moves leave the entries
+  pub same-table : settled.table ≡ touched.scene.table
+  same-table = let made = settles.settles in (moved-all touched.scene moves settled made.made).table
+
+  pub settled-table : IsTable settled.table
+  settled-table = subst IsTable (sym same-table) table
+
+  off-these : IsSameFrom at old.scene settled
+  off-these = from-first at from old.scene touched.scene settled settles.among touches.same settles.same
+
+  knows_settled : Knows known old.scene settled.table
+  knows_settled = subst (λ (t : Table). Knows known old.scene t) (sym same-table) knows
+
+  pub touched-ends : finished old.scene touched.scene settled ≡ finished_at at known settled
+  touched-ends =
+      ap (λ (t : Table). finished old.scene (record settled { table = t }) settled) (sym same-table)
+      ∙ ends_there at known old settled sound settled-table off-these tree knows_settled
+
+  -- of each entry elsewhere what was known is known; and of each on these inodes what its client is to know
+  pub touched-known : {S : Type 0} (was sets : HashMap Holder Caps S)
+      → ((row : EntryRow) → Contains touched.scene.table.rows row → at row.holder.ino.0 ≡ false → get same was row.holder ≡ Some (told_set old.scene row))
+      → KeptAnew (λ k. at k.ino.0) (told_then settled) settled.table was sets → AreKnown sets (finished_at at known settled)
+  touched-known was sets off_known kept =
+      known-there at known old settled sound settled-table off-these tree knows_settled was sets
+      (λ row inside. off_known row (subst (λ (t : Table). Contains t.rows row) same-table inside)) kept
+
+  pub touched-issues : IssuesExactly touched.scene (finished_at at known settled)
+  touched-issues =
+      subst (λ (t : Table). IssuesExactly (record settled { table = t }) (finished_at at known settled)) same-table
+      (issues_there at known old settled sound settled-table off-these tree knows_settled)

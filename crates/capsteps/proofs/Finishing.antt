@@ -1,0 +1,120 @@
+-- In a sound state the end of a step changes nothing.
+use Rattle.std.proofs.Common.{◌≡◌, ℕ, suc, Bool, true, false, cond, not, ◌&&◌, ◌||◌, Some, None, List, [], ◌∷◌, refl, sym, ap, ◌∙◌, Contains, arith}
+use Rattle.std.specs.Prelude.{IsTrue, map}
+use Rattle.std.specs.List.{find}
+use Rattle.std.specs.Cmp.{nat_cmp_total}
+use Rattle.std.specs.Ordering.{nat_cmp}
+use Rattle.std.specs.FinMap as finite
+use Rattle.std.proofs.lemmas.List.Elements.{All-contains}
+use Rattle.capbits.specs.Caps.{Caps, has}
+use Rattle.capbits.specs.Sets.{no_caps, union, minus, same_caps, IsSubset, has-union, has-minus, has-none, is_empty}
+use Rattle.capbits.proofs.Emptiness.{is_empty-no_caps}
+use Rattle.inotree.specs.declared.node.Place.{Place}
+use Rattle.inotree.specs.declared.node.Place.TheVariants.{NoIno, Gone, Here}
+use Rattle.inotree.specs.Tree.{place}
+use Rattle.inotree.specs.Tests.{is_gone}
+use Rattle.captable.specs.declared.entry.Entry.{Entry}
+use Rattle.captable.specs.declared.entry.EntryRow.{EntryRow}
+use Rattle.captable.specs.Table.{IsTable, is_row_of}
+use Rattle.captable.specs.Calls.{renumbered}
+use Rattle.captable.proofs.ByHolder.{row_found}
+use Rattle.lockmachine.specs.Scene.{Scene, told_set}
+use Rattle.lockmachine.proofs.Exact.{settled}
+use Rattle.capsteps.specs.State.{State}
+use Rattle.capsteps.specs.Settle.{Settles}
+use Rattle.capsteps.specs.Finish.{sizes_owed, due, issue_row, issue, is_kept, forget, told_before, number_row, number, finished}
+use Rattle.capsteps.specs.Sound.{IsSound, IsSoundEntry}
+
+-- ---- lists of rows that stay
+
+-- a change that leaves each row leaves all
+same_rows : (f : EntryRow → EntryRow) (rows : List EntryRow) → ((row : EntryRow) → Contains rows row → f row ≡ row) → map f rows ≡ rows
+same_rows f [] each = refl
+same_rows f (row ∷ rows) each = λ i. each row (0, omega arith, refl) i ∷ same_rows f rows (λ x inside. each x (suc inside.0, omega (arith, inside.1), inside.2)) i
+
+with_rows : Scene → List EntryRow → Scene
+with_rows s rows = record s { table = record s.table { rows = rows } }
+
+-- where no size was changed, none is to be told
+pub none-sized : (s : Scene) → sizes_owed [] s ≡ s
+unfolding with_rows
+none-sized s = ap (with_rows s) (same_rows (λ row. row) s.table.rows (λ row inside. refl))
+
+-- ---- issue
+
+pub or_inside : (h d : Bool) → (IsTrue d → IsTrue h) → (h || d) ≡ h
+or_inside true d e = refl
+or_inside false false e = refl
+or_inside false true e = sym (e refl)
+
+-- who has all that is due gains nothing
+pub same-issue_row : (s : Scene) (row : EntryRow) → IsSubset (due s row) row.entry.held → issue_row s row ≡ row
+same-issue_row s row all =
+    let held : union row.entry.held (due s row) ≡ row.entry.held = same_caps _ _ (λ c. has-union row.entry.held (due s row) c ∙ or_inside (has row.entry.held c) (has (due s row) c) (all c)) in
+    λ i. record row { entry = record row.entry { held = held i } }
+
+-- ---- numbers
+
+and_not : (b : Bool) → (b && not b) ≡ false
+and_not true = refl
+and_not false = refl
+
+none_lost : (a : Caps) → is_empty (minus a a) ≡ true
+none_lost a = (is_empty-no_caps (minus a a)).1 (same_caps (minus a a) no_caps (λ c. has-minus a a c ∙ and_not (has a c) ∙ sym (has-none c)))
+
+-- where nothing changed, no number rises
+pub same-renumbered : (before after : Caps) (e : Entry) → before ≡ after → renumbered before after e ≡ e
+same-renumbered before after e is = ap (λ a. renumbered before a e) (sym is) ∙ rw (none_lost before) refl
+
+same-number_row : (old s : Scene) (row : EntryRow) → find (is_row_of row.holder) s.table.rows ≡ Some row → told_set old row ≡ told_set s row → number_row old s s row ≡ row
+same-number_row old s row found told = ap (λ (e : Entry). record row { entry = e }) (same-renumbered _ _ row.entry (ap (told_before old) found ∙ told))
+
+-- ---- strays
+
+pub kept_by : (p : Place) (rest : Bool) → (p ≡ Gone → rest ≡ true) → (not (is_gone p) || rest) ≡ true
+kept_by NoIno rest held = refl
+kept_by Here rest held = refl
+kept_by Gone rest held = held refl
+
+pub same_kept : {X : Type 0} (m : finite.FinMap nat_cmp X) (p : ℕ → Bool) → ((q : ℕ) → p q ≡ true) → finite.retain_keys m p ≡ m
+same_kept m p all = finite.same_map nat_cmp_total finite.nat_cmp-IsAntisymmetric _ _ (λ q.
+    finite.get-retain_keys m p q (λ x e. all x ∙ sym (all q)) ∙ ap (λ b. cond b (finite.get m q) None) (all q))
+
+-- ---- the end of a step
+
+module _ (s : State) (sound : IsSound s) (table : IsTable s.scene.table) where
+  same-issue : issue s.scene ≡ s.scene
+  unfolding with_rows
+  same-issue = ap (with_rows s.scene) (same_rows (issue_row s.scene) s.scene.table.rows (λ row inside. same-issue_row s.scene row (has_due row inside)))
+    where
+      has_due : (row : EntryRow) → Contains s.scene.table.rows row → IsSubset (due s.scene row) row.entry.held
+      has_due row inside = let entry = All-contains (IsSoundEntry s.scene) s.scene.table.rows row sound.entries inside in entry.has_due
+
+  same-forget : forget s.scene ≡ s.scene
+  same-forget = λ i. record s.scene {
+    tree = record s.scene.tree { nodes = same_kept s.scene.tree.nodes (is_kept s.scene) kept i };
+    locks = record s.scene.locks { states = same_kept s.scene.locks.states (is_kept s.scene) kept i };
+  }
+    where
+      kept : (ino : ℕ) → is_kept s.scene ino ≡ true
+      kept ino = kept_by (place s.scene.tree.nodes ino) _ (sound.strays ino)
+
+  -- where the clients are to know what they were to know on an older scene
+  module _ (old : Scene) (told : (row : EntryRow) → Contains s.scene.table.rows row → told_set old row ≡ told_set s.scene row) where
+    same-number : number old s.scene s.scene ≡ s.scene
+    unfolding with_rows
+    same-number = ap (with_rows s.scene) (same_rows (number_row old s.scene s.scene) s.scene.table.rows (λ row inside. same-number_row old s.scene row (row_found s.scene.table row table inside) (told row inside)))
+
+    pub same-finished : finished old s.scene s.scene ≡ s.scene
+    same-finished = ap (λ t. number old s.scene (forget t)) same-issue ∙ ap (number old s.scene) same-forget ∙ same-number
+
+  pub sound-finished : finished s.scene s.scene s.scene ≡ s.scene
+  sound-finished = same-finished s.scene (λ row inside. refl)
+
+  -- so too where a step made no move
+  pub sound-ends : finished s.scene s.scene (sizes_owed [] s.scene) ≡ s.scene
+  sound-ends = ap (finished s.scene s.scene) (none-sized s.scene) ∙ sound-finished
+
+-- and no move applies
+pub sound-settles : (s : State) → IsSound s → Settles s.scene [] s.scene
+sound-settles s sound = record { made = refl; settled = settled s.scene sound.at_rest }

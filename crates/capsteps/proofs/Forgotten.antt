@@ -1,0 +1,180 @@
+-- A state that is sound but for strays is sound once these are forgotten.
+use Rattle.std.proofs.Common.{◌≡◌, ℕ, Bool, true, false, not, cond, ◌||◌, Option, Some, None, is_some, List, [], ◌∷◌, refl, sym, ap, subst, ◌∙◌, Contains, true≢false}
+use Rattle.std.specs.Prelude.{IsTrue, All, filter}
+use Rattle.std.specs.List.{list_any}
+use Rattle.std.specs.Option.{option_map}
+use Rattle.std.specs.FinMap as map
+use Rattle.std.proofs.lemmas.List.Elements.{All-contains, All-contains_itself, All-weaker}
+use Rattle.capbits.specs.declared.cap.Cap.TheVariants.{P}
+use Rattle.capbits.specs.declared.cap.Part.{Part}
+use Rattle.capbits.specs.declared.cap.Part.TheVariants.{A, L, X, F}
+use Rattle.capbits.specs.Caps.{Caps}
+use Rattle.capbits.specs.Sets.{caps_in, union, meet, is_empty, IsSubset}
+use Rattle.inotree.specs.declared.node.Place.TheVariants.{NoIno, Gone}
+use Rattle.inotree.specs.Tree.{IsTree, place, place_at}
+use Rattle.sessiontab.specs.Calls.{has_session}
+use Rattle.locktable.specs.declared.states.LockState.{LockState}
+use Rattle.locktable.specs.declared.states.LockState.TheVariants.{Stable, Gather}
+use Rattle.captable.specs.declared.entry.EntryRow.{EntryRow}
+use Rattle.captable.specs.Table.{is_row_of}
+use Rattle.captable.specs.Calls.{is_of_inode}
+use Rattle.lockmachine.specs.Inodes.{lock_in}
+use Rattle.lockmachine.specs.Locks.{lock_at}
+use Rattle.lockmachine.specs.Requests.{first_for}
+use Rattle.lockmachine.specs.Wants.{Want, effective_want, in_all}
+use Rattle.lockmachine.specs.Scene.{Scene, target_by, outside}
+use Rattle.lockmachine.specs.Moves.{IsQuiet, IsAtRest}
+use Rattle.lockmachine.specs.Rows.{IsInRowOf, IsInRow}
+use Rattle.lockmachine.proofs.PolicyElsewhere.{want-kept, wants-kept}
+use Rattle.capsteps.specs.State.{State}
+use Rattle.capsteps.specs.Direct.{with_scene}
+use Rattle.capsteps.specs.Finish.{allowed_by, due, is_kept}
+use Rattle.capsteps.specs.Sound.{IsSoundEntry, IsSound}
+use Rattle.capsteps.specs.Touching.{stays, forget_among}
+use Rattle.capsteps.proofs.Leaving.{found-contains}
+use Rattle.capsteps.proofs.Placed.{placed}
+use Rattle.capsteps.proofs.Strays.{retained, retained-here, retained-gone, kept-held, stays-kept, goes, stays-held, alike-retained}
+
+-- ---- what is due
+
+allowed_under : EntryRow → (Part → Option LockState) → Caps
+allowed_under row locks =
+    union (caps_in (P ∷ [])) (union (allowed_by A row (locks A)) (union (allowed_by L row (locks L)) (union (allowed_by X row (locks X)) (allowed_by F row (locks F)))))
+
+-- by the same locks, of what is wanted as before, the same is due
+pub same-due : (s t : Scene) (row : EntryRow) → effective_want s.fs s.tree s.sessions row ≡ effective_want t.fs t.tree t.sessions row
+    → ((part : Part) → lock_at s.locks row.holder.ino.0 part ≡ lock_at t.locks row.holder.ino.0 part) → due s row ≡ due t row
+unfolding allowed_under
+same-due s t row want locks = λ i. meet (want i) (allowed_under row (λ part. locks part i))
+
+-- ---- states that are sound but for strays
+
+-- what each row of the list has, all have
+pub all_rows : (Q : EntryRow → Type 0) (rows : List EntryRow) → ((row : EntryRow) → Contains rows row → Q row) → All Q rows
+all_rows Q rows each = All-weaker (Contains rows) Q each rows (All-contains_itself rows)
+
+-- where nobody has an entry, nobody waits: no gather is open, and a lock that is stable and at rest has no queue
+nothing_on : (p : EntryRow → Bool) (rows : List EntryRow) → list_any p rows ≡ false → filter p rows ≡ []
+nothing_on p [] none = refl
+nothing_on p (x ∷ xs) none = elim (p x) as (λ b. (b || list_any p xs) ≡ false → cond b (x ∷ filter p xs) (filter p xs) ≡ []) [
+  | true ↦ λ none. absurd (true≢false none)
+  | false ↦ λ none. nothing_on p xs none
+] none
+
+nobody_waits : (s : Scene) (ino : ℕ) (part : Part) (o : Option LockState) → list_any (is_of_inode (record { 0 = ino })) s.table.rows ≡ false → IsQuiet s ino part o
+    → first_for s.locks.queue ino part ≡ None
+nobody_waits s ino part None nobody quiet = quiet
+nobody_waits s ino part (Some (Stable state)) nobody quiet = quiet.1
+nobody_waits s ino part (Some (Gather from to)) nobody quiet =
+    absurd (true≢false (sym quiet ∙ ap (list_any (λ row. not (is_empty (outside part to row)))) (nothing_on (is_of_inode (record { 0 = ino })) s.table.rows nobody)))
+
+-- the state is sound, but that nobody need have an entry on those of these inodes that are strays
+pub record IsSoundBut (at : ℕ → Bool) (s : State) : Type 0 where
+  pub entries : All (IsSoundEntry s.scene) s.scene.table.rows
+  pub waiting : All (λ q. IsTrue (has_session s.scene.sessions q.client.0)) s.scene.locks.queue
+  pub messages : All (λ m. IsTrue (has_session s.scene.sessions m.client.0)) s.messages
+  pub locked : (q : ℕ) → map.contains_key s.scene.locks.states q ≡ map.contains_key s.scene.tree.nodes q
+  pub strays : (q : ℕ) → at q ≡ false → place s.scene.tree.nodes q ≡ Gone → IsTrue (list_any (is_of_inode (record { 0 = q })) s.scene.table.rows)
+  pub in_rows : All (λ row. (part : Part) → IsInRow s.scene row part) s.scene.table.rows
+  pub at_rest : IsAtRest s.scene
+
+-- ---- forgetting
+
+-- what is left of the scene
+module _ (at : ℕ → Bool) (s : Scene) where
+  abbrev left : Scene
+  left = forget_among at s
+
+  abbrev keeps : ℕ → Bool
+  keeps = stays at s
+
+  same_lock : (q : ℕ) (part : Part) → keeps q ≡ true → lock_at left.locks q part ≡ lock_at s.locks q part
+  same_lock q part is = ap (option_map (lock_in part)) (retained-here s.locks.states keeps q is)
+
+  no_lock : (q : ℕ) (part : Part) → keeps q ≡ false → lock_at left.locks q part ≡ None
+  no_lock q part is = ap (option_map (lock_in part)) (retained-gone s.locks.states keeps q is)
+
+  want_left : IsTree s.tree → (row : EntryRow) → is_kept s row.holder.ino.0 ≡ true → effective_want s.fs left.tree s.sessions row ≡ effective_want s.fs s.tree s.sessions row
+  want_left tree row kept =
+      want-kept s.fs s.tree left.tree s.sessions s.sessions row
+      (alike-retained s.tree keeps tree (λ q gone. (goes at s q gone).1) row.holder.ino.0 (stays-kept at s row.holder.ino.0 kept)) refl
+
+  -- the same is due on an inode that is kept
+  pub due-left : IsTree s.tree → (row : EntryRow) → is_kept s row.holder.ino.0 ≡ true → due left row ≡ due s row
+  due-left tree row kept = same-due left s row (want_left tree row kept) (λ part. same_lock row.holder.ino.0 part (stays-kept at s row.holder.ino.0 kept))
+
+module _ (at : ℕ → Bool) (s : State) (sound : IsSoundBut at s) (tree : IsTree s.scene.tree) where
+  abbrev after : Scene
+  after = forget_among at s.scene
+
+  abbrev stay : ℕ → Bool
+  stay = stays at s.scene
+
+  row_stays : (row : EntryRow) → Contains s.scene.table.rows row → stay row.holder.ino.0 ≡ true
+  row_stays row inside = stays-kept at s.scene row.holder.ino.0 (kept-held s.scene row inside)
+
+  entry_left : (row : EntryRow) → Contains s.scene.table.rows row → IsSoundEntry after row
+  entry_left row inside =
+      let was = All-contains (IsSoundEntry s.scene) s.scene.table.rows row sound.entries inside in
+      record {
+        of_session = was.of_session;
+        on_inode = ap is_some (retained-here s.scene.tree.nodes stay row.holder.ino.0 (row_stays row inside)) ∙ was.on_inode;
+        holds_pin = was.holds_pin;
+        wants_pin = was.wants_pin;
+        has_due = subst (λ caps. IsSubset caps row.entry.held) (sym (due-left at s.scene tree row (kept-held s.scene row inside))) was.has_due;
+        told = was.told;
+        revoked = was.revoked;
+      }
+
+  in_row_left : (row : EntryRow) → Contains s.scene.table.rows row → (part : Part) → IsInRow after row part
+  in_row_left row inside part =
+      subst (IsInRowOf row part) (sym (same_lock at s.scene row.holder.ino.0 part (row_stays row inside)))
+      (All-contains (λ row. (part : Part) → IsInRow s.scene row part) s.scene.table.rows row sound.in_rows inside part)
+
+  locked_left : (q : ℕ) → map.contains_key after.locks.states q ≡ map.contains_key after.tree.nodes q
+  locked_left q = ap is_some (retained s.scene.locks.states stay q) ∙ both (stay q) ∙ sym (ap is_some (retained s.scene.tree.nodes stay q))
+    where
+      both : (b : Bool) → is_some (cond b (map.get s.scene.locks.states q) None) ≡ is_some (cond b (map.get s.scene.tree.nodes q) None)
+      both true = sound.locked q
+      both false = refl
+
+  strays_left : (q : ℕ) → place after.tree.nodes q ≡ Gone → IsTrue (list_any (is_of_inode (record { 0 = q })) s.scene.table.rows)
+  strays_left q gone = elim (stay q) as (λ b. stay q ≡ b → list_any (is_of_inode (record { 0 = q })) s.scene.table.rows ≡ true) [
+    | true ↦ λ e. (let was : place s.scene.tree.nodes q ≡ Gone = ap (λ o. place_at (option_map (λ n. n.site) o)) (sym (retained-here s.scene.tree.nodes stay q e)) ∙ gone in
+        elim (at q) as (λ b. at q ≡ b → list_any (is_of_inode (record { 0 = q })) s.scene.table.rows ≡ true) [
+          | true ↦ λ is. stays-held at s.scene q e is was
+          | false ↦ λ off. sound.strays q off was
+        ] refl)
+    | false ↦ λ e. (let none : place after.tree.nodes q ≡ NoIno = ap (λ o. place_at (option_map (λ n. n.site) o)) (retained-gone s.scene.tree.nodes stay q e) in absurd (cc))
+  ] refl
+
+  quiet_left : (q : ℕ) (part : Part) (o : Option LockState) → IsQuiet s.scene q part o → IsQuiet after q part o
+  quiet_left q part None quiet = quiet
+  quiet_left q part (Some (Stable state)) quiet = (
+    ap (λ (ws : List Want). target_by s.scene.locks.queue (in_all ws) q part state)
+        (wants-kept s.scene after.tree s.scene.sessions q (all_rows _ s.scene.table.rows (λ row inside. want_left at s.scene tree row (kept-held s.scene row inside)))) ∙ quiet.0,
+    quiet.1,
+  )
+  quiet_left q part (Some (Gather from to)) quiet = quiet
+
+  rest_left : IsAtRest after
+  rest_left = record {
+    each = λ q part. elim (stay q) as (λ b. stay q ≡ b → IsQuiet after q part (lock_at after.locks q part)) [
+      | true ↦ λ e. subst (IsQuiet after q part) (sym (same_lock at s.scene q part e)) (quiet_left q part (lock_at s.scene.locks q part) (sound.at_rest.each q part))
+      | false ↦ λ e. subst (IsQuiet after q part) (sym (no_lock at s.scene q part e))
+          (nobody_waits s.scene q part (lock_at s.scene.locks q part) (goes at s.scene q e).2 (sound.at_rest.each q part))
+    ] refl;
+  }
+
+  pub sound-forgotten : IsSound (with_scene s after)
+  sound-forgotten = record {
+    entries = all_rows (IsSoundEntry after) s.scene.table.rows entry_left;
+    waiting = sound.waiting;
+    messages = sound.messages;
+    locked = locked_left;
+    strays = strays_left;
+    in_place = λ row part found.
+        let inside = found-contains (is_row_of row.holder) s.scene.table.rows row found in
+        placed after row inside part (in_row_left row inside part);
+    at_rest = rest_left;
+  }

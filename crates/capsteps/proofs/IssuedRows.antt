@@ -1,0 +1,187 @@
+-- What the end of a step makes of an entry on an inode that it touched: it gains what is due, which its locks allow, and its number may rise.
+use Rattle.std.proofs.Common.{◌≡◌, ◌≤◌, ℕ, ◌+◌, Bool, true, false, not, cond, ◌&&◌, ◌||◌, Option, Some, None, List, [], ◌∷◌, refl, sym, ap, subst, ◌∙◌, true≢false, ◌⊎◌, inl, inr, arith}
+use Rattle.std.specs.Prelude.{if◌then◌else◌}
+use Rattle.capbits.specs.declared.cap.Cap.{Cap}
+use Rattle.capbits.specs.declared.cap.Cap.TheVariants.{P}
+use Rattle.capbits.specs.declared.cap.Part.{Part}
+use Rattle.capbits.specs.declared.cap.Part.TheVariants.{A, L, X, F}
+use Rattle.capbits.specs.Caps.{Caps, has}
+use Rattle.capbits.specs.Sets.{no_caps, is_empty, union, meet, minus, of_part, covers, same_caps, and_parts, has-none, has-caps_in, has-union, has-meet, has-minus, has-of_part}
+use Rattle.capbits.proofs.Covering.{one_part, same_cap-pin}
+use Rattle.inotree.specs.Tree.{Nodes}
+use Rattle.sessiontab.specs.Table.{SessionTable}
+use Rattle.sessiontab.specs.Calls.{status_of}
+use Rattle.sessiontab.specs.Tests.{is_open}
+use Rattle.locktable.specs.declared.states.State.{State}
+use Rattle.locktable.specs.declared.states.LockState.{LockState}
+use Rattle.locktable.specs.declared.states.LockState.TheVariants.{Stable, Gather}
+use Rattle.locktable.specs.Rows.{row_of, allowed_of, allowed_covers}
+use Rattle.captable.specs.declared.entry.Entry.{Entry}
+use Rattle.captable.specs.declared.entry.EntryRow.{EntryRow}
+use Rattle.captable.specs.declared.entry.Holder.{Holder}
+use Rattle.captable.specs.Calls.{renumbered}
+use Rattle.captable.specs.Many.{remade}
+use Rattle.lockmachine.specs.Locks.{lock_at}
+use Rattle.lockmachine.specs.Policy.{permitted}
+use Rattle.lockmachine.specs.Wants.{effective_want}
+use Rattle.lockmachine.specs.Scene.{Scene, outside, told_set}
+use Rattle.lockmachine.specs.Rows.{IsInRowOf, IsInRow}
+use Rattle.capsteps.specs.Finish.{allowed_by, allowed_part, allowed_to, due, issue_row}
+use Rattle.capsteps.specs.Touching.{finished_entry}
+use Rattle.capsteps.proofs.Placed.{second_true}
+
+either : (a b : Bool) → (a || b) ≡ true → (a ≡ true) ⊎ (b ≡ true)
+either true b e = inl refl
+either false b e = inr e
+
+first_true : (a b : Bool) → a ≡ true → (a || b) ≡ true
+first_true true b e = refl
+first_true false b e = absurd (true≢false (sym e))
+
+both_true : (a b : Bool) → a ≡ true → b ≡ true → (a && b) ≡ true
+both_true true b e f = f
+both_true false b e f = e
+
+-- ---- what the locks allow of a part
+
+part_covers : (s : Scene) (row : EntryRow) (part : Part) (c : Cap) → has (allowed_part s row part) c ≡ true → covers c part ≡ true
+part_covers s row part c h = by_lock (lock_at s.locks row.holder.ino.0 part) h
+  where
+    by_lock : (o : Option LockState) → has (allowed_by part row o) c ≡ true → covers c part ≡ true
+    by_lock None h = absurd (true≢false (sym h ∙ has-none c))
+    by_lock (Some lock) h = allowed_covers part lock row.holder.client c h
+
+-- what is allowed of a part is allowed by its lock
+allowed_here : (s : Scene) (row : EntryRow) (part : Part) (c : Cap) → covers c part ≡ true → has (allowed_to s row) c ≡ true → has (allowed_part s row part) c ≡ true
+allowed_here s row part c cov h =
+    elim (either _ _ (sym (has-union _ _ c) ∙ h)) [
+      | inl pin ↦ absurd (true≢false (sym pin ∙ has-caps_in (P ∷ []) c ∙ ap (λ b. b || false) (same_cap-pin c part cov)))
+      | inr rest ↦ elim (either _ _ (sym (has-union _ _ c) ∙ rest)) [
+        | inl a ↦ here A a
+        | inr rest ↦ elim (either _ _ (sym (has-union _ _ c) ∙ rest)) [
+          | inl l ↦ here L l
+          | inr rest ↦ elim (either _ _ (sym (has-union _ _ c) ∙ rest)) [
+            | inl x ↦ here X x
+            | inr f ↦ here F f
+          ]
+        ]
+      ]
+    ]
+  where
+    here : (q : Part) → has (allowed_part s row q) c ≡ true → has (allowed_part s row part) c ≡ true
+    here q h = subst (λ p. has (allowed_part s row p) c ≡ true) (one_part c q part (part_covers s row q c h) cov) h
+
+-- the pin is always allowed
+pin_allowed : (s : Scene) (row : EntryRow) → has (allowed_to s row) P ≡ true
+pin_allowed s row = has-union _ _ P ∙ first_true _ _ (has-caps_in (P ∷ []) P)
+
+-- ---- numbers
+
+-- what holds of the entry with each number that it may get holds of it
+numbered : (Q : Entry → Type 0) (before after : Caps) (e : Entry)
+    → Q (record e { seq = e.seq + 1; revoke_seq = e.seq + 1 }) → Q (record e { seq = e.seq + 1 }) → Q e → Q (renumbered before after e)
+numbered Q before after e lost gained same =
+    elim (not (is_empty (minus before after))) as (λ b. Q (cond b (record e { seq = e.seq + 1; revoke_seq = e.seq + 1 }) (cond (not (is_empty (minus after before))) (record e { seq = e.seq + 1 }) e))) [
+      | true ↦ lost
+      | false ↦ elim (not (is_empty (minus after before))) as (λ b. Q (cond b (record e { seq = e.seq + 1 }) e)) [ true ↦ gained | false ↦ same ]
+    ]
+
+-- ---- the entry at the end
+
+abbrev pub ended_row : (Holder → Caps) → Scene → EntryRow → EntryRow
+ended_row known s row = remade (finished_entry known s) row
+
+module _ (known : Holder → Caps) (s : Scene) (row : EntryRow) where
+  pub ended : (Q : Entry → Type 0) → ((seq revoke_seq : ℕ) → row.entry.seq ≤ seq → seq ≤ row.entry.seq + 1 → revoke_seq ≤ row.entry.revoke_seq ⊎ (revoke_seq ≡ seq)
+      → Q (record row.entry { held = union row.entry.held (due s row); seq = seq; revoke_seq = revoke_seq })) → Q (finished_entry known s row)
+  ended Q each =
+      numbered Q (meet (known row.holder) row.entry.held) (told_set s (issue_row s row)) (issue_row s row).entry
+      (each (row.entry.seq + 1) (row.entry.seq + 1) (omega arith) (omega arith) (inr refl))
+      (each (row.entry.seq + 1) row.entry.revoke_seq (omega arith) (omega arith) (inl (omega arith)))
+      (each row.entry.seq row.entry.revoke_seq (omega arith) (omega arith) (inl (omega arith)))
+
+  pub held-ended : (finished_entry known s row).held ≡ union row.entry.held (due s row)
+  held-ended = ended (λ e. e.held ≡ union row.entry.held (due s row)) (λ seq revoke_seq least most revoked. refl)
+
+  pub want-ended : (finished_entry known s row).want ≡ row.entry.want
+  want-ended = ended (λ e. e.want ≡ row.entry.want) (λ seq revoke_seq least most revoked. refl)
+
+  pub told-ended : row.entry.told_seq ≤ row.entry.seq → (finished_entry known s row).told_seq ≤ (finished_entry known s row).seq
+  told-ended was = ended (λ e. e.told_seq ≤ e.seq) (λ seq revoke_seq least most revoked. omega (arith, was, least))
+
+  pub revoked-ended : row.entry.revoke_seq ≤ row.entry.seq → (finished_entry known s row).revoke_seq ≤ (finished_entry known s row).seq
+  revoked-ended was = ended (λ e. e.revoke_seq ≤ e.seq) (λ seq revoke_seq least most revoked. elim revoked as (λ _. revoke_seq ≤ seq) [
+    | inl before ↦ omega (arith, was, least, before)
+    | inr now ↦ omega (arith, now)
+  ])
+
+  pub seq-ended : (count : ℕ) → row.entry.seq ≤ count → (finished_entry known s row).seq ≤ count + 1
+  seq-ended count was = ended (λ e. e.seq ≤ count + 1) (λ seq revoke_seq least most revoked. omega (arith, was, most))
+
+  pub effective-ended : (fs : List ℕ) (tree : Nodes) (sessions : SessionTable) → effective_want fs tree sessions (ended_row known s row) ≡ effective_want fs tree sessions row
+  effective-ended fs tree sessions =
+      ap (λ (want : Caps). if is_open (status_of sessions row.holder.client.0) then meet want (permitted fs tree sessions row.holder) else no_caps) want-ended
+
+  -- ---- what it holds
+
+  pub holds-held : (c : Cap) → has row.entry.held c ≡ true → has (finished_entry known s row).held c ≡ true
+  holds-held c h = ap (λ caps. has caps c) held-ended ∙ has-union row.entry.held (due s row) c ∙ first_true _ _ h
+
+  pub holds-due : (c : Cap) → has (due s row) c ≡ true → has (finished_entry known s row).held c ≡ true
+  holds-due c h = ap (λ caps. has caps c) held-ended ∙ has-union row.entry.held (due s row) c ∙ second_true _ _ h
+
+  -- it holds the pin, where the pin was held or is wanted
+  pub holds-pin : (has row.entry.held P || has (effective_want s.fs s.tree s.sessions row) P) ≡ true → has (finished_entry known s row).held P ≡ true
+  holds-pin h = elim (either _ _ h) [
+    | inl held ↦ holds-held P held
+    | inr wanted ↦ holds-due P (has-meet _ _ P ∙ both_true _ _ wanted (pin_allowed s row))
+  ]
+
+  -- what is due of a part is allowed by its lock
+  due_here : (part : Part) (c : Cap) → has (due s row) c ≡ true → covers c part ≡ true → has (allowed_part s row part) c ≡ true
+  due_here part c d cov = allowed_here s row part c cov (and_parts _ _ (sym (has-meet (effective_want s.fs s.tree s.sessions row) (allowed_to s row) c) ∙ d)).1
+
+  -- what it holds of a part it held, or it is due
+  held_or_due : (part : Part) (c : Cap) → has (of_part part (finished_entry known s row).held) c ≡ true
+      → (has (of_part part row.entry.held) c ≡ true) ⊎ (has (allowed_part s row part) c ≡ true)
+  held_or_due part c h =
+      let parts = and_parts (has (finished_entry known s row).held c) (covers c part) (sym (has-of_part part (finished_entry known s row).held c) ∙ h) in
+      elim (either (has row.entry.held c) (has (due s row) c) (sym (ap (λ caps. has caps c) held-ended ∙ has-union row.entry.held (due s row) c) ∙ parts.0)) as (λ _. (has (of_part part row.entry.held) c ≡ true) ⊎ (has (allowed_part s row part) c ≡ true)) [
+        | inl held ↦ inl (has-of_part part row.entry.held c ∙ both_true _ _ held parts.1)
+        | inr is_due ↦ inr (due_here part c is_due parts.1)
+      ]
+
+  -- it stays in the row of the lock
+  pub in_row-ended : (part : Part) → IsInRow s row part → IsInRow s (ended_row known s row) part
+  unfolding allowed_of
+  in_row-ended part was = by_lock (lock_at s.locks row.holder.ino.0 part) refl was
+    where
+      allowed_by_it : (o : Option LockState) (c : Cap) → lock_at s.locks row.holder.ino.0 part ≡ o → has (allowed_part s row part) c ≡ true → has (allowed_by part row o) c ≡ true
+      allowed_by_it o c is h = ap (λ o. has (allowed_by part row o) c) (sym is) ∙ h
+
+      by_lock : (o : Option LockState) → lock_at s.locks row.holder.ino.0 part ≡ o → IsInRowOf row part o → IsInRowOf (ended_row known s row) part o
+      by_lock None is was = λ c h. elim (held_or_due part c h) as (λ _. has no_caps c ≡ true) [ inl held ↦ was c held | inr allowed ↦ allowed_by_it None c is allowed ]
+      by_lock (Some (Stable state)) is was = λ c h. elim (held_or_due part c h) as (λ _. has (row_of part state row.holder.client) c ≡ true) [ inl held ↦ was c held | inr allowed ↦ allowed_by_it (Some (Stable state)) c is allowed ]
+      by_lock (Some (Gather from to)) is was = λ c h. elim (held_or_due part c h) as (λ _. has (row_of part from row.holder.client) c ≡ true) [
+        | inl held ↦ was c held
+        | inr allowed ↦ (and_parts _ _ (sym (has-meet (row_of part from row.holder.client) (row_of part to row.holder.client) c) ∙ allowed_by_it (Some (Gather from to)) c is allowed)).0
+      ]
+
+  -- what is outside of a gather's target stays so
+  pub outside-ended : (part : Part) (from to : State) → lock_at s.locks row.holder.ino.0 part ≡ Some (Gather from to) → outside part to (ended_row known s row) ≡ outside part to row
+  unfolding allowed_of
+  outside-ended part from to lock = same_caps _ _ (λ c.
+      has-minus _ _ c ∙ ap (λ b. b && not (has (row_of part to row.holder.client) c)) (has-of_part part _ c ∙ ap (λ b. b && covers c part) (ap (λ caps. has caps c) held-ended ∙ has-union row.entry.held (due s row) c))
+      ∙ absorbed (has row.entry.held c) (has (due s row) c) (covers c part) (has (row_of part to row.holder.client) c) (inside c)
+      ∙ sym (has-minus _ _ c ∙ ap (λ b. b && not (has (row_of part to row.holder.client) c)) (has-of_part part row.entry.held c)))
+    where
+      inside : (c : Cap) → has (due s row) c ≡ true → covers c part ≡ true → has (row_of part to row.holder.client) c ≡ true
+      inside c d cov =
+          let allowed : has (allowed_of part (Gather from to) row.holder.client) c ≡ true = ap (λ o. has (allowed_by part row o) c) (sym lock) ∙ due_here part c d cov in
+          (and_parts (has (row_of part from row.holder.client) c) (has (row_of part to row.holder.client) c) (sym (has-meet (row_of part from row.holder.client) (row_of part to row.holder.client) c) ∙ allowed)).1
+
+      absorbed : (h d v r : Bool) → (d ≡ true → v ≡ true → r ≡ true) → (((h || d) && v) && not r) ≡ ((h && v) && not r)
+      absorbed true d v r e = refl
+      absorbed false false v r e = refl
+      absorbed false true false r e = refl
+      absorbed false true true r e = ap not (e refl refl)

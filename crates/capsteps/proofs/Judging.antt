@@ -1,0 +1,56 @@
+-- What stops a request, test by test.
+use Rattle.std.proofs.Common.{◌≡◌, List, [], Option, Some, None, refl, sym, ap, ◌∙◌}
+use Rattle.std.specs.Option.{option_map}
+use Rattle.lockmachine.specs.Scene.{Scene}
+use Rattle.capevents.specs.declared.event.Event.{Event}
+use Rattle.capbits.specs.declared.refusal.Refusal.{Refusal}
+use Rattle.capevents.specs.declared.reply.Reply.{Reply}
+use Rattle.capsteps.specs.declared.stopped.Stopped.{Stopped}
+use Rattle.capsteps.specs.declared.stopped.Stopped.TheVariants.{ByTest}
+use Rattle.capsteps.specs.State.{State}
+use Rattle.capbits.specs.Refusal.{Test, first_failing}
+use Rattle.capsteps.specs.Judge.{stop, stop_by, stop_reply, first_denied, judged}
+use Rattle.capsteps.specs.Needs.{Need}
+use Rattle.capsteps.specs.Direct.{Says, effect, effect_unless, IsDirect}
+
+stop_by-stopped : (s : Scene) (o : Option Refusal) (d : Option Need) (l : Option Refusal) (r : Stopped) → stop_by s o d None ≡ Some r → stop_by s o d l ≡ Some r
+stop_by-stopped s (Some x) d l r e = e
+stop_by-stopped s None (Some n) l r e = e
+stop_by-stopped s None None l r e = cc
+
+-- what stops a request stops it whatever is still to be tested
+pub stopped : (s : Scene) (tests : List Test) (needed : List Need) (more : List Test) (r : Stopped) → stop s tests needed [] ≡ Some r → stop s tests needed more ≡ Some r
+stopped s tests needed more r e = stop_by-stopped s (first_failing tests) (first_denied s needed) (first_failing more) r e
+
+stop_by-passed : (s : Scene) (o : Option Refusal) (d : Option Need) (l : Option Refusal) → stop_by s o d None ≡ None → stop_by s o d l ≡ option_map ByTest l
+stop_by-passed s (Some x) d l e = cc
+stop_by-passed s None (Some n) l e = cc
+stop_by-passed s None None l e = refl
+
+-- where nothing stopped it so far, the rest of the tests decides
+pub passed : (s : Scene) (tests : List Test) (needed : List Need) (more : List Test) → stop s tests needed [] ≡ None → stop s tests needed more ≡ option_map ByTest (first_failing more)
+passed s tests needed more e = stop_by-passed s (first_failing tests) (first_denied s needed) (first_failing more) e
+
+stop_by-tests : (s : Scene) (o : Option Refusal) (d : Option Need) (l : Option Refusal) → stop_by s o d l ≡ None → o ≡ None
+stop_by-tests s (Some x) d l e = cc
+stop_by-tests s None d l e = refl
+
+-- and no test before policy failed
+pub no_test : (s : Scene) (tests : List Test) (needed : List Need) (more : List Test) → stop s tests needed more ≡ None → first_failing tests ≡ None
+no_test s tests needed more e = stop_by-tests s (first_failing tests) (first_denied s needed) (first_failing more) e
+
+-- ---- the event by itself
+
+-- what stops an event is its answer, and nothing changes
+pub direct-stopped : (old : State) (e : Event) (r : Stopped) → judged old.scene e ≡ Some r → IsDirect old e (stop_reply r) old
+direct-stopped old e r is = record {
+  answer_is = ap (λ o. (effect_unless old e o).answer) (sym is);
+  state_is = ap (λ o. (effect_unless old e o).state) (sym is);
+}
+
+-- an event that nothing stops has its effect
+pub direct-passed : (old : State) (e : Event) (answer : Reply) → Says answer ≡ (effect old e).answer → judged old.scene e ≡ None → IsDirect old e answer (effect old e).state
+direct-passed old e answer says is = record {
+  answer_is = says ∙ ap (λ o. (effect_unless old e o).answer) (sym is);
+  state_is = ap (λ o. (effect_unless old e o).state) (sym is);
+}

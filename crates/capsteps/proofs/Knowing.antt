@@ -1,0 +1,141 @@
+-- What is kept of each entry from the end of the last step, as events leave it.
+use Rattle.std.proofs.Common.{◌≡◌, Bool, true, false, cond, not, ◌&&◌, Option, Some, None, is_some, IsSome, refl, sym, ap, subst, ◌∙◌, true≢false}
+use Rattle.std.specs.HashMap.{HashMap, get}
+use Rattle.std.specs.List.{find}
+use Rattle.std.specs.Option.{option_map, option_map_or, unwrap_or}
+use Rattle.capbits.specs.Caps.{Caps, has}
+use Rattle.capbits.specs.Sets.{no_caps, minus, meet, IsSubset, same_caps, has-none, has-meet, has-minus}
+use Rattle.captable.specs.declared.entry.Entry.{Entry}
+use Rattle.captable.specs.declared.entry.EntryRow.{EntryRow}
+use Rattle.captable.specs.declared.entry.Holder.{Holder}
+use Rattle.captable.specs.Table.{Table, IsTable, same, is_row_of, entry_of, entry_at}
+use Rattle.captable.specs.Many.{changed_where, remade}
+use Rattle.captable.proofs.ByHolder.{row_found}
+use Rattle.captable.proofs.Searches.{find-map}
+use Rattle.lockmachine.specs.Scene.{Scene, told_set}
+use Rattle.lockmachine.specs.Told.{is_taken}
+use Rattle.lockmachine.proofs.Told.{has-against, has-told, told-less}
+use Rattle.capsteps.specs.Judge.{revoked_of}
+use Rattle.capsteps.specs.Known.{known_in, AreKnown, HaveRoom, is_still_kept, StillKept}
+use Rattle.capsteps.specs.Touching.{Knows}
+use Rattle.capsteps.proofs.Revoking.{revoked-found}
+use Rattle.capsteps.proofs.ShownSteps.{told-held}
+
+-- ---- as much or less is held
+
+-- what an entry holds
+abbrev pub held_at : Table → Holder → Caps
+held_at table k = option_map_or (λ (e : Entry). e.held) (entry_at table k) no_caps
+
+-- each entry of the new table was there, and held this
+abbrev pub HoldAlike : Table → Table → Type 0
+HoldAlike old new = (k : Holder) (e : Entry) → entry_at new k ≡ Some e → (f : Entry) × (entry_at old k ≡ Some f) × (e.held ≡ f.held)
+
+-- so nobody holds more
+pub alike-less : (old new : Table) → HoldAlike old new → (k : Holder) (e : Entry) → entry_at new k ≡ Some e → IsSubset e.held (held_at old k)
+alike-less old new alike k e there c held =
+    let was = alike k e there in
+    ap (λ (o : Option Entry). has (option_map_or (λ (x : Entry). x.held) o no_caps) c) was.1 ∙ ap (λ caps. has caps c) (sym was.2) ∙ held
+
+-- entries that hold alike keep what is kept of them
+pub known-alike : {S : Type 0} (sets : HashMap Holder Caps S) (s : Scene) (new : Table) → HoldAlike s.table new → AreKnown sets s → AreKnown sets (record s { table = new })
+known-alike sets s new alike known k e there =
+    let was = alike k e there in
+    known k was.0 was.1 ∙ ap Some (sym (told-held s k was.0 e was.2))
+
+-- so they do where all that pass a test are changed, but not what they hold
+pub alike-where : (passes : EntryRow → Bool) (g : EntryRow → Entry) (t : Table) → ((row : EntryRow) → (g row).held ≡ row.entry.held) → HoldAlike t (changed_where passes g t)
+alike-where passes g t same_held k e there = by_row (find (is_row_of k) t.rows) refl
+  where
+    one : EntryRow → EntryRow
+    one row = cond (passes row) (remade g row) row
+
+    found : find (is_row_of k) (changed_where passes g t).rows ≡ option_map one (find (is_row_of k) t.rows)
+    found = find-map (is_row_of k) one (λ row. elim (passes row) as (λ b. is_row_of k (cond b (remade g row) row) ≡ is_row_of k row) [ true ↦ refl | false ↦ refl ]) t.rows
+
+    held_by : (row : EntryRow) (b : Bool) → (cond b (remade g row) row).entry.held ≡ row.entry.held
+    held_by row true = same_held row
+    held_by row false = refl
+
+    by_row : (o : Option EntryRow) → find (is_row_of k) t.rows ≡ o → (f : Entry) × (entry_at t k ≡ Some f) × (e.held ≡ f.held)
+    by_row None none = let gone : entry_at (changed_where passes g t) k ≡ None = ap entry_of (found ∙ ap (option_map one) none) in absurd (cc)
+    by_row (Some row) is =
+        let now : entry_at (changed_where passes g t) k ≡ Some (one row).entry = ap entry_of (found ∙ ap (option_map one) is) in
+        let e_is : e ≡ (one row).entry = cc in
+        (row.entry, ap entry_of is, ap (λ (x : Entry). x.held) e_is ∙ held_by row (passes row))
+
+-- ---- what is being revoked
+
+rest_of : (h t : Bool) → (h && not (h && not t)) ≡ (h && t)
+rest_of true true = refl
+rest_of true false = refl
+rest_of false t = refl
+
+-- it is what is held and is not known
+pub revoked-known : {S : Type 0} (sets : HashMap Holder Caps S) (s : Scene) (k : Holder) (e : Entry) → AreKnown sets s → entry_at s.table k ≡ Some e → minus e.held (known_in sets k) ≡ revoked_of s k
+revoked-known sets s k e known there =
+    ap (λ (o : Option Caps). minus e.held (unwrap_or o no_caps)) (known k e there)
+    ∙ same_caps _ _ (λ c.
+    has-minus e.held (told_set s (record { holder = k; entry = e })) c
+    ∙ ap (λ b. has e.held c && not b) (has-told s (record { holder = k; entry = e }) c)
+    ∙ rest_of (has e.held c) (is_taken s k c)
+    ∙ sym (has-against s (record { holder = k; entry = e }) c))
+    ∙ sym (revoked-found s k e there)
+
+-- ---- what an event leaves by itself
+
+nothing : (b : Bool) → (b ≡ true → false ≡ true) → b ≡ false
+nothing true f = sym (f refl)
+nothing false f = refl
+
+and_none : (a b : Bool) → b ≡ false → (a && b) ≡ false
+and_none true b e = e
+and_none false b e = refl
+
+-- entries of a table of which each was there, where of each the same is kept
+pub still-there : {S : Type 0} (old new : Table) (was now : HashMap Holder Caps S) → ((k : Holder) (e : Entry) → entry_at new k ≡ Some e → IsSome (entry_at old k))
+    → ((k : Holder) (e : Entry) → entry_at new k ≡ Some e → get same now k ≡ get same was k) → StillKept old new was now
+still-there old new was now there same_kept k e here =
+    elim (entry_at old k) as (λ o. IsSome o → is_still_kept o (get same was k) (get same now k)) [
+      | None ↦ λ some. absurd (true≢false (sym some))
+      | Some f ↦ λ some. same_kept k e here
+    ] (there k e here)
+
+-- a further change that makes no entry
+pub still-then : {S : Type 0} (old mid new : Table) (was now : HashMap Holder Caps S) → StillKept old mid was now
+    → ((k : Holder) (e : Entry) → entry_at new k ≡ Some e → (f : Entry) × (entry_at mid k ≡ Some f)) → StillKept old new was now
+still-then old mid new was now still there k e here = let f = there k e here in still k f.0 f.1
+
+module _ {S : Type 0} (was now : HashMap Holder Caps S) (old : Scene) (table : Table) (known : AreKnown was old) (still : StillKept old.table table was now) where
+  -- of an entry that was there, what was kept is kept
+  pub still-known : (k : Holder) (e f : Entry) → entry_at table k ≡ Some e → entry_at old.table k ≡ Some f → get same now k ≡ Some (told_set old (record { holder = k; entry = f }))
+  still-known k e f here there = subst (λ o. is_still_kept o (get same was k) (get same now k)) there (still k e here) ∙ known k f there
+
+  pub still-room : HaveRoom now table
+  still-room k e here = by_old (entry_at old.table k) refl
+    where
+      by_old : (o : Option Entry) → entry_at old.table k ≡ o → is_some (get same now k) ≡ true
+      by_old None none = subst (λ o. is_still_kept o (get same was k) (get same now k)) none (still k e here)
+      by_old (Some f) there = ap is_some (still-known k e f here there)
+
+  -- where nobody holds more, it is known of what is left
+  pub still-knows : IsTable table → ((k : Holder) (f : Entry) → entry_at table k ≡ Some f → IsSubset f.held (held_at old.table k)) → Knows (known_in now) old table
+  still-knows is less row inside = by_entry (entry_at old.table row.holder) refl
+    where
+      here : entry_at table row.holder ≡ Some row.entry
+      here = ap entry_of (row_found table row is inside)
+
+      by_entry : (o : Option Entry) → entry_at old.table row.holder ≡ o → meet (known_in now row.holder) row.entry.held ≡ told_set old row
+      by_entry (Some e) there =
+          let fewer : IsSubset row.entry.held e.held = λ c h. ap (λ (o : Option Entry). has (option_map_or (λ (x : Entry). x.held) o no_caps) c) (sym there) ∙ less row.holder row.entry here c h in
+          ap (λ (o : Option Caps). meet (unwrap_or o no_caps) row.entry.held) (still-known row.holder row.entry e here there)
+          ∙ sym (told-less old (record { holder = row.holder; entry = e }) row.entry fewer)
+      by_entry None none = same_caps _ _ (λ c.
+          let out : has row.entry.held c ≡ false = nothing (has row.entry.held c) (λ h.
+          sym (has-none c) ∙ ap (λ (o : Option Entry). has (option_map_or (λ (x : Entry). x.held) o no_caps) c) (sym none) ∙ less row.holder row.entry here c h) in
+          has-meet (known_in now row.holder) row.entry.held c ∙ and_none (has (known_in now row.holder) c) (has row.entry.held c) out
+          ∙ sym (has-told old row c ∙ ap (λ b. b && not (is_taken old row.holder c)) out))
+
+-- where the table stays, all is still known
+pub still-all : {S : Type 0} (was now : HashMap Holder Caps S) (s : Scene) → AreKnown was s → StillKept s.table s.table was now → AreKnown now s
+still-all was now s known still k e there = still-known was now s s.table known still k e e there there

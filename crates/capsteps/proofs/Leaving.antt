@@ -1,0 +1,202 @@
+-- What leaves alone all that entries, requests and locks depend on keeps a sound state sound, and leaves nothing to do.
+use Rattle.std.proofs.Common.{◌≡◌, ℕ, suc, ◌==◌, Bool, true, false, cond, Option, Some, None, is_some, List, [], ◌∷◌, filter, map as map_rows, refl, sym, ap, subst, ◌∙◌, Contains, arith}
+use Rattle.std.specs.Prelude.{IsTrue}
+use Rattle.std.specs.List.{find}
+use Rattle.std.specs.Option.{option_map}
+use Rattle.std.specs.FinMap as map
+use Rattle.std.specs.HashMap.{HashMap, get}
+use Rattle.std.proofs.lemmas.Bool.{eqb-true}
+use Rattle.std.proofs.lemmas.List.Elements.{All-contains, All-contains_itself, All-weaker}
+use Rattle.capbits.specs.declared.cap.Part.{Part}
+use Rattle.capbits.specs.declared.cap.Part.TheVariants.{A, L, X, F}
+use Rattle.capbits.specs.Caps.{Caps, has, caps_where}
+use Rattle.capbits.specs.Sets.{no_caps, union, minus, meet, IsSubset}
+use Rattle.locktable.specs.declared.states.State.TheVariants.{Sync}
+use Rattle.locktable.specs.declared.states.LockState.{LockState}
+use Rattle.locktable.specs.declared.states.LockState.TheVariants.{Stable, Gather}
+use Rattle.locktable.specs.declared.targets.Head.TheVariants.{Empty}
+use Rattle.locktable.specs.Targets.{target_of}
+use Rattle.inotree.specs.declared.node.Node.{Node}
+use Rattle.inotree.specs.Tree.{Nodes}
+use Rattle.sessiontab.specs.Table.{SessionTable}
+use Rattle.sessiontab.specs.Calls.{has_session}
+use Rattle.captable.specs.declared.entry.EntryRow.{EntryRow}
+use Rattle.captable.specs.declared.entry.Holder.{Holder}
+use Rattle.captable.specs.Table.{IsTable, same, is_row_of, entry_of}
+use Rattle.captable.proofs.Searches.{find_passes}
+use Rattle.captable.proofs.Tables.{same-is}
+use Rattle.captable.specs.Calls.{is_of_inode}
+use Rattle.lockmachine.specs.Inodes.{StateMap, lock_in, in_sync}
+use Rattle.lockmachine.specs.Locks.{lock_at}
+use Rattle.lockmachine.specs.Policy.{permitted}
+use Rattle.lockmachine.specs.Requests.{first_for, head_of}
+use Rattle.lockmachine.specs.Wants.{effective_want, want_of, loner_of, union_of}
+use Rattle.lockmachine.specs.Scene.{Scene, rows_on, loner, wanted, against, told_set}
+use Rattle.lockmachine.specs.Moves.{IsQuiet}
+use Rattle.lockmachine.proofs.PolicyElsewhere.{wants-kept}
+use Rattle.capsteps.specs.State.{State}
+use Rattle.capsteps.specs.Known.{AreKnown}
+use Rattle.capsteps.specs.Direct.{with_scene}
+use Rattle.capsteps.specs.Finish.{due, finished}
+use Rattle.capsteps.specs.Finishing.{against_under, allowed_under}
+use Rattle.capsteps.specs.Headline.{IsInPlace}
+use Rattle.capsteps.specs.Sound.{IsSoundEntry, IsSound}
+use Rattle.capsteps.specs.Leaving.{with_parts, LeavesEntries}
+use Rattle.capsteps.proofs.Finishing.{same-finished}
+use Rattle.capsteps.proofs.StillQuiet.{still_quiet}
+
+-- ---- lists of rows
+
+pub found-contains : {T : Type 0} (p : T → Bool) (rows : List T) (row : T) → find p rows ≡ Some row → Contains rows row
+found-contains p [] row found = cc
+found-contains p (x ∷ xs) row found = elim (p x) as (λ b. cond b (Some x) (find p xs) ≡ Some row → Contains (x ∷ xs) row) [
+  | true ↦ λ found. let same : x ≡ row = cc in (0, omega arith, same)
+  | false ↦ λ found. let inside = found-contains p xs row found in (suc inside.0, omega (arith, inside.1), inside.2)
+] found
+
+none_passes : (p : EntryRow → Bool) (rows : List EntryRow) → ((row : EntryRow) → Contains rows row → p row ≡ false) → filter p rows ≡ []
+none_passes p [] fails = refl
+none_passes p (x ∷ xs) fails =
+    ap (λ b. cond b (x ∷ filter p xs) (filter p xs)) (fails x (0, omega arith, refl))
+    ∙ none_passes p xs (λ row inside. fails row (suc inside.0, omega (arith, inside.1), inside.2))
+
+-- ---- a lock of a new inode
+
+each_in_sync : (part : Part) → lock_in part in_sync ≡ Stable Sync
+each_in_sync A = refl
+each_in_sync L = refl
+each_in_sync X = refl
+each_in_sync F = refl
+
+unwanted : (part : Part) → target_of part Sync Empty None no_caps ≡ Sync
+unfolding target_of no_caps has caps_where
+unwanted A = refl
+unwanted L = refl
+unwanted X = refl
+unwanted F = refl
+
+pub none_if : {X : Type 0} (o : Option X) → is_some o ≡ false → o ≡ None
+none_if None out = refl
+none_if (Some x) out = cc
+
+pub some_same : (o : Option Node) → is_some (option_map (λ node. in_sync) o) ≡ is_some o
+some_same None = refl
+some_same (Some node) = refl
+
+module _ (s : State) (sound : IsSound s) where
+  -- an inode that is not there has no locks, nobody waits there, and nobody has an entry on it
+  pub no_locks : (ino : ℕ) → map.contains_key s.scene.tree.nodes ino ≡ false → map.get s.scene.locks.states ino ≡ None
+  no_locks ino out = none_if (map.get s.scene.locks.states ino) (sound.locked ino ∙ out)
+
+  nobody_waits : (ino : ℕ) (part : Part) → map.contains_key s.scene.tree.nodes ino ≡ false → first_for s.scene.locks.queue ino part ≡ None
+  nobody_waits ino part out =
+      subst (λ o. IsQuiet s.scene ino part (option_map (lock_in part) o)) (no_locks ino out) (sound.at_rest.each ino part)
+
+  sound_row : (row : EntryRow) → Contains s.scene.table.rows row → IsSoundEntry s.scene row
+  sound_row row inside = All-contains (IsSoundEntry s.scene) s.scene.table.rows row sound.entries inside
+
+  no_rows : (ino : ℕ) → map.contains_key s.scene.tree.nodes ino ≡ false → rows_on s.scene ino ≡ []
+  no_rows ino out = none_passes (is_of_inode (record { 0 = ino })) s.scene.table.rows (λ row inside. by_test row inside (row.holder.ino.0 == ino) refl)
+    where
+      by_test : (row : EntryRow) → Contains s.scene.table.rows row → (b : Bool) → (row.holder.ino.0 == ino) ≡ b → b ≡ false
+      by_test row inside false e = refl
+      by_test row inside true e =
+          let entry = sound_row row inside in
+          let here : map.contains_key s.scene.tree.nodes ino ≡ true = subst (λ q. map.contains_key s.scene.tree.nodes q ≡ true) (eqb-true row.holder.ino.0 ino e) entry.on_inode in
+          cc
+
+-- ---- what is left alone
+
+module _ (s : State) (sound : IsSound s) (tree : Nodes) (sessions : SessionTable) (states : StateMap) (leaves : LeavesEntries s.scene tree sessions states) where
+  abbrev new : Scene
+  new = with_parts s.scene tree sessions states
+
+  same_locks : (row : EntryRow) → Contains s.scene.table.rows row → map.get states row.holder.ino.0 ≡ map.get s.scene.locks.states row.holder.ino.0
+  same_locks row inside = let entry = sound_row s sound row inside in leaves.locks row.holder.ino.0 entry.on_inode
+
+  same_against : (row : EntryRow) → Contains s.scene.table.rows row → against new row ≡ against s.scene row
+  same_against row inside =
+      let may = All-contains (λ row. permitted s.scene.fs tree sessions row.holder ≡ permitted s.scene.fs s.scene.tree s.scene.sessions row.holder) s.scene.table.rows row leaves.permits inside in
+      λ i. union (against_under (same_locks row inside i) row) (minus row.entry.held (may i))
+
+  same_due : (row : EntryRow) → Contains s.scene.table.rows row → due new row ≡ due s.scene row
+  same_due row inside =
+      let want = All-contains (λ row. effective_want s.scene.fs tree sessions row ≡ effective_want s.scene.fs s.scene.tree s.scene.sessions row) s.scene.table.rows row leaves.wants inside in
+      λ i. meet (want i) (allowed_under (same_locks row inside i) row)
+
+  entry_kept : (row : EntryRow) → Contains s.scene.table.rows row → IsSoundEntry new row
+  entry_kept row inside = let was = sound_row s sound row inside in record {
+    of_session = leaves.connected row.holder.client.0 was.of_session;
+    on_inode = leaves.there row.holder.ino.0 was.on_inode;
+    holds_pin = was.holds_pin;
+    wants_pin = was.wants_pin;
+    has_due = subst (λ caps. IsSubset caps row.entry.held) (sym (same_due row inside)) was.has_due;
+    told = was.told;
+    revoked = was.revoked;
+  }
+
+  -- ---- locks
+
+  quiet_new : (ino : ℕ) (part : Part) → map.contains_key s.scene.tree.nodes ino ≡ false → (o : Option Node) → IsQuiet new ino part (option_map (lock_in part) (option_map (λ node. in_sync) o))
+  quiet_new ino part out None = nobody_waits s sound ino part out
+  quiet_new ino part out (Some node) = subst (λ lock. IsQuiet new ino part (Some lock)) (sym (each_in_sync part)) (stays, nobody_waits s sound ino part out)
+    where
+      stays : target_of part Sync (head_of (first_for s.scene.locks.queue ino part)) (loner new ino) (wanted new ino) ≡ Sync
+      stays =
+          ap (λ q. target_of part Sync (head_of q) (loner new ino) (wanted new ino)) (nobody_waits s sound ino part out)
+          ∙ ap (λ rows. let each = map_rows (want_of s.scene.fs tree sessions) rows in target_of part Sync Empty (loner_of each) (union_of each)) (no_rows s sound ino out)
+          ∙ unwanted part
+
+  quiet_at : (ino : ℕ) (part : Part) (b : Bool) → map.contains_key s.scene.tree.nodes ino ≡ b → IsQuiet new ino part (option_map (lock_in part) (map.get states ino))
+  quiet_at ino part true here =
+      subst (λ o. IsQuiet new ino part (option_map (lock_in part) o)) (sym (leaves.locks ino here)) (still_quiet s.scene new ino part refl (wants-kept s.scene tree sessions ino leaves.wants) (λ goal. refl) (lock_at s.scene.locks ino part) (sound.at_rest.each ino part))
+  quiet_at ino part false out =
+      subst (λ o. IsQuiet new ino part (option_map (lock_in part) o)) (sym (leaves.new_locks ino out)) (quiet_new ino part out (map.get tree.nodes ino))
+
+  locked_at : (ino : ℕ) (b : Bool) → map.contains_key s.scene.tree.nodes ino ≡ b → map.contains_key states ino ≡ map.contains_key tree.nodes ino
+  locked_at ino true here = ap is_some (leaves.locks ino here) ∙ sound.locked ino ∙ here ∙ sym (leaves.there ino here)
+  locked_at ino false out = ap is_some (leaves.new_locks ino out) ∙ some_same (map.get tree.nodes ino)
+
+  -- ---- what is held
+
+  place_kept : (row : EntryRow) (part : Part) → against new row ≡ against s.scene row → (o : Option LockState) → IsInPlace s.scene row part o → IsInPlace new row part o
+  place_kept row part same None placed = placed
+  place_kept row part same (Some (Stable state)) placed = placed
+  place_kept row part same (Some (Gather from to)) placed =
+      (placed.0, λ cap held out. let taken = placed.1 cap held out in (ap (λ caps. has caps cap) same ∙ taken.0, taken.1))
+
+  in_place : (row : EntryRow) (part : Part) → Contains s.scene.table.rows row → IsInPlace s.scene row part (lock_at s.scene.locks row.holder.ino.0 part)
+      → IsInPlace new row part (option_map (lock_in part) (map.get states row.holder.ino.0))
+  in_place row part inside placed =
+      subst (λ o. IsInPlace new row part (option_map (lock_in part) o)) (sym (same_locks row inside)) (place_kept row part (same_against row inside) (lock_at s.scene.locks row.holder.ino.0 part) placed)
+
+  -- ---- all together
+
+  pub kept-sound : IsSound (with_scene s (with_parts s.scene tree sessions states))
+  kept-sound = record {
+    entries = All-weaker (Contains s.scene.table.rows) (IsSoundEntry new) entry_kept s.scene.table.rows (All-contains_itself s.scene.table.rows);
+    waiting = All-weaker (λ q. IsTrue (has_session s.scene.sessions q.client.0)) (λ q. IsTrue (has_session sessions q.client.0)) (λ q. leaves.connected q.client.0) s.scene.locks.queue sound.waiting;
+    messages = All-weaker (λ m. IsTrue (has_session s.scene.sessions m.client.0)) (λ m. IsTrue (has_session sessions m.client.0)) (λ m. leaves.connected m.client.0) s.messages sound.messages;
+    locked = λ ino. locked_at ino (map.contains_key s.scene.tree.nodes ino) refl;
+    strays = λ ino gone. sound.strays ino (leaves.strays ino gone);
+    in_place = λ row part found. in_place row part (found-contains (is_row_of row.holder) s.scene.table.rows row found) (sound.in_place row part found);
+    at_rest = record { each = λ ino part. quiet_at ino part (map.contains_key s.scene.tree.nodes ino) refl };
+  }
+
+  pub kept-finished : IsTable s.scene.table → finished s.scene (with_parts s.scene tree sessions states) (with_parts s.scene tree sessions states) ≡ with_parts s.scene tree sessions states
+  kept-finished table =
+      same-finished (with_scene s (with_parts s.scene tree sessions states)) kept-sound table s.scene (λ row inside. ap (minus row.entry.held) (sym (same_against row inside)))
+
+  -- what is known of each entry is known
+  pub kept-known : {S : Type 0} (sets : HashMap Holder Caps S) → AreKnown sets s.scene → AreKnown sets (with_parts s.scene tree sessions states)
+  kept-known sets known k e there = by_row (find (is_row_of k) s.scene.table.rows) refl there
+    where
+      by_row : (o : Option EntryRow) → find (is_row_of k) s.scene.table.rows ≡ o → entry_of o ≡ Some e → get same sets k ≡ Some (told_set new (record { holder = k; entry = e }))
+      by_row None none is = absurd (cc)
+      by_row (Some row) found is =
+          let mine : k ≡ row.holder = same-is k row.holder (find_passes (is_row_of k) s.scene.table.rows row found) in
+          let its : row.entry ≡ e = cc in
+          let one : row ≡ record { holder = k; entry = e } = λ i. record { holder = sym mine i; entry = its i } in
+          known k e there ∙ ap (λ (r : EntryRow). Some (told_set s.scene r)) (sym one)
+          ∙ ap (λ caps. Some (minus row.entry.held caps)) (sym (same_against row (found-contains (is_row_of k) s.scene.table.rows row found)))
+          ∙ ap (λ (r : EntryRow). Some (told_set new r)) one

@@ -1,0 +1,202 @@
+-- The end of a step at several inodes: one after another, each once, they are finished as if all at once.
+use Rattle.std.proofs.Common.{◌≡◌, ℕ, Bool, true, false, cond, ◌||◌, List, [], ◌∷◌, filter, map as each, ◌++◌, append-nil, append_assoc, eq-eqb, refl, sym, ap, subst, ◌∙◌}
+use Rattle.std.specs.Prelude.{All, ◌==◌}
+use Rattle.std.specs.Cmp.{unsigned_tied}
+use Rattle.std.specs.FinSet as set
+use Rattle.std.specs.List.{find, list_any, AllByRecursion, IsDistinct}
+use Rattle.std.specs.Ordering.{nat_cmp, eq_by_cmp}
+use Rattle.std.proofs.lemmas.Bool.{eqb-true}
+use Rattle.std.proofs.lemmas.List.Elements.{All-map, All-weaker}
+use Rattle.capbits.specs.declared.ids.Ino.{Ino}
+use Rattle.captable.specs.declared.entry.Entry.{Entry}
+use Rattle.captable.specs.declared.entry.EntryRow.{EntryRow}
+use Rattle.captable.specs.declared.entry.Holder.{Holder}
+use Rattle.captable.specs.Table.{Table, same, is_row_of}
+use Rattle.capbits.specs.Caps.{Caps}
+use Rattle.std.specs.HashMap.{HashMap, get}
+use Rattle.std.proofs.lemmas.List.Folds.{list_any-append}
+use Rattle.captable.specs.Calls.{is_of_inode, entries_on}
+use Rattle.captable.specs.Many.{changed_where, remade}
+use Rattle.captable.proofs.OneByOne.{same_holder}
+use Rattle.capnotes.specs.InoSets.{InoSet, IsListOf}
+use Rattle.capsteps.specs.Known.{KeptAnew}
+use Rattle.capsteps.proofs.KeptSets.{kept-nobody, kept-same, kept-then, kept-not, found-stays}
+
+-- the same number
+abbrev pub same_number : ℕ → ℕ → Bool
+same_number = eq_by_cmp nat_cmp
+
+-- ---- entries of some inodes change
+
+-- the entries on the inodes that pass a test
+abbrev pub on : (ℕ → Bool) → EntryRow → Bool
+on p row = p row.holder.ino.0
+
+-- first those of some inodes, then those of others
+twice_rows : (p q r : ℕ → Bool) (f g h : EntryRow → Entry) → ((n : ℕ) → p n ≡ true → q n ≡ false) → ((n : ℕ) → (p n || q n) ≡ r n)
+    → ((row : EntryRow) → on p row ≡ true → f row ≡ h row) → ((row : EntryRow) → on q row ≡ true → g row ≡ h row) → (rows : List EntryRow)
+    → each (λ row. cond (on q row) (remade g row) row) (each (λ row. cond (on p row) (remade f row) row) rows) ≡ each (λ row. cond (on r row) (remade h row) row) rows
+twice_rows p q r f g h apart joined of_f of_g [] = refl
+twice_rows p q r f g h apart joined of_f of_g (row ∷ rows) = λ i. one i ∷ twice_rows p q r f g h apart joined of_f of_g rows i
+  where
+    later : (b : Bool) → on q row ≡ b → cond b (remade g row) row ≡ cond b (remade h row) row
+    later true e = ap (λ (x : Entry). record row { entry = x }) (of_g row e)
+    later false e = refl
+
+    by_test : (b : Bool) → on p row ≡ b
+        → cond (on q (cond b (remade f row) row)) (remade g (cond b (remade f row) row)) (cond b (remade f row) row) ≡ cond (b || on q row) (remade h row) row
+    by_test true e =
+        ap (λ b. cond b (remade g (remade f row)) (remade f row)) (apart row.holder.ino.0 e) ∙ ap (λ (x : Entry). record row { entry = x }) (of_f row e)
+    by_test false e = later (on q row) refl
+
+    one : cond (on q (cond (on p row) (remade f row) row)) (remade g (cond (on p row) (remade f row) row)) (cond (on p row) (remade f row) row) ≡ cond (on r row) (remade h row) row
+    one = by_test (on p row) refl ∙ ap (λ b. cond b (remade h row) row) (joined row.holder.ino.0)
+
+pub changed-twice_where : (p q r : ℕ → Bool) (f g h : EntryRow → Entry) → ((n : ℕ) → p n ≡ true → q n ≡ false) → ((n : ℕ) → (p n || q n) ≡ r n)
+    → ((row : EntryRow) → on p row ≡ true → f row ≡ h row) → ((row : EntryRow) → on q row ≡ true → g row ≡ h row) → (t : Table)
+    → changed_where (on q) g (changed_where (on p) f t) ≡ changed_where (on r) h t
+changed-twice_where p q r f g h apart joined of_f of_g t =
+    ap (λ (rows : List EntryRow). record t { rows = rows }) (twice_rows p q r f g h apart joined of_f of_g t.rows)
+
+same_rows_where : (passes : EntryRow → Bool) (f g : EntryRow → Entry) → ((row : EntryRow) → passes row ≡ true → f row ≡ g row) → (rows : List EntryRow)
+    → each (λ row. cond (passes row) (remade f row) row) rows ≡ each (λ row. cond (passes row) (remade g row) row) rows
+same_rows_where passes f g is [] = refl
+same_rows_where passes f g is (row ∷ rows) = λ i. one (passes row) refl i ∷ same_rows_where passes f g is rows i
+  where
+    one : (b : Bool) → passes row ≡ b → cond b (remade f row) row ≡ cond b (remade g row) row
+    one true e = ap (λ (x : Entry). record row { entry = x }) (is row e)
+    one false e = refl
+
+-- what is made of the entries that change, is all that matters
+pub same-where : (passes : EntryRow → Bool) (f g : EntryRow → Entry) → ((row : EntryRow) → passes row ≡ true → f row ≡ g row) → (t : Table) → changed_where passes f t ≡ changed_where passes g t
+same-where passes f g is t = ap (λ (rows : List EntryRow). record t { rows = rows }) (same_rows_where passes f g is t.rows)
+
+-- what is known of each entry's holder, stays known
+pub holders-stay : (passes : EntryRow → Bool) (g : EntryRow → Entry) (Q : Holder → Type 0) (t : Table)
+    → All (λ row. Q row.holder) t.rows → All (λ row. Q row.holder) (changed_where passes g t).rows
+holders-stay passes g Q t all =
+    All-map (λ row. Q row.holder) (λ row. cond (passes row) (remade g row) row) t.rows
+    (All-weaker (λ row. Q row.holder) (λ row. Q (cond (passes row) (remade g row) row).holder)
+    (λ row h. subst Q (sym (same_holder g row (passes row))) h) t.rows all)
+
+-- the entries on an inode that fails the test are as they were
+rows-stay : (p : ℕ → Bool) (g : EntryRow → Entry) (ino : Ino) → p ino.0 ≡ false → (rows : List EntryRow)
+    → filter (is_of_inode ino) (each (λ row. cond (on p row) (remade g row) row) rows) ≡ filter (is_of_inode ino) rows
+rows-stay p g ino fails [] = refl
+rows-stay p g ino fails (row ∷ rows) = by_test (rows-stay p g ino fails rows) (on p row) refl
+  where
+    elsewhere : on p row ≡ true → (b : Bool) → is_of_inode ino row ≡ b → b ≡ false
+    elsewhere e false is = refl
+    elsewhere e true is = sym e ∙ ap p (eqb-true row.holder.ino.0 ino.0 is) ∙ fails
+
+    by_test : filter (is_of_inode ino) (each (λ row. cond (on p row) (remade g row) row) rows) ≡ filter (is_of_inode ino) rows → (b : Bool) → on p row ≡ b
+        → filter (is_of_inode ino) (cond b (remade g row) row ∷ each (λ row. cond (on p row) (remade g row) row) rows) ≡ filter (is_of_inode ino) (row ∷ rows)
+    by_test rest true e =
+        let out : is_of_inode ino row ≡ false = elsewhere e (is_of_inode ino row) refl in
+        let later : List EntryRow = filter (is_of_inode ino) (each (λ row. cond (on p row) (remade g row) row) rows) in
+        ap (λ b. cond b (remade g row ∷ later) later) out ∙ rest ∙ sym (ap (λ b. cond b (row ∷ filter (is_of_inode ino) rows) (filter (is_of_inode ino) rows)) out)
+    by_test rest false e = ap (λ rest. cond (is_of_inode ino row) (row ∷ rest) rest) rest
+
+pub entries_on-stay : (p : ℕ → Bool) (g : EntryRow → Entry) (ino : Ino) → p ino.0 ≡ false → (t : Table) → entries_on (changed_where (on p) g t) ino ≡ entries_on t ino
+entries_on-stay p g ino fails t = rows-stay p g ino fails t.rows
+
+-- ---- one inode after another
+
+untouched : (g : EntryRow → Entry) (rows : List EntryRow) → each (λ row. cond false (remade g row) row) rows ≡ rows
+untouched g [] = refl
+untouched g (row ∷ rows) = ap (λ rest. row ∷ rest) (untouched g rows)
+
+same_tests : (p q : ℕ → Bool) → ((n : ℕ) → p n ≡ q n) → (g : EntryRow → Entry) (rows : List EntryRow)
+    → each (λ row. cond (on p row) (remade g row) row) rows ≡ each (λ row. cond (on q row) (remade g row) row) rows
+same_tests p q is g [] = refl
+same_tests p q is g (row ∷ rows) = λ i. cond (is row.holder.ino.0 i) (remade g row) row ∷ same_tests p q is g rows i
+
+-- ---- so far
+
+-- some inodes are done, of those that are named: their entries are finished, and what their clients are to know is kept
+pub record IsFinishing {S : Type 0} (g : EntryRow → Entry) (f : EntryRow → Caps) (t : Table) (was : HashMap Holder Caps S) (all : List ℕ) (left : List ℕ) (now : Table) (sets : HashMap Holder Caps S) : Type 0 where
+  pub done : List ℕ
+  pub named : done ++ left ≡ all
+  pub finished : now ≡ changed_where (on (λ n. list_any (same_number n) done)) g t
+  pub kept : KeptAnew (λ k. list_any (same_number k.ino.0) done) f t was sets
+
+-- at first none is
+pub none-finished : {S : Type 0} (g : EntryRow → Entry) (f : EntryRow → Caps) (t : Table) (was : HashMap Holder Caps S) (all : List ℕ) → IsFinishing g f t was all all t was
+none-finished g f t was all = record {
+  done = [];
+  named = refl;
+  finished = ap (λ (rows : List EntryRow). record t { rows = rows }) (sym (untouched g t.rows));
+  kept = kept-nobody f t was;
+}
+
+-- the next is not among those that are done
+pub next-apart : (done : List ℕ) (k : ℕ) (left : List ℕ) → IsDistinct same_number (done ++ k ∷ left) → (n : ℕ) → (n == k) ≡ true → list_any (same_number n) done ≡ false
+unfolding IsDistinct
+next-apart [] k left apart n is = refl
+next-apart (d ∷ done) k left apart n is =
+    ap (λ b. b || list_any (same_number n) done) (turned (same_number n d) refl) ∙ next-apart done k left apart.1 n is
+  where
+    behind : (xs : List ℕ) → AllByRecursion (λ q. same_number d q ≡ false) (xs ++ k ∷ left) → same_number d k ≡ false
+    behind [] all = all.0
+    behind (x ∷ xs) all = behind xs all.1
+
+    turned : (b : Bool) → same_number n d ≡ b → b ≡ false
+    turned false e = refl
+    turned true e =
+        let here : (n == d) ≡ true = sym (unsigned_tied n d) ∙ e in
+        let equal : d ≡ k = sym (eqb-true n d here) ∙ eqb-true n k is in
+        sym (unsigned_tied k k ∙ eq-eqb k k refl) ∙ ap (λ q. same_number q k) (sym equal) ∙ behind done apart.0
+
+-- it is finished in its turn, as it would have been at first
+pub next-finished : {S : Type 0} (g : EntryRow → Entry) (f : EntryRow → Caps) (t : Table) (was : HashMap Holder Caps S) (all : List ℕ) (k : ℕ) (left : List ℕ) (mid : Table) (sets : HashMap Holder Caps S)
+    (h : EntryRow → Entry) (now : Table) (then : HashMap Holder Caps S)
+    → IsDistinct same_number all → IsFinishing g f t was all (k ∷ left) mid sets → now ≡ changed_where (is_of_inode (record { 0 = k })) h mid
+    → ((row : EntryRow) → is_of_inode (record { 0 = k }) row ≡ true → get same sets row.holder ≡ get same was row.holder → h row ≡ g row)
+    → KeptAnew (λ q. q.ino.0 == k) f mid sets then → IsFinishing g f t was all left now then
+next-finished g f t was all k left mid sets h now then once so_far step alike kept = record {
+  done = so_far.done ++ k ∷ [];
+  named = append_assoc so_far.done (k ∷ []) left ∙ so_far.named;
+  finished =
+      step ∙ ap (changed_where (is_of_inode (record { 0 = k })) h) so_far.finished
+      ∙ changed-twice_where (λ n. list_any (same_number n) so_far.done) (λ n. n == k) among_more g h g elsewhere more (λ row e. refl)
+      (λ row e. alike row e (kept-not (λ q. list_any (same_number q.ino.0) so_far.done) f t was sets so_far.kept row.holder (apart row.holder.ino.0 e))) t;
+  kept =
+      kept-same (λ q. list_any (same_number q.ino.0) so_far.done || (q.ino.0 == k)) (λ q. among_more q.ino.0) f t was then (λ q. more q.ino.0)
+      (kept-then (λ q. list_any (same_number q.ino.0) so_far.done) (λ q. q.ino.0 == k) f t mid was sets then so_far.kept kept
+      (λ q e. ap (λ (u : Table). find (is_row_of q) u.rows) so_far.finished
+      ∙ found-stays (on (λ n. list_any (same_number n) so_far.done)) g t q (λ row is. ap (λ (x : Holder). list_any (same_number x.ino.0) so_far.done) (sym is) ∙ apart q.ino.0 e)));
+}
+  where
+    among_more : ℕ → Bool
+    among_more n = list_any (same_number n) (so_far.done ++ k ∷ [])
+
+    apart : (n : ℕ) → (n == k) ≡ true → list_any (same_number n) so_far.done ≡ false
+    apart n e = next-apart so_far.done k left (subst (IsDistinct same_number) (sym so_far.named) once) n e
+
+    elsewhere : (n : ℕ) → list_any (same_number n) so_far.done ≡ true → (n == k) ≡ false
+    elsewhere n among = by_test (n == k) refl
+      where
+        by_test : (b : Bool) → (n == k) ≡ b → b ≡ false
+        by_test false e = refl
+        by_test true e = sym among ∙ apart n e
+
+    or_false : (b : Bool) → (b || false) ≡ b
+    or_false true = refl
+    or_false false = refl
+
+    more : (n : ℕ) → (list_any (same_number n) so_far.done || (n == k)) ≡ among_more n
+    more n =
+        ap (λ b. list_any (same_number n) so_far.done || b) (sym (unsigned_tied n k) ∙ sym (or_false (same_number n k)))
+        ∙ sym (list_any-append (same_number n) so_far.done (k ∷ []))
+
+-- at the end all inodes of a set are
+pub all-finished : {S : Type 0} (g : EntryRow → Entry) (f : EntryRow → Caps) (t : Table) (was : HashMap Holder Caps S) (inos : InoSet) (all : List ℕ) (now : Table) (sets : HashMap Holder Caps S)
+    → IsListOf inos all → IsFinishing g f t was all [] now sets
+    → (now ≡ changed_where (on (set.contains inos)) g t) × KeptAnew (λ k. set.contains inos k.ino.0) f t was sets
+all-finished g f t was inos all now sets lists so_far = (
+  so_far.finished ∙ ap (λ (rows : List EntryRow). record t { rows = rows }) (same_tests (λ n. list_any (same_number n) so_far.done) (set.contains inos) tests g t.rows),
+  kept-same (λ k. list_any (same_number k.ino.0) so_far.done) (λ k. set.contains inos k.ino.0) f t was sets (λ k. tests k.ino.0) so_far.kept,
+)
+  where
+    tests : (n : ℕ) → list_any (same_number n) so_far.done ≡ set.contains inos n
+    tests n = ap (list_any (same_number n)) (sym (append-nil so_far.done) ∙ so_far.named) ∙ sym (lists.among n)

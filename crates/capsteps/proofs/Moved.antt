@@ -1,0 +1,228 @@
+-- What moves leave as it is: the entries, which inodes are there and which have locks, the last number, and the rows in which what
+-- is held lies. Who waits then, waited before.
+use Rattle.std.proofs.Common.{◌≡◌, ℕ, Bool, not, Option, Some, None, is_some, List, [], ◌∷◌, ◌++◌, refl, sym, ap, subst, ◌∙◌, Contains, true≢false}
+use Rattle.std.specs.Prelude.{All}
+use Rattle.std.specs.Option.{option_map}
+use Rattle.std.specs.FinMap as map
+use Rattle.std.proofs.lemmas.List.Elements.{All-contains, All-contains_itself, All-cons, All-nil, All-weaker}
+use Rattle.capbits.specs.declared.cap.Part.{Part}
+use Rattle.capbits.specs.declared.cap.Part.TheVariants.{A}
+use Rattle.inotree.specs.Tree.{Nodes}
+use Rattle.inotree.proofs.OneInode.{known-changed}
+use Rattle.locktable.specs.declared.states.LockState.{LockState}
+use Rattle.locktable.specs.declared.states.LockState.TheVariants.{Stable, Gather}
+use Rattle.captable.specs.declared.entry.EntryRow.{EntryRow}
+use Rattle.captable.specs.Table.{Table}
+use Rattle.lockmachine.specs.declared.moves.Move.{Move}
+use Rattle.lockmachine.specs.declared.moves.Move.TheVariants.{Begin, End, Serve, Settled}
+use Rattle.lockmachine.specs.declared.request.Ask.{Ask}
+use Rattle.lockmachine.specs.declared.request.Request.{Request}
+use Rattle.lockmachine.specs.Inodes.{lock_in}
+use Rattle.lockmachine.specs.Requests.{is_numbered, first_for, is_for}
+use Rattle.lockmachine.specs.Locks.{LockMap, IsLockMap, lock_at, with_lock}
+use Rattle.lockmachine.specs.Scene.{Scene}
+use Rattle.lockmachine.specs.Moves.{LockPlace, present_state, coming_state, first_move, moved, with_moved}
+use Rattle.lockmachine.specs.Runs.{Runs}
+use Rattle.lockmachine.specs.Rows.{IsInRow}
+use Rattle.lockmachine.proofs.Finding.{contains-filter, fails_at, find_none}
+use Rattle.lockmachine.proofs.InRows.{one_keeps}
+use Rattle.lockmachine.proofs.Moving.{with_lock-each}
+use Rattle.lockmachine.proofs.Queue.{moved-kept}
+use Rattle.capevents.specs.declared.outcome.Outcome.{Outcome}
+use Rattle.capevents.specs.declared.outcome.Outcome.TheVariants as outcome
+use Rattle.capevents.specs.declared.outcome.Ended.{Ended}
+use Rattle.capsteps.specs.Serving.{served}
+use Rattle.capnotes.specs.Changing.{tree_with, tree_after}
+use Rattle.capsteps.specs.Settle.{Made, Began, Gathered, Served, Makes, MakesAll, ended_in}
+use Rattle.capsteps.proofs.Leaving.{found-contains}
+use Rattle.capsteps.proofs.OneChange.{by_ask}
+
+pub record IsMoved (first now : Scene) : Type 0 where
+  pub table : now.table ≡ first.table
+  pub sessions : now.sessions ≡ first.sessions
+  pub nodes : (q : ℕ) → map.contains_key now.tree.nodes q ≡ map.contains_key first.tree.nodes q
+  pub states : (q : ℕ) → map.contains_key now.locks.states q ≡ map.contains_key first.locks.states q
+  pub queue : (q : Request) → Contains now.locks.queue q → Contains first.locks.queue q
+  pub last : now.locks.last ≡ first.locks.last
+  pub order : IsLockMap first.locks → IsLockMap now.locks
+  pub in_rows : (row : EntryRow) (part : Part) → Contains first.table.rows row → IsInRow first row part → IsInRow now row part
+
+-- ---- one after another
+
+pub not-moved : (s : Scene) → IsMoved s s
+not-moved s = record {
+  table = refl;
+  sessions = refl;
+  nodes = λ q. refl;
+  states = λ q. refl;
+  queue = λ q inside. inside;
+  last = refl;
+  order = λ is. is;
+  in_rows = λ row part inside was. was;
+}
+
+pub moved-twice : (a b c : Scene) → IsMoved a b → IsMoved b c → IsMoved a c
+moved-twice a b c one two = record {
+  table = two.table ∙ one.table;
+  sessions = two.sessions ∙ one.sessions;
+  nodes = λ q. two.nodes q ∙ one.nodes q;
+  states = λ q. two.states q ∙ one.states q;
+  queue = λ q inside. one.queue q (two.queue q inside);
+  last = two.last ∙ one.last;
+  order = λ is. two.order (one.order is);
+  in_rows = λ row part inside was. two.in_rows row part (subst (λ (t : Table). Contains t.rows row) (sym one.table) inside) (one.in_rows row part inside was);
+}
+
+-- ---- which inodes have locks
+
+some-mapped : {X Y : Type 0} (f : X → Y) (o : Option X) → is_some (option_map f o) ≡ is_some o
+some-mapped f None = refl
+some-mapped f (Some x) = refl
+
+abbrev HasLock : LockMap → ℕ → Bool
+HasLock locks q = is_some (lock_at locks q A)
+
+lock-kept : (locks : LockMap) (ino : ℕ) (part : Part) (lock : LockState) (q : ℕ) → HasLock (with_lock locks ino part lock) q ≡ HasLock locks q
+lock-kept locks ino part lock q =
+    with_lock-each locks ino part lock (λ b (at : LockPlace) o. is_some o ≡ is_some (lock_at locks at.0 at.1)) (some-mapped (λ _. lock) (lock_at locks ino part)) (λ at. refl) (q, A)
+
+lock-moved : (locks : LockMap) (step : Move) (q : ℕ) → HasLock (moved locks step) q ≡ HasLock locks q
+lock-moved locks (Begin ino part to) q = lock-kept locks ino.0 part (Gather (present_state (lock_at locks ino.0 part)) to) q
+lock-moved locks (End ino part) q = lock-kept locks ino.0 part (Stable (coming_state (lock_at locks ino.0 part))) q
+lock-moved locks (Serve ticket) q = refl
+lock-moved locks Settled q = refl
+
+keys-moved : (locks : LockMap) (step : Move) (q : ℕ) → map.contains_key (moved locks step).states q ≡ map.contains_key locks.states q
+keys-moved locks step q =
+    sym (some-mapped (lock_in A) (map.get (moved locks step).states q)) ∙ lock-moved locks step q ∙ some-mapped (lock_in A) (map.get locks.states q)
+
+-- a lock that is not there now was not there
+none-mapped : {X Y : Type 0} (f g : X → Y) (o p : Option X) → is_some o ≡ is_some p → option_map f o ≡ None → option_map g p ≡ None
+none-mapped f g o None same none = refl
+none-mapped f g None (Some x) same none = absurd (true≢false (sym same))
+none-mapped f g (Some y) (Some x) same none = absurd (cc)
+
+pub no_lock-moved : (first now : Scene) → IsMoved first now → (ino : ℕ) (part : Part) → lock_at now.locks ino part ≡ None → lock_at first.locks ino part ≡ None
+no_lock-moved first now is ino part none =
+    none-mapped (lock_in part) (lock_in part) (map.get now.locks.states ino) (map.get first.locks.states ino) (is.states ino) none
+
+-- ---- who waits
+
+-- where nobody waited for a lock, nobody waits for it
+pub nobody-moved : (first now : Scene) → IsMoved first now → (ino : ℕ) (part : Part) → first_for first.locks.queue ino part ≡ None → first_for now.locks.queue ino part ≡ None
+nobody-moved first now is ino part none =
+    find_none (is_for ino part) now.locks.queue (λ q inside. fails_at (is_for ino part) first.locks.queue none q (is.queue q inside))
+
+queue-moved : (locks : LockMap) (step : Move) (q : Request) → Contains (moved locks step).queue q → Contains locks.queue q
+queue-moved locks (Begin ino part to) q inside = inside
+queue-moved locks (End ino part) q inside = inside
+queue-moved locks (Serve ticket) q inside = contains-filter (λ r. not (is_numbered ticket.0 r)) locks.queue q inside
+queue-moved locks Settled q inside = inside
+
+-- what all who waited have, all who wait have
+pub all-waiting : (P : Request → Type 0) (first now : Scene) → IsMoved first now → All P first.locks.queue → All P now.locks.queue
+all-waiting P first now is all =
+    All-weaker (Contains now.locks.queue) P (λ q inside. All-contains P first.locks.queue q all (is.queue q inside)) now.locks.queue (All-contains_itself now.locks.queue)
+
+-- ---- which inodes are there
+
+nodes-with : (tree : Nodes) (ino : ℕ) (ask : Ask) (q : ℕ) → map.contains_key (tree_with tree ino ask).nodes q ≡ map.contains_key tree.nodes q
+nodes-with tree ino ask q = by_ask tree ino (λ t. map.contains_key t.nodes q ≡ map.contains_key tree.nodes q) refl (λ f. known-changed tree f ino q) ask
+
+nodes-after : (tree : Nodes) (r : Request) (o : Outcome) (q : ℕ) → map.contains_key (tree_after tree r o).nodes q ≡ map.contains_key tree.nodes q
+nodes-after tree r outcome.Done q = nodes-with tree r.ino.0 r.ask q
+nodes-after tree r (outcome.Values shown) q = refl
+nodes-after tree r (outcome.Denied access rules) q = refl
+nodes-after tree r (outcome.Refused refusal) q = refl
+nodes-after tree r outcome.OutOfMemory q = refl
+nodes-after tree r outcome.Dropped q = refl
+
+-- ---- the moves
+
+moved-step : (s : Scene) (step : Move) → first_move s ≡ step → IsMoved s (with_moved s step)
+moved-step s step first = record {
+  table = refl;
+  sessions = refl;
+  nodes = λ q. refl;
+  states = keys-moved s.locks step;
+  queue = queue-moved s.locks step;
+  last = last-moved step;
+  order = moved-kept s.locks step;
+  in_rows = λ row part inside was. subst (λ (m : Move). IsInRow (with_moved s m) row part) first (one_keeps s row part inside was);
+}
+  where
+    last-moved : (step : Move) → (moved s.locks step).last ≡ s.locks.last
+    last-moved (Begin ino part to) = refl
+    last-moved (End ino part) = refl
+    last-moved (Serve ticket) = refl
+    last-moved Settled = refl
+
+moved-served : (s : Scene) (q : Request) (o : Outcome) → first_move s ≡ Serve q.ticket → IsMoved s (served s q o)
+moved-served s q o first =
+    let m = moved-step s (Serve q.ticket) first in
+    record { table = refl; sessions = refl; nodes = nodes-after s.tree q o; states = m.states; queue = m.queue; last = refl; order = m.order; in_rows = m.in_rows }
+
+pub moved-made : (s : Scene) (m : Made) (t : Scene) → Makes s m t → IsMoved s t
+moved-made s (Began ino part to) t (first, is) = subst (IsMoved s) (sym is) (moved-step s (Begin ino part to) first)
+moved-made s (Gathered ino part) t (first, is) = subst (IsMoved s) (sym is) (moved-step s (End ino part) first)
+moved-made s (Served q o) t (first, found, may, is) = subst (IsMoved s) (sym is) (moved-served s q o first)
+
+pub moved-all : (s : Scene) (ms : List Made) (t : Scene) → MakesAll s ms t → IsMoved s t
+moved-all s [] t is = subst (IsMoved s) (sym is) (not-moved s)
+moved-all s (m ∷ ms) t (mid, one, rest) = moved-twice s mid t (moved-made s m mid one) (moved-all mid ms t rest)
+
+-- moves, and then others
+pub makes-append : (s : Scene) (ms : List Made) (mid : Scene) (more : List Made) (t : Scene) → MakesAll s ms mid → MakesAll mid more t → MakesAll s (ms ++ more) t
+makes-append s [] mid more t is rest = subst (λ (u : Scene). MakesAll u more t) is rest
+makes-append s (m ∷ ms) mid more t (next, one, made) rest = (next, one, makes-append next ms mid more t made rest)
+
+-- and they end what the one end, and then what the others do
+pub ended-append : (ms more : List Made) → ended_in (ms ++ more) ≡ ended_in ms ++ ended_in more
+ended-append [] more = refl
+ended-append (Began ino part to ∷ ms) more = ended-append ms more
+ended-append (Gathered ino part ∷ ms) more = ended-append ms more
+ended-append (Served q o ∷ ms) more = ap (λ (rest : List Ended). record { client = q.client; ticket = q.ticket; outcome = o } ∷ rest) (ended-append ms more)
+
+-- ---- the requests that ended
+
+-- the request waited
+pub record Waited (queue : List Request) (m : Ended) : Type 0 where
+  pub request : Request
+  pub inside : Contains queue request
+  pub client : m.client ≡ request.client
+  pub ticket : m.ticket ≡ request.ticket
+
+waited-moved : (first now : Scene) → IsMoved first now → (m : Ended) → Waited now.locks.queue m → Waited first.locks.queue m
+waited-moved first now is m w = record { request = w.request; inside = is.queue w.request w.inside; client = w.client; ticket = w.ticket }
+
+-- so did each that the moves ended
+pub ended-waited : (s : Scene) (ms : List Made) (t : Scene) → MakesAll s ms t → All (Waited s.locks.queue) (ended_in ms)
+ended-waited s [] t is = All-nil (Waited s.locks.queue)
+ended-waited s (m ∷ ms) t (mid, one, rest) =
+    by_move m one (All-weaker (Waited mid.locks.queue) (Waited s.locks.queue) (waited-moved s mid (moved-made s m mid one)) (ended_in ms) (ended-waited mid ms t rest))
+  where
+    by_move : (m : Made) → Makes s m mid → All (Waited s.locks.queue) (ended_in ms) → All (Waited s.locks.queue) (ended_in (m ∷ ms))
+    by_move (Began ino part to) one all = all
+    by_move (Gathered ino part) one all = all
+    by_move (Served q o) (first, found, may, is) all =
+        All-cons (Waited s.locks.queue) (record { client = q.client; ticket = q.ticket; outcome = o }) (ended_in ms)
+        (record { request = q; inside = found-contains (is_numbered q.ticket.0) s.locks.queue q found; client = refl; ticket = refl }) all
+
+-- ---- moves of locks, as the step names them
+
+-- some moves of locks alone lead from one scene to the other
+pub record OfLocks (old new : Scene) : Type 0 where
+  pub moves : List Made
+  pub made : MakesAll old moves new
+  pub none : ended_in moves ≡ []
+
+pub as_made : (old : Scene) (steps : List Move) (new : Scene) → Runs old steps new → OfLocks old new
+as_made old [] new runs = record { moves = []; made = runs; none = refl }
+as_made old (Begin ino part to ∷ steps) new (first, lock, runs) =
+    let rest = as_made (with_moved old (Begin ino part to)) steps new runs in
+    record { moves = Began ino part to ∷ rest.moves; made = (with_moved old (Begin ino part to), (first, refl), rest.made); none = rest.none }
+as_made old (End ino part ∷ steps) new (first, lock, runs) =
+    let rest = as_made (with_moved old (End ino part)) steps new runs in
+    record { moves = Gathered ino part ∷ rest.moves; made = (with_moved old (End ino part), (first, refl), rest.made); none = rest.none }
+as_made old (Serve ticket ∷ steps) new (first, lock, runs) = absurd (true≢false (sym lock))
+as_made old (Settled ∷ steps) new (first, lock, runs) = absurd (true≢false (sym lock))

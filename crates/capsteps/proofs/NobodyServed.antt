@@ -1,0 +1,81 @@
+-- A settling that served nobody: the tree stays, and where the locks of an inode do too, whoever had all there has it still.
+use Rattle.std.proofs.Common.{◌≡◌, ℕ, ◌==◌, Bool, false, ◌||◌, None, Some, List, [], ◌∷◌, refl, sym, ap, subst, ◌∙◌, arith}
+use Rattle.std.specs.FinMap as map
+use Rattle.std.specs.FinSet as set
+use Rattle.std.specs.HashMap.{HashMap}
+use Rattle.capbits.specs.declared.ids.Ino.{Ino}
+use Rattle.capbits.specs.Caps.{Caps}
+use Rattle.capbits.specs.Sets.{IsSubset}
+use Rattle.inotree.specs.Tree.{Nodes}
+use Rattle.sessiontab.specs.Table.{SessionTable}
+use Rattle.captable.specs.declared.entry.EntryRow.{EntryRow}
+use Rattle.captable.specs.declared.entry.Holder.{Holder}
+use Rattle.captable.specs.Table.{Table}
+use Rattle.lockmachine.specs.Locks.{LockMap}
+use Rattle.lockmachine.specs.Policy.{permitted}
+use Rattle.lockmachine.specs.Scene.{Scene, scene}
+use Rattle.capevents.specs.declared.outcome.Ended.{Ended}
+use Rattle.capsteps.specs.Finishing.{due_under, told_under}
+use Rattle.capnotes.specs.InoSets.{InoSet, IsNext}
+use Rattle.capsteps.specs.Known.{OthersHaveAll}
+use Rattle.capsteps.specs.Serves.{SettlesWith, EndsAt, EndsWith, is_touched}
+use Rattle.capsteps.specs.Settle.{Made, Began, Gathered, Served, MakesAll, ended_in, sized_in}
+use Rattle.capsteps.proofs.SameOff.{off-wider}
+
+-- moves that end no request serve nobody: they change no size, and leave the tree
+nobody-served : (first : Scene) (moves : List Made) (settled : Scene) → MakesAll first moves settled → ended_in moves ≡ [] → (sized_in moves ≡ []) × (settled.tree ≡ first.tree)
+nobody-served first [] settled made none = (refl, ap (λ (s : Scene). s.tree) made)
+nobody-served first (Began ino part to ∷ ms) settled (mid, makes, rest) none =
+    let later = nobody-served mid ms settled rest none in (later.0, later.1 ∙ ap (λ (s : Scene). s.tree) makes.1)
+nobody-served first (Gathered ino part ∷ ms) settled (mid, makes, rest) none =
+    let later = nobody-served mid ms settled rest none in (later.0, later.1 ∙ ap (λ (s : Scene). s.tree) makes.1)
+nobody-served first (Served q o ∷ ms) settled made none = absurd (cc)
+
+-- ---- at one inode
+
+none-besides : (ino : ℕ) (touched : InoSet) → IsNext touched 0 None → (other : ℕ) → (other == ino) ≡ false → is_touched ino touched other ≡ false
+none-besides ino touched none other off = ap (λ b. b || set.contains touched other) off ∙ none other (omega arith)
+
+module _ (ino : ℕ) (from : ℕ → Bool) (touched : InoSet) (first settled : Scene) (ended : List Ended) (sized : List Ino)
+    (settles : SettlesWith (is_touched ino touched) from first settled ended sized) (nobody : ended ≡ []) where
+  moves-none : ended_in settles.moves ≡ []
+  moves-none = sym settles.ended_is ∙ nobody
+
+  pub tree-stays : settled.tree ≡ first.tree
+  tree-stays = let at = settles.settles in let all = at.settles in (nobody-served first settles.moves settled all.made moves-none).1
+
+  -- where no other inode was touched, the locks have settled at this one
+  pub settles-alone : IsNext touched 0 None → SettlesWith (λ other. other == ino) (λ other. other == ino) first settled ended []
+  settles-alone none = let at = settles.settles in let all = at.settles in record {
+    moves = settles.moves;
+    settles = record { settles = all; among = λ other is. is; same = off-wider (is_touched ino touched) (λ other. other == ino) first settled (none-besides ino touched none) at.same };
+    ended_is = settles.ended_is;
+    sized_is = sym (nobody-served first settles.moves settled all.made moves-none).0;
+  }
+
+-- whoever has all by the tree and the locks of the inode, has it by others that are the same
+pub still-all_there : {S : Type 0} (sets : HashMap Holder Caps S) (fs : List ℕ) (tree after : Nodes) (sessions : SessionTable) (table : Table) (locks then : LockMap) (k : Holder)
+    → after ≡ tree → map.get then.states k.ino.0 ≡ map.get locks.states k.ino.0 → OthersHaveAll sets (scene fs tree sessions table locks) k → OthersHaveAll sets (scene fs after sessions table then) k
+still-all_there sets fs tree after sessions table locks then k same_tree same_locks others j e on apart there =
+    let row : EntryRow = record { holder = j; entry = e } in
+    let all = others j e on apart there in
+    let here : map.get locks.states j.ino.0 ≡ map.get then.states j.ino.0 = ap (map.get locks.states) on ∙ sym same_locks ∙ sym (ap (map.get then.states) on) in
+    let trees : tree ≡ after = sym same_tree in (
+      subst (λ (caps : Caps). IsSubset caps e.held) (λ i. due_under fs (trees i) sessions (here i) row) all.0,
+      all.1 ∙ ap Some (λ i. told_under (permitted fs (trees i) sessions j) (here i) row),
+    )
+
+-- ---- the step
+
+-- the locks settle and then the step ends
+pub settled-ends : {S : Type 0} (at from : ℕ → Bool) (was now : HashMap Holder Caps S) (first settled last : Scene) (ended : List Ended) (sized : List Ino)
+    → SettlesWith at from first settled ended sized → EndsAt at sized was now settled last → EndsWith from was now first last ended
+settled-ends at from was now first settled last ended sized settles ends = record {
+  at = at;
+  settled = settled;
+  sized = sized;
+  settles = settles;
+  tree = ends.tree;
+  finished = ends.finished;
+  kept = ends.kept;
+}

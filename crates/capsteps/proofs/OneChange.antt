@@ -1,0 +1,136 @@
+-- What a request that is served leaves of the tree.
+use Rattle.std.proofs.Common.{◌≡◌, ◌≢◌, ℕ, true, false, None, ◌⊎◌, inl, inr, refl, subst}
+use Rattle.std.specs.FinMap as map
+use Rattle.capbits.specs.Refusal.{first_failing}
+use Rattle.capbits.proofs.Tests.{pass-both}
+use Rattle.inotree.specs.declared.node.Node.{Node}
+use Rattle.inotree.specs.declared.node.Site.TheVariants.{Under, Stray}
+use Rattle.inotree.specs.Inodes.{with_setting, with_attribute, without_attribute, with_site}
+use Rattle.inotree.specs.Tree.{Nodes, IsTree, is_within, place}
+use Rattle.inotree.specs.Calls.{changed}
+use Rattle.inotree.specs.Alike.{IsAlike}
+use Rattle.inotree.proofs.Changes.{setting_site}
+use Rattle.inotree.proofs.Elsewhere.{alike-changed}
+use Rattle.inotree.proofs.Moving.{moved-alike, moved-tree, moved-within, changed-within}
+use Rattle.inotree.proofs.OneInode.{known-changed, place-other, alike-but, alike-unlinked, childless-file, childless-empty, sound-setting, sound-attribute, sound-no-attribute, sound-unlink, sound-rmdir}
+use Rattle.lockmachine.specs.declared.request.Change.{Change}
+use Rattle.lockmachine.specs.declared.request.Change.TheVariants.{Set, SetXattr, RemoveXattr}
+use Rattle.lockmachine.specs.declared.request.Ask.{Ask}
+use Rattle.lockmachine.specs.declared.request.Ask.TheVariants.{Get, Alter, Unlink, Rmdir, Rename}
+use Rattle.lockmachine.specs.declared.request.Request.{Request}
+use Rattle.lockmachine.specs.Scene.{Scene}
+use Rattle.lockmachine.proofs.PolicyElsewhere.{alike-itself}
+use Rattle.capevents.specs.declared.outcome.Outcome.{Outcome}
+use Rattle.capevents.specs.declared.outcome.Outcome.TheVariants as outcome
+use Rattle.capsteps.specs.Serving.{MayEndAs}
+use Rattle.capnotes.specs.Changing.{tree_after, tree_with, tree_changed}
+use Rattle.capsteps.specs.Asks.{ask_before, ask_needs, ask_after, change_tests}
+use Rattle.capsteps.specs.Served.{is_rename}
+use Rattle.capsteps.proofs.Again.{leaves-or-makes, passed-all}
+
+-- ---- whatever is asked for
+
+-- the tree with what is asked for is that of before, or a change of its inode
+module _ (tree : Nodes) (ino : ℕ) (P : Nodes → Type 0) (same : P tree) (each : (f : Node → Node) → P (changed f tree ino)) where
+  pub by_change : (change : Change) → P (tree_changed tree ino change)
+  by_change (Set setting) = each (with_setting setting)
+  by_change (SetXattr name value) = each (with_attribute name value)
+  by_change (RemoveXattr name) = each (without_attribute name)
+
+  pub by_ask : (ask : Ask) → P (tree_with tree ino ask)
+  by_ask (Get part) = same
+  by_ask (Alter change) = by_change change
+  by_ask Unlink = each (with_site Stray)
+  by_ask Rmdir = each (with_site Stray)
+  by_ask (Rename dir name) = each (with_site (Under (record { 0 = dir.0 }) name))
+
+module _ (s : Scene) (q : Request) (o : Outcome) (ends : MayEndAs s q o) where
+  after_any : (P : Nodes → Type 0) → P s.tree → ((f : Node → Node) → P (changed f s.tree q.ino.0)) → P (tree_after s.tree q o)
+  after_any P same each = elim (leaves-or-makes s q o ends) [
+    | inl left ↦ subst P left same
+    | inr made ↦ subst P made.1 (by_ask s.tree q.ino.0 P same each q.ask)
+  ]
+
+  pub known-after : (ino : ℕ) → map.contains_key (tree_after s.tree q o).nodes ino ≡ map.contains_key s.tree.nodes ino
+  known-after ino = after_any (λ t. map.contains_key t.nodes ino ≡ map.contains_key s.tree.nodes ino) refl (λ f. known-changed s.tree f q.ino.0 ino)
+
+  pub place-after : (ino : ℕ) → (ino ≡ q.ino.0 → ⊥) → place (tree_after s.tree q o).nodes ino ≡ place s.tree.nodes ino
+  place-after ino off = after_any (λ t. place t.nodes ino ≡ place s.tree.nodes ino) refl (λ f. place-other s.tree f q.ino.0 ino off)
+
+  pub last-after : (tree_after s.tree q o).last ≡ s.tree.last
+  last-after = after_any (λ t. t.last ≡ s.tree.last) refl (λ f. refl)
+
+-- ---- by what is asked for
+
+pub alike_change : (tree : Nodes) (ino other : ℕ) (change : Change) → (other ≡ ino → ⊥) → IsAlike tree (tree_changed tree ino change) other
+alike_change tree ino other (Set setting) off = alike-but (with_setting setting) (setting_site setting) tree ino other off
+alike_change tree ino other (SetXattr name value) off = alike-changed tree (with_attribute name value) ino (λ n. refl) (λ n. refl) other
+alike_change tree ino other (RemoveXattr name) off = alike-changed tree (without_attribute name) ino (λ n. refl) (λ n. refl) other
+
+-- what is not below the inode, where that moves
+alike_ask : (s : Scene) (ino other : ℕ) (ask : Ask) → IsTree s.tree → first_failing (ask_after s ino ask) ≡ None → (other ≡ ino → ⊥)
+    → (is_rename ask ≡ true → is_within s.tree.nodes other ino ≡ false) → IsAlike s.tree (tree_with s.tree ino ask) other
+alike_ask s ino other (Get part) sound passed off below = alike-itself s.tree other
+alike_ask s ino other (Alter change) sound passed off below = alike_change s.tree ino other change off
+alike_ask s ino other Unlink sound passed off below = alike-unlinked s.tree ino other (childless-file s.tree ino sound passed) off
+alike_ask s ino other Rmdir sound passed off below = alike-unlinked s.tree ino other (childless-empty s.tree ino passed) off
+alike_ask s ino other (Rename dir name) sound passed off below = moved-alike s.tree ino dir.0 name other (below refl)
+
+pub sound_change : (s : Scene) (ino : ℕ) (change : Change) → IsTree s.tree → first_failing (change_tests s ino change) ≡ None → IsTree (tree_changed s.tree ino change)
+sound_change s ino (Set setting) sound passed = sound-setting s.tree setting ino sound
+sound_change s ino (SetXattr name value) sound passed = sound-attribute s.tree name value ino sound passed
+sound_change s ino (RemoveXattr name) sound passed = sound-no-attribute s.tree name ino sound
+
+sound_ask : (s : Scene) (ino : ℕ) (ask : Ask) → IsTree s.tree → first_failing (ask_before s ino ask) ≡ None → first_failing (ask_after s ino ask) ≡ None → IsTree (tree_with s.tree ino ask)
+sound_ask s ino (Get part) sound one more = sound
+sound_ask s ino (Alter change) sound one more = sound_change s ino change sound more
+sound_ask s ino Unlink sound one more = sound-unlink s.tree ino sound one more
+sound_ask s ino Rmdir sound one more = sound-rmdir s.tree ino sound one more
+sound_ask s ino (Rename dir name) sound one more =
+    moved-tree s.tree ino dir.0 name sound (pass-both (ask_before s ino (Rename dir name)) (ask_after s ino (Rename dir name)) one more)
+
+-- what lies below another did so before, or the inode moved and it lay at or below that
+abbrev Lay : Nodes → ℕ → Ask → ℕ → ℕ → Type 0
+Lay tree ino ask other above = (is_within tree.nodes other above ≡ true) ⊎ ((is_rename ask ≡ true) × (is_within tree.nodes other ino ≡ true))
+
+within_change : (tree : Nodes) (ino other above : ℕ) (change : Change) → is_within (tree_changed tree ino change).nodes other above ≡ true → is_within tree.nodes other above ≡ true
+within_change tree ino other above (Set setting) below = changed-within (with_setting setting) (λ n. inl (setting_site setting n)) tree ino other above below
+within_change tree ino other above (SetXattr name value) below = changed-within (with_attribute name value) (λ n. inl refl) tree ino other above below
+within_change tree ino other above (RemoveXattr name) below = changed-within (without_attribute name) (λ n. inl refl) tree ino other above below
+
+within_ask : (tree : Nodes) (ino other above : ℕ) (ask : Ask) → is_within (tree_with tree ino ask).nodes other above ≡ true → Lay tree ino ask other above
+within_ask tree ino other above (Get part) below = inl below
+within_ask tree ino other above (Alter change) below = inl (within_change tree ino other above change below)
+within_ask tree ino other above Unlink below = inl (changed-within (with_site Stray) (λ n. inr refl) tree ino other above below)
+within_ask tree ino other above Rmdir below = inl (changed-within (with_site Stray) (λ n. inr refl) tree ino other above below)
+within_ask tree ino other above (Rename dir name) below = elim (moved-within tree ino dir.0 name other above below) [
+  | inl lay ↦ inl lay
+  | inr moved ↦ inr (refl, moved)
+]
+
+-- ---- however it ends
+
+pub within-after : (tree : Nodes) (q : Request) (o : Outcome) (other above : ℕ) → is_within (tree_after tree q o).nodes other above ≡ true → Lay tree q.ino.0 q.ask other above
+within-after tree q outcome.Done other above below = within_ask tree q.ino.0 other above q.ask below
+within-after tree q (outcome.Values shown) other above below = inl below
+within-after tree q (outcome.Denied access rules) other above below = inl below
+within-after tree q (outcome.Refused refusal) other above below = inl below
+within-after tree q outcome.OutOfMemory other above below = inl below
+within-after tree q outcome.Dropped other above below = inl below
+
+pub alike-apart : (s : Scene) (q : Request) (o : Outcome) (ino : ℕ) → IsTree s.tree → MayEndAs s q o → ino ≢ q.ino.0
+    → (is_rename q.ask ≡ true → is_within s.tree.nodes ino q.ino.0 ≡ false) → IsAlike s.tree (tree_after s.tree q o) ino
+alike-apart s q o ino sound ends off below = elim (leaves-or-makes s q o ends) [
+  | inl left ↦ subst (λ (t : Nodes). IsAlike s.tree t ino) left (alike-itself s.tree ino)
+  | inr made ↦
+      let passed = passed-all s (ask_before s q.ino.0 q.ask) (ask_needs s q.client q.ino.0 q.ask) (ask_after s q.ino.0 q.ask) made.0 in
+      subst (λ (t : Nodes). IsAlike s.tree t ino) made.1 (alike_ask s q.ino.0 ino q.ask sound passed.1 off below)
+]
+
+pub sound-after : (s : Scene) (q : Request) (o : Outcome) → IsTree s.tree → MayEndAs s q o → IsTree (tree_after s.tree q o)
+sound-after s q o sound ends = elim (leaves-or-makes s q o ends) [
+  | inl left ↦ subst IsTree left sound
+  | inr made ↦
+      let passed = passed-all s (ask_before s q.ino.0 q.ask) (ask_needs s q.client q.ino.0 q.ask) (ask_after s q.ino.0 q.ask) made.0 in
+      subst IsTree made.1 (sound_ask s q.ino.0 q.ask sound passed.0 passed.1)
+]

@@ -1,0 +1,97 @@
+-- What an entry holds is in place, where it is in its row: what is outside the row of a gather's target is being revoked, by
+-- what revoking is.
+use Rattle.std.proofs.Common.{◌≡◌, zero, suc, Bool, true, false, not, cond, ◌||◌, ◌&&◌, Option, Some, None, List, [], ◌∷◌, filter, refl, sym, ap, ◌∙◌, Contains, arith, true≢false}
+use Rattle.std.specs.List.{list_any}
+use Rattle.std.specs.Cmp.{nat_eq_equiv}
+use Rattle.capbits.specs.declared.cap.Cap.{Cap}
+use Rattle.capbits.specs.declared.cap.Part.{Part}
+use Rattle.capbits.specs.declared.cap.Part.TheVariants.{A, L, X, F}
+use Rattle.capbits.specs.Caps.{has}
+use Rattle.capbits.specs.Sets.{is_empty, union, of_part, has-union, has-minus}
+use Rattle.capbits.proofs.Emptiness.{has-is_empty}
+use Rattle.locktable.specs.declared.states.State.{State}
+use Rattle.locktable.specs.declared.states.LockState.{LockState}
+use Rattle.locktable.specs.declared.states.LockState.TheVariants.{Stable, Gather}
+use Rattle.locktable.specs.Rows.{row_of}
+use Rattle.captable.specs.declared.entry.EntryRow.{EntryRow}
+use Rattle.captable.specs.Calls.{is_of_inode}
+use Rattle.lockmachine.specs.Locks.{lock_at}
+use Rattle.lockmachine.specs.Scene.{Scene, outside, against_lock, against_part, against_locks, against_policy, against, told_set}
+use Rattle.lockmachine.specs.Rows.{IsInRowOf, IsInRow}
+use Rattle.lockmachine.specs.Policy.{permitted}
+use Rattle.capsteps.specs.Headline.{IsTakenBack, IsInPlace, AreRevoked}
+
+pub second_true : (a b : Bool) → b ≡ true → (a || b) ≡ true
+second_true true b e = refl
+second_true false b e = e
+
+-- a row that passes two tests is found by both
+pub any_found : (p q : EntryRow → Bool) (rows : List EntryRow) (row : EntryRow) → Contains rows row → p row ≡ true → q row ≡ true → list_any q (filter p rows) ≡ true
+any_found p q [] row (k, room, is) on passes = absurd (omega arith)
+any_found p q (x ∷ xs) row (zero, room, is) on passes =
+    let e : x ≡ row = is in
+    ap (λ b. list_any q (cond b (x ∷ filter p xs) (filter p xs))) (ap p e ∙ on) ∙ ap (λ b. b || list_any q (filter p xs)) (ap q e ∙ passes)
+any_found p q (x ∷ xs) row (suc k, room, is) on passes = later (p x) (any_found p q xs row (k, omega arith, is) on passes)
+  where
+    later : (b : Bool) → list_any q (filter p xs) ≡ true → list_any q (cond b (x ∷ filter p xs) (filter p xs)) ≡ true
+    later false found = found
+    later true found = second_true (q x) (list_any q (filter p xs)) found
+
+-- what a lock takes is being revoked
+by_locks : (s : Scene) (row : EntryRow) (part : Part) (c : Cap) → has (against_part s row part) c ≡ true → has (against_locks s row) c ≡ true
+by_locks s row A c h = has-union _ _ c ∙ ap (λ b. b || has (union (against_part s row L) (union (against_part s row X) (against_part s row F))) c) h
+by_locks s row L c h = has-union _ _ c ∙ second_true _ _ (has-union _ _ c ∙ ap (λ b. b || has (union (against_part s row X) (against_part s row F)) c) h)
+by_locks s row X c h = has-union _ _ c ∙ second_true _ _ (has-union _ _ c ∙ second_true _ _ (has-union _ _ c ∙ ap (λ b. b || has (against_part s row F) c) h))
+by_locks s row F c h = has-union _ _ c ∙ second_true _ _ (has-union _ _ c ∙ second_true _ _ (has-union _ _ c ∙ second_true _ _ h))
+
+part_in_all : (s : Scene) (row : EntryRow) (part : Part) (c : Cap) → has (against_part s row part) c ≡ true → has (against s row) c ≡ true
+part_in_all s row part c h = has-union (against_locks s row) (against_policy s row) c ∙ ap (λ b. b || has (against_policy s row) c) (by_locks s row part c h)
+
+module _ (s : Scene) (row : EntryRow) (inside : Contains s.table.rows row) (part : Part) where
+  -- what is outside the row of a gather's target is being revoked, and keeps the gather open
+  taken_back : (from to : State) → lock_at s.locks row.holder.ino.0 part ≡ Some (Gather from to) → IsTakenBack s row part to
+  taken_back from to is c held out =
+      let is_outside : has (outside part to row) c ≡ true = has-minus (of_part part row.entry.held) (row_of part to row.holder.client) c ∙ (λ i. held i && not (out i)) in (
+        part_in_all s row part c (ap (λ o. has (against_lock part row o) c) is ∙ is_outside),
+        any_found (is_of_inode row.holder.ino) (λ r. not (is_empty (outside part to r))) s.table.rows row inside (nat_eq_equiv.refl row.holder.ino.0) (not_empty (is_empty (outside part to row)) refl is_outside),
+      )
+    where
+      not_empty : (b : Bool) → is_empty (outside part to row) ≡ b → has (outside part to row) c ≡ true → not b ≡ true
+      not_empty false e h = refl
+      not_empty true e h = absurd (true≢false (sym h ∙ has-is_empty (outside part to row) e c))
+
+  by_lock : (o : Option LockState) → lock_at s.locks row.holder.ino.0 part ≡ o → IsInRowOf row part o → IsInPlace s row part o
+  by_lock None is in_row = in_row
+  by_lock (Some (Stable state)) is in_row = in_row
+  by_lock (Some (Gather from to)) is in_row = (in_row, taken_back from to is)
+
+  pub placed : IsInRow s row part → IsInPlace s row part (lock_at s.locks row.holder.ino.0 part)
+  placed in_row = by_lock (lock_at s.locks row.holder.ino.0 part) refl in_row
+
+-- and what is in place is in its row
+pub placed-in_row : (s : Scene) (row : EntryRow) (part : Part) (o : Option LockState) → IsInPlace s row part o → IsInRowOf row part o
+placed-in_row s row part None place = place
+placed-in_row s row part (Some (Stable state)) place = place
+placed-in_row s row part (Some (Gather from to)) place = place.0
+
+-- ---- what is not permitted
+
+revoked-lost : (s : Scene) (row : EntryRow) (cap : Cap) → has row.entry.held cap ≡ true → has (permitted s.fs s.tree s.sessions row.holder) cap ≡ false → has (against s row) cap ≡ true
+revoked-lost s row cap held out =
+    has-union (against_locks s row) (against_policy s row) cap
+    ∙ second_true _ _ (has-minus row.entry.held (permitted s.fs s.tree s.sessions row.holder) cap ∙ (λ i. held i && not (out i)))
+
+pub all-revoked : (s : Scene) → AreRevoked s
+all-revoked s row cap found = revoked-lost s row cap
+
+-- so what a client is to know that it holds is permitted
+pub told-permitted : (s : Scene) (row : EntryRow) (cap : Cap) → has (told_set s row) cap ≡ true → has (permitted s.fs s.tree s.sessions row.holder) cap ≡ true
+told-permitted s row cap told = by_test (has (permitted s.fs s.tree s.sessions row.holder) cap) (has row.entry.held cap) refl refl
+  where
+    is : (has row.entry.held cap && not (has (against s row) cap)) ≡ true
+    is = sym (has-minus row.entry.held (against s row) cap) ∙ told
+
+    by_test : (p h : Bool) → has (permitted s.fs s.tree s.sessions row.holder) cap ≡ p → has row.entry.held cap ≡ h → p ≡ true
+    by_test true h may held = refl
+    by_test false true out held = absurd (true≢false (sym is ∙ (λ i. held i && not (revoked-lost s row cap held out i))))
+    by_test false false out held = absurd (true≢false (sym is ∙ ap (λ b. b && not (has (against s row) cap)) held))

@@ -1,0 +1,252 @@
+-- The messages that a walk over a client's entries lists, and what giving them leaves.
+use Rattle.std.proofs.Common.{Contains, Option, ◌≡◌, ◌≤◌, ◌-◌, ℕ, zero, suc, Bool, true, false, cond, ◌&&◌, ◌||◌, List, [], ◌∷◌, ◌++◌, length, take, filter, map, refl, sym, ap, subst, ◌∙◌, append_assoc, append-nil, arith}
+use Rattle.std.specs.Prelude.{◌==◌, nat_lt}
+use Rattle.std.specs.List.{list_any, flat_map, IsDistinct}
+use Rattle.std.specs.Cmp.{nat_eq_equiv}
+use Rattle.std.specs.FinMap as finite
+use Rattle.std.specs.HashMap.{HashMap}
+use Rattle.std.specs.Option.{unwrap_or}
+use Rattle.capbits.specs.Sets.{no_caps}
+use Rattle.capsteps.specs.Known.{known_in, AreKnown}
+use Rattle.std.proofs.lemmas.Bool.{or_parts}
+use Rattle.std.proofs.lemmas.List.{take-append-le, take_all}
+use Rattle.std.proofs.lemmas.List.Folds.{list_any-append}
+use Rattle.capbits.specs.declared.ids.ClientId.{ClientId}
+use Rattle.capbits.specs.declared.ids.Ino.{Ino}
+use Rattle.capbits.specs.Caps.{Caps}
+use Rattle.captable.specs.declared.entry.Entry.{Entry}
+use Rattle.captable.specs.declared.entry.EntryRow.{EntryRow}
+use Rattle.captable.specs.declared.entry.Holder.{Holder}
+use Rattle.captable.specs.Table.{Table, IsTable, holder, same, is_among, entry_of, entry_at}
+use Rattle.captable.proofs.ByHolder.{row_found}
+use Rattle.captable.specs.Calls.{is_of_client, is_due, changed, told, with_asked, with_size_due}
+use Rattle.captable.specs.Many.{changed_where, remade}
+use Rattle.captable.proofs.OneByOne.{fold-changed_by}
+use Rattle.lockmachine.specs.Scene.{Scene, told_set}
+use Rattle.capevents.specs.declared.outcome.Ended.{Ended}
+use Rattle.capevents.specs.declared.outcome.Message.{Message}
+use Rattle.capevents.specs.declared.outcome.Message.TheVariants as message
+use Rattle.capsteps.specs.State.{State}
+use Rattle.capsteps.specs.Messages.{row_messages, size_message, first_messages, end_messages, after_messages, is_caps_of, is_size_of, is_recall_of, told_if, sized_if, unasked_if}
+use Rattle.capsteps.proofs.Telling.{map_alike, given_fields, given-fields}
+
+-- ---- the first of a list
+
+pub take-take_append : {X : Type 0} (n : ℕ) (xs ys : List X) → take n (take n xs ++ ys) ≡ take n (xs ++ ys)
+take-take_append zero xs ys = refl
+take-take_append (suc n) [] ys = refl
+take-take_append (suc n) (x ∷ xs) ys = ap (λ zs. x ∷ zs) (take-take_append n xs ys)
+
+length-take_le : {X : Type 0} (n : ℕ) (xs : List X) → length (take n xs) ≤ n
+length-take_le zero xs = omega arith
+length-take_le (suc n) [] = omega arith
+length-take_le (suc n) (x ∷ xs) = omega (arith, length-take_le n xs)
+
+-- ---- the messages that are listed
+
+-- those that are due to the clients of some entries
+abbrev pub due_of : Scene → List EntryRow → List Message
+due_of s rows = flat_map (row_messages s) rows
+
+-- what is listed so far, and what the entries that are left add to it: the requests that ended come first
+pub record IsListed (max : ℕ) (s : Scene) (first : List Message) (rows : List EntryRow) (listed : List Message) (left : List EntryRow) : Type 0 where
+  pub is : take max (listed ++ due_of s left) ≡ take max (first ++ due_of s rows)
+
+-- one entry more
+pub listed-more : (max : ℕ) (s : Scene) (first : List Message) (rows left : List EntryRow) (listed more : List Message) (row : EntryRow)
+    → more ≡ take max (listed ++ row_messages s row) → IsListed max s first rows listed (row ∷ left) → IsListed max s first rows more left
+listed-more max s first rows left listed more row is so_far = record {
+  is =
+      ap (λ xs. take max (xs ++ due_of s left)) is
+      ∙ take-take_append max (listed ++ one) (due_of s left)
+      ∙ ap (take max) (append_assoc listed one (due_of s left))
+      ∙ so_far.is;
+}
+  where
+    one : List Message
+    one = row_messages s row
+
+pub few-more : (max : ℕ) (xs more : List Message) → more ≡ take max xs → length more ≤ max
+few-more max xs more is = subst (λ (ys : List Message). length ys ≤ max) (sym is) (length-take_le max xs)
+
+-- where no entry is left, or as many are listed as may be, they are the first
+pub listed-all : (max : ℕ) (s : Scene) (first : List Message) (rows : List EntryRow) (listed : List Message) → length listed ≤ max → IsListed max s first rows listed [] → listed ≡ take max (first ++ due_of s rows)
+listed-all max s first rows listed few so_far = sym (take_all max listed few) ∙ ap (take max) (sym (append-nil listed)) ∙ so_far.is
+
+pub listed-full : (max : ℕ) (s : Scene) (first : List Message) (rows left : List EntryRow) (listed : List Message) → length listed ≤ max → max ≤ length listed → IsListed max s first rows listed left
+    → listed ≡ take max (first ++ due_of s rows)
+listed-full max s first rows left listed few full so_far = sym (take_all max listed few) ∙ sym (take-append-le max listed (due_of s left) full) ∙ so_far.is
+
+-- and so the first that are due to a client
+first-due : (s : State) (client : ClientId) (max : ℕ) (t : Table) (ended : List Ended) → s.scene.table ≡ t → s.messages ≡ ended
+    → first_messages s client max ≡ take max (end_messages client ended ++ due_of s.scene (filter (is_of_client client) t.rows))
+first-due s client max t ended table messages =
+    ap (λ ms. take max (end_messages client ms ++ due_of s.scene (filter (is_of_client client) s.scene.table.rows))) messages
+    ∙ ap (λ (t : Table). take max (end_messages client ended ++ due_of s.scene (filter (is_of_client client) t.rows))) table
+
+-- entries that are not due add no message
+due-rows : (s : Scene) (rows : List EntryRow) → due_of s (filter is_due rows) ≡ due_of s rows
+due-rows s [] = refl
+due-rows s (row ∷ rows) = by_test (is_due row) refl (due-rows s rows)
+  where
+    by_test : (b : Bool) → is_due row ≡ b → due_of s (filter is_due rows) ≡ due_of s rows → due_of s (cond b (row ∷ filter is_due rows) (filter is_due rows)) ≡ due_of s (row ∷ rows)
+    by_test true e rest = ap (λ ms. row_messages s row ++ ms) rest
+    by_test false e rest =
+        let p = or_parts (nat_lt row.entry.told_seq row.entry.seq) (row.entry.size_due || row.entry.asked) e in
+        let q = or_parts row.entry.size_due row.entry.asked p.1 in
+        let none : row_messages s row ≡ [] =
+        λ i. cond (p.0 i) (message.Caps row.holder.ino row.entry.seq (told_set s row) ∷ []) []
+        ++ cond (q.0 i) (size_message row.holder.ino (finite.get s.tree.nodes row.holder.ino.0)) [] ++ cond (q.1 i) (message.Recall row.holder.ino ∷ []) [] in
+        rest ∙ ap (λ ms. ms ++ due_of s rows) (sym none)
+
+-- nor do those that are left, where none of them is due
+pub listed-done : (max : ℕ) (s : Scene) (first : List Message) (rows left : List EntryRow) (listed : List Message) → filter is_due left ≡ [] → IsListed max s first rows listed left → IsListed max s first rows listed []
+listed-done max s first rows left listed none so_far = record { is = ap (λ ms. take max (listed ++ ms)) (sym (sym (due-rows s left) ∙ ap (due_of s) none)) ∙ so_far.is }
+
+-- how many are due behind one
+pub left-behind : (row : EntryRow) (rows : List EntryRow) (n : ℕ) → n ≡ length (filter is_due (row ∷ rows)) → cond (is_due row) (n - 1) n ≡ length (filter is_due rows)
+left-behind row rows n is = by_test (is_due row) is
+  where
+    by_test : (b : Bool) → n ≡ length (cond b (row ∷ filter is_due rows) (filter is_due rows)) → cond b (n - 1) n ≡ length (filter is_due rows)
+    by_test true is = omega (arith, is)
+    by_test false is = is
+
+-- what a walk over those of the client's entries that are due has listed
+pub listed-first : (s : State) (client : ClientId) (max : ℕ) (t : Table) (ended : List Ended) (rows : List EntryRow) (listed : List Message) → filter is_due rows ≡ filter is_due (filter (is_of_client client) t.rows) → s.scene.table ≡ t → s.messages ≡ ended
+    → listed ≡ take max (end_messages client ended ++ due_of s.scene rows) → listed ≡ first_messages s client max
+listed-first s client max t ended rows listed of table messages is =
+    is ∙ ap (λ ms. take max (end_messages client ended ++ ms)) (sym (due-rows s.scene rows) ∙ ap (due_of s.scene) of ∙ due-rows s.scene (filter (is_of_client client) t.rows)) ∙ sym (first-due s client max t ended table messages)
+
+-- of an entry of the table it is known what its client is to know
+pub known-row : {S : Type 0} (sets : HashMap Holder Caps S) (s : Scene) (t : Table) → s.table ≡ t → IsTable t → AreKnown sets s → (row : EntryRow) → Contains t.rows row → known_in sets row.holder ≡ told_set s row
+known-row sets s t same_table is known row inside =
+    ap (λ (o : Option Caps). unwrap_or o no_caps) (known row.holder row.entry (ap (λ (u : Table). entry_at u row.holder) same_table ∙ ap entry_of (row_found t row is inside)))
+
+-- ---- what giving them leaves
+
+module _ (client : ClientId) where
+  -- the row, once its client was given these, if it is this client
+  abbrev given_to : List Message → EntryRow → EntryRow
+  given_to given row = cond (is_of_client client row) (remade (after_messages given) row) row
+
+  given-row_none : (row : EntryRow) (own : Bool) → cond own (remade (after_messages []) row) row ≡ row
+  given-row_none row true = refl
+  given-row_none row false = refl
+
+  map-same : (f : EntryRow → EntryRow) → ((row : EntryRow) → f row ≡ row) → (rows : List EntryRow) → map f rows ≡ rows
+  map-same f same [] = refl
+  map-same f same (row ∷ rows) = λ i. same row i ∷ map-same f same rows i
+
+  pub given-none : (t : Table) → t ≡ changed_where (is_of_client client) (after_messages []) t
+  given-none t = ap (λ (rows : List EntryRow). record t { rows = rows }) (sym (map-same (given_to []) (λ row. given-row_none row (is_of_client client row)) t.rows))
+
+  -- given once more
+  seq_twice : (seq told_seq : ℕ) (b more : Bool) → cond more seq (cond b seq told_seq) ≡ cond (b || more) seq told_seq
+  seq_twice seq told_seq true true = refl
+  seq_twice seq told_seq true false = refl
+  seq_twice seq told_seq false more = refl
+
+  flag_twice : (flag b more : Bool) → cond more false (cond b false flag) ≡ cond (b || more) false flag
+  flag_twice flag true true = refl
+  flag_twice flag true false = refl
+  flag_twice flag false more = refl
+
+  twice : (e : Entry) (caps size recall more_caps more_size more_recall : Bool)
+      → unasked_if more_recall (sized_if more_size (told_if more_caps (unasked_if recall (sized_if size (told_if caps e))))) ≡ unasked_if (recall || more_recall) (sized_if (size || more_size) (told_if (caps || more_caps) e))
+  twice e caps size recall more_caps more_size more_recall =
+      ap (λ (e : Entry). unasked_if more_recall (sized_if more_size (told_if more_caps e))) (given-fields e caps size recall)
+      ∙ given-fields (given_fields caps size recall e) more_caps more_size more_recall
+      ∙ (λ i. record e {
+        told_seq = seq_twice e.seq e.told_seq caps more_caps i;
+        asked = flag_twice e.asked recall more_recall i;
+        size_due = flag_twice e.size_due size more_size i;
+      })
+      ∙ sym (given-fields e (caps || more_caps) (size || more_size) (recall || more_recall))
+
+  given-row_more : (done more : List Message) (row : EntryRow) (own : Bool) → is_of_client client row ≡ own → given_to more (given_to done row) ≡ given_to (done ++ more) row
+  given-row_more done more row true is =
+      ap (λ b. given_to more (cond b (remade (after_messages done) row) row)) is
+      ∙ ap (λ b. cond b (remade (after_messages more) (remade (after_messages done) row)) (remade (after_messages done) row)) is
+      ∙ (λ i. record row { entry = both i })
+      ∙ sym (ap (λ b. cond b (remade (after_messages (done ++ more)) row) row) is)
+    where
+      both : after_messages more (remade (after_messages done) row) ≡ after_messages (done ++ more) row
+      both =
+          twice row.entry (list_any (is_caps_of row.holder.ino) done) (list_any (is_size_of row.holder.ino) done) (list_any (is_recall_of row.holder.ino) done)
+          (list_any (is_caps_of row.holder.ino) more) (list_any (is_size_of row.holder.ino) more) (list_any (is_recall_of row.holder.ino) more)
+          ∙ sym (λ i. unasked_if (list_any-append (is_recall_of row.holder.ino) done more i)
+          (sized_if (list_any-append (is_size_of row.holder.ino) done more i) (told_if (list_any-append (is_caps_of row.holder.ino) done more i) row.entry)))
+  given-row_more done more row false is =
+      ap (λ b. given_to more (cond b (remade (after_messages done) row) row)) is
+      ∙ ap (λ b. cond b (remade (after_messages more) row) row) is
+      ∙ sym (ap (λ b. cond b (remade (after_messages (done ++ more)) row) row) is)
+
+  map-map : (f g h : EntryRow → EntryRow) → ((row : EntryRow) → f (g row) ≡ h row) → (rows : List EntryRow) → map f (map g rows) ≡ map h rows
+  map-map f g h same [] = refl
+  map-map f g h same (row ∷ rows) = λ i. same row i ∷ map-map f g h same rows i
+
+  pub given-more : (done more : List Message) (t : Table)
+      → changed_where (is_of_client client) (after_messages more) (changed_where (is_of_client client) (after_messages done) t) ≡ changed_where (is_of_client client) (after_messages (done ++ more)) t
+  given-more done more t =
+      ap (λ (rows : List EntryRow). record t { rows = rows })
+      (map-map (given_to more) (given_to done) (given_to (done ++ more)) (λ row. given-row_more done more row (is_of_client client row) refl) t.rows)
+
+-- ---- one message
+
+-- the holder is the client on the inode
+or_false : (b : Bool) → (b || false) ≡ b
+or_false true = refl
+or_false false = refl
+
+and_symm : (a b c d : ℕ) → ((a == b) && (c == d)) ≡ ((a == b) && (d == c))
+and_symm a b c d = λ i. (a == b) && nat_eq_equiv.symm c d i
+
+module _ (g : EntryRow → Entry) (given : List Message) (client : ClientId) (ino : Ino)
+    (does : (row : EntryRow) → after_messages given row ≡ cond (ino.0 == row.holder.ino.0) (g row) row.entry) where
+  one_row : (row : EntryRow) (own there : Bool) → cond (own && there) (record row { entry = g row }) row ≡ cond own (record row { entry = cond there (g row) row.entry }) row
+  one_row row true true = refl
+  one_row row true false = refl
+  one_row row false there = refl
+
+  named : (row : EntryRow) → is_among (holder client ino ∷ []) row.holder ≡ (is_of_client client row && (ino.0 == row.holder.ino.0))
+  named row = or_false (same row.holder (holder client ino)) ∙ and_symm row.holder.client.0 client.0 row.holder.ino.0 ino.0
+
+  each_row : (row : EntryRow) → cond (is_among (holder client ino ∷ []) row.holder) (remade g row) row ≡ cond (is_of_client client row) (remade (after_messages given) row) row
+  each_row row =
+      ap (λ b. cond b (remade g row) row) (named row)
+      ∙ one_row row (is_of_client client row) (ino.0 == row.holder.ino.0)
+      ∙ ap (λ (e : Entry). cond (is_of_client client row) (record row { entry = e }) row) (sym (does row))
+
+  one-given : (t : Table) → IsTable t → changed t (holder client ino) (λ e. g (record { holder = holder client ino; entry = e })) ≡ changed_where (is_of_client client) (after_messages given) t
+  unfolding IsDistinct
+  one-given t is =
+      fold-changed_by g t (holder client ino ∷ []) is (tt, tt)
+      ∙ ap (λ (rows : List EntryRow). record t { rows = rows })
+      (map_alike (λ row. cond (is_among (holder client ino ∷ []) row.holder) (remade g row) row) (λ row. cond (is_of_client client row) (remade (after_messages given) row) row) each_row t.rows)
+
+caps_if : (e : Entry) (b : Bool) → unasked_if false (sized_if false (told_if (b || false) e)) ≡ cond b (told e) e
+caps_if e true = refl
+caps_if e false = refl
+
+size_if : (e : Entry) (b : Bool) → unasked_if false (sized_if (b || false) (told_if false e)) ≡ cond b (with_size_due false e) e
+size_if e true = refl
+size_if e false = refl
+
+recall_if : (e : Entry) (b : Bool) → unasked_if (b || false) (sized_if false (told_if false e)) ≡ cond b (with_asked false e) e
+recall_if e true = refl
+recall_if e false = refl
+
+pub caps-given : (client : ClientId) (ino : Ino) (seq : ℕ) (caps : Caps) (t : Table) → IsTable t
+    → changed t (holder client ino) told ≡ changed_where (is_of_client client) (after_messages (message.Caps ino seq caps ∷ [])) t
+caps-given client ino seq caps t is =
+    one-given (λ row. told row.entry) (message.Caps ino seq caps ∷ []) client ino (λ row. caps_if row.entry (ino.0 == row.holder.ino.0)) t is
+
+pub size-given : (client : ClientId) (ino : Ino) (size : ℕ) (t : Table) → IsTable t
+    → changed t (holder client ino) (with_size_due false) ≡ changed_where (is_of_client client) (after_messages (message.Size ino size ∷ [])) t
+size-given client ino size t is =
+    one-given (λ row. with_size_due false row.entry) (message.Size ino size ∷ []) client ino (λ row. size_if row.entry (ino.0 == row.holder.ino.0)) t is
+
+pub recall-given : (client : ClientId) (ino : Ino) (t : Table) → IsTable t
+    → changed t (holder client ino) (with_asked false) ≡ changed_where (is_of_client client) (after_messages (message.Recall ino ∷ [])) t
+recall-given client ino t is =
+    one-given (λ row. with_asked false row.entry) (message.Recall ino ∷ []) client ino (λ row. recall_if row.entry (ino.0 == row.holder.ino.0)) t is

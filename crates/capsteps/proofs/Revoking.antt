@@ -1,0 +1,39 @@
+-- What is being revoked of a holder's entry, by what is found of it, and the tests that stand behind others.
+use Rattle.std.proofs.Common.{◌≡◌, Option, Some, None, List, [], ◌∷◌, ◌++◌, refl, sym, ap, ◌∙◌}
+use Rattle.std.specs.Prelude.{if◌then◌else◌}
+use Rattle.std.specs.List.{find}
+use Rattle.std.specs.Option.{option_map_or}
+use Rattle.capbits.specs.Refusal.{Test, first_failing}
+use Rattle.capbits.specs.Sets.{no_caps}
+use Rattle.capbits.proofs.Tests.{passed-if}
+use Rattle.captable.specs.declared.entry.Entry.{Entry}
+use Rattle.captable.specs.declared.entry.EntryRow.{EntryRow}
+use Rattle.captable.specs.declared.entry.Holder.{Holder}
+use Rattle.captable.specs.Table.{is_row_of, entry_of, entry_at}
+use Rattle.captable.proofs.Changes.{no_entry}
+use Rattle.captable.proofs.Searches.{find_passes}
+use Rattle.captable.proofs.Tables.{same-is}
+use Rattle.lockmachine.specs.Scene.{Scene, against}
+use Rattle.capsteps.specs.Judge.{revoked_of}
+
+-- where it has one
+pub revoked-found : (s : Scene) (k : Holder) (e : Entry) → entry_at s.table k ≡ Some e → revoked_of s k ≡ against s (record { holder = k; entry = e })
+revoked-found s k e is = by_row (find (is_row_of k) s.table.rows) refl is
+  where
+    by_row : (o : Option EntryRow) → find (is_row_of k) s.table.rows ≡ o → entry_of o ≡ Some e → option_map_or (against s) o no_caps ≡ against s (record { holder = k; entry = e })
+    by_row None found there = absurd (cc)
+    by_row (Some row) found there =
+        let of : k ≡ row.holder = same-is k row.holder (find_passes (is_row_of k) s.table.rows row found) in
+        let has : row.entry ≡ e = cc in
+        λ i. against s (record { holder = sym of i; entry = has i })
+
+-- and where it has none
+pub revoked-none : (s : Scene) (k : Holder) → entry_at s.table k ≡ None → revoked_of s k ≡ no_caps
+revoked-none s k none = ap (λ o. option_map_or (against s) o no_caps) (no_entry (find (is_row_of k) s.table.rows) none)
+
+-- where the tests before pass, those behind them decide
+pub passed-front : (one more : List Test) → first_failing one ≡ None → first_failing (one ++ more) ≡ first_failing more
+passed-front [] more none = refl
+passed-front (t ∷ ts) more none =
+    let front = passed-if t.fails t.answer (first_failing ts) none in
+    ap (λ b. if b then Some t.answer else first_failing (ts ++ more)) front.0 ∙ passed-front ts more front.1

@@ -1,0 +1,627 @@
+-- A step shows clients what it tells them, and its numbers say so.
+use Rattle.std.proofs.Common.{◌≡◌, ◌≢◌, ◌≤◌, ◌+◌, ◌==◌, ℕ, Bool, true, false, cond, not, ◌&&◌, ◌||◌, Option, Some, None, is_some, List, [], ◌∷◌, ◌++◌, map, take, refl, sym, ap, subst, ◌∙◌, Contains, true≢false, append-nil, eq-eqb, arith}
+use Rattle.std.specs.Prelude.{All, filter, nat_lt}
+use Rattle.std.specs.List.{find, list_any, fold, flat_map}
+use Rattle.std.specs.Option.{option_map}
+use Rattle.std.specs.FinMap as finite
+use Rattle.std.proofs.lemmas.Bool.{eqb-true}
+use Rattle.std.proofs.lemmas.List.Elements.{All-contains, All-contains_itself, All-nil, All-cons, All-head, All-tail, All-append, All-take, All-filter, All-weaker, filter_passes}
+use Rattle.std.proofs.lemmas.List.Sums.{fold-append}
+use Rattle.capbits.specs.declared.cap.Cap.TheVariants.{P, Fc}
+use Rattle.capbits.specs.declared.ids.ClientId.{ClientId}
+use Rattle.capbits.specs.declared.ids.Ino.{Ino}
+use Rattle.capbits.specs.Caps.{Caps, has}
+use Rattle.capbits.specs.Sets.{minus, is_empty, same_caps, has-minus}
+use Rattle.inotree.specs.declared.node.Node.{Node}
+use Rattle.inotree.specs.Tree.{child}
+use Rattle.captable.specs.declared.entry.Entry.{Entry}
+use Rattle.captable.specs.declared.entry.EntryRow.{EntryRow}
+use Rattle.captable.specs.declared.entry.Holder.{Holder}
+use Rattle.captable.specs.Table.{Table, IsTable, holder, same, is_row_of, is_among, entry_of, entry_at}
+use Rattle.captable.specs.Calls.{opened, changed, without, issued, taken, given_back, acked, released, touched, told, recalled, renumbered, with_asked, with_size_due, without_client, is_of_client}
+use Rattle.captable.specs.Many.{remade}
+use Rattle.captable.specs.Shown.{IsShown}
+use Rattle.captable.proofs.ByHolder.{entry_at-changed, entry_at-changed_other, entry_at-opened_other, entry_at-acked_other, entry_at-without, entry_at-without_client, entry_at-without_client_other, entry_at-released_pin, entry_at-released, entry_at-released_other, entry_at-recalled, entry_at-recalled_other, row_found}
+use Rattle.captable.proofs.Searches.{find_passes, find-map}
+use Rattle.captable.proofs.Shown.{shown-numbered, shown-less, shown-told}
+use Rattle.captable.proofs.Tables.{same_equiv, same-is}
+use Rattle.lockmachine.specs.Scene.{Scene, against, told_set}
+use Rattle.lockmachine.specs.Told.{is_taken}
+use Rattle.lockmachine.proofs.Told.{has-against, has-told}
+use Rattle.lockmachine.proofs.Exact.{settled as at_rest_settled}
+use Rattle.capevents.specs.declared.event.Event.{Event}
+use Rattle.capevents.specs.declared.event.Event.TheVariants as event
+use Rattle.capevents.specs.declared.event.OpenMode.{OpenMode}
+use Rattle.capevents.specs.declared.row.Row.{Row}
+use Rattle.capevents.specs.declared.outcome.Ended.{Ended}
+use Rattle.capevents.specs.declared.outcome.Message.{Message}
+use Rattle.capevents.specs.declared.outcome.Message.TheVariants as message
+use Rattle.capevents.specs.declared.reply.Reply.{Reply}
+use Rattle.capevents.specs.declared.reply.Reply.TheVariants as reply
+use Rattle.capsteps.specs.declared.stopped.Stopped.{Stopped}
+use Rattle.capsteps.specs.declared.stopped.Stopped.TheVariants.{ByPolicy, ByTest}
+use Rattle.capsteps.specs.State.{State}
+use Rattle.capsteps.specs.Direct.{Direct, Shows, Gives, direct, effect, effect_unless, with_entry, with_opening, with_wanted, reply_of, shown, found, opened_as}
+use Rattle.capsteps.specs.Finish.{is_sized, owed, sizes_owed, due, issue_row, issue, forget, told_before, number_row}
+use Rattle.capsteps.specs.Judge.{judged, stop_reply, revoked_of}
+use Rattle.capsteps.specs.Messages.{first_messages, messages_to, after_messages, row_messages, caps_messages, size_message, size_messages, recall_messages, end_message, end_messages, is_caps_of, is_size_of, is_recall_of, told_if, sized_if, unasked_if}
+use Rattle.capnotes.specs.Untold.{is_to}
+use Rattle.capsteps.specs.Settle.{Made, Settles, ended_in, sized_in}
+use Rattle.capsteps.specs.Shown.{AreShown, shown_by, shown_of, shown_opened, shown_less, shown_given, shown_in}
+use Rattle.capsteps.specs.Sound.{IsSound, IsSoundEntry}
+use Rattle.capsteps.specs.Step.{Step, state_after}
+use Rattle.capsteps.proofs.Finishing.{sound-ends}
+use Rattle.capsteps.proofs.Leaving.{found-contains}
+use Rattle.capsteps.proofs.Moved.{moved-all}
+use Rattle.capsteps.proofs.Revoking.{revoked-found}
+use Rattle.capsteps.proofs.Stopping.{no_moves, stopped-only}
+use Rattle.capsteps.proofs.Telling.{given_fields, given-fields}
+
+abbrev pub at : Holder → Entry → EntryRow
+at k e = record { holder = k; entry = e }
+
+-- ---- what is told of an entry, by what it holds
+
+pub told-held : (s : Scene) (k : Holder) (e f : Entry) → f.held ≡ e.held → told_set s (at k f) ≡ told_set s (at k e)
+told-held s k e f held =
+    same_caps _ _ (λ c. has-told s (at k f) c ∙ ap (λ (caps : Caps). has caps c && not (is_taken s k c)) held ∙ sym (has-told s (at k e) c))
+
+less_than : (h g t : Bool) → ((h && not g) && not t) ≡ ((h && not t) && not g)
+less_than false g t = refl
+less_than true true true = refl
+less_than true true false = refl
+less_than true false true = refl
+less_than true false false = refl
+
+-- once some was given back
+given-told : (s : Scene) (k : Holder) (e : Entry) (caps : Caps) → told_set s (at k (given_back caps e)) ≡ minus (told_set s (at k e)) caps
+given-told s k e caps = same_caps _ _ (λ c.
+    has-told s (at k (given_back caps e)) c ∙ ap (λ b. b && not (is_taken s k c)) (has-minus e.held caps c)
+    ∙ less_than (has e.held c) (has caps c) (is_taken s k c)
+    ∙ sym (has-minus (told_set s (at k e)) caps c ∙ ap (λ b. b && not (has caps c)) (has-told s (at k e) c)))
+
+no_more : (h t : Bool) → ((h && not (h && t)) && not t) ≡ (h && not t)
+no_more false t = refl
+no_more true true = refl
+no_more true false = refl
+
+-- and once what is being revoked was taken
+taken-told : (s : Scene) (k : Holder) (e : Entry) → told_set s (at k (taken (against s (at k e)) e)) ≡ told_set s (at k e)
+taken-told s k e = same_caps _ _ (λ c.
+    has-told s (at k (taken (against s (at k e)) e)) c
+    ∙ ap (λ b. b && not (is_taken s k c)) (has-minus e.held (against s (at k e)) c ∙ ap (λ b. has e.held c && not b) (has-against s (at k e) c))
+    ∙ no_more (has e.held c) (is_taken s k c) ∙ sym (has-told s (at k e) c))
+
+-- ---- what is known of an entry
+
+record IsKnown (s : Scene) (k : Holder) (was : Caps) (e : Entry) : Type 0 where
+  says : IsShown was (told_set s (at k e)) e
+  below : e.told_seq ≤ e.seq
+
+same-numbers : (was now : Caps) (e f : Entry) → f.seq ≡ e.seq → f.revoke_seq ≡ e.revoke_seq → f.told_seq ≡ e.told_seq → IsShown was now e → IsShown was now f
+same-numbers was now e f seq revoked told_of is = record {
+  current = λ same. is.current (sym told_of ∙ same ∙ seq);
+  none_lost = λ over. is.none_lost (omega (arith, over, revoked, told_of));
+}
+
+known-same : (s : Scene) (k : Holder) (was : Caps) (e f : Entry) → f.held ≡ e.held → f.seq ≡ e.seq → f.revoke_seq ≡ e.revoke_seq → f.told_seq ≡ e.told_seq → IsKnown s k was e → IsKnown s k was f
+known-same s k was e f held seq revoked told_of is = let below = is.below in record {
+  says = subst (λ (now : Caps). IsShown was now f) (sym (told-held s k e f held)) (same-numbers was (told_set s (at k e)) e f seq revoked told_of is.says);
+  below = omega (arith, below, seq, told_of);
+}
+
+-- ---- entries by their holders
+
+mapped : (g : Entry → Entry) (o : Option Entry) (f : Entry) → option_map g o ≡ Some f → (e : Entry) × (o ≡ Some e) × (f ≡ g e)
+mapped g None f is = absurd (cc)
+mapped g (Some e) f is = let now : f ≡ g e = cc in (e, refl, now)
+
+pub entry_found : (t : Table) (k : Holder) (e : Entry) → entry_at t k ≡ Some e → find (is_row_of k) t.rows ≡ Some (at k e)
+entry_found t k e is = by_row (find (is_row_of k) t.rows) refl is
+  where
+    by_row : (o : Option EntryRow) → find (is_row_of k) t.rows ≡ o → entry_of o ≡ Some e → o ≡ Some (at k e)
+    by_row None found there = absurd (cc)
+    by_row (Some row) found there =
+        let of : k ≡ row.holder = same-is k row.holder (find_passes (is_row_of k) t.rows row found) in
+        let has_it : row.entry ≡ e = cc in
+        λ i. Some (record { holder = sym of i; entry = has_it i })
+
+pub apart-of : (k j : Holder) → same k j ≡ false → k ≢ j
+apart-of k j off is = true≢false (sym (same_equiv.refl k) ∙ ap (same k) is ∙ off)
+
+pub apart_client : (a b : ClientId) → (a.0 == b.0) ≡ false → a ≢ b
+apart_client a b off is = true≢false (sym (eq-eqb a.0 b.0 (ap (λ (c : ClientId). c.0) is)) ∙ off)
+
+held-renumbered : (before after : Caps) (e : Entry) → (renumbered before after e).held ≡ e.held
+held-renumbered before after e =
+    elim (not (is_empty (minus before after))) as (λ lost. (cond lost (record e { seq = e.seq + 1; revoke_seq = e.seq + 1 }) (cond (not (is_empty (minus after before))) (record e { seq = e.seq + 1 }) e)).held ≡ e.held) [
+      | true ↦ refl
+      | false ↦ elim (not (is_empty (minus after before))) as (λ more. (cond more (record e { seq = e.seq + 1 }) e).held ≡ e.held) [ true ↦ refl | false ↦ refl ]
+    ]
+
+-- what an opening leaves of all others
+pub entry_at-entry_other : (t : Table) (j k : Holder) → k ≢ j → entry_at (with_entry t j) k ≡ entry_at t k
+entry_at-entry_other t j k apart =
+    elim (is_some (entry_at t j)) as (λ b. entry_at (cond b t (opened t j)) k ≡ entry_at t k) [ true ↦ refl | false ↦ entry_at-opened_other t j k apart ]
+
+-- a size that is to be told changes no other field
+field-owed : {V : Type 0} (field : Entry → V) → ((e : Entry) → field (with_size_due true e) ≡ field e) → (row : EntryRow) (b h : Bool)
+    → field (cond b (record row { entry = cond h (with_size_due true row.entry) row.entry }) row).entry ≡ field row.entry
+field-owed field same row false h = refl
+field-owed field same row true true = same row.entry
+field-owed field same row true false = refl
+
+-- ---- messages that show an inode
+
+cond_same : (b : Bool) (x : Caps) → cond b x x ≡ x
+cond_same true x = refl
+cond_same false x = refl
+
+-- the message, if it shows the inode, shows this
+abbrev Says : Ino → Caps → Message → Type 0
+Says ino told_of m = is_caps_of ino m ≡ true → (was : Caps) → shown_in ino was m ≡ told_of
+
+skipped : (ino : Ino) (was : Caps) (m : Message) → is_caps_of ino m ≡ false → shown_in ino was m ≡ was
+skipped ino was (message.Ended ticket outcome) off = refl
+skipped ino was (message.Caps i seq caps) off = ap (λ b. cond b caps was) off
+skipped ino was (message.Size i size) off = refl
+skipped ino was (message.Recall i) off = refl
+
+-- where all that show it, show the same, this is shown, if one does
+shown_all : (ino : Ino) (told_of was : Caps) (ms : List Message) → All (Says ino told_of) ms → fold (shown_in ino) was ms ≡ cond (list_any (is_caps_of ino) ms) told_of was
+shown_all ino told_of was [] all = refl
+shown_all ino told_of was (m ∷ ms) all =
+    elim (is_caps_of ino m) as (λ b. is_caps_of ino m ≡ b → fold (shown_in ino) (shown_in ino was m) ms ≡ cond (b || list_any (is_caps_of ino) ms) told_of was) [
+      | true ↦ λ on. ap (λ (x : Caps). fold (shown_in ino) x ms) (All-head (Says ino told_of) m ms all on was)
+          ∙ shown_all ino told_of told_of ms (All-tail (Says ino told_of) m ms all) ∙ cond_same (list_any (is_caps_of ino) ms) told_of
+      | false ↦ λ off. ap (λ (x : Caps). fold (shown_in ino) x ms) (skipped ino was m off) ∙ shown_all ino told_of was ms (All-tail (Says ino told_of) m ms all)
+    ] refl
+
+ends_say : (ino : Ino) (told_of : Caps) (ms : List Ended) → All (Says ino told_of) (map end_message ms)
+ends_say ino told_of [] = All-nil (Says ino told_of)
+ends_say ino told_of (m ∷ ms) = All-cons (Says ino told_of) (end_message m) (map end_message ms) (λ is. absurd (true≢false (sym is))) (ends_say ino told_of ms)
+
+rows_say : (ino : Ino) (told_of : Caps) (f : EntryRow → List Message) (rows : List EntryRow) → All (λ row. All (Says ino told_of) (f row)) rows → All (Says ino told_of) (flat_map f rows)
+rows_say ino told_of f [] all = All-nil (Says ino told_of)
+rows_say ino told_of f (row ∷ rows) all =
+    let Fact : EntryRow → Type 0 = λ row. All (Says ino told_of) (f row) in
+    All-append (Says ino told_of) (f row) (flat_map f rows) (All-head Fact row rows all) (rows_say ino told_of f rows (All-tail Fact row rows all))
+
+row_says : (s : Scene) (ino : Ino) (told_of : Caps) (row : EntryRow) → ((row.holder.ino.0 == ino.0) ≡ true → told_set s row ≡ told_of) → All (Says ino told_of) (row_messages s row)
+row_says s ino told_of row its =
+    All-append (Says ino told_of) (caps_messages s row ++ size_messages s row) (recall_messages row)
+    (All-append (Says ino told_of) (caps_messages s row) (size_messages s row)
+    (elim (nat_lt row.entry.told_seq row.entry.seq) as (λ b. All (Says ino told_of) (cond b (message.Caps row.holder.ino row.entry.seq (told_set s row) ∷ []) [])) [
+      | true ↦ All-cons (Says ino told_of) (message.Caps row.holder.ino row.entry.seq (told_set s row)) [] (λ on was. ap (λ b. cond b (told_set s row) was) on ∙ its on) (All-nil (Says ino told_of))
+      | false ↦ All-nil (Says ino told_of)
+    ])
+    (elim row.entry.size_due as (λ b. All (Says ino told_of) (cond b (size_message row.holder.ino (finite.get s.tree.nodes row.holder.ino.0)) [])) [
+      | true ↦ size_says (finite.get s.tree.nodes row.holder.ino.0)
+      | false ↦ All-nil (Says ino told_of)
+    ]))
+    (elim row.entry.asked as (λ b. All (Says ino told_of) (cond b (message.Recall row.holder.ino ∷ []) [])) [
+      | true ↦ All-cons (Says ino told_of) (message.Recall row.holder.ino) [] (λ is. absurd (true≢false (sym is))) (All-nil (Says ino told_of))
+      | false ↦ All-nil (Says ino told_of)
+    ])
+  where
+    size_says : (o : Option Node) → All (Says ino told_of) (size_message row.holder.ino o)
+    size_says None = All-nil (Says ino told_of)
+    size_says (Some node) = All-cons (Says ino told_of) (message.Size row.holder.ino node.size) [] (λ is. absurd (true≢false (sym is))) (All-nil (Says ino told_of))
+
+-- ---- an event by itself
+
+module _ (old : State) (sound : IsSound old) (table : IsTable old.scene.table) (rows : List Row) (was_shown : AreShown rows old.scene) where
+  abbrev t : Table
+  t = old.scene.table
+
+  abbrev Left : Table → (Holder → Caps) → Type 0
+  Left first was = (k : Holder) (f : Entry) → entry_at first k ≡ Some f → IsKnown old.scene k (was k) f
+
+  abbrev before : Holder → Caps
+  before k = shown_of k rows
+
+  known-old : Left t before
+  known-old k e there =
+      let inside : Contains t.rows (at k e) = found-contains (is_row_of k) t.rows (at k e) (entry_found t k e there) in
+      let entry = All-contains (IsSoundEntry old.scene) t.rows (at k e) sound.entries inside in
+      record { says = was_shown k e there; below = entry.told }
+
+  left-same : (first : Table) → ((k : Holder) → entry_at first k ≡ entry_at t k) → Left first before
+  left-same first same_entries k f there = known-old k f (sym (same_entries k) ∙ there)
+
+  left-recalled : (n : ℕ) → Left (recalled t n) before
+  left-recalled n k f there = by_test (is_among (take n t.recall) k) refl
+    where
+      by_test : (b : Bool) → is_among (take n t.recall) k ≡ b → IsKnown old.scene k (before k) f
+      by_test false off = known-old k f (sym (entry_at-recalled_other t n k off) ∙ there)
+      by_test true on =
+          let found = mapped (with_asked true) (entry_at t k) f (sym (entry_at-recalled t n k on) ∙ there) in
+          subst (IsKnown old.scene k (before k)) (sym found.2) (known-same old.scene k (before k) found.0 (with_asked true found.0) refl refl refl refl (known-old k found.0 found.1))
+
+  left-dropped : (client : ClientId) → Left (without_client t client) before
+  left-dropped client k f there = by_test (k.client.0 == client.0) refl
+    where
+      by_test : (b : Bool) → (k.client.0 == client.0) ≡ b → IsKnown old.scene k (before k) f
+      by_test false off = known-old k f (sym (entry_at-without_client_other t client k (apart_client k.client client off)) ∙ there)
+      by_test true on =
+          let number = eqb-true k.client.0 client.0 on in
+          let none : entry_at (without_client t client) k ≡ None = entry_at-without_client t client k (λ i. record { 0 = number i }) in
+          absurd (cc)
+
+  -- what an opening or a want leaves of all others
+  abbrev LeftBut : Table → Holder → Type 0
+  LeftBut first j = (k : Holder) (f : Entry) → same k j ≡ false → entry_at first k ≡ Some f → IsKnown old.scene k (before k) f
+
+  left-opened : (j : Holder) (mode : OpenMode) → LeftBut (with_opening t j mode) j
+  left-opened j mode k f off there =
+      let apart = apart-of k j off in
+      known-old k f (sym (entry_at-changed_other (with_entry t j) j k _ apart ∙ entry_at-entry_other t j k apart) ∙ there)
+
+  left-wanted : (j : Holder) (caps : Caps) → LeftBut (with_wanted t j caps) j
+  left-wanted j caps k f off there = known-old k f (sym (entry_at-changed_other t j k _ (apart-of k j off)) ∙ there)
+
+  -- what a release leaves
+  left-released : (j : Holder) (caps : Caps) → Left (released t j caps) (λ k. cond (same k j) (minus (before k) caps) (before k))
+  left-released j caps k f there = elim (same k j) as (λ b. same k j ≡ b → IsKnown old.scene k (cond b (minus (before k) caps) (before k)) f) [
+    | false ↦ λ off. known-old k f (sym (entry_at-released_other t j k caps (apart-of k j off)) ∙ there)
+    | true ↦ λ on. own (same-is k j on) (has caps P) refl
+  ] refl
+    where
+      own : k ≡ j → (b : Bool) → has caps P ≡ b → IsKnown old.scene k (minus (before k) caps) f
+      own is true pin = let none : entry_at (released t j caps) k ≡ None = ap (entry_at (released t j caps)) is ∙ entry_at-released_pin t j caps pin in absurd (cc)
+      own is false no_pin =
+          let now : entry_at (released t j caps) k ≡ option_map (given_back caps) (entry_at t k) =
+          ap (entry_at (released t j caps)) is ∙ entry_at-released t j caps no_pin ∙ ap (λ (q : Holder). option_map (given_back caps) (entry_at t q)) (sym is) in
+          let found = mapped (given_back caps) (entry_at t k) f (sym now ∙ there) in
+          let e : Entry = found.0 in
+          let known = known-old k e found.1 in
+          subst (IsKnown old.scene k (minus (before k) caps)) (sym found.2) (record {
+            says = subst (λ (told_of : Caps). IsShown (minus (before k) caps) told_of (given_back caps e)) (sym (given-told old.scene k e caps))
+                (shown-less (before k) (told_set old.scene (at k e)) caps e (given_back caps e) refl refl refl known.says);
+            below = known.below;
+          })
+
+  -- what an acknowledgement leaves
+  left-acked : (j : Holder) → Left (acked t j (revoked_of old.scene j)) before
+  left-acked j k f there = by_same (same k j) refl
+    where
+      by_pin : (b : Bool) → k ≡ j → entry_at (cond b (without t j) (changed t j (taken (revoked_of old.scene j)))) k ≡ Some f → IsKnown old.scene k (before k) f
+      by_pin true is here = let none : entry_at (without t j) k ≡ None = ap (entry_at (without t j)) is ∙ entry_at-without t j in absurd (cc)
+      by_pin false is here =
+          let now : entry_at (changed t j (taken (revoked_of old.scene j))) k ≡ option_map (taken (revoked_of old.scene j)) (entry_at t k) =
+          ap (entry_at (changed t j (taken (revoked_of old.scene j)))) is ∙ entry_at-changed t j (taken (revoked_of old.scene j)) ∙ ap (λ (q : Holder). option_map (taken (revoked_of old.scene j)) (entry_at t q)) (sym is) in
+          let found = mapped (taken (revoked_of old.scene j)) (entry_at t k) f (sym now ∙ here) in
+          let e : Entry = found.0 in
+          let known = known-old k e found.1 in
+          let all : revoked_of old.scene j ≡ against old.scene (at k e) =
+          ap (revoked_of old.scene) (sym is) ∙ revoked-found old.scene k e found.1 in
+          let left : f ≡ taken (against old.scene (at k e)) e = found.2 ∙ ap (λ (caps : Caps). taken caps e) all in
+          subst (IsKnown old.scene k (before k)) (sym left) (record {
+            says = subst (λ (told_of : Caps). IsShown (before k) told_of (taken (against old.scene (at k e)) e)) (sym (taken-told old.scene k e))
+                (same-numbers (before k) (told_set old.scene (at k e)) e (taken (against old.scene (at k e)) e) refl refl refl known.says);
+            below = known.below;
+          })
+
+      by_same : (b : Bool) → same k j ≡ b → IsKnown old.scene k (before k) f
+      by_same true on = by_pin (has (revoked_of old.scene j) P) (same-is k j on) there
+      by_same false off = known-old k f (sym (entry_at-acked_other t j k (revoked_of old.scene j) (apart-of k j off)) ∙ there)
+
+  -- ---- the end of the step
+
+  module _ (moves : List Made) (d : Direct) (settled : Scene) (settles : Settles d.state.scene moves settled) where
+    abbrev first : Scene
+    first = d.state.scene
+
+    abbrev st : State
+    st = state_after old d moves settled
+
+    -- the scene, in which the sizes that were changed are to be told
+    abbrev owing : Scene
+    owing = sizes_owed (sized_in moves) settled
+
+    abbrev ended : Scene
+    ended = forget (issue owing)
+
+    same_table : settled.table ≡ first.table
+    same_table = (moved-all first moves settled settles.made).table
+
+    abbrev owed_row : EntryRow → EntryRow
+    owed_row row = cond (is_sized (sized_in moves) row) (remade owed row) row
+
+    -- an entry there, by what it was right after the event
+    was_first : (k : Holder) (f : Entry) → entry_at owing.table k ≡ Some f → (g : Entry) × (entry_at first.table k ≡ Some g) × (f ≡ (owed_row (at k g)).entry)
+    was_first k f there = by_row (find (is_row_of k) settled.table.rows) refl
+      where
+        found_owing : find (is_row_of k) owing.table.rows ≡ option_map owed_row (find (is_row_of k) settled.table.rows)
+        found_owing = find-map (is_row_of k) owed_row (λ row. elim (is_sized (sized_in moves) row) as (λ b. is_row_of k (cond b (remade owed row) row) ≡ is_row_of k row) [ true ↦ refl | false ↦ refl ]) settled.table.rows
+
+        by_row : (o : Option EntryRow) → find (is_row_of k) settled.table.rows ≡ o → (g : Entry) × (entry_at first.table k ≡ Some g) × (f ≡ (owed_row (at k g)).entry)
+        by_row None none = let gone : entry_at owing.table k ≡ None = ap entry_of (found_owing ∙ ap (option_map owed_row) none) in absurd (cc)
+        by_row (Some row) found_it =
+            let settled_there : entry_at settled.table k ≡ Some row.entry = ap entry_of found_it in
+            let at_row : Some row ≡ Some (at k row.entry) = sym found_it ∙ entry_found settled.table k row.entry settled_there in
+            let now : entry_at owing.table k ≡ Some (owed_row (at k row.entry)).entry = ap entry_of (found_owing ∙ ap (option_map owed_row) (found_it ∙ at_row)) in
+            let f_is : f ≡ (owed_row (at k row.entry)).entry = cc in
+            (row.entry, ap (λ (u : Table). entry_at u k) (sym same_table) ∙ settled_there, f_is)
+
+    -- what was known of it, is known of it there
+    known-then : (k : Holder) (was : Caps) (f : Entry) → entry_at owing.table k ≡ Some f → ((g : Entry) → entry_at first.table k ≡ Some g → IsKnown old.scene k was g) → IsKnown old.scene k was f
+    known-then k was f there known =
+        let w = was_first k f there in
+        let g : Entry = w.0 in
+        let b = is_sized (sized_in moves) (at k g) in
+        let h = has g.held Fc in
+        known-same old.scene k was g f
+        (ap (λ (e : Entry). e.held) w.2 ∙ field-owed (λ e. e.held) (λ e. refl) (at k g) b h)
+        (ap (λ (e : Entry). e.seq) w.2 ∙ field-owed (λ e. e.seq) (λ e. refl) (at k g) b h)
+        (ap (λ (e : Entry). e.revoke_seq) w.2 ∙ field-owed (λ e. e.revoke_seq) (λ e. refl) (at k g) b h)
+        (ap (λ (e : Entry). e.told_seq) w.2 ∙ field-owed (λ e. e.told_seq) (λ e. refl) (at k g) b h) (known g w.1)
+
+    found_last : (k : Holder) → find (is_row_of k) st.scene.table.rows ≡ option_map (number_row old.scene first ended) (option_map (issue_row owing) (find (is_row_of k) owing.table.rows))
+    found_last k =
+        find-map (is_row_of k) (number_row old.scene first ended) (λ row. refl) (map (issue_row owing) owing.table.rows)
+        ∙ ap (option_map (number_row old.scene first ended)) (find-map (is_row_of k) (issue_row owing) (λ row. refl) owing.table.rows)
+
+    abbrev more : Holder → Entry → Entry
+    more k f = issued (due owing (at k f)) f
+
+    abbrev then_told : Holder → Entry → Caps
+    then_told k f = told_set old.scene (at k f)
+
+    abbrev now_told : Holder → Entry → Caps
+    now_told k f = told_set ended (at k (more k f))
+
+    -- an entry as the step leaves it
+    numbered : (k : Holder) (f : Entry) → entry_at owing.table k ≡ Some f → (was : Caps) → IsKnown old.scene k was f → (e : Entry) → entry_at st.scene.table k ≡ Some e
+        → IsShown was (told_set st.scene (at k e)) e
+    numbered k f there was known e last =
+        subst (λ (x : Entry). IsShown was (told_set st.scene (at k x)) x) (sym e_is)
+        (subst (λ (now : Caps). IsShown was now (renumbered (then_told k f) (now_told k f) (more k f))) (sym (told-held st.scene k (more k f) (renumbered (then_told k f) (now_told k f) (more k f)) (held-renumbered (then_told k f) (now_told k f) (more k f))))
+        (shown-numbered was (then_told k f) (now_told k f) (more k f) known.below (same-numbers was (then_told k f) f (more k f) refl refl refl known.says)))
+      where
+        told_then : told_before old.scene (find (is_row_of k) first.table.rows) ≡ then_told k f
+        told_then =
+            let w = was_first k f there in
+            let g : Entry = w.0 in
+            let held : f.held ≡ g.held = ap (λ (e : Entry). e.held) w.2 ∙ field-owed (λ e. e.held) (λ e. refl) (at k g) (is_sized (sized_in moves) (at k g)) (has g.held Fc) in
+            ap (told_before old.scene) (entry_found first.table k g w.1) ∙ sym (told-held old.scene k g f held)
+
+        e_is : e ≡ renumbered (then_told k f) (now_told k f) (more k f)
+        e_is =
+            let now : entry_at st.scene.table k ≡ Some (renumbered (told_before old.scene (find (is_row_of k) first.table.rows)) (now_told k f) (more k f)) =
+            ap entry_of (found_last k ∙ ap (λ o. option_map (number_row old.scene first ended) (option_map (issue_row owing) o)) (entry_found owing.table k f there)) in
+            let there_now : e ≡ renumbered (told_before old.scene (find (is_row_of k) first.table.rows)) (now_told k f) (more k f) = cc in
+            there_now ∙ ap (λ (was : Caps). renumbered was (now_told k f) (more k f)) told_then
+
+    -- what has an entry at the end, had it before
+    was_there : (k : Holder) (e : Entry) → entry_at st.scene.table k ≡ Some e → (f : Entry) × (entry_at owing.table k ≡ Some f)
+    was_there k e last = by_row (find (is_row_of k) owing.table.rows) refl
+      where
+        by_row : (o : Option EntryRow) → find (is_row_of k) owing.table.rows ≡ o → (f : Entry) × (entry_at owing.table k ≡ Some f)
+        by_row None none =
+            let gone : entry_at st.scene.table k ≡ None =
+            ap entry_of (found_last k ∙ ap (λ o. option_map (number_row old.scene first ended) (option_map (issue_row owing) o)) none) in absurd (cc)
+        by_row (Some row) found_it = (row.entry, ap entry_of found_it)
+
+    by_number : (was : Holder → Caps) → Left first.table was → (k : Holder) (e : Entry) → entry_at st.scene.table k ≡ Some e → IsShown (was k) (told_set st.scene (at k e)) e
+    by_number was left k e last =
+        let there = was_there k e last in
+        numbered k there.0 there.1 (was k) (known-then k (was k) there.0 there.1 (left k)) e last
+
+    -- where it is shown to one holder
+    by_show : (j : Holder) → LeftBut first.table j → (k : Holder) (e : Entry) → entry_at (shown (Shows j) st).scene.table k ≡ Some e
+        → IsShown (cond (same k j) (shown_opened (before k) (reply_of st (ended_in moves) (Shows j))) (before k)) (told_set st.scene (at k e)) e
+    by_show j left k e last = elim (same k j) as (λ b. same k j ≡ b → IsShown (cond b (shown_opened (before k) (reply_of st (ended_in moves) (Shows j))) (before k)) (told_set st.scene (at k e)) e) [
+      | true ↦ λ on. own (same-is k j on)
+      | false ↦ λ off. (let here = sym (entry_at-changed_other st.scene.table j k told (apart-of k j off)) ∙ last in
+          let there = was_there k e here in
+          numbered k there.0 there.1 (before k) (known-then k (before k) there.0 there.1 (λ g was. left k g off was)) e here)
+    ] refl
+      where
+        own : k ≡ j → IsShown (shown_opened (before k) (reply_of st (ended_in moves) (Shows j))) (told_set st.scene (at k e)) e
+        own is =
+            let now : entry_at (changed st.scene.table j told) k ≡ option_map told (entry_at st.scene.table k) =
+            ap (entry_at (changed st.scene.table j told)) is ∙ entry_at-changed st.scene.table j told ∙ ap (λ (q : Holder). option_map told (entry_at st.scene.table q)) (sym is) in
+            let found_it = mapped told (entry_at st.scene.table k) e (sym now ∙ last) in
+            let f : Entry = found_it.0 in
+            let answers : reply_of st (ended_in moves) (Shows j) ≡ reply.Opened f.seq (told_set st.scene (at k f)) =
+            ap (λ (q : Holder). opened_as st.scene (find (is_row_of q) st.scene.table.rows)) (sym is) ∙ ap (opened_as st.scene) (entry_found st.scene.table k f found_it.1) in
+            subst (λ (x : Entry). IsShown (shown_opened (before k) (reply_of st (ended_in moves) (Shows j))) (told_set st.scene (at k x)) x) (sym found_it.2)
+            (subst (λ (r : Reply). IsShown (shown_opened (before k) r) (told_set st.scene (at k (told f))) (told f)) (sym answers) (shown-told (told_set st.scene (at k f)) f))
+
+  -- ---- by event
+
+  abbrev Shown : Event → List Made → Scene → Type 0
+  Shown e moves settled =
+      let d : Direct = effect old e in
+      let st : State = state_after old d moves settled in
+      (k : Holder) (f : Entry) → entry_at (shown d.answer st).scene.table k ≡ Some f →
+      IsShown (shown_by k (before k) e (reply_of st (ended_in moves) d.answer)) (told_set (shown d.answer st).scene (at k f)) f
+
+  -- a poll shows what its messages say, and is told of
+  module _ (client : ClientId) (max : ℕ) where
+    abbrev given : List Message
+    given = first_messages old client max
+
+    abbrev polled_row : EntryRow → EntryRow
+    polled_row row = cond (is_of_client client row) (remade (after_messages given) row) row
+
+    all_say : (k : Holder) (e : Entry) → entry_at t k ≡ Some e → (k.client.0 == client.0) ≡ true → All (Says k.ino (told_set old.scene (at k e))) given
+    all_say k e there own =
+        let now : Caps = told_set old.scene (at k e) in
+        let of_it : EntryRow → List Message = row_messages old.scene in
+        let mine : List EntryRow = filter (is_of_client client) t.rows in
+        All-take (Says k.ino now) max (messages_to old client)
+        (All-append (Says k.ino now) (end_messages client old.messages) (flat_map of_it mine) (ends_say k.ino now (filter (is_to client) old.messages))
+        (rows_say k.ino now of_it mine (All-weaker (Contains mine) (λ row. All (Says k.ino now) (of_it row)) (λ row inside. row_says old.scene k.ino now row (same_row row inside)) mine (All-contains_itself mine))))
+      where
+        same_row : (row : EntryRow) → Contains (filter (is_of_client client) t.rows) row → (row.holder.ino.0 == k.ino.0) ≡ true → told_set old.scene row ≡ told_set old.scene (at k e)
+        same_row row inside on =
+            let in_all : Contains t.rows row =
+            All-contains (Contains t.rows) (filter (is_of_client client) t.rows) row (All-filter (is_of_client client) (Contains t.rows) t.rows (All-contains_itself t.rows)) inside in
+            let its : (row.holder.client.0 == client.0) ≡ true =
+            All-contains (λ r. is_of_client client r ≡ true) (filter (is_of_client client) t.rows) row (filter_passes (is_of_client client) t.rows) inside in
+            let clients : row.holder.client.0 ≡ k.client.0 = eqb-true row.holder.client.0 client.0 its ∙ sym (eqb-true k.client.0 client.0 own) in
+            let inos : row.holder.ino.0 ≡ k.ino.0 = eqb-true row.holder.ino.0 k.ino.0 on in
+            let holders : row.holder ≡ k = λ i. record { client = record { 0 = clients i }; ino = record { 0 = inos i } } in
+            let both : Some row ≡ Some (at k e) = sym (row_found t row table in_all) ∙ ap (λ (q : Holder). find (is_row_of q) t.rows) holders ∙ entry_found t k e there in
+            let rows_same : row ≡ at k e = cc in
+            ap (told_set old.scene) rows_same
+
+    -- what an entry becomes
+    given_entry : (k : Holder) (e : Entry) → entry_at t k ≡ Some e
+        → IsShown (cond (k.client.0 == client.0) (fold (shown_in k.ino) (before k) given) (before k)) (told_set old.scene (at k (polled_row (at k e)).entry)) (polled_row (at k e)).entry
+    given_entry k e there = elim (k.client.0 == client.0) as (λ b. (k.client.0 == client.0) ≡ b
+        → IsShown (cond b (fold (shown_in k.ino) (before k) given) (before k)) (told_set old.scene (at k (cond b (remade (after_messages given) (at k e)) (at k e)).entry)) (cond b (remade (after_messages given) (at k e)) (at k e)).entry) [
+          | false ↦ λ off. was_shown k e there
+          | true ↦ λ own.
+              subst (λ (x : Caps). IsShown x (told_set old.scene (at k (after_messages given (at k e)))) (after_messages given (at k e)))
+              (sym (shown_all k.ino (told_set old.scene (at k e)) (before k) given (all_say k e there own)))
+              (by_tests (list_any (is_caps_of k.ino) given) (list_any (is_size_of k.ino) given) (list_any (is_recall_of k.ino) given))
+        ] refl
+      where
+        fields : (b z c : Bool) → IsShown (cond b (told_set old.scene (at k e)) (before k)) (told_set old.scene (at k (given_fields b z c e))) (given_fields b z c e)
+        fields true z c = same-numbers (told_set old.scene (at k e)) (told_set old.scene (at k e)) (told e) (given_fields true z c e) refl refl refl (shown-told (told_set old.scene (at k e)) e)
+        fields false z c = same-numbers (before k) (told_set old.scene (at k e)) e (given_fields false z c e) refl refl refl (was_shown k e there)
+
+        by_tests : (b z c : Bool) → IsShown (cond b (told_set old.scene (at k e)) (before k)) (told_set old.scene (at k (unasked_if c (sized_if z (told_if b e))))) (unasked_if c (sized_if z (told_if b e)))
+        by_tests b z c = subst (λ (x : Entry). IsShown (cond b (told_set old.scene (at k e)) (before k)) (told_set old.scene (at k x)) x) (sym (given-fields e b z c)) (fields b z c)
+
+    found_polled : (k : Holder) → find (is_row_of k) (map polled_row t.rows) ≡ option_map polled_row (find (is_row_of k) t.rows)
+    found_polled k = find-map (is_row_of k) polled_row (λ row. elim (is_of_client client row) as (λ b. is_row_of k (cond b (remade (after_messages given) row) row) ≡ is_row_of k row) [ true ↦ refl | false ↦ refl ]) t.rows
+
+    abbrev poll_of : Direct
+    poll_of = record { state = old; answer = Gives client max; dropped = [] }
+
+    -- what a poll leaves of a state
+    abbrev PollShown : State → Type 0
+    PollShown s =
+        (k : Holder) (f : Entry) → entry_at (shown (Gives client max) s).scene.table k ≡ Some f →
+        IsShown (cond (k.client.0 == client.0) (fold (shown_in k.ino) (before k) (first_messages s client max)) (before k)) (told_set (shown (Gives client max) s).scene (at k f)) f
+
+    poll_shown : PollShown old
+    poll_shown k f now = by_row (find (is_row_of k) t.rows) refl
+      where
+        by_row : (o : Option EntryRow) → find (is_row_of k) t.rows ≡ o
+            → IsShown (cond (k.client.0 == client.0) (fold (shown_in k.ino) (before k) given) (before k)) (told_set old.scene (at k f)) f
+        by_row None none = let gone : entry_at (shown (Gives client max) old).scene.table k ≡ None = ap entry_of (found_polled k ∙ ap (option_map polled_row) none) in absurd (cc)
+        by_row (Some row) is =
+            let e : Entry = row.entry in
+            let there : entry_at t k ≡ Some e = ap entry_of is in
+            let left : entry_at (shown (Gives client max) old).scene.table k ≡ Some (polled_row (at k e)).entry =
+            ap entry_of (found_polled k ∙ ap (option_map polled_row) (entry_found t k e there)) in
+            let f_is : f ≡ (polled_row (at k e)).entry = cc in
+            subst (λ (x : Entry). IsShown (cond (k.client.0 == client.0) (fold (shown_in k.ino) (before k) given) (before k)) (told_set old.scene (at k x)) x) (sym f_is) (given_entry k e there)
+
+    nothing_left : state_after old poll_of [] old.scene ≡ old
+    nothing_left = λ i. record old { scene = sound-ends old sound table i; messages = append-nil old.messages i }
+
+    polled : (moves : List Made) (settled : Scene) → Settles old.scene moves settled → PollShown (state_after old poll_of moves settled)
+    polled moves settled settles =
+        let none = no_moves old.scene moves settled (at_rest_settled old.scene sound.at_rest) settles.made in
+        subst (λ (ms : List Made). PollShown (state_after old poll_of ms settled)) (sym none.0)
+        (subst (λ (z : Scene). PollShown (state_after old poll_of [] z)) (sym none.1)
+        (subst PollShown (sym nothing_left) poll_shown))
+
+  -- what is found, changes nothing
+  looked_up : (client : ClientId) (dir : Ino) (name : List ℕ) (o : Option ℕ) (moves : List Made) (settled : Scene) → Settles (found old o).state.scene moves settled → (k : Holder) (f : Entry)
+      → entry_at (shown (found old o).answer (state_after old (found old o) moves settled)).scene.table k ≡ Some f
+      → IsShown (before k) (told_set (shown (found old o).answer (state_after old (found old o) moves settled)).scene (at k f)) f
+  looked_up client dir name None moves settled settles = by_number moves (found old None) settled settles before (left-same t (λ k. refl))
+  looked_up client dir name (Some ino) moves settled settles = by_number moves (found old (Some ino)) settled settles before (left-same t (λ k. refl))
+
+  pub by_event : (e : Event) → (moves : List Made) (settled : Scene) → Settles (effect old e).state.scene moves settled → Shown e moves settled
+  by_event (event.Session client caller grants) moves settled settles = by_number moves (effect old (event.Session client caller grants)) settled settles before (left-same t (λ k. refl))
+  by_event (event.CloseSession client) moves settled settles = by_number moves (effect old (event.CloseSession client)) settled settles before (left-dropped client)
+  by_event (event.Stale client) moves settled settles = by_number moves (effect old (event.Stale client)) settled settles before (left-same t (λ k. refl))
+  by_event (event.Renew client) moves settled settles = by_number moves (effect old (event.Renew client)) settled settles before (left-same t (λ k. refl))
+  by_event (event.Regrant client grants) moves settled settles = by_number moves (effect old (event.Regrant client grants)) settled settles before (left-same t (λ k. refl))
+  by_event (event.Evict client) moves settled settles = by_number moves (effect old (event.Evict client)) settled settles before (left-dropped client)
+  by_event (event.Unblock client) moves settled settles = by_number moves (effect old (event.Unblock client)) settled settles before (left-same t (λ k. refl))
+  by_event (event.Recall count) moves settled settles = by_number moves (effect old (event.Recall count)) settled settles before (left-recalled count)
+  by_event (event.Lookup client dir name) moves settled settles = looked_up client dir name (child old.scene.tree.nodes dir.0 name) moves settled settles
+  by_event (event.Create client dir name mode) moves settled settles = by_number moves (effect old (event.Create client dir name mode)) settled settles before (left-same t (λ k. refl))
+  by_event (event.Mkdir client dir name mode) moves settled settles = by_number moves (effect old (event.Mkdir client dir name mode)) settled settles before (left-same t (λ k. refl))
+  by_event (event.MakeSnapshot client ino name) moves settled settles = by_number moves (effect old (event.MakeSnapshot client ino name)) settled settles before (left-same t (λ k. refl))
+  by_event (event.RemoveSnapshot client ino name) moves settled settles = by_number moves (effect old (event.RemoveSnapshot client ino name)) settled settles before (left-same t (λ k. refl))
+  by_event (event.Open client ino mode) moves settled settles = by_show moves (effect old (event.Open client ino mode)) settled settles (holder client ino) (left-opened (holder client ino) mode)
+  by_event (event.Want client ino caps) moves settled settles = by_show moves (effect old (event.Want client ino caps)) settled settles (holder client ino) (left-wanted (holder client ino) caps)
+  by_event (event.Ack client ino seq) moves settled settles = by_number moves (effect old (event.Ack client ino seq)) settled settles before (left-acked (holder client ino))
+  by_event (event.Release client ino caps) moves settled settles =
+      by_number moves (effect old (event.Release client ino caps)) settled settles (λ k. cond (same k (holder client ino)) (minus (before k) caps) (before k)) (left-released (holder client ino) caps)
+  by_event (event.Get client ino part) moves settled settles = by_number moves (effect old (event.Get client ino part)) settled settles before (left-same t (λ k. refl))
+  by_event (event.Alter client ino change) moves settled settles = by_number moves (effect old (event.Alter client ino change)) settled settles before (left-same t (λ k. refl))
+  by_event (event.Unlink client ino) moves settled settles = by_number moves (effect old (event.Unlink client ino)) settled settles before (left-same t (λ k. refl))
+  by_event (event.Rmdir client ino) moves settled settles = by_number moves (effect old (event.Rmdir client ino)) settled settles before (left-same t (λ k. refl))
+  by_event (event.Rename client ino dir name) moves settled settles = by_number moves (effect old (event.Rename client ino dir name)) settled settles before (left-same t (λ k. refl))
+  by_event (event.Flush client ino change) moves settled settles = by_number moves (effect old (event.Flush client ino change)) settled settles before (left-same (touched t (holder client ino)) (λ k. refl))
+  by_event (event.Poll client max) moves settled settles = polled client max moves settled settles
+
+-- ---- a step
+
+opened_stopped : (was : Caps) (x : Stopped) → shown_opened was (stop_reply x) ≡ was
+opened_stopped was (ByPolicy access rules) = refl
+opened_stopped was (ByTest refusal) = refl
+
+less_stopped : (caps was : Caps) (x : Stopped) → shown_less caps was (stop_reply x) ≡ was
+less_stopped caps was (ByPolicy access rules) = refl
+less_stopped caps was (ByTest refusal) = refl
+
+given_stopped : (ino : Ino) (was : Caps) (x : Stopped) → shown_given ino was (stop_reply x) ≡ was
+given_stopped ino was (ByPolicy access rules) = refl
+given_stopped ino was (ByTest refusal) = refl
+
+-- what is stopped shows nothing
+stop-shows : (k : Holder) (was : Caps) (e : Event) (x : Stopped) → shown_by k was e (stop_reply x) ≡ was
+stop-shows k was (event.Session client caller grants) x = refl
+stop-shows k was (event.CloseSession client) x = refl
+stop-shows k was (event.Stale client) x = refl
+stop-shows k was (event.Renew client) x = refl
+stop-shows k was (event.Regrant client grants) x = refl
+stop-shows k was (event.Evict client) x = refl
+stop-shows k was (event.Unblock client) x = refl
+stop-shows k was (event.Recall count) x = refl
+stop-shows k was (event.Lookup client dir name) x = refl
+stop-shows k was (event.Create client dir name mode) x = refl
+stop-shows k was (event.Mkdir client dir name mode) x = refl
+stop-shows k was (event.MakeSnapshot client ino name) x = refl
+stop-shows k was (event.RemoveSnapshot client ino name) x = refl
+stop-shows k was (event.Open client ino mode) x = ap (λ c. cond (same k (holder client ino)) c was) (opened_stopped was x) ∙ cond_same (same k (holder client ino)) was
+stop-shows k was (event.Want client ino caps) x = ap (λ c. cond (same k (holder client ino)) c was) (opened_stopped was x) ∙ cond_same (same k (holder client ino)) was
+stop-shows k was (event.Ack client ino seq) x = refl
+stop-shows k was (event.Release client ino caps) x = ap (λ c. cond (same k (holder client ino)) c was) (less_stopped caps was x) ∙ cond_same (same k (holder client ino)) was
+stop-shows k was (event.Get client ino part) x = refl
+stop-shows k was (event.Alter client ino change) x = refl
+stop-shows k was (event.Unlink client ino) x = refl
+stop-shows k was (event.Rmdir client ino) x = refl
+stop-shows k was (event.Rename client ino dir name) x = refl
+stop-shows k was (event.Flush client ino change) x = refl
+stop-shows k was (event.Poll client max) x = ap (λ c. cond (k.client.0 == client.0) c was) (given_stopped k.ino was x) ∙ cond_same (k.client.0 == client.0) was
+
+more-shown : (k : Holder) (rows : List Row) (row : Row) → shown_of k (rows ++ row ∷ []) ≡ shown_by k (shown_of k rows) row.event row.reply
+more-shown k rows row = fold-append _ _ rows (row ∷ [])
+
+pub step-shown : (old new : State) (rows : List Row) (row : Row) → IsSound old → IsTable old.scene.table → AreShown rows old.scene → Step old row.event row.reply row.ended new
+    → AreShown (rows ++ row ∷ []) new.scene
+step-shown old new rows row sound table was_shown (moves, step) k e there =
+    subst (λ (was : Caps). IsShown was (told_set new.scene (at k e)) e) (sym (more-shown k rows row)) (by_judged (judged old.scene row.event) refl)
+  where
+    by_judged : (o : Option Stopped) → judged old.scene row.event ≡ o → IsShown (shown_by k (shown_of k rows) row.event row.reply) (told_set new.scene (at k e)) e
+    by_judged (Some x) is =
+        let only = stopped-only old new row.event x row.reply row.ended sound table is (moves, step) in
+        let here : entry_at old.scene.table k ≡ Some e = ap (λ (s : State). entry_at s.scene.table k) (sym only.2) ∙ there in
+        subst (λ (s : State). IsShown (shown_by k (shown_of k rows) row.event row.reply) (told_set s.scene (at k e)) e) (sym only.2)
+        (subst (λ (r : Reply). IsShown (shown_by k (shown_of k rows) row.event r) (told_set old.scene (at k e)) e) (sym only.0)
+        (subst (λ (was : Caps). IsShown was (told_set old.scene (at k e)) e) (sym (stop-shows k (shown_of k rows) row.event x)) (was_shown k e here)))
+    by_judged None free =
+        let by_itself : direct old row.event ≡ effect old row.event = ap (effect_unless old row.event) free in
+        let d : Direct = effect old row.event in
+        let settles : Settles d.state.scene moves step.settled = subst (λ (x : Direct). Settles x.state.scene moves step.settled) by_itself step.settles in
+        let answers : row.reply ≡ reply_of (state_after old d moves step.settled) (ended_in moves) d.answer =
+        step.answer_is ∙ ap (λ (x : Direct). reply_of (state_after old x moves step.settled) (ended_in moves) x.answer) by_itself in
+        let leads : new ≡ shown d.answer (state_after old d moves step.settled) =
+        step.new_is ∙ ap (λ (x : Direct). shown x.answer (state_after old x moves step.settled)) by_itself in
+        let here : entry_at (shown d.answer (state_after old d moves step.settled)).scene.table k ≡ Some e = ap (λ (s : State). entry_at s.scene.table k) (sym leads) ∙ there in
+        subst (λ (s : State). IsShown (shown_by k (shown_of k rows) row.event row.reply) (told_set s.scene (at k e)) e) (sym leads)
+        (subst (λ (r : Reply). IsShown (shown_by k (shown_of k rows) row.event r) (told_set (shown d.answer (state_after old d moves step.settled)).scene (at k e)) e) (sym answers)
+        (by_event old sound table rows was_shown row.event moves step.settled settles k e here))

@@ -1,0 +1,240 @@
+-- A size that is to be told changes one field of entries, which the end of a step doesn't read.
+use Rattle.std.proofs.Common.{◌≡◌, ◌≤◌, ℕ, suc, ◌+◌, Bool, true, false, not, cond, ◌&&◌, ◌||◌, Option, Some, None, List, [], ◌∷◌, map, refl, sym, ap, subst, ◌∙◌, Contains, arith}
+use Rattle.std.specs.Prelude.{All}
+use Rattle.std.specs.FinMap as finite
+use Rattle.std.specs.HashMap.{HashMap, get}
+use Rattle.std.specs.List.{find, list_any}
+use Rattle.std.specs.Option.{option_map, option_map_or}
+use Rattle.std.proofs.lemmas.List.Elements.{All-map, All-weaker}
+use Rattle.capbits.specs.declared.cap.Cap.TheVariants.{Fc}
+use Rattle.capbits.specs.declared.ids.Ino.{Ino}
+use Rattle.capbits.specs.Caps.{Caps, has}
+use Rattle.capbits.specs.Sets.{is_empty, minus, meet}
+use Rattle.inotree.specs.Tree.{IsTree, place}
+use Rattle.inotree.specs.Tests.{is_gone}
+use Rattle.captable.specs.declared.entry.Entry.{Entry}
+use Rattle.captable.specs.declared.entry.EntryRow.{EntryRow}
+use Rattle.captable.specs.declared.entry.Holder.{Holder}
+use Rattle.captable.specs.Table.{Table, IsTable, same as same_holders, is_row_of}
+use Rattle.captable.specs.Calls.{is_of_inode, renumbered, with_size_due}
+use Rattle.captable.specs.Many.{changed_where, remade}
+use Rattle.captable.proofs.ByHolder.{row_found}
+use Rattle.captable.proofs.Searches.{find-map}
+use Rattle.lockmachine.specs.Locks.{IsLockMap}
+use Rattle.lockmachine.specs.Scene.{Scene, told_set}
+use Rattle.capsteps.specs.Finish.{is_sized, owed, sizes_owed, issue_row, issue, is_kept, forget, told_before, number_row, number, finished}
+use Rattle.capsteps.specs.Headline.{IssuesExactly}
+use Rattle.capsteps.specs.Settle.{Made, sized_in}
+use Rattle.capsteps.specs.Sound.{IsSound, AreGiven}
+use Rattle.capsteps.specs.State.{State}
+use Rattle.capsteps.specs.Step.{state_at_end}
+use Rattle.capsteps.specs.Touching.{Touches, SettlesAt, Knows, stays, forget_among, told_then, finished_entry, finished_at}
+use Rattle.capsteps.specs.Known.{AreKnown, kept_anew, KeptAnew}
+use Rattle.capsteps.proofs.EndsThere.{any-map, two_changes, field-renumbered, settled-table, touched-ends, touched-issues, touched-known}
+use Rattle.capsteps.proofs.Knowing.{known-alike, alike-where}
+use Rattle.capsteps.proofs.StayingSound.{sound-touched}
+use Rattle.capsteps.proofs.Telling.{as_told, as_asked, retold, retold_table, retold-sound, retold-issued}
+
+-- no number changes
+pub owed-numbers : (passes : EntryRow → Bool) (Q : ℕ → Type 0) (t : Table) → All (λ row. Q row.entry.seq) t.rows → All (λ row. Q row.entry.seq) (changed_where passes owed t).rows
+owed-numbers passes Q t all =
+    All-map (λ row. Q row.entry.seq) (λ row. cond (passes row) (remade owed row) row) t.rows
+    (All-weaker (λ row. Q row.entry.seq) (λ row. Q (cond (passes row) (remade owed row) row).entry.seq) (λ row h. subst Q (sym (same_seq row (passes row) (has row.entry.held Fc))) h) t.rows all)
+  where
+    same_seq : (row : EntryRow) (b h : Bool) → (cond b (record row { entry = cond h (with_size_due true row.entry) row.entry }) row).entry.seq ≡ row.entry.seq
+    same_seq row false h = refl
+    same_seq row true true = refl
+    same_seq row true false = refl
+
+-- an entry is numbered alike, whether a size is to be told or not
+flag-renumbered : (before after : Caps) (e : Entry) (size_due : Bool) → renumbered before after (record e { size_due = size_due }) ≡ record (renumbered before after e) { size_due = size_due }
+flag-renumbered before after e size_due =
+    elim (not (is_empty (minus before after))) as (λ lost.
+    cond lost (record e { size_due = size_due; seq = e.seq + 1; revoke_seq = e.seq + 1 }) (cond (not (is_empty (minus after before))) (record e { size_due = size_due; seq = e.seq + 1 }) (record e { size_due = size_due }))
+    ≡ record (cond lost (record e { seq = e.seq + 1; revoke_seq = e.seq + 1 }) (cond (not (is_empty (minus after before))) (record e { seq = e.seq + 1 }) e)) { size_due = size_due }) [
+      | true ↦ refl
+      | false ↦ elim (not (is_empty (minus after before))) as (λ more. cond more (record e { size_due = size_due; seq = e.seq + 1 }) (record e { size_due = size_due })
+          ≡ record (cond more (record e { seq = e.seq + 1 }) e) { size_due = size_due }) [ true ↦ refl | false ↦ refl ]
+    ]
+
+-- ---- who is to be told
+
+-- the sizes of these inodes were changed, when these were the entries
+module _ (sized : List Ino) (t : Table) where
+  abbrev owes_of : Option EntryRow → Bool
+  owes_of o = option_map_or (λ row. is_sized sized row && has row.entry.held Fc) o false
+
+  -- of an entry as it is later, whether its client is to be told the size
+  abbrev size_as : EntryRow → Bool
+  size_as row = owes_of (find (is_row_of row.holder) t.rows) || row.entry.size_due
+
+  abbrev pub sized_row : EntryRow → EntryRow
+  sized_row = retold as_told size_as as_asked
+
+  -- the scene, in which it is
+  abbrev pub with_sizes : Scene → Scene
+  with_sizes x = record x { table = retold_table as_told size_as as_asked x.table }
+
+  one_owed : (row : EntryRow) (b h : Bool) → cond b (record row { entry = cond h (with_size_due true row.entry) row.entry }) row ≡ record row { entry = record row.entry { size_due = (b && h) || row.entry.size_due } }
+  one_owed row true true = refl
+  one_owed row true false = refl
+  one_owed row false h = refl
+
+  owed-row : IsTable t → (row : EntryRow) → Contains t.rows row → cond (is_sized sized row) (remade owed row) row ≡ sized_row row
+  owed-row table row inside =
+      one_owed row (is_sized sized row) (has row.entry.held Fc)
+      ∙ ap (λ o. record row { entry = record row.entry { size_due = owes_of o || row.entry.size_due } }) (sym (row_found t row table inside))
+
+  -- the same entry once it is numbered
+  numbered : (before after : Caps) (row : EntryRow) → renumbered before after (sized_row row).entry ≡ (sized_row (record row { entry = renumbered before after row.entry })).entry
+  numbered before after row =
+      flag-renumbered before after row.entry (size_as row)
+      ∙ ap (λ size_due. record (renumbered before after row.entry) { size_due = owes_of (find (is_row_of row.holder) t.rows) || size_due })
+      (sym (field-renumbered (λ e. e.size_due) (λ e seq revoked. refl) before after row.entry))
+
+  same_any : (q : ℕ) (rows : List EntryRow) → list_any (is_of_inode (record { 0 = q })) (map sized_row rows) ≡ list_any (is_of_inode (record { 0 = q })) rows
+  same_any q rows = any-map (is_of_inode (record { 0 = q })) sized_row (λ row. refl) rows
+
+  same_kept : (x : Scene) (q : ℕ) → is_kept (with_sizes x) q ≡ is_kept x q
+  same_kept x q = ap (λ b. not (is_gone (place x.tree.nodes q)) || b) (same_any q x.table.rows)
+
+  -- ---- the end of a step, by the rules
+
+  sizes-forgotten : (x : Scene) → forget (with_sizes x) ≡ with_sizes (forget x)
+  sizes-forgotten x = λ i. record (with_sizes x) {
+    tree = record x.tree { nodes = finite.retain_keys x.tree.nodes (λ q. same_kept x q i) };
+    locks = record x.locks { states = finite.retain_keys x.locks.states (λ q. same_kept x q i) };
+  }
+
+  module _ (table : IsTable t) (s : Scene) (same : s.table ≡ t) where
+    rows-owed : map (λ row. cond (is_sized sized row) (remade owed row) row) s.table.rows ≡ map sized_row s.table.rows
+    rows-owed =
+        subst (λ (u : Table). map (λ row. cond (is_sized sized row) (remade owed row) row) u.rows ≡ map sized_row u.rows) (sym same)
+        (alike t.rows (owed-row table))
+      where
+        alike : (rows : List EntryRow) → ((row : EntryRow) → Contains rows row → cond (is_sized sized row) (remade owed row) row ≡ sized_row row)
+            → map (λ row. cond (is_sized sized row) (remade owed row) row) rows ≡ map sized_row rows
+        alike [] each = refl
+        alike (row ∷ rows) each = λ i. each row (0, omega arith, refl) i ∷ alike rows (λ x inside. each x (suc inside.0, omega (arith, inside.1), inside.2)) i
+
+    sizes-owed : sizes_owed sized s ≡ with_sizes s
+    sizes-owed = ap (λ (rows : List EntryRow). record s { table = record s.table { rows = rows } }) rows-owed
+
+    pub sizes-finished : (old first : Scene) → finished old first (sizes_owed sized s) ≡ with_sizes (finished old first s)
+    sizes-finished old first =
+        ap (finished old first) sizes-owed
+        ∙ ap (λ (rows : List EntryRow). number old first (forget (record s { table = record s.table { rows = rows } }))) issued
+        ∙ ap (number old first) (sizes-forgotten (issue s))
+        ∙ ap (λ (rows : List EntryRow). record (forget (issue s)) { table = record s.table { rows = rows } }) renumbers
+      where
+        issued : map (issue_row s) (map sized_row s.table.rows) ≡ map sized_row (map (issue_row s) s.table.rows)
+        issued =
+            two_changes (issue_row s) sized_row (λ row. sized_row (issue_row s row)) s.table.rows (λ row inside. refl)
+            ∙ sym (two_changes sized_row (issue_row s) (λ row. sized_row (issue_row s row)) s.table.rows (λ row inside. refl))
+
+        renumbers : map (number_row old first (forget (issue s))) (map sized_row (issue s).table.rows) ≡ map sized_row (map (number_row old first (forget (issue s))) (issue s).table.rows)
+        renumbers =
+            two_changes (number_row old first (forget (issue s))) sized_row (λ row. sized_row (number_row old first (forget (issue s)) row)) (issue s).table.rows
+            (λ row inside. ap (λ (e : Entry). record row { entry = e }) (numbered (told_before old (find (is_row_of row.holder) first.table.rows)) (told_set (forget (issue s)) row) row))
+            ∙ sym (two_changes sized_row (number_row old first (forget (issue s))) (λ row. sized_row (number_row old first (forget (issue s)) row)) (issue s).table.rows (λ row inside. refl))
+
+    -- ---- and at some inodes alone
+
+    pub sizes-finished_at : (at : ℕ → Bool) (known : Holder → Caps) → finished_at at known (sizes_owed sized s) ≡ with_sizes (finished_at at known s)
+    sizes-finished_at at known =
+        ap (finished_at at known) sizes-owed
+        ∙ ap (λ (rows : List EntryRow). forget_among at (record s { table = record s.table { rows = rows } })) ended
+        ∙ (λ i. record (with_sizes (record s { table = changed_where (λ row. at row.holder.ino.0) (finished_entry known s) s.table })) {
+          tree = record s.tree { nodes = finite.retain_keys s.tree.nodes (λ q. same_stays q i) };
+          locks = record s.locks { states = finite.retain_keys s.locks.states (λ q. same_stays q i) };
+        })
+      where
+        same_stays : (q : ℕ) → stays at (with_sizes (record s { table = changed_where (λ row. at row.holder.ino.0) (finished_entry known s) s.table })) q
+            ≡ stays at (record s { table = changed_where (λ row. at row.holder.ino.0) (finished_entry known s) s.table }) q
+        same_stays q = ap (λ b. not (at q) || b) (same_kept (record s { table = changed_where (λ row. at row.holder.ino.0) (finished_entry known s) s.table }) q)
+
+        ended_row : (row : EntryRow) (b : Bool) → cond b (remade (finished_entry known s) (sized_row row)) (sized_row row) ≡ sized_row (cond b (remade (finished_entry known s) row) row)
+        ended_row row true = ap (λ (e : Entry). record row { entry = e }) (numbered (meet (known row.holder) row.entry.held) (told_then s row) (issue_row s row))
+        ended_row row false = refl
+
+        ended : map (λ row. cond (at row.holder.ino.0) (remade (finished_entry known s) row) row) (map sized_row s.table.rows)
+            ≡ map sized_row (map (λ row. cond (at row.holder.ino.0) (remade (finished_entry known s) row) row) s.table.rows)
+        ended =
+            two_changes (λ row. cond (at row.holder.ino.0) (remade (finished_entry known s) row) row) sized_row
+            (λ row. sized_row (cond (at row.holder.ino.0) (remade (finished_entry known s) row) row)) s.table.rows (λ row inside. ended_row row (at row.holder.ino.0))
+            ∙ sym (two_changes sized_row (λ row. cond (at row.holder.ino.0) (remade (finished_entry known s) row) row)
+            (λ row. sized_row (cond (at row.holder.ino.0) (remade (finished_entry known s) row) row)) s.table.rows (λ row inside. refl))
+
+    -- ---- what is kept of entries
+
+    told_owed : (row : EntryRow) (b h : Bool) → told_then s (cond b (record row { entry = cond h (with_size_due true row.entry) row.entry }) row) ≡ told_then s row
+    told_owed row false h = refl
+    told_owed row true true = refl
+    told_owed row true false = refl
+
+    -- it is the same, whether sizes are to be told or not
+    pub sizes-kept : {S : Type 0} (among : Holder → Bool) (was now : HashMap Holder Caps S) → KeptAnew among (told_then (sizes_owed sized s)) (sizes_owed sized s).table was now
+        → KeptAnew among (told_then s) s.table was now
+    sizes-kept among was now kept k = kept k ∙ ap (λ o. kept_anew (among k) (told_then s) o (get same_holders was k)) found ∙ by_row (among k) (find (is_row_of k) s.table.rows)
+      where
+        one : EntryRow → EntryRow
+        one row = cond (is_sized sized row) (remade owed row) row
+
+        found : find (is_row_of k) (sizes_owed sized s).table.rows ≡ option_map one (find (is_row_of k) s.table.rows)
+        found = find-map (is_row_of k) one (λ row. elim (is_sized sized row) as (λ b. is_row_of k (cond b (remade owed row) row) ≡ is_row_of k row) [ true ↦ refl | false ↦ refl ]) s.table.rows
+
+        by_row : (b : Bool) (o : Option EntryRow) → kept_anew b (told_then s) (option_map one o) (get same_holders was k) ≡ kept_anew b (told_then s) o (get same_holders was k)
+        by_row true None = refl
+        by_row true (Some row) = ap Some (told_owed row (is_sized sized row) (has row.entry.held Fc))
+        by_row false None = refl
+        by_row false (Some row) = refl
+
+-- ---- of an event
+
+module _ (at from : ℕ → Bool) (known : Holder → Caps) (old touched : State) (moves : List Made) (settled : Scene) (sound : IsSound old) (tree : IsTree settled.tree) (table : IsTable touched.scene.table)
+    (touches : Touches from old touched) (knows : Knows known old.scene touched.scene.table) (settles : SettlesAt at from moves touched.scene settled) where
+  table-then : IsTable settled.table
+  table-then = settled-table at from known old touched moves settled sound tree table touches knows settles
+
+  at_end : finished_at at known (sizes_owed (sized_in moves) settled) ≡ with_sizes (sized_in moves) settled.table (finished_at at known settled)
+  at_end = sizes-finished_at (sized_in moves) settled.table table-then settled refl at known
+
+  pub sizes-end : finished old.scene touched.scene (sizes_owed (sized_in moves) settled) ≡ finished_at at known (sizes_owed (sized_in moves) settled)
+  sizes-end =
+      sizes-finished (sized_in moves) settled.table table-then settled refl old.scene touched.scene
+      ∙ ap (with_sizes (sized_in moves) settled.table) (touched-ends at from known old touched moves settled sound tree table touches knows settles)
+      ∙ sym at_end
+
+  pub sizes-sound : IsLockMap touched.scene.locks → IsSound (state_at_end old touched moves (finished_at at known (sizes_owed (sized_in moves) settled)))
+  sizes-sound order =
+      let ends = sound-touched at from known old touched moves settled sound tree table order touches knows settles in
+      subst (λ (s : Scene). IsSound (state_at_end old touched moves s)) (sym at_end)
+      (retold-sound (state_at_end old touched moves (finished_at at known settled)) as_told (size_as (sized_in moves) settled.table) as_asked
+      (state_at_end old touched moves (finished_at at known settled)).messages ends.messages (λ row below. below) ends)
+
+  pub sizes-issues : IssuesExactly touched.scene (finished_at at known (sizes_owed (sized_in moves) settled))
+  sizes-issues =
+      subst (IssuesExactly touched.scene) (sym at_end)
+      (retold-issued (state_at_end old touched moves (finished_at at known settled)) as_told (size_as (sized_in moves) settled.table) as_asked touched.scene
+      (touched-issues at from known old touched moves settled sound tree table touches knows settles))
+
+  pub sizes-given : (count : ℕ) → AreGiven (count + 1) (state_at_end old touched moves (finished_at at known settled))
+      → AreGiven (count + 1) (state_at_end old touched moves (finished_at at known (sizes_owed (sized_in moves) settled)))
+  sizes-given count given =
+      subst (λ (s : Scene). AreGiven (count + 1) (state_at_end old touched moves s)) (sym at_end)
+      (record {
+        entries = All-map (λ row. row.entry.seq ≤ count + 1) (sized_row (sized_in moves) settled.table) (finished_at at known settled).table.rows given.entries;
+        last = given.last;
+        made = given.made;
+      })
+
+  pub sizes-known : {S : Type 0} (was sets : HashMap Holder Caps S)
+      → ((row : EntryRow) → Contains touched.scene.table.rows row → at row.holder.ino.0 ≡ false → get same_holders was row.holder ≡ Some (told_set old.scene row))
+      → KeptAnew (λ k. at k.ino.0) (told_then (sizes_owed (sized_in moves) settled)) (sizes_owed (sized_in moves) settled).table was sets
+      → AreKnown sets (finished_at at known (sizes_owed (sized_in moves) settled))
+  sizes-known was sets off_known kept =
+      let ends = touched-known at from known old touched moves settled sound tree table touches knows settles was sets off_known
+      (sizes-kept (sized_in moves) settled.table table-then settled refl (λ k. at k.ino.0) was sets kept) in
+      subst (AreKnown sets) (sym at_end)
+      (known-alike sets (finished_at at known settled) (with_sizes (sized_in moves) settled.table (finished_at at known settled)).table
+      (alike-where (λ row. true) (λ row. (sized_row (sized_in moves) settled.table row).entry) (finished_at at known settled).table (λ row. refl)) ends)

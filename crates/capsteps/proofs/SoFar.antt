@@ -1,0 +1,374 @@
+-- Where the settling of a step has come to, between two servings.
+use Rattle.std.proofs.Common.{◌≡◌, ◌≢◌, ◌+◌, ◌≤◌, ◌==◌, ◌||◌, ◌&&◌, not, cond, ℕ, Bool, true, false, inl, inr, Option, None, Some, List, [], ◌∷◌, ◌++◌, length, map as each, refl, sym, ap, subst, ◌∙◌, Contains, append-nil, arith, true≢false}
+use Rattle.std.specs.Option.{option_map, option_map_or}
+use Rattle.std.specs.FinMap as map
+use Rattle.std.specs.FinSet as set
+use Rattle.std.proofs.lemmas.Bool.{eqb-true, eqb-false}
+use Rattle.std.proofs.lemmas.List.{length-append}
+use Rattle.std.proofs.lemmas.List.Elements.{All-contains, filter_map-append, filter_passes}
+use Rattle.capbits.specs.declared.cap.Part.{Part}
+use Rattle.capbits.specs.declared.ids.Ino.{Ino}
+use Rattle.capbits.specs.declared.ids.Ticket.{Ticket}
+use Rattle.inotree.specs.Tree.{Nodes, IsTree, is_within}
+use Rattle.inotree.specs.Alike.{IsAlike}
+use Rattle.captable.specs.declared.entry.EntryRow.{EntryRow}
+use Rattle.captable.specs.Calls.{is_of_inode, entries_on}
+use Rattle.lockmachine.specs.declared.request.Request.{Request}
+use Rattle.lockmachine.specs.declared.moves.Move.TheVariants.{Serve, Settled}
+use Rattle.lockmachine.specs.Inodes.{lock_in}
+use Rattle.lockmachine.specs.Requests.{first_for, is_numbered, part_of_ask}
+use Rattle.lockmachine.specs.Locks.{IsLockMap, lock_at, request_at, without_request}
+use Rattle.lockmachine.specs.Wants.{want_of, in_all}
+use Rattle.lockmachine.specs.Scene.{Scene}
+use Rattle.lockmachine.specs.Moves.{may_begin, may_begin_in, is_servable, first_move, IsQuietOutside}
+use Rattle.lockmachine.specs.Turns.{IsTurnOf, NobodyElsewhere, NothingEnds, WaitAt}
+use Rattle.lockmachine.proofs.Alone.{nobody-held, served-alone}
+use Rattle.lockmachine.proofs.Exact.{ends_not, begins_not}
+use Rattle.lockmachine.proofs.Finding.{contains-filter}
+use Rattle.lockmachine.proofs.PolicyElsewhere.{alike-itself}
+use Rattle.lockmachine.proofs.SameBut.{begin-alike, first-moved}
+use Rattle.lockmachine.proofs.Turns.{served-ends, ends-turn}
+use Rattle.lockmachine.proofs.Waiting.{quiet-waits-at, waits-wider, waits-less-at, served-at}
+use Rattle.capevents.specs.declared.outcome.Ended.{Ended}
+use Rattle.capnotes.specs.InoSets.{InoSet}
+use Rattle.capsteps.specs.declared.settle.SweepPlace.{SweepPlace}
+use Rattle.capsteps.specs.Served.{is_rename}
+use Rattle.capsteps.specs.Serves.{Serves, SettlesWith, is_touched}
+use Rattle.capnotes.specs.Changing.{tree_after}
+use Rattle.capsteps.specs.Settle.{Made, Began, Gathered, Served, Makes, MakesAll, ended_by, ended_in, sized_by, sized_in}
+use Rattle.capsteps.specs.Sweep.{AreStill, GoesOnBehind, IsFirstPlace, IsSwept, IsTurnOfLeast, StandsAt, Widens, Covers, Reaches, changed_alone}
+use Rattle.capsteps.specs.Touching.{IsSameOff}
+use Rattle.capsteps.proofs.Among.{untouched, not-touched, more-touched}
+use Rattle.capsteps.proofs.Moved.{makes-append}
+use Rattle.capsteps.proofs.OneChange.{alike-apart, place-after}
+use Rattle.capsteps.proofs.Served.{one-less}
+use Rattle.capsteps.proofs.SameOff.{off-refl, off-trans, off-wider}
+use Rattle.capsteps.proofs.Sweeping.{still-kept}
+
+-- these moves were made and these requests ended; nothing changed but at the inodes that are touched, among which are those of the
+-- event; elsewhere nothing moves, and who waits there is held up
+pub record IsSoFar (ino : ℕ) (from : ℕ → Bool) (touched : InoSet) (first now : Scene) (told : List Ended) (sized : List Ino) : Type 0 where
+  pub moves : List Made
+  pub made : MakesAll first moves now
+  pub ended_is : told ≡ ended_in moves
+  pub sized_is : sized ≡ sized_in moves
+  pub among : (other : ℕ) → from other ≡ true → is_touched ino touched other ≡ true
+  pub same : IsSameOff (is_touched ino touched) first now
+  pub states : (other : ℕ) → is_touched ino touched other ≡ false → map.get now.locks.states other ≡ map.get first.locks.states other
+  pub apart : set.contains touched ino ≡ false
+  pub still : AreStill (is_touched ino touched) now
+  pub waits : WaitAt (is_touched ino touched) now
+  pub count : length told + length now.locks.queue ≡ length first.locks.queue
+
+-- ---- at first
+
+pub so-far-begins : (ino : ℕ) (touched : InoSet) (first : Scene) → IsQuietOutside (is_touched ino touched) first → set.contains touched ino ≡ false
+    → IsSoFar ino (is_touched ino touched) touched first first [] []
+so-far-begins ino touched first quiet apart = record {
+  moves = [];
+  made = refl;
+  ended_is = refl;
+  sized_is = refl;
+  among = λ other is. is;
+  same = off-refl (is_touched ino touched) first;
+  states = λ other off. refl;
+  apart = apart;
+  still = record {
+    ends = λ other part off. ends_not first (other, part) (lock_at first.locks other part) (quiet.each_other other part off);
+    begins = λ other part off. begins_not first (other, part) (lock_at first.locks other part) (quiet.each_other other part off);
+  };
+  waits = quiet-waits-at (is_touched ino touched) first quiet;
+  count = omega arith;
+}
+
+-- moves that end no request change no size
+none-sized : (moves : List Made) → ended_in moves ≡ [] → sized_in moves ≡ []
+none-sized [] none = refl
+none-sized (Began ino part to ∷ moves) none = none-sized moves none
+none-sized (Gathered ino part ∷ moves) none = none-sized moves none
+none-sized (Served q o ∷ moves) none = absurd (cc)
+
+-- where nothing ends, it is the turn of the least one
+pub turn-of_least : (at : ℕ → Bool) (s : Scene) → AreStill at s → NothingEnds s → IsTurnOfLeast at s
+turn-of_least at s still ends a least = ends-turn s a ends (λ other part below. still.begins other part (least.least other below))
+
+-- ---- where the sweep begins
+
+or_no : (a b : Bool) → b ≡ false → (a || b) ≡ a
+or_no true b e = refl
+or_no false b e = e
+
+-- where no other inode is touched, who waits elsewhere is held up
+nobody_first : (ino : ℕ) (touched : InoSet) (s : Scene) (at : ℕ) → WaitAt (is_touched ino touched) s → is_touched ino touched at ≡ true
+    → ((other : ℕ) → set.contains touched other ≡ false) → NobodyElsewhere s.locks at
+nobody_first ino touched s at waits here empty =
+    let is : at ≡ ino = eqb-true at ino (sym (or_no (at == ino) _ (empty at)) ∙ here) in
+    nobody-held s at (waits-wider (is_touched ino touched) (λ other. other == at) s (λ other away. or_no (other == ino) _ (empty other) ∙ ap (λ i. other == i) (sym is) ∙ away) waits)
+
+pub stands-first : (ino : ℕ) (touched : InoSet) (s : Scene) (place : SweepPlace) → IsTurnOfLeast (is_touched ino touched) s → WaitAt (is_touched ino touched) s
+    → IsFirstPlace ino touched place → StandsAt (is_touched ino touched) place s
+stands-first ino touched s place turn waits first = record {
+  turn = turn place.at.0 first.least;
+  here = first.least.is;
+  alone = λ known. nobody_first ino touched s place.at.0 waits first.least.is (first.alone known);
+}
+
+module _ (ino : ℕ) (from : ℕ → Bool) (touched : InoSet) (first now : Scene) (told : List Ended) (sized : List Ino) (so : IsSoFar ino from touched first now told sized) where
+  -- ---- gathers began and ended
+
+  module _ (new : Scene) (swept : IsSwept (is_touched ino touched) now new) where
+    abbrev left : Scene
+    left = record now { locks = new.locks }
+
+    swept_off : IsSameOff (is_touched ino touched) now left
+    swept_off = record {
+      fs = refl;
+      sessions = refl;
+      table = refl;
+      locks = λ other part off. ap (option_map (lock_in part)) (swept.states other off);
+      places = λ other off. refl;
+      alike = λ row inside off. alike-itself now.tree row.holder.ino.0;
+    }
+
+    by_left : (P : Scene → Type 0) → P left → P new
+    by_left P is = subst P (sym swept.is) is
+
+    pub so-far-swept : IsSoFar ino from touched first new told sized
+    so-far-swept = record {
+      moves = so.moves ++ swept.moves;
+      made = makes-append first so.moves now swept.moves new so.made swept.made;
+      ended_is =
+          so.ended_is
+          ∙ sym (append-nil (ended_in so.moves))
+          ∙ ap (λ ms. ended_in so.moves ++ ms) (sym swept.none)
+          ∙ sym (filter_map-append ended_by so.moves swept.moves);
+      sized_is =
+          so.sized_is
+          ∙ sym (append-nil (sized_in so.moves))
+          ∙ ap (λ inos. sized_in so.moves ++ inos) (sym (none-sized swept.moves swept.none))
+          ∙ sym (filter_map-append sized_by so.moves swept.moves);
+      among = so.among;
+      same = by_left (IsSameOff (is_touched ino touched) first) (off-trans (is_touched ino touched) first now left so.same swept_off);
+      states = λ other off. swept.states other off ∙ so.states other off;
+      apart = so.apart;
+      still = by_left (AreStill (is_touched ino touched)) (still-kept (is_touched ino touched) now new.locks so.still swept.queue swept.states);
+      waits = swept.waits;
+      count = ap (λ (q : List Request). length told + length q) swept.queue ∙ so.count;
+    }
+
+  -- and where no move applies, it has settled
+  pub so-far-settled : first_move now ≡ Settled → SettlesWith (is_touched ino touched) from first now told sized
+  so-far-settled rests = record {
+    moves = so.moves;
+    settles = record {
+      settles = record { made = so.made; settled = rests };
+      among = so.among;
+      same = so.same;
+    };
+    ended_is = so.ended_is;
+    sized_is = so.sized_is;
+  }
+
+  -- ---- a request was served
+
+  module _ (ticket : Ticket) (ended : Ended) (new : Scene) (kept : InoSet) (order : IsLockMap now.locks) (tree : IsTree now.tree) (move : first_move now ≡ Serve ticket)
+      (serves : Serves now ticket ended new) (reaches : Reaches serves.request ino now.tree new.tree now.table touched kept) where
+    abbrev q : Request
+    q = serves.request
+
+    here : (r : Request) × (request_at now.locks ticket.0 ≡ Some r) × Contains now.locks.queue r × (is_touched ino touched r.ino.0 ≡ true) × (r.ticket ≡ ticket)
+    here = served-at (is_touched ino touched) now ticket order so.waits move
+
+    same_request : here.0 ≡ q
+    same_request = (let both : Some here.0 ≡ Some serves.request = sym here.1 ∙ serves.waits in cc)
+
+    inside : Contains now.locks.queue q
+    inside = subst (Contains now.locks.queue) same_request here.2
+
+    -- it waited at an inode that was touched
+    at_touched : is_touched ino touched q.ino.0 ≡ true
+    at_touched = ap (λ (r : Request). is_touched ino touched r.ino.0) (sym same_request) ∙ here.3
+
+    numbered : q.ticket ≡ ticket
+    numbered = ap (λ (r : Request). r.ticket) (sym same_request) ∙ here.4
+
+    -- the scene that it leaves, by the number that the request has
+    abbrev after : Scene
+    after = record now { tree = tree_after now.tree q ended.outcome; locks = without_request now.locks q.ticket.0 }
+
+    is_after : new ≡ after
+    is_after = serves.is ∙ (λ i. record now { tree = tree_after now.tree q ended.outcome; locks = without_request now.locks (sym numbered i).0 })
+
+    by_after : (P : Scene → Type 0) → P after → P new
+    by_after P is = subst P (sym is_after) is
+
+    makes : Makes now (Served q ended.outcome) new
+    makes = (move ∙ ap Serve (sym numbered), subst (λ (t : Ticket). request_at now.locks t.0 ≡ Some q) (sym numbered) serves.waits, serves.may, is_after)
+
+    -- ---- which inodes it touches
+
+    abbrev more : Widens ino touched kept
+    more = reaches.widens
+
+    not_before : (other : ℕ) → set.contains kept other ≡ false → set.contains touched other ≡ false
+    not_before other none = elim (set.contains touched other) as (λ b. set.contains touched other ≡ b → b ≡ false) [
+      | true ↦ λ was. absurd (true≢false (sym (more.stay other was) ∙ none))
+      | false ↦ λ was. refl
+    ] refl
+
+    wider : (other : ℕ) → is_touched ino kept other ≡ false → is_touched ino touched other ≡ false
+    wider other off = (let un = untouched ino kept other off in not-touched ino touched other un.0 (not_before other un.1))
+
+    apart_now : set.contains kept ino ≡ false
+    apart_now = elim (set.contains kept ino) as (λ b. set.contains kept ino ≡ b → b ≡ false) [
+      | true ↦ λ is. (absurd (more.besides ino so.apart is refl))
+      | false ↦ λ is. refl
+    ] refl
+
+    -- an inode that is not touched is another than that of the request
+    another : (other : ℕ) → is_touched ino kept other ≡ false → other ≢ q.ino.0
+    another other off same = true≢false (sym at_touched ∙ ap (is_touched ino touched) (sym same) ∙ wider other off)
+
+    -- ---- what it leaves as it was
+
+    row_alike : (row : EntryRow) → Contains now.table.rows row → is_touched ino kept row.holder.ino.0 ≡ false → IsAlike now.tree (tree_after now.tree q ended.outcome) row.holder.ino.0
+    row_alike row among off = elim reaches.covers [
+      | inl left ↦ subst (λ (t : Nodes). IsAlike now.tree t row.holder.ino.0) (sym (sym (ap (λ (s : Scene). s.tree) is_after) ∙ left)) (alike-itself now.tree row.holder.ino.0)
+      | inr covers ↦
+          let un = untouched ino kept row.holder.ino.0 off in
+          alike-apart now q ended.outcome row.holder.ino.0 tree serves.may (another row.holder.ino.0 off) (λ moves. not_within covers moves un.1 un.0)
+    ]
+      where
+        not_within : Covers q ino now.tree now.table kept → is_rename q.ask ≡ true → set.contains kept row.holder.ino.0 ≡ false → row.holder.ino.0 ≢ ino
+            → is_within now.tree.nodes row.holder.ino.0 q.ino.0 ≡ false
+        not_within covers moves none other =
+            elim (is_within now.tree.nodes row.holder.ino.0 q.ino.0) as (λ b. is_within now.tree.nodes row.holder.ino.0 q.ino.0 ≡ b → b ≡ false) [
+              | true ↦ λ below. absurd (true≢false (sym (covers moves row among other below) ∙ none))
+              | false ↦ λ below. refl
+            ] refl
+
+    first_same : (other : ℕ) (part : Part) → other ≢ q.ino.0 → first_for after.locks.queue other part ≡ first_for now.locks.queue other part
+    first_same other part off = first-moved now.locks q order inside other part off
+
+    served_off : IsSameOff (is_touched ino kept) now after
+    served_off = record {
+      fs = refl;
+      sessions = refl;
+      table = refl;
+      locks = λ other part off. refl;
+      places = λ other off. place-after now q ended.outcome serves.may other (another other off);
+      alike = row_alike;
+    }
+
+    -- where nobody has an entry, nothing is wanted on any tree
+    module _ (other : ℕ) (off : other ≢ q.ino.0) where
+      -- of each inode that is alike, the same lock may begin
+      alike_begin : IsAlike now.tree after.tree other → (part : Part) → may_begin after (other, part) ≡ may_begin now (other, part)
+      alike_begin alike = begin-alike other now after (record {
+        fs = refl;
+        sessions = refl;
+        entries = refl;
+        locks = λ part. refl;
+        waiting = λ part. first_same other part off;
+        alike = alike;
+      })
+
+      unwanted_begin : entries_on now.table (record { 0 = other }) ≡ [] → (part : Part) → may_begin after (other, part) ≡ may_begin now (other, part)
+      unwanted_begin none part =
+          ap (λ rows. may_begin_in after.locks.queue (in_all (each (want_of now.fs after.tree now.sessions) rows)) (other, part) (lock_at now.locks other part)) none
+          ∙ sym (ap (λ rows. may_begin_in after.locks.queue (in_all (each (want_of now.fs now.tree now.sessions) rows)) (other, part) (lock_at now.locks other part)) none)
+          ∙ begin-alike other now (record now { locks = after.locks }) (record {
+            fs = refl;
+            sessions = refl;
+            entries = refl;
+            locks = λ part. refl;
+            waiting = λ part. first_same other part off;
+            alike = alike-itself now.tree other;
+          }) part
+
+      begin_same : is_touched ino kept other ≡ false → (rows : List EntryRow) → entries_on now.table (record { 0 = other }) ≡ rows → (part : Part) → may_begin after (other, part) ≡ may_begin now (other, part)
+      begin_same un [] is part = unwanted_begin is part
+      begin_same un (row ∷ rows) is part =
+          let found : Contains (entries_on now.table (record { 0 = other })) row = subst (λ (rs : List EntryRow). Contains rs row) (sym is) (0, omega arith, refl) in
+          let there : row.holder.ino.0 ≡ other = eqb-true row.holder.ino.0 other (All-contains (λ (r : EntryRow). is_of_inode (record { 0 = other }) r ≡ true) (entries_on now.table (record { 0 = other })) row (filter_passes (is_of_inode (record { 0 = other })) now.table.rows) found) in
+          alike_begin (subst (IsAlike now.tree after.tree) there (row_alike row (contains-filter (is_of_inode (record { 0 = other })) now.table.rows row found) (ap (is_touched ino kept) there ∙ un))) part
+
+    still_after : AreStill (is_touched ino kept) after
+    still_after = record {
+      ends = λ other part off. so.still.ends other part (wider other off);
+      begins = λ other part off.
+          begin_same other (another other off) off (entries_on now.table (record { 0 = other })) refl part ∙ so.still.begins other part (wider other off);
+    }
+
+    -- nothing ends, so that it is the least one's turn again
+    turn_after : IsTurnOfLeast (is_touched ino kept) after
+    turn_after = turn-of_least (is_touched ino kept) after still_after (served-ends now ticket move)
+
+    turn_served : IsTurnOfLeast (is_touched ino kept) new
+    turn_served = by_after (IsTurnOfLeast (is_touched ino kept)) turn_after
+
+    pub so-far-served : IsSoFar ino from kept first new (told ++ ended ∷ []) (sized ++ sized_in (Served q ended.outcome ∷ []))
+    so-far-served = record {
+      moves = so.moves ++ Served q ended.outcome ∷ [];
+      made = makes-append first so.moves now (Served q ended.outcome ∷ []) new so.made (new, makes, refl);
+      ended_is =
+          ap (λ ms. ms ++ ended ∷ []) so.ended_is
+          ∙ ap (λ (m : Ended). ended_in so.moves ++ m ∷ []) serves.ended_is
+          ∙ sym (filter_map-append ended_by so.moves (Served q ended.outcome ∷ []));
+      sized_is =
+          ap (λ inos. inos ++ sized_in (Served q ended.outcome ∷ [])) so.sized_is
+          ∙ sym (filter_map-append sized_by so.moves (Served q ended.outcome ∷ []));
+      among = λ other is. more-touched ino touched kept more.stay other (so.among other is);
+      same = by_after (IsSameOff (is_touched ino kept) first)
+          (off-trans (is_touched ino kept) first now after (off-wider (is_touched ino touched) (is_touched ino kept) first now wider so.same) served_off);
+      states = λ other off. ap (λ (s : Scene). map.get s.locks.states other) is_after ∙ so.states other (wider other off);
+      apart = apart_now;
+      still = by_after (AreStill (is_touched ino kept)) still_after;
+      waits = by_after (WaitAt (is_touched ino kept))
+          (waits-wider (is_touched ino touched) (is_touched ino kept) after wider (waits-less-at (is_touched ino touched) now (tree_after now.tree q ended.outcome) q.ticket.0 so.waits));
+      count = (
+          let queue : length new.locks.queue ≡ length (without_request now.locks q.ticket.0).queue = ap (λ (s : Scene). length s.locks.queue) is_after in
+          let more : length (told ++ ended ∷ []) ≡ length told + 1 = length-append told (ended ∷ []) in
+          let less = one-less now.locks q order inside in
+          let was = so.count in
+          omega (arith, queue, more, less, was)
+          );
+    }
+
+    -- ---- where the sweep goes on
+
+    -- where it moves no inode, others stay as they were, and it stays an inode's turn that is not behind its own
+    turn_stays : (at : ℕ) → is_rename q.ask ≡ false → at ≤ q.ino.0 → IsTurnOf now at → IsTurnOf after at
+    turn_stays at stays before turn = ends-turn after at (served-ends now ticket move) (λ other part below.
+        let off : other ≢ q.ino.0 = λ same. omega (arith, before, below, same) in
+        let alike = alike-apart now q ended.outcome other tree serves.may off (λ moves. absurd (true≢false (sym moves ∙ stays))) in
+        alike_begin other off alike part ∙ turn.begins other part below)
+
+    -- nobody comes to be served at another inode
+    alone_stays : (at : ℕ) → NobodyElsewhere now.locks at → NobodyElsewhere after.locks at
+    alone_stays at nobody r waits away =
+        let was = contains-filter (λ (other : Request). not (is_numbered q.ticket.0 other)) now.locks.queue r waits in
+        let there : q.ino.0 ≡ at = served-alone now at ticket order nobody move q serves.waits in
+        let off : r.ino.0 ≢ q.ino.0 = λ same. eqb-false r.ino.0 at away (same ∙ there) in
+        ap (λ (o : Option Request). option_map_or (is_numbered r.ticket.0) o false && is_servable now.locks r) (first_same r.ino.0 (part_of_ask r.ask) off)
+        ∙ nobody r was away
+
+    alone_by : (i : Ino) → changed_alone q ≡ Some i → (is_rename q.ask ≡ false) × (i ≡ q.ino)
+    alone_by i is = elim (is_rename q.ask) as (λ b. is_rename q.ask ≡ b → cond b None (Some q.ino) ≡ Some i → (is_rename q.ask ≡ false) × (i ≡ q.ino)) [
+      | true ↦ λ moves is. absurd (cc)
+      | false ↦ λ stays is. (stays, cc)
+    ] refl is
+
+    pub stands-behind : (place next : SweepPlace) (changed : Option Ino) → StandsAt (is_touched ino touched) place now → changed ≡ changed_alone q
+        → GoesOnBehind place changed ino kept next → StandsAt (is_touched ino kept) next new
+    stands-behind place next changed stood is goes = elim goes [
+      | inl on ↦
+          let alone = alone_by on.1.0 (sym is ∙ on.1.1) in
+          let before : place.at.0 ≤ q.ino.0 = subst (λ (i : Ino). place.at.0 ≤ i.0) alone.1 on.1.2 in
+          subst (λ (at : SweepPlace). StandsAt (is_touched ino kept) at new) (sym on.0) (by_after (StandsAt (is_touched ino kept) place) (record {
+            turn = turn_stays place.at.0 alone.0 before stood.turn;
+            here = more-touched ino touched kept more.stay place.at.0 stood.here;
+            alone = λ known. alone_stays place.at.0 (stood.alone known);
+          }))
+      | inr first ↦ stands-first ino kept new next turn_served so-far-served.waits first
+    ]

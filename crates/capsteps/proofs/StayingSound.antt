@@ -1,0 +1,318 @@
+-- A sound state stays sound after the step of an event that touched some inodes.
+use Rattle.std.proofs.Common.{◌≡◌, ◌≤◌, ℕ, ◌+◌, ◌==◌, Bool, true, false, ◌||◌, Some, None, is_some, List, refl, sym, ap, subst, ◌∙◌, ◌++◌, Contains, arith}
+use Rattle.std.specs.Prelude.{IsTrue, All, nat_le}
+use Rattle.std.specs.List.{find, list_any}
+use Rattle.std.specs.Option.{option_map}
+use Rattle.std.specs.Cmp.{nat_eq_equiv}
+use Rattle.std.specs.FinMap as map
+use Rattle.std.proofs.lemmas.List.Elements.{All-append, All-contains, All-filter, All-map, All-same, All-weaker}
+use Rattle.capbits.specs.declared.cap.Cap.TheVariants.{P}
+use Rattle.capbits.specs.declared.cap.Part.{Part}
+use Rattle.capbits.specs.declared.ids.ClientId.{ClientId}
+use Rattle.capbits.specs.Caps.{Caps, has}
+use Rattle.capbits.specs.Sets.{meet, IsSubset}
+use Rattle.inotree.specs.declared.node.Place.TheVariants.{Gone}
+use Rattle.inotree.specs.Tree.{IsTree, place}
+use Rattle.sessiontab.specs.Table.{SessionTable}
+use Rattle.sessiontab.specs.Calls.{has_session}
+use Rattle.captable.specs.declared.entry.EntryRow.{EntryRow}
+use Rattle.captable.specs.declared.entry.Holder.{Holder}
+use Rattle.captable.specs.Table.{Table, IsTable, is_row_of}
+use Rattle.captable.specs.Calls.{is_of_inode}
+use Rattle.captable.proofs.ByHolder.{row_found}
+use Rattle.captable.proofs.Searches.{find-filter_kept}
+use Rattle.captable.proofs.Tables.{same-is}
+use Rattle.lockmachine.specs.declared.moves.Move.TheVariants.{Settled}
+use Rattle.lockmachine.specs.Inodes.{StateMap, lock_in}
+use Rattle.lockmachine.specs.Locks.{IsLockMap, lock_at}
+use Rattle.lockmachine.specs.Requests.{first_for}
+use Rattle.lockmachine.specs.Scene.{Scene}
+use Rattle.lockmachine.specs.Moves.{first_move, IsQuiet, IsAtRest, WaitAtLocks}
+use Rattle.lockmachine.specs.Rows.{IsInRow}
+use Rattle.lockmachine.specs.Wants.{effective_want}
+use Rattle.lockmachine.proofs.Rest.{at_rest}
+use Rattle.capevents.specs.declared.outcome.Ended.{Ended}
+use Rattle.capsteps.specs.State.{State}
+use Rattle.capsteps.specs.Finish.{due, allowed_to}
+use Rattle.capsteps.specs.Sound.{IsSoundEntry, IsSound, AreGiven}
+use Rattle.capsteps.specs.Settle.{Made, ended_in}
+use Rattle.capsteps.specs.Step.{earlier, state_at_end}
+use Rattle.capsteps.specs.Touching.{IsTouchedEntry, Touches, SettlesAt, Knows, finished_at}
+use Rattle.capsteps.proofs.EndsThere.{any-map, off_due}
+use Rattle.capsteps.proofs.IssuedRows.{ended_row, want-ended, told-ended, revoked-ended, seq-ended, effective-ended, holds-due, holds-pin, in_row-ended}
+use Rattle.capsteps.proofs.IssuedRest.{on_it, last_row, issued_at, by_place, of_inode-last, rest-issued}
+use Rattle.capsteps.proofs.Placed.{placed-in_row}
+use Rattle.capsteps.proofs.Forgotten.{all_rows, IsSoundBut, sound-forgotten}
+use Rattle.capsteps.proofs.Moved.{IsMoved, moved-all, no_lock-moved, nobody-moved, all-waiting, Waited, ended-waited}
+use Rattle.capsteps.proofs.NothingServed.{nothing-served}
+use Rattle.capsteps.proofs.SameOff.{not-among, row_elsewhere, any_elsewhere, IsSameFrom, from-first}
+use Rattle.capsteps.proofs.Touched.{IsKeptEntry, kept-left}
+
+-- ---- the step
+
+-- all that is known of it
+record IsGiven (at from : ℕ → Bool) (known : Holder → Caps) (old touched : State) (settled : Scene) : Type 0 where
+  among : (q : ℕ) → from q ≡ true → at q ≡ true
+  sound : IsSound old
+  tree : IsTree settled.tree
+  table : IsTable touched.scene.table
+  -- the entries are those that the event left
+  moved : IsMoved touched.scene settled
+  touches : Touches from old touched
+  same : IsSameFrom at old.scene settled
+  rests : first_move settled ≡ Settled
+  knows : Knows known old.scene settled.table
+  fs : settled.fs ≡ touched.scene.fs
+  -- where an entry has not its pin yet, the tree is as the event left it
+  calm : (row : EntryRow) → Contains touched.scene.table.rows row → has row.entry.held P ≡ false → settled.tree ≡ touched.scene.tree
+
+module _ (at from : ℕ → Bool) (known : Holder → Caps) (old touched : State) (settled : Scene) where
+  abbrev first : Scene
+  first = touched.scene
+
+  abbrev last : Scene
+  last = issued_at known settled at
+
+  abbrev on : EntryRow → Bool
+  on = on_it known settled at
+
+  abbrev last_of : EntryRow → EntryRow
+  last_of = last_row known settled at
+
+  abbrev rows : List EntryRow
+  rows = settled.table.rows
+
+  module _ (g : IsGiven at from known old touched settled) where
+    -- ---- rest
+
+    -- who waits, waits for a lock that is there
+    wait_at : WaitAtLocks settled
+    wait_at i part none =
+        let moved = g.moved in
+        let touches = g.touches in
+        let was = no_lock-moved first settled moved i part none in
+        nobody-moved first settled moved i part (elim (from i) as (λ b. from i ≡ b → first_for first.locks.queue i part ≡ None) [
+          | true ↦ λ is. touches.at_lock i part is was
+          | false ↦ λ off. (let same = touches.same in
+              let sound = g.sound in
+              let before : lock_at old.scene.locks i part ≡ None = sym (ap (λ (states : StateMap). option_map (lock_in part) (map.get states i)) touches.states) ∙ was in
+              same.waiting i part off ∙ subst (IsQuiet old.scene i part) before (sound.at_rest.each i part))
+        ] refl)
+
+    rest_last : IsAtRest last
+    rest_last = rest-issued known settled at (at_rest settled wait_at g.rests)
+
+    -- ---- rows of other inodes are those of the old state
+
+    first_row : (row : EntryRow) → Contains rows row → Contains first.table.rows row
+    first_row row inside = let moved = g.moved in subst (λ (t : Table). Contains t.rows row) moved.table inside
+
+    old_row : (row : EntryRow) → Contains rows row → from row.holder.ino.0 ≡ false → Contains old.scene.table.rows row
+    old_row row inside off =
+        let touches = g.touches in
+        let same = touches.same in
+        row_elsewhere from old.scene.table first.table same.entries row (first_row row inside) off
+
+    of_its_inode : (k : Holder) (row : EntryRow) → is_row_of k row ≡ true → is_of_inode k.ino row ≡ true
+    of_its_inode k row is = ap (λ (h : Holder). h.ino.0 == k.ino.0) (sym (same-is k row.holder is)) ∙ nat_eq_equiv.refl k.ino.0
+
+    old_found : (row : EntryRow) → Contains rows row → from row.holder.ino.0 ≡ false → find (is_row_of row.holder) old.scene.table.rows ≡ Some row
+    old_found row inside off =
+        let k = row.holder in
+        let touches = g.touches in
+        let same = touches.same in
+        sym (find-filter_kept (is_row_of k) (is_of_inode k.ino) (of_its_inode k) old.scene.table.rows)
+        ∙ ap (find (is_row_of k)) (sym (same.entries k.ino off))
+        ∙ find-filter_kept (is_row_of k) (is_of_inode k.ino) (of_its_inode k) first.table.rows ∙ row_found first.table row g.table (first_row row inside)
+
+    -- what every state keeps of such a row, it keeps; so by itself the event leaves each row as one of its inode
+    kept_row : (row : EntryRow) → Contains rows row → from row.holder.ino.0 ≡ false → IsKeptEntry old.scene row
+    kept_row row inside off =
+        let sound = g.sound in
+        let was = All-contains (IsSoundEntry old.scene) old.scene.table.rows row sound.entries (old_row row inside off) in
+        record {
+          of_session = was.of_session;
+          on_inode = was.on_inode;
+          wants_pin = was.wants_pin;
+          holds_pin = was.holds_pin;
+          in_row = λ part. placed-in_row old.scene row part (lock_at old.scene.locks row.holder.ino.0 part) (sound.in_place row part (old_found row inside off));
+          told = was.told;
+          revoked = was.revoked;
+        }
+
+    touched_row : (row : EntryRow) → Contains rows row → IsTouchedEntry first row
+    touched_row row inside =
+        let touches = g.touches in
+        elim (from row.holder.ino.0) as (λ b. from row.holder.ino.0 ≡ b → IsTouchedEntry first row) [
+          | true ↦ λ is. touches.each row (first_row row inside) is
+          | false ↦ λ off. (let same = touches.same in
+              kept-left old.scene first row (ap is_some (same.sessions row (old_row row inside off) off)) touches.states touches.known (kept_row row inside off))
+        ] refl
+
+    -- ---- what is held is in its rows
+
+    in_row_settled : (row : EntryRow) → Contains rows row → (part : Part) → IsInRow settled row part
+    in_row_settled row inside part = let moved = g.moved in let entry = touched_row row inside in moved.in_rows row part (first_row row inside) (entry.in_row part)
+
+    in_row_last : (row : EntryRow) → Contains rows row → (part : Part) → IsInRow settled (last_of row) part
+    in_row_last row inside part =
+        by_place known settled at (λ r. IsInRow settled r part) row (λ here. in_row-ended known settled row part (in_row_settled row inside part)) (λ off. in_row_settled row inside part)
+
+    -- ---- entries
+
+    has_session_still : (client : ℕ) → IsTrue (has_session first.sessions client) → IsTrue (has_session settled.sessions client)
+    has_session_still client is = let moved = g.moved in subst (λ (t : SessionTable). IsTrue (has_session t client)) (sym moved.sessions) is
+
+    -- the pin is held, or it is wanted as it was, since nobody was served
+    pin_still : (row : EntryRow) → Contains rows row → IsTrue (has row.entry.held P || has (effective_want first.fs first.tree first.sessions row) P) → IsTrue (has row.entry.held P || has (effective_want settled.fs settled.tree settled.sessions row) P)
+    pin_still row inside is = elim (has row.entry.held P) as (λ b. has row.entry.held P ≡ b → (b || has (effective_want first.fs first.tree first.sessions row) P) ≡ true → (b || has (effective_want settled.fs settled.tree settled.sessions row) P) ≡ true) [
+      | true ↦ λ held due. refl
+      | false ↦ λ none due. (let moved = g.moved in
+          let sessions : settled.sessions ≡ first.sessions = moved.sessions in
+          (λ i. has (effective_want (g.fs i) (g.calm row (first_row row inside) none i) (sessions i) row) P) ∙ due)
+    ] refl is
+
+    entry_here : (row : EntryRow) → Contains rows row → IsTouchedEntry first row → IsSoundEntry last (ended_row known settled row)
+    entry_here row inside entry = let moved = g.moved in record {
+      of_session = has_session_still row.holder.client.0 entry.of_session;
+      on_inode = moved.nodes row.holder.ino.0 ∙ entry.on_inode;
+      holds_pin = holds-pin known settled row (pin_still row inside entry.pin);
+      wants_pin = ap (λ caps. has caps P) (want-ended known settled row) ∙ entry.wants_pin;
+      has_due = λ c is_due. holds-due known settled row c
+          (ap (λ caps. has caps c) (sym due_as_before) ∙ is_due);
+      told = told-ended known settled row entry.told;
+      revoked = revoked-ended known settled row entry.revoked;
+    }
+      where
+        due_as_before : due last (ended_row known settled row) ≡ due settled row
+        due_as_before = λ i. meet (effective-ended known settled row settled.fs settled.tree settled.sessions i) (allowed_to settled row)
+
+    settled_table : IsTable settled.table
+    settled_table = let moved = g.moved in subst IsTable (sym moved.table) g.table
+
+    -- the same inodes are there
+    there_still : (q : ℕ) → map.contains_key settled.tree.nodes q ≡ map.contains_key old.scene.tree.nodes q
+    there_still q = let moved = g.moved in let touches = g.touches in moved.nodes q ∙ touches.known q
+
+    entry_elsewhere : (row : EntryRow) → Contains rows row → on row ≡ false → IsSoundEntry last row
+    entry_elsewhere row inside off =
+        let sound = g.sound in
+        let same = g.same in
+        let was = All-contains (IsSoundEntry old.scene) old.scene.table.rows row sound.entries (old_row row inside (not-among from at g.among row.holder.ino.0 off)) in
+        record {
+          of_session = ap is_some (same.sessions row inside off) ∙ was.of_session;
+          on_inode = there_still row.holder.ino.0 ∙ was.on_inode;
+          holds_pin = was.holds_pin;
+          wants_pin = was.wants_pin;
+          has_due = subst (λ caps. IsSubset caps row.entry.held) (sym (off_due at known old settled sound settled_table same g.tree g.knows row inside off)) was.has_due;
+          told = was.told;
+          revoked = was.revoked;
+        }
+
+    entry_last : (row : EntryRow) → Contains rows row → IsSoundEntry last (last_of row)
+    entry_last row inside =
+        by_place known settled at (IsSoundEntry last) row (λ here. entry_here row inside (touched_row row inside)) (λ off. entry_elsewhere row inside off)
+
+    -- ---- inodes
+
+    locked_last : (q : ℕ) → map.contains_key settled.locks.states q ≡ map.contains_key settled.tree.nodes q
+    locked_last q = let moved = g.moved in let touches = g.touches in moved.states q ∙ touches.locked q ∙ sym (moved.nodes q)
+
+    strays_last : (q : ℕ) → at q ≡ false → place settled.tree.nodes q ≡ Gone → IsTrue (list_any (is_of_inode (record { 0 = q })) last.table.rows)
+    strays_last q off gone =
+        let sound = g.sound in
+        let same = g.same in
+        let of_it = is_of_inode (record { 0 = q }) in
+        any-map of_it last_of (of_inode-last known settled at q) rows
+        ∙ any_elsewhere at old.scene.table settled.table same.entries q off ∙ sound.strays q (sym (same.places q off) ∙ gone)
+
+    -- ---- all together
+
+    -- who waits has a session
+    waiting_last : All (λ q. IsTrue (has_session settled.sessions q.client.0)) settled.locks.queue
+    waiting_last =
+        let touches = g.touches in
+        all-waiting (λ q. IsTrue (has_session settled.sessions q.client.0)) first settled g.moved
+        (All-weaker (λ q. IsTrue (has_session first.sessions q.client.0)) (λ q. IsTrue (has_session settled.sessions q.client.0)) (λ q. has_session_still q.client.0) first.locks.queue touches.waiting)
+
+    but_last : (messages : List Ended) → All (λ m. IsTrue (has_session settled.sessions m.client.0)) messages → IsSoundBut at (record { scene = last; messages = messages })
+    but_last messages told = record {
+      entries = All-map (IsSoundEntry last) last_of rows (all_rows (λ row. IsSoundEntry last (last_of row)) rows entry_last);
+      waiting = waiting_last;
+      messages = told;
+      locked = locked_last;
+      strays = strays_last;
+      in_rows = All-map (λ row. (part : Part) → IsInRow last row part) last_of rows (all_rows (λ row. (part : Part) → IsInRow last (last_of row) part) rows in_row_last);
+      at_rest = rest_last;
+    }
+
+    sound_last : (messages : List Ended) → All (λ m. IsTrue (has_session settled.sessions m.client.0)) messages → IsSound (record { scene = finished_at at known settled; messages = messages })
+    sound_last messages told = sound-forgotten at (record { scene = last; messages = messages }) (but_last messages told) g.tree
+
+module _ (at from : ℕ → Bool) (known : Holder → Caps) (old touched : State) (moves : List Made) (settled : Scene) (sound : IsSound old) (tree : IsTree settled.tree) (table : IsTable touched.scene.table)
+    (order : IsLockMap touched.scene.locks) (touches : Touches from old touched) (knows : Knows known old.scene touched.scene.table) (settles : SettlesAt at from moves touched.scene settled) where
+  moved-there : IsMoved touched.scene settled
+  moved-there = let made = settles.settles in moved-all touched.scene moves settled made.made
+
+  given-all : IsGiven at from known old touched settled
+  given-all = let made = settles.settles in record {
+    among = settles.among;
+    sound = sound;
+    tree = tree;
+    table = table;
+    moved = moved-there;
+    touches = touches;
+    same = from-first at from old.scene touched.scene settled settles.among touches.same settles.same;
+    rests = made.settled;
+    knows = subst (λ (t : Table). Knows known old.scene t) (sym (let moved = moved-there in moved.table)) knows;
+    fs = (let same = settles.same in same.fs);
+    calm = λ row inside none. (nothing-served touched.scene moves settled order (touches.calm row inside none) made.made).1;
+  }
+
+  -- who has a session right after the event, has it at the end
+  connected : (client : ℕ) → IsTrue (has_session touched.scene.sessions client) → IsTrue (has_session settled.sessions client)
+  connected client is = let moved = moved-there in subst (λ (t : SessionTable). IsTrue (has_session t client)) (sym moved.sessions) is
+
+  -- whose requests the moves ended, has a session
+  ended-connected : All (λ m. IsTrue (has_session settled.sessions m.client.0)) (ended_in moves)
+  ended-connected =
+      let made = settles.settles in
+      All-weaker (Waited touched.scene.locks.queue) (λ m. IsTrue (has_session settled.sessions m.client.0))
+      (λ m w. subst (λ (c : ClientId). IsTrue (has_session settled.sessions c.0)) (sym w.client)
+      (connected w.request.client.0
+      (All-contains (λ q. IsTrue (has_session touched.scene.sessions q.client.0)) touched.scene.locks.queue w.request touches.waiting w.inside)))
+      (ended_in moves) (ended-waited touched.scene moves settled made.made)
+
+  messages-connected : All (λ m. IsTrue (has_session settled.sessions m.client.0)) touched.messages
+  messages-connected =
+      All-weaker (λ m. IsTrue (has_session touched.scene.sessions m.client.0)) (λ m. IsTrue (has_session settled.sessions m.client.0)) (λ m. connected m.client.0) touched.messages touches.messages
+
+  pub sound-touched : IsSound (state_at_end old touched moves (finished_at at known settled))
+  sound-touched =
+      sound_last at from known old touched settled given-all (touched.messages ++ earlier old.scene.locks.last (ended_in moves))
+      (All-append (λ m. IsTrue (has_session settled.sessions m.client.0)) touched.messages (earlier old.scene.locks.last (ended_in moves)) messages-connected
+      (All-filter (λ m. nat_le m.ticket.0 old.scene.locks.last) (λ m. IsTrue (has_session settled.sessions m.client.0)) (ended_in moves) ended-connected))
+
+-- ---- numbers
+
+module _ (at from : ℕ → Bool) (known : Holder → Caps) (count : ℕ) (old touched : State) (moves : List Made) (settled : Scene) (settles : SettlesAt at from moves touched.scene settled)
+    (numbers : All (λ row. row.entry.seq ≤ count) touched.scene.table.rows) (made : touched.scene.table.made ≤ count + 1) (given : touched.scene.locks.last ≤ count + 1) where
+  moved-so : IsMoved touched.scene settled
+  moved-so = let all = settles.settles in moved-all touched.scene moves settled all.made
+
+  numbers_last : All (λ row. row.entry.seq ≤ count + 1) (issued_at known settled at).table.rows
+  numbers_last =
+      let moved = moved-so in
+      All-map (λ row. row.entry.seq ≤ count + 1) (last_row known settled at) settled.table.rows
+      (All-weaker (λ row. row.entry.seq ≤ count) (λ row. (last_row known settled at row).entry.seq ≤ count + 1)
+      (λ row was. by_place known settled at (λ r. r.entry.seq ≤ count + 1) row (λ here. seq-ended known settled row count was) (λ off. omega (arith, was)))
+      settled.table.rows (All-same (λ row. row.entry.seq ≤ count) settled.table.rows touched.scene.table.rows (ap (λ (t : Table). t.rows) moved.table) numbers))
+
+  request_last : settled.locks.last ≤ count + 1
+  request_last = let moved = moved-so in let same = moved.last in omega (arith, same, given)
+
+  made_last : settled.table.made ≤ count + 1
+  made_last = let moved = moved-so in let same : settled.table.made ≡ touched.scene.table.made = ap (λ (t : Table). t.made) moved.table in omega (arith, same, made)
+
+  pub given-touched : AreGiven (count + 1) (state_at_end old touched moves (finished_at at known settled))
+  given-touched = record { entries = numbers_last; last = request_last; made = made_last }

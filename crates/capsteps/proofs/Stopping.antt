@@ -1,0 +1,78 @@
+-- In a sound state an event that is stopped has one step alone, which changes nothing.
+use Rattle.std.proofs.Common.{◌≡◌, Some, List, [], ◌∷◌, refl, sym, ap, subst, ◌∙◌, append-nil}
+use Rattle.captable.specs.Table.{IsTable}
+use Rattle.lockmachine.specs.Scene.{Scene}
+use Rattle.lockmachine.proofs.Exact.{settled}
+use Rattle.lockmachine.specs.Moves.{first_move}
+use Rattle.lockmachine.specs.declared.moves.Move.TheVariants.{Begin, End, Serve, Settled}
+use Rattle.capevents.specs.declared.event.Event.{Event}
+use Rattle.capevents.specs.declared.outcome.Ended.{Ended}
+use Rattle.capevents.specs.declared.reply.Reply.{Reply}
+use Rattle.capsteps.specs.declared.stopped.Stopped.{Stopped}
+use Rattle.capsteps.specs.State.{State}
+use Rattle.capsteps.specs.Judge.{judged, stop_reply}
+use Rattle.capsteps.specs.Direct.{Direct, direct, says, effect_unless, reply_of, shown}
+use Rattle.capsteps.specs.Settle.{Made, Began, Gathered, Served, Makes, MakesAll, Settles, ended_in}
+use Rattle.capsteps.specs.Step.{Step, all_ended, state_after}
+use Rattle.capsteps.specs.Sound.{IsSound}
+use Rattle.capsteps.proofs.Finishing.{sound-ends, sound-settles}
+
+pub stopped-step : (old : State) (e : Event) (stopped : Stopped) → IsSound old → IsTable old.scene.table → judged old.scene e ≡ Some stopped → Step old e (stop_reply stopped) [] old
+stopped-step old e stopped sound table is = (
+  [],
+  record {
+    settled = old.scene;
+    settles = subst (λ (d : Direct). Settles d.state.scene [] old.scene) (sym by_itself) (sound-settles old sound);
+    new_is = sym (ap (λ (d : Direct). shown d.answer (state_after old d [] old.scene)) by_itself ∙ (λ i. record old { scene = sound-ends old sound table i; messages = append-nil old.messages i }));
+    answer_is = ap (λ (d : Direct). reply_of (state_after old d [] old.scene) [] d.answer) (sym by_itself);
+    ended_is = ap (λ (d : Direct). all_ended old d []) (sym by_itself);
+  },
+)
+  where
+    by_itself : direct old e ≡ says old (stop_reply stopped)
+    by_itself = ap (effect_unless old e) is
+
+-- ---- and no other step
+
+-- no move is made where none applies
+no_move : (old mid : Scene) (m : Made) → first_move old ≡ Settled → Makes old m mid → ⊥
+no_move old mid (Began ino part to) still made = differs (sym still ∙ made.0)
+  where
+    differs : Settled ≡ Begin ino part to → ⊥
+    differs e = cc
+no_move old mid (Gathered ino part) still made = differs (sym still ∙ made.0)
+  where
+    differs : Settled ≡ End ino part → ⊥
+    differs e = cc
+no_move old mid (Served q o) still made = differs (sym still ∙ made.0)
+  where
+    differs : Settled ≡ Serve q.ticket → ⊥
+    differs e = cc
+
+pub no_moves : (old : Scene) (moves : List Made) (new : Scene) → first_move old ≡ Settled → MakesAll old moves new → (moves ≡ []) × (new ≡ old)
+no_moves old [] new still made = (refl, made)
+no_moves old (m ∷ ms) new still made = absurd (no_move old made.0 m still made.1)
+
+pub stopped-only : (old new : State) (e : Event) (stopped : Stopped) (answer : Reply) (ended : List Ended) → IsSound old → IsTable old.scene.table → judged old.scene e ≡ Some stopped
+    → Step old e answer ended new → (answer ≡ stop_reply stopped) × (ended ≡ []) × (new ≡ old)
+stopped-only old new e stopped answer ended sound table is (moves, step) = (
+  step.answer_is ∙ ap (λ (d : Direct). reply_of (state_after old d moves step.settled) (ended_in moves) d.answer) by_itself,
+  step.ended_is ∙ ap (λ (d : Direct). all_ended old d moves) by_itself ∙ ap (all_ended old here) none.0,
+  step.new_is
+      ∙ ap (λ (d : Direct). shown d.answer (state_after old d moves step.settled)) by_itself
+      ∙ ap (λ (ms : List Made). state_after old here ms step.settled) none.0
+      ∙ ap (state_after old here []) none.1
+      ∙ (λ i. record old { scene = sound-ends old sound table i; messages = append-nil old.messages i }),
+)
+  where
+    here : Direct
+    here = says old (stop_reply stopped)
+
+    by_itself : direct old e ≡ says old (stop_reply stopped)
+    by_itself = ap (effect_unless old e) is
+
+    settles : Settles old.scene moves step.settled
+    settles = subst (λ (d : Direct). Settles d.state.scene moves step.settled) by_itself step.settles
+
+    none : (moves ≡ []) × (step.settled ≡ old.scene)
+    none = no_moves old.scene moves step.settled (settled old.scene sound.at_rest) settles.made

@@ -1,0 +1,191 @@
+-- Strays that are forgotten: one after another they go as if all at once, and no other inode is read through them.
+use Rattle.std.proofs.Common.{◌≡◌, ◌≢◌, ℕ, Bool, true, false, cond, not, ◌||◌, ◌==◌, Option, None, List, [], ◌∷◌, refl, sym, ap, ◌∙◌, Contains, inl, inr, eq-eqb, true≢false}
+use Rattle.std.specs.Cmp.{nat_cmp_total, unsigned_tied}
+use Rattle.std.specs.List.{fold, list_any}
+use Rattle.std.specs.Option.{option_map}
+use Rattle.std.specs.Ordering.{nat_cmp}
+use Rattle.std.specs.FinMap as map
+use Rattle.std.specs.FinSet as set
+use Rattle.std.proofs.lemmas.Bool.{or_right, ne_eqb}
+use Rattle.std.proofs.lemmas.List.Folds.{list_any_at}
+use Rattle.inotree.specs.declared.node.Node.{Node}
+use Rattle.inotree.specs.declared.node.Place.{Place}
+use Rattle.inotree.specs.declared.node.Place.TheVariants.{NoIno, Gone, Here}
+use Rattle.inotree.specs.Alike.{IsAlike}
+use Rattle.inotree.specs.Calls.{forgotten}
+use Rattle.inotree.specs.Tests.{is_gone}
+use Rattle.inotree.specs.Tree.{Nodes, IsTree, IsUnder, place, place_at}
+use Rattle.inotree.proofs.Elsewhere.{path_of-kept}
+use Rattle.numbered.proofs.Maps.{same_or_other, remove-here, remove-other}
+use Rattle.captable.specs.declared.entry.EntryRow.{EntryRow}
+use Rattle.captable.specs.Calls.{is_of_inode}
+use Rattle.lockmachine.specs.Locks.{without_ino}
+use Rattle.lockmachine.specs.Scene.{Scene}
+use Rattle.capnotes.specs.InoSets.{InoSet, IsListOf}
+use Rattle.capsteps.specs.Finish.{is_kept}
+use Rattle.capsteps.specs.Touching.{stays, forget_at, forget_among}
+use Rattle.capsteps.proofs.Finishing.{same_kept}
+use Rattle.capsteps.proofs.ManyInodes.{same_number}
+
+-- ---- a map of which some keys are kept
+
+module _ {V : Type 0} (m : map.FinMap nat_cmp V) (p : ℕ → Bool) (q : ℕ) where
+  pub retained : map.get (map.retain_keys m p) q ≡ cond (p q) (map.get m q) None
+  retained = map.get-retain_keys m p q (λ x e. ap p (sym (map.nat_cmp-IsAntisymmetric q x e)))
+
+  pub retained-here : p q ≡ true → map.get (map.retain_keys m p) q ≡ map.get m q
+  retained-here is = retained ∙ ap (λ b. cond b (map.get m q) None) is
+
+  pub retained-gone : p q ≡ false → map.get (map.retain_keys m p) q ≡ None
+  retained-gone is = retained ∙ ap (λ b. cond b (map.get m q) None) is
+
+-- ---- which inodes stay
+
+-- an inode that somebody has an entry on is kept
+pub kept-held : (s : Scene) (row : EntryRow) → Contains s.table.rows row → is_kept s row.holder.ino.0 ≡ true
+kept-held s row (k, room, is) =
+    or_right (not (is_gone (place s.tree.nodes row.holder.ino.0))) _
+    (list_any_at (is_of_inode row.holder.ino) s.table.rows k row room
+    (ap (is_of_inode row.holder.ino) is ∙ eq-eqb row.holder.ino.0 row.holder.ino.0 refl))
+
+pub stays-kept : (at : ℕ → Bool) (s : Scene) (q : ℕ) → is_kept s q ≡ true → stays at s q ≡ true
+stays-kept at s q is = or_right (not (at q)) (is_kept s q) is
+
+-- what goes is one of these, and a stray that nobody has an entry on
+pub goes : (at : ℕ → Bool) (s : Scene) (q : ℕ) → stays at s q ≡ false
+    → (at q ≡ true) × (place s.tree.nodes q ≡ Gone) × (list_any (is_of_inode (record { 0 = q })) s.table.rows ≡ false)
+goes at s q = by_parts (at q) (place s.tree.nodes q) (list_any (is_of_inode (record { 0 = q })) s.table.rows)
+  where
+    by_parts : (a : Bool) (p : Place) (held : Bool) → (not a || (not (is_gone p) || held)) ≡ false → (a ≡ true) × (p ≡ Gone) × (held ≡ false)
+    by_parts false p held e = absurd (true≢false e)
+    by_parts true NoIno held e = absurd (true≢false e)
+    by_parts true Here held e = absurd (true≢false e)
+    by_parts true Gone held e = (refl, refl, e)
+
+-- and on a stray among these that stays, somebody has an entry
+pub stays-held : (at : ℕ → Bool) (s : Scene) (q : ℕ) → stays at s q ≡ true → at q ≡ true → place s.tree.nodes q ≡ Gone
+    → list_any (is_of_inode (record { 0 = q })) s.table.rows ≡ true
+stays-held at s q = by_parts (at q) (place s.tree.nodes q) (list_any (is_of_inode (record { 0 = q })) s.table.rows)
+  where
+    by_parts : (a : Bool) (p : Place) (held : Bool) → (not a || (not (is_gone p) || held)) ≡ true → a ≡ true → p ≡ Gone → held ≡ true
+    by_parts false p held e is gone = absurd (true≢false (sym is))
+    by_parts true NoIno held e is gone = cc
+    by_parts true Here held e is gone = cc
+    by_parts true Gone held e is gone = e
+
+-- ---- what is read of the others
+
+-- no inode stands in a stray, so that each other has its path still
+pub alike-retained : (tree : Nodes) (p : ℕ → Bool) → IsTree tree → ((q : ℕ) → p q ≡ false → place tree.nodes q ≡ Gone) → (ino : ℕ) → p ino ≡ true
+    → IsAlike tree (record tree { nodes = map.retain_keys tree.nodes p }) ino
+alike-retained tree p sound strays ino here = record {
+  path = path_of-kept tree.nodes (map.retain_keys tree.nodes p) (λ i. p i ≡ true) (λ i is. ap (option_map (λ (n : Node). n.site)) (retained-here tree.nodes p i is)) above ino here;
+  attr = ap (option_map (λ (n : Node). n.attr)) (retained-here tree.nodes p ino here);
+}
+  where
+    above : (i d : ℕ) (a : List ℕ) → p i ≡ true → IsUnder tree.nodes i d a → p d ≡ true
+    above i d a is under = elim (p d) as (λ b. p d ≡ b → b ≡ true) [
+      | true ↦ λ e. refl
+      | false ↦ λ e. (let here : place tree.nodes d ≡ Here = (sound.parents i d a under).1 in
+          let gone : place tree.nodes d ≡ Gone = strays d e in cc)
+    ] refl
+
+-- ---- one after another
+
+either_none : {V : Type 0} (b : Bool) → ◌≡◌ {A = Option V} (cond b None None) None
+either_none true = refl
+either_none false = refl
+
+-- what is left of the one and then of the others
+twice_left : {V : Type 0} (p q kept later : Bool) (o : Option V) → ((not p || kept) ≡ true → later ≡ kept)
+    → cond (not q || later) (cond (not p || kept) o None) None ≡ cond (not (p || q) || kept) o None
+twice_left false q kept later o same = ap (λ k. cond (not q || k) o None) (same refl)
+twice_left true q false later o same = either_none (not q || later)
+twice_left true q true later o same = ap (λ k. cond (not q || k) o None) (same refl) ∙ always q
+  where
+    always : (q : Bool) → cond (not q || true) o None ≡ o
+    always true = refl
+    always false = refl
+
+module _ (p q : ℕ → Bool) (s : Scene) where
+  abbrev one : Scene
+  one = forget_among p s
+
+  kept_still : (n : ℕ) → stays p s n ≡ true → is_kept one n ≡ is_kept s n
+  kept_still n is =
+      ap (λ (o : Option Node). not (is_gone (place_at (option_map (λ n. n.site) o))) || list_any (is_of_inode (record { 0 = n })) s.table.rows)
+      (retained-here s.tree.nodes (stays p s) n is)
+
+  twice_kept : {V : Type 0} (m : map.FinMap nat_cmp V) → map.retain_keys (map.retain_keys m (stays p s)) (stays q one) ≡ map.retain_keys m (stays (λ n. p n || q n) s)
+  twice_kept m = map.same_map nat_cmp_total map.nat_cmp-IsAntisymmetric _ _ (λ n.
+      retained (map.retain_keys m (stays p s)) (stays q one) n
+      ∙ ap (λ o. cond (stays q one n) o None) (retained m (stays p s) n)
+      ∙ twice_left (p n) (q n) (is_kept s n) (is_kept one n) (map.get m n) (kept_still n)
+      ∙ sym (retained m (stays (λ n. p n || q n) s) n))
+
+  -- strays of some inodes and then of others go, as if of all at once
+  pub forget-twice : forget_among q (forget_among p s) ≡ forget_among (λ n. p n || q n) s
+  forget-twice = λ i. record s {
+    tree = record s.tree { nodes = twice_kept s.tree.nodes i };
+    locks = record s.locks { states = twice_kept s.locks.states i };
+  }
+
+pub forget-same : (p q : ℕ → Bool) (s : Scene) → ((n : ℕ) → p n ≡ q n) → forget_among p s ≡ forget_among q s
+forget-same p q s same = λ i. forget_among (λ n. same n i) s
+
+forget_none : (s : Scene) → forget_among (λ n. false) s ≡ s
+forget_none s = λ i. record s {
+  tree = record s.tree { nodes = same_kept s.tree.nodes (stays (λ n. false) s) (λ n. refl) i };
+  locks = record s.locks { states = same_kept s.locks.states (stays (λ n. false) s) (λ n. refl) i };
+}
+
+-- where all keys but one are kept, that one goes or none
+kept_or_removed : {V : Type 0} (m : map.FinMap nat_cmp V) (p : ℕ → Bool) (k : ℕ) → ((q : ℕ) → q ≢ k → p q ≡ true)
+    → map.retain_keys m p ≡ cond (p k) m (map.remove m k)
+kept_or_removed m p k all = elim (p k) as (λ b. p k ≡ b → map.retain_keys m p ≡ cond b m (map.remove m k)) [
+  | true ↦ λ kept. same_kept m p (λ q. elim (same_or_other nat_cmp_total map.nat_cmp-IsAntisymmetric q k) [
+    | inl is ↦ ap p is ∙ kept
+    | inr off ↦ all q off
+  ])
+  | false ↦ λ gone. map.same_map nat_cmp_total map.nat_cmp-IsAntisymmetric _ _ (λ q. elim (same_or_other nat_cmp_total map.nat_cmp-IsAntisymmetric q k) [
+    | inl is ↦ retained-gone m p q (ap p is ∙ gone) ∙ sym (ap (map.get (map.remove m k)) is ∙ remove-here nat_cmp_total map.nat_cmp-IsAntisymmetric m k)
+    | inr off ↦ retained-here m p q (all q off) ∙ sym (remove-other nat_cmp_total map.nat_cmp-IsAntisymmetric m k q off)
+  ])
+] refl
+
+module _ (k : ℕ) (s : Scene) where
+  others_stay : (q : ℕ) → q ≢ k → stays (λ n. n == k) s q ≡ true
+  others_stay q off = ap (λ b. not b || is_kept s q) (ne_eqb q k off)
+
+  one_left : {V : Type 0} (m : map.FinMap nat_cmp V) → map.retain_keys m (stays (λ n. n == k) s) ≡ cond (is_kept s k) m (map.remove m k)
+  one_left m = kept_or_removed m (stays (λ n. n == k) s) k others_stay ∙ ap (λ b. cond (not b || is_kept s k) m (map.remove m k)) (eq-eqb k k refl)
+
+  by_kept : (b : Bool) → ◌≡◌ {A = Scene}
+      (record s { tree = record s.tree { nodes = cond b s.tree.nodes (map.remove s.tree.nodes k) }; locks = record s.locks { states = cond b s.locks.states (map.remove s.locks.states k) } })
+      (cond b s (record s { tree = forgotten s.tree k; locks = without_ino s.locks k }))
+  by_kept true = refl
+  by_kept false = refl
+
+  -- of one inode alone
+  pub forget-one : forget_among (λ n. n == k) s ≡ forget_at k s
+  forget-one = (λ i. record s {
+    tree = record s.tree { nodes = one_left s.tree.nodes i };
+    locks = record s.locks { states = one_left s.locks.states i };
+  }) ∙ by_kept (is_kept s k)
+
+-- ---- the inodes of a map
+
+abbrev pub forget_on : Scene → ℕ → Scene
+forget_on s k = forget_at k s
+
+fold_forget : (ks : List ℕ) (s : Scene) → fold forget_on s ks ≡ forget_among (λ n. list_any (same_number n) ks) s
+fold_forget [] s = sym (forget_none s)
+fold_forget (k ∷ ks) s =
+    fold_forget ks (forget_at k s)
+    ∙ ap (forget_among (λ n. list_any (same_number n) ks)) (sym (forget-one k s))
+    ∙ forget-twice (λ n. n == k) (λ n. list_any (same_number n) ks) s
+    ∙ forget-same (λ n. (n == k) || list_any (same_number n) ks) (λ n. list_any (same_number n) (k ∷ ks)) s
+    (λ n. ap (λ b. b || list_any (same_number n) ks) (sym (unsigned_tied n k)))
+
+pub forget-all_of : (inos : InoSet) (numbers : List ℕ) (s : Scene) → IsListOf inos numbers → fold forget_on s numbers ≡ forget_among (set.contains inos) s
+forget-all_of inos numbers s lists = fold_forget numbers s ∙ forget-same (λ n. list_any (same_number n) numbers) (set.contains inos) s (λ n. sym (lists.among n))

@@ -1,0 +1,165 @@
+-- How the locks of several inodes settle between two servings.
+use Rattle.std.proofs.Common.{◌≡◌, ◌≢◌, ◌<◌, ◌≤◌, ◌+◌, ℕ, Bool, true, false, cond, ◌||◌, ◌==◌, nat_lt, count_by, Option, Some, None, List, [], ◌∷◌, ◌++◌, refl, sym, ap, subst, ◌∙◌, true≢false, arith}
+use Rattle.std.specs.List.{list_any}
+use Rattle.std.specs.Ordering.{nat_cmp, eq_by_cmp}
+use Rattle.std.specs.Cmp.{unsigned_tied}
+use Rattle.std.specs.Option.{option_map}
+use Rattle.std.specs.FinMap as map
+use Rattle.std.specs.FinSet as set
+use Rattle.std.proofs.lemmas.Bool.{ltb-true, lt-ltb, le-ltb}
+use Rattle.std.proofs.lemmas.List.Sums.{sum_by-cons}
+use Rattle.lockmachine.proofs.Rest.{same_key}
+use Rattle.capnotes.specs.InoSets.{InoSet}
+use Rattle.capsteps.specs.Serves.{is_touched}
+use Rattle.capbits.specs.declared.cap.Part.{Part}
+use Rattle.capbits.specs.declared.cap.Part.TheVariants.{A, L, X, F}
+use Rattle.capbits.specs.declared.ids.Ino.{Ino}
+use Rattle.locktable.specs.declared.states.LockState.{LockState}
+use Rattle.lockmachine.specs.declared.request.Request.{Request}
+use Rattle.lockmachine.specs.declared.states.InodeLocks.{InodeLocks}
+use Rattle.lockmachine.specs.Inodes.{lock_in}
+use Rattle.lockmachine.specs.Locks.{LockMap, lock_at}
+use Rattle.lockmachine.specs.Scene.{Scene, wanted_in_all}
+use Rattle.lockmachine.specs.Moves.{may_end_by, may_end_in, may_begin_in, first_move}
+use Rattle.lockmachine.specs.declared.moves.Move.TheVariants.{Settled}
+use Rattle.lockmachine.specs.Runs.{MoveLittle, ChangesLocksOf}
+use Rattle.lockmachine.specs.Turns.{IsTurnOf, IsDoneAt, WaitAt}
+use Rattle.lockmachine.proofs.Turns.{turn-passes, turn-rests}
+use Rattle.lockmachine.proofs.Finding.{by_number}
+use Rattle.lockmachine.proofs.Waiting.{waits-kept-at}
+use Rattle.captable.specs.Table.{Table}
+use Rattle.capsteps.specs.Settle.{ended_in}
+use Rattle.capsteps.specs.Sweep.{AreStill, IsSwept, IsNextOf}
+use Rattle.capsteps.proofs.Moved.{as_made, makes-append, ended-append}
+
+-- ---- the locks of an inode
+
+all_parts : (one two : InodeLocks) → ((part : Part) → lock_in part one ≡ lock_in part two) → one ≡ two
+all_parts one two same i = record { auth = same A i; link = same L i; xattr = same X i; file = same F i }
+
+some_same : {T : Type 0} (x y : T) → ◌≡◌ {A = Option T} (Some x) (Some y) → x ≡ y
+some_same x y is = cc
+
+by_parts : (one two : Option InodeLocks) → ((part : Part) → option_map (lock_in part) one ≡ option_map (lock_in part) two) → one ≡ two
+by_parts None None same = refl
+by_parts None (Some two) same = (let no = same A in absurd (cc))
+by_parts (Some one) None same = (let no = same A in absurd (cc))
+by_parts (Some one) (Some two) same = ap Some (all_parts one two (λ part. some_same (lock_in part one) (lock_in part two) (same part)))
+
+-- where each lock of an inode is as it was, so are they together
+pub locks_by_parts : (old new : LockMap) (ino : ℕ) → ((part : Part) → lock_at new ino part ≡ lock_at old ino part) → map.get new.states ino ≡ map.get old.states ino
+locks_by_parts old new ino same = by_parts (map.get new.states ino) (map.get old.states ino) same
+
+-- ---- where nothing moves
+
+-- inodes whose locks are as they were are still, as long as the queue is the same
+pub still-kept : (at : ℕ → Bool) (s : Scene) (locks : LockMap) → AreStill at s → locks.queue ≡ s.locks.queue
+    → ((other : ℕ) → at other ≡ false → map.get locks.states other ≡ map.get s.locks.states other) → AreStill at (record s { locks = locks })
+still-kept at s locks still queue same = record {
+  ends = λ other part off. ap (may_end_in s.table (other, part)) (ap (option_map (lock_in part)) (same other off)) ∙ still.ends other part off;
+  begins = λ other part off.
+      ap (λ (o : Option LockState). may_begin_in locks.queue (wanted_in_all (record s { locks = locks }) other) (other, part) o) (ap (option_map (lock_in part)) (same other off))
+      ∙ ap (λ (q : List Request). may_begin_in q (wanted_in_all s other) (other, part) (lock_at s.locks other part)) queue
+      ∙ still.begins other part off;
+}
+
+-- ---- from inode to inode
+
+off_one : (at : ℕ → Bool) (one other : ℕ) → at one ≡ true → at other ≡ false → other ≢ one
+off_one at one other is off same = true≢false (sym is ∙ ap at (sym same) ∙ off)
+
+pub swept-begins : (at : ℕ → Bool) (s : Scene) → WaitAt at s → IsSwept at s s
+swept-begins at s waits = record {
+  moves = [];
+  made = refl;
+  none = refl;
+  is = refl;
+  states = λ other off. refl;
+  queue = refl;
+  waits = waits;
+}
+
+-- what changes one of the inodes leaves the locks of all others
+pub same-elsewhere : (at : ℕ → Bool) (old new : LockMap) (here : ℕ) → at here ≡ true → ChangesLocksOf here old new
+    → (other : ℕ) → at other ≡ false → map.get new.states other ≡ map.get old.states other
+same-elsewhere at old new here touched changes other off =
+    locks_by_parts old new other (λ part. changes.others other part (off_one at here other touched off))
+
+-- gathers began and ended at one more of the inodes
+pub swept-on : (at : ℕ → Bool) (first now : Scene) → IsSwept at first now → (here : ℕ) → at here ≡ true → (locks : LockMap)
+    → MoveLittle now (record now { locks = locks }) → ChangesLocksOf here now.locks locks → IsSwept at first (record now { locks = locks })
+swept-on at first now is here touched locks (steps, few, runs) changes =
+    let more = as_made now steps (record now { locks = locks }) runs in
+    record {
+      moves = is.moves ++ more.moves;
+      made = makes-append first is.moves now more.moves (record now { locks = locks }) is.made more.made;
+      none = ended-append is.moves more.moves ∙ ap (λ ms. ms ++ ended_in more.moves) is.none ∙ more.none;
+      is = ap (λ (s : Scene). record s { locks = locks }) is.is;
+      states = λ other off. same-elsewhere at now.locks locks here touched changes other off ∙ is.states other off;
+      queue = changes.queue ∙ is.queue;
+      waits = waits-kept-at at now steps (record now { locks = locks }) runs is.waits;
+    }
+
+-- ---- gathers that end before any other move
+
+-- no gather ends at the inodes up to one, nor at those behind it that are none of these
+pub ends-passed : (at : ℕ → Bool) (t : Table) (first old new : LockMap) (here : ℕ)
+    → ((other : ℕ) (part : Part) → at other ≡ false → may_end_by t first (other, part) ≡ false)
+    → ((other : ℕ) → at other ≡ false → map.get new.states other ≡ map.get first.states other)
+    → ((other : ℕ) (part : Part) → other < here → may_end_by t old (other, part) ≡ false)
+    → ChangesLocksOf here old new → ((part : Part) → may_end_by t new (here, part) ≡ false)
+    → (other : ℕ) (part : Part) → (here < other → at other ≡ false) → may_end_by t new (other, part) ≡ false
+ends-passed at t first old new here elsewhere same lower changes done other part above =
+    by_number other here (may_end_by t new (other, part) ≡ false)
+    (λ below. (let off : other ≢ here = λ is. omega (arith, below, is) in
+    ap (may_end_in t (other, part)) (changes.others other part off) ∙ lower other part below))
+    (λ is. subst (λ i. may_end_by t new (i, part) ≡ false) (sym is) (done part))
+    (λ behind. (let off = above behind in ap (λ (locks : Option InodeLocks). may_end_in t (other, part) (option_map (lock_in part) locks)) (same other off) ∙ elsewhere other part off))
+
+-- ---- turns
+
+-- an inode is done, and it is the next one's turn
+pub next-turn : (at : ℕ → Bool) (s : Scene) (here : ℕ) (next : Ino) → AreStill at s → IsTurnOf s here → IsDoneAt s here → IsNextOf at here (Some next) → IsTurnOf s next.0
+next-turn at s here next still turn done (less, is, between) = turn-passes s here next.0 turn done less (λ other part above below. still.begins other part (between other above below))
+
+-- the last is done, and no move applies
+pub last-turn : (at : ℕ → Bool) (s : Scene) (here : ℕ) → AreStill at s → IsTurnOf s here → IsDoneAt s here → IsNextOf at here None → first_move s ≡ Settled
+last-turn at s here still turn done beyond = turn-rests s here turn done (λ other part above. still.begins other part (beyond other above))
+
+-- ---- how many inodes are left
+
+-- how many of the touched inodes are behind this one
+abbrev pub behind : ℕ → InoSet → ℕ → ℕ
+behind ino touched here = count_by (nat_lt here) (ino ∷ set.items touched)
+
+one_no_more : (a b x : ℕ) → a < b → cond (nat_lt b x) 1 0 ≤ cond (nat_lt a x) 1 0
+one_no_more a b x less = elim (nat_lt b x) as (λ p. nat_lt b x ≡ p → cond p 1 0 ≤ cond (nat_lt a x) 1 0) [
+  | true ↦ λ above. subst (λ p. 1 ≤ cond p 1 0) (sym (lt-ltb a x (omega (arith, less, ltb-true b x above)))) (omega arith)
+  | false ↦ λ above. omega arith
+] refl
+
+counted : (a x : ℕ) (xs : List ℕ) → count_by (nat_lt a) (x ∷ xs) ≡ cond (nat_lt a x) 1 0 + count_by (nat_lt a) xs
+counted a x xs = sum_by-cons (λ k. cond (nat_lt a k) 1 0) x xs
+
+no_more : (a b : ℕ) → a < b → (xs : List ℕ) → count_by (nat_lt b) xs ≤ count_by (nat_lt a) xs
+no_more a b less [] = omega arith
+no_more a b less (x ∷ xs) = omega (arith, one_no_more a b x less, no_more a b less xs, counted b x xs, counted a x xs)
+
+fewer : (a b : ℕ) → a < b → (xs : List ℕ) → list_any (eq_by_cmp nat_cmp b) xs ≡ true → count_by (nat_lt b) xs < count_by (nat_lt a) xs
+fewer a b less [] among = absurd (cc)
+fewer a b less (x ∷ xs) among = elim (eq_by_cmp nat_cmp b x) as (λ e. eq_by_cmp nat_cmp b x ≡ e → e || list_any (eq_by_cmp nat_cmp b) xs ≡ true → count_by (nat_lt b) (x ∷ xs) < count_by (nat_lt a) (x ∷ xs)) [
+  | true ↦ λ is _.
+      let same : x ≡ b = same_key b x is in
+      let none : ◌≡◌ {A = ℕ} (cond (nat_lt b x) 1 0) 0 = ap (λ p. cond p 1 0) (le-ltb b x (omega (arith, same))) in
+      let one : ◌≡◌ {A = ℕ} (cond (nat_lt a x) 1 0) 1 = ap (λ p. cond p 1 0) (lt-ltb a x (omega (arith, same, less))) in
+      omega (arith, none, one, no_more a b less xs, counted b x xs, counted a x xs)
+  | false ↦ λ is rest. omega (arith, one_no_more a b x less, fewer a b less xs rest, counted b x xs, counted a x xs)
+] refl among
+
+-- with each that is done, there are fewer
+pub fewer_behind : (ino : ℕ) (touched : InoSet) (here : ℕ) (next : Ino) → IsNextOf (is_touched ino touched) here (Some next) → behind ino touched next.0 < behind ino touched here
+fewer_behind ino touched here next (less, is, between) = fewer here next.0 less (ino ∷ set.items touched) (
+    ap (λ b. b || list_any (eq_by_cmp nat_cmp next.0) (set.items touched)) (unsigned_tied next.0 ino)
+    ∙ ap (λ b. (next.0 == ino) || b) (sym (set.contains-items touched next.0))
+    ∙ is
+    )

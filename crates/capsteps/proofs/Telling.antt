@@ -1,0 +1,282 @@
+-- What a client is told changes three fields of entries, by which nothing is judged, moved or issued.
+use Rattle.std.proofs.Common.{◌≡◌, ◌≤◌, ℕ, Bool, true, false, cond, not, ◌&&◌, ◌||◌, Option, Some, None, List, [], ◌∷◌, filter, map, refl, sym, ap, subst, ◌∙◌, arith}
+use Rattle.std.specs.Prelude.{IsTrue, All}
+use Rattle.std.specs.List.{find, list_any, IsDistinct, AllByRecursion}
+use Rattle.std.specs.Option.{option_map, option_map_or}
+use Rattle.std.proofs.lemmas.List.Elements.{All-map, All-weaker, All-filter, All-from_recursion, recursion_from_All}
+use Rattle.capbits.specs.declared.cap.Cap.{Cap}
+use Rattle.capbits.specs.declared.cap.Part.{Part}
+use Rattle.capbits.specs.declared.ids.ClientId.{ClientId}
+use Rattle.capbits.specs.declared.ids.Ino.{Ino}
+use Rattle.capbits.specs.Caps.{has}
+use Rattle.capbits.specs.Sets.{is_empty}
+use Rattle.locktable.specs.declared.states.State.{State as LockGoal}
+use Rattle.locktable.specs.declared.states.LockState.{LockState}
+use Rattle.locktable.specs.declared.states.LockState.TheVariants.{Stable, Gather}
+use Rattle.sessiontab.specs.Calls.{has_session}
+use Rattle.captable.specs.declared.entry.Entry.{Entry}
+use Rattle.captable.specs.declared.entry.EntryRow.{EntryRow}
+use Rattle.captable.specs.declared.entry.Holder.{Holder}
+use Rattle.captable.specs.Table.{Table, IsTable, same, is_row_of, is_among}
+use Rattle.captable.specs.Calls.{is_of_client, is_of_inode, change_rows, changed, told}
+use Rattle.captable.specs.Many.{changed_where, remade}
+use Rattle.captable.proofs.OneByOne.{fold-changed_by}
+use Rattle.captable.proofs.Searches.{find-map, filter-map}
+use Rattle.lockmachine.specs.Locks.{lock_at}
+use Rattle.lockmachine.specs.Wants.{want_of}
+use Rattle.lockmachine.specs.Scene.{Scene, wants, outside}
+use Rattle.lockmachine.specs.Moves.{is_open}
+use Rattle.capevents.specs.declared.outcome.Ended.{Ended}
+use Rattle.capevents.specs.declared.outcome.Message.{Message}
+use Rattle.capsteps.specs.State.{State}
+use Rattle.capsteps.specs.Direct.{Answer, Says, Shows, Gives, Awaits, with_scene, shown}
+use Rattle.capsteps.specs.Finish.{due}
+use Rattle.capsteps.specs.Headline.{holds, is_due, IssuesExactly, IsInPlace, AreInPlace}
+use Rattle.capsteps.specs.Messages.{first_messages, after_messages, is_caps_of, is_size_of, is_recall_of, told_if, sized_if, unasked_if}
+use Rattle.capnotes.specs.Untold.{is_end_of, is_to}
+use Rattle.capsteps.specs.Sound.{IsSoundEntry, IsSound, AreGiven}
+use Rattle.capsteps.proofs.StillQuiet.{still_quiet}
+
+-- ---- lists that are mapped
+
+-- a test that doesn't see the map
+any-map_same : {X : Type 0} (p : X → Bool) (g : X → X) → ((x : X) → p (g x) ≡ p x) → (xs : List X) → list_any p (map g xs) ≡ list_any p xs
+any-map_same p g same [] = refl
+any-map_same p g same (x ∷ xs) = λ i. same x i || any-map_same p g same xs i
+
+-- and a map that doesn't
+map-map_same : {X Y : Type 0} (h : X → Y) (g : X → X) → ((x : X) → h (g x) ≡ h x) → (xs : List X) → map h (map g xs) ≡ map h xs
+map-map_same h g same [] = refl
+map-map_same h g same (x ∷ xs) = λ i. same x i ∷ map-map_same h g same xs i
+
+pub map_alike : {X Y : Type 0} (f g : X → Y) → ((x : X) → f x ≡ g x) → (xs : List X) → map f xs ≡ map g xs
+map_alike f g same [] = refl
+map_alike f g same (x ∷ xs) = λ i. same x i ∷ map_alike f g same xs i
+
+-- ---- entries of which other changes were told, of which the size is due or not, and that are asked or not
+
+module _ (told_as : EntryRow → ℕ) (size_as asked_as : EntryRow → Bool) where
+  abbrev pub retold : EntryRow → EntryRow
+  retold row = record row { entry = record row.entry { told_seq = told_as row; asked = asked_as row; size_due = size_as row } }
+
+  abbrev pub retold_table : Table → Table
+  retold_table table = record table { rows = map retold table.rows }
+
+module _ (s : State) (told_as : EntryRow → ℕ) (size_as asked_as : EntryRow → Bool) where
+  abbrev to : EntryRow → EntryRow
+  to = retold told_as size_as asked_as
+
+  -- the scene with these entries
+  abbrev new : Scene
+  new = record s.scene { table = retold_table told_as size_as asked_as s.scene.table }
+
+  same_on : (ino : Ino) → filter (is_of_inode ino) new.table.rows ≡ map to (filter (is_of_inode ino) s.scene.table.rows)
+  same_on ino = filter-map (is_of_inode ino) to (λ row. refl) s.scene.table.rows
+
+  same_found : (k : Holder) → find (is_row_of k) new.table.rows ≡ option_map to (find (is_row_of k) s.scene.table.rows)
+  same_found k = find-map (is_row_of k) to (λ row. refl) s.scene.table.rows
+
+  same_wants : (ino : ℕ) → wants new ino ≡ wants s.scene ino
+  same_wants ino =
+      ap (map (want_of s.scene.fs s.scene.tree s.scene.sessions)) (same_on (record { 0 = ino }))
+      ∙ map-map_same (want_of s.scene.fs s.scene.tree s.scene.sessions) to (λ row. refl) (filter (is_of_inode (record { 0 = ino })) s.scene.table.rows)
+
+  same_open : (ino : ℕ) (part : Part) (goal : LockGoal) → is_open new ino part goal ≡ is_open s.scene ino part goal
+  same_open ino part goal =
+      let left : EntryRow → Bool = λ row. not (is_empty (outside part goal row)) in
+      ap (list_any left) (same_on (record { 0 = ino }))
+      ∙ any-map_same left to (λ row. refl) (filter (is_of_inode (record { 0 = ino })) s.scene.table.rows)
+
+  place_kept : (row : EntryRow) (part : Part) (o : Option LockState) → IsInPlace s.scene row part o → IsInPlace new (to row) part o
+  place_kept row part None placed = placed
+  place_kept row part (Some (Stable state)) placed = placed
+  place_kept row part (Some (Gather from goal)) placed =
+      (placed.0, λ cap held out. let taken = placed.1 cap held out in (taken.0, same_open row.holder.ino.0 part goal ∙ taken.1))
+
+  places_kept : AreInPlace s.scene → AreInPlace new
+  places_kept all row part found = by_old (find (is_row_of row.holder) s.scene.table.rows) refl (sym (same_found row.holder) ∙ found)
+    where
+      by_old : (o : Option EntryRow) → find (is_row_of row.holder) s.scene.table.rows ≡ o → option_map to o ≡ Some row → IsInPlace new row part (lock_at s.scene.locks row.holder.ino.0 part)
+      by_old None was is = cc
+      by_old (Some old) was is =
+          let now : to old ≡ row = cc in
+          let there : find (is_row_of old.holder) s.scene.table.rows ≡ Some old = ap (λ (r : EntryRow). find (is_row_of r.holder) s.scene.table.rows) now ∙ was in
+          subst (λ (r : EntryRow). IsInPlace new r part (lock_at s.scene.locks r.holder.ino.0 part)) now
+          (place_kept old part (lock_at s.scene.locks old.holder.ino.0 part) (all old part there))
+
+  -- ---- all together
+
+  pub retold-sound : (messages : List Ended) → All (λ m. IsTrue (has_session s.scene.sessions m.client.0)) messages
+      → ((row : EntryRow) → row.entry.told_seq ≤ row.entry.seq → told_as row ≤ row.entry.seq) → IsSound s
+      → IsSound (record { scene = record s.scene { table = retold_table told_as size_as asked_as s.scene.table }; messages = messages })
+  retold-sound messages connected below sound = record {
+    entries = All-map (IsSoundEntry new) to s.scene.table.rows (All-weaker (IsSoundEntry s.scene) (λ row. IsSoundEntry new (to row)) entry_kept s.scene.table.rows sound.entries);
+    waiting = sound.waiting;
+    messages = connected;
+    locked = sound.locked;
+    strays = λ ino gone. any-map_same (is_of_inode (record { 0 = ino })) to (λ row. refl) s.scene.table.rows ∙ sound.strays ino gone;
+    in_place = places_kept sound.in_place;
+    at_rest = record { each = λ ino part. still_quiet s.scene new ino part refl (same_wants ino) (same_open ino part) (lock_at s.scene.locks ino part) (sound.at_rest.each ino part) };
+  }
+    where
+      entry_kept : (row : EntryRow) → IsSoundEntry s.scene row → IsSoundEntry new (to row)
+      entry_kept row was = record {
+        of_session = was.of_session;
+        on_inode = was.on_inode;
+        holds_pin = was.holds_pin;
+        wants_pin = was.wants_pin;
+        has_due = was.has_due;
+        told = below row was.told;
+        revoked = was.revoked;
+      }
+
+  same_or : (f : EntryRow → Bool) → ((row : EntryRow) → f (to row) ≡ f row) → (o : Option EntryRow) → option_map_or f (option_map to o) false ≡ option_map_or f o false
+  same_or f same None = refl
+  same_or f same (Some row) = same row
+
+  same_holds : (k : Holder) (cap : Cap) → holds new k cap ≡ holds s.scene k cap
+  same_holds k cap =
+      let f : EntryRow → Bool = λ row. has row.entry.held cap in
+      ap (λ o. option_map_or f o false) (same_found k) ∙ same_or f (λ row. refl) (find (is_row_of k) s.scene.table.rows)
+
+  same_due : (k : Holder) (cap : Cap) → is_due new k cap ≡ is_due s.scene k cap
+  same_due k cap =
+      let f : EntryRow → Bool = λ row. has (due s.scene row) cap in
+      ap (λ o. option_map_or f o false) (same_found k) ∙ same_or f (λ row. refl) (find (is_row_of k) s.scene.table.rows)
+
+  pub retold-issued : (first : Scene) → IssuesExactly first s.scene → IssuesExactly first (record s.scene { table = retold_table told_as size_as asked_as s.scene.table })
+  retold-issued first issued k cap = same_holds k cap ∙ issued k cap ∙ ap (λ b. holds first k cap || b) (sym (same_due k cap))
+
+-- ---- what is shown
+
+abbrev named : Holder → EntryRow → Bool
+named k row = is_among (k ∷ []) row.holder
+
+-- the changes that are told, of entries that pass a test
+abbrev told_where : (EntryRow → Bool) → EntryRow → ℕ
+told_where passes row = cond (passes row) row.entry.seq row.entry.told_seq
+
+-- no change more was told, and nothing else of what is due
+abbrev pub as_told : EntryRow → ℕ
+as_told row = row.entry.told_seq
+
+abbrev pub as_asked : EntryRow → Bool
+as_asked row = row.entry.asked
+
+abbrev pub as_sized : EntryRow → Bool
+as_sized row = row.entry.size_due
+
+told_row : (row : EntryRow) (b : Bool) → cond b (remade (λ row. told row.entry) row) row
+    ≡ record row { entry = record row.entry { told_seq = cond b row.entry.seq row.entry.told_seq; asked = row.entry.asked; size_due = row.entry.size_due } }
+told_row row true = refl
+told_row row false = refl
+
+shown_table : (t : Table) (k : Holder) → IsTable t → changed t k told ≡ retold_table (told_where (named k)) as_sized as_asked t
+unfolding IsDistinct
+shown_table t k is =
+    fold-changed_by (λ row. told row.entry) t (k ∷ []) is once
+    ∙ ap (λ (rows : List EntryRow). record t { rows = rows }) (map_alike (λ row. cond (named k row) (remade (λ row. told row.entry) row) row) (retold (told_where (named k)) as_sized as_asked) (λ row. told_row row (named k row)) t.rows)
+  where
+    once : IsDistinct same (k ∷ [])
+    once = (tt, tt)
+
+told_below : (b : Bool) (seq told_seq : ℕ) → told_seq ≤ seq → cond b seq told_seq ≤ seq
+told_below true seq told_seq below = omega arith
+told_below false seq told_seq below = below
+
+-- ---- what is given
+
+module _ (client : ClientId) (given : List Message) where
+  abbrev told_given : EntryRow → ℕ
+  told_given row = cond (is_of_client client row && list_any (is_caps_of row.holder.ino) given) row.entry.seq row.entry.told_seq
+
+  abbrev size_given : EntryRow → Bool
+  size_given row = cond (is_of_client client row && list_any (is_size_of row.holder.ino) given) false row.entry.size_due
+
+  abbrev asked_given : EntryRow → Bool
+  asked_given row = cond (is_of_client client row && list_any (is_recall_of row.holder.ino) given) false row.entry.asked
+
+-- which fields the messages that were given change
+abbrev pub given_fields : Bool → Bool → Bool → Entry → Entry
+given_fields caps size recall e = record e { told_seq = cond caps e.seq e.told_seq; asked = cond recall false e.asked; size_due = cond size false e.size_due }
+
+pub given-fields : (e : Entry) (caps size recall : Bool) → unasked_if recall (sized_if size (told_if caps e)) ≡ given_fields caps size recall e
+given-fields e false false false = refl
+given-fields e false false true = refl
+given-fields e false true false = refl
+given-fields e false true true = refl
+given-fields e true false false = refl
+given-fields e true false true = refl
+given-fields e true true false = refl
+given-fields e true true true = refl
+
+-- what is held stays
+pub given-held : (given : List Message) (row : EntryRow) → (after_messages given row).held ≡ row.entry.held
+given-held given row = ap (λ (e : Entry). e.held) (given-fields row.entry (list_any (is_caps_of row.holder.ino) given) (list_any (is_size_of row.holder.ino) given) (list_any (is_recall_of row.holder.ino) given))
+
+given_row : (row : EntryRow) (own caps size recall : Bool) → cond own (record row { entry = unasked_if recall (sized_if size (told_if caps row.entry)) }) row
+    ≡ record row { entry = given_fields (own && caps) (own && size) (own && recall) row.entry }
+given_row row false caps size recall = refl
+given_row row true caps size recall = ap (λ (e : Entry). record row { entry = e }) (given-fields row.entry caps size recall)
+
+given_table : (client : ClientId) (given : List Message) (t : Table) → changed_where (is_of_client client) (after_messages given) t ≡ retold_table (told_given client given) (size_given client given) (asked_given client given) t
+given_table client given t =
+    ap (λ (rows : List EntryRow). record t { rows = rows })
+    (map_alike (λ row. cond (is_of_client client row) (remade (after_messages given) row) row) (retold (told_given client given) (size_given client given) (asked_given client given))
+    (λ row. given_row row (is_of_client client row) (list_any (is_caps_of row.holder.ino) given) (list_any (is_size_of row.holder.ino) given) (list_any (is_recall_of row.holder.ino) given)) t.rows)
+
+-- ---- each answer
+
+pub shown-sound : (s : State) (answer : Answer) → IsSound s → IsTable s.scene.table → IsSound (shown answer s)
+shown-sound s (Says answer) sound table = sound
+shown-sound s (Shows k) sound table =
+    subst (λ t. IsSound (with_scene s (record s.scene { table = t }))) (sym (shown_table s.scene.table k table))
+    (retold-sound s (told_where (named k)) as_sized as_asked s.messages sound.messages (λ row below. told_below (named k row) row.entry.seq row.entry.told_seq below) sound)
+shown-sound s (Gives client max) sound table =
+    let given : List Message = first_messages s client max in
+    let due : Ended → Bool = λ m. not (is_to client m && list_any (is_end_of m.ticket) given) in
+    subst (λ t. IsSound (record { scene = record s.scene { table = t }; messages = filter due s.messages })) (sym (given_table client given s.scene.table))
+    (retold-sound s (told_given client given) (size_given client given) (asked_given client given) (filter due s.messages)
+    (All-filter due (λ m. IsTrue (has_session s.scene.sessions m.client.0)) s.messages sound.messages)
+    (λ row below. told_below (is_of_client client row && list_any (is_caps_of row.holder.ino) given) row.entry.seq row.entry.told_seq below) sound)
+shown-sound s (Awaits ticket) sound table = sound
+
+pub shown-issued : (first : Scene) (s : State) (answer : Answer) → IsTable s.scene.table → IssuesExactly first s.scene → IssuesExactly first (shown answer s).scene
+shown-issued first s (Says answer) table issued = issued
+shown-issued first s (Shows k) table issued =
+    subst (λ t. IssuesExactly first (record s.scene { table = t })) (sym (shown_table s.scene.table k table)) (retold-issued s (told_where (named k)) as_sized as_asked first issued)
+shown-issued first s (Gives client max) table issued =
+    let given : List Message = first_messages s client max in
+    subst (λ t. IssuesExactly first (record s.scene { table = t })) (sym (given_table client given s.scene.table)) (retold-issued s (told_given client given) (size_given client given) (asked_given client given) first issued)
+shown-issued first s (Awaits ticket) table issued = issued
+
+-- ---- numbers
+
+-- no number changes, wherever the holder's entry stands
+module _ (count : ℕ) where
+  abbrev IsGiven : EntryRow → Type 0
+  IsGiven row = row.entry.seq ≤ count
+
+  given-change : (rows : List EntryRow) (k : Holder) → AllByRecursion IsGiven rows → AllByRecursion IsGiven (change_rows rows k told)
+  given-change [] k all = tt
+  given-change (row ∷ rows) k all =
+      elim (is_row_of k row) as (λ b. AllByRecursion IsGiven (cond b (record row { entry = told row.entry } ∷ rows) (row ∷ change_rows rows k told)))
+      [ true ↦ (all.0, all.1) | false ↦ (all.0, given-change rows k all.1) ]
+
+  given-where : (client : ClientId) (given : List Message) (t : Table) → All IsGiven t.rows → All IsGiven (changed_where (is_of_client client) (after_messages given) t).rows
+  given-where client given t all =
+      subst (λ (t : Table). All IsGiven t.rows) (sym (given_table client given t)) (All-map IsGiven (retold (told_given client given) (size_given client given) (asked_given client given)) t.rows all)
+
+  pub shown-given : (s : State) (answer : Answer) → AreGiven count s → AreGiven count (shown answer s)
+  shown-given s (Says answer) given = given
+  shown-given s (Shows k) given = record {
+    entries = All-from_recursion IsGiven (change_rows s.scene.table.rows k told) (given-change s.scene.table.rows k (recursion_from_All IsGiven s.scene.table.rows given.entries));
+    last = given.last;
+    made = given.made;
+  }
+  shown-given s (Gives client max) given = record {
+    entries = given-where client (first_messages s client max) s.scene.table given.entries;
+    last = given.last;
+    made = given.made;
+  }
+  shown-given s (Awaits ticket) given = given

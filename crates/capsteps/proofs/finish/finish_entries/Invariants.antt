@@ -1,0 +1,14 @@
+use Rattle.std.proofs.Common.{◌≡◌, take}
+use Rattle.std.specs.List.{fold}
+use Rattle.captable.specs.Table.{is_among}
+use Rattle.captable.specs.Many.{changed_by}
+use Rattle.capsteps.specs.Finishing.{told_at, entry_under}
+use Rattle.capsteps.specs.Known.{known_in, KeptAnew}
+use Rattle.capsteps.proofs.Counting.{named}
+use Rattle.capsteps.proofs.finish.finish_entries.Given as goal
+
+abbrev pub invariant-loop-number : goal.invariant-loop-number
+invariant-loop-number l = record {
+  table : l.table ≡ fold (changed_by (entry_under (known_in l.fn.known.sets) l.fs l.tree l.sessions l.locks)) l.fn.table (take l.number-index (named l.ino l.numbers));
+  known : KeptAnew (is_among (take l.number-index (named l.ino l.numbers))) (told_at l.fs l.tree l.sessions l.locks) l.fn.table l.fn.known.sets l.known.sets;
+}

@@ -1,0 +1,31 @@
+use Rattle.std.proofs.Common.{◌≡◌, ◌<◌, Option, Some, None, is_some, refl, ap, subst}
+use Rattle.std.specs.Prelude.{IfSome}
+use Rattle.captable.specs.declared.entry.Entry.{Entry}
+use Rattle.captable.specs.Table.{entry_at}
+use Rattle.captable.proofs.Changes.{none_found}
+use Rattle.capsteps.specs.Finishing as words
+use Rattle.capsteps.specs.Known.{known_in}
+use Rattle.capsteps.proofs.KeptSets.{kept-none}
+use Rattle.capsteps.proofs.finish.finish_entry.Goals as goal
+
+pub finish_row-requires : goal.finish_row-requires
+finish_row-requires c =
+    let found : entry_at c.args.table.now c.args.holder ≡ Some c.in-Some.entry = cc in
+    record {
+      there = found;
+      path = c.requires.path;
+      node = c.requires.node;
+      number = subst (λ (o : Option Entry). IfSome o (λ e. e.seq < 18446744073709551615)) found c.requires.number;
+      room = c.requires.room (ap is_some found);
+    }
+
+pub returns-in_default-clause-table : goal.returns-in_default-clause-table
+returns-in_default-clause-table c =
+    let none : entry_at c.args.table.now c.args.holder ≡ None = cc in
+    none_found c.args.table.now c.args.holder
+    (λ e. words.entry_under (known_in c.args.known.now.sets) c.args.fs.now c.args.tree.now c.args.sessions.now c.args.locks.now (record { holder = c.args.holder; entry = e })) none
+
+pub returns-in_default-clause-known : goal.returns-in_default-clause-known
+returns-in_default-clause-known c =
+    let none : entry_at c.args.table.now c.args.holder ≡ None = cc in
+    kept-none (words.told_at c.args.fs.now c.args.tree.now c.args.sessions.now c.args.locks.now) c.args.table.now c.args.known.now.sets c.args.known.now.sets c.args.holder none (λ k. refl)

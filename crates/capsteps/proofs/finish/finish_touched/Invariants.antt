@@ -1,0 +1,10 @@
+use Rattle.capsteps.specs.Finishing.{told_by, entry_by}
+use Rattle.capsteps.specs.Known.{known_in}
+use Rattle.capsteps.proofs.ManyInodes.{IsFinishing}
+use Rattle.capsteps.proofs.finish.finish_touched.Given as goal
+
+abbrev pub invariant-loop-number : goal.invariant-loop-number
+invariant-loop-number l = record {
+  so_far : IsFinishing (entry_by (known_in l.fn.known.sets) l.fs l.tree l.sessions l.locks.states) (told_by l.fs l.tree l.sessions l.locks.states) l.fn.table l.fn.known.sets
+      l.initial.number-iterator l.number-iterator l.table l.known.sets;
+}

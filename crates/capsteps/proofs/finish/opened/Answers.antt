@@ -1,0 +1,19 @@
+use Rattle.std.proofs.Common.{◌≡◌, Option, Some, sym, ap, ◌∙◌}
+use Rattle.std.specs.Option.{unwrap_or}
+use Rattle.capbits.specs.Caps.{Caps}
+use Rattle.capbits.specs.Sets.{no_caps}
+use Rattle.captable.specs.declared.entry.Holder.{Holder}
+use Rattle.captable.specs.Table.{Table, entry_at}
+use Rattle.capevents.specs.declared.reply.Reply.TheVariants.{Opened}
+use Rattle.capsteps.specs.Direct.{opened_as}
+use Rattle.captable.proofs.ByHolder.{row_of-entry}
+use Rattle.capsteps.proofs.finish.opened.Goals as goal
+
+pub returns : goal.returns
+returns c = λ s table known.
+    let t : Table = c.args.table.now in
+    let k : Holder = c.args.holder in
+    let found : entry_at t k ≡ Some c.in-Some.entry = cc in
+    ap (λ (caps : Caps). Opened c.in-Some.entry.seq caps)
+    (c.of.ensures ∙ ap (λ (o : Option Caps). unwrap_or o no_caps) (known k c.in-Some.entry (ap (λ (u : Table). entry_at u k) table ∙ found)))
+    ∙ sym (ap (opened_as s) (row_of-entry t k c.in-Some.entry found))

@@ -1,0 +1,19 @@
+use Rattle.std.proofs.Common.{◌≡◌, ◌≤◌, true, Contains, filter, length}
+use Rattle.captable.specs.declared.entry.EntryRow.{EntryRow}
+use Rattle.captable.specs.Calls.{is_due}
+use Rattle.lockmachine.specs.Scene.{Scene}
+use Rattle.capsteps.specs.Known.{AreKnown}
+use Rattle.capsteps.specs.Messages.{end_messages}
+use Rattle.capsteps.proofs.Polling.{IsListed}
+use Rattle.capsteps.proofs.poll.due_messages.Given as goal
+
+abbrev pub decreases-rows : goal.decreases-rows
+decreases-rows l = length l.walk
+
+abbrev pub invariant-rows : goal.invariant-rows
+invariant-rows l = record {
+  left : l.left ≡ length (filter is_due l.walk);
+  few : length l.due ≤ l.max;
+  among : (row : EntryRow) → Contains l.walk row → is_due row ≡ true → Contains l.table.rows row;
+  listed : (s : Scene) → s.tree ≡ l.tree → s.table ≡ l.table → AreKnown l.known.sets s → IsListed l.max s (end_messages l.fn.client l.ended) l.initial.walk l.due l.walk;
+}

@@ -1,0 +1,27 @@
+use Rattle.std.proofs.Common.{◌≡◌, ◌+◌, ◌++◌, [], ◌∷◌, take, ap, sym, ◌∙◌}
+use Rattle.std.proofs.lemmas.List.{take_more, take_all}
+use Rattle.captable.specs.Calls.{is_of_client}
+use Rattle.captable.specs.Many.{changed_where}
+use Rattle.capsteps.specs.Messages.{after_messages}
+use Rattle.capsteps.proofs.Polling.{given-none, given-more}
+use Rattle.capsteps.proofs.poll.give.Goals as goal
+
+pub loop-message-init : goal.loop-message-init
+loop-message-init c = given-none c.args.client c.args.table.now
+
+pub loop-message-preserved : goal.loop-message-preserved
+loop-message-preserved c =
+    let client = c.args.client in
+    let m = c.message-item.result in
+    let done = take c.loop-message.message-index c.args.given.now in
+    let more : take (c.loop-message.message-index + 1) c.args.given.now ≡ done ++ m ∷ [] =
+    take_more c.args.given.now c.loop-message.message-index m c.loop-message-test.true ∙ ap (λ x. done ++ x ∷ []) (sym c.message-item.is) in
+    c.give_one.ensures
+    ∙ ap (changed_where (is_of_client client) (after_messages (m ∷ []))) c.loop-message.invariant
+    ∙ given-more client done (m ∷ []) c.args.table.now
+    ∙ ap (λ given. changed_where (is_of_client client) (after_messages given) c.args.table.now) (sym more)
+
+pub returns : goal.returns
+returns c =
+    c.loop-message.invariant
+    ∙ ap (λ given. changed_where (is_of_client c.args.client) (after_messages given) c.args.table.now) (take_all c.loop-message.message-index c.args.given.now c.loop-message-test.false)

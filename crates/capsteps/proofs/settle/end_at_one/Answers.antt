@@ -1,0 +1,25 @@
+use Rattle.std.proofs.Common.{ap, ◌∙◌, arith}
+use Rattle.std.specs.FinSet as set
+use Rattle.std.specs.Ordering.{nat_cmp}
+use Rattle.lockmachine.specs.Scene.{scene}
+use Rattle.capnotes.specs.InoSets.{InoSet}
+use Rattle.capsteps.proofs.Among.{quiet-among, ends-one}
+use Rattle.capsteps.proofs.InoSets.{none-there}
+use Rattle.capsteps.proofs.settle.end_at_one.Goals as goal
+
+pub end_at-requires-clause-quiet : goal.end_at-requires-clause-quiet
+end_at-requires-clause-quiet c =
+    quiet-among c.args.ino.0 c.new-others.result (scene c.args.fs.now c.args.tree.now c.args.sessions.now c.args.table.now c.args.locks.now) c.requires.quiet
+
+pub end_at-requires-clause-apart : goal.end_at-requires-clause-apart
+end_at-requires-clause-apart c = ap (λ (inos : InoSet). set.contains inos c.args.ino.0) c.new-others.ensures ∙ none-there c.args.ino.0
+
+pub returns-clause-ends : goal.returns-clause-ends
+returns-clause-ends c =
+    ends-one c.args.ino.0 c.new-others.result c.args.known.now.sets c.end_at.new.known.sets (scene c.args.fs.now c.args.tree.now c.args.sessions.now c.args.table.now c.args.locks.now)
+    (scene c.args.fs.now c.end_at.new.tree c.args.sessions.now c.end_at.new.table c.end_at.new.locks) c.end_at.new.endings.told.items c.end_at.ensures.ends
+
+pub end_at-requires-clause-places : goal.end_at-requires-clause-places
+end_at-requires-clause-places c =
+    let none = ap (λ (inos : InoSet). set.len inos) c.new-others.ensures ∙ set.len-empty nat_cmp in
+    omega (arith, none, c.requires.places)

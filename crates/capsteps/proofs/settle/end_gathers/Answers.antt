@@ -1,0 +1,71 @@
+use Rattle.std.proofs.Common.{◌≡◌, ◌<◌, ℕ, Bool, List, false, refl, subst, ◌∙◌}
+use Rattle.std.specs.FinMap as map
+use Rattle.capbits.specs.declared.cap.Part.{Part}
+use Rattle.inotree.specs.Tree.{Nodes}
+use Rattle.sessiontab.specs.Table.{SessionTable}
+use Rattle.lockmachine.specs.Moves.{may_end_by}
+use Rattle.lockmachine.specs.Scene.{scene}
+use Rattle.lockmachine.specs.Turns.{WaitAt}
+use Rattle.lockmachine.proofs.Ending.{ends-little}
+use Rattle.capsteps.specs.Serves.{is_touched}
+use Rattle.capsteps.specs.Sweep.{IsSwept, IsNextOf}
+use Rattle.capsteps.proofs.Sweeping.{fewer_behind, swept-begins, swept-on, ends-passed, same-elsewhere}
+use Rattle.capsteps.proofs.settle.end_gathers.Goals as goal
+use Rattle.capsteps.proofs.settle.end_gathers.Goals.{After-end_gathers_at}
+
+pub inodes-init : goal.inodes-init
+inodes-init c = let least = c.lowest-at.ensures in record {
+  swept = λ fs tree sessions waits. swept-begins (is_touched c.args.ino.0 c.args.touched.now) (scene fs tree sessions c.args.table.now c.args.locks.now) waits;
+  same = λ other off. refl;
+  lower = λ other part below. c.requires.elsewhere other part (least.least other below);
+  here = least.is;
+}
+
+pub end_gathers_at-requires : goal.end_gathers_at-requires
+end_gathers_at-requires c = record { lower = c.inodes.invariant.lower }
+
+module _ (c : After-end_gathers_at) where
+  abbrev at : ℕ → Bool
+  at = is_touched c.args.ino.0 c.args.touched.now
+
+  swept : (fs : List ℕ) (tree : Nodes) (sessions : SessionTable) → WaitAt at (scene fs tree sessions c.args.table.now c.args.locks.now)
+      → IsSwept at (scene fs tree sessions c.args.table.now c.args.locks.now) (scene fs tree sessions c.args.table.now c.end_gathers_at.new.self)
+  swept fs tree sessions waits =
+      let now = scene fs tree sessions c.args.table.now c.inodes.locks in
+      swept-on at (scene fs tree sessions c.args.table.now c.args.locks.now) now (c.inodes.invariant.swept fs tree sessions waits) c.inodes.at.0 c.inodes.invariant.here
+      c.end_gathers_at.new.self (ends-little now (scene fs tree sessions c.args.table.now c.end_gathers_at.new.self) (c.end_gathers_at.ensures.ends fs tree sessions)) c.end_gathers_at.ensures.elsewhere
+
+  same : (other : ℕ) → at other ≡ false → map.get c.end_gathers_at.new.self.states other ≡ map.get c.args.locks.now.states other
+  same other off =
+      same-elsewhere at c.inodes.locks c.end_gathers_at.new.self c.inodes.at.0 c.inodes.invariant.here c.end_gathers_at.ensures.elsewhere other off
+      ∙ c.inodes.invariant.same other off
+
+  passed : (other : ℕ) (part : Part) → (c.inodes.at.0 < other → at other ≡ false) → may_end_by c.args.table.now c.end_gathers_at.new.self (other, part) ≡ false
+  passed =
+      ends-passed at c.args.table.now c.args.locks.now c.inodes.locks c.end_gathers_at.new.self c.inodes.at.0 c.requires.elsewhere same c.inodes.invariant.lower
+      c.end_gathers_at.ensures.elsewhere c.end_gathers_at.ensures.done
+
+pub inodes-smaller : goal.inodes-smaller
+inodes-smaller c =
+    fewer_behind c.args.ino.0 c.args.touched.now c.inodes.at.0 c.in-Some.next
+    (subst (IsNextOf (is_touched c.args.ino.0 c.args.touched.now) c.inodes.at.0) c.in-Some.is c.next_touched.ensures)
+
+pub inodes-preserved : goal.inodes-preserved
+inodes-preserved c =
+    let here = (goal.at.inodes-preserved c).After-end_gathers_at in
+    let next = subst (IsNextOf (is_touched c.args.ino.0 c.args.touched.now) c.inodes.at.0) c.in-Some.is c.next_touched.ensures in
+    record {
+      swept = swept here;
+      same = same here;
+      lower = λ other part below. passed here other part (λ above. next.2 other above below);
+      here = next.1;
+    }
+
+pub returns-in_default-clause-ends : goal.returns-in_default-clause-ends
+returns-in_default-clause-ends c =
+    let here = (goal.at.returns-in_default-clause-ends c).After-end_gathers_at in
+    let beyond = subst (IsNextOf (is_touched c.args.ino.0 c.args.touched.now) c.inodes.at.0) c.in_default.is c.next_touched.ensures in
+    λ other part. passed here other part (λ above. beyond other above)
+
+pub returns-in_default-clause-swept : goal.returns-in_default-clause-swept
+returns-in_default-clause-swept c = swept (goal.at.returns-in_default-clause-swept c).After-end_gathers_at

@@ -1,0 +1,24 @@
+use Rattle.std.proofs.Common.{◌≡◌, ◌<◌, ℕ, List, true, false}
+use Rattle.std.specs.FinMap as map
+use Rattle.capbits.specs.declared.cap.Part.{Part}
+use Rattle.inotree.specs.Tree.{Nodes}
+use Rattle.sessiontab.specs.Table.{SessionTable}
+use Rattle.lockmachine.specs.Moves.{may_end_by}
+use Rattle.lockmachine.specs.Scene.{scene}
+use Rattle.lockmachine.specs.Turns.{WaitAt}
+use Rattle.capsteps.specs.Serves.{is_touched}
+use Rattle.capsteps.specs.Sweep.{IsSwept}
+use Rattle.capsteps.proofs.Sweeping.{behind}
+use Rattle.capsteps.proofs.settle.end_gathers.Given as goal
+
+abbrev pub decreases-inodes : goal.decreases-inodes
+decreases-inodes l = behind l.ino.0 l.touched l.at.0
+
+abbrev pub invariant-inodes : goal.invariant-inodes
+invariant-inodes l = record {
+  swept : (fs : List ℕ) (tree : Nodes) (sessions : SessionTable) → WaitAt (is_touched l.ino.0 l.touched) (scene fs tree sessions l.table l.fn.locks)
+      → IsSwept (is_touched l.ino.0 l.touched) (scene fs tree sessions l.table l.fn.locks) (scene fs tree sessions l.table l.locks);
+  same : (other : ℕ) → is_touched l.ino.0 l.touched other ≡ false → map.get l.locks.states other ≡ map.get l.fn.locks.states other;
+  lower : (other : ℕ) (part : Part) → other < l.at.0 → may_end_by l.table l.locks (other, part) ≡ false;
+  here : is_touched l.ino.0 l.touched l.at.0 ≡ true;
+}

@@ -1,0 +1,188 @@
+use Rattle.std.proofs.Common.{◌≡◌, ◌<◌, ◌≤◌, ◌+◌, ◌++◌, ◌∷◌, [], ℕ, Bool, true, false, cond, ◌&&◌, length, List, Option, Some, None, Contains, sym, ap, subst, ◌∙◌, arith}
+use Rattle.std.specs.List.{filter_map}
+use Rattle.std.proofs.lemmas.List.{length-append}
+use Rattle.capbits.specs.declared.ids.Ino.{Ino}
+use Rattle.lockmachine.specs.declared.request.Request.{Request}
+use Rattle.lockmachine.specs.declared.moves.Move.TheVariants.{Serve}
+use Rattle.lockmachine.specs.Locks.{lock_at, request_at}
+use Rattle.lockmachine.specs.Moves.{first_move}
+use Rattle.lockmachine.specs.Scene.{Scene, scene}
+use Rattle.lockmachine.proofs.Exact.{ends_not}
+use Rattle.lockmachine.proofs.Waiting.{served-at}
+use Rattle.capevents.specs.declared.outcome.Ended.{Ended}
+use Rattle.capevents.specs.declared.outcome.Outcome.{Outcome}
+use Rattle.capsteps.specs.declared.settle.SweepPlace.{SweepPlace}
+use Rattle.capsteps.specs.Serves.{Serves, is_touched}
+use Rattle.capsteps.specs.Settle.{Served, sets_size, is_done, sized_in}
+use Rattle.capsteps.specs.Sweep.{GoesOn, GoesOnBehind, IsSwept, Reaches, StandsAt}
+use Rattle.capnotes.proofs.Noting.{leads-none, leads-then}
+use Rattle.capsteps.proofs.SoFar.{IsSoFar, so-far-begins, so-far-served, so-far-settled, so-far-swept, stands-behind, stands-first, turn-of_least}
+use Rattle.capsteps.proofs.Walked.{none-walked, walked-served}
+use Rattle.capsteps.proofs.settle.settle.Goals as goal
+use Rattle.capsteps.proofs.settle.settle.Goals.{After-last-last, After-place_behind-place}
+
+pub end_gathers-requires : goal.end_gathers-requires
+end_gathers-requires c =
+    let first : Scene = scene c.args.fs.now c.args.tree.now c.args.sessions.now c.args.table.now c.args.locks.now in
+    record { elsewhere = λ other part off. ends_not first (other, part) (lock_at first.locks other part) (c.requires.quiet.each_other other part off) }
+
+pub servings-init : goal.servings-init
+servings-init c =
+    let first : Scene = scene c.args.fs.now c.args.tree.now c.args.sessions.now c.args.table.now c.args.locks.now in
+    let now : Scene = scene c.args.fs.now c.args.tree.now c.args.sessions.now c.args.table.now c.end_gathers.new.locks in
+    let at : ℕ → Bool = is_touched c.args.ino.0 c.args.others in
+    let begun = so-far-begins c.args.ino.0 c.args.others first c.requires.quiet c.requires.apart in
+    let swept : IsSwept at first now = c.end_gathers.ensures.swept c.args.fs.now c.args.tree.now c.args.sessions.now begun.waits in
+    let so : IsSoFar c.args.ino.0 at c.args.others first now [] [] = so-far-swept c.args.ino.0 at c.args.others first first [] [] begun now swept in
+    let queue : length c.end_gathers.new.locks.queue ≡ length c.args.locks.now.queue = ap length swept.queue in
+    record {
+      so_far =
+          subst (λ (told : List Ended). IsSoFar c.args.ino.0 at c.args.others first now told c.args.endings.now.sized.items) (sym c.requires.none)
+          (subst (IsSoFar c.args.ino.0 at c.args.others first now []) (sym c.requires.no_sizes) so);
+      stands = stands-first c.args.ino.0 c.args.others now c.first_place-place.result (turn-of_least at now so.still c.end_gathers.ensures.ends) so.waits c.first_place-place.ensures;
+      walked = none-walked c.new-walked.result c.args.ino.0 c.args.tree.now c.args.table.now c.args.others c.new-walked.ensures;
+      same = c.requires.same;
+      lead = leads-none c.args.endings.now.changes.items c.args.tree.now;
+      places = omega (arith, queue, c.requires.places);
+      told = omega (arith, queue, c.requires.told);
+      kept = omega (arith, queue, c.requires.kept);
+      sized = omega (arith, queue, c.requires.sized);
+    }
+
+-- a serving changes at most one size
+few-sized : (sized more : List Ino) (q : Request) (o : Outcome) → more ≡ sized ++ sized_in (Served q o ∷ []) → length more ≤ length sized + 1
+few-sized sized more q o is = elim (sets_size q.ask && is_done o) as (λ b. more ≡ sized ++ filter_map (λ (ino : Option Ino). ino) (cond b (Some q.ino) None ∷ []) → length more ≤ length sized + 1) [
+  | true ↦ λ is. let long = ap length is in omega (arith, long, length-append sized (q.ino ∷ []))
+  | false ↦ λ is. let none : List Ino = [] in let long = ap length is in omega (arith, long, length-append sized none)
+] is
+
+-- the inodes of the event
+abbrev from : After-last-last → ℕ → Bool
+from c = is_touched c.args.ino.0 c.args.others
+
+module _ (c : After-last-last) where
+  abbrev first : Scene
+  first = scene c.args.fs.now c.args.tree.now c.args.sessions.now c.args.table.now c.args.locks.now
+
+  abbrev now : Scene
+  now = scene c.args.fs.now c.servings.tree c.args.sessions.now c.args.table.now c.servings.locks
+
+  abbrev mid : Scene
+  mid = scene c.args.fs.now c.servings.tree c.args.sessions.now c.args.table.now c.sweep.new.locks
+
+  -- gathers began and ended
+  swept : IsSoFar c.args.ino.0 (from c) c.servings.touched first mid c.servings.endings.told.items c.servings.endings.sized.items
+  swept = so-far-swept c.args.ino.0 (is_touched c.args.ino.0 c.args.others) c.servings.touched first now c.servings.endings.told.items c.servings.endings.sized.items c.servings.invariant.so_far mid c.sweep.ensures.swept
+
+  move : first_move mid ≡ Serve c.in-Some.ticket
+  move = subst (GoesOn mid) c.in-Some.is c.sweep.ensures.next
+
+  here : (r : Request) × (request_at c.sweep.new.locks c.in-Some.ticket.0 ≡ Some r) × Contains c.sweep.new.locks.queue r × (is_touched c.args.ino.0 c.servings.touched r.ino.0 ≡ true)
+      × (r.ticket ≡ c.in-Some.ticket)
+  here = (let so = swept in served-at (is_touched c.args.ino.0 c.servings.touched) mid c.in-Some.ticket c.state-lock.ensures.sound so.waits move)
+
+  -- somebody waits
+  some_wait : 0 < length c.servings.locks.queue
+  some_wait =
+      let found = here in
+      let inside = found.2 in
+      let is = c.sweep.ensures.swept in
+      let same : length c.sweep.new.locks.queue ≡ length c.servings.locks.queue = ap length is.queue in
+      omega (arith, same, inside.1)
+
+pub serve_next-changed-requires-clause-waits : goal.serve_next-changed-requires-clause-waits
+serve_next-changed-requires-clause-waits c = (let found = here (goal.at.serve_next-changed-requires-clause-waits c).After-last-last in (found.0, found.1))
+
+pub serve_next-changed-requires-clause-told : goal.serve_next-changed-requires-clause-told
+serve_next-changed-requires-clause-told c = let some = some_wait (goal.at.serve_next-changed-requires-clause-told c).After-last-last in omega (arith, some, c.servings.invariant.told)
+
+pub serve_next-changed-requires-clause-kept : goal.serve_next-changed-requires-clause-kept
+serve_next-changed-requires-clause-kept c = let some = some_wait (goal.at.serve_next-changed-requires-clause-kept c).After-last-last in omega (arith, some, c.servings.invariant.kept)
+
+pub serve_next-changed-requires-clause-sized : goal.serve_next-changed-requires-clause-sized
+serve_next-changed-requires-clause-sized c = let some = some_wait (goal.at.serve_next-changed-requires-clause-sized c).After-last-last in omega (arith, some, c.servings.invariant.sized)
+
+pub serve_next-changed-requires-clause-place : goal.serve_next-changed-requires-clause-place
+serve_next-changed-requires-clause-place c = omega (arith, c.servings.invariant.places)
+
+abbrev before_serving : After-place_behind-place → After-last-last
+before_serving c = (goal.at.servings-preserved c).After-last-last
+
+module _ (c : After-place_behind-place) where
+  abbrev ended : Ended
+  ended = c.serve_next-changed.ensures.served.0
+
+  abbrev new : Scene
+  new = scene c.args.fs.now c.serve_next-changed.new.tree c.args.sessions.now c.args.table.now c.serve_next-changed.new.locks
+
+  abbrev serves : Serves (mid (before_serving c)) c.in-Some.ticket ended new
+  serves = c.serve_next-changed.ensures.served.1 c.args.table.now
+
+  abbrev reaches : Reaches serves.request c.args.ino.0 c.servings.tree c.serve_next-changed.new.tree c.args.table.now c.servings.touched c.serve_next-changed.new.touched
+  reaches = c.serve_next-changed.ensures.reached serves.request serves.waits
+
+  served : IsSoFar c.args.ino.0 (from (before_serving c)) c.serve_next-changed.new.touched (first (before_serving c)) new (c.servings.endings.told.items ++ ended ∷ []) (c.servings.endings.sized.items ++ sized_in (Served serves.request ended.outcome ∷ []))
+  served =
+      so-far-served c.args.ino.0 (from (before_serving c)) c.servings.touched (first (before_serving c)) (mid (before_serving c)) c.servings.endings.told.items c.servings.endings.sized.items (swept (before_serving c))
+      c.in-Some.ticket ended new c.serve_next-changed.new.touched c.state-lock.ensures.sound c.last-last.ensures.sound (move (before_serving c)) serves reaches
+
+  stands : (next : SweepPlace) → GoesOnBehind c.sweep.new.place c.serve_next-changed.result c.args.ino.0 c.serve_next-changed.new.touched next → StandsAt (is_touched c.args.ino.0 c.serve_next-changed.new.touched) next new
+  stands next =
+      stands-behind c.args.ino.0 (from (before_serving c)) c.servings.touched (first (before_serving c)) (mid (before_serving c)) c.servings.endings.told.items c.servings.endings.sized.items (swept (before_serving c))
+      c.in-Some.ticket ended new c.serve_next-changed.new.touched c.state-lock.ensures.sound c.last-last.ensures.sound (move (before_serving c)) serves reaches
+      c.sweep.new.place next c.serve_next-changed.result c.sweep.ensures.place (c.serve_next-changed.ensures.changed serves.request serves.waits)
+
+  one_more : length (c.servings.endings.told.items ++ ended ∷ []) ≡ length c.servings.endings.told.items + 1
+  one_more = length-append c.servings.endings.told.items (ended ∷ [])
+
+  one_less : length c.serve_next-changed.new.locks.queue + 1 ≡ length c.servings.locks.queue
+  one_less =
+      let now = served in
+      let was = c.servings.invariant.so_far in
+      omega (arith, now.count, was.count, one_more)
+
+pub servings-smaller : goal.servings-smaller
+servings-smaller c = let less = one_less c in omega (arith, less)
+
+pub servings-preserved : goal.servings-preserved
+servings-preserved c =
+    let all = c.serve_next-changed.ensures.served in
+    let same : c.serve_next-changed.new.endings.kept.items ≡ c.serve_next-changed.new.endings.told.items = all.3 ∙ ap (λ ms. ms ++ ended c ∷ []) c.servings.invariant.same ∙ sym all.2 in
+    let request = (serves c).request in
+    let sizes : c.serve_next-changed.new.endings.sized.items ≡ c.servings.endings.sized.items ++ sized_in (Served request (ended c).outcome ∷ []) = all.4 request (serves c).waits in
+    let few_sizes : length c.serve_next-changed.new.endings.sized.items ≤ length c.servings.endings.sized.items + 1 = few-sized c.servings.endings.sized.items c.serve_next-changed.new.endings.sized.items request (ended c).outcome sizes in
+    let more : length c.serve_next-changed.new.endings.told.items ≡ length c.servings.endings.told.items + 1 = ap length all.2 ∙ one_more c in
+    let less = one_less c in
+    let kept_more : length c.serve_next-changed.new.endings.kept.items ≡ length c.servings.endings.kept.items + 1 = ap length same ∙ more ∙ ap (λ (ms : List Ended). length ms + 1) (sym c.servings.invariant.same) in
+    let room = c.serve_next-changed.ensures.room in
+    record {
+      so_far =
+          subst (λ (told : List Ended). IsSoFar c.args.ino.0 (from (before_serving c)) c.serve_next-changed.new.touched (first (before_serving c)) (new c) told c.serve_next-changed.new.endings.sized.items) (sym all.2)
+          (subst (IsSoFar c.args.ino.0 (from (before_serving c)) c.serve_next-changed.new.touched (first (before_serving c)) (new c) (c.servings.endings.told.items ++ ended c ∷ [])) (sym sizes) (served c));
+      stands = stands c c.place_behind-place.result c.place_behind-place.ensures;
+      walked =
+          walked-served c.servings.tree c.serve_next-changed.new.tree request (ended c).outcome c.args.ino.0 c.args.table.now c.serve_next-changed.new.walked c.servings.touched c.serve_next-changed.new.touched
+          (ap (λ (s : Scene). s.tree) (serves c).is) (reaches c) c.serve_next-changed.ensures.walked;
+      same = same;
+      lead = leads-then c.args.endings.now.changes.items c.servings.endings.changes.items c.serve_next-changed.new.endings.changes.items c.args.tree.now c.servings.tree c.serve_next-changed.new.tree
+          c.servings.invariant.lead c.serve_next-changed.ensures.lead;
+      places = omega (arith, less, c.serve_next-changed.ensures.noted, c.serve_next-changed.ensures.places, c.servings.invariant.places);
+      told = omega (arith, more, less, room.0, c.servings.invariant.told);
+      kept = omega (arith, kept_more, less, room.1, c.servings.invariant.kept);
+      sized = omega (arith, few_sizes, less, room.2, c.servings.invariant.sized);
+    }
+
+pub returns-clause-settles : goal.returns-clause-settles
+returns-clause-settles c =
+    let first : Scene = scene c.args.fs.now c.args.tree.now c.args.sessions.now c.args.table.now c.args.locks.now in
+    let now : Scene = scene c.args.fs.now c.servings.tree c.args.sessions.now c.args.table.now c.servings.locks in
+    let last : Scene = scene c.args.fs.now c.servings.tree c.args.sessions.now c.args.table.now c.sweep.new.locks in
+    so-far-settled c.args.ino.0 (is_touched c.args.ino.0 c.args.others) c.servings.touched first last c.servings.endings.told.items c.servings.endings.sized.items
+    (so-far-swept c.args.ino.0 (is_touched c.args.ino.0 c.args.others) c.servings.touched first now c.servings.endings.told.items c.servings.endings.sized.items c.servings.invariant.so_far last c.sweep.ensures.swept)
+    (subst (GoesOn last) c.in_default.is c.sweep.ensures.next)
+
+pub returns-clause-places : goal.returns-clause-places
+returns-clause-places c =
+    let swept = c.sweep.ensures.swept in
+    let queue : length c.sweep.new.locks.queue ≡ length c.servings.locks.queue = ap length swept.queue in
+    omega (arith, queue, c.servings.invariant.places)

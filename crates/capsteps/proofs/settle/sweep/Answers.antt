@@ -1,0 +1,79 @@
+use Rattle.std.proofs.Common.{subst}
+use Rattle.lockmachine.specs.Scene.{Scene, scene}
+use Rattle.lockmachine.specs.Turns.{IsDue}
+use Rattle.lockmachine.proofs.Alone.{nobody-done, nobody-kept}
+use Rattle.capsteps.specs.Serves.{is_touched}
+use Rattle.capsteps.specs.Sweep.{AreStill, IsNextOf, IsSwept, StandsAt}
+use Rattle.capsteps.proofs.Sweeping.{fewer_behind, last-turn, next-turn, still-kept, swept-on}
+use Rattle.capsteps.proofs.settle.sweep.Goals as goal
+use Rattle.capsteps.proofs.settle.sweep.Goals.{After-advance}
+
+module _ (c : After-advance) where
+  abbrev first : Scene
+  first = scene c.args.fs.now c.args.tree.now c.args.sessions.now c.args.table.now c.args.locks.now
+
+  abbrev now : Scene
+  now = scene c.args.fs.now c.args.tree.now c.args.sessions.now c.args.table.now c.inodes.locks
+
+  abbrev new : Scene
+  new = scene c.args.fs.now c.args.tree.now c.args.sessions.now c.args.table.now c.advance.new.locks
+
+  more : IsSwept (is_touched c.args.ino.0 c.args.touched.now) first new
+  more = swept-on (is_touched c.args.ino.0 c.args.touched.now) first now c.inodes.invariant.swept c.inodes.place.at.0 c.inodes.invariant.stands.here
+      c.advance.new.locks c.advance.ensures.moves c.advance.ensures.elsewhere
+
+  still : AreStill (is_touched c.args.ino.0 c.args.touched.now) new
+  still = let is = more in still-kept (is_touched c.args.ino.0 c.args.touched.now) first c.advance.new.locks c.requires.still is.queue is.states
+
+pub returns-in-Some-clause-swept : goal.returns-in-Some-clause-swept
+returns-in-Some-clause-swept c = more (goal.at.returns-in-Some-clause-swept c).After-advance
+
+pub returns-in-None-clause-swept : goal.returns-in-None-clause-swept
+returns-in-None-clause-swept c = more (goal.at.returns-in-None-clause-swept c).After-advance
+
+pub inodes-smaller : goal.inodes-smaller
+inodes-smaller c =
+    fewer_behind c.args.ino.0 c.args.touched.now c.inodes.place.at.0 c.in-Some-next_touched.at
+    (subst (IsNextOf (is_touched c.args.ino.0 c.args.touched.now) c.inodes.place.at.0) c.in-Some-next_touched.is c.next_touched.ensures)
+
+pub inodes-preserved : goal.inodes-preserved
+inodes-preserved c =
+    let here = (goal.at.inodes-preserved c).After-advance in
+    let next = subst (IsNextOf (is_touched c.args.ino.0 c.args.touched.now) c.inodes.place.at.0) c.in-Some-next_touched.is c.next_touched.ensures in
+    let done = subst (IsDue (new here) c.inodes.place.at.0) c.in_default.is c.advance.ensures.due in
+    record {
+      swept = more here;
+      stands = record {
+        turn = next-turn (is_touched c.args.ino.0 c.args.touched.now) (new here) c.inodes.place.at.0 c.in-Some-next_touched.at (still here) c.advance.ensures.turn done next;
+        here = next.1;
+        alone = λ known. nobody-done (new here) c.inodes.place.at.0 c.in-Some-next_touched.at.0 done;
+      };
+    }
+
+-- it stands where it stood
+module _ (c : After-advance) where
+  stands : StandsAt (is_touched c.args.ino.0 c.args.touched.now) c.inodes.place (new c)
+  stands = record {
+    turn = c.advance.ensures.turn;
+    here = c.inodes.invariant.stands.here;
+    alone = λ known. nobody-kept c.inodes.place.at.0 c.inodes.locks c.advance.new.locks c.advance.ensures.elsewhere (c.inodes.invariant.stands.alone known);
+  }
+
+pub returns-in-Some-clause-place : goal.returns-in-Some-clause-place
+returns-in-Some-clause-place c = stands (goal.at.returns-in-Some-clause-place c).After-advance
+
+pub returns-in-None-clause-place : goal.returns-in-None-clause-place
+returns-in-None-clause-place c = stands (goal.at.returns-in-None-clause-place c).After-advance
+
+pub returns-in-None-clause-next : goal.returns-in-None-clause-next
+returns-in-None-clause-next c =
+    let here = (goal.at.returns-in-None-clause-next c).After-advance in
+    let beyond = subst (IsNextOf (is_touched c.args.ino.0 c.args.touched.now) c.inodes.place.at.0) c.in-None.is c.next_touched.ensures in
+    let done = subst (IsDue (new here) c.inodes.place.at.0) c.in_default.is c.advance.ensures.due in
+    last-turn (is_touched c.args.ino.0 c.args.touched.now) (new here) c.inodes.place.at.0 (still here) c.advance.ensures.turn done beyond
+
+pub advance-requires : goal.advance-requires
+advance-requires c = record {
+  turn = c.inodes.invariant.stands.turn;
+  alone = c.inodes.invariant.stands.alone;
+}

@@ -1,0 +1,14 @@
+use Rattle.lockmachine.specs.Scene.{scene}
+use Rattle.capsteps.specs.Serves.{is_touched}
+use Rattle.capsteps.specs.Sweep.{IsSwept, StandsAt}
+use Rattle.capsteps.proofs.Sweeping.{behind}
+use Rattle.capsteps.proofs.settle.sweep.Given as goal
+
+abbrev pub decreases-inodes : goal.decreases-inodes
+decreases-inodes l = behind l.ino.0 l.touched l.place.at.0
+
+abbrev pub invariant-inodes : goal.invariant-inodes
+invariant-inodes l = record {
+  swept : IsSwept (is_touched l.ino.0 l.touched) (scene l.fs l.tree l.sessions l.table l.fn.locks) (scene l.fs l.tree l.sessions l.table l.locks);
+  stands : StandsAt (is_touched l.ino.0 l.touched) l.place (scene l.fs l.tree l.sessions l.table l.locks);
+}

@@ -1,0 +1,9 @@
+use Rattle.std.proofs.Common.{◌≡◌, take}
+use Rattle.std.specs.List.{fold}
+use Rattle.captable.specs.Many.{changed_by}
+use Rattle.capsteps.specs.Finish.{owed}
+use Rattle.capsteps.proofs.Counting.{named}
+use Rattle.capsteps.proofs.sizes.owe_on.Given as goal
+
+abbrev pub invariant-loop-number : goal.invariant-loop-number
+invariant-loop-number l = l.table ≡ fold (changed_by owed) l.fn.table (take l.number-index (named l.ino l.numbers))

@@ -1,0 +1,18 @@
+-- What a step says, and what it leaves.
+use Rattle.std.specs.Prelude.{◌≡◌, ℕ, ◌+◌}
+use Rattle.capevents.specs.declared.event.Event.{Event}
+use Rattle.capsteps.specs.declared.said.Said.{Said}
+use Rattle.capsteps.specs.State.{State}
+use Rattle.capsteps.specs.Direct.{direct}
+use Rattle.capsteps.specs.Headline.{IssuesExactly}
+use Rattle.capsteps.specs.Sound.{IsSound, AreGiven}
+use Rattle.capsteps.specs.Step.{Step}
+
+-- it is a step, with this answer and these requests of earlier steps that it ended; the state stays sound, what is issued is
+-- what is wanted, permitted and allowed, and no number rises by more than one
+pub record IsAnswered (old : State) (e : Event) (said : Said) (new : State) : Type 0 where
+  pub step : Step old e said.reply said.ended new
+  pub kept : said.kept ≡ said.reply
+  pub sound : IsSound new
+  pub issued : IssuesExactly (direct old e).state.scene new.scene
+  pub given : (count : ℕ) → AreGiven count old → AreGiven (count + 1) new

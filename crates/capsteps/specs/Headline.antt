@@ -1,0 +1,180 @@
+-- What the core promises of every step, in the words of its users.
+use Rattle.std.specs.Prelude.{◌≡◌, ◌==◌, ◌≤◌, ◌↔◌, ℕ, Bool, true, false, ◌||◌, ◌&&◌, IsTrue, IsFalse, List, [], ◌∷◌, ◌++◌, length, map, Option, Some, None}
+use Rattle.std.specs.List.{find, list_any}
+use Rattle.std.specs.Option.{option_map_or}
+use Rattle.capbits.specs.declared.cap.Cap.{Cap}
+use Rattle.capbits.specs.declared.cap.Part.{Part}
+use Rattle.capbits.specs.Caps.{has}
+use Rattle.capbits.specs.Sets.{IsSubset, of_part, no_caps}
+use Rattle.capgrant.specs.declared.access.Access.{Access}
+use Rattle.capgrant.specs.declared.rule.Rule.{Rule}
+use Rattle.locktable.specs.declared.states.State.{State as LockGoal}
+use Rattle.locktable.specs.declared.states.LockState.{LockState}
+use Rattle.locktable.specs.declared.states.LockState.TheVariants.{Stable, Gather}
+use Rattle.locktable.specs.Conflicts.{conflict}
+use Rattle.locktable.specs.Rows.{row_of}
+use Rattle.captable.specs.declared.entry.Holder.{Holder}
+use Rattle.captable.specs.declared.entry.EntryRow.{EntryRow}
+use Rattle.captable.specs.Table.{is_row_of}
+use Rattle.lockmachine.specs.Locks.{LockMap, lock_at}
+use Rattle.lockmachine.specs.Policy.{failures, permitted}
+use Rattle.lockmachine.specs.declared.request.Request.{Request}
+use Rattle.lockmachine.specs.Requests.{same_part}
+use Rattle.lockmachine.specs.Scene.{Scene, against}
+use Rattle.lockmachine.specs.Moves.{is_open}
+use Rattle.lockmachine.specs.Runs.{AreFew}
+use Rattle.lockmachine.specs.declared.moves.Move.{Move}
+use Rattle.lockmachine.specs.declared.moves.Move.TheVariants.{Begin, End, Serve}
+use Rattle.capevents.specs.declared.outcome.Outcome.{Outcome}
+use Rattle.capevents.specs.declared.outcome.Outcome.TheVariants as outcome
+use Rattle.capsteps.specs.Asks.{ask_before, ask_needs}
+use Rattle.capsteps.specs.Settle.{Made, Began, Gathered, Served, MakesAll, ended_in}
+use Rattle.capsteps.specs.State.{State}
+use Rattle.capsteps.specs.Direct.{direct}
+use Rattle.capsteps.specs.Step.{StepBy}
+use Rattle.capevents.specs.declared.outcome.Ended.{Ended}
+use Rattle.capevents.specs.declared.event.Event.{Event}
+use Rattle.capevents.specs.declared.reply.Reply.{Reply}
+use Rattle.capevents.specs.declared.reply.Reply.TheVariants as reply
+use Rattle.capbits.specs.Refusal.{Test, first_failing}
+use Rattle.capsteps.specs.Needs.{Need}
+use Rattle.capsteps.specs.Judge.{before, needs, first_denied}
+use Rattle.capsteps.specs.Finish.{due}
+
+-- ---- denials
+
+-- the tests pass, and this is the first of the accesses that has no grant
+abbrev pub IsFirstDenied : Scene → List Test → List Need → Need → Type 0
+IsFirstDenied s tests needed n = (first_failing tests ≡ None) × (first_denied s needed ≡ Some n)
+
+-- there is a denial exactly if the tests pass and an access has no grant
+abbrev pub DenialIsExact : Scene → List Test → List Need → (Access → List Rule → Type 0) → Type 0
+DenialIsExact s tests needed Denied =
+    ((access : Access) × (rules : List Rule) × Denied access rules) ↔ ((n : Need) × IsFirstDenied s tests needed n)
+
+-- a denial names the first such access, and the rule by which each grant fails first
+abbrev pub DenialIsByName : Scene → List Test → List Need → (Access → List Rule → Type 0) → Type 0
+DenialIsByName s tests needed Denied =
+    (access : Access) (rules : List Rule) → Denied access rules →
+    (n : Need) × IsFirstDenied s tests needed n × (access ≡ n.access) × (rules ≡ failures s.fs s.tree s.sessions n.holder n.access)
+
+-- an event is denied exactly if it passes the tests that stand before policy and an access that it needs has no grant
+abbrev pub DeniedExactly : Scene → Event → Reply → Type 0
+DeniedExactly s e answer = DenialIsExact s (before s e) (needs s e) (λ access rules. answer ≡ reply.Denied access rules)
+
+-- and it is denied by name
+abbrev pub DeniesByName : Scene → Event → Reply → Type 0
+DeniesByName s e answer = DenialIsByName s (before s e) (needs s e) (λ access rules. answer ≡ reply.Denied access rules)
+
+-- whether the answer is a denial or a refusal
+abbrev pub is_stop : Reply → Bool
+is_stop reply.Done = false
+is_stop (reply.Ino ino) = false
+is_stop (reply.Opened seq caps) = false
+is_stop (reply.Values values) = false
+is_stop (reply.Messages messages) = false
+is_stop (reply.Recalled holders) = false
+is_stop (reply.Waiting ticket) = false
+is_stop (reply.Denied access rules) = true
+is_stop (reply.Refused refusal) = true
+is_stop reply.OutOfMemory = false
+
+-- ---- denials of requests that waited
+
+-- a request that is served is denied exactly if it passes the tests that stand before policy and an access that it needs has
+-- no grant at that moment
+abbrev pub ServedDenied : Scene → Request → Outcome → Type 0
+ServedDenied s q o =
+    DenialIsExact s (ask_before s q.ino.0 q.ask) (ask_needs s q.client q.ino.0 q.ask) (λ access rules. o ≡ outcome.Denied access rules)
+
+-- and it is denied by name
+abbrev pub ServedByName : Scene → Request → Outcome → Type 0
+ServedByName s q o =
+    DenialIsByName s (ask_before s q.ino.0 q.ask) (ask_needs s q.client q.ino.0 q.ask) (λ access rules. o ≡ outcome.Denied access rules)
+
+-- so it is of each serving among the moves, on the scene in which it was made
+abbrev pub EachServing : (Scene → Request → Outcome → Type 0) → Scene → List Made → Type 0
+EachServing Fact first moves =
+    (before_it behind_it : List Made) (q : Request) (o : Outcome) (s : Scene) →
+    moves ≡ before_it ++ Served q o ∷ behind_it → MakesAll first before_it s → Fact s q o
+
+-- ---- the moves of a step
+
+-- some moves make the step, with this answer and these requests that it ended, and of them this is so, from the scene that the
+-- event leads to by itself
+abbrev pub ByMoves : (Scene → List Made → Type 0) → State → Event → Reply → List Ended → State → Type 0
+ByMoves Fact old e answer ended new = (moves : List Made) × StepBy old e moves answer ended new × Fact (direct old e).state.scene moves
+
+-- a move that was made, as a move of the locks
+abbrev pub move_of : Made → Move
+move_of (Began ino part to) = Begin ino part to
+move_of (Gathered ino part) = End ino part
+move_of (Served q o) = Serve q.ticket
+
+-- they serve at most as many requests as wait, and between two servings each lock begins at most one gather and ends at most two
+pub record AreBounded (first : Scene) (moves : List Made) : Type 0 where
+  pub served : length (ended_in moves) ≤ length first.locks.queue
+  pub between : (before_it some behind_it : List Made) → moves ≡ before_it ++ (some ++ behind_it) → ended_in some ≡ [] → AreFew (map move_of some)
+
+-- the move begins or ends a gather of this lock
+abbrev pub is_of_lock_at : ℕ → Part → Made → Bool
+is_of_lock_at ino part (Began i p to) = (ino == i.0) && same_part part p
+is_of_lock_at ino part (Gathered i p) = (ino == i.0) && same_part part p
+is_of_lock_at ino part (Served q o) = false
+
+-- each lock that is there at the end, and that none of the moves begins or ends a gather of, is as it was right after the event
+abbrev pub OtherLocksStay : LockMap → Scene → List Made → Type 0
+OtherLocksStay last first moves =
+    (ino : ℕ) (part : Part) (lock : LockState) → IsFalse (list_any (is_of_lock_at ino part) moves) →
+    lock_at last ino part ≡ Some lock → lock_at first.locks ino part ≡ Some lock
+
+-- ---- caps
+
+-- the client holds the capability on the inode
+abbrev pub holds : Scene → Holder → Cap → Bool
+holds s k cap = option_map_or (λ row. has row.entry.held cap) (find (is_row_of k) s.table.rows) false
+
+-- the client effectively wants it, and the locks allow it
+abbrev pub is_due : Scene → Holder → Cap → Bool
+is_due s k cap = option_map_or (λ row. has (due s row) cap) (find (is_row_of k) s.table.rows) false
+
+-- what is held at the end is what was held after the event, and what is wanted, permitted and allowed at the end
+abbrev pub IssuesExactly : Scene → Scene → Type 0
+IssuesExactly first last = (k : Holder) (cap : Cap) → holds last k cap ≡ (holds first k cap || is_due last k cap)
+
+-- what the entry holds of the part is in the row of this state
+abbrev pub IsInRow : EntryRow → Part → LockGoal → Type 0
+IsInRow row part state = IsSubset (of_part part row.entry.held) (row_of part state row.holder.client)
+
+-- what it holds of the part outside the row of this state is being revoked, and keeps a gather to this state open. It says what
+-- revoking and an open gather come to: it follows from these two words alone, and what a step could break is the row
+abbrev pub IsTakenBack : Scene → EntryRow → Part → LockGoal → Type 0
+IsTakenBack s row part to =
+    (cap : Cap) → IsTrue (has (of_part part row.entry.held) cap) → IsFalse (has (row_of part to row.holder.client) cap) →
+    IsTrue (has (against s row) cap) × IsTrue (is_open s row.holder.ino.0 part to)
+
+-- it is in the row of the state in which the part's lock is, or which the lock leaves; and where the lock gathers, what is
+-- outside the row of its target is being revoked
+abbrev pub IsInPlace : Scene → EntryRow → Part → Option LockState → Type 0
+IsInPlace s row part None = IsSubset (of_part part row.entry.held) no_caps
+IsInPlace s row part (Some (Stable state)) = IsInRow row part state
+IsInPlace s row part (Some (Gather from to)) = IsInRow row part from × IsTakenBack s row part to
+
+-- of each entry and each part
+abbrev pub AreInPlace : Scene → Type 0
+AreInPlace s =
+    (row : EntryRow) (part : Part) → find (is_row_of row.holder) s.table.rows ≡ Some row →
+    IsInPlace s row part (lock_at s.locks row.holder.ino.0 part)
+
+-- what is held and is not permitted, by the grants of now and where the inode stands now, is being revoked. It says what revoking
+-- comes to; what clients know of it is said where it is said what they were shown
+abbrev pub AreRevoked : Scene → Type 0
+AreRevoked s =
+    (row : EntryRow) (cap : Cap) → find (is_row_of row.holder) s.table.rows ≡ Some row → IsTrue (has row.entry.held cap) →
+    IsFalse (has (permitted s.fs s.tree s.sessions row.holder) cap) → IsTrue (has (against s row) cap)
+
+-- no two clients hold what may not be held together
+abbrev pub NoneConflict : Scene → Type 0
+NoneConflict s =
+    (a b : Holder) (c d : Cap) → IsFalse (a.client.0 == b.client.0) → a.ino ≡ b.ino →
+    IsTrue (holds s a c) → IsTrue (holds s b d) → IsFalse (conflict c d)

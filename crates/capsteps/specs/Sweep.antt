@@ -1,0 +1,101 @@
+-- How the locks of several inodes settle: in the order of their numbers, and anew once an inode was moved.
+use Rattle.std.specs.Prelude.{◌≡◌, ◌≢◌, ◌<◌, ◌≤◌, ℕ, Bool, true, false, ◌⊎◌, List, [], Option, Some, None, Contains, if◌then◌else◌}
+use Rattle.std.specs.FinMap as map
+use Rattle.std.specs.FinSet as set
+use Rattle.capbits.specs.declared.cap.Part.{Part}
+use Rattle.capbits.specs.declared.ids.Ino.{Ino}
+use Rattle.capbits.specs.declared.ids.Ticket.{Ticket}
+use Rattle.inotree.specs.Tree.{Nodes, is_within}
+use Rattle.captable.specs.declared.entry.EntryRow.{EntryRow}
+use Rattle.captable.specs.Table.{Table}
+use Rattle.lockmachine.specs.declared.request.Request.{Request}
+use Rattle.lockmachine.specs.declared.moves.Move.TheVariants.{Serve, Settled}
+use Rattle.lockmachine.specs.Scene.{Scene}
+use Rattle.lockmachine.specs.Moves.{first_move, may_end, may_begin}
+use Rattle.lockmachine.specs.Turns.{IsTurnOf, NobodyElsewhere, WaitAt}
+use Rattle.capnotes.specs.InoSets.{InoSet}
+use Rattle.capsteps.specs.declared.settle.SweepPlace.{SweepPlace}
+use Rattle.capsteps.specs.Served.{is_rename}
+use Rattle.capsteps.specs.Serves.{is_touched}
+use Rattle.capsteps.specs.Settle.{Made, MakesAll, ended_in}
+
+-- the least of these inodes
+pub record IsLeastOf (at : ℕ → Bool) (ino : ℕ) : Type 0 where
+  pub is : at ino ≡ true
+  pub least : (other : ℕ) → other < ino → at other ≡ false
+
+-- the next of them behind an inode, or that there is none
+abbrev pub IsNextOf : (ℕ → Bool) → ℕ → Option Ino → Type 0
+IsNextOf at ino None = (other : ℕ) → ino < other → at other ≡ false
+IsNextOf at ino (Some next) =
+    (ino < next.0) × (at next.0 ≡ true) × ((other : ℕ) → ino < other → other < next.0 → at other ≡ false)
+
+-- it is the turn of the least of them
+abbrev pub IsTurnOfLeast : (ℕ → Bool) → Scene → Type 0
+IsTurnOfLeast at s = (ino : ℕ) → IsLeastOf at ino → IsTurnOf s ino
+
+-- where the sweep has come to: it is the turn of this inode, which is one of these; and where that is known, nobody who waits at
+-- another may be served
+pub record StandsAt (at : ℕ → Bool) (place : SweepPlace) (s : Scene) : Type 0 where
+  pub turn : IsTurnOf s place.at.0
+  pub here : at place.at.0 ≡ true
+  pub alone : place.alone ≡ true → NobodyElsewhere s.locks place.at.0
+
+-- at the beginning it comes to the least of the touched inodes. It is known that nobody waits elsewhere who may be served, where
+-- no other is touched
+pub record IsFirstPlace (ino : ℕ) (touched : InoSet) (place : SweepPlace) : Type 0 where
+  pub least : IsLeastOf (is_touched ino touched) place.at.0
+  pub alone : place.alone ≡ true → (other : ℕ) → set.contains touched other ≡ false
+
+-- the inode that a request changes and no other; none where it moves its inode
+abbrev pub changed_alone : Request → Option Ino
+changed_alone q = if is_rename q.ask then None else Some q.ino
+
+-- behind a serving the sweep goes on where it was, if that changed no inode but one that is not before it; else it begins again
+abbrev pub GoesOnBehind : SweepPlace → Option Ino → ℕ → InoSet → SweepPlace → Type 0
+GoesOnBehind place changed ino touched next =
+    ((next ≡ place) × ((i : Ino) × (changed ≡ Some i) × (place.at.0 ≤ i.0))) ⊎ IsFirstPlace ino touched next
+
+-- at all others no gather may begin or end
+pub record AreStill (at : ℕ → Bool) (s : Scene) : Type 0 where
+  pub ends : (other : ℕ) (part : Part) → at other ≡ false → may_end s (other, part) ≡ false
+  pub begins : (other : ℕ) (part : Part) → at other ≡ false → may_begin s (other, part) ≡ false
+
+-- gathers began and ended at these inodes, always by the first move that applied; who waits at another is held up
+pub record IsSwept (at : ℕ → Bool) (first now : Scene) : Type 0 where
+  pub moves : List Made
+  pub made : MakesAll first moves now
+  pub none : ended_in moves ≡ []
+  pub is : now ≡ record first { locks = now.locks }
+  pub states : (other : ℕ) → at other ≡ false → map.get now.locks.states other ≡ map.get first.locks.states other
+  pub queue : now.locks.queue ≡ first.locks.queue
+  pub waits : WaitAt at now
+
+-- the request that is to be served next, or else no move applies
+abbrev pub GoesOn : Scene → Option Ticket → Type 0
+GoesOn s None = first_move s ≡ Settled
+GoesOn s (Some ticket) = first_move s ≡ Serve ticket
+
+-- every inode at or below one that somebody has an entry on is one of these, but for this one
+abbrev pub CoversBelow : ℕ → ℕ → Nodes → Table → InoSet → Type 0
+CoversBelow above ino tree table others =
+    (row : EntryRow) → Contains table.rows row → row.holder.ino.0 ≢ ino →
+    is_within tree.nodes row.holder.ino.0 above ≡ true → set.contains others row.holder.ino.0 ≡ true
+
+-- if the request moves its inode, that is so of it
+abbrev pub Covers : Request → ℕ → Nodes → Table → InoSet → Type 0
+Covers q ino tree table others = is_rename q.ask ≡ true → CoversBelow q.ino.0 ino tree table others
+
+-- and it is so of each inode from which a rename of this step has walked over what lies below
+abbrev pub AreWalked : InoSet → ℕ → Nodes → Table → InoSet → Type 0
+AreWalked walked ino tree table others = (above : ℕ) → set.contains walked above ≡ true → CoversBelow above ino tree table others
+
+-- inodes other than this one come besides
+pub record Widens (ino : ℕ) (old new : InoSet) : Type 0 where
+  pub stay : (other : ℕ) → set.contains old other ≡ true → set.contains new other ≡ true
+  pub besides : (other : ℕ) → set.contains old other ≡ false → set.contains new other ≡ true → other ≢ ino
+
+-- when the request is served, inodes other than this one come besides; they cover what it moves, or the tree stays as it was
+pub record Reaches (q : Request) (ino : ℕ) (tree after : Nodes) (table : Table) (old new : InoSet) : Type 0 where
+  pub widens : Widens ino old new
+  pub covers : (after ≡ tree) ⊎ Covers q ino tree table new

@@ -1,0 +1,237 @@
+-- Events that are about one inode or about many, and how their steps end.
+use Rattle.std.specs.Prelude.{◌≡◌, ◌≤◌, ℕ, Bool, true, false, not, ◌||◌, List, Option, Some, None, Contains, IsTrue, All, if◌then◌else◌}
+use Rattle.std.specs.FinMap as map
+use Rattle.capbits.specs.declared.cap.Cap.TheVariants.{P}
+use Rattle.capbits.specs.declared.cap.Part.{Part}
+use Rattle.capbits.specs.declared.ids.ClientId.{ClientId}
+use Rattle.capbits.specs.Caps.{Caps, has}
+use Rattle.capbits.specs.Sets.{meet}
+use Rattle.inotree.specs.Calls.{forgotten}
+use Rattle.inotree.specs.Tree.{place}
+use Rattle.inotree.specs.Alike.{IsAlike}
+use Rattle.sessiontab.specs.Calls.{has_session}
+use Rattle.captable.specs.declared.entry.Entry.{Entry}
+use Rattle.captable.specs.declared.entry.EntryRow.{EntryRow}
+use Rattle.captable.specs.declared.entry.Holder.{Holder}
+use Rattle.captable.specs.Table.{Table, holder}
+use Rattle.captable.specs.Calls.{entries_on, renumbered}
+use Rattle.captable.specs.Many.{changed_where}
+use Rattle.lockmachine.specs.declared.request.Ask.{Ask}
+use Rattle.lockmachine.specs.declared.request.Ask.TheVariants.{Get, Alter, Unlink, Rmdir, Rename}
+use Rattle.lockmachine.specs.Elsewhere.{IsSameBut, IsSameOutside}
+use Rattle.lockmachine.specs.Wants.{effective_want}
+use Rattle.lockmachine.specs.Requests.{first_for}
+use Rattle.lockmachine.specs.Locks.{lock_at, without_ino}
+use Rattle.lockmachine.specs.Scene.{Scene, told_set}
+use Rattle.lockmachine.specs.Rows.{IsInRow}
+use Rattle.lockmachine.specs.Turns.{WaitAt}
+use Rattle.capevents.specs.declared.event.Event.{Event}
+use Rattle.capevents.specs.declared.event.Event.TheVariants as event
+use Rattle.capsteps.specs.Finish.{issue_row, is_kept}
+use Rattle.capsteps.specs.Settle.{Made, Settles}
+use Rattle.capsteps.specs.State.{State}
+
+-- who asks, and of which inode, where the event is about one that is there already: about an entry on it, or about what it keeps
+abbrev pub touched_by : Event → Option Holder
+touched_by (event.Session client caller grants) = None
+touched_by (event.CloseSession client) = None
+touched_by (event.Stale client) = None
+touched_by (event.Renew client) = None
+touched_by (event.Regrant client grants) = None
+touched_by (event.Evict client) = None
+touched_by (event.Unblock client) = None
+touched_by (event.Recall count) = None
+touched_by (event.Lookup client dir name) = None
+touched_by (event.Create client dir name mode) = None
+touched_by (event.Mkdir client dir name mode) = None
+touched_by (event.MakeSnapshot client ino name) = None
+touched_by (event.RemoveSnapshot client ino name) = None
+touched_by (event.Open client ino mode) = Some (holder client ino)
+touched_by (event.Want client ino caps) = Some (holder client ino)
+touched_by (event.Ack client ino seq) = Some (holder client ino)
+touched_by (event.Release client ino caps) = Some (holder client ino)
+touched_by (event.Get client ino part) = Some (holder client ino)
+touched_by (event.Alter client ino change) = Some (holder client ino)
+touched_by (event.Unlink client ino) = Some (holder client ino)
+touched_by (event.Rmdir client ino) = Some (holder client ino)
+touched_by (event.Rename client ino dir name) = Some (holder client ino)
+touched_by (event.Flush client ino change) = Some (holder client ino)
+touched_by (event.Poll client max) = None
+
+-- whose session an event ends, makes stale or renews, or whose grants it replaces
+abbrev pub turned_by : Event → Option ClientId
+turned_by (event.Session client caller grants) = None
+turned_by (event.CloseSession client) = Some client
+turned_by (event.Stale client) = Some client
+turned_by (event.Renew client) = Some client
+turned_by (event.Regrant client grants) = Some client
+turned_by (event.Evict client) = Some client
+turned_by (event.Unblock client) = None
+turned_by (event.Recall count) = None
+turned_by (event.Lookup client dir name) = None
+turned_by (event.Create client dir name mode) = None
+turned_by (event.Mkdir client dir name mode) = None
+turned_by (event.MakeSnapshot client ino name) = None
+turned_by (event.RemoveSnapshot client ino name) = None
+turned_by (event.Open client ino mode) = None
+turned_by (event.Want client ino caps) = None
+turned_by (event.Ack client ino seq) = None
+turned_by (event.Release client ino caps) = None
+turned_by (event.Get client ino part) = None
+turned_by (event.Alter client ino change) = None
+turned_by (event.Unlink client ino) = None
+turned_by (event.Rmdir client ino) = None
+turned_by (event.Rename client ino dir name) = None
+turned_by (event.Flush client ino change) = None
+turned_by (event.Poll client max) = None
+
+-- of an event that waits for a lock, who asks, of which inode, and what
+abbrev pub asks_for : Event → Option (Holder × Ask)
+asks_for (event.Session client caller grants) = None
+asks_for (event.CloseSession client) = None
+asks_for (event.Stale client) = None
+asks_for (event.Renew client) = None
+asks_for (event.Regrant client grants) = None
+asks_for (event.Evict client) = None
+asks_for (event.Unblock client) = None
+asks_for (event.Recall count) = None
+asks_for (event.Lookup client dir name) = None
+asks_for (event.Create client dir name mode) = None
+asks_for (event.Mkdir client dir name mode) = None
+asks_for (event.MakeSnapshot client ino name) = None
+asks_for (event.RemoveSnapshot client ino name) = None
+asks_for (event.Open client ino mode) = None
+asks_for (event.Want client ino caps) = None
+asks_for (event.Ack client ino seq) = None
+asks_for (event.Release client ino caps) = None
+asks_for (event.Get client ino part) = Some (holder client ino, Get part)
+asks_for (event.Alter client ino change) = Some (holder client ino, Alter change)
+asks_for (event.Unlink client ino) = Some (holder client ino, Unlink)
+asks_for (event.Rmdir client ino) = Some (holder client ino, Rmdir)
+asks_for (event.Rename client ino dir name) = Some (holder client ino, Rename dir name)
+asks_for (event.Flush client ino change) = None
+asks_for (event.Poll client max) = None
+
+-- the event is answered with a list: of messages, or of who is asked to give back
+abbrev pub is_listing : Event → Bool
+is_listing (event.Session client caller grants) = false
+is_listing (event.CloseSession client) = false
+is_listing (event.Stale client) = false
+is_listing (event.Renew client) = false
+is_listing (event.Regrant client grants) = false
+is_listing (event.Evict client) = false
+is_listing (event.Unblock client) = false
+is_listing (event.Recall count) = true
+is_listing (event.Lookup client dir name) = false
+is_listing (event.Create client dir name mode) = false
+is_listing (event.Mkdir client dir name mode) = false
+is_listing (event.MakeSnapshot client ino name) = false
+is_listing (event.RemoveSnapshot client ino name) = false
+is_listing (event.Open client ino mode) = false
+is_listing (event.Want client ino caps) = false
+is_listing (event.Ack client ino seq) = false
+is_listing (event.Release client ino caps) = false
+is_listing (event.Get client ino part) = false
+is_listing (event.Alter client ino change) = false
+is_listing (event.Unlink client ino) = false
+is_listing (event.Rmdir client ino) = false
+is_listing (event.Rename client ino dir name) = false
+is_listing (event.Flush client ino change) = false
+is_listing (event.Poll client max) = true
+
+-- ---- what they leave
+
+-- an entry on the inode, as the event leaves it: all that every state keeps of one, but that what is due need not be held yet; the
+-- pin, where it is not held, is due
+pub record IsTouchedEntry (s : Scene) (row : EntryRow) : Type 0 where
+  pub of_session : IsTrue (has_session s.sessions row.holder.client.0)
+  pub on_inode : IsTrue (map.contains_key s.tree.nodes row.holder.ino.0)
+  pub wants_pin : IsTrue (has row.entry.want P)
+  pub pin : IsTrue (has row.entry.held P || has (effective_want s.fs s.tree s.sessions row) P)
+  pub in_row : (part : Part) → IsInRow s row part
+  pub told : row.entry.told_seq ≤ row.entry.seq
+  pub revoked : row.entry.revoke_seq ≤ row.entry.seq
+
+-- right after the event the state differs from the old one at these inodes alone: in their entries, in who waits for their locks,
+-- in what they are, in the sessions of clients that have no entry on another, and in what clients are still to be told
+pub record Touches (from : ℕ → Bool) (old touched : State) : Type 0 where
+  pub same : IsSameOutside from old.scene touched.scene
+  -- no lock has moved yet
+  pub states : touched.scene.locks.states ≡ old.scene.locks.states
+  -- the same inodes are there, each with its locks and no others
+  pub known : (other : ℕ) → map.contains_key touched.scene.tree.nodes other ≡ map.contains_key old.scene.tree.nodes other
+  pub locked : (other : ℕ) → map.contains_key touched.scene.locks.states other ≡ map.contains_key touched.scene.tree.nodes other
+  -- who waits or is still to be told has a session, and who waits at one of these, waits for a lock that is there
+  pub waiting : All (λ q. IsTrue (has_session touched.scene.sessions q.client.0)) touched.scene.locks.queue
+  pub messages : All (λ m. IsTrue (has_session touched.scene.sessions m.client.0)) touched.messages
+  pub at_lock : (ino : ℕ) (part : Part) → from ino ≡ true → lock_at touched.scene.locks ino part ≡ None →
+      first_for touched.scene.locks.queue ino part ≡ None
+  pub each : (row : EntryRow) → Contains touched.scene.table.rows row → from row.holder.ino.0 ≡ true → IsTouchedEntry touched.scene row
+  -- where an entry has not its pin yet, all who wait are held up, so that nobody is served before it has
+  pub calm : (row : EntryRow) → Contains touched.scene.table.rows row → has row.entry.held P ≡ false → WaitAt (λ ino. false) touched.scene
+
+-- the event is about one inode: it leaves sessions and messages, and leads to this scene
+pub record TouchesOne (ino : ℕ) (old : State) (first : Scene) : Type 0 where
+  pub same : IsSameBut ino old.scene first
+  pub states : first.locks.states ≡ old.scene.locks.states
+  pub known : (other : ℕ) → map.contains_key first.tree.nodes other ≡ map.contains_key old.scene.tree.nodes other
+  pub locked : (other : ℕ) → map.contains_key first.locks.states other ≡ map.contains_key first.tree.nodes other
+  pub waiting : All (λ q. IsTrue (has_session first.sessions q.client.0)) first.locks.queue
+  pub at_lock : (part : Part) → lock_at first.locks ino part ≡ None → first_for first.locks.queue ino part ≡ None
+  pub each : All (IsTouchedEntry first) (entries_on first.table (record { 0 = ino }))
+  pub calm : (row : EntryRow) → Contains first.table.rows row → has row.entry.held P ≡ false → WaitAt (λ ino. false) first
+
+-- ---- how their steps end
+
+-- The inodes that a step touches are those of its event and, where some were moved, those at or below them that somebody has an
+-- entry on.
+
+-- off these inodes the locks are the same in both scenes, so is where inodes stand, and so is of each that somebody has an entry
+-- on its path, its owner, its group and its mode. Entries and sessions are as they were
+pub record IsSameOff (at : ℕ → Bool) (old new : Scene) : Type 0 where
+  pub fs : new.fs ≡ old.fs
+  pub sessions : new.sessions ≡ old.sessions
+  pub table : new.table ≡ old.table
+  pub locks : (other : ℕ) (part : Part) → at other ≡ false → lock_at new.locks other part ≡ lock_at old.locks other part
+  pub places : (other : ℕ) → at other ≡ false → place new.tree.nodes other ≡ place old.tree.nodes other
+  pub alike : (row : EntryRow) → Contains old.table.rows row → at row.holder.ino.0 ≡ false → IsAlike old.tree new.tree row.holder.ino.0
+
+-- by these moves the locks have settled, and nothing has changed but at these inodes, among which are those of the event
+pub record SettlesAt (at from : ℕ → Bool) (moves : List Made) (first settled : Scene) : Type 0 where
+  pub settles : Settles first moves settled
+  pub among : (ino : ℕ) → from ino ≡ true → at ino ≡ true
+  pub same : IsSameOff at first settled
+
+-- what was known of these entries when the event came, so far as they still hold it
+abbrev pub Knows : (Holder → Caps) → Scene → Table → Type 0
+Knows known old table = (row : EntryRow) → Contains table.rows row → meet (known row.holder) row.entry.held ≡ told_set old row
+
+-- what the entry's client is to know of at the end
+abbrev pub told_then : Scene → EntryRow → Caps
+told_then settled row = told_set settled (issue_row settled row)
+
+-- the entry at the end: it gains what is due, and has a new number if its client is to know of another set than was known when
+-- the event came, so far as it still held that right after the event
+abbrev pub finished_entry : (Holder → Caps) → Scene → EntryRow → Entry
+finished_entry known settled row =
+    renumbered (meet (known row.holder) row.entry.held) (told_then settled row) (issue_row settled row).entry
+
+-- the inode goes with its locks, if it is a stray that nobody has an entry on
+abbrev pub forget_at : ℕ → Scene → Scene
+forget_at ino s = if is_kept s ino then s else record s { tree = forgotten s.tree ino; locks = without_ino s.locks ino }
+
+-- the inode is none of these, or it is kept
+abbrev pub stays : (ℕ → Bool) → Scene → ℕ → Bool
+stays at s ino = not (at ino) || is_kept s ino
+
+-- so goes each of these, all at once
+abbrev pub forget_among : (ℕ → Bool) → Scene → Scene
+forget_among at s = record s {
+  tree = record s.tree { nodes = map.retain_keys s.tree.nodes (stays at s) };
+  locks = record s.locks { states = map.retain_keys s.locks.states (stays at s) };
+}
+
+-- the end of the step, at these inodes alone
+abbrev pub finished_at : (ℕ → Bool) → (Holder → Caps) → Scene → Scene
+finished_at at known settled =
+    forget_among at (record settled { table = changed_where (λ row. at row.holder.ino.0) (finished_entry known settled) settled.table })

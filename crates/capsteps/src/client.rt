@@ -1,0 +1,284 @@
+//! Steps by which a client's session ends, becomes stale, is open again or has other grants.
+ghost use Rattle.std.specs.Prelude.{Some, ◌≡◌, ◌+◌, ◌≤◌, ◌<◌, ◌++◌, true, [], ◌∷◌, None, All, Contains, length, map as each, IfOk, OnOk, OnErr, vec_capacity};
+ghost use Rattle.std.specs.HashMap.{get};
+ghost use Rattle.capbits.specs.Refusal.{first_failing};
+ghost use Rattle.sessiontab.specs.Calls.{with_grants};
+ghost use Rattle.sessiontab.specs.Tests.{connected_test};
+ghost use Rattle.captable.specs.declared.entry.EntryRow.{EntryRow};
+ghost use Rattle.captable.specs.declared.entry.Entry.{Entry};
+ghost use Rattle.captable.specs.declared.entry.Holder.{Holder};
+ghost use Rattle.captable.specs.Table.{same, entry_at};
+ghost use Rattle.captable.specs.Calls.{is_of_client};
+ghost use Rattle.lockmachine.specs.declared.request.Request.{Request};
+ghost use Rattle.lockmachine.specs.Locks.{requests_of, without_requests_of};
+ghost use Rattle.lockmachine.specs.Requests.{is_of_client as is_asked_by};
+ghost use Rattle.capnotes.specs.Noted.{HavePlaces};
+ghost use Rattle.capsteps.specs.Direct.{dropped_of};
+ghost use Rattle.capsteps.specs.Serves.{is_touched};
+ghost use Rattle.capsteps.specs.Sweep.{Widens};
+ghost use Rattle.capsteps.specs.Turn.{Notes, ReachesClient, turn_tests, turned_sessions, is_end};
+ghost use Rattle.capsteps.specs.Turn as words;
+
+use crate::ended::close_dropped;
+use crate::endings::Endings;
+use crate::known::Known;
+use crate::said::Said;
+use crate::settle::end_at;
+use crate::stop::Stop;
+use capbits::{ClientId, Ino, Refusal};
+use capevents::{Ended, Outcome, Reply};
+use capnotes::{ChangeList, InoSet, Messages};
+use capspec::Grants;
+use captable::CapTable;
+use capview::ViewChange;
+use inotree::ROOT;
+use lockmachine::Locks;
+use sessiontab::Sessions;
+use std::alloc::{AllocError, Global};
+
+/// What becomes of a client's session.
+#[derive(Clone, Copy)]
+pub enum Turn<'a> {
+    // The client ends it.
+    Close,
+    // It is stale.
+    Stale,
+    // It is open again.
+    Renew,
+    // It has these grants in place of those that it had.
+    Regrant(&'a Grants),
+    // The client is thrown out.
+    Evict,
+}
+
+/// What the step takes, made before anything changes.
+#[derive(Drop)]
+pub struct Room {
+    /// Each inode that the client has an entry on or waits for, but for the root.
+    pub others: InoSet,
+    /// A list with a place for each request that waits: of those that are dropped, of which nobody is told.
+    pub dropped: Messages,
+}
+
+// ---- the session
+
+/// The first test that fails.
+pub fn turn_refusal(sessions: &Sessions, client: ClientId, turn: Turn) -> Option<Refusal>
+    ensures { result ≡ first_failing (turn_tests sessions.now client turn.entry) }
+{
+    match turn {
+        Turn::Close => sessions.connected_refusal(client),
+        Turn::Stale => sessions.session_refusal(client),
+        Turn::Renew => sessions.renew_refusal(client),
+        Turn::Regrant(_grants) => sessions.connected_refusal(client),
+        Turn::Evict => sessions.evict_refusal(client),
+    }
+}
+
+/// The session ends, or has another status or other grants. An eviction takes memory, and so do grants, which are copied: for
+/// want of it nothing changes.
+pub fn turn_session(sessions: &mut Sessions, client: ClientId, turn: Turn) -> Result<(), AllocError>
+    requires passed { first_failing (turn_tests sessions.old client turn) ≡ None }
+    ensures ok { OnOk result (sessions.new ≡ turned_sessions sessions.old client turn.entry) }
+    ensures err { OnErr result (sessions.new ≡ sessions.old) }
+{
+    match turn {
+        Turn::Close => sessions.close_session(client),
+        Turn::Stale => sessions.mark_stale(client),
+        Turn::Renew => sessions.renew(client),
+        Turn::Regrant(grants) => regrant(sessions, client, grants)?,
+        Turn::Evict => sessions.evict(client)?,
+    }
+    Ok(())
+}
+
+// The client's session has a copy of these grants in place of those that it had. For want of memory nothing changes.
+fn regrant(sessions: &mut Sessions, client: ClientId, grants: &Grants) -> Result<(), AllocError>
+    requires passed { first_failing (connected_test sessions.old client.0 ∷ []) ≡ None }
+    ensures ok { OnOk result (sessions.new ≡ with_grants sessions.old client.0 grants.now) }
+    ensures err { OnErr result (sessions.new ≡ sessions.old) }
+{
+    let copy = grants.copy()?;
+    let Ok(()) = sessions.regrant(client, copy) else {
+        unreachable!()
+    };
+    Ok(())
+}
+
+// ---- what goes with it
+
+/// Where the session ends, takes out all that is the client's, and lists its requests as dropped.
+pub fn leave(
+    table: &mut CapTable,
+    known: &mut Known,
+    locks: &mut Locks,
+    messages: &mut Messages,
+    client: ClientId,
+    turn: Turn,
+    dropped: &mut Messages,
+)
+    requires room { length dropped.old.items + length locks.old.queue ≤ dropped.old.room }
+    ensures table { table.new ≡ words.table_left (is_end turn.entry) table.old client }
+    ensures known { (k : Holder) (e : Entry) → entry_at table.new k ≡ Some e → get same known.new.sets k ≡ get same known.old.sets k }
+    ensures locks { locks.new ≡ words.locks_left (is_end turn.entry) locks.old client }
+    ensures messages { messages.new.items ≡ words.messages_left (is_end turn.entry) messages.old.items client }
+    ensures left { messages.new.room ≡ messages.old.room }
+    ensures dropped { dropped.new.items ≡ dropped.old.items ++ words.dropped_by (is_end turn.entry) locks.old client }
+    ensures room { length dropped.new.items + length locks.new.queue ≤ dropped.new.room }
+{
+    match turn {
+        Turn::Close | Turn::Evict => {
+            known.remove_client(table, client);
+            table.drop_client(client);
+            messages.remove_to(client);
+            drop_requests(locks, client, dropped);
+        }
+        Turn::Stale | Turn::Renew | Turn::Regrant(_) => {}
+    }
+}
+
+// Takes the client's requests out, and lists them, the oldest first.
+fn drop_requests(locks: &mut Locks, client: ClientId, dropped: &mut Messages)
+    requires room { length dropped.old.items + length locks.old.queue ≤ dropped.old.room }
+    ensures locks { locks.new ≡ without_requests_of locks.old client }
+    ensures dropped { dropped.new.items ≡ dropped.old.items ++ each dropped_of (requests_of locks.old client) }
+    ensures room { length dropped.new.items + length locks.new.queue ≤ dropped.new.room }
+{
+    for request in locks.requests() {
+        if request.client.0 == client.0 {
+            let (ticket, outcome) = (request.ticket, Outcome::Dropped);
+            dropped.push(Ended {
+                client,
+                ticket,
+                outcome,
+            });
+        }
+    }
+    locks.drop_requests_of(client);
+}
+
+// ---- room
+
+impl Room {
+    /// All inodes where the client is, and room for each request that waits. What the step lists begins with what becomes of the
+    /// session.
+    pub fn new(
+        alloc: Global,
+        table: &CapTable,
+        locks: &Locks,
+        client: ClientId,
+        turn: Turn,
+        endings: &mut Endings,
+    ) -> Result<Room, AllocError>
+        ensures reaches { IfOk result (λ room. ReachesClient 1 client table.now locks.now room.others) }
+        ensures told { OnOk result ((endings.new.told.items ≡ []) × (length locks.now.queue ≤ endings.new.told.room)) }
+        ensures kept { OnOk result ((endings.new.kept.items ≡ []) × (length locks.now.queue ≤ endings.new.kept.room)) }
+        ensures sized { OnOk result ((endings.new.sized.items ≡ []) × (length locks.now.queue ≤ vec_capacity endings.new.sized)) }
+        ensures dropped { IfOk result (λ room. (room.dropped.items ≡ []) × (length locks.now.queue ≤ room.dropped.room)) }
+        ensures places { IfOk result (λ room. HavePlaces endings.new.changes locks.now room.others) }
+        ensures lead { OnOk result (Notes endings.new.changes.items client turn.entry) }
+    {
+        let others = reach_client(alloc, table, locks, client)?;
+        let waiting = locks.waiting();
+        let places = waiting + others.len() + 2;
+        if let Err(refused) = begin_turn(endings, waiting, places, client, turn) {
+            drop(others);
+            return Err(refused);
+        }
+        match Messages::with_room(alloc, waiting) {
+            Ok(dropped) => Ok(Room { others, dropped }),
+            Err(refused) => {
+                drop(others);
+                Err(refused)
+            }
+        }
+    }
+}
+
+// No request that ended, and room for so many; and it is noted what becomes of the session, with room for so many changes.
+fn begin_turn(
+    endings: &mut Endings,
+    waiting: usize,
+    places: usize,
+    client: ClientId,
+    turn: Turn,
+) -> Result<(), AllocError>
+    requires place { 1 ≤ places }
+    ensures told { OnOk result ((endings.new.told.items ≡ []) × (waiting ≤ endings.new.told.room)) }
+    ensures kept { OnOk result ((endings.new.kept.items ≡ []) × (waiting ≤ endings.new.kept.room)) }
+    ensures sized { OnOk result ((endings.new.sized.items ≡ []) × (waiting ≤ vec_capacity endings.new.sized)) }
+    ensures places { OnOk result ((length endings.new.changes.items ≤ 1) × (places ≤ endings.new.changes.room)) }
+    ensures lead { OnOk result (Notes endings.new.changes.items client turn.entry) }
+{
+    endings.begin(waiting, places)?;
+    note_turn(&mut endings.changes, client, turn)
+}
+
+// Notes what becomes of the session. Other grants are copied, which takes memory.
+fn note_turn(changes: &mut ChangeList, client: ClientId, turn: Turn) -> Result<(), AllocError>
+    requires none { changes.old.items ≡ [] }
+    requires place { length changes.old.items < changes.old.room }
+    ensures lead { OnOk result (Notes changes.new.items client turn.entry) }
+    ensures count { length changes.new.items ≤ 1 }
+    ensures room { changes.old.room ≤ changes.new.room }
+{
+    match turn {
+        Turn::Close | Turn::Evict => changes.push(ViewChange::Ended { client }),
+        Turn::Stale | Turn::Renew => {}
+        Turn::Regrant(grants) => changes.push(ViewChange::of_regrant(client, grants)?),
+    }
+    Ok(())
+}
+
+// Each inode that the client has an entry on or waits for, but for the root.
+fn reach_client(
+    alloc: Global,
+    table: &CapTable,
+    locks: &Locks,
+    client: ClientId,
+) -> Result<InoSet, AllocError>
+    ensures { IfOk result (λ others. ReachesClient 1 client table.now locks.now others) }
+{
+    let mut others = InoSet::new(alloc);
+    reach_entries(table, client, &mut others)?;
+    reach_requests(locks, client, &mut others)?;
+    Ok(others)
+}
+
+// Adds each inode that the client has an entry on, but for the root.
+fn reach_entries(table: &CapTable, client: ClientId, others: &mut InoSet) -> Result<(), AllocError>
+    ensures widens { Widens 1 others.old others.new }
+    ensures reaches { OnOk result ((row : EntryRow) → Contains table.now.rows row → is_of_client client row ≡ true
+        → is_touched 1 others.new row.holder.ino.0 ≡ true) }
+{
+    let mut walk = table.entries_of(client);
+    'rows: while let Some(row) = walk.next() {
+        add_other(row.holder.ino, others)?;
+    }
+    Ok(())
+}
+
+// Adds each inode that the client waits for, but for the root.
+fn reach_requests(locks: &Locks, client: ClientId, others: &mut InoSet) -> Result<(), AllocError>
+    ensures widens { Widens 1 others.old others.new }
+    ensures reaches { OnOk result ((q : Request) → Contains locks.now.queue q → is_asked_by client q ≡ true
+        → is_touched 1 others.new q.ino.0 ≡ true) }
+{
+    for request in locks.requests() {
+        if request.client.0 == client.0 {
+            add_other(request.ino, others)?;
+        }
+    }
+    Ok(())
+}
+
+// Adds the inode, if it is not the root.
+fn add_other(ino: Ino, others: &mut InoSet) -> Result<(), AllocError>
+    ensures widens { Widens 1 others.old others.new }
+    ensures reaches { OnOk result (is_touched 1 others.new ino.0 ≡ true) }
+{
+    if ino == ROOT {
+        return Ok(());
+    }
+    others.insert(ino)
+}

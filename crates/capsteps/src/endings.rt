@@ -1,0 +1,115 @@
+//! The requests that a step ends.
+ghost use Rattle.std.specs.Prelude.{◌≡◌, ◌+◌, ◌≤◌, ◌<◌, ◌++◌, [], ◌∷◌, length, OnOk, vec_capacity};
+ghost use Rattle.std.specs.List.{filter_map};
+
+use crate::serving::Served;
+use capbits::{ClientId, Ino, Ticket};
+use capevents::Ended;
+use capnotes::{ChangeList, Messages};
+use std::alloc::{AllocError, Global};
+use std::fmt;
+
+/// The requests that a step ends: once to be told to their clients, and once for the history; the inodes whose sizes they
+/// changed; and what the step changes of what readers see. Between steps their room alone is of use, and is no part of a state.
+pub struct Endings {
+    pub told: Messages,
+    pub kept: Messages,
+    pub sized: Vec<Ino>,
+    pub changes: ChangeList,
+}
+
+// By hand, so that whoever lets one go has one call to prove.
+impl Drop for Endings {
+    fn drop(self) {
+        let Endings {
+            told: _,
+            kept: _,
+            sized: _,
+            changes: _,
+        } = self;
+    }
+}
+
+// Tells nothing of the room that is kept, of which an event that finds no memory may leave less.
+impl fmt::Debug for Endings {
+    fn fmt<W: fmt::Write>(&self, f: &mut fmt::Formatter<W>) -> fmt::Result {
+        f.debug_struct("Endings").finish_non_exhaustive()
+    }
+}
+
+impl Endings {
+    /// No request and no change, and no room.
+    pub fn new(alloc: Global) -> Endings {
+        Endings {
+            told: Messages::new(alloc),
+            kept: Messages::new(alloc),
+            sized: Vec::new(alloc),
+            changes: ChangeList::new(alloc),
+        }
+    }
+
+    /// No request and no change, and room for so many requests and so many changes.
+    pub fn begin(&mut self, room: usize, places: usize) -> Result<(), AllocError>
+        ensures told { OnOk result ((self.new.told.items ≡ []) × (room ≤ self.new.told.room)) }
+        ensures kept { OnOk result ((self.new.kept.items ≡ []) × (room ≤ self.new.kept.room)) }
+        ensures sized { OnOk result ((self.new.sized.items ≡ []) × (room ≤ vec_capacity self.new.sized)) }
+        ensures changes { OnOk result ((self.new.changes.items ≡ []) × (places ≤ self.new.changes.room)) }
+    {
+        self.told.clear();
+        self.kept.clear();
+        if !self.sized.is_empty() {
+            self.sized.clear();
+        }
+        // Mostly nobody waits.
+        if room != 0 {
+            self.told.reserve(room)?;
+            self.kept.reserve(room)?;
+            self.sized.reserve(room)?;
+        }
+        self.changes.begin(places)
+    }
+
+    /// The allocator of the lists.
+    pub fn alloc(&self) -> Global {
+        self.told.alloc()
+    }
+
+    /// A client's request with this number ended so, and changed the size of this inode, if of any.
+    pub fn push(&mut self, client: ClientId, ticket: Ticket, served: Served, sized: Option<Ino>)
+        requires told { length self.old.told.items < self.old.told.room }
+        requires kept { length self.old.kept.items < self.old.kept.room }
+        requires sized { length self.old.sized.items < vec_capacity self.old.sized }
+        ensures told { self.new.told.items ≡ self.old.told.items ++ record { client = client; ticket = ticket; outcome = served.outcome } ∷ [] }
+        ensures kept { self.new.kept.items ≡ self.old.kept.items ++ record { client = client; ticket = ticket; outcome = served.kept } ∷ [] }
+        ensures sized { self.new.sized.items ≡ self.old.sized.items ++ filter_map (λ ino. ino) (sized ∷ []) }
+        ensures room { (self.old.told.room ≤ self.new.told.room) × (self.old.kept.room ≤ self.new.kept.room)
+            × (vec_capacity self.old.sized ≤ vec_capacity self.new.sized) }
+        ensures changes { self.new.changes ≡ self.old.changes }
+    {
+        let Served { outcome, kept } = served;
+        self.told.push(Ended {
+            client,
+            ticket,
+            outcome,
+        });
+        self.kept.push(Ended {
+            client,
+            ticket,
+            outcome: kept,
+        });
+        add_sized(&mut self.sized, sized);
+    }
+}
+
+// One inode more, if there is one, for which there is room.
+fn add_sized(inodes: &mut Vec<Ino>, sized: Option<Ino>)
+    requires room { length inodes.old.items < vec_capacity inodes.old }
+    ensures items { inodes.new.items ≡ inodes.old.items ++ filter_map (λ ino. ino) (sized ∷ []) }
+    ensures room { vec_capacity inodes.old ≤ vec_capacity inodes.new }
+{
+    if let Some(ino) = sized {
+        let Ok(()) = inodes.push(ino) else {
+            unreachable!()
+        };
+    }
+}

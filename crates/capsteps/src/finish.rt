@@ -1,0 +1,401 @@
+//! The end of a step at the inodes that it touched.
+ghost use Rattle.std.specs.Prelude.{◌≡◌, ◌==◌, ◌≤◌, ◌<◌, ◌^◌, ◌-◌, ◌+◌, length, ℕ, List, [], true, false, Some, IsTrue, All, IsSome, IfSome};
+ghost use Rattle.std.specs.HashMap.{get};
+ghost use Rattle.std.specs.List.{find, list_any};
+ghost use Rattle.std.specs.FinSet as set;
+ghost use Rattle.std.specs.FinMap as map;
+ghost use Rattle.std.specs.Option.{option_copied};
+ghost use Rattle.inotree.specs.Tree.{path_of};
+ghost use Rattle.sessiontab.specs.Table.{SessionTable};
+ghost use Rattle.sessiontab.specs.Calls.{has_session};
+ghost use Rattle.captable.specs.Table.{IsTable, same, is_row_of, entry_at};
+ghost use Rattle.captable.specs.Calls.{told, changed, is_of_inode, entries_on};
+ghost use Rattle.captable.specs.Many.{changed_by, changed_where};
+ghost use Rattle.lockmachine.specs.Scene.{Scene, scene};
+ghost use Rattle.capsteps.specs.Finish.{allowed_by};
+ghost use Rattle.capsteps.specs.Finishing as words;
+ghost use Rattle.capsteps.specs.Direct.{opened_as};
+ghost use Rattle.capsteps.specs.Known.{AreKnown, HaveRoom, KeptAnew, OthersHaveAll, known_in};
+ghost use Rattle.capsteps.specs.Touching.{forget_at, forget_among, finished_at, told_then};
+ghost use Rattle.capsteps.specs.Serves.{EndsAt, is_touched};
+ghost use Rattle.capnotes.specs.Noted.{LeadOn};
+
+use crate::known::Known;
+use crate::told::{lock_under, told_under};
+use arrayvec::ArrayVec;
+use capbits::{Cap, CapSet, ClientId, Ino, Part};
+use capevents::Reply;
+use capnotes::{ChangeList, InoSet};
+use capspec::FsName;
+use captable::{CapTable, Entry, EntryRow, Holder};
+use capview::ViewChange;
+use inotree::{Names, Node, Place, Tree};
+use lockmachine::{InodeLocks, Locks, permitted_and_wanted};
+use locktable::allowed;
+use sessiontab::{MAX_SESSIONS, Sessions};
+
+// ---- at the touched inodes
+
+/// Issues what is due on the touched inodes, numbers what clients are to know of, keeps that, and forgets those inodes that are
+/// strays that nobody has an entry on. The locks have settled.
+pub fn finish(
+    fs: &FsName,
+    tree: &mut Tree,
+    sessions: &Sessions,
+    table: &mut CapTable,
+    known: &mut Known,
+    locks: &mut Locks,
+    ino: Ino,
+    touched: &InoSet,
+    changes: &mut ChangeList,
+)
+    requires apart { set.contains touched.now ino.0 ≡ false }
+    requires places { length changes.old.items + set.len touched.now + 1 ≤ changes.old.room }
+    requires numbers { All (λ row. row.entry.seq < 2 ^ 64 - 1) table.old.rows }
+    requires clients { All (λ row. IsTrue (has_session sessions.now row.holder.client.0)) table.old.rows }
+    requires room { HaveRoom known.old.sets table.old }
+    ensures finished { scene fs.now tree.new sessions.now table.new locks.new
+        ≡ finished_at (is_touched ino.0 touched.now) (known_in known.old.sets) (scene fs.now tree.old sessions.now table.old locks.old) }
+    ensures known { KeptAnew (λ k. is_touched ino.0 touched.now k.ino.0) (told_then (scene fs.now tree.old sessions.now table.old locks.old))
+        table.old known.old.sets known.new.sets }
+    ensures queue { locks.new.queue ≡ locks.old.queue }
+    ensures lead { LeadOn changes.old.items changes.new.items tree.old tree.new }
+{
+    finish_touched(fs, tree, sessions, table, known, locks, touched);
+    let now = locks.of_ino(ino);
+    finish_entries(fs, tree, sessions, table, known, ino, &now);
+    forget_touched(tree, table, locks, touched, changes);
+    forget_unheld(tree, table, locks, ino, changes);
+}
+
+/// The same at the holder's inode alone, where each other entry on it has all that the end of the step would give it: only the
+/// holder's is gone through.
+pub fn finish_alone(
+    fs: &FsName,
+    tree: &mut Tree,
+    sessions: &Sessions,
+    table: &mut CapTable,
+    known: &mut Known,
+    locks: &mut Locks,
+    holder: Holder,
+    changes: &mut ChangeList,
+)
+    requires others { OthersHaveAll known.old.sets (scene fs.now tree.old sessions.now table.old locks.old) holder }
+    requires place { length changes.old.items < changes.old.room }
+    requires number { IfSome (entry_at table.old holder) (λ entry. entry.seq < 2 ^ 64 - 1) }
+    requires room { HaveRoom known.old.sets table.old }
+    ensures ends { EndsAt (λ other. other == holder.ino.0) [] known.old.sets known.new.sets
+        (scene fs.now tree.old sessions.now table.old locks.old) (scene fs.now tree.new sessions.now table.new locks.new) }
+    ensures queue { locks.new.queue ≡ locks.old.queue }
+    ensures lead { LeadOn changes.old.items changes.new.items tree.old tree.new }
+    ensures table { IsTable table.new }
+{
+    // A look at the tree, by which the proof knows what it keeps.
+    let _last = tree.last();
+    let now = locks.of_ino(holder.ino);
+    finish_holder(fs, tree, sessions, table, known, holder, &now);
+    forget_unheld(tree, table, locks, holder.ino, changes);
+    // And one at the entries.
+    let _oldest = table.oldest();
+}
+
+// Issues what is due on each inode that was touched beside the one, and numbers what its clients are to know of. Each is gone
+// through once, since an entry that was renumbered may have used up its number.
+fn finish_touched(
+    fs: &FsName,
+    tree: &Tree,
+    sessions: &Sessions,
+    table: &mut CapTable,
+    known: &mut Known,
+    locks: &Locks,
+    touched: &InoSet,
+)
+    requires numbers { All (λ row. row.entry.seq < 2 ^ 64 - 1) table.old.rows }
+    requires clients { All (λ row. IsTrue (has_session sessions.now row.holder.client.0)) table.old.rows }
+    requires room { HaveRoom known.old.sets table.old }
+    ensures table { table.new
+        ≡ changed_where (words.is_on touched.now) (words.entry_by (known_in known.old.sets) fs.now tree.now sessions.now locks.now.states) table.old }
+    ensures known { KeptAnew (λ k. set.contains touched.now k.ino.0) (words.told_by fs.now tree.now sessions.now locks.now.states)
+        table.old known.old.sets known.new.sets }
+{
+    for number in touched.numbers() {
+        let ino = Ino(*number);
+        let now = locks.of_ino(ino);
+        finish_entries(fs, tree, sessions, table, known, ino, &now);
+    }
+}
+
+// Forgets those that are strays that nobody has an entry on.
+fn forget_touched(
+    tree: &mut Tree,
+    table: &CapTable,
+    locks: &mut Locks,
+    touched: &InoSet,
+    changes: &mut ChangeList,
+)
+    requires places { length changes.old.items + set.len touched.now ≤ changes.old.room }
+    ensures left { (fs : List ℕ) (sessions : SessionTable) → scene fs tree.new sessions table.now locks.new
+        ≡ forget_among (set.contains touched.now) (scene fs tree.old sessions table.now locks.old) }
+    ensures queue { locks.new.queue ≡ locks.old.queue }
+    ensures lead { LeadOn changes.old.items changes.new.items tree.old tree.new }
+    ensures count { length changes.new.items ≤ length changes.old.items + set.len touched.now }
+    ensures room { changes.old.room ≤ changes.new.room }
+{
+    for number in touched.numbers() {
+        forget_unheld(tree, table, locks, Ino(*number), changes);
+    }
+}
+
+// ---- at one inode
+
+// Issues what is due on the inode, which has these locks, numbers what its clients are to know of, and keeps that.
+fn finish_entries(
+    fs: &FsName,
+    tree: &Tree,
+    sessions: &Sessions,
+    table: &mut CapTable,
+    known: &mut Known,
+    ino: Ino,
+    locks: &Option<InodeLocks>,
+)
+    requires numbers { All (λ row. row.entry.seq < 2 ^ 64 - 1) (entries_on table.old ino) }
+    requires clients { All (λ row. IsTrue (has_session sessions.now row.holder.client.0)) table.old.rows }
+    requires room { HaveRoom known.old.sets table.old }
+    ensures table { table.new
+        ≡ changed_where (is_of_inode ino) (words.entry_under (known_in known.old.sets) fs.now tree.now sessions.now locks.now) table.old }
+    ensures known { KeptAnew (λ k. k.ino.0 == ino.0) (words.told_at fs.now tree.now sessions.now locks.now)
+        table.old known.old.sets known.new.sets }
+{
+    let clients = clients_on(sessions, table, ino);
+    let numbers = clients.as_slice();
+    if numbers.is_empty() {
+        return;
+    }
+    // The names from the root are looked up once, and not for each entry.
+    let mut names = Names::new();
+    let path = tree.read_path(ino, &mut names).then_some(&names);
+    let node = tree.node(ino);
+    let mut place = table.first_place(ino);
+    for number in numbers {
+        let client = ClientId(*number);
+        let holder = Holder { client, ino };
+        finish_entry(
+            fs, tree, sessions, table, known, holder, place, path, node, locks,
+        );
+        place = table.place_after(place);
+    }
+}
+
+/// The clients with an entry on an inode, in the order of making. Each has a session, so there is room for them.
+pub fn clients_on(sessions: &Sessions, table: &CapTable, ino: Ino) -> ArrayVec<u32, MAX_SESSIONS>
+    requires { All (λ row. IsTrue (has_session sessions.now row.holder.client.0)) table.now.rows }
+    ensures clients { result.items ≡ words.clients_of (entries_on table.now ino) }
+    ensures sound { IsTable table.now }
+{
+    // Whichever session is looked up, the look-up says that there are at most `MAX_SESSIONS`.
+    let _status = sessions.status(ClientId(0));
+    let mut clients = ArrayVec::new();
+    let mut walk = table.holders_of(ino);
+    'rows: while let Some(row) = walk.next() {
+        let client = row.holder.client;
+        clients.push(client.0);
+    }
+    clients
+}
+
+// Forgets the inode and its locks, if it is a stray that nobody has an entry on, and notes that.
+fn forget_unheld(
+    tree: &mut Tree,
+    table: &CapTable,
+    locks: &mut Locks,
+    ino: Ino,
+    changes: &mut ChangeList,
+)
+    requires place { length changes.old.items < changes.old.room }
+    ensures left { (fs : List ℕ) (sessions : SessionTable) → scene fs tree.new sessions table.now locks.new
+        ≡ forget_at ino.0 (scene fs tree.old sessions table.now locks.old) }
+    ensures queue { locks.new.queue ≡ locks.old.queue }
+    ensures lead { LeadOn changes.old.items changes.new.items tree.old tree.new }
+    ensures count { length changes.new.items ≤ length changes.old.items + 1 }
+    ensures room { changes.old.room ≤ changes.new.room }
+{
+    match tree.place(ino) {
+        Place::Gone => {
+            if !is_held(table, ino) {
+                tree.forget(ino);
+                locks.drop_ino(ino);
+                changes.push(ViewChange::Forgotten { ino });
+            }
+        }
+        Place::NoIno | Place::Here => {}
+    }
+}
+
+/// Whether somebody has an entry on the inode.
+pub fn is_held(table: &CapTable, ino: Ino) -> bool
+    ensures { result ≡ list_any (is_of_inode ino) table.now.rows }
+{
+    let mut walk = table.holders_of(ino);
+    match walk.next() {
+        Some(_row) => true,
+        None => false,
+    }
+}
+
+// ---- of one entry
+
+// Issues what is due to the holder, whose inode has these locks, numbers what its client is to know of, and keeps that.
+fn finish_holder(
+    fs: &FsName,
+    tree: &Tree,
+    sessions: &Sessions,
+    table: &mut CapTable,
+    known: &mut Known,
+    holder: Holder,
+    locks: &Option<InodeLocks>,
+)
+    requires number { IfSome (entry_at table.old holder) (λ entry. entry.seq < 2 ^ 64 - 1) }
+    requires room { IsSome (entry_at table.old holder) → IsSome (get same known.old.sets holder) }
+    ensures sound { IsTable table.old }
+    ensures table { table.new
+        ≡ changed_by (words.entry_under (known_in known.old.sets) fs.now tree.now sessions.now locks.now) table.old holder }
+    ensures known { KeptAnew (λ k. same k holder) (words.told_at fs.now tree.now sessions.now locks.now) table.old known.old.sets known.new.sets }
+{
+    if let Some(entry) = table.find(holder.client, holder.ino) {
+        let mut names = Names::new();
+        let path = tree.read_path(holder.ino, &mut names).then_some(&names);
+        let node = tree.node(holder.ino);
+        let row = EntryRow { holder, entry };
+        finish_row(fs, tree, sessions, table, known, row, path, node, locks);
+    }
+}
+
+// The same, where the inode has this path and this node in the tree. The place is a guess at where the holder's entry stands.
+fn finish_entry(
+    fs: &FsName,
+    tree: &Tree,
+    sessions: &Sessions,
+    table: &mut CapTable,
+    known: &mut Known,
+    holder: Holder,
+    place: usize,
+    path: Option<&Names<'_>>,
+    node: Option<&Node>,
+    locks: &Option<InodeLocks>,
+)
+    requires path { option_copied path ≡ path_of tree.now.nodes holder.ino.0 }
+    requires node { option_copied node ≡ map.get tree.now.nodes holder.ino.0 }
+    requires number { IfSome (entry_at table.old holder) (λ entry. entry.seq < 2 ^ 64 - 1) }
+    requires room { IsSome (entry_at table.old holder) → IsSome (get same known.old.sets holder) }
+    ensures table { table.new
+        ≡ changed_by (words.entry_under (known_in known.old.sets) fs.now tree.now sessions.now locks.now) table.old holder }
+    ensures known { KeptAnew (λ k. same k holder) (words.told_at fs.now tree.now sessions.now locks.now) table.old known.old.sets known.new.sets }
+{
+    if let Some(entry) = table.find_near(holder.client, holder.ino, place) {
+        let row = EntryRow { holder, entry };
+        finish_row(fs, tree, sessions, table, known, row, path, node, locks);
+    }
+}
+
+// The same of an entry that is there.
+fn finish_row(
+    fs: &FsName,
+    tree: &Tree,
+    sessions: &Sessions,
+    table: &mut CapTable,
+    known: &mut Known,
+    row: EntryRow,
+    path: Option<&Names<'_>>,
+    node: Option<&Node>,
+    locks: &Option<InodeLocks>,
+)
+    requires there { entry_at table.old row.holder ≡ Some row.entry }
+    requires path { option_copied path ≡ path_of tree.now.nodes row.holder.ino.0 }
+    requires node { option_copied node ≡ map.get tree.now.nodes row.holder.ino.0 }
+    requires number { row.entry.seq < 2 ^ 64 - 1 }
+    requires room { IsSome (get same known.old.sets row.holder) }
+    ensures table { table.new
+        ≡ changed_by (words.entry_under (known_in known.old.sets) fs.now tree.now sessions.now locks.now) table.old row.holder }
+    ensures known { KeptAnew (λ k. same k row.holder) (words.told_at fs.now tree.now sessions.now locks.now)
+        table.old known.old.sets known.new.sets }
+{
+    let (permitted, wanted) = permitted_and_wanted(fs, sessions, row, path, node);
+    let due = wanted.meet(allowed_under(&row, locks));
+    let told = told_under(&with_issued(&row, due), permitted, locks);
+    let before = known.put(row.holder, told);
+    issue(table, &row, due, before, told);
+}
+
+// Issues this to the entry's client, and numbers what it is to know of, where that is told now and was known before the event.
+fn issue(table: &mut CapTable, row: &EntryRow, due: CapSet, known: CapSet, told: CapSet)
+    requires there { entry_at table.old row.now.holder ≡ Some row.now.entry }
+    requires room { row.now.entry.seq < 2 ^ 64 - 1 }
+    ensures { table.new ≡ changed table.old row.now.holder (λ _. words.numbered_as known told due row.now) }
+{
+    let (client, ino) = (row.holder.client, row.holder.ino);
+    let before = known.meet(row.entry.held);
+    // Most entries of an inode stay as they are.
+    let unheld = due.minus(row.entry.held);
+    let (lost, gained) = (before.minus(told), told.minus(before));
+    if unheld.is_empty() && lost.is_empty() && gained.is_empty() {
+        return;
+    }
+    table.issue_numbered(client, ino, due, before, told);
+}
+
+// The entry, with more held.
+fn with_issued(row: &EntryRow, due: CapSet) -> EntryRow
+    ensures { result ≡ words.with_issued due row.now }
+{
+    let held = row.entry.held.union(due);
+    let entry = Entry { held, ..row.entry };
+    EntryRow { entry, ..*row }
+}
+
+// What these locks of the inode let the client hold, and the pin always.
+fn allowed_under(row: &EntryRow, locks: &Option<InodeLocks>) -> CapSet
+    ensures { result ≡ words.allowed_under locks.now row.now }
+{
+    let auth = allowed_part(Part::A, row, locks);
+    let link = allowed_part(Part::L, row, locks);
+    let xattr = allowed_part(Part::X, row, locks);
+    let file = allowed_part(Part::F, row, locks);
+    CapSet::of(&[Cap::P]).union(auth.union(link.union(xattr.union(file))))
+}
+
+// What they let the client hold of a part.
+fn allowed_part(part: Part, row: &EntryRow, locks: &Option<InodeLocks>) -> CapSet
+    ensures { result ≡ allowed_by part row.now (words.lock_under locks.now part) }
+{
+    match lock_under(locks, part) {
+        Some(lock) => allowed(part, lock, row.holder.client),
+        None => CapSet::empty(),
+    }
+}
+
+// ---- what is answered
+
+/// Tells the holder's client what it is to know that it holds, and answers it.
+pub fn show(table: &mut CapTable, known: &Known, holder: Holder) -> Reply
+    ensures answer { (s : Scene) → s.table ≡ table.old → AreKnown known.now.sets s
+        → result ≡ opened_as s (find (is_row_of holder) table.old.rows) }
+    ensures told { table.new ≡ changed table.old holder told }
+{
+    let reply = opened(table, known, holder);
+    table.tell(holder.client, holder.ino);
+    reply
+}
+
+// What the holder's client is to know that it holds.
+fn opened(table: &CapTable, known: &Known, holder: Holder) -> Reply
+    ensures { (s : Scene) → s.table ≡ table.now → AreKnown known.now.sets s
+        → result ≡ opened_as s (find (is_row_of holder) table.now.rows) }
+{
+    let Some(entry) = table.find(holder.client, holder.ino) else {
+        return Reply::Done;
+    };
+    Reply::Opened {
+        seq: entry.seq,
+        caps: known.of(holder),
+    }
+}

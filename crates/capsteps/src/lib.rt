@@ -1,0 +1,24 @@
+//! The pieces of a step: how an event is judged, served and settled, how a step ends, and the definitions by which it goes.
+//!
+//! The core (`capcore`) puts them together.
+#![tactic(auto)]
+
+pub mod client;
+pub mod ended;
+pub mod endings;
+pub mod finish;
+pub mod history;
+pub mod judge;
+pub mod known;
+pub mod poll;
+pub mod reach;
+pub mod said;
+pub mod serving;
+pub mod serving_laws;
+pub mod settle;
+pub mod sizes;
+pub mod start;
+pub mod stop;
+pub mod stopped;
+pub mod told;
+pub mod touch;

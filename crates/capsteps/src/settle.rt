@@ -1,0 +1,498 @@
+//! The locks settle at the inodes that a step touches, and who waits for them is served.
+ghost use Rattle.std.specs.Prelude.{◌≡◌, ◌==◌, ◌≤◌, ◌<◌, ◌^◌, ◌-◌, ◌+◌, ◌++◌, ◌∷◌, [], true, false, length, ℕ, List, Some, None, All, IsTrue, vec_capacity};
+ghost use Rattle.std.specs.FinMap as map;
+ghost use Rattle.std.specs.FinSet as set;
+ghost use Rattle.capbits.specs.declared.cap.Part.{Part};
+ghost use Rattle.inotree.specs.Tree.{Nodes};
+ghost use Rattle.sessiontab.specs.Table.{SessionTable};
+ghost use Rattle.sessiontab.specs.Calls.{has_session};
+ghost use Rattle.captable.specs.Table.{Table, IsTable};
+ghost use Rattle.lockmachine.specs.declared.request.Request.{Request};
+ghost use Rattle.lockmachine.specs.Locks.{request_at};
+ghost use Rattle.lockmachine.specs.Scene.{scene};
+ghost use Rattle.lockmachine.specs.Moves.{may_end_by, IsQuietOutside};
+ghost use Rattle.lockmachine.specs.Runs.{MoveLittle, ChangesLocksOf};
+ghost use Rattle.lockmachine.specs.Turns.{IsTurnOf, IsDue, NobodyElsewhere, WaitAt};
+ghost use Rattle.capevents.specs.declared.outcome.Ended.{Ended};
+ghost use Rattle.capnotes.specs.InoSets.{IsNext};
+ghost use Rattle.capsteps.specs.Known.{HaveRoom, OthersHaveAll};
+ghost use Rattle.capnotes.specs.Noted.{HavePlaces, LeadOn};
+ghost use Rattle.capsteps.specs.Serves.{Serves, SettlesWith, EndsAt, EndsWith, is_touched};
+ghost use Rattle.capsteps.specs.Settle.{Served as Serving, sized_by, sized_in};
+ghost use Rattle.capsteps.specs.Sweep.{AreStill, AreWalked, GoesOn, GoesOnBehind, IsFirstPlace, IsLeastOf, IsNextOf, IsSwept, Reaches, StandsAt, changed_alone};
+ghost use Rattle.capnotes.specs.Untold.{HasRoom};
+
+use crate::endings::Endings;
+use crate::finish::{finish, finish_alone};
+use crate::known::Known;
+use crate::reach::reach;
+use crate::serving::{Served, serve};
+use crate::sizes::owe_sizes;
+use capbits::{Ino, Part, Ticket};
+use capevents::Outcome;
+use capnotes::{ChangeList, InoSet};
+use capspec::FsName;
+use captable::{CapTable, Holder};
+use inotree::{Setting, Tree};
+use lockmachine::{Ask, Change, InodeLocks, Locks, Move, Request};
+use sessiontab::Sessions;
+
+/// Lets the locks settle after an event about one inode, and ends the step. The locks of every other inode are quiet.
+pub fn end_at_one(
+    fs: &FsName,
+    tree: &mut Tree,
+    sessions: &Sessions,
+    table: &mut CapTable,
+    known: &mut Known,
+    locks: &mut Locks,
+    ino: Ino,
+    endings: &mut Endings,
+)
+    requires quiet { IsQuietOutside (λ other. other == ino.0) (scene fs.now tree.old sessions.now table.old locks.old) }
+    requires none { endings.old.told.items ≡ [] }
+    requires no_sizes { endings.old.sized.items ≡ [] }
+    requires told { HasRoom endings.old.told locks.old }
+    requires kept { HasRoom endings.old.kept locks.old }
+    requires sized { length endings.old.sized.items + length locks.old.queue ≤ vec_capacity endings.old.sized }
+    requires same { endings.old.kept.items ≡ endings.old.told.items }
+    requires places { length endings.old.changes.items + length locks.old.queue + 1 ≤ endings.old.changes.room }
+    requires numbers { All (λ row. row.entry.seq < 2 ^ 64 - 1) table.old.rows }
+    requires clients { All (λ row. IsTrue (has_session sessions.now row.holder.client.0)) table.old.rows }
+    requires room { HaveRoom known.old.sets table.old }
+    ensures ends { EndsWith (λ other. other == ino.0) known.old.sets known.new.sets (scene fs.now tree.old sessions.now table.old locks.old)
+        (scene fs.now tree.new sessions.now table.new locks.new) endings.new.told.items }
+    ensures kept { endings.new.kept.items ≡ endings.new.told.items }
+    ensures lead { LeadOn endings.old.changes.items endings.new.changes.items tree.old tree.new }
+    // As many waited as wait and have ended.
+    ensures count { length endings.new.told.items + length locks.new.queue ≡ length locks.old.queue }
+    ensures table { IsTable table.new }
+{
+    let others = InoSet::new(endings.alloc());
+    end_at(
+        fs, tree, sessions, table, known, locks, ino, others, endings,
+    );
+}
+
+/// The same after an event that is about one entry, before which the state was sound.
+pub fn end_at_entry(
+    fs: &FsName,
+    tree: &mut Tree,
+    sessions: &Sessions,
+    table: &mut CapTable,
+    known: &mut Known,
+    locks: &mut Locks,
+    holder: Holder,
+    endings: &mut Endings,
+)
+    requires quiet { IsQuietOutside (λ other. other == holder.ino.0) (scene fs.now tree.old sessions.now table.old locks.old) }
+    // Each other entry on the inode has all, by the locks from before the settling.
+    requires others { OthersHaveAll known.old.sets (scene fs.now tree.old sessions.now table.old locks.old) holder }
+    requires none { endings.old.told.items ≡ [] }
+    requires no_sizes { endings.old.sized.items ≡ [] }
+    requires told { HasRoom endings.old.told locks.old }
+    requires kept { HasRoom endings.old.kept locks.old }
+    requires sized { length endings.old.sized.items + length locks.old.queue ≤ vec_capacity endings.old.sized }
+    requires same { endings.old.kept.items ≡ endings.old.told.items }
+    requires places { length endings.old.changes.items + length locks.old.queue + 1 ≤ endings.old.changes.room }
+    requires numbers { All (λ row. row.entry.seq < 2 ^ 64 - 1) table.old.rows }
+    requires clients { All (λ row. IsTrue (has_session sessions.now row.holder.client.0)) table.old.rows }
+    requires room { HaveRoom known.old.sets table.old }
+    ensures ends { EndsWith (λ other. other == holder.ino.0) known.old.sets known.new.sets
+        (scene fs.now tree.old sessions.now table.old locks.old)
+        (scene fs.now tree.new sessions.now table.new locks.new) endings.new.told.items }
+    ensures kept { endings.new.kept.items ≡ endings.new.told.items }
+    ensures lead { LeadOn endings.old.changes.items endings.new.changes.items tree.old tree.new }
+    // As many waited as wait and have ended.
+    ensures count { length endings.new.told.items + length locks.new.queue ≡ length locks.old.queue }
+    ensures table { IsTable table.new }
+{
+    let before = locks.of_ino(holder.ino);
+    let others = InoSet::new(endings.alloc());
+    let touched = settle(
+        fs, tree, sessions, table, locks, holder.ino, others, endings,
+    );
+    // Most steps of such events leave these locks as they were, and by the same locks and the same tree the others have all still.
+    if is_as_before(locks, holder.ino, &before, &touched, endings) {
+        let changes = &mut endings.changes;
+        finish_alone(fs, tree, sessions, table, known, locks, holder, changes);
+    } else {
+        end_settled(
+            fs,
+            tree,
+            sessions,
+            table,
+            known,
+            locks,
+            holder.ino,
+            &touched,
+            endings.sized.as_slice(),
+            &mut endings.changes,
+        );
+    }
+}
+
+// Whether the settling has left all as it was: nobody was served, by which the tree could have changed, no other inode was touched,
+// and the inode has the locks from before.
+fn is_as_before(
+    locks: &Locks,
+    ino: Ino,
+    before: &Option<InodeLocks>,
+    touched: &InoSet,
+    endings: &Endings,
+) -> bool
+    ensures { result ≡ true → (endings.now.told.items ≡ []) × (IsNext touched.now 0 None) × (map.get locks.now.states ino.0 ≡ before.now) }
+{
+    if !endings.told.as_slice().is_empty() {
+        return false;
+    }
+    match touched.next(Ino(0)) {
+        Some(_other) => false,
+        None => locks.of_ino(ino) == *before,
+    }
+}
+
+/// Lets the locks settle after an event, and ends the step. The event was about one inode and the others; the locks of all
+/// besides are quiet.
+pub fn end_at(
+    fs: &FsName,
+    tree: &mut Tree,
+    sessions: &Sessions,
+    table: &mut CapTable,
+    known: &mut Known,
+    locks: &mut Locks,
+    ino: Ino,
+    others: InoSet,
+    endings: &mut Endings,
+)
+    requires quiet { IsQuietOutside (is_touched ino.0 others) (scene fs.now tree.old sessions.now table.old locks.old) }
+    requires apart { set.contains others ino.0 ≡ false }
+    requires none { endings.old.told.items ≡ [] }
+    requires no_sizes { endings.old.sized.items ≡ [] }
+    requires told { HasRoom endings.old.told locks.old }
+    requires kept { HasRoom endings.old.kept locks.old }
+    requires sized { length endings.old.sized.items + length locks.old.queue ≤ vec_capacity endings.old.sized }
+    requires same { endings.old.kept.items ≡ endings.old.told.items }
+    requires places { HavePlaces endings.old.changes locks.old others }
+    requires numbers { All (λ row. row.entry.seq < 2 ^ 64 - 1) table.old.rows }
+    requires clients { All (λ row. IsTrue (has_session sessions.now row.holder.client.0)) table.old.rows }
+    requires room { HaveRoom known.old.sets table.old }
+    ensures ends { EndsWith (is_touched ino.0 others) known.old.sets known.new.sets (scene fs.now tree.old sessions.now table.old locks.old)
+        (scene fs.now tree.new sessions.now table.new locks.new) endings.new.told.items }
+    ensures kept { endings.new.kept.items ≡ endings.new.told.items }
+    ensures lead { LeadOn endings.old.changes.items endings.new.changes.items tree.old tree.new }
+    // As many waited as wait and have ended.
+    ensures count { length endings.new.told.items + length locks.new.queue ≡ length locks.old.queue }
+    ensures table { IsTable table.new }
+{
+    let touched = settle(fs, tree, sessions, table, locks, ino, others, endings);
+    end_settled(
+        fs,
+        tree,
+        sessions,
+        table,
+        known,
+        locks,
+        ino,
+        &touched,
+        endings.sized.as_slice(),
+        &mut endings.changes,
+    );
+}
+
+// Ends the step at the inodes that it touched, whose locks have settled, where the sizes of these changed.
+fn end_settled(
+    fs: &FsName,
+    tree: &mut Tree,
+    sessions: &Sessions,
+    table: &mut CapTable,
+    known: &mut Known,
+    locks: &mut Locks,
+    ino: Ino,
+    touched: &InoSet,
+    sized: &[Ino],
+    changes: &mut ChangeList,
+)
+    requires apart { set.contains touched.now ino.0 ≡ false }
+    requires places { length changes.old.items + set.len touched.now + 1 ≤ changes.old.room }
+    requires numbers { All (λ row. row.entry.seq < 2 ^ 64 - 1) table.old.rows }
+    requires clients { All (λ row. IsTrue (has_session sessions.now row.holder.client.0)) table.old.rows }
+    requires room { HaveRoom known.old.sets table.old }
+    ensures ends { EndsAt (is_touched ino.0 touched.now) sized.now known.old.sets known.new.sets
+        (scene fs.now tree.old sessions.now table.old locks.old) (scene fs.now tree.new sessions.now table.new locks.new) }
+    ensures queue { locks.new.queue ≡ locks.old.queue }
+    ensures lead { LeadOn changes.old.items changes.new.items tree.old tree.new }
+    ensures table { IsTable table.new }
+{
+    owe_sizes(sessions, table, sized);
+    // A look at the tree, by which the proof knows what it keeps.
+    let _last = tree.last();
+    finish(
+        fs, tree, sessions, table, known, locks, ino, touched, changes,
+    );
+    // And one at the entries.
+    let _oldest = table.oldest();
+}
+
+// Makes the moves, always the first that applies, until none does. Each request that is served ends, once for its client and
+// once for the history. It answers the other inodes of the event, and those that were moved with one of them.
+fn settle(
+    fs: &FsName,
+    tree: &mut Tree,
+    sessions: &Sessions,
+    table: &CapTable,
+    locks: &mut Locks,
+    ino: Ino,
+    others: InoSet,
+    endings: &mut Endings,
+) -> InoSet
+    requires quiet { IsQuietOutside (is_touched ino.0 others) (scene fs.now tree.old sessions.now table.now locks.old) }
+    requires apart { set.contains others ino.0 ≡ false }
+    requires none { endings.old.told.items ≡ [] }
+    requires no_sizes { endings.old.sized.items ≡ [] }
+    requires told { HasRoom endings.old.told locks.old }
+    requires kept { HasRoom endings.old.kept locks.old }
+    requires sized { length endings.old.sized.items + length locks.old.queue ≤ vec_capacity endings.old.sized }
+    requires same { endings.old.kept.items ≡ endings.old.told.items }
+    requires places { HavePlaces endings.old.changes locks.old others }
+    ensures settles { SettlesWith (is_touched ino.0 result) (is_touched ino.0 others)
+        (scene fs.now tree.old sessions.now table.now locks.old)
+        (scene fs.now tree.new sessions.now table.now locks.new) endings.new.told.items endings.new.sized.items }
+    ensures kept { endings.new.kept.items ≡ endings.new.told.items }
+    ensures count { length endings.new.told.items + length locks.new.queue ≡ length locks.old.queue }
+    ensures apart { set.contains result ino.0 ≡ false }
+    ensures lead { LeadOn endings.old.changes.items endings.new.changes.items tree.old tree.new }
+    ensures places { HavePlaces endings.new.changes locks.new result }
+{
+    let mut touched = others;
+    // The inodes from which a rename has walked over all below.
+    let mut walked = InoSet::new(endings.alloc());
+    end_gathers(table, locks, ino, &touched);
+    let mut place = first_place(&touched, ino);
+    'servings: while let Some(ticket) = sweep(
+        fs, tree, sessions, table, locks, ino, &touched, &mut place,
+    ) {
+        // A look at the locks and at the tree, by which the proof knows what they keep.
+        let (_lock, _last) = (locks.state(ino, Part::A), tree.last());
+        let changed = serve_next(
+            fs,
+            tree,
+            sessions,
+            table,
+            locks,
+            ino,
+            ticket,
+            &mut walked,
+            &mut touched,
+            endings,
+        );
+        place = place_behind(place, changed, &touched, ino);
+    }
+    touched
+}
+
+// ---- moves of locks
+
+// Ends the gathers of the touched inodes that may end, one inode after the other. No gather of another inode may.
+fn end_gathers(table: &CapTable, locks: &mut Locks, ino: Ino, touched: &InoSet)
+    requires elsewhere { (other : ℕ) (part : Part) → is_touched ino.0 touched.now other ≡ false
+        → may_end_by table.now locks.old (other, part) ≡ false }
+    ensures ends { (other : ℕ) (part : Part) → may_end_by table.now locks.new (other, part) ≡ false }
+    // Each is the first move that applies, whatever the tree and the sessions are.
+    ensures swept { (fs : List ℕ) (tree : Nodes) (sessions : SessionTable)
+        → WaitAt (is_touched ino.0 touched.now) (scene fs tree sessions table.now locks.old)
+        → IsSwept (is_touched ino.0 touched.now) (scene fs tree sessions table.now locks.old)
+        (scene fs tree sessions table.now locks.new) }
+{
+    let mut at = lowest(touched, ino);
+    'inodes: loop {
+        locks.end_gathers_at(table, at);
+        let Some(next) = next_touched(touched, ino, at) else {
+            return;
+        };
+        at = next;
+    }
+}
+
+/// Where a sweep over the touched inodes has come to.
+#[derive(Clone, Copy)]
+pub struct SweepPlace {
+    // The inode whose turn it is.
+    at: Ino,
+    // Whether it is known that nobody who waits at another inode may be served.
+    alone: bool,
+}
+
+// Where a sweep begins.
+fn first_place(touched: &InoSet, ino: Ino) -> SweepPlace
+    ensures { IsFirstPlace ino.0 touched.now result }
+{
+    let at = lowest(touched, ino);
+    match touched.next(Ino(0)) {
+        Some(_other) => SweepPlace { at, alone: false },
+        None => SweepPlace { at, alone: true },
+    }
+}
+
+// Where it goes on behind a serving that changed this inode alone, or that moved inodes: by the first the inodes that it has passed
+// stay as they are.
+fn place_behind(place: SweepPlace, changed: Option<Ino>, touched: &InoSet, ino: Ino) -> SweepPlace
+    ensures { GoesOnBehind place changed ino.0 touched.now result }
+{
+    match changed {
+        Some(inode) if place.at.0 <= inode.0 => place,
+        Some(_) | None => first_place(touched, ino),
+    }
+}
+
+// Lets the locks of the touched inodes move, one inode after the other, from where the sweep has come to, until a request is to be
+// served, whose number it answers, or no move applies.
+fn sweep(
+    fs: &FsName,
+    tree: &Tree,
+    sessions: &Sessions,
+    table: &CapTable,
+    locks: &mut Locks,
+    ino: Ino,
+    touched: &InoSet,
+    place: &mut SweepPlace,
+) -> Option<Ticket>
+    requires place { StandsAt (is_touched ino.0 touched.now) place.old (scene fs.now tree.now sessions.now table.now locks.old) }
+    requires still { AreStill (is_touched ino.0 touched.now) (scene fs.now tree.now sessions.now table.now locks.old) }
+    requires waits { WaitAt (is_touched ino.0 touched.now) (scene fs.now tree.now sessions.now table.now locks.old) }
+    ensures swept { IsSwept (is_touched ino.0 touched.now) (scene fs.now tree.now sessions.now table.now locks.old)
+        (scene fs.now tree.now sessions.now table.now locks.new) }
+    ensures next { GoesOn (scene fs.now tree.now sessions.now table.now locks.new) result }
+    ensures place { StandsAt (is_touched ino.0 touched.now) place.new (scene fs.now tree.now sessions.now table.now locks.new) }
+{
+    'inodes: loop {
+        if let Some(ticket) = advance(fs, tree, sessions, table, locks, *place) {
+            return Some(ticket);
+        }
+        match next_touched(touched, ino, place.at) {
+            // And nobody at all may be served.
+            Some(at) => *place = SweepPlace { at, alone: true },
+            None => return None,
+        }
+    }
+}
+
+// Lets the locks of the inode that the sweep has come to move, until a request is to be served, whose number it answers, or the
+// inode is done. Where nobody who waits at another may be served, the requests for others need not be looked at.
+fn advance(
+    fs: &FsName,
+    tree: &Tree,
+    sessions: &Sessions,
+    table: &CapTable,
+    locks: &mut Locks,
+    place: SweepPlace,
+) -> Option<Ticket>
+    requires turn { IsTurnOf (scene fs.now tree.now sessions.now table.now locks.old) place.at.0 }
+    requires alone { place.alone ≡ true → NobodyElsewhere locks.old place.at.0 }
+    ensures moves { MoveLittle (scene fs.now tree.now sessions.now table.now locks.old)
+        (scene fs.now tree.now sessions.now table.now locks.new) }
+    ensures due { IsDue (scene fs.now tree.now sessions.now table.now locks.new) place.at.0 result }
+    ensures turn { IsTurnOf (scene fs.now tree.now sessions.now table.now locks.new) place.at.0 }
+    ensures elsewhere { ChangesLocksOf place.at.0 locks.old locks.new }
+{
+    if place.alone {
+        locks.advance_alone_at(table, sessions, tree, fs, place.at)
+    } else {
+        locks.advance_at(table, sessions, tree, fs, place.at)
+    }
+}
+
+// The least of the touched inodes.
+fn lowest(touched: &InoSet, ino: Ino) -> Ino
+    ensures { IsLeastOf (is_touched ino.0 touched.now) result.0 }
+{
+    match touched.next(Ino(0)) {
+        Some(first) if first.0 < ino.0 => first,
+        Some(_) | None => ino,
+    }
+}
+
+// The next of them behind this one.
+fn next_touched(touched: &InoSet, ino: Ino, at: Ino) -> Option<Ino>
+    ensures { IsNextOf (is_touched ino.0 touched.now) at.0 result }
+{
+    match touched.after(at) {
+        Some(next) if ino.0 <= at.0 || next.0 < ino.0 => Some(next),
+        Some(_) | None if at.0 < ino.0 => Some(ino),
+        Some(_) | None => None,
+    }
+}
+
+// ---- servings
+
+// Serves the request with this number, notes what that changes for readers, and answers the inode that it changes alone. If it moves
+// its inode, each inode but the one that is at or below it and has entries is touched; for want of memory for that it ends so.
+fn serve_next(
+    fs: &FsName,
+    tree: &mut Tree,
+    sessions: &Sessions,
+    table: &CapTable,
+    locks: &mut Locks,
+    ino: Ino,
+    ticket: Ticket,
+    walked: &mut InoSet,
+    touched: &mut InoSet,
+    endings: &mut Endings,
+) -> Option<Ino>
+    requires walked { AreWalked walked.old ino.0 tree.old table.now touched.old }
+    requires waits { (q : Request) × (request_at locks.old ticket.0 ≡ Some q) }
+    requires told { length endings.old.told.items < endings.old.told.room }
+    requires kept { length endings.old.kept.items < endings.old.kept.room }
+    requires sized { length endings.old.sized.items < vec_capacity endings.old.sized }
+    requires place { length endings.old.changes.items < endings.old.changes.room }
+    ensures served { (ended : Ended) × ((some : Table) → Serves (scene fs.now tree.old sessions.now some locks.old) ticket ended
+        (scene fs.now tree.new sessions.now some locks.new))
+        × (endings.new.told.items ≡ endings.old.told.items ++ ended ∷ [])
+        × (endings.new.kept.items ≡ endings.old.kept.items ++ ended ∷ [])
+        × ((q : Request) → request_at locks.old ticket.0 ≡ Some q
+        → endings.new.sized.items ≡ endings.old.sized.items ++ sized_in (Serving q ended.outcome ∷ [])) }
+    ensures reached { (q : Request) → request_at locks.old ticket.0 ≡ Some q
+        → Reaches q ino.0 tree.old tree.new table.now touched.old touched.new }
+    // By the tree of before.
+    ensures walked { AreWalked walked.new ino.0 tree.old table.now touched.new }
+    ensures changed { (q : Request) → request_at locks.old ticket.0 ≡ Some q → result ≡ changed_alone q }
+    ensures room { (endings.old.told.room ≤ endings.new.told.room) × (endings.old.kept.room ≤ endings.new.kept.room)
+        × (vec_capacity endings.old.sized ≤ vec_capacity endings.new.sized) }
+    // At most one change is noted, and there is a place more for each inode that is touched besides.
+    ensures lead { LeadOn endings.old.changes.items endings.new.changes.items tree.old tree.new }
+    ensures noted { length endings.new.changes.items ≤ length endings.old.changes.items + 1 }
+    ensures places { endings.old.changes.room + set.len touched.new ≤ endings.new.changes.room + set.len touched.old }
+{
+    let Some(request) = locks.apply_move(Move::Serve(ticket)) else {
+        unreachable!()
+    };
+    let (alloc, changes) = (endings.alloc(), &mut endings.changes);
+    let reached = reach(alloc, tree, table, &request, ino, walked, touched, changes);
+    let served = serve(alloc, fs, tree, sessions, &request, reached.is_ok());
+    changes.note_served(tree, &request, &served.outcome);
+    let (client, ticket) = (request.client, request.ticket);
+    let (sized, changed) = (sized_by(&request, &served), changed_alone(&request));
+    // The request goes before its end is told, so that the proof has to follow it but once.
+    drop(request);
+    endings.push(client, ticket, served, sized);
+    changed
+}
+
+// The inode of the request, unless it is to move that.
+fn changed_alone(request: &Request) -> Option<Ino>
+    ensures { result ≡ changed_alone request.now }
+{
+    match request.ask {
+        Ask::Rename { .. } => None,
+        Ask::Get(_) | Ask::Alter(_) | Ask::Unlink | Ask::Rmdir => Some(request.ino),
+    }
+}
+
+// The inode of the request, if it set the size.
+fn sized_by(request: &Request, served: &Served) -> Option<Ino>
+    ensures { result ≡ sized_by (Serving request.now served.now.outcome) }
+{
+    match (&request.ask, &served.outcome) {
+        (Ask::Alter(Change::Set(Setting::Size(_))), Outcome::Done) => Some(request.ino),
+        _ => None,
+    }
+}

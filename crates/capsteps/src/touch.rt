@@ -1,0 +1,148 @@
+//! What an event asks of one entry, and what of the entry that changes.
+ghost use Rattle.std.specs.Prelude.{◌≡◌, ◌<◌, ◌^◌, ◌-◌, [], None, OnOk, OnErr};
+ghost use Rattle.capbits.specs.Refusal.{first_failing};
+ghost use Rattle.capsteps.specs.Judge.{room_for};
+ghost use Rattle.captable.specs.Table.{IsTable, entry_at};
+ghost use Rattle.captable.specs.Calls.{opened};
+ghost use Rattle.captable.specs.Tests.{open_tests};
+ghost use Rattle.capsteps.specs.Known.{AreKnown, StillKept};
+ghost use Rattle.capsteps.specs.State.{State};
+ghost use Rattle.capsteps.specs.Direct.{reply_of, shown, with_table};
+ghost use Rattle.capsteps.specs.Direct as effects;
+ghost use Rattle.capsteps.specs.Touch as words;
+
+use crate::finish::show;
+use crate::known::Known;
+use capbits::{Cap, CapSet};
+use capevents::{OpenMode, Reply};
+use captable::{CapTable, Holder};
+use std::alloc::AllocError;
+
+/// What is asked of a client's entry on an inode.
+#[derive(Clone, Copy)]
+pub enum Touch {
+    // The client opens the inode.
+    Open(OpenMode),
+    // It wants these, and the pin.
+    Want(CapSet),
+    // It acknowledges the message with this number.
+    Ack(u64),
+    // It gives these back.
+    Release(CapSet),
+}
+
+/// Does to the holder's entry what is asked, where what is being revoked of it is this. An opening alone takes memory: for
+/// want of it nothing changes.
+pub fn touch_entry(
+    table: &mut CapTable,
+    known: &mut Known,
+    holder: Holder,
+    revoked: CapSet,
+    touch: &Touch,
+) -> Result<(), AllocError>
+    requires made { table.old.made < 2 ^ 64 - 1 }
+    requires passed { first_failing (words.touch_tests table.old holder revoked touch.now) ≡ None }
+    ensures ok { OnOk result (table.new ≡ words.touched_table table.old holder revoked touch.now) }
+    ensures err { OnErr result (table.new ≡ table.old) }
+    ensures known { StillKept table.old table.new known.old.sets known.new.sets }
+{
+    match touch {
+        Touch::Open(mode) => open(table, known, holder, *mode)?,
+        Touch::Want(caps) => want(table, holder, caps.union(CapSet::of(&[Cap::P]))),
+        Touch::Ack(seq) => {
+            table.ack(holder.client, holder.ino, *seq, revoked);
+            known.remove_unheld(table, holder);
+        }
+        Touch::Release(caps) => {
+            table.release(holder.client, holder.ino, *caps);
+            known.remove_unheld(table, holder);
+        }
+    }
+    Ok(())
+}
+
+// The holder has an entry, made where there is none, which wants what the opening takes too.
+fn open(
+    table: &mut CapTable,
+    known: &mut Known,
+    holder: Holder,
+    mode: OpenMode,
+) -> Result<(), AllocError>
+    requires made { table.old.made < 2 ^ 64 - 1 }
+    requires passed { first_failing (room_for table.old holder) ≡ None }
+    ensures ok { OnOk result (table.new ≡ effects.with_opening table.old holder mode) }
+    ensures err { OnErr result (table.new ≡ table.old) }
+    ensures known { StillKept table.old table.new known.old.sets known.new.sets }
+{
+    let wanted = match table.find(holder.client, holder.ino) {
+        Some(entry) => entry.want,
+        None => {
+            make_entry(table, known, holder)?;
+            CapSet::empty()
+        }
+    };
+    want(table, holder, wanted.union(opening_wants(mode)));
+    Ok(())
+}
+
+// Makes the holder's entry, of which nothing is known yet. For want of memory nothing changes.
+fn make_entry(table: &mut CapTable, known: &mut Known, holder: Holder) -> Result<(), AllocError>
+    requires new { entry_at table.old holder ≡ None }
+    requires made { table.old.made < 2 ^ 64 - 1 }
+    requires passed { first_failing (open_tests table.old) ≡ None }
+    ensures ok { OnOk result (table.new ≡ opened table.old holder) }
+    ensures err { OnErr result (table.new ≡ table.old) }
+    ensures known { StillKept table.old table.new known.old.sets known.new.sets }
+{
+    known.add(holder)?;
+    match table.open_entry(holder.client, holder.ino) {
+        Ok(()) => Ok(()),
+        Err(refused) => {
+            known.remove(holder);
+            Err(refused)
+        }
+    }
+}
+
+// The holder's entry wants these, and comes last in the order of recall.
+fn want(table: &mut CapTable, holder: Holder, caps: CapSet)
+    ensures { table.new ≡ effects.with_want table.old holder (λ _. caps) }
+{
+    table.set_want(holder.client, holder.ino, caps);
+    table.touch(holder.client, holder.ino);
+}
+
+// What a client that opens an inode wants of it.
+fn opening_wants(mode: OpenMode) -> CapSet
+    ensures { result ≡ effects.opening_wants mode }
+{
+    match mode {
+        OpenMode::Read => CapSet::of(&[Cap::P, Cap::Fs, Cap::Fc, Cap::Fr]),
+        OpenMode::Write => CapSet::of(&[Cap::P, Cap::Fx, Cap::Fw, Cap::Fb]),
+        OpenMode::ReadWrite => CapSet::of(&[
+            Cap::P,
+            Cap::Fs,
+            Cap::Fx,
+            Cap::Fc,
+            Cap::Fr,
+            Cap::Fw,
+            Cap::Fb,
+        ]),
+    }
+}
+
+/// Says what is answered to it at the end of the step, and tells the holder's client so.
+pub fn tell(table: &mut CapTable, known: &Known, holder: Holder, touch: &Touch) -> Reply
+    ensures reply { (s : State) → s.scene.table ≡ table.old → AreKnown known.now.sets s.scene
+        → result ≡ reply_of s [] (words.touch_answer holder touch.now) }
+    ensures told { (s : State) → s.scene.table ≡ table.old
+        → with_table s table.new ≡ shown (words.touch_answer holder touch.now) s }
+    ensures table { IsTable table.old }
+{
+    // A look at the entries, by which the proof knows what they keep.
+    let _oldest = table.oldest();
+    match touch {
+        Touch::Open(_) | Touch::Want(_) => show(table, known, holder),
+        Touch::Ack(_) | Touch::Release(_) => Reply::Done,
+    }
+}
