@@ -7,6 +7,10 @@ use Rattle.captable.specs.declared.entry.Holder.{Holder}
 use Rattle.capexplain.specs.PartTexts.{byte_text, hex_text}
 use Rattle.capexplain.specs.Replies.{holder_text, holders_text}
 
+-- what comes behind a text that was appended to
+pub texts-behind : (start more rest line : List ℕ) → line ≡ start ++ more → line ++ rest ≡ start ++ (more ++ rest)
+texts-behind start more rest line is = ap (λ t. t ++ rest) is ∙ append_assoc start more rest
+
 -- the texts so far, and one more
 pub texts-push : {X : Type 0} (f : X → List ℕ) (start line after : List ℕ) (xs : List X) (x : X) → line ≡ start ++ flat_map f xs → after ≡ line ++ f x → after ≡ start ++ flat_map f (xs ++ x ∷ [])
 texts-push f start line after xs x before now =

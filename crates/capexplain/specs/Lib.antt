@@ -7,3 +7,4 @@ pub mod Access
 pub mod Explaining
 pub mod Quoting
 pub mod Comparing
+pub mod Linting

@@ -32,7 +32,7 @@ pub fn comparison_lines(
 }
 
 // Appends a line behind this word, if there is a witness.
-fn print_found(
+pub(crate) fn print_found(
     text: &mut Vec<u8>,
     word: &str,
     found: &Option<Witness<'_>>,

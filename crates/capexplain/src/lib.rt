@@ -1,4 +1,5 @@
-//! Texts for people: what was decided about an access and why, what grants gained and lost, what happened, and what was answered.
+//! Texts for people: what was decided about an access and why, what grants gained and lost, what is found in
+//! them, what happened, and what was answered.
 //!
 //! Public source: "Capabilities in CephFS" in the Ceph documentation.
 #![tactic(auto)]
@@ -10,6 +11,7 @@ mod command;
 mod comparing;
 mod event_text;
 mod explaining;
+mod linting;
 mod message_text;
 mod part_text;
 mod quoting;
@@ -22,4 +24,5 @@ pub use command::Command;
 pub use comparing::comparison_lines;
 pub use event_text::event_line;
 pub use explaining::explain_line;
+pub use linting::lint_lines;
 pub use reply::reply_lines;
