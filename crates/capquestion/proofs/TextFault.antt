@@ -1,6 +1,6 @@
 -- What is told of a grant text that was refused.
 use Rattle.std.proofs.Common.{◌≡◌, ℕ, List, ap, sym, subst, inl, inr}
-use Rattle.std.specs.Prelude.{◌⊎◌}
+use Rattle.std.specs.Prelude.{◌⊎◌, Result, Ok, Err, IfErr, IsErrAnd}
 use Rattle.capspec.specs.declared.fault.SpecFault.{SpecFault}
 use Rattle.capspec.specs.declared.fault.SpecFaultKind.TheVariants as kinds
 use Rattle.capspec.specs.declared.grant.Grant.{Grant}
@@ -17,6 +17,12 @@ text_fault text refused (Grants same) (inr missed) passed = absurd (passed.1 (ap
 text_fault text refused (BadValue option) found passed = absurd passed
 text_fault text refused NoMemory (inl is) passed = absurd (fault_told text refused is passed)
 text_fault text refused NoMemory (inr missed) passed = (missed.1, missed.2)
+
+-- the same of an answer that hands it on
+pub refused_text : {T : Type 0} (text : List ℕ) (refused : SpecFault) (answer : Result T QuestionFault) → IsFault text refused ⊎ (IsNoMemory refused × (grants : List Grant) × Reads text grants) → IsErrAnd answer (IsFaultOf refused)
+    → IfErr answer (IsFaultOfText text)
+refused_text text refused (Ok x) found passed = tt
+refused_text text refused (Err fault) found passed = text_fault text refused fault found passed
 
 -- a text for which only memory was missing means grants
 pub text_is_good : (text : List ℕ) (refused : SpecFault) → IsFault text refused ⊎ (IsNoMemory refused × (grants : List Grant) × Reads text grants) → refused.kind ≡ kinds.NoMemory → (grants : List Grant) × Reads text grants

@@ -3,3 +3,4 @@ pub mod Fault
 pub mod Values
 pub mod Question
 pub mod Comparing
+pub mod Linting

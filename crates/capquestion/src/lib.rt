@@ -8,6 +8,7 @@
 
 mod comparing;
 mod fault;
+mod linting;
 mod lists;
 mod modes;
 mod options;
@@ -17,6 +18,7 @@ mod words;
 
 pub use comparing::{CompareFault, compare};
 pub use fault::QuestionFault;
+pub use linting::lint_text;
 pub use options::Opt;
 pub use question::{Question, Values};
 pub use words::{spell, spelled};

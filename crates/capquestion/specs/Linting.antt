@@ -1,0 +1,15 @@
+-- What is told of a text of grants that is looked over.
+use Rattle.std.specs.Prelude.{◌≡◌, ℕ, List}
+use Rattle.capspec.specs.declared.grant.Grant.{Grant}
+use Rattle.capspec.specs.Grants.{Reads}
+use Rattle.capcompare.specs.declared.finding.Finding.{Finding}
+use Rattle.capcompare.specs.Findings.{AreFindings}
+use Rattle.capexplain.specs.Linting.{lint_lines}
+
+-- the lines tell what is found of the grants that the text means, and are empty where that is nothing
+pub record IsLintOf (text lines : List ℕ) : Type 0 where
+  pub grants : List Grant
+  pub findings : List Finding
+  pub means : Reads text grants
+  pub found : AreFindings grants findings
+  pub lines_are : lines ≡ lint_lines findings
