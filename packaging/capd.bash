@@ -2,9 +2,9 @@
 _capd() {
     local word=${COMP_WORDS[COMP_CWORD]} before=${COMP_WORDS[COMP_CWORD-1]}
     if ((COMP_CWORD == 1)); then
-        mapfile -t COMPREPLY < <(compgen -W 'explain grants compare run serve help --help --version' -- "$word")
+        mapfile -t COMPREPLY < <(compgen -W 'explain grants compare lint run serve help --help --version' -- "$word")
     elif [[ ${COMP_WORDS[1]} == help ]]; then
-        mapfile -t COMPREPLY < <(compgen -W 'explain grants compare run serve' -- "$word")
+        mapfile -t COMPREPLY < <(compgen -W 'explain grants compare lint run serve' -- "$word")
     elif [[ ${COMP_WORDS[1]} != explain ]]; then
         mapfile -t COMPREPLY < <(compgen -W '--help' -- "$word")
     elif [[ $before == --keyring ]]; then

@@ -1,5 +1,5 @@
 -- What a command writes, and why it stops before its end.
-use Rattle.std.specs.Prelude.{◌≡◌, ◌↔◌, ◌⊎◌, ◌<◌, ◌≤◌, ⊤, ℕ, Bool, List, [], length, ◌++◌, Option, Result, Err, IfSome, IsTrue, IsFalse, codes}
+use Rattle.std.specs.Prelude.{◌≡◌, ◌↔◌, ◌⊎◌, ◌<◌, ◌≤◌, ⊤, ℕ, Bool, List, [], length, ◌++◌, Option, Result, Err, IfSome, IsTrue, IsFalse, codes, ◌==◌, if◌then◌else◌}
 use Rattle.std.specs.Global.{Vec}
 use Rattle.std.specs.Io.KnownBytes.{Appends, Keeps}
 use Rattle.capspec.specs.Grants.{Reads}
@@ -10,6 +10,7 @@ use Rattle.capquestion.specs.declared.question.Question.{Question}
 use Rattle.capquestion.specs.Fault.{IsFaultOfText}
 use Rattle.capquestion.specs.Question.{AsksFor, IsFaultIn}
 use Rattle.capquestion.specs.Comparing.{IsComparison}
+use Rattle.capquestion.specs.Linting.{IsLintOf}
 use Rattle.caplines.specs.declared.fault.ScriptFault.{ScriptFault}
 use Rattle.caplines.specs.declared.fault.ScriptFault.TheVariants as stops
 use Rattle.caplines.specs.Lines.{lines, longest_script}
@@ -47,12 +48,19 @@ StopsInquiry inquiry fault input unread unwritten old new = (IsUnread inquiry.so
     ⊎ ((grants : Vec ℕ) × IsGrantsText inquiry.source inquiry.values.grants.items input grants.items × IsFalse unread
     × StopsBefore (IsFaultIn (with_grants inquiry.values grants)) fault unwritten old new)
 
--- the whole answer was written: the answer to a question, the written form of grants, the lines that compare two texts, the transcript of the
--- script that was to be read, or the history; with the status 0, but for a question that is answered by the status alone
+-- the lines for what is found in a text of grants were written, with the status 3; where that is nothing, a line that says so, with 0
+abbrev pub AnswersLint : List ℕ → ℕ → Option (List ℕ) → Option (List ℕ) → Type 0
+AnswersLint text status old new = (lines : List ℕ) × IsLintOf text lines × (status ≡ (if length lines == 0 then 0 else 3))
+    × Appends old new (if length lines == 0 then codes "nothing found\n" else lines)
+
+-- the whole answer was written: the answer to a question, the written form of grants, the lines that compare two texts, what is found in one,
+-- the transcript of the script that was to be read, or the history; with the status 0, but for a question that is answered by the status alone,
+-- and for what is found
 abbrev pub Answers : Ask → Option (List ℕ) → ℕ → Option (List ℕ) → Option (List ℕ) → Type 0
 Answers (asks.Explain inquiry) input status old new = AnswersInquiry inquiry input status old new
 Answers (asks.Grants text) input status old new = (status ≡ 0) × ((grants : List Grant) × Reads text.items grants × Appends old new (written grants ++ codes "\n"))
 Answers (asks.Compare before after) input status old new = (status ≡ 0) × ((lines : List ℕ) × IsComparison before.items after.items lines × Appends old new lines)
+Answers (asks.Lint text) input status old new = AnswersLint text.items status old new
 Answers asks.Run input status old new = (status ≡ 0) × IfSome input (λ script. (length script ≤ longest_script) × ((text : List ℕ) × IsTranscript (lines script) text × Appends old new text))
 Answers asks.Serve input status old new = (status ≡ 0) × IfSome input (λ script. (length script ≤ longest_script) × ((text : List ℕ) × IsServed (lines script) text × Appends old new text))
 
@@ -79,5 +87,6 @@ abbrev pub Stops : Ask → Fault → Option (List ℕ) → Bool → Bool → Boo
 Stops (asks.Explain inquiry) fault input ended unread unwritten old new = StopsInquiry inquiry fault input unread unwritten old new
 Stops (asks.Grants text) fault input ended unread unwritten old new = StopsBefore (IsFaultOfText text.items) fault unwritten old new
 Stops (asks.Compare before after) fault input ended unread unwritten old new = StopsComparing before.items after.items fault unwritten old new
+Stops (asks.Lint text) fault input ended unread unwritten old new = StopsBefore (IsFaultOfText text.items) fault unwritten old new
 Stops asks.Run fault input ended unread unwritten old new = (stop : ScriptFault) × (fault ≡ Script stop) × RunStops stop input ended unread unwritten old new
 Stops asks.Serve fault input ended unread unwritten old new = (stop : ServeFault) × (fault ≡ Serve stop) × ServeStops stop input unread unwritten old new

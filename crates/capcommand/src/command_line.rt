@@ -17,6 +17,8 @@ const GRANTS: &str = "grants";
 
 const COMPARE: &str = "compare";
 
+const LINT: &str = "lint";
+
 const RUN: &str = "run";
 
 const SERVE: &str = "serve";
@@ -40,7 +42,7 @@ const STATUSES: &str = "Status:
   0  the whole answer was written; of `explain --quiet`: allowed
   1  a value, a text or a script has a fault, a read or a write failed, or memory was missing
   2  the command line is wrong
-  3  of `explain --quiet`: denied";
+  3  of `explain --quiet`: denied; of `lint`: something was found";
 
 const EXAMPLE: &str = "Example:
   capd explain \\
@@ -60,6 +62,12 @@ const COMPARE_EXAMPLE: &str = "Example:
 prints
   gained: read / fs xx uid 1 gid 1 groups - owner 0 group 1 mode 0000 grant 1
   lost: write /a fs xxx uid 1 gid 1 groups - owner 0 group 1 mode 0000 grant 1";
+
+const LINT_EXAMPLE: &str = "Example:
+  capd lint 'allow rw root_squash, allow rw path=/a, allow r path=/a/b'
+prints
+  grant 1: root_squash undone, write /a fs x uid 0 gid 0 groups - owner 0 group 0 mode 0600 grant 2
+  grant 3: covered by the others";
 
 const RUN_EXAMPLE: &str = "Example:
   printf 'session 1 10 10 - allow rw path=/a\\nmkdir 1 1 a 0755\\n' | capd run
@@ -88,6 +96,8 @@ pub enum Ask {
         /// The text of the new ones.
         new: Vec<u8>,
     },
+    /// What is found in the grants of a text.
+    Lint(Vec<u8>),
     /// The transcript of a script.
     Run,
     /// The history of a script whose clients call at once.
@@ -101,6 +111,7 @@ impl Drop for Ask {
             Ask::Explain(_) => {}
             Ask::Grants(_) => {}
             Ask::Compare { old: _, new: _ } => {}
+            Ask::Lint(_) => {}
             Ask::Run => {}
             Ask::Serve => {}
         }
@@ -145,6 +156,7 @@ fn capd<'a>(alloc: Global) -> Result<Command<'a>, AllocError> {
     let command = with(command, explain(alloc))?;
     let command = with(command, grants(alloc))?;
     let command = with(command, compare(alloc))?;
+    let command = with(command, lint(alloc))?;
     let command = with(command, Ok(run(alloc)))?;
     command.subcommand(serve(alloc))
 }
@@ -228,6 +240,15 @@ fn compare<'a>(alloc: Global) -> Result<Command<'a>, AllocError> {
         .arg(text_argument(alloc, NEW, "NEW", "The new grants"))
 }
 
+fn lint<'a>(alloc: Global) -> Result<Command<'a>, AllocError> {
+    Command::new(alloc, LINT)
+        .about(
+            "Says which grants are covered by the others, allow nothing, let root do what another keeps it from, or are not read by Ceph 16",
+        )
+        .after_help(LINT_EXAMPLE)
+        .arg(text_argument(alloc, TEXT, "TEXT", "The grants, as for `grants`"))
+}
+
 fn text_argument<'a>(alloc: Global, name: &'a str, value_name: &'a str, help: &'a str) -> Arg<'a> {
     Arg::new(alloc, name)
         .value_name(value_name)
@@ -260,6 +281,8 @@ fn asked(alloc: Global, matches: &ArgMatches<'_>) -> Result<Ask, ErrorKind> {
             old: value(alloc, matches, OLD)?,
             new: value(alloc, matches, NEW)?,
         })
+    } else if let Some(matches) = matches.subcommand_matches(LINT) {
+        Ok(Ask::Lint(value(alloc, matches, TEXT)?))
     } else if matches.subcommand_matches(RUN).is_some() {
         Ok(Ask::Run)
     } else if matches.subcommand_matches(SERVE).is_some() {

@@ -16,7 +16,7 @@ ghost use Rattle.capjobs.specs.declared.fault.ServeFault.{ServeFault as AServeFa
 ghost use Rattle.capjobs.specs.Served.{IsServed};
 ghost use Rattle.capcommand.specs.declared.fault.Fault.{Fault as AFault};
 ghost use Rattle.capcommand.specs.declared.fault.Fault.TheVariants as faults;
-ghost use Rattle.capcommand.specs.Commands.{Answers, AnswersInquiry, Stops, StopsBefore, StopsComparing, StopsInquiry, RunStops, ServeStops};
+ghost use Rattle.capcommand.specs.Commands.{Answers, AnswersInquiry, AnswersLint, Stops, StopsBefore, StopsComparing, StopsInquiry, RunStops, ServeStops};
 ghost use Rattle.capcommand.specs.Inquiry.{IsAnswered};
 
 use crate::advice::advise;
@@ -24,7 +24,7 @@ use crate::command_line::{Ask, INPUT, parse};
 use crate::fault::Fault;
 use crate::inquiry::{Form, Inquiry, Source, fill};
 use capjobs::serve;
-use capquestion::{Question, Values, compare, spelled};
+use capquestion::{Question, Values, compare, lint_text, spelled};
 use capscript::{Watched, run};
 use capspec::{read_grants, write_grants};
 use clap::error::ErrorKind;
@@ -46,6 +46,9 @@ pub const USAGE: u8 = 2;
 
 /// No grant allows what is asked, where that is answered by the status alone.
 pub const DENIED: u8 = 3;
+
+/// Something was found in grants that were looked over. The same status as `DENIED`, of another command.
+pub const FOUND: u8 = 3;
 
 /// Does what the words behind the program's name ask for, and returns the status. What is wrong is written to `faults`;
 /// where that fails, nothing else can be said, and the status stays.
@@ -103,8 +106,8 @@ fn open_file<E: Files>(files: &E, name: &[u8]) -> Result<E::File, Fault> {
 }
 
 /// Does what is asked, and returns the status: `DONE` where all of the answer was written, no stream failed, and nothing was
-/// written to `faults`, or `DENIED` where the status is all of the answer; else `FAILED`. Neither stream was read or written
-/// to yet. What is read of a question's grants is kept in `ask`.
+/// written to `faults`, or `DENIED` where the status is all of the answer, or `FOUND` where something was found and all of it
+/// written; else `FAILED`. Neither stream was read or written to yet. What is read of a question's grants is kept in `ask`.
 pub fn carry_out<T: Threads + Wait + Sync, R: Read, W: Write, F: Write>(
     rt: &T,
     alloc: Global,
@@ -116,7 +119,7 @@ pub fn carry_out<T: Threads + Wait + Sync, R: Read, W: Write, F: Write>(
     requires reader_clear { IsFalse (has_failed reader.old) }
     requires reader_unended { IsFalse (has_ended reader.old) }
     requires writer_clear { IsFalse (has_failed writer.old) }
-    ensures { (((result ≡ DONE) ⊎ ((result ≡ DENIED) × Keeps (W.contents (inner_of writer.old)) (W.contents (inner_of writer.new))))
+    ensures { (((result ≡ DONE) ⊎ (result ≡ FOUND))
         × IsFalse (has_failed reader.new) × IsFalse (has_failed writer.new) × Keeps (F.contents faults.old) (F.contents faults.new)
         × Answers ask.old (R.remaining (inner_of reader.old)) result
         (W.contents (inner_of writer.old)) (W.contents (inner_of writer.new)))
@@ -141,8 +144,7 @@ fn answer<T: Threads + Wait + Sync, R: Read, W: Write>(
     requires reader_clear { IsFalse (has_failed reader.old) }
     requires reader_unended { IsFalse (has_ended reader.old) }
     requires writer_clear { IsFalse (has_failed writer.old) }
-    ensures status { IfOk result (λ status. (status ≡ DONE)
-        ⊎ ((status ≡ DENIED) × Keeps (W.contents (inner_of writer.old)) (W.contents (inner_of writer.new)))) }
+    ensures status { IfOk result (λ status. (status ≡ DONE) ⊎ (status ≡ FOUND)) }
     ensures ok { IfOk result (λ status. IsFalse (has_failed reader.new) × IsFalse (has_failed writer.new)
         × Answers ask.old (R.remaining (inner_of reader.old)) status
         (W.contents (inner_of writer.old)) (W.contents (inner_of writer.new))) }
@@ -152,6 +154,7 @@ fn answer<T: Threads + Wait + Sync, R: Read, W: Write>(
 {
     let done = match ask {
         Ask::Explain(inquiry) => return inquire(alloc, inquiry, reader, writer),
+        Ask::Lint(text) => return look_over(alloc, text.as_slice(), writer),
         Ask::Grants(text) => grants(alloc, text.as_slice(), writer),
         Ask::Compare { old, new } => compare_texts(alloc, old.as_slice(), new.as_slice(), writer),
         Ask::Run => run_script(alloc, reader, writer),
@@ -173,8 +176,7 @@ fn inquire<R: Read, W: Write>(
     requires reader_clear { IsFalse (has_failed reader.old) }
     requires reader_unended { IsFalse (has_ended reader.old) }
     requires writer_clear { IsFalse (has_failed writer.old) }
-    ensures status { IfOk result (λ status. (status ≡ DONE)
-        ⊎ ((status ≡ DENIED) × Keeps (W.contents (inner_of writer.old)) (W.contents (inner_of writer.new)))) }
+    ensures status { IfOk result (λ status. (status ≡ DONE) ⊎ (status ≡ DENIED)) }
     ensures ok { OnOk result (IsFalse (has_failed reader.new) × IsFalse (has_failed writer.new)) }
     ensures answer { IfOk result (λ status. AnswersInquiry inquiry.old (R.remaining (inner_of reader.old)) status
         (W.contents (inner_of writer.old)) (W.contents (inner_of writer.new))) }
@@ -193,8 +195,7 @@ fn explain<W: Write>(
     writer: &mut Watched<W>,
 ) -> Result<u8, Fault>
     requires { IsFalse (has_failed writer.old) }
-    ensures status { IfOk result (λ status. (status ≡ DONE)
-        ⊎ ((status ≡ DENIED) × Keeps (W.contents (inner_of writer.old)) (W.contents (inner_of writer.new)))) }
+    ensures status { IfOk result (λ status. (status ≡ DONE) ⊎ (status ≡ DENIED)) }
     ensures ok { OnOk result (IsFalse (has_failed writer.new)) }
     ensures answer { IfOk result (λ status. (asked : Asked) × AsksFor values.now asked
         × IsAnswered form asked status (W.contents (inner_of writer.old)) (W.contents (inner_of writer.new))) }
@@ -246,6 +247,26 @@ fn compare_texts<W: Write>(
 {
     let lines = compare(alloc, before, after)?;
     write_text(lines.as_slice(), writer)
+}
+
+// Writes what is found in the grants of a text, and says whether that is anything.
+fn look_over<W: Write>(alloc: Global, text: &[u8], writer: &mut Watched<W>) -> Result<u8, Fault>
+    requires { IsFalse (has_failed writer.old) }
+    ensures status { IfOk result (λ status. (status ≡ DONE) ⊎ (status ≡ FOUND)) }
+    ensures ok { OnOk result (IsFalse (has_failed writer.new)) }
+    ensures linted { IfOk result (λ status. AnswersLint text.now status
+        (W.contents (inner_of writer.old)) (W.contents (inner_of writer.new))) }
+    ensures fault { IfErr result (λ fault. StopsBefore (IsFaultOfText text.now) fault (has_failed writer.new)
+        (W.contents (inner_of writer.old)) (W.contents (inner_of writer.new))) }
+{
+    let lines = lint_text(alloc, text)?;
+    let lines = lines.as_slice();
+    if lines.is_empty() {
+        write_text(b"nothing found\n", writer)?;
+        return Ok(DONE);
+    }
+    write_text(lines, writer)?;
+    Ok(FOUND)
 }
 
 // Writes the transcript of the script that is read, up to its end or to the first line that has a fault.

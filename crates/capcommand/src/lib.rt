@@ -12,6 +12,6 @@ mod inquiry;
 
 pub use arguments::words;
 pub use command_line::Ask;
-pub use commands::{DENIED, DONE, FAILED, USAGE, carry_out, dispatch, report};
+pub use commands::{DENIED, DONE, FAILED, FOUND, USAGE, carry_out, dispatch, report};
 pub use fault::Fault;
 pub use inquiry::{Form, Inquiry, Source};
