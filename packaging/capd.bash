@@ -12,7 +12,7 @@ _capd() {
     elif [[ $before == --access ]]; then
         mapfile -t COMPREPLY < <(compgen -W 'read write vxattr snapshot chmod' -- "$word")
     else
-        mapfile -t COMPREPLY < <(compgen -W '--grants --keyring --client --fs --uid --gid --groups --path --owner --group --mode --access --quiet --help' -- "$word")
+        mapfile -t COMPREPLY < <(compgen -W '--grants --keyring --client --fs --uid --gid --groups --path --owner --group --mode --access --more --quiet --help' -- "$word")
     fi
 }
 complete -F _capd capd

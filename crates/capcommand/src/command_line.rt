@@ -35,6 +35,8 @@ const CLIENT: &str = "client";
 
 const QUIET: &str = "quiet";
 
+const MORE: &str = "more";
+
 /// The value of `--grants` or of `--keyring` that stands for standard input.
 pub const INPUT: &[u8] = b"-";
 
@@ -191,7 +193,8 @@ fn explain<'a>(alloc: Global) -> Result<Command<'a>, AllocError> {
     command
         .arg(keyring(alloc)?)?
         .arg(client(alloc)?)?
-        .arg(quiet(alloc))
+        .arg(more(alloc))?
+        .arg(quiet(alloc)?)
 }
 
 fn keyring<'a>(alloc: Global) -> Result<Arg<'a>, AllocError> {
@@ -215,11 +218,21 @@ fn client<'a>(alloc: Global) -> Result<Arg<'a>, AllocError> {
         .requires_arg(KEYRING)
 }
 
-fn quiet<'a>(alloc: Global) -> Arg<'a> {
+fn more<'a>(alloc: Global) -> Arg<'a> {
+    Arg::new(alloc, MORE)
+        .long(MORE)
+        .help(
+            "Prints further lines, for what the grants leave to the client and where the MDS of Ceph 16 decides otherwise",
+        )
+        .action(ArgAction::SetTrue)
+}
+
+fn quiet<'a>(alloc: Global) -> Result<Arg<'a>, AllocError> {
     Arg::new(alloc, QUIET)
         .long(QUIET)
         .help("Prints nothing, and answers by the status alone: 0 allowed, 3 denied")
         .action(ArgAction::SetTrue)
+        .conflicts_with(MORE)
 }
 
 fn grants<'a>(alloc: Global) -> Result<Command<'a>, AllocError> {
@@ -295,16 +308,22 @@ fn asked(alloc: Global, matches: &ArgMatches<'_>) -> Result<Ask, ErrorKind> {
 fn inquiry(alloc: Global, matches: &ArgMatches<'_>) -> Result<Inquiry, ErrorKind> {
     let values = explain_values(alloc, matches)?;
     let source = source(alloc, matches, &values)?;
-    let form = if matches.get_flag(QUIET) {
-        Form::Status
-    } else {
-        Form::Line
-    };
+    let form = form(matches);
     Ok(Inquiry {
         values,
         source,
         form,
     })
+}
+
+fn form(matches: &ArgMatches<'_>) -> Form {
+    if matches.get_flag(QUIET) {
+        Form::Status
+    } else if matches.get_flag(MORE) {
+        Form::More
+    } else {
+        Form::Line
+    }
 }
 
 fn source(alloc: Global, matches: &ArgMatches<'_>, values: &Values) -> Result<Source, ErrorKind> {

@@ -78,7 +78,7 @@ pub fn dispatch<E: AllocGlobal + Files + Threads + Wait + Sync, R: Read, W: Writ
             let mut file = Watched::new(file);
             carry_out(rt, rt.alloc(), &mut ask, &mut file, &mut writer, faults)
         }
-        Err(fault) => refuse(&ask, fault, faults),
+        Err(fault) => refuse(rt.alloc(), &ask, fault, faults),
     }
 }
 
@@ -129,7 +129,7 @@ pub fn carry_out<T: Threads + Wait + Sync, R: Read, W: Write, F: Write>(
 {
     match answer(rt, alloc, ask, reader, writer) {
         Ok(status) => status,
-        Err(fault) => refuse(ask, fault, faults),
+        Err(fault) => refuse(alloc, ask, fault, faults),
     }
 }
 
@@ -187,7 +187,7 @@ fn inquire<R: Read, W: Write>(
     explain(alloc, &inquiry.values, inquiry.form, writer)
 }
 
-// Answers a question by a line or by the status alone.
+// Answers a question by a line, by that with more behind it, or by the status alone.
 fn explain<W: Write>(
     alloc: Global,
     values: &Values,
@@ -208,6 +208,11 @@ fn explain<W: Write>(
         Form::Line => {
             let line = question.answer(alloc)?;
             write_line(line, writer)?;
+            Ok(DONE)
+        }
+        Form::More => {
+            let lines = question.full_answer(alloc)?;
+            write_text(lines.as_slice(), writer)?;
             Ok(DONE)
         }
         Form::Status => {
@@ -376,11 +381,11 @@ fn shown(alloc: Global, error: &clap::Error) -> Result<Vec<u8>, AllocError> {
 }
 
 // Writes the fault as a line, and what helps against it, and returns its status.
-fn refuse(ask: &Ask, fault: Fault, faults: &mut impl Write) -> u8
+fn refuse(alloc: Global, ask: &Ask, fault: Fault, faults: &mut impl Write) -> u8
     ensures { result ≡ FAILED }
 {
     let status = report(fault, faults);
-    advise(ask, fault, faults);
+    advise(alloc, ask, fault, faults);
     status
 }
 

@@ -43,6 +43,8 @@ impl Drop for Source {
 pub enum Form {
     /// By a line.
     Line,
+    /// By that line, and by lines for what is worth a word beside it.
+    More,
     /// By the status alone.
     Status,
 }

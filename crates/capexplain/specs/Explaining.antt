@@ -24,7 +24,20 @@ abbrev pub failures_text : List Rule → List ℕ
 failures_text [] = codes "no grants"
 failures_text (rule ∷ rules) = join_by failure_text (codes ", ") (enumerate_from 1 (rule ∷ rules))
 
--- what the verdict says of the access to the path
+-- what the verdict is on the access
+abbrev pub outcome_text : Access → Verdict → List ℕ
+outcome_text access (Allowed grant) = codes "allowed " ++ access_word access ++ codes " "
+outcome_text access (Denied rules) = codes "denied " ++ access_word access ++ codes " "
+
+-- by which grant, or by which rules
+abbrev pub reason_text : Verdict → List ℕ
+reason_text (Allowed grant) = codes " grant " ++ decimal grant
+reason_text (Denied rules) = codes " " ++ failures_text rules
+
+-- what the verdict says of the access to a path that is shown so
+abbrev pub verdict_text : Access → List ℕ → Verdict → List ℕ
+verdict_text access shown verdict = outcome_text access verdict ++ (shown ++ reason_text verdict)
+
+-- the same of a path whose names stand as they are
 abbrev pub explain_text : Access → List (List ℕ) → Verdict → List ℕ
-explain_text access path (Allowed grant) = codes "allowed " ++ access_word access ++ codes " " ++ path_text path ++ codes " grant " ++ decimal grant
-explain_text access path (Denied rules) = codes "denied " ++ access_word access ++ codes " " ++ path_text path ++ codes " " ++ failures_text rules
+explain_text access path verdict = verdict_text access (path_text path) verdict

@@ -6,5 +6,6 @@ pub mod Audit
 pub mod Access
 pub mod Explaining
 pub mod Quoting
+pub mod Remarks
 pub mod Comparing
 pub mod Linting

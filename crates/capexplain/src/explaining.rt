@@ -1,7 +1,7 @@
 //! The line that answers a question.
 ghost use Rattle.std.specs.Prelude.{◌≡◌, ◌++◌, IfOk, OnOk, map};
 ghost use Rattle.capspec.specs.Names.{slashed};
-ghost use Rattle.capexplain.specs.Explaining.{explain_text, path_text, failure_text, failures_text};
+ghost use Rattle.capexplain.specs.Explaining.{explain_text, outcome_text, path_text, reason_text, failure_text, failures_text};
 
 use capgrant::{Access, Rule, Verdict};
 use captext::print;
@@ -21,20 +21,37 @@ pub fn explain_line(
     ensures { IfOk result (λ line. line.items ≡ explain_text access (map (λ name. name.now) path.now) verdict.now) }
 {
     let mut line = Vec::with_capacity(alloc, USUAL_LINE)?;
+    print_outcome(&mut line, access, verdict)?;
+    print_path(&mut line, path)?;
+    print_reason(&mut line, verdict)?;
+    Ok(line)
+}
+
+// Appends what the verdict is on the access.
+pub(crate) fn print_outcome(
+    line: &mut Vec<u8>,
+    access: Access,
+    verdict: &Verdict,
+) -> Result<(), AllocError>
+    ensures { OnOk result (line.new.items ≡ line.old.items ++ outcome_text access verdict.now) }
+{
     match verdict {
-        Verdict::Allowed { grant } => {
-            print(&mut line, format_args!("allowed {access} "))?;
-            print_path(&mut line, path)?;
-            print(&mut line, format_args!(" grant {grant}"))?;
-        }
+        Verdict::Allowed { .. } => print(line, format_args!("allowed {access} ")),
+        Verdict::Denied { .. } => print(line, format_args!("denied {access} ")),
+    }
+}
+
+// Appends by which grant or rules it is so.
+pub(crate) fn print_reason(line: &mut Vec<u8>, verdict: &Verdict) -> Result<(), AllocError>
+    ensures { OnOk result (line.new.items ≡ line.old.items ++ reason_text verdict.now) }
+{
+    match verdict {
+        Verdict::Allowed { grant } => print(line, format_args!(" grant {grant}")),
         Verdict::Denied { rules } => {
-            print(&mut line, format_args!("denied {access} "))?;
-            print_path(&mut line, path)?;
-            print(&mut line, " ")?;
-            print_failures(&mut line, rules.as_slice())?;
+            print(line, " ")?;
+            print_failures(line, rules.as_slice())
         }
     }
-    Ok(line)
 }
 
 // Appends a path: `/` before each name, and alone for the root.

@@ -15,6 +15,7 @@ mod linting;
 mod message_text;
 mod part_text;
 mod quoting;
+mod remarking;
 mod reply;
 
 pub use access::read_access;
@@ -25,4 +26,6 @@ pub use comparing::comparison_lines;
 pub use event_text::event_line;
 pub use explaining::explain_line;
 pub use linting::lint_lines;
+pub use quoting::print_quoted;
+pub use remarking::remarked_lines;
 pub use reply::reply_lines;

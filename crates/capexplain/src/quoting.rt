@@ -6,8 +6,9 @@ ghost use Rattle.capexplain.specs.Quoting.{escaped, is_control, is_mark, is_plai
 use crate::part_text::print_byte;
 use std::alloc::AllocError;
 
-// Appends bytes as they are, or in double quotes where one of them is a control byte, a space, a quote or a backslash.
-pub(crate) fn print_quoted(text: &mut Vec<u8>, bytes: &[u8]) -> Result<(), AllocError>
+/// Appends bytes as they are, or in double quotes and with escapes, where one of them is a control byte, a space, a quote or a
+/// backslash. `AllocError` where no memory is left for them; some may stand in the text then.
+pub fn print_quoted(text: &mut Vec<u8>, bytes: &[u8]) -> Result<(), AllocError>
     ensures { OnOk result (text.new.items ≡ text.old.items ++ quoted bytes.now) }
 {
     if are_plain(bytes) {

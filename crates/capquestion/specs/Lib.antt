@@ -2,5 +2,6 @@ pub mod Options
 pub mod Fault
 pub mod Values
 pub mod Question
+pub mod Remarks
 pub mod Comparing
 pub mod Linting

@@ -13,6 +13,7 @@ mod lists;
 mod modes;
 mod options;
 mod question;
+mod remarks;
 mod texts;
 mod words;
 

@@ -171,8 +171,8 @@ impl Question {
         Ok(matches!(verdict, Verdict::Allowed { .. }))
     }
 
-    // What the grants say, by the names of the path.
-    fn judge(&self, names: &[&[u8]]) -> Verdict
+    /// What the grants say, by the names of the path.
+    pub(crate) fn judge(&self, names: &[&[u8]]) -> Verdict
         requires { map (λ name. name.now) names.now ≡ self.now.path }
         ensures { result ≡ verdict_on self.now }
     {

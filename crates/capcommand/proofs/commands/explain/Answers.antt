@@ -1,3 +1,4 @@
+use Rattle.std.proofs.Common.{inl}
 use Rattle.capscript.specs.Watched.{inner_of, has_failed}
 use Rattle.capcommand.proofs.Unwritten.{refused_question, missed_unwritten, line_unwritten}
 use Rattle.capcommand.proofs.commands.explain.Goals as goal
@@ -17,3 +18,11 @@ returns-in_err-write_line-in-Line-clause-fault g c =
 pub returns-in_err-is_allowed-in-Status-clause-fault : goal.returns-in_err-is_allowed-in-Status-clause-fault
 returns-in_err-is_allowed-in-Status-clause-fault g c =
     missed_unwritten c.args.values.now c.in_ok-question.question (g.W.Write.contents (inner_of c.args.writer.now)) (has_failed c.args.writer.now) c.from_residual-in_err-is_allowed-in-Status.result c.in_ok-question.ensures.ok c.from_residual-in_err-is_allowed-in-Status.ensures.1
+
+pub returns-in_err-lines-in-More-clause-fault : goal.returns-in_err-lines-in-More-clause-fault
+returns-in_err-lines-in-More-clause-fault g c =
+    missed_unwritten c.args.values.now c.in_ok-question.question (g.W.Write.contents (inner_of c.args.writer.now)) (has_failed c.args.writer.now) c.from_residual-in_err-lines-in-More.result c.in_ok-question.ensures.ok c.from_residual-in_err-lines-in-More.ensures.1
+
+pub returns-in_err-write_text-in-More-clause-fault : goal.returns-in_err-write_text-in-More-clause-fault
+returns-in_err-write_text-in-More-clause-fault g c =
+    line_unwritten c.args.values.now c.in_ok-question.question (g.W.Write.contents (inner_of c.args.writer.now)) (g.W.Write.contents (inner_of c.write_text.new.writer)) (has_failed c.write_text.new.writer) c.in_err-write_text-in-More.field-0.0 c.from_residual-in_err-write_text-in-More.result c.in_ok-question.ensures.ok (inl c.in_err-write_text-in-More.ensures.err) c.from_residual-in_err-write_text-in-More.ensures.1

@@ -1,0 +1,16 @@
+-- The answer to a question with all that is worth a word beside it.
+use Rattle.std.specs.Prelude.{ℕ, List}
+use Rattle.capgrant.specs.Question.{Question as Asked, question}
+use Rattle.capremarks.specs.Left.{left_to_client}
+use Rattle.capremarks.specs.Differences.{answered_otherwise}
+use Rattle.capexplain.specs.Remarks.{remarked_text}
+use Rattle.capquestion.specs.declared.question.Question.{Question}
+use Rattle.capquestion.specs.Question.{verdict_on}
+
+-- what is asked of each of its grants
+abbrev pub asked_of : Question → Asked
+asked_of q = question q.fs q.caller q.path q.attr q.access
+
+-- the line that answers the question, and those for what is left to the client and for where the MDS answers otherwise
+abbrev pub full_text : Question → List ℕ
+full_text q = remarked_text (asked_of q) (verdict_on q) (left_to_client (asked_of q) q.grants) (answered_otherwise (asked_of q) q.grants)
