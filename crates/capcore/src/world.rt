@@ -24,7 +24,7 @@ ghost use Rattle.capbits.specs.Refusal.{first_failing};
 ghost use Rattle.capevents.specs.declared.event.Event.TheVariants as event;
 
 use capbits::{Caller, CapSet, ClientId, Ino, Mode, Part, Refusal};
-use capevents::{EndedList, Event, OpenMode, Reply, copy_of_messages, copy_of_reply};
+use capevents::{EndedList, Event, OpenMode, Reply, copy_of_messages};
 use capgrant::{Access, Attr};
 use capnotes::{ChangeList, Messages, ToldNumbers};
 use capspec::{FsName, Grants};

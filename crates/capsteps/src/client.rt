@@ -19,14 +19,10 @@ ghost use Rattle.capsteps.specs.Sweep.{Widens};
 ghost use Rattle.capsteps.specs.Turn.{Notes, ReachesClient, turn_tests, turned_sessions, is_end};
 ghost use Rattle.capsteps.specs.Turn as words;
 
-use crate::ended::close_dropped;
 use crate::endings::Endings;
 use crate::known::Known;
-use crate::said::Said;
-use crate::settle::end_at;
-use crate::stop::Stop;
 use capbits::{ClientId, Ino, Refusal};
-use capevents::{Ended, Outcome, Reply};
+use capevents::{Ended, Outcome};
 use capnotes::{ChangeList, InoSet, Messages};
 use capspec::Grants;
 use captable::CapTable;
@@ -39,15 +35,15 @@ use std::alloc::{AllocError, Global};
 /// What becomes of a client's session.
 #[derive(Clone, Copy)]
 pub enum Turn<'a> {
-    // The client ends it.
+    /// The client ends it.
     Close,
-    // It is stale.
+    /// It is stale.
     Stale,
-    // It is open again.
+    /// It is open again.
     Renew,
-    // It has these grants in place of those that it had.
+    /// It has these grants in place of those that it had.
     Regrant(&'a Grants),
-    // The client is thrown out.
+    /// The client is thrown out.
     Evict,
 }
 

@@ -21,13 +21,13 @@ use std::alloc::AllocError;
 /// What is asked of a client's entry on an inode.
 #[derive(Clone, Copy)]
 pub enum Touch {
-    // The client opens the inode.
+    /// The client opens the inode.
     Open(OpenMode),
-    // It wants these, and the pin.
+    /// It wants these, and the pin.
     Want(CapSet),
-    // It acknowledges the message with this number.
+    /// It acknowledges the message with this number.
     Ack(u64),
-    // It gives these back.
+    /// It gives these back.
     Release(CapSet),
 }
 
