@@ -2,6 +2,7 @@
 
 use crate::command_line::Ask;
 use crate::fault::Fault;
+use crate::inquiry::{Form, Inquiry};
 use capexplain::print_quoted;
 use capkeyring::KeyringFault;
 use capquestion::{Opt, QuestionFault, Values};
@@ -15,15 +16,19 @@ pub fn advise(alloc: Global, ask: &Ask, fault: Fault, faults: &mut impl Write) {
     }
     match (ask, fault) {
         (Ask::Explain(inquiry), Fault::Question(QuestionFault::BadValue(option))) => {
-            name_value(alloc, &inquiry.values, option, faults);
+            name_value(alloc, inquiry, option, faults);
         }
         _ => {}
     }
 }
 
-// Writes the bad value, in quotes where it has to be, and what the option takes. Without memory for that nothing is written.
-fn name_value(alloc: Global, values: &Values, option: Opt, faults: &mut impl Write) {
-    let Ok(value) = shown(alloc, value_of(values, option)) else {
+// Writes the bad value, in quotes where it has to be, and what the option takes, where more is asked for than the one line of the
+// fault. Without memory for that nothing is written.
+fn name_value(alloc: Global, inquiry: &Inquiry, option: Opt, faults: &mut impl Write) {
+    let Form::More = inquiry.form else {
+        return;
+    };
+    let Ok(value) = shown(alloc, value_of(&inquiry.values, option)) else {
         return;
     };
     let taken = taken_by(option);
