@@ -9,7 +9,7 @@ use Rattle.std.proofs.lemmas.Slice.Eq.{bytes_eq-Decides, starts_is}
 use Rattle.capbits.specs.declared.caller.Caller.{Caller}
 use Rattle.capbits.specs.Caller.{gids_of}
 use Rattle.capspec.specs.declared.grant.Grant.{Grant}
-use Rattle.capspec.specs.Flags.{has_w, has_p, has_s}
+use Rattle.capwords.specs.Flags.{has_w, has_p, has_s}
 use Rattle.capgrant.specs.Access.{is_read, is_set_vxattr, is_snapshot}
 use Rattle.capgrant.specs.Question.{Question, contains, listed_gids}
 use Rattle.capgrant.specs.Failing.{is_some_and, fails_gids, fails_no_write, fails_root_squash, fails_no_p, fails_no_s}

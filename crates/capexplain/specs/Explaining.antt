@@ -8,7 +8,7 @@ use Rattle.capgrant.specs.declared.answer.Verdict.TheVariants.{Allowed, Denied}
 use Rattle.capgrant.specs.declared.rule.Rule.{Rule}
 use Rattle.capgrant.specs.Access.{access_word}
 use Rattle.capgrant.specs.Rule.{rule_number, rule_word}
-use Rattle.capspec.specs.Names.{slashed}
+use Rattle.capwords.specs.Paths.{slashed}
 
 -- `/` before each name; `/` alone for the root
 abbrev pub path_text : List (List ℕ) → List ℕ

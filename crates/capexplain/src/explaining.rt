@@ -1,6 +1,6 @@
 //! The line that answers a question.
 ghost use Rattle.std.specs.Prelude.{◌≡◌, ◌++◌, IfOk, OnOk, map};
-ghost use Rattle.capspec.specs.Names.{slashed};
+ghost use Rattle.capwords.specs.Paths.{slashed};
 ghost use Rattle.capexplain.specs.Explaining.{explain_text, outcome_text, path_text, reason_text, failure_text, failures_text};
 
 use capgrant::{Access, Rule, Verdict};

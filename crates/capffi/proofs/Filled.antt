@@ -13,7 +13,7 @@ use Rattle.capspec.specs.Bytes.{is_mark}
 use Rattle.capspec.specs.Grants.{fsname_in, path_in, gids_in, IsSaidOnce, AreWordsOf, IsGrant, Reads}
 use Rattle.capspec.specs.Items.{Item, IsItem}
 use Rattle.capspec.specs.Items.Item.{FsName, Path, Uid, Gids, RootSquash}
-use Rattle.capspec.specs.Names.{names_of, slashed, are_few_and_short}
+use Rattle.capwords.specs.Paths.{names_of, slashed, are_few_and_short}
 use Rattle.capspec.specs.Separated.{AreSeparated}
 use Rattle.capspec.proofs.Paths.{is_slash}
 use Rattle.capspec.proofs.Fronts.{which}

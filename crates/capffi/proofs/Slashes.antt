@@ -3,7 +3,7 @@ use Rattle.std.proofs.Common.{◌≡◌, ℕ, ◌+◌, ◌-◌, ◌<◌, ◌≤�
 use Rattle.std.proofs.Math.Bool.{and-false}
 use Rattle.std.proofs.lemmas.Bool.{or_parts}
 use Rattle.std.proofs.lemmas.List.{drop-drop}
-use Rattle.capspec.specs.Names.{has_double_slash}
+use Rattle.capwords.specs.Paths.{has_double_slash}
 use Rattle.capspec.proofs.Paths.{is_slash}
 
 behind_first : (b : ℕ) (bytes : List ℕ) → has_double_slash (b ∷ bytes) ≡ false → has_double_slash bytes ≡ false

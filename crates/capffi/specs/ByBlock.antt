@@ -1,6 +1,6 @@
 -- What the grants of a block say to a question.
 use Rattle.std.specs.Prelude.{◌≡◌, ◌<◌, ◌≤◌, ◌⊎◌, ℕ, List, length, IsTrue, IsFalse, Some, None, Result, Ok, MatchResult}
-use Rattle.capspec.specs.Names.{names_of, are_few_and_short}
+use Rattle.capwords.specs.Paths.{names_of, are_few_and_short}
 use Rattle.capgrant.specs.declared.access.Access.{Access}
 use Rattle.capgrant.specs.declared.answer.Verdict.{Verdict}
 use Rattle.capgrant.specs.declared.answer.Verdict.TheVariants.{Allowed}

@@ -2,7 +2,8 @@
 use Rattle.std.specs.Prelude.{◌≡◌, ◌<◌, ◌≤◌, ◌⊎◌, ℕ, Option, Some, None, Result, Ok, Err, List, [], ◌∷◌, ◌++◌, length, take, flat_map}
 use Rattle.capspec.specs.Faults.{IsFault}
 use Rattle.capspec.specs.Grants.{Reads}
-use Rattle.capspec.specs.Names.{IsFsName, slashed}
+use Rattle.capspec.specs.Names.{IsFsName}
+use Rattle.capwords.specs.Paths.{slashed}
 use Rattle.capspec.specs.declared.grant.Grant.{Grant}
 use Rattle.capffi.specs.declared.block.Block.{Block}
 use Rattle.capffi.specs.declared.block.Entry.{Entry}

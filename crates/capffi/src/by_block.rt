@@ -1,6 +1,6 @@
 //! The verdict of the grants of a block.
 ghost use Rattle.std.specs.Prelude.{◌≡◌, ◌≤◌, ◌↔◌, ℕ, List, length, take, drop, IsTrue, IfSome, MatchResult, Ok};
-ghost use Rattle.capspec.specs.Names.{names_of, slashed, are_few_and_short};
+ghost use Rattle.capwords.specs.Paths.{names_of, slashed, are_few_and_short};
 ghost use Rattle.capffi.specs.Blocks.{IsBlock, path_names};
 ghost use Rattle.capffi.specs.ByBlock.{IsSaid, IsSaidOf, IsVerdictOf, IsAllowedFor};
 ghost use Rattle.capgrant.specs.declared.answer.Verdict.TheVariants.{Allowed};

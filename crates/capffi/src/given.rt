@@ -47,7 +47,7 @@ pub(crate) fn split_front(text: &[u8], len: usize) -> (&[u8], &[u8])
 impl Given<'_> {
     ghost use Rattle.std.specs.Prelude.{◌≡◌, ◌==◌, [], None, IsTrue, not, is_some, bytes_eq};
     ghost use Rattle.std.specs.List.{starts_with};
-    ghost use Rattle.capspec.specs.Flags.{has_w, has_p, has_s};
+    ghost use Rattle.capwords.specs.Flags.{has_w, has_p, has_s};
     ghost use Rattle.capgrant.specs.Failing.{is_some_and};
     ghost use Rattle.capffi.specs.Blocks.{path_names};
 
@@ -199,7 +199,7 @@ fn is_same(one: &[u8], other: &[u8]) -> bool
 
 // The same. Two to four bytes are compared as two pairs, which may share bytes.
 #[inline(always)]
-#[tactic(auto, using(capspec::proofs::Pairs::same_by_pairs))]
+#[tactic(auto, using(capwords::proofs::Pairs::same_by_pairs))]
 fn are_same(one: &[u8], other: &[u8]) -> bool
     requires { length one.now ≡ length other.now }
     ensures { IsTrue result ↔ (one.now ≡ other.now) }

@@ -1,6 +1,6 @@
 //! Paths whose text needs no other form.
 ghost use Rattle.std.specs.Prelude.{◌≡◌, ◌<◌, ◌+◌, ◌-◌, ◌||◌, IsTrue, length, drop};
-ghost use Rattle.capspec.specs.Names.{names_of, slashed, has_double_slash, are_few_and_short};
+ghost use Rattle.capwords.specs.Paths.{names_of, slashed, has_double_slash, are_few_and_short};
 
 // How many bytes of a path are looked at together.
 const PIECE: usize = 16;

@@ -2,7 +2,7 @@
 use Rattle.std.specs.Prelude.{Bool, false, not, ◌&&◌, ◌||◌, ◌==◌, Option, Some, None, is_some, length, find, bytes_eq}
 use Rattle.std.specs.List.{starts_with}
 use Rattle.capspec.specs.declared.grant.Grant.{Grant}
-use Rattle.capspec.specs.Flags.{has_w, has_p, has_s}
+use Rattle.capwords.specs.Flags.{has_w, has_p, has_s}
 use Rattle.capgrant.specs.declared.rule.Rule.{Rule}
 use Rattle.capgrant.specs.declared.rule.Rule.TheVariants as rule
 use Rattle.capgrant.specs.Access.{is_read, is_set_vxattr, is_snapshot, changes_attr, new_owner, new_group}

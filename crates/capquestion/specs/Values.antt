@@ -4,7 +4,8 @@ use Rattle.std.specs.Global.{Vec}
 use Rattle.std.specs.Str.Parse.{IsNumeral, digits_value}
 use Rattle.capspec.specs.Items.{is_comma, IsNumber}
 use Rattle.capspec.specs.Separated.{AreSeparated}
-use Rattle.capspec.specs.Names.{IsFsName, names_of, are_few_and_short}
+use Rattle.capspec.specs.Names.{IsFsName}
+use Rattle.capwords.specs.Paths.{names_of, are_few_and_short}
 
 -- the text is the name of a file system
 pub record IsFs (text name : List ℕ) : Type 0 where

@@ -1,7 +1,7 @@
 -- Where the MDS of Ceph 16 is known to decide otherwise, as far as a question and the grants as they were read tell.
 use Rattle.std.specs.Prelude.{ℕ, ◌+◌, Bool, true, false, not, ◌&&◌, ◌||◌, Option, Some, None, unwrap_or, List, position, slice_get, nat_lt, if◌then◌else◌}
 use Rattle.capspec.specs.declared.grant.Grant.{Grant}
-use Rattle.capspec.specs.Flags.{has_p}
+use Rattle.capwords.specs.Flags.{has_p}
 use Rattle.capgrant.specs.declared.access.Access.{Access}
 use Rattle.capgrant.specs.declared.access.Access.TheVariants.{Read, Write, SetVxattr, Chmod}
 use Rattle.capgrant.specs.Access.{is_set_vxattr}

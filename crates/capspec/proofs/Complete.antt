@@ -8,12 +8,12 @@ use Rattle.std.proofs.lemmas.List.{append-nil}
 use Rattle.std.proofs.lemmas.List.Elements.{filter_map-append}
 use Rattle.std.proofs.lemmas.List.Folds.{list_all-append}
 use Rattle.capspec.specs.declared.bytes.ByteSet.TheVariants.{White, Plain}
-use Rattle.capspec.specs.declared.flags.Flags4.{Flags4}
-use Rattle.capspec.specs.declared.flags.Flags4.TheVariants.{R, Rw, Rwp, Rws, Rwps}
+use Rattle.capwords.specs.declared.flags.Flags4.{Flags4}
+use Rattle.capwords.specs.declared.flags.Flags4.TheVariants.{R, Rw, Rwp, Rws, Rwps}
 use Rattle.capspec.specs.declared.grant.Grant.{Grant}
 use Rattle.capspec.specs.declared.items.Key.TheVariants as keys
 use Rattle.capspec.specs.Bytes.{is_in, begins, ends_word, ends_grant, is_white, is_mark}
-use Rattle.capspec.specs.Flags.{IsFlags}
+use Rattle.capwords.specs.Flags.{IsFlags}
 use Rattle.capspec.specs.Grants.{fsname_in, path_in, uid_in, gids_in, root_squash_in, IsSaidOnce, AreItemsOf, IsGap, AreWordsOf, IsGrant, Reads}
 use Rattle.capspec.specs.Items.{Item, key_of, IsItem}
 use Rattle.capspec.specs.Items.Item.{FsName, Path, Uid, Gids, RootSquash}

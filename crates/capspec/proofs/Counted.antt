@@ -11,7 +11,7 @@ use Rattle.std.proofs.Math.Seq.{take-append_seam}
 use Rattle.std.proofs.lemmas.Slice.Eq.{bytes_eq-Decides, starts_is}
 use Rattle.capspec.specs.Bytes.{is_in}
 use Rattle.capspec.specs.declared.bytes.ByteSet.TheVariants.{AllBut}
-use Rattle.capspec.specs.Names.{names_of, slashed}
+use Rattle.capwords.specs.Paths.{names_of, slashed}
 use Rattle.capspec.proofs.Fronts.{which}
 use Rattle.capspec.proofs.Paths.{is_slash, has_bytes, names_of-slashes, names_of-name}
 use Rattle.capspec.proofs.Slashed.{all_in, all_filter, no_slash, slash_next}

@@ -5,14 +5,14 @@ use Rattle.std.proofs.lemmas.Bool.{true≢false}
 use Rattle.std.proofs.lemmas.List.{append_cancel_left}
 use Rattle.capspec.specs.declared.fault.SpecFaultKind.{SpecFaultKind}
 use Rattle.capspec.specs.declared.fault.SpecFaultKind.TheVariants as kinds
-use Rattle.capspec.specs.declared.flags.Flags4.{Flags4}
-use Rattle.capspec.specs.declared.flags.Flags4.TheVariants.{R, Rw, Rwp, Rws, Rwps}
+use Rattle.capwords.specs.declared.flags.Flags4.{Flags4}
+use Rattle.capwords.specs.declared.flags.Flags4.TheVariants.{R, Rw, Rwp, Rws, Rwps}
 use Rattle.capspec.specs.declared.grant.Grant.{Grant}
 use Rattle.capspec.specs.declared.items.Key.{Key}
 use Rattle.capspec.specs.declared.items.Key.TheVariants as keys
 use Rattle.capspec.specs.declared.reading.Refusal.{Refusal}
 use Rattle.capspec.specs.Bytes.{ends_word}
-use Rattle.capspec.specs.Flags.{IsFlags}
+use Rattle.capwords.specs.Flags.{IsFlags}
 use Rattle.capspec.specs.Grants.{fsname_in, path_in, uid_in, gids_in, root_squash_in, IsSaidOnce, AreItemsOf}
 use Rattle.capspec.specs.Items.{Item, key_of, key_text, IsValue}
 use Rattle.capspec.specs.Items.Item.{FsName, Path, Uid, Gids, RootSquash}

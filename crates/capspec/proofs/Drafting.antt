@@ -8,7 +8,7 @@ use Rattle.capspec.specs.declared.items.Key.{Key}
 use Rattle.capspec.specs.declared.items.Key.TheVariants as keys
 use Rattle.capspec.specs.Words.{IsKeyed, IsWrongValue, IsWrongItem}
 use Rattle.capspec.specs.Bytes.{ends_word, TakesWord}
-use Rattle.capspec.specs.Names.{names_of}
+use Rattle.capwords.specs.Paths.{names_of}
 use Rattle.capspec.specs.Items.{key_text, IsPath, IsValue}
 use Rattle.capspec.specs.Items.Item.{Path, RootSquash}
 use Rattle.capspec.specs.Draft.{has, AddsValue, AddsItem}

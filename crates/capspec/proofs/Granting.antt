@@ -11,17 +11,17 @@ use Rattle.capspec.specs.declared.draft.Draft.{Draft}
 use Rattle.capspec.specs.declared.fault.SpecFault.{SpecFault}
 use Rattle.capspec.specs.declared.fault.SpecFaultKind.{SpecFaultKind}
 use Rattle.capspec.specs.declared.fault.SpecFaultKind.TheVariants as kinds
-use Rattle.capspec.specs.declared.flags.Flags4.{Flags4}
+use Rattle.capwords.specs.declared.flags.Flags4.{Flags4}
 use Rattle.capspec.specs.declared.reading.Refusal.{Refusal}
 use Rattle.capspec.specs.Words.{next, plain_word, behind_word, IsWrongSecond}
 use Rattle.capspec.specs.Faults.{fault_at, ItemsGive, second, IsRightFirst, GrantGives, wrong_first, wrong_second, wrong_items, right_grant, GrantsGive, wrong_grant, next_grant, TestsGive, IsFault, IsNoMemory}
 use Rattle.capspec.proofs.Fronts.{which, front_parts, rest_is, split_front, split_rest, plain_is, behind_is}
 use Rattle.capspec.proofs.OneReading.{reads_no_fault, reads_once}
-use Rattle.capspec.specs.declared.flags.Flags4.TheVariants.{R, Rw, Rwp, Rws, Rwps}
+use Rattle.capwords.specs.declared.flags.Flags4.TheVariants.{R, Rw, Rwp, Rws, Rwps}
 use Rattle.capspec.specs.declared.grant.Grant.{Grant}
 use Rattle.capspec.specs.Bytes.{is_in, is_white, is_mark, ends_word, ends_grant, SplitsWhile}
 use Rattle.capspec.specs.Draft.{no_items, grant_of}
-use Rattle.capspec.specs.Flags.{IsFlags}
+use Rattle.capwords.specs.Flags.{IsFlags}
 use Rattle.capspec.specs.Grants.{IsGrant, Reads, AreNoneOrRead}
 use Rattle.capspec.specs.Parts.{ReadsItems, ReadsGrant}
 use Rattle.capspec.specs.Separated.{AreSeparated}

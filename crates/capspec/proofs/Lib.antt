@@ -16,8 +16,6 @@ pub mod Slashed
 pub mod Written
 pub mod Joining
 pub mod OneText
-pub mod Backwards
-pub mod Pairs
 pub mod Counted
 pub mod Measured
 pub mod Numbers

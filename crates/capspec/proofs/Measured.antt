@@ -8,7 +8,7 @@ use Rattle.std.proofs.lemmas.List.Splits.{length-slice_split, slice_split-cons_y
 use Rattle.std.proofs.lemmas.List.Sums.{length-filter, count_by-le-length}
 use Rattle.capspec.specs.declared.bytes.ByteSet.TheVariants.{Only}
 use Rattle.capspec.specs.Bytes.{SplitsWhile}
-use Rattle.capspec.specs.Names.{names_of, are_few_and_short}
+use Rattle.capwords.specs.Paths.{names_of, are_few_and_short}
 use Rattle.capspec.proofs.Fronts.{which}
 use Rattle.capspec.proofs.Paths.{is_slash, has_bytes, names_of-slashes}
 

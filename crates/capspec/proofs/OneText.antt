@@ -6,10 +6,10 @@ use Rattle.std.proofs.Math.Seq.{drop-cons}
 use Rattle.std.proofs.lemmas.Bool.{and_parts, or_parts, eqb-true, lt-ltb, not-true, true≢false}
 use Rattle.std.proofs.Math.Bool.{and_comm}
 use Rattle.std.proofs.lemmas.List.{append-nil, length-drop}
-use Rattle.std.proofs.lemmas.List.Concat.{flat_map-append}
 use Rattle.std.proofs.lemmas.List.Elements.{filter-append, All-head, All-tail}
 use Rattle.std.proofs.lemmas.List.Splits.{slice_split-cons_yes, slice_split-cons_no, length-slice_split}
-use Rattle.capspec.specs.Names.{names_of, is_name, slashed, has_double_slash}
+use Rattle.capwords.specs.Paths.{names_of, is_name, slashed, has_double_slash}
+use Rattle.capwords.proofs.Backwards.{slashed-append}
 use Rattle.capspec.specs.Written.{path_text, written_path}
 use Rattle.capspec.proofs.Fronts.{which}
 use Rattle.capspec.proofs.Paths.{is_slash, has_bytes, names_of-slashes}
@@ -42,9 +42,6 @@ names-append : (a r : List ℕ) → names_of (a ++ 47 ∷ r) ≡ names_of a ++ n
 names-append a r =
     ap (filter has_bytes) (split-append a r) ∙ filter-append has_bytes (slice_split is_slash a) (slice_split is_slash r)
     ∙ ap (λ (names : List (List ℕ)). names_of a ++ names) (sym (names_of-slashes (47 ∷ []) r refl))
-
-pub slashed-append : (xs ys : List (List ℕ)) → slashed (xs ++ ys) ≡ slashed xs ++ slashed ys
-slashed-append xs ys = flat_map-append (λ name. 47 ∷ name) xs ys
 
 -- a list of names is that of its text
 name_has_bytes : (name : List ℕ) → IsTrue (is_name name) → (has_bytes name ≡ true) × (list_all is_other name ≡ true)

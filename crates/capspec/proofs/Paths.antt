@@ -9,7 +9,7 @@ use Rattle.std.proofs.lemmas.List.Elements.{All-from_recursion}
 use Rattle.std.proofs.lemmas.List.Splits.{slice_split_at, slice_split_none, slice_split-cons_yes}
 use Rattle.capspec.specs.declared.bytes.ByteSet.TheVariants.{Only, AllBut}
 use Rattle.capspec.specs.Bytes.{is_in, begins, SplitsWhile}
-use Rattle.capspec.specs.Names.{names_of}
+use Rattle.capwords.specs.Paths.{names_of}
 
 abbrev pub is_slash : ℕ → Bool
 is_slash b = eqb b 47

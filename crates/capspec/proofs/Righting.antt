@@ -11,7 +11,7 @@ use Rattle.capspec.specs.declared.items.Key.TheVariants as keys
 use Rattle.capspec.specs.Bytes.{is_in, ends_word, is_fs_name_byte, is_bare_path_byte}
 use Rattle.capspec.specs.Items.{Item, key_of, is_comma, IsNumber, can_be_path, IsQuotedBy, IsBare, IsPath, IsValue}
 use Rattle.capspec.specs.Items.Item.{FsName, Path, Uid, Gids, RootSquash}
-use Rattle.capspec.specs.Names.{names_of}
+use Rattle.capwords.specs.Paths.{names_of}
 use Rattle.capspec.specs.Separated.{AreSeparated}
 use Rattle.capspec.specs.Words.{front_while, rest_while, plain_word, is_digit, goes_on, gids_word, is_quote, IsNoValue, IsWrongQuoted, IsWrongPath, IsWrongGids, IsWrongValue}
 use Rattle.capspec.proofs.Fronts.{front_is, rest_is, plain_is}

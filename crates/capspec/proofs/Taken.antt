@@ -16,7 +16,8 @@ use Rattle.capspec.specs.declared.items.Key.TheVariants as keys
 use Rattle.capspec.specs.Bytes.{is_in, is_white, is_mark, begins, ends_word, is_bare_path_byte, SplitsWhile, TakesWord}
 use Rattle.capspec.specs.Items.{is_control, can_be_path, IsNumber, IsQuotedBy, IsPlainOrQuoted, IsPath}
 use Rattle.capspec.specs.Items.Item.{FsName, Path, Uid, Gids, RootSquash}
-use Rattle.capspec.specs.Names.{IsFsName, names_of, are_few_and_short}
+use Rattle.capspec.specs.Names.{IsFsName}
+use Rattle.capwords.specs.Paths.{names_of, are_few_and_short}
 use Rattle.capspec.specs.Words.{front_while, rest_while, plain_word, behind_word, is_digit, is_quote, IsNoValue, IsWrongOther, IsWrongQuoted, IsWrongPath}
 use Rattle.capspec.proofs.Fronts.{which, split_front, split_rest, front_parts, rest_stops, within_front, within_rest}
 use Rattle.capspec.proofs.Valued.{bare_is_plain, digit_is_plain, numeral_digits, quote_not_bare, path_in, path_in_is, quoted_path_in}

@@ -11,7 +11,8 @@ use Rattle.capspec.specs.declared.reading.Refusal.{Refusal}
 use Rattle.capspec.specs.Bytes.{ends_word, is_in}
 use Rattle.capspec.specs.declared.bytes.ByteSet.TheVariants.{AllBut}
 use Rattle.capspec.specs.Items.{Item}
-use Rattle.capspec.specs.Words.{next, front_while, rest_while, is_quote, is_left_out, plain_word, IsWrongFirst, IsWrongSecond, IsWrongOther, IsWrongQuoted, IsWrongPath, IsWrongGids, IsWrongValue, IsWrongItem}
+use Rattle.capspec.specs.Words.{next, front_while, rest_while, is_quote, plain_word, IsWrongFirst, IsWrongSecond, IsWrongOther, IsWrongQuoted, IsWrongPath, IsWrongGids, IsWrongValue, IsWrongItem}
+use Rattle.capwords.specs.Flags.{is_left_out}
 use Rattle.capspec.specs.Faults.{stood, grant_end, ItemsGive, grant_ends, wrong_item, next_item, GrantGives, wrong_first, wrong_second, wrong_items, right_grant, GrantsGive, wrong_grant, last_grant, next_grant, TestsGive, IsFault}
 
 abbrev IsTold : SpecFaultKind → Type 0

@@ -15,7 +15,8 @@ use Rattle.capspec.specs.declared.items.Key.TheVariants as keys
 use Rattle.capspec.specs.Bytes.{is_in, is_white, is_mark, begins, ends_word, is_fs_name_byte, is_bare_path_byte}
 use Rattle.capspec.specs.Items.{Item, key_of, is_comma, IsNumber, IsQuotedBy, IsPath, IsValue}
 use Rattle.capspec.specs.Items.Item.{FsName, Path, Uid, Gids, RootSquash}
-use Rattle.capspec.specs.Names.{IsFsName, names_of}
+use Rattle.capspec.specs.Names.{IsFsName}
+use Rattle.capwords.specs.Paths.{names_of}
 use Rattle.capspec.specs.Separated.{AreSeparated}
 use Rattle.capspec.specs.Words.{front_while, is_digit, goes_on, gids_word, is_quote}
 use Rattle.capspec.proofs.Fronts.{not_byte, front_is}

@@ -9,7 +9,7 @@ use Rattle.capspec.specs.declared.bytes.ByteSet.TheVariants.{White}
 use Rattle.capspec.specs.declared.draft.Draft.{Draft}
 use Rattle.capspec.specs.declared.fault.SpecFaultKind.{SpecFaultKind}
 use Rattle.capspec.specs.declared.fault.SpecFaultKind.TheVariants as kinds
-use Rattle.capspec.specs.declared.flags.Flags4.{Flags4}
+use Rattle.capwords.specs.declared.flags.Flags4.{Flags4}
 use Rattle.capspec.specs.declared.items.Key.{Key}
 use Rattle.capspec.specs.declared.items.Key.TheVariants as keys
 use Rattle.capspec.specs.declared.reading.Refusal.{Refusal}
@@ -21,7 +21,7 @@ use Rattle.capspec.specs.Draft.{no_items, has, names_in, Adds, AddsItem, grant_o
 use Rattle.capspec.specs.Grants.{fsname_in, path_in, uid_in, gids_in, root_squash_in, IsSaidOnce, AreItemsOf, IsGap, AreWordsOf}
 use Rattle.capspec.specs.Items.{Item, key_of, IsItem}
 use Rattle.capspec.specs.Items.Item.{FsName, Path, Uid, Gids, RootSquash}
-use Rattle.capspec.specs.Names.{names_of}
+use Rattle.capwords.specs.Paths.{names_of}
 use Rattle.capspec.specs.Parts.{ReadsItems}
 
 -- a word's key has a byte

@@ -6,17 +6,18 @@ use Rattle.std.specs.List.{AllByRecursion, join_by}
 use Rattle.std.proofs.lemmas.Fmt.{decimal_is_IsNumeral}
 use Rattle.std.proofs.lemmas.List.{append-nil}
 use Rattle.std.proofs.lemmas.List.Elements.{filter_map-append}
-use Rattle.capspec.specs.declared.flags.Flags4.{Flags4}
-use Rattle.capspec.specs.declared.flags.Flags4.TheVariants.{R, Rw, Rwp, Rws, Rwps}
+use Rattle.capwords.specs.declared.flags.Flags4.{Flags4}
+use Rattle.capwords.specs.declared.flags.Flags4.TheVariants.{R, Rw, Rwp, Rws, Rwps}
 use Rattle.capspec.specs.declared.grant.Grant.{Grant}
 use Rattle.capspec.specs.Bytes.{is_mark}
-use Rattle.capspec.specs.Flags.{IsFlags}
+use Rattle.capwords.specs.Flags.{IsFlags, flags_text}
 use Rattle.capspec.specs.Grants.{fsname_in, path_in, uid_in, gids_in, root_squash_in, IsSaidOnce, AreItemsOf, AreWordsOf, IsGrant, Reads, AreNoneOrRead}
 use Rattle.capspec.specs.Items.{Item, is_comma, IsNumber, IsItem}
 use Rattle.capspec.specs.Items.Item.{FsName, Path, Uid, Gids, RootSquash}
-use Rattle.capspec.specs.Names.{IsFsName, slashed}
+use Rattle.capspec.specs.Names.{IsFsName}
+use Rattle.capwords.specs.Paths.{slashed}
 use Rattle.capspec.specs.Separated.{AreSeparated}
-use Rattle.capspec.specs.Written.{flags_text, written_path, fsname_text, path_text, uid_text, gids_text, root_squash_text, grant_text, written}
+use Rattle.capspec.specs.Written.{written_path, fsname_text, path_text, uid_text, gids_text, root_squash_text, grant_text, written}
 use Rattle.capspec.proofs.OneReading.{reads_once}
 use Rattle.capspec.proofs.Slashed.{written_value}
 

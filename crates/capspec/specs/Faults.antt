@@ -4,13 +4,13 @@ use Rattle.std.specs.List.{list_all}
 use Rattle.capspec.specs.declared.fault.SpecFault.{SpecFault}
 use Rattle.capspec.specs.declared.fault.SpecFaultKind.{SpecFaultKind}
 use Rattle.capspec.specs.declared.fault.SpecFaultKind.TheVariants.{Empty, GidsWithoutUid, NoMemory}
-use Rattle.capspec.specs.declared.flags.Flags4.{Flags4}
+use Rattle.capwords.specs.declared.flags.Flags4.{Flags4}
 use Rattle.capspec.specs.declared.grant.Grant.{Grant}
 use Rattle.capspec.specs.declared.items.Key.{Key}
 use Rattle.capspec.specs.declared.items.Key.TheVariants as keys
 use Rattle.capspec.specs.declared.reading.Refusal.{Refusal}
 use Rattle.capspec.specs.Bytes.{is_white, ends_grant}
-use Rattle.capspec.specs.Flags.{IsFlags}
+use Rattle.capwords.specs.Flags.{IsFlags}
 use Rattle.capspec.specs.Grants.{fsname_in, path_in, uid_in, gids_in, root_squash_in, AreItemsOf}
 use Rattle.capspec.specs.Items.{Item, key_of}
 use Rattle.capspec.specs.Items.Item.{Gids}

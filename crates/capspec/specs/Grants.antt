@@ -3,7 +3,7 @@ use Rattle.std.specs.Prelude.{◌≡◌, ◌⊎◌, ℕ, ◌<◌, ◌≤◌, Opt
 use Rattle.std.specs.List.{list_all}
 use Rattle.capspec.specs.declared.grant.Grant.{Grant}
 use Rattle.capspec.specs.Bytes.{is_white, is_mark}
-use Rattle.capspec.specs.Flags.{IsFlags}
+use Rattle.capwords.specs.Flags.{IsFlags}
 use Rattle.capspec.specs.Items.{Item, IsItem}
 use Rattle.capspec.specs.Separated.{AreSeparated}
 use Rattle.capspec.specs.Items.Item.{FsName, Path, Uid, Gids, RootSquash}

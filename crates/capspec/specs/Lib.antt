@@ -1,4 +1,3 @@
-pub mod Flags
 pub mod Bytes
 pub mod Names
 pub mod Separated

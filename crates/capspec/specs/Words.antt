@@ -1,14 +1,13 @@
 -- The words of a grant text, and what is wrong with one: each kind of fault beside its test, in the order of the tests.
-use Rattle.std.specs.Prelude.{◌≡◌, ◌≢◌, ◌⊎◌, ◌≤◌, ◌<◌, ℕ, Bool, false, not, ◌==◌, ◌||◌, ◌&&◌, nat_le, List, [], ◌∷◌, ◌++◌, length, codes, count_by, IsTrue, IsFalse, MatchBool, if◌then◌else◌}
-use Rattle.std.specs.List.{list_all}
+use Rattle.std.specs.Prelude.{◌≡◌, ◌≢◌, ◌⊎◌, ◌≤◌, ◌<◌, ℕ, Bool, false, not, ◌==◌, ◌||◌, ◌&&◌, List, [], ◌∷◌, ◌++◌, length, codes, IsTrue, IsFalse, MatchBool, if◌then◌else◌}
 use Rattle.capspec.specs.declared.bytes.ByteSet.TheVariants.{White, Plain, AllBut}
 use Rattle.capspec.specs.declared.fault.SpecFaultKind.{SpecFaultKind}
 use Rattle.capspec.specs.declared.fault.SpecFaultKind.TheVariants as kinds
-use Rattle.capspec.specs.declared.flags.Flags4.{Flags4}
+use Rattle.capwords.specs.declared.flags.Flags4.{Flags4}
 use Rattle.capspec.specs.declared.items.Key.{Key}
 use Rattle.capspec.specs.declared.items.Key.TheVariants as keys
 use Rattle.capspec.specs.Bytes.{is_in, is_within, begins, ends_word, TakesWord}
-use Rattle.capspec.specs.Flags.{IsFlags}
+use Rattle.capwords.specs.Flags.{IsFlags, is_left_out}
 use Rattle.capspec.specs.Items.{Item, key_of, key_text, is_comma, IsNumber, IsValue, IsItem}
 use Rattle.capspec.specs.Separated.{AreSeparated}
 
@@ -64,18 +63,6 @@ IsWrongFirst before word kind =
     ⊎ ((before < 16) × (word ≢ codes "allow") × (kind ≡ kinds.NotAllow))
 
 -- ---- the second word
-
--- the letter of a flag of this profile, or f
-abbrev pub is_flag : ℕ → Bool
-is_flag b = (b == 114) || (b == 119) || (b == 112) || (b == 115) || (b == 102)
-
--- how often a byte stands in the word
-abbrev pub count_of : ℕ → List ℕ → ℕ
-count_of byte word = count_by (λ b. b == byte) word
-
--- the flag f, and else only flags of this profile, none of them twice
-abbrev pub is_left_out : List ℕ → Bool
-is_left_out word = list_all is_flag word && nat_le (count_of 114 word) 1 && nat_le (count_of 119 word) 1 && nat_le (count_of 112 word) 1 && nat_le (count_of 115 word) 1 && (count_of 102 word == 1)
 
 abbrev pub IsWrongSecond : List ℕ → SpecFaultKind → Type 0
 IsWrongSecond word kind = ((flags : Flags4) → IsFlags word flags → ⊥) × (kind ≡ (if is_left_out word then kinds.LeftOut else kinds.BadFlags))

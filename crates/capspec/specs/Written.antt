@@ -2,19 +2,10 @@
 use Rattle.std.specs.Prelude.{ℕ, Bool, true, false, Option, Some, None, not, ◌==◌, List, [], ◌∷◌, ◌++◌, codes, if◌then◌else◌}
 use Rattle.std.specs.Fmt.{decimal}
 use Rattle.std.specs.List.{list_all, join_by}
-use Rattle.capspec.specs.declared.flags.Flags4.{Flags4}
-use Rattle.capspec.specs.declared.flags.Flags4.TheVariants.{R, Rw, Rwp, Rws, Rwps}
 use Rattle.capspec.specs.declared.grant.Grant.{Grant}
 use Rattle.capspec.specs.Bytes.{is_bare_path_byte}
-use Rattle.capspec.specs.Names.{slashed}
-
--- the letters of the flags
-abbrev pub flags_text : Flags4 → List ℕ
-flags_text R = codes "r"
-flags_text Rw = codes "rw"
-flags_text Rwp = codes "rwp"
-flags_text Rws = codes "rws"
-flags_text Rwps = codes "rwps"
+use Rattle.capwords.specs.Flags.{flags_text}
+use Rattle.capwords.specs.Paths.{slashed}
 
 -- whether each byte may stand in a path without quotes
 abbrev pub can_be_bare : List ℕ → Bool

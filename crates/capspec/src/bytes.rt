@@ -9,7 +9,7 @@ ghost use Rattle.capspec.specs.declared.bytes.ByteSet.TheVariants.{BarePath};
 const BLOCK: usize = 16;
 
 /// A set of bytes that words of a grant text are made of.
-#[derive(Clone, Copy, Debug, PartialEq, Eq)]
+#[derive(Clone, Copy)]
 pub(crate) enum ByteSet {
     /// A space, a tab or a line feed.
     White,

@@ -1,11 +1,11 @@
 //! A grant as far as its text was read.
 
-use crate::flags::Flags4;
 use crate::fsname::FsName;
 use crate::gids::Gids;
 use crate::grant::Grant;
 use crate::items::Key;
 use crate::tree_path::TreePath;
+use capwords::Flags4;
 use std::alloc::{AllocError, Global};
 
 /// What the items of one grant have said so far. It takes no memory: its path is still a part of the text.

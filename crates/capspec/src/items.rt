@@ -12,7 +12,7 @@ use crate::fault::SpecFaultKind;
 use crate::values::{read_fsname, read_gids, read_path, read_uid};
 
 /// What an item speaks of.
-#[derive(Clone, Copy, Debug, PartialEq, Eq)]
+#[derive(Clone, Copy, PartialEq, Eq)]
 pub(crate) enum Key {
     FsName,
     Path,

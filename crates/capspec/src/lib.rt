@@ -6,22 +6,20 @@
 mod bytes;
 mod draft;
 mod fault;
-mod flags;
 mod fsname;
 mod gids;
 mod grant;
 mod items;
 mod laws;
 mod measure;
-mod names;
 mod path;
 mod reading;
 mod tree_path;
 mod values;
 mod writing;
 
+pub use capwords::Flags4;
 pub use fault::{SpecFault, SpecFaultKind};
-pub use flags::Flags4;
 pub use fsname::FsName;
 pub use gids::Gids;
 pub use grant::{Grant, Grants};

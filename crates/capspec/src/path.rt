@@ -1,7 +1,7 @@
 //! The texts of paths.
 
 ghost use Rattle.std.specs.Prelude.{◌≡◌, [], ◌∷◌, ◌++◌, IfOk, MatchOption, OnOk, IsTrue, map};
-ghost use Rattle.capspec.specs.Names.{names_of, slashed, has_double_slash, are_few_and_short};
+ghost use Rattle.capwords.specs.Paths.{names_of, slashed, has_double_slash, are_few_and_short};
 ghost use Rattle.capspec.specs.Written.{can_be_bare, has_no_double_quote, written_path, path_text};
 
 use crate::bytes::{ByteSet, split_while};

@@ -1,27 +1,26 @@
 //! Reading of whole grant texts.
 
-ghost use Rattle.std.specs.Prelude.{◌≡◌, ◌⊎◌, ℕ, ◌<◌, ◌≤◌, ◌-◌, ◌++◌, ◌∷◌, List, [], length, IsTrue, IfOk, IfErr, IfSome, IsOkAnd, MatchOption, MatchResult, None, Err};
-ghost use Rattle.std.specs.List.{list_all};
+ghost use Rattle.std.specs.Prelude.{◌≡◌, ◌⊎◌, ℕ, ◌<◌, ◌≤◌, ◌-◌, ◌++◌, ◌∷◌, List, [], length, IsTrue, IfOk, IfErr, IsOkAnd, MatchResult, None, Err};
 ghost use Rattle.capspec.specs.Bytes.{ends_word, ends_grant};
 ghost use Rattle.capspec.specs.Draft.{grant_of, no_items};
 ghost use Rattle.capspec.specs.Faults.{ItemsGive, GrantGives, IsFault, IsNoMemory};
-ghost use Rattle.capspec.specs.Flags.{IsFlags};
+ghost use Rattle.capwords.specs.Flags.{IsFlags, is_left_out};
 ghost use Rattle.capspec.specs.Grants.{Reads};
 ghost use Rattle.capspec.specs.Parts.{ReadsItems, ReadsGrant};
-ghost use Rattle.capspec.specs.Words.{is_flag, count_of, is_left_out, IsWrongSecond};
-ghost use Rattle.capspec.specs.declared.flags.Flags4.{Flags4};
+ghost use Rattle.capspec.specs.Words.{IsWrongSecond};
+ghost use Rattle.capwords.specs.declared.flags.Flags4.{Flags4};
 ghost use Rattle.capspec.specs.declared.grant.Grant.{Grant};
 
 use crate::bytes::{ByteSet, ends_grant, ends_word, split_while, strip};
 use crate::draft::Draft;
 use crate::fault::{SpecFault, SpecFaultKind};
-use crate::flags::Flags4;
 use crate::grant::{Grant, Grants, MAX_GRANTS};
 use crate::items::read_item;
+use capwords::{Flags4, is_left_out};
 use std::alloc::{AllocError, Global};
 
 /// A fault, and how many bytes are left of the text from its place on.
-#[derive(Clone, Copy, Debug)]
+#[derive(Clone, Copy)]
 struct Refusal {
     left: usize,
     kind: SpecFaultKind,
@@ -50,53 +49,15 @@ impl Refusal {
     }
 }
 
-// The flags that a word names, if it is a flag word.
-fn named_flags(word: &[u8]) -> Option<Flags4>
-    ensures { MatchOption result ((flags : Flags4) → IsFlags word.now flags → ⊥) (IsFlags word.now) }
-{
-    match word {
-        b"r" => Some(Flags4::R),
-        b"rw" => Some(Flags4::Rw),
-        b"rwp" => Some(Flags4::Rwp),
-        b"rws" => Some(Flags4::Rws),
-        b"rwps" | b"*" | b"all" => Some(Flags4::Rwps),
-        _ => None,
-    }
-}
-
 fn read_flags(word: &[u8]) -> Result<Flags4, SpecFaultKind>
     ensures ok { IfOk result (IsFlags word.now) }
     ensures err { IfErr result (IsWrongSecond word.now) }
 {
-    match named_flags(word) {
+    match Flags4::read(word) {
         Some(flags) => Ok(flags),
         None if is_left_out(word) => Err(SpecFaultKind::LeftOut),
         None => Err(SpecFaultKind::BadFlags),
     }
-}
-
-// Whether a word has the flag f, and else only flags of this profile, none of them twice.
-fn is_left_out(word: &[u8]) -> bool
-    ensures { result ≡ is_left_out word.now }
-{
-    has_flags_alone(word)
-        && count_of(b'r', word) <= 1
-        && count_of(b'w', word) <= 1
-        && count_of(b'p', word) <= 1
-        && count_of(b's', word) <= 1
-        && count_of(b'f', word) == 1
-}
-
-fn has_flags_alone(word: &[u8]) -> bool
-    ensures { result ≡ list_all is_flag word.now }
-{
-    word.iter().all(|letter| matches!(letter, b'r' | b'w' | b'p' | b's' | b'f'))
-}
-
-fn count_of(byte: u8, word: &[u8]) -> usize
-    ensures { result ≡ count_of byte word.now }
-{
-    word.iter().filter(|other| **other == byte).count()
 }
 
 // Reads the items of a grant into its draft, up to the mark or the end behind them.

@@ -1,8 +1,8 @@
 //! Paths in the tree.
 
 use crate::measure::{count_slashes, has_fit_names};
-use crate::names::is_text_of;
 use crate::path::{is_slashed, split_names, write_names};
+use capwords::is_text_of;
 use std::alloc::{AllocError, Global};
 use std::marker::Model;
 
@@ -25,7 +25,7 @@ impl Drop for TreePath {
 
 impl Model for TreePath {
     ghost use Rattle.std.specs.Prelude.{◌≡◌, ℕ, List, length};
-    ghost use Rattle.capspec.specs.Names.{names_of, slashed};
+    ghost use Rattle.capwords.specs.Paths.{names_of, slashed};
 
     ghost Value = { List (List ℕ) };
 
@@ -38,7 +38,7 @@ impl TreePath {
     ghost use Rattle.std.specs.Prelude.{◌≡◌, ◌++◌, IfOk, OnOk, OnErr, All, IsTrue, IsFalse, MatchOption, map};
     ghost use Rattle.std.specs.List.{starts_with};
     ghost use Rattle.std.specs.Str.{bytes_eq};
-    ghost use Rattle.capspec.specs.Names.{names_of, is_name, slashed, are_few_and_short};
+    ghost use Rattle.capwords.specs.Paths.{names_of, is_name, slashed, are_few_and_short};
 
     /// The path that a text names. Slashes only separate: leading, trailing and doubled ones mean nothing.
     pub fn from_text(alloc: Global, text: &[u8]) -> Result<TreePath, AllocError>

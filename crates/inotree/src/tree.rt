@@ -2,7 +2,7 @@
 ghost use Rattle.std.specs.Prelude.{◌≡◌, ℕ, ◌+◌, ◌≤◌, ◌&&◌, true, not, nat_le, [], ◌∷◌, Some, None, is_some, if◌then◌else◌, IfOk, IfSome, OnOk, OnErr, All, Contains, IsTrue, map as each};
 ghost use Rattle.std.specs.Option.{option_copied, option_map};
 ghost use Rattle.std.specs.FinMap as map;
-ghost use Rattle.capspec.specs.Names.{is_name};
+ghost use Rattle.capwords.specs.Paths.{is_name};
 ghost use Rattle.inotree.specs.Inodes.{with_setting, with_attr, with_attribute, without_attribute, with_snapshot, without_snapshot};
 ghost use Rattle.capbits.specs.Refusal.{first_failing};
 ghost use Rattle.inotree.specs.Tree.{IsTree, place, parent, child, follow, path_of, is_directory, is_within, depth, reaches};

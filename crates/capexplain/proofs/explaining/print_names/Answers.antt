@@ -1,5 +1,5 @@
 use Rattle.std.proofs.Common.{◌++◌, ◌∷◌, [], List, ℕ, ◌+◌, map, drop, ap, sym, ◌∙◌, append_assoc, slice_index_or, Bor}
-use Rattle.capspec.specs.Names.{slashed}
+use Rattle.capwords.specs.Paths.{slashed}
 use Rattle.capspec.proofs.OneText.{rest-cons, none_left}
 use Rattle.capexplain.proofs.explaining.print_names.Goals as goal
 

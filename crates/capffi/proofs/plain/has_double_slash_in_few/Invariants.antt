@@ -1,5 +1,5 @@
 use Rattle.std.proofs.Common.{◌≡◌, ◌*◌, drop}
-use Rattle.capspec.specs.Names.{has_double_slash}
+use Rattle.capwords.specs.Paths.{has_double_slash}
 use Rattle.capffi.proofs.plain.has_double_slash_in_few.Given as goal
 
 abbrev pub invariant-loop-pair : goal.invariant-loop-pair

@@ -1,6 +1,6 @@
 use Rattle.std.proofs.Common.{◌≡◌, ◌+◌, ◌-◌, ◌*◌, ◌≤◌, ◌||◌, ℕ, Bool, List, length, drop, false, sym, ap, ◌∙◌, arith}
 use Rattle.std.proofs.Math.Bool.{or-false}
-use Rattle.capspec.specs.Names.{has_double_slash}
+use Rattle.capwords.specs.Paths.{has_double_slash}
 use Rattle.capspec.proofs.OneText.{no_pair}
 use Rattle.capffi.proofs.Slashes.{before}
 use Rattle.capffi.proofs.plain.has_double_slash_in_many.Goals as goal

@@ -1,5 +1,5 @@
 use Rattle.std.proofs.Common.{refl, sym}
-use Rattle.capspec.specs.Names.{names_of}
+use Rattle.capwords.specs.Paths.{names_of}
 use Rattle.capspec.specs.Items.Item.{FsName, Path, Uid, Gids, RootSquash}
 use Rattle.capspec.proofs.Drafting.{takes_path, takes_nothing}
 use Rattle.capspec.proofs.items.read_value.Goals as goal

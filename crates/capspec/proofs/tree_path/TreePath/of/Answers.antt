@@ -1,5 +1,5 @@
 use Rattle.std.proofs.Common.{◌++◌, ◌∷◌, [], List, ℕ, ◌+◌, map, drop, ap, sym, ◌∙◌, append_assoc, slice_index_or, Bor}
-use Rattle.capspec.specs.Names.{names_of, slashed}
+use Rattle.capwords.specs.Paths.{names_of, slashed}
 use Rattle.capspec.proofs.OneText.{names_back, rest-cons, all_written}
 use Rattle.capspec.proofs.tree_path.TreePath.of.Goals as goal
 

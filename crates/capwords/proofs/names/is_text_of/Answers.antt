@@ -1,6 +1,6 @@
 use Rattle.std.proofs.Common.{◌-◌, arith, refl}
-use Rattle.capspec.proofs.Backwards.{too_short, other_name, no_slash, none}
-use Rattle.capspec.proofs.names.is_text_of.Goals as goal
+use Rattle.capwords.proofs.Backwards.{too_short, other_name, no_slash, none}
+use Rattle.capwords.proofs.names.is_text_of.Goals as goal
 
 pub returns-then-end-name : goal.returns-then-end-name
 returns-then-end-name c =

@@ -1,11 +1,11 @@
 //! A path's text beside the names of a path.
 
 ghost use Rattle.std.specs.Prelude.{◌≡◌, ◌↔◌, ◌+◌, ◌*◌, ◌<◌, ◌≤◌, IsTrue, length, map, slice_index};
-ghost use Rattle.capspec.specs.Names.{slashed};
+ghost use Rattle.capwords.specs.Paths.{slashed};
 
 /// Whether a text is these names with a slash before each. It goes from the last name on, by which paths mostly differ.
 #[inline(always)]
-pub(crate) fn is_text_of(text: &[u8], names: &[&[u8]]) -> bool
+pub fn is_text_of(text: &[u8], names: &[&[u8]]) -> bool
     ensures { IsTrue result ↔ (text.now ≡ slashed (map (λ name. name.now) names.now)) }
 {
     let mut end = text.len();

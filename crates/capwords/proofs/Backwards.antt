@@ -1,10 +1,13 @@
 -- A text compared with names from the last one on.
 use Rattle.std.proofs.Common.{◌≡◌, ◌≢◌, ℕ, ◌+◌, ◌-◌, ◌<◌, ◌≤◌, suc, Bool, true, false, List, [], ◌∷◌, ◌++◌, length, take, drop, map, get_or, sym, ap, ◌∙◌, arith, Bor, append_assoc}
 use Rattle.std.proofs.lemmas.Bool.{true≢false}
+use Rattle.std.proofs.lemmas.List.Concat.{flat_map-append}
 use Rattle.std.proofs.lemmas.List.{append_cancel_right, take-append-drop, length-append, map-append, length-take-le, append-nil, take_more, drop-take, get_or-take}
 use Rattle.std.proofs.Math.Seq.{drop-append_seam, get_or-append_seam}
-use Rattle.capspec.specs.Names.{slashed}
-use Rattle.capspec.proofs.OneText.{slashed-append}
+use Rattle.capwords.specs.Paths.{slashed}
+
+pub slashed-append : (xs ys : List (List ℕ)) → slashed (xs ++ ys) ≡ slashed xs ++ slashed ys
+slashed-append xs ys = flat_map-append (λ name. 47 ∷ name) xs ys
 
 abbrev texts : List (Bor (List ℕ)) → List (List ℕ)
 texts names = map (λ name. name.now) names
