@@ -4,7 +4,7 @@ ghost use mathlib.Core.List.{IsPrefix};
 ghost use Rattle.published.specs.Rows.{Legal};
 
 use crate::ledger::Server;
-use capcore::Row;
+use capevents::Row;
 use logbook::{Gain, Plain, Play, Rule, Seen, Word};
 use std::marker::{Model, PhantomData};
 

@@ -13,7 +13,7 @@ use crate::recorder::{NewRows, Recorder};
 use crate::staging::{stage_changes, stage_history, stage_view};
 use crate::value::Published;
 use crate::witness::Witness;
-use capcore::Row;
+use capevents::Row;
 use capview::{View, ViewChange};
 use inotree::Tree;
 use sessiontab::Sessions;

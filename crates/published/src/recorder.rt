@@ -6,7 +6,7 @@ ghost use Rattle.published.specs.Rows.{Legal, head_of, next_of};
 
 use crate::beginning::{Add, Beginning, Counted, Head, Law, Look, Make, Nothing, Rows};
 use crate::ledger::Server;
-use capcore::Row;
+use capevents::Row;
 use logbook::{Offer, Pen, Seen, Start, Word};
 use std::alloc::AllocError;
 use std::marker::Model;

@@ -9,7 +9,7 @@ use crate::ledger::Server;
 use crate::place::PublishedWriter;
 use crate::recorder::Recorder;
 use crate::value::Stage;
-use capcore::Row;
+use capevents::Row;
 use capview::{View, ViewChange};
 use inotree::Tree;
 use sessiontab::Sessions;
