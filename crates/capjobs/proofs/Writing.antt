@@ -6,7 +6,7 @@ use Rattle.std.proofs.lemmas.List.{append-nil}
 use Rattle.caplines.specs.Lines.{lines}
 use Rattle.caplines.specs.declared.fault.ScriptFault.{ScriptFault}
 use Rattle.caplines.specs.declared.fault.ScriptFault.TheVariants as stops
-use Rattle.capscript.proofs.KnownBytes.{none_appended}
+use Rattle.capstreams.proofs.KnownBytes.{none_appended}
 use Rattle.capjobs.specs.declared.fault.ServeFault.{ServeFault}
 use Rattle.capjobs.specs.declared.fault.ServeFault.TheVariants.{Script, Clients, HistoryFull}
 use Rattle.capjobs.specs.Jobs.{Work, no_work, IsFaultAt, StopsAt}

@@ -6,7 +6,7 @@ ghost use Rattle.capsteps.specs.declared.stop.Stop.TheVariants as stop_kind;
 ghost use Rattle.capserver.specs.Opened.{opened};
 ghost use Rattle.caplines.specs.Lines.{lines, longest_script};
 ghost use Rattle.caplines.specs.declared.fault.ScriptFault.TheVariants as stops;
-ghost use Rattle.capscript.specs.Watched.{inner_of, has_failed, has_ended};
+ghost use Rattle.capstreams.specs.Watched.{inner_of, has_failed, has_ended};
 ghost use Rattle.capjobs.specs.declared.fault.ServeFault.TheVariants as faults;
 ghost use Rattle.capjobs.specs.Jobs.{work_of, event_count};
 ghost use Rattle.capjobs.specs.Served.{IsHistory, IsServed, IsUnserved, IsWritten, most_rows};

@@ -1,6 +1,6 @@
 -- Readers and writers that remember whether they failed, and whether they came to their end.
 use Rattle.std.specs.Prelude.{Bool}
-use Rattle.capscript.specs.declared.watched.Watched.{Watched}
+use Rattle.capstreams.specs.declared.watched.Watched.{Watched}
 
 -- the reader or writer inside
 abbrev pub inner_of : {T : Type 0} → Watched T → T

@@ -3,7 +3,7 @@ ghost use Rattle.std.specs.Prelude.{◌≡◌, ◌⊎◌, ◌↔◌, ◌+◌, �
 ghost use Rattle.std.specs.Io.KnownBytes.{Appends, Consumes, IsAtEnd};
 ghost use Rattle.caplines.specs.declared.fault.ScriptFault.TheVariants as stops;
 ghost use Rattle.caplines.specs.Lines.{longest_script};
-ghost use Rattle.capscript.specs.Watched.{inner_of, has_failed, has_ended};
+ghost use Rattle.capstreams.specs.Watched.{inner_of, has_failed, has_ended};
 
 use crate::watched::Watched;
 use caplines::ScriptFault;

@@ -1,8 +1,8 @@
 use Rattle.std.proofs.Common.{◌≡◌, ℕ, List, ◌++◌, length}
 use Rattle.std.specs.Prelude.{IsFalse}
 use Rattle.std.specs.Io.KnownBytes.{Appends}
-use Rattle.capscript.specs.Watched.{inner_of, has_failed}
-use Rattle.capscript.proofs.input.write_text.Given as goal
+use Rattle.capstreams.specs.Watched.{inner_of, has_failed}
+use Rattle.capstreams.proofs.input.write_text.Given as goal
 
 -- the writer took what stands before the rest, and no write failed
 abbrev pub invariant-loop-rest : goal.invariant-loop-rest

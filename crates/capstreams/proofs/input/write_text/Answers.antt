@@ -1,10 +1,10 @@
 use Rattle.std.proofs.Common.{◌≡◌, ℕ, List, [], ◌++◌, refl, inl, inr, sym, ap, arith, ◌∙◌, take, drop, length, append_assoc, length-drop}
 use Rattle.std.proofs.lemmas.List.{take-append-drop, take_rest, append-nil}
 use Rattle.std.proofs.lemmas.Bool.{eqb-true, false≢true}
-use Rattle.capscript.specs.Watched.{inner_of}
-use Rattle.capscript.proofs.KnownBytes.{none_appended, appends_more, appends_kept, appends_same, empty_list}
-use Rattle.capscript.proofs.Flags.{still_clear}
-use Rattle.capscript.proofs.input.write_text.Goals as goal
+use Rattle.capstreams.specs.Watched.{inner_of}
+use Rattle.capstreams.proofs.KnownBytes.{none_appended, appends_more, appends_kept, appends_same, empty_list}
+use Rattle.capstreams.proofs.Flags.{still_clear}
+use Rattle.capstreams.proofs.input.write_text.Goals as goal
 
 pub loop-rest-init : goal.loop-rest-init
 loop-rest-init g c = record { took = ([], refl, none_appended (g.W.Write.contents (inner_of c.args.writer.now))); clear = c.requires }

@@ -1,8 +1,8 @@
 use Rattle.std.proofs.Common.{◌≡◌, ◌-◌, ◌≤◌, length}
 use Rattle.std.specs.Prelude.{IsFalse}
 use Rattle.std.specs.Io.KnownBytes.{Consumes}
-use Rattle.capscript.specs.Watched.{inner_of, has_failed, has_ended}
-use Rattle.capscript.proofs.input.read_script.Given as goal
+use Rattle.capstreams.specs.Watched.{inner_of, has_failed, has_ended}
+use Rattle.capstreams.proofs.input.read_script.Given as goal
 
 -- what was read so far is what was taken from the reader, and no read failed or gave none
 abbrev pub invariant-loop-buffer : goal.invariant-loop-buffer

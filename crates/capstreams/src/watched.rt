@@ -17,7 +17,7 @@ pub struct Watched<T> {
 }
 
 impl<T> Watched<T> {
-    ghost use Rattle.capscript.specs.Watched.{inner_of, has_failed, has_ended};
+    ghost use Rattle.capstreams.specs.Watched.{inner_of, has_failed, has_ended};
 
     /// The same reader or writer, with clear flags.
     pub fn new(inner: T) -> Self
@@ -48,7 +48,7 @@ impl<T> Watched<T> {
 }
 
 impl<R: Read> Read for Watched<R> {
-    ghost use Rattle.capscript.specs.Watched.{inner_of, has_failed, has_ended};
+    ghost use Rattle.capstreams.specs.Watched.{inner_of, has_failed, has_ended};
 
     ghost remaining = { λ reader. R.remaining (inner_of reader) };
 
@@ -68,7 +68,7 @@ impl<R: Read> Read for Watched<R> {
 }
 
 impl<W: Write> Write for Watched<W> {
-    ghost use Rattle.capscript.specs.Watched.{inner_of, has_failed};
+    ghost use Rattle.capstreams.specs.Watched.{inner_of, has_failed};
 
     ghost contents = { λ writer. W.contents (inner_of writer) };
 

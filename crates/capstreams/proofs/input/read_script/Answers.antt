@@ -1,10 +1,10 @@
 use Rattle.std.proofs.Common.{◌≡◌, ℕ, refl, arith, ap, inr, ◌++◌, ◌∙◌, take, drop, length, length-append, length-drop}
 use Rattle.std.proofs.lemmas.Bool.{false≢true}
 use Rattle.std.proofs.lemmas.List.{length-take}
-use Rattle.capscript.specs.Watched.{inner_of}
-use Rattle.capscript.proofs.KnownBytes.{none_consumed, consumes_more, consumes_kept, consumes_nothing, consumed_is_there, front_of}
-use Rattle.capscript.proofs.Flags.{still_clear}
-use Rattle.capscript.proofs.input.read_script.Goals as goal
+use Rattle.capstreams.specs.Watched.{inner_of}
+use Rattle.capstreams.proofs.KnownBytes.{none_consumed, consumes_more, consumes_kept, consumes_nothing, consumed_is_there, front_of}
+use Rattle.capstreams.proofs.Flags.{still_clear}
+use Rattle.capstreams.proofs.input.read_script.Goals as goal
 
 pub loop-buffer-init : goal.loop-buffer-init
 loop-buffer-init g c = record {
