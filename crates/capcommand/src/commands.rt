@@ -12,7 +12,7 @@ ghost use Rattle.caplines.specs.declared.fault.ScriptFault.{ScriptFault as AScri
 ghost use Rattle.caplines.specs.Lines.{lines, longest_script};
 ghost use Rattle.capscript.specs.Transcript.{IsTranscript};
 ghost use Rattle.capstreams.specs.Watched.{inner_of, has_failed, has_ended};
-ghost use Rattle.capjobs.specs.declared.fault.ServeFault.{ServeFault as AServeFault};
+ghost use Rattle.capplan.specs.declared.fault.ServeFault.{ServeFault as AServeFault};
 ghost use Rattle.capjobs.specs.Served.{IsServed};
 ghost use Rattle.capcommand.specs.declared.fault.Fault.{Fault as AFault};
 ghost use Rattle.capcommand.specs.declared.fault.Fault.TheVariants as faults;

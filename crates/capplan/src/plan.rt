@@ -3,13 +3,13 @@ ghost use Rattle.std.specs.Prelude.{◌≡◌, ◌==◌, ◌≤◌, ◌⊎◌, �
 ghost use Rattle.std.specs.List.{position};
 ghost use Rattle.caplines.specs.Lines.{lines, longest_script};
 ghost use Rattle.caplines.specs.declared.fault.ScriptFault.TheVariants as stops;
-ghost use Rattle.capjobs.specs.declared.fault.ServeFault.TheVariants as faults;
-ghost use Rattle.capjobs.specs.Jobs.{work_of, no_work, calls_of, calls_by, with_event, is_known, first_word, Takes, TakesEvent, TakesAll, IsFaultBy, IsFaultAt, StopsAt};
+ghost use Rattle.capplan.specs.declared.fault.ServeFault.TheVariants as faults;
+ghost use Rattle.capplan.specs.Jobs.{work_of, no_work, calls_of, calls_by, with_event, is_known, first_word, Takes, TakesEvent, TakesAll, IsFaultBy, IsFaultAt, StopsAt};
 
 use crate::fault::ServeFault;
 use capbits::ClientId;
-use capcore::Event;
-use capscript::{LineFault, read_line, split_at_space, split_line};
+use capevents::Event;
+use caplines::{LineFault, read_line, split_at_space, split_line};
 use std::alloc::{AllocError, Global};
 
 /// How many clients may have lines behind the line `threads`: each has a pass of its own, beside that of the lines before.

@@ -7,8 +7,8 @@ use Rattle.std.proofs.lemmas.List.Sums.{sum_by-cons}
 use Rattle.lockmachine.proofs.Positions.{at_position}
 use Rattle.capbits.specs.declared.ids.ClientId.{ClientId}
 use Rattle.capevents.specs.declared.event.Event.{Event}
-use Rattle.capjobs.specs.declared.plan.Job.{Job}
-use Rattle.capjobs.specs.Jobs.{Calls, calls_by, calls_of, is_of, is_known, with_event, job_events}
+use Rattle.capplan.specs.declared.plan.Job.{Job}
+use Rattle.capplan.specs.Jobs.{Calls, calls_by, calls_of, is_of, is_known, with_event, job_events}
 
 abbrev pub of : ClientId → Job → Bool
 of client job = job.client.0 == client.0

@@ -2,8 +2,8 @@
 use Rattle.capsteps.specs.declared.stop.Stop.{Stop}
 use Rattle.capsteps.specs.declared.stop.Stop.TheVariants as stopped
 use Rattle.caplines.specs.declared.fault.ScriptFault.TheVariants as stops
-use Rattle.capjobs.specs.declared.fault.ServeFault.{ServeFault}
-use Rattle.capjobs.specs.declared.fault.ServeFault.TheVariants.{Script, HistoryFull}
+use Rattle.capplan.specs.declared.fault.ServeFault.{ServeFault}
+use Rattle.capplan.specs.declared.fault.ServeFault.TheVariants.{Script, HistoryFull}
 
 abbrev pub fault_of : Stop → ServeFault
 fault_of stopped.NoMemory = Script stops.NoMemory

@@ -10,10 +10,10 @@ use Rattle.caplines.specs.Events.{Reads, client_of}
 use Rattle.caplines.specs.Faults.{HasFault}
 use Rattle.caplines.specs.Lines.{is_skipped}
 use Rattle.caplines.specs.Words.{words}
-use Rattle.capjobs.specs.declared.fault.ServeFault.{ServeFault}
-use Rattle.capjobs.specs.declared.fault.ServeFault.TheVariants.{Script, Clients, HistoryFull}
-use Rattle.capjobs.specs.declared.plan.Job.{Job}
-use Rattle.capjobs.specs.declared.plan.Plan.{Plan}
+use Rattle.capplan.specs.declared.fault.ServeFault.{ServeFault}
+use Rattle.capplan.specs.declared.fault.ServeFault.TheVariants.{Script, Clients, HistoryFull}
+use Rattle.capplan.specs.declared.plan.Job.{Job}
+use Rattle.capplan.specs.declared.plan.Plan.{Plan}
 
 -- what a client calls, in order
 pub record Calls : Type 0 where
