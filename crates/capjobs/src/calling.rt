@@ -1,7 +1,7 @@
 //! The calls of a plan, each client's by a thread and a pass of its own.
 ghost use Rattle.std.specs.Prelude.{◌≡◌, ◌≤◌, ◌+◌, length, vec_len, IfOk, IsTrue};
 ghost use Rattle.std.specs.List.{sum_by};
-ghost use Rattle.capserver.specs.Passes.{AllNew};
+ghost use Rattle.cappass.specs.Passes.{AllNew};
 ghost use Rattle.capplan.specs.Jobs.{work_of, event_count};
 
 use capevents::Event;

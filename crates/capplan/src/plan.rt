@@ -1,5 +1,5 @@
 //! What the lines of a script call, and for whom.
-ghost use Rattle.std.specs.Prelude.{◌≡◌, ◌==◌, ◌≤◌, ◌⊎◌, ◌++◌, [], ◌∷◌, map, length, vec_len, Some, None, OnOk, OnErr, IfOk, IfErr, Err, false, IsFalse};
+ghost use Rattle.std.specs.Prelude.{◌≡◌, ◌==◌, ◌≤◌, ◌⊎◌, [], ◌∷◌, length, vec_len, Some, None, OnOk, OnErr, IfOk, IfErr, Err, false, IsFalse};
 ghost use Rattle.std.specs.List.{position};
 ghost use Rattle.caplines.specs.Lines.{lines, longest_script};
 ghost use Rattle.caplines.specs.declared.fault.ScriptFault.TheVariants as stops;

@@ -1,6 +1,6 @@
 //! Running a script.
 ghost use Rattle.std.specs.Prelude.{◌≡◌, ◌≢◌, ◌⊎◌, ◌↔◌, ◌<◌, ◌≤◌, ◌+◌, ◌++◌, ℕ, List, [], length, IsTrue, IsFalse, IfOk, IfErr, IfSome, OnOk, OnErr, Err};
-ghost use Rattle.std.specs.Io.KnownBytes.{Keeps, Appends, Consumes};
+ghost use Rattle.std.specs.Io.KnownBytes.{Appends, Consumes};
 ghost use Rattle.inotree.specs.Calls.{first_tree};
 ghost use Rattle.capsteps.specs.History.{HasNoStray, IsOpening};
 ghost use Rattle.caplines.specs.declared.fault.ScriptFault.TheVariants as stops;

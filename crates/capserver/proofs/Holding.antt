@@ -18,7 +18,7 @@ use Rattle.published.specs.Rows.{Legal}
 use Rattle.published.proofs.Beginnings.{prefix_more, prefix_trans, prefix_length}
 use Rattle.capserver.specs.Fresh.{IsFresh}
 use Rattle.capserver.specs.Held.{IsHeld, IsLed}
-use Rattle.capserver.specs.Passes.{PassState, pass_id}
+use Rattle.cappass.specs.Passes.{PassState, pass_id}
 
 -- at the opening there are no rows
 pub led_first : (opening : State) (max_rows : ℕ) (core : Told) → core.state ≡ opening → core.rows ≡ [] → core.max_rows ≡ max_rows → IsLed opening max_rows core

@@ -4,8 +4,8 @@ use Rattle.std.specs.Coded.{Coded, code_by, coded×, coded_ℕ}
 use mathlib.Core.List.{IsPrefix}
 use Rattle.capbits.specs.declared.ids.PassId.{PassId}
 use Rattle.capevents.specs.declared.row.Row.{Row}
-use Rattle.capserver.specs.declared.server.StartFault.{StartFault}
-use Rattle.capserver.specs.declared.server.StartFault.TheVariants.{BadCount, NoMemory, NoReader}
+use Rattle.cappass.specs.declared.passes.StartFault.{StartFault}
+use Rattle.cappass.specs.declared.passes.StartFault.TheVariants.{BadCount, NoMemory, NoReader}
 use Rattle.published.specs.Rows.{rows_code}
 
 -- a pass's number, how many of its calls were answered, and the rows of the history that it knows

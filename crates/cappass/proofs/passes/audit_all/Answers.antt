@@ -1,9 +1,9 @@
 use Rattle.std.proofs.Common.{◌≡◌, ◌∙◌, ℕ, suc, ◌+◌, List, take, subst, arith}
 use mathlib.Core.List.{IsPrefix}
 use Rattle.capevents.specs.declared.row.Row.{Row}
-use Rattle.capserver.specs.Passes.{AllBegin}
-use Rattle.capserver.proofs.Numbering.{begin_more, begin_all}
-use Rattle.capserver.proofs.server.audit_all.Goals as goal
+use Rattle.cappass.specs.Passes.{AllBegin}
+use Rattle.cappass.proofs.Numbering.{begin_more, begin_all}
+use Rattle.cappass.proofs.passes.audit_all.Goals as goal
 
 pub loop-pass-preserved : goal.loop-pass-preserved
 loop-pass-preserved g c =

@@ -1,7 +1,7 @@
 use Rattle.std.proofs.Common.{◌≡◌, ◌+◌, [], ◌∷◌, length, ap, sym, ◌∙◌, subst, arith, length-append}
-use Rattle.capserver.specs.Passes.{pass_state, AllNew}
-use Rattle.capserver.proofs.Numbering.{new_more}
-use Rattle.capserver.proofs.server.make_passes.Goals as goal
+use Rattle.cappass.specs.Passes.{pass_state, AllNew}
+use Rattle.cappass.proofs.Numbering.{new_more}
+use Rattle.cappass.proofs.passes.make_passes.Goals as goal
 
 pub loop-at-preserved : goal.loop-at-preserved
 loop-at-preserved g c =

@@ -4,7 +4,7 @@ ghost use mathlib.Core.List.{IsPrefix};
 ghost use Rattle.capview.specs.declared.answer.Unknown.TheVariants as unknown;
 ghost use Rattle.published.specs.Answers.{IsAnswered};
 ghost use Rattle.published.specs.Rows.{Legal};
-ghost use Rattle.capserver.specs.Passes.{pass_state};
+ghost use Rattle.cappass.specs.Passes.{pass_state};
 
 use capbits::PassId;
 use capgrant::Verdict;
@@ -36,7 +36,7 @@ impl<L: Server> Drop for Pass<L> {
 
 impl<L: Server> Model for Pass<L> {
     ghost use Rattle.std.specs.Prelude.{◌≡◌};
-    ghost use Rattle.capserver.specs.Passes.{PassState, pass_state, pass_state_code};
+    ghost use Rattle.cappass.specs.Passes.{PassState, pass_state, pass_state_code};
 
     ghost Value = { PassState };
 
@@ -48,8 +48,8 @@ impl<L: Server> Model for Pass<L> {
 }
 
 impl<L: Server> Pass<L> {
-    // A pass over one part of the ledger.
-    pub(crate) fn new(number: PassId, share: Share<L>, witness: Witness<L>) -> Pass<L>
+    /// A pass over one part of the ledger.
+    pub fn new(number: PassId, share: Share<L>, witness: Witness<L>) -> Pass<L>
         requires { share.parts ≡ 1 }
         ensures { result ≡ pass_state number.0 share.amount witness }
     {
@@ -67,16 +67,16 @@ impl<L: Server> Pass<L> {
         self.number
     }
 
-    // Counts one answered call, in the pass and in the book.
-    pub(crate) fn count(&mut self, calls: &mut Book<L>)
+    /// Counts one answered call, in the pass and in the book.
+    pub fn count(&mut self, calls: &mut Book<L>)
         ensures pass { self.new ≡ record self.old { calls = self.old.calls + 1 } }
         ensures book { calls.new.total ≡ calls.old.total + 1 }
     {
         calls.add(&mut self.share, 1);
     }
 
-    // Answers a question by what is published, and knows it from then on.
-    pub(crate) fn explain(&mut self, fs: &FsName, question: &Question) -> Result<Verdict, Unknown>
+    /// Answers a question by what is published, and knows it from then on.
+    pub fn explain(&mut self, fs: &FsName, question: &Question) -> Result<Verdict, Unknown>
         requires { fs.now ≡ L.opening.scene.fs }
         ensures same { self.new ≡ record self.old { known = self.new.known } }
         ensures known { IsPrefix self.old.known self.new.known }
@@ -87,8 +87,8 @@ impl<L: Server> Pass<L> {
         self.witness.explain(fs, question)
     }
 
-    // Knows what is published from then on.
-    pub(crate) fn look(&mut self)
+    /// Knows what is published from then on.
+    pub fn look(&mut self)
         ensures same { self.new ≡ record self.old { known = self.new.known } }
         ensures known { IsPrefix self.old.known self.new.known }
         ensures legal { Legal L.opening self.new.known }
@@ -96,8 +96,8 @@ impl<L: Server> Pass<L> {
         self.witness.look();
     }
 
-    // Knows what is published from then on, and says whether that is more than it knew, and just these rows.
-    pub(crate) fn catch_up(&mut self, rows: &Beginning<L>) -> bool
+    /// Knows what is published from then on, and says whether that is more than it knew, and just these rows.
+    pub fn catch_up(&mut self, rows: &Beginning<L>) -> bool
         ensures same { self.new ≡ record self.old { known = self.new.known } }
         ensures known { IsPrefix self.old.known self.new.known }
         ensures legal { Legal L.opening self.new.known }
@@ -106,16 +106,16 @@ impl<L: Server> Pass<L> {
         self.witness.catch_up(rows)
     }
 
-    // What it knows begins the rows of the book.
-    pub(crate) fn audit(&self, recorder: &mut Recorder<L>)
+    /// What it knows begins the rows of the book.
+    pub fn audit(&self, recorder: &mut Recorder<L>)
         ensures begins { IsPrefix self.now.known recorder.old }
         ensures same { recorder.new ≡ recorder.old }
     {
         self.witness.audit(recorder);
     }
 
-    // Ends the pass, and gives back its part of the ledger.
-    pub(crate) fn into_share(self) -> Share<L>
+    /// Ends the pass, and gives back its part of the ledger.
+    pub fn into_share(self) -> Share<L>
         ensures { (result.parts ≡ 1) × (result.amount ≡ self.calls) }
     {
         let Pass {

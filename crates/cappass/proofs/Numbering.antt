@@ -3,7 +3,7 @@ use Rattle.std.proofs.Common.{◌≡◌, ℕ, zero, suc, ◌+◌, ◌<◌, ◌�
 use mathlib.Core.List.{IsPrefix}
 use Rattle.capevents.specs.declared.row.Row.{Row}
 use Rattle.published.proofs.Beginnings.{prefix_trans}
-use Rattle.capserver.specs.Passes.{PassState, pass_state, AllNew, AllBegin}
+use Rattle.cappass.specs.Passes.{PassState, pass_state, AllNew, AllBegin}
 
 -- one more new pass
 pub new_more : (n m : ℕ) (ps : List PassState) (p : PassState) → AllNew n ps → p ≡ pass_state m 0 [] → m ≡ (n + length ps) + 1 → AllNew n (ps ++ p ∷ [])

@@ -1,6 +1,6 @@
 use Rattle.std.proofs.Common.{◌≡◌, ◌+◌, length}
-use Rattle.capserver.specs.Passes.{AllNew}
-use Rattle.capserver.proofs.server.make_passes.Given as goal
+use Rattle.cappass.specs.Passes.{AllNew}
+use Rattle.cappass.proofs.passes.make_passes.Given as goal
 
 abbrev pub invariant-loop-at : goal.invariant-loop-at
 invariant-loop-at g l = record {
