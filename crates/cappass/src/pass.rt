@@ -3,7 +3,7 @@ ghost use Rattle.std.specs.Prelude.{◌≡◌, ◌≢◌, ◌<◌, ◌+◌, Err,
 ghost use mathlib.Core.List.{IsPrefix};
 ghost use Rattle.capview.specs.declared.answer.Unknown.TheVariants as unknown;
 ghost use Rattle.published.specs.Answers.{IsAnswered};
-ghost use Rattle.published.specs.Rows.{Legal};
+ghost use Rattle.rowbook.specs.Rows.{Legal};
 ghost use Rattle.cappass.specs.Passes.{pass_state};
 
 use capbits::PassId;

@@ -14,8 +14,8 @@ use Rattle.capsteps.specs.History.{AreNumbered, IsLegal, IsTold, Told, IsNext, R
 use Rattle.capsteps.specs.State.{State}
 use Rattle.capsteps.specs.Noted.{view_of}
 use Rattle.published.specs.Publishing.{Publishing, IsReady}
-use Rattle.published.specs.Rows.{Legal}
-use Rattle.published.proofs.Beginnings.{prefix_more, prefix_trans, prefix_length}
+use Rattle.rowbook.specs.Rows.{Legal}
+use Rattle.rowbook.proofs.Beginnings.{prefix_more, prefix_trans, prefix_length}
 use Rattle.capserver.specs.Fresh.{IsFresh}
 use Rattle.capserver.specs.Held.{IsHeld, IsLed}
 use Rattle.cappass.specs.Passes.{PassState, pass_id}

@@ -5,7 +5,7 @@ ghost use mathlib.Core.List.{IsPrefix};
 ghost use Rattle.capsteps.specs.History.{IsLegal};
 ghost use Rattle.capview.specs.declared.answer.Unknown.TheVariants as unknown;
 ghost use Rattle.published.specs.Answers.{IsAnswered};
-ghost use Rattle.published.specs.Rows.{Legal};
+ghost use Rattle.rowbook.specs.Rows.{Legal};
 ghost use Rattle.capserver.specs.Called.{IsStep};
 ghost use Rattle.capserver.specs.Fresh.{IsFresh};
 ghost use Rattle.capserver.specs.Opened.{opened};

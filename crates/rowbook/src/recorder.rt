@@ -1,8 +1,8 @@
 //! Who adds rows to the book, alone.
-ghost use Rattle.std.specs.Prelude.{◌≡◌, ◌<◌, ◌≤◌, ◌+◌, ◌^◌, ◌++◌, ◌∷◌, [], length, IfSome, MatchBool};
+ghost use Rattle.std.specs.Prelude.{◌≡◌, ◌<◌, ◌≤◌, ◌+◌, ◌^◌, ◌++◌, ◌∷◌, [], length, IfSome, IsTrue, MatchBool};
 ghost use mathlib.Core.List.{IsPrefix};
 ghost use Rattle.logbook.specs.Pages.{nib, may_write};
-ghost use Rattle.published.specs.Rows.{Legal, head_of, next_of};
+ghost use Rattle.rowbook.specs.Rows.{Legal, head_of, next_of};
 
 use crate::beginning::{Add, Beginning, Counted, Head, Law, Look, Make, Nothing, Rows};
 use crate::ledger::Server;
@@ -79,7 +79,7 @@ impl<L: Server> Drop for Recorder<L> {
 impl<L: Server> Model for Recorder<L> {
     ghost use Rattle.std.specs.Prelude.{◌≡◌, List};
     ghost use Rattle.capevents.specs.declared.row.Row.{Row};
-    ghost use Rattle.published.specs.Rows.{head_of, next_of, rows_code};
+    ghost use Rattle.rowbook.specs.Rows.{head_of, next_of, rows_code};
 
     ghost Value = { List Row };
 
@@ -135,6 +135,24 @@ impl<L: Server> Recorder<L> {
             .head
             .compare_exchange::<Look, Nothing>(0, 0, &mut seen, &mut offer, &mut self.pen);
     }
+}
+
+/// Takes the rows of the history into the book. It says whether all are there.
+pub fn gather<L: Server>(recorder: &mut Recorder<L>, history: &[Row]) -> bool
+    requires legal { Legal L.opening history.now }
+    requires begins { IsPrefix recorder.old history.now }
+    requires room { length history.now ≤ 4294967295 }
+    ensures begins { IsPrefix recorder.new history.now }
+    ensures more { IsPrefix recorder.old recorder.new }
+    ensures all { IsTrue result → recorder.new ≡ history.now }
+{
+    let from = recorder.rows().len() as usize;
+    for at in from..history.len() {
+        if !recorder.add(&history[at]) {
+            return false;
+        }
+    }
+    true
 }
 
 // Makes the word of a row to come, behind so many that have none, and gives the right to it. There is none where others have made one.

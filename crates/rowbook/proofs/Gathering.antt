@@ -4,7 +4,7 @@ use mathlib.Core.List.{IsPrefix}
 use Rattle.capevents.specs.declared.row.Row.{Row}
 use Rattle.capsteps.specs.History.{AreNumbered, IsLegal, Replays}
 use Rattle.capsteps.specs.State.{State}
-use Rattle.published.specs.Rows.{Legal}
+use Rattle.rowbook.specs.Rows.{Legal}
 
 no_row : (earlier later : List Row) (row : Row) → [] ≡ earlier ++ row ∷ later → ⊥
 no_row [] later row is = cc
