@@ -15,8 +15,8 @@ use Rattle.caplines.specs.declared.fault.ScriptFault.{ScriptFault}
 use Rattle.caplines.specs.declared.fault.ScriptFault.TheVariants as stops
 use Rattle.caplines.specs.Lines.{lines, longest_script}
 use Rattle.capscript.specs.Transcript.{Ran, IsTranscript}
-use Rattle.capjobs.specs.declared.fault.ServeFault.{ServeFault}
-use Rattle.capjobs.specs.declared.fault.ServeFault.TheVariants.{Script as ServeScript}
+use Rattle.capplan.specs.declared.fault.ServeFault.{ServeFault}
+use Rattle.capplan.specs.declared.fault.ServeFault.TheVariants.{Script as ServeScript}
 use Rattle.capjobs.specs.Served.{IsServed, IsWritten}
 use Rattle.capcommand.specs.declared.command_line.Ask.{Ask}
 use Rattle.capcommand.specs.declared.command_line.Ask.TheVariants as asks

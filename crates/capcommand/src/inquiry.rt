@@ -1,7 +1,7 @@
 //! What `explain` is asked, where the text of its grants is, and how it answers.
 ghost use Rattle.std.specs.Prelude.{◌≡◌, ◌⊎◌, ℕ, List, length, OnOk, IfErr, IfSome, IsTrue, IsFalse};
 ghost use Rattle.caplines.specs.Lines.{longest_script};
-ghost use Rattle.capscript.specs.Watched.{inner_of, has_failed, has_ended};
+ghost use Rattle.capstreams.specs.Watched.{inner_of, has_failed, has_ended};
 ghost use Rattle.capcommand.specs.Inquiry.{IsWithoutLineFeed, IsGrantsText, IsUnread};
 
 use crate::fault::Fault;

@@ -1,4 +1,2 @@
-mod JobLists
 mod NewPasses
-mod Plans
 mod Writing

@@ -6,10 +6,10 @@ use Rattle.std.proofs.lemmas.List.{append-nil}
 use Rattle.caplines.specs.Lines.{lines}
 use Rattle.caplines.specs.declared.fault.ScriptFault.{ScriptFault}
 use Rattle.caplines.specs.declared.fault.ScriptFault.TheVariants as stops
-use Rattle.capscript.proofs.KnownBytes.{none_appended}
-use Rattle.capjobs.specs.declared.fault.ServeFault.{ServeFault}
-use Rattle.capjobs.specs.declared.fault.ServeFault.TheVariants.{Script, Clients, HistoryFull}
-use Rattle.capjobs.specs.Jobs.{Work, no_work, IsFaultAt, StopsAt}
+use Rattle.capstreams.proofs.KnownBytes.{none_appended}
+use Rattle.capplan.specs.declared.fault.ServeFault.{ServeFault}
+use Rattle.capplan.specs.declared.fault.ServeFault.TheVariants.{Script, Clients, HistoryFull}
+use Rattle.capplan.specs.Jobs.{Work, no_work, IsFaultAt, StopsAt}
 use Rattle.capjobs.specs.Served.{IsUnserved, IsWritten}
 
 -- no line has a fault of a kind that no line can have

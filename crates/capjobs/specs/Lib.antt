@@ -1,3 +1,1 @@
-pub mod Faults
-pub mod Jobs
 pub mod Served

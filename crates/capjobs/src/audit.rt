@@ -2,7 +2,7 @@
 ghost use Rattle.std.specs.Prelude.{◌≡◌, ◌++◌, IfOk, OnOk};
 ghost use Rattle.capjobs.specs.Served.{audit_lines, row_line};
 
-use capcore::Row;
+use capevents::Row;
 use capexplain::append_audit_line;
 use std::alloc::{AllocError, Global};
 

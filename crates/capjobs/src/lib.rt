@@ -1,12 +1,9 @@
-//! Scripts served by many threads: what the lines of a script call, for each client, and the history that a server makes of it.
+//! Scripts served by many threads: each client of a script calls from a thread of its own, and the history that a server makes of it is written.
 #![tactic(auto)]
 
 mod audit;
 mod calling;
-mod fault;
-mod plan;
 mod serving;
 
-pub use fault::ServeFault;
-pub use plan::{Job, MAX_CLIENTS, Plan, read_plan};
+pub use capplan::{Job, MAX_CLIENTS, Plan, ServeFault, read_plan};
 pub use serving::{serve, serve_plan};

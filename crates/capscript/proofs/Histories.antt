@@ -28,7 +28,7 @@ use Rattle.capscript.specs.Transcript.{LinesSay, replies_text, IsTranscript, Ans
 use Rattle.capcore.proofs.Growing.{replays-more}
 use Rattle.capsteps.proofs.Numbered.{numbered-nil, numbered-snoc}
 use Rattle.caplines.proofs.SaidLines.{not_skipped}
-use Rattle.capscript.proofs.KnownBytes.{none_appended, appends_more, appends_same}
+use Rattle.capstreams.proofs.KnownBytes.{none_appended, appends_more, appends_same}
 
 -- ---- there is an opening state on the first tree
 

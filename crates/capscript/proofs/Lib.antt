@@ -1,3 +1,1 @@
-pub mod KnownBytes
-pub mod Flags
 pub mod Histories

@@ -1,2 +1,1 @@
-pub mod Watched
 pub mod Transcript

@@ -14,11 +14,11 @@ use Rattle.capsteps.specs.History.{AreNumbered, IsLegal, IsTold, Told, IsNext, R
 use Rattle.capsteps.specs.State.{State}
 use Rattle.capsteps.specs.Noted.{view_of}
 use Rattle.published.specs.Publishing.{Publishing, IsReady}
-use Rattle.published.specs.Rows.{Legal}
-use Rattle.published.proofs.Beginnings.{prefix_more, prefix_trans, prefix_length}
+use Rattle.rowbook.specs.Rows.{Legal}
+use Rattle.rowbook.proofs.Beginnings.{prefix_more, prefix_trans, prefix_length}
 use Rattle.capserver.specs.Fresh.{IsFresh}
 use Rattle.capserver.specs.Held.{IsHeld, IsLed}
-use Rattle.capserver.specs.Passes.{PassState, pass_id}
+use Rattle.cappass.specs.Passes.{PassState, pass_id}
 
 -- at the opening there are no rows
 pub led_first : (opening : State) (max_rows : ℕ) (core : Told) → core.state ≡ opening → core.rows ≡ [] → core.max_rows ≡ max_rows → IsLed opening max_rows core

@@ -6,7 +6,7 @@ use Rattle.capevents.specs.declared.event.Event.{Event}
 use Rattle.capevents.specs.declared.row.Row.{Row}
 use Rattle.capevents.specs.declared.outcome.Ended.{Ended}
 use Rattle.capevents.specs.declared.reply.Reply.{Reply}
-use Rattle.capserver.specs.Passes.{PassState, pass_id}
+use Rattle.cappass.specs.Passes.{PassState, pass_id}
 
 -- what the pass knew is a proper beginning of what it knows, and that ends with a row of the pass, of this event and this reply
 pub record IsFresh (old new : PassState) (event : Event) (reply : Reply) : Type 0 where

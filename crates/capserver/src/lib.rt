@@ -5,13 +5,12 @@
 mod gate;
 mod locked;
 mod opening;
-mod pass;
 mod server;
 
+pub use cappass::{Pass, StartFault};
 pub use capview::{Question, Unknown};
 pub use gate::{Answer, Gate, NoGate};
 pub use locked::Locked;
 pub use opening::Opening;
-pub use pass::Pass;
 pub use published::{MAX_PASSES, Server};
-pub use server::{CapServer, Closed, StartFault};
+pub use server::{CapServer, Closed};

@@ -5,14 +5,14 @@ ghost use Rattle.capsteps.specs.History.{IsLegal};
 ghost use Rattle.capcore.specs.Promised.{IsPromised};
 ghost use Rattle.capsteps.specs.declared.stop.Stop.TheVariants as stop_kind;
 ghost use Rattle.capsteps.specs.Noted.{view_of};
-ghost use Rattle.published.specs.Rows.{Legal};
+ghost use Rattle.rowbook.specs.Rows.{Legal};
 ghost use Rattle.capserver.specs.Fresh.{IsFresh};
 ghost use Rattle.capserver.specs.Held.{IsLed};
-ghost use Rattle.capserver.specs.Passes.{pass_id};
+ghost use Rattle.cappass.specs.Passes.{pass_id};
 
 use crate::gate::{Answer, Gate};
-use crate::pass::Pass;
 use capcore::{Core, Event, Reply, Stop};
+use cappass::Pass;
 use published::{Beginning, Publisher, Recorder, Server};
 use std::marker::Model;
 use std::mem::replace;

@@ -1,46 +1,28 @@
 //! One server for many threads.
-ghost use Rattle.std.specs.Prelude.{◌≡◌, ◌≢◌, ◌⊎◌, ◌≤◌, ◌<◌, ◌+◌, [], Err, length, IsTrue, IfOk, IfErr, OnOk, OnErr, vec_len};
+ghost use Rattle.std.specs.Prelude.{◌≡◌, ◌≢◌, ◌≤◌, ◌<◌, ◌+◌, Err, length, IsTrue, IfOk, IfErr, OnOk, OnErr, vec_len};
 ghost use Rattle.std.specs.List.{sum_by};
 ghost use mathlib.Core.List.{IsPrefix};
 ghost use Rattle.capsteps.specs.History.{IsLegal};
 ghost use Rattle.capview.specs.declared.answer.Unknown.TheVariants as unknown;
 ghost use Rattle.published.specs.Answers.{IsAnswered};
-ghost use Rattle.published.specs.Rows.{Legal};
-ghost use Rattle.capserver.specs.declared.server.StartFault.TheVariants as faults;
+ghost use Rattle.rowbook.specs.Rows.{Legal};
 ghost use Rattle.capserver.specs.Called.{IsStep};
 ghost use Rattle.capserver.specs.Fresh.{IsFresh};
 ghost use Rattle.capserver.specs.Opened.{opened};
-ghost use Rattle.capserver.specs.Passes.{AllNew, AllBegin, IsStartFault, pass_id};
+ghost use Rattle.cappass.specs.Passes.{AllNew, AllBegin, IsStartFault, pass_id};
 
 use crate::gate::{Answer, Gate};
 use crate::locked::Locked;
 use crate::opening::{Opening, Parts};
-use crate::pass::Pass;
-use capbits::PassId;
 use capcore::{Core, Event, Stop};
 use capgrant::Verdict;
+use cappass::{Pass, StartFault, audit_all, make_passes, merge_all};
 use capspec::FsName;
 use capview::{Question, Unknown};
-use published::{MAX_PASSES, Publisher, Recorder, Server};
-use std::alloc::Global;
+use published::{MAX_PASSES, Publisher, Server};
 use std::marker::Model;
-use std::sync::ledger::{Blank, Share};
+use std::sync::ledger::Blank;
 use std::sync::{Mutex, MutexGuard, Wait};
-use thiserror::Error;
-
-/// Why there is no server.
-#[derive(Clone, Copy, Debug, PartialEq, Eq, Error)]
-pub enum StartFault {
-    /// A server has at least one pass, and at most 32.
-    #[error("bad count")]
-    BadCount,
-    /// No memory was left.
-    #[error("no memory")]
-    NoMemory,
-    /// No memory was left for the place from which a pass reads.
-    #[error("no reader")]
-    NoReader,
-}
 
 /// A core that many threads call, each through a pass of its own. To contracts it is the number of its passes.
 pub struct CapServer<G: Gate, L: Server> {
@@ -167,52 +149,5 @@ impl<G: Gate, L: Server> CapServer<G, L> {
         merge_all(&mut rest, passes);
         calls.audit(&mut rest);
         Closed { core }
-    }
-}
-
-// A pass for each number from 1 to `count`, each with one part of the ledger and a place of its own to read from.
-fn make_passes<L: Server>(
-    alloc: Global,
-    publisher: &Publisher<L>,
-    rest: &mut Share<L>,
-    count: u32,
-) -> Result<Vec<Pass<L>>, StartFault>
-    requires share { (count ≤ rest.old.parts) × (rest.old.amount ≡ 0) }
-    requires publisher { publisher.now.rows ≡ [] }
-    ensures parts { OnOk result ((rest.new.parts + count ≡ rest.old.parts) × (rest.new.amount ≡ 0)) }
-    ensures all { IfOk result (λ v. AllNew 0 v.items × (vec_len v ≡ count)) }
-    ensures err { OnErr result ((result ≡ Err faults.NoMemory) ⊎ (result ≡ Err faults.NoReader)) }
-{
-    let mut passes = Vec::new(alloc);
-    for at in 0..count {
-        if passes.reserve(1).is_err() {
-            return Err(StartFault::NoMemory);
-        }
-        let Ok(witness) = publisher.witness() else {
-            return Err(StartFault::NoReader);
-        };
-        let share = rest.split_off(1, 0);
-        passes.push_reserved(Pass::new(PassId(at + 1), share, witness));
-    }
-    Ok(passes)
-}
-
-// What each pass knows begins the rows of the book.
-fn audit_all<L: Server>(recorder: &mut Recorder<L>, passes: &[Pass<L>])
-    ensures { AllBegin recorder.old passes.now }
-{
-    for pass in passes {
-        pass.audit(recorder);
-    }
-}
-
-// Gives the parts of the passes back to what is left of the ledger, with their calls.
-fn merge_all<L: Server>(rest: &mut Share<L>, passes: Vec<Pass<L>>)
-    ensures parts { rest.new.parts ≡ rest.old.parts + vec_len passes }
-    ensures amount { rest.new.amount ≡ rest.old.amount + sum_by (λ p. p.calls) passes.items }
-{
-    let mut passes = passes;
-    while let Some(pass) = passes.pop() {
-        rest.merge(pass.into_share());
     }
 }

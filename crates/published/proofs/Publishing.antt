@@ -16,8 +16,8 @@ use Rattle.published.specs.Places.{IsPublished, Keeps, Saw}
 use Rattle.published.specs.Publishing.{IsReady, IsStaging, publishing}
 use Rattle.published.specs.Value.{staged_all}
 use Rattle.capview.proofs.Likeness.{shows-refl}
-use Rattle.published.proofs.Beginnings.{prefix_self, prefix_trans}
-use Rattle.published.proofs.Gathering.{legal_none}
+use Rattle.rowbook.proofs.Beginnings.{prefix_self, prefix_trans}
+use Rattle.rowbook.proofs.Gathering.{legal_none}
 use Rattle.published.proofs.Seeing.{turns}
 
 pub publishes : (opening : State) (book : Book) (seat : ℕ) (place : Place) (value next : Published) (stages : List Stage) (rows : List Row) (lost : Bool)

@@ -7,7 +7,7 @@ use Rattle.capview.specs.declared.answer.Question.{Question}
 use Rattle.capview.specs.declared.answer.Unknown.{Unknown}
 use Rattle.capview.specs.Answers.{IsAnswer}
 use Rattle.capsteps.specs.Noted.{view_of}
-use Rattle.published.specs.Rows.{Legal}
+use Rattle.rowbook.specs.Rows.{Legal}
 
 -- the rows that are known are legal, and the answer is that of the state to which they lead
 pub record IsAnswered (opening : State) (known : List Row) (asked : Question) (answer : Result Verdict Unknown) : Type 0 where

@@ -1,4 +1,3 @@
-pub mod Rows
 pub mod Value
 pub mod Places
 pub mod Answers

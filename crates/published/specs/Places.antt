@@ -9,7 +9,7 @@ use Rattle.capsteps.specs.State.{State}
 use Rattle.capview.specs.Sight.{Shows}
 use Rattle.published.specs.declared.value.Published.{Published}
 use Rattle.published.specs.declared.place.Place.{Place}
-use Rattle.published.specs.Rows.{Legal}
+use Rattle.rowbook.specs.Rows.{Legal}
 
 -- the rows are those of the book, legal from the opening state, and the view shows the state to which they lead
 pub record IsPublished (opening : State) (book : Book) (value : Published) : Type 0 where

@@ -11,7 +11,7 @@ use Rattle.capview.specs.Sight.{Shows}
 use Rattle.published.specs.declared.value.Published.{Published}
 use Rattle.published.specs.declared.value.Stage.{Stage}
 use Rattle.capsteps.specs.Noted.{view_of}
-use Rattle.published.specs.Rows.{Legal, rows_code}
+use Rattle.rowbook.specs.Rows.{Legal, rows_code}
 use Rattle.published.specs.Value.{staged_all}
 
 -- the rows in the book, whether a stage was lost, and the view once the stages are there

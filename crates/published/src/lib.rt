@@ -2,19 +2,14 @@
 //! from one of two copies, and know afterwards that the history begins so.
 #![tactic(auto)]
 
-mod beginning;
-mod ledger;
 mod place;
 mod publisher;
-mod recorder;
 mod staging;
 mod value;
 mod witness;
 
-pub use beginning::{Beginning, Counted, Head, Rows};
-pub use ledger::{MAX_PASSES, Server};
 pub use place::{Place, PlacesRule, PublishedReader, PublishedReading, PublishedWriter, Sees};
 pub use publisher::Publisher;
-pub use recorder::{NewRows, Recorder};
+pub use rowbook::{Beginning, Counted, Head, MAX_PASSES, NewRows, Recorder, Rows, Server};
 pub use value::{Published, Stage};
 pub use witness::Witness;

@@ -2,16 +2,15 @@
 ghost use Rattle.std.specs.Prelude.{◌≡◌, ◌≤◌, length, drop, fold, Ok, IsTrue, IfSome};
 ghost use mathlib.Core.List.{IsPrefix};
 ghost use Rattle.capview.specs.Changes.{view_by};
-ghost use Rattle.published.specs.Rows.{Legal};
+ghost use Rattle.rowbook.specs.Rows.{Legal};
 ghost use Rattle.published.specs.Value.{staged, staged_all};
 
-use crate::ledger::Server;
 use crate::place::PublishedWriter;
-use crate::recorder::Recorder;
 use crate::value::Stage;
-use capcore::Row;
+use capevents::Row;
 use capview::{View, ViewChange};
 use inotree::Tree;
+use rowbook::{Recorder, Server, gather};
 use sessiontab::Sessions;
 use std::alloc::{AllocError, Global};
 
@@ -34,24 +33,6 @@ pub(crate) fn stage_history<L: Server>(
     ensures view { IsTrue result → (staged_all writer.new.desk.shown.value (drop writer.new.behind writer.new.log.items)).view ≡ (staged_all writer.old.desk.shown.value (drop writer.old.behind writer.old.log.items)).view }
 {
     gather(recorder, history) && stage(writer, Stage::Rows(recorder.rows().counted()))
-}
-
-// Takes the rows of the history into the book. It says whether all are there.
-fn gather<L: Server>(recorder: &mut Recorder<L>, history: &[Row]) -> bool
-    requires legal { Legal L.opening history.now }
-    requires begins { IsPrefix recorder.old history.now }
-    requires room { length history.now ≤ 4294967295 }
-    ensures begins { IsPrefix recorder.new history.now }
-    ensures more { IsPrefix recorder.old recorder.new }
-    ensures all { IsTrue result → recorder.new ≡ history.now }
-{
-    let from = recorder.rows().len() as usize;
-    for at in from..history.len() {
-        if !recorder.add(&history[at]) {
-            return false;
-        }
-    }
-    true
 }
 
 // Stages the changes one by one. It says whether all are staged.

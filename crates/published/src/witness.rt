@@ -4,16 +4,14 @@ ghost use mathlib.Core.List.{IsPrefix};
 ghost use Rattle.left_right.specs.Sides.{view as place_view};
 ghost use Rattle.capview.specs.declared.answer.Unknown.TheVariants as unknown;
 ghost use Rattle.published.specs.Places.{IsPublished, Saw};
-ghost use Rattle.published.specs.Rows.{Legal};
+ghost use Rattle.rowbook.specs.Rows.{Legal};
 ghost use Rattle.published.specs.Answers.{IsAnswered};
 
-use crate::beginning::Beginning;
-use crate::ledger::Server;
 use crate::place::{PublishedReader, PublishedReading, Sees};
-use crate::recorder::Recorder;
 use capgrant::Verdict;
 use capspec::FsName;
 use capview::{Question, Unknown};
+use rowbook::{Beginning, Recorder, Server};
 use std::marker::Model;
 
 /// Who has a reader's place, and knows what it saw there. To contracts it is the rows that it knows.
@@ -34,7 +32,7 @@ impl<L: Server> Model for Witness<L> {
     ghost use Rattle.std.specs.Prelude.{◌≡◌, List, MatchOption};
     ghost use Rattle.left_right.specs.Sides.{view as place_view};
     ghost use Rattle.capevents.specs.declared.row.Row.{Row};
-    ghost use Rattle.published.specs.Rows.{Legal, rows_code};
+    ghost use Rattle.rowbook.specs.Rows.{Legal, rows_code};
 
     ghost Value = { List Row };
 

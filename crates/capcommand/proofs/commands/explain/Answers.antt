@@ -1,5 +1,5 @@
 use Rattle.std.proofs.Common.{inl}
-use Rattle.capscript.specs.Watched.{inner_of, has_failed}
+use Rattle.capstreams.specs.Watched.{inner_of, has_failed}
 use Rattle.capcommand.proofs.Unwritten.{refused_question, missed_unwritten, line_unwritten}
 use Rattle.capcommand.proofs.commands.explain.Goals as goal
 

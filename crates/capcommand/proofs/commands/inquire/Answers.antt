@@ -1,4 +1,4 @@
-use Rattle.capscript.specs.Watched.{inner_of, has_failed}
+use Rattle.capstreams.specs.Watched.{inner_of, has_failed}
 use Rattle.capcommand.proofs.Inquired.{answered, stopped}
 use Rattle.capcommand.proofs.commands.inquire.Goals as goal
 

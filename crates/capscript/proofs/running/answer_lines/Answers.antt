@@ -1,7 +1,7 @@
 use Rattle.std.proofs.Common.{arith}
-use Rattle.capscript.specs.Watched.{inner_of}
+use Rattle.capstreams.specs.Watched.{inner_of}
 use Rattle.capscript.proofs.Histories.{so_far_none, so_far_more, stopped_by, last_line, room_left}
-use Rattle.capscript.proofs.Flags.{not_set}
+use Rattle.capstreams.proofs.Flags.{not_set}
 use Rattle.capscript.proofs.running.answer_lines.Goals as goal
 
 pub loop-text-init : goal.loop-text-init

@@ -1,6 +1,6 @@
 use Rattle.std.proofs.Common.{length}
 use Rattle.std.specs.Prelude.{IsFalse}
-use Rattle.capscript.specs.Watched.{inner_of, has_failed}
+use Rattle.capstreams.specs.Watched.{inner_of, has_failed}
 use Rattle.capscript.proofs.Histories.{SoFar}
 use Rattle.capscript.proofs.running.answer_lines.Given as goal
 

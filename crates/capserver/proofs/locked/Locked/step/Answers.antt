@@ -9,7 +9,7 @@ use Rattle.capsteps.specs.Noted.{view_of}
 use Rattle.capcore.specs.Promised.{IsPromised}
 use Rattle.published.specs.Publishing.{Publishing}
 use Rattle.capserver.specs.Held.{IsHeld}
-use Rattle.capserver.specs.Passes.{pass_id}
+use Rattle.cappass.specs.Passes.{pass_id}
 use Rattle.capserver.proofs.Holding.{begins_next, held_next, legal_of, room_of}
 use Rattle.capserver.proofs.locked.Locked.step.Goals as goal
 

@@ -1,0 +1,2 @@
+pub mod JobLists
+pub mod Plans

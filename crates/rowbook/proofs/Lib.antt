@@ -1,0 +1,4 @@
+pub mod Adding
+pub mod Beginnings
+pub mod Gathering
+pub mod Words
