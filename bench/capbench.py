@@ -1,4 +1,4 @@
-"""The program that is measured: how it is built, and how its instructions and its memory are counted."""
+"""The program that is measured: how it is built, and how its instructions are counted."""
 
 import subprocess
 import sys
@@ -50,16 +50,3 @@ def asked(work, times):
 def of_one_asked(work, few, many):
     """The instructions of one question."""
     return (asked(work, many) - asked(work, few)) / (many - few)
-
-
-def peak(work, times):
-    """The most memory that the program had, in bytes. The system counts by some pages at once, so the middle of three runs."""
-    return sorted(told_peak(work, times) for _ in range(3))[1]
-
-
-def told_peak(work, times):
-    """The same of one run."""
-    found, written = counting.told_peak([PROGRAM, work, times])
-    if "sum " not in written:
-        sys.exit(f"{work} {times} did not end:\n{written}")
-    return found

@@ -2,6 +2,7 @@
 
 import ctypes
 import re
+import shlex
 import shutil
 import subprocess
 import sys
@@ -19,8 +20,6 @@ SURROUNDINGS = {"PATH": "/usr/bin:/bin", "LC_ALL": "C"}
 IN_TURN = ["--fair-sched=yes"]
 # So many seconds a run may take at most.
 LONGEST = 300
-# Words of gdb: the program stops before it ends, when all that it ever took is still told of it.
-AT_ITS_END = ["-ex", "catch syscall exit_group", "-ex", "run", "-ex", "info proc status", "-ex", "kill"]
 # The call of prctl by which a process, and what it starts, has its memory in pages of the common size alone.
 SMALL_PAGES = (41, 1, 0, 0, 0)
 
@@ -63,13 +62,19 @@ def counted_last(words):
     return int(re.search(r"^totals: (\d+)", last, re.MULTILINE).group(1)), done.stdout
 
 
-def at_its_end(words):
-    """What a program wrote, and what the system tells of it before it ends; and what gdb complained of. Where the system keeps memory
-    in larger pages, a program has more: so that its peak is the same on all machines, it does without."""
+def at_its_end(words, given=""):
+    """What gdb tells of a program before it ends, what it complains of, and what the program wrote. Where the system keeps memory in
+    larger pages, a program has more: so that its peak is the same on all machines, it does without."""
     ctypes.CDLL(None).prctl(*SMALL_PAGES)
-    command = ["gdb", "-q", "-batch", *AT_ITS_END, "--args", *(str(it) for it in words)]
-    done = subprocess.run(command, stdin=subprocess.DEVNULL, capture_output=True, text=True)
-    return done.stdout, done.stderr
+    program, *rest = (str(it) for it in words)
+    with tempfile.TemporaryDirectory() as room:
+        read, written = Path(room, "read"), Path(room, "written")
+        read.write_text(given, encoding="utf-8")
+        # The program stops before it ends, when all that it ever took is still told of it.
+        told = ["catch syscall exit_group", f"run {shlex.join(rest)} < {read} > {written}", "info proc status", "kill"]
+        command = ["gdb", "-q", "-batch", *(it for line in told for it in ("-ex", line)), program]
+        done = subprocess.run(command, stdin=subprocess.DEVNULL, capture_output=True, text=True)
+        return done.stdout, done.stderr, written.read_text(encoding="utf-8") if written.exists() else ""
 
 
 def tells_peaks():
@@ -77,10 +82,10 @@ def tells_peaks():
     return bool(shutil.which("gdb")) and "VmHWM" in at_its_end(["true"])[0]
 
 
-def told_peak(words):
+def told_peak(words, given=""):
     """The most memory that a program had, in bytes, as the system tells it before the program ends; and what it wrote."""
-    told, complained = at_its_end(words)
+    told, complained, written = at_its_end(words, given)
     found = re.search(r"VmHWM:\s+(\d+) kB", told)
     if found is None:
         sys.exit(f"gdb told nothing of {' '.join(map(str, words))}:\n{told}{complained}")
-    return int(found.group(1)) * 1024, told
+    return int(found.group(1)) * 1024, written
