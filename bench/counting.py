@@ -53,10 +53,10 @@ def counted(words, given=""):
     return found, done.stdout
 
 
-def counted_last(words):
+def counted_last(words, given=""):
     """The instructions of the thread that a program started last, and what the program wrote."""
     with tempfile.TemporaryDirectory() as room:
-        done, _ = callgrind(words, ["--separate-threads=yes", f"--callgrind-out-file={room}/thread"])
+        done, _ = callgrind(words, ["--separate-threads=yes", f"--callgrind-out-file={room}/thread"], given)
         # (thread-01 is the first)
         last = max(Path(room).glob("thread-*")).read_text(encoding="utf-8")
     return int(re.search(r"^totals: (\d+)", last, re.MULTILINE).group(1)), done.stdout

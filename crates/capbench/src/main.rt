@@ -6,15 +6,22 @@ use capwork::{Fault, report};
 use std::alloc::Global;
 use std::env;
 use std::env::Env;
-use std::io::Write;
+use std::io::{Read, Write};
 use std::process::ExitCode;
 use std::sync::Wait;
 use std::thread::Threads;
 
 fn main(rt: HostRuntime) -> ExitCode {
-    let (mut writer, mut faults) = (rt.stdout(), rt.stderr());
+    let (mut reader, mut writer, mut faults) = (rt.stdin(), rt.stdout(), rt.stderr());
     let status = match words(&rt, rt.alloc()) {
-        Ok(words) => dispatch(&rt, rt.alloc(), words.as_slice(), &mut writer, &mut faults),
+        Ok(words) => dispatch(
+            &rt,
+            rt.alloc(),
+            words.as_slice(),
+            &mut reader,
+            &mut writer,
+            &mut faults,
+        ),
         Err(fault) => report(fault, &mut faults),
     };
     ExitCode::from(status)
@@ -31,6 +38,7 @@ fn dispatch<T: Threads + Wait + Sync>(
     rt: &T,
     alloc: Global,
     words: &[String],
+    reader: &mut impl Read,
     writer: &mut impl Write,
     faults: &mut impl Write,
 ) -> u8 {
@@ -39,6 +47,6 @@ fn dispatch<T: Threads + Wait + Sync>(
             let task = [work.as_str(), count.as_str(), seed.as_str()];
             capload::dispatch(rt, alloc, task, writer, faults)
         }
-        _ => capwork::dispatch(rt, alloc, words, writer, faults),
+        _ => capwork::dispatch(rt, alloc, words, reader, writer, faults),
     }
 }

@@ -2,104 +2,90 @@
 ghost use Rattle.std.specs.Prelude.{◌≡◌, ◌≤◌};
 ghost use Rattle.capwork.specs.Status.{status_of};
 
-use crate::command_line::{HELP, Request, Task, WRONG_LINE, parse};
-use crate::core_work::on_a_core;
-use crate::explaining::explain;
 use crate::fault::Fault;
 use crate::judging::{judge, read};
-use crate::publishing::publish;
-use crate::tally::Tally;
-use crate::work::Work;
+use crate::retry::retry;
+use crate::serving::serve;
+use crate::work::{Work, work_of};
+use capscript::{Watched, read_script};
 use std::alloc::Global;
-use std::io::Write;
+use std::io::{Read, Write};
 use std::sync::Wait;
 use std::thread::Threads;
 
-/// The work was done, or the help was shown.
+/// The work was done.
 pub const DONE: u8 = 0;
 
-/// Memory or the output failed.
+/// Memory, a stream or an answer failed.
 pub const FAILED: u8 = 1;
 
-/// The command line is wrong, or asks for more than a tree has room for.
+/// The words are not understood.
 pub const USAGE: u8 = 2;
 
-/// Does what the words ask for, of which the first is the program's own name, and returns the status.
-pub fn dispatch<T: Threads + Wait + Sync>(
+/// Does what the words ask for, of which the first is the program's own name, with the text that is read, and returns the status.
+pub fn dispatch<T: Threads + Wait + Sync, R: Read, W: Write>(
     rt: &T,
     alloc: Global,
     words: &[String],
-    writer: &mut impl Write,
+    reader: &mut R,
+    writer: &mut W,
     faults: &mut impl Write,
 ) -> u8
     ensures { result ≤ USAGE }
 {
-    let ended = match parse(words) {
-        Some(Request::Do(task)) => run(rt, alloc, task, writer),
-        Some(Request::Help) => write_text(writer, HELP),
-        None => {
-            let _ = write_text(faults, WRONG_LINE);
-            return USAGE;
-        }
+    let done = match work_of(words) {
+        Some(work) => run(rt, alloc, work, reader, writer),
+        None => Err(Fault::Usage),
     };
-    match ended {
+    match done {
         Ok(()) => DONE,
         Err(fault) => report(fault, faults),
     }
 }
 
-fn write_text(writer: &mut impl Write, text: &str) -> Result<(), Fault> {
-    writer
-        .write_all(text.as_bytes())
-        .map_err(|_| Fault::WriteFailed)
-}
-
-// Does the work and writes the sum over its answers, as a line, and one more where something was asked for again, was served without
-// memory, or was published late.
-fn run<T: Threads + Wait + Sync>(
+// Does the work, and writes the sum that it comes to as a line.
+fn run<T: Threads + Wait + Sync, R: Read, W: Write>(
     rt: &T,
     alloc: Global,
-    task: Task,
-    writer: &mut impl Write,
+    work: Work,
+    reader: &mut R,
+    writer: &mut W,
 ) -> Result<(), Fault> {
-    let tally = tally_of(rt, alloc, task);
-    match tally.fault {
-        Some(fault) => Err(fault),
-        None => write_tally(writer, tally),
+    let text = given(alloc, reader)?;
+    let sum = sum_of(rt, alloc, work, without_end(text.as_slice()), writer)?;
+    match writeln!(writer, "sum {sum}") {
+        Ok(()) => Ok(()),
+        Err(_) => Err(Fault::WriteFailed),
     }
 }
 
-fn write_tally(writer: &mut impl Write, tally: Tally) -> Result<(), Fault> {
-    let more = [
-        ("stops", tally.stops),
-        ("starved", tally.starved),
-        ("late", tally.late),
-    ];
-    write_number(writer, "sum", tally.sum)?;
-    for (word, number) in more {
-        if number != 0 {
-            write_number(writer, word, number)?;
-        }
-    }
-    Ok(())
+// All that there is to read. What is promised of it stays behind here.
+fn given<R: Read>(alloc: Global, reader: &mut R) -> Result<Vec<u8>, Fault> {
+    Ok(read_script(alloc, &mut Watched::new(reader))?)
 }
 
-// Writes a number as a line, behind the word that says what it counts.
-fn write_number(writer: &mut impl Write, word: &str, number: u64) -> Result<(), Fault> {
-    writeln!(writer, "{word} {number}").map_err(|_| Fault::WriteFailed)
+// A text without the line feed behind its last line.
+fn without_end(text: &[u8]) -> &[u8] {
+    match text {
+        [lines @ .., b'\n'] => lines,
+        _ => text,
+    }
 }
 
-// What a task comes to.
-fn tally_of<T: Threads + Wait + Sync>(rt: &T, alloc: Global, task: Task) -> Tally {
-    let mut tally = Tally::new();
-    match task.work {
-        Work::Verdict(shape) => tally.take(judge(alloc, shape, task.times)),
-        Work::Parse(shape) => tally.take(read(alloc, shape, task.times)),
-        Work::Explain(shape) => tally.take(explain(rt, alloc, shape, task.times)),
-        Work::OnCore(work) => return on_a_core(alloc, work, task.times),
-        Work::Publish => return publish(rt, alloc, task.times),
+// What a piece of work comes to.
+fn sum_of<T: Threads + Wait + Sync, W: Write>(
+    rt: &T,
+    alloc: Global,
+    work: Work,
+    text: &[u8],
+    writer: &mut W,
+) -> Result<u64, Fault> {
+    match work {
+        Work::Verdict(times) => judge(alloc, text, times),
+        Work::Parse(times) => read(alloc, text, times),
+        Work::Retry => retry(alloc, text, writer),
+        Work::Serve(work) => serve(rt, alloc, work, text, writer),
     }
-    tally
 }
 
 /// Writes the fault as a line, and returns its status.
@@ -109,8 +95,7 @@ pub fn report(fault: Fault, faults: &mut impl Write) -> u8
 {
     let _ = writeln!(faults, "capbench: {fault}");
     match fault {
-        Fault::TooManyCreations => USAGE,
-        Fault::TooManyOpenings => USAGE,
+        Fault::Usage => USAGE,
         _ => FAILED,
     }
 }

@@ -1,6 +1,8 @@
 //! Why the program gave no sum.
 
 use capcore::Stop;
+use capscript::ScriptFault;
+use capserver::StartFault;
 use capspec::{SpecFault, SpecFaultKind};
 use std::alloc::{AllocError, AllocFailed};
 use std::fmt;
@@ -9,42 +11,35 @@ use std::fmt::Display;
 /// Why a piece of work gave no sum.
 #[derive(Clone, Copy)]
 pub enum Fault {
-    /// So many inodes don't fit into a tree beside those that it begins with.
-    TooManyCreations,
-    /// So many files are not made to be opened.
-    TooManyOpenings,
-    /// The grants can't be read.
-    Grants,
-    /// The core answered otherwise than the work needs.
-    Refused,
+    /// The words are not understood.
+    Usage,
+    /// The text is no script, or none of grants that can be judged by.
+    Text,
     /// The core is not what it was before it took no event.
     Changed,
-    /// A question was answered otherwise than by what is published.
-    OtherView,
-    /// An event was called again and again, and was never made or never published.
+    /// An event was asked for again and again, and was never made or never published.
     InVain,
-    /// The core took no event.
-    Stopped(Stop),
+    /// The history is full.
+    Full,
     /// No memory was left.
     NoMemory,
-    /// The sum could not be written.
+    /// The text could not be read.
+    ReadFailed,
+    /// What there is to write could not be written.
     WriteFailed,
 }
 
 impl Display for Fault {
     fn fmt<W: fmt::Write>(&self, f: &mut fmt::Formatter<W>) -> fmt::Result {
         f.write_str(match self {
-            Fault::TooManyCreations =>
-                "too many creations: a tree has at most 65536 inodes, with its root",
-            Fault::TooManyOpenings => "too many openings: 1024 files are made for them",
-            Fault::Grants => "the grants can't be read",
-            Fault::Refused => "the core answered otherwise",
+            Fault::Usage =>
+                "wanted is one of: verdict N, parse N, explain READERS INODES N, locked READERS INODES N, retry, publish, or a WORKLOAD with COUNT and SEED",
+            Fault::Text => "the text can't be used",
             Fault::Changed => "the core changed, where it found no memory",
-            Fault::OtherView => "a question was answered by another view",
-            Fault::InVain => "an event was called in vain",
-            Fault::Stopped(Stop::NoMemory) => "the core found no memory",
-            Fault::Stopped(Stop::Full) => "the history is full",
+            Fault::InVain => "an event was asked for in vain",
+            Fault::Full => "the history is full",
             Fault::NoMemory => "no memory",
+            Fault::ReadFailed => "read failed",
             Fault::WriteFailed => "write failed",
         })
     }
@@ -62,12 +57,41 @@ impl<T: Drop> From<AllocFailed<T>> for Fault {
     }
 }
 
+impl From<Stop> for Fault {
+    fn from(stop: Stop) -> Self {
+        match stop {
+            Stop::NoMemory => Fault::NoMemory,
+            Stop::Full => Fault::Full,
+        }
+    }
+}
+
+impl From<StartFault> for Fault {
+    fn from(fault: StartFault) -> Self {
+        match fault {
+            StartFault::BadCount => Fault::Usage,
+            StartFault::NoMemory | StartFault::NoReader => Fault::NoMemory,
+        }
+    }
+}
+
+impl From<ScriptFault> for Fault {
+    fn from(fault: ScriptFault) -> Self {
+        match fault {
+            ScriptFault::NoMemory => Fault::NoMemory,
+            ScriptFault::ReadFault => Fault::ReadFailed,
+            ScriptFault::WriteFault => Fault::WriteFailed,
+            ScriptFault::LineFault { .. } => Fault::Text,
+        }
+    }
+}
+
 // Where only memory was missing, the grants are not to blame.
 impl From<SpecFault> for Fault {
     fn from(fault: SpecFault) -> Self {
         match fault.kind {
             SpecFaultKind::NoMemory => Fault::NoMemory,
-            _ => Fault::Grants,
+            _ => Fault::Text,
         }
     }
 }

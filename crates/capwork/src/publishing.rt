@@ -1,504 +1,137 @@
-//! The work that publishes: a pass of a server calls events, and it and another one, which calls none, ask what came of each. What finds
-//! no memory is called again; what was made and found none for its publication is published with the next event.
-ghost use Rattle.std.specs.Prelude.{◌≡◌};
-ghost use Rattle.capserver.specs.Opened.{opened};
+//! The work that publishes: a pass of a server calls what a script says, and it and another one, which calls nothing, ask what came of each
+//! call. What finds no memory is called again; what was made and found none for its publication is published with the next event.
 
-use crate::asked::{Asked, Places, event, polling};
-use crate::asking::{Answer, read_reply};
 use crate::fault::Fault;
-use crate::inodes::{ALL, BY_MODE, CLIENT, root_opening};
-use crate::tally::Tally;
-use capbits::{Cap, ClientId, Ino};
-use capcore::{Event, OpenMode, Stop};
+use crate::lines::{Heard, TRIES, event_of, tell, tell_stop, write};
+use capbits::{ClientId, Ino};
 use capgrant::{Access, Verdict};
-use capserver::{CapServer, NoGate, Opening, Pass, Server};
+use capserver::{Answer, CapServer, NoGate, Pass, Server};
 use capview::{Question, Unknown};
-use inotree::ROOT;
 use std::alloc::Global;
-use std::marker::Brand;
+use std::io::Write;
 use std::sync::Wait;
-use std::sync::ledger::Blank;
 
-/// Whose grants are taken.
-const OTHER: ClientId = ClientId(2);
+/// Clients and inodes that are asked about have these numbers from 1 on.
+const ASKED: u32 = 4;
 
-/// Who may do all below one directory alone, and who may do what modes allow its user.
-const TENANT: ClientId = ClientId(3);
+/// How many questions there are on them: whether each client may read and write each inode.
+const QUESTIONS: usize = 32;
 
-const ONE_USER: ClientId = ClientId(4);
+/// The line that is called where an event was made and not published: it changes nothing, and is published with it.
+const CATCH_UP: &[u8] = b"poll 1 9";
 
-/// The numbers in the names of that directory, of another one, and of a file.
-const TENANT_NUMBER: u64 = 1;
-
-/// The grants of who may do all and make snapshots, and of who may do all below that directory.
-const WITH_SNAPSHOTS: &str = "allow rws";
-
-const BELOW: &str = "allow rw path=/n1";
-
-const OTHER_NUMBER: u64 = 2;
-
-const FILE_NUMBER: u64 = 3;
-
-/// The three of them have these numbers, as a server has made nothing else.
-const HERE: Ino = Ino(2);
-
-const THERE: Ino = Ino(3);
-
-const FILE: Ino = Ino(4);
-
-const PLACES: Places = Places {
-    here: HERE,
-    there: THERE,
-    file: FILE,
-};
-
-/// So often an event is called that finds no memory: more often than memory is refused in a row.
-const TRIES: u32 = 16;
-
-/// What a question is answered with.
-#[derive(Clone, Copy, PartialEq, Eq)]
-enum Told {
-    Allowed,
-    Denied,
-    NoSession,
-    NoIno,
-    Gone,
-    NoView,
-}
-
-use Told::*;
-
-/// Whether a client may make an access to an inode.
-type Asks = (ClientId, Ino, Access);
-
-/// An event with its answer, and a question, with what it is answered before the event and behind it.
-#[derive(Clone, Copy)]
-struct Turn {
-    asked: Asked,
-    answer: Answer,
-    question: Asks,
-    before: Told,
-    after: Told,
-}
-
-/// What is answered to an event, and whether that is published.
+/// What is answered to a call, and whether that is published.
 #[derive(Clone, Copy)]
 struct Called {
-    answer: Answer,
+    heard: Heard,
     is_fresh: bool,
 }
 
-/// What an event comes to for which there is no memory. It is called as often as one that the server finds none for.
-const NOT_CALLED: Called = Called {
-    answer: Answer::Stopped(Stop::NoMemory),
-    is_fresh: false,
-};
-
-const OPENED: &[Cap] = &[Cap::P, Cap::Fs, Cap::Fx, Cap::Fc, Cap::Fr, Cap::Fw, Cap::Fb];
-
-// Clients come, two directories and a file are made, and the file is moved to where the tenant may do nothing.
-const COMING: &[Turn] = &[
-    Turn {
-        asked: Asked::Session(CLIENT, WITH_SNAPSHOTS),
-        answer: Answer::Done,
-        question: (CLIENT, ROOT, Access::Read),
-        before: NoSession,
-        after: Allowed,
-    },
-    Turn {
-        asked: Asked::Session(OTHER, ALL),
-        answer: Answer::Done,
-        question: (OTHER, ROOT, Access::Write),
-        before: NoSession,
-        after: Allowed,
-    },
-    Turn {
-        asked: Asked::Session(TENANT, BELOW),
-        answer: Answer::Done,
-        question: (TENANT, ROOT, Access::Read),
-        before: NoSession,
-        after: Denied,
-    },
-    Turn {
-        asked: Asked::Directory(TENANT_NUMBER),
-        answer: Answer::Inode(2),
-        question: (TENANT, HERE, Access::Read),
-        before: NoIno,
-        after: Allowed,
-    },
-    Turn {
-        asked: Asked::Directory(OTHER_NUMBER),
-        answer: Answer::Inode(3),
-        question: (TENANT, THERE, Access::Read),
-        before: NoIno,
-        after: Denied,
-    },
-    Turn {
-        asked: Asked::Make(FILE_NUMBER),
-        answer: Answer::Inode(4),
-        question: (TENANT, FILE, Access::Read),
-        before: NoIno,
-        after: Allowed,
-    },
-    Turn {
-        asked: Asked::Move(CLIENT),
-        answer: Answer::Done,
-        question: (TENANT, FILE, Access::Read),
-        before: Allowed,
-        after: Denied,
-    },
-];
-
-// Grants and a mode change.
-const CHANGING: &[Turn] = &[
-    Turn {
-        asked: Asked::Regrant(OTHER),
-        answer: Answer::Done,
-        question: (OTHER, ROOT, Access::Write),
-        before: Allowed,
-        after: Denied,
-    },
-    Turn {
-        asked: Asked::GrantNothing(OTHER),
-        answer: Answer::Done,
-        question: (OTHER, ROOT, Access::Read),
-        before: Allowed,
-        after: Denied,
-    },
-    Turn {
-        asked: Asked::Session(ONE_USER, BY_MODE),
-        answer: Answer::Done,
-        question: (ONE_USER, FILE, Access::Write),
-        before: NoSession,
-        after: Allowed,
-    },
-    Turn {
-        asked: Asked::Mode(CLIENT, 0o400),
-        answer: Answer::Done,
-        question: (ONE_USER, FILE, Access::Write),
-        before: Allowed,
-        after: Denied,
-    },
-];
-
-// A directory has a snapshot for a while, of which readers are told nothing, and goes. Grants that change in that while are copied for
-// readers; where memory for these is refused, the whole tree is copied, with the snapshot: the directory has to go from that copy too.
-const REMOVING: &[Turn] = &[
-    Turn {
-        asked: Asked::Snapshot(CLIENT),
-        answer: Answer::Done,
-        question: (CLIENT, HERE, Access::Read),
-        before: Allowed,
-        after: Allowed,
-    },
-    Turn {
-        asked: Asked::Regrant(OTHER),
-        answer: Answer::Done,
-        question: (OTHER, ROOT, Access::Read),
-        before: Denied,
-        after: Allowed,
-    },
-    Turn {
-        asked: Asked::NoSnapshot(CLIENT),
-        answer: Answer::Done,
-        question: (CLIENT, HERE, Access::Read),
-        before: Allowed,
-        after: Allowed,
-    },
-    Turn {
-        asked: Asked::Remove(CLIENT),
-        answer: Answer::Done,
-        question: (CLIENT, HERE, Access::Read),
-        before: Allowed,
-        after: NoIno,
-    },
-];
-
-// The file is unlinked while it is open, and given back; then clients go.
-const GOING: &[Turn] = &[
-    Turn {
-        asked: Asked::Open(CLIENT, OpenMode::ReadWrite),
-        answer: Answer::Change(1),
-        question: (CLIENT, FILE, Access::Read),
-        before: Allowed,
-        after: Allowed,
-    },
-    Turn {
-        asked: Asked::Unlink(CLIENT),
-        answer: Answer::Done,
-        question: (CLIENT, FILE, Access::Read),
-        before: Allowed,
-        after: Gone,
-    },
-    Turn {
-        asked: Asked::Release(CLIENT, OPENED),
-        answer: Answer::Done,
-        question: (CLIENT, FILE, Access::Read),
-        before: Gone,
-        after: NoIno,
-    },
-    Turn {
-        asked: Asked::Evict(TENANT),
-        answer: Answer::Done,
-        question: (TENANT, ROOT, Access::Read),
-        before: Denied,
-        after: NoSession,
-    },
-    Turn {
-        asked: Asked::Unblock(TENANT),
-        answer: Answer::Done,
-        question: (TENANT, ROOT, Access::Read),
-        before: NoSession,
-        after: NoSession,
-    },
-    Turn {
-        asked: Asked::Close(OTHER),
-        answer: Answer::Done,
-        question: (OTHER, ROOT, Access::Read),
-        before: Allowed,
-        after: NoSession,
-    },
-];
-
-/// The parts of the script, in the order in which they are played.
-const PARTS: [Part; 4] = [Part::Coming, Part::Changing, Part::Removing, Part::Going];
-
-/// A part of the script. Its turns are written out where they are named, so that this is in a function without anything strong.
-#[derive(Clone, Copy)]
-enum Part {
-    Coming,
-    Changing,
-    Removing,
-    Going,
-}
-
-impl Part {
-    fn turns(self) -> &'static [Turn] {
-        match self {
-            Part::Coming => COMING,
-            Part::Changing => CHANGING,
-            Part::Removing => REMOVING,
-            Part::Going => GOING,
-        }
-    }
-}
-
-/// Serves so many times, each time by a server of its own. The sum is that of the rows of their histories.
-pub(crate) fn publish<T: Wait>(rt: &T, alloc: Global, times: u32) -> Tally {
-    let mut tally = Tally::new();
-    for _ in 0..times {
-        match root_opening(alloc) {
-            Ok(opening) => serve(rt, alloc, opening, &mut tally),
-            Err(fault) => tally.fail(fault),
-        }
-    }
-    tally
-}
-
-// One pass calls, and one asks alone.
-fn serve<T: Wait>(rt: &T, alloc: Global, opening: Opening, tally: &mut Tally) {
-    let count = 2;
-    served::<Brand, T>(rt, alloc, opening, Blank::new(32), count, tally);
-}
-
-fn served<L: Server, T: Wait>(
-    rt: &T,
-    alloc: Global,
-    opening: Opening,
-    blank: Blank,
-    count: u32,
-    tally: &mut Tally,
-)
-    requires opening { opening ≡ opened L.opening L.max_rows L.history }
-    requires name { blank.name ≡ L.name }
-    requires parts { (blank.parts ≡ L.parts) × (L.parts ≡ 32) }
-    requires passes { count ≡ L.passes }
-{
-    let Ok((server, passes)) = CapServer::<NoGate, L>::start(rt, opening, blank, count, NoGate)
-    else {
-        return tally.fail(Fault::NoMemory);
-    };
-    take_all(rt, alloc, &server, passes, tally);
-    add_rows(rt, alloc, server, tally);
-}
-
-// Ends the server, and adds the number of its rows to the sum.
-fn add_rows<L: Server, T: Wait>(
-    rt: &T,
-    alloc: Global,
-    server: CapServer<NoGate, L>,
-    tally: &mut Tally,
-) {
-    let closed = server.close(rt, Vec::new(alloc));
-    let rows = closed.core.history().len() as u64;
-    drop(closed);
-    tally.add(rows);
-}
-
-// Takes all turns: the first pass calls.
-fn take_all<L: Server, T: Wait>(
+/// Has the first pass call what a script says. What is answered is written, and behind that what each pass is told of all questions.
+pub(crate) fn publish<L: Server, T: Wait, W: Write>(
     rt: &T,
     alloc: Global,
     server: &CapServer<NoGate, L>,
     mut passes: Vec<Pass<L>>,
-    tally: &mut Tally,
-) {
-    match passes.as_mut_slice() {
-        [caller, reader] => take_parts(rt, alloc, server, caller, reader, tally),
-        _ => tally.fail(Fault::Refused),
+    script: &[u8],
+    writer: &mut W,
+) -> Result<u64, Fault> {
+    let [caller, reader] = passes.as_mut_slice() else {
+        return Err(Fault::Usage);
+    };
+    for line in script.split(|byte| *byte == b'\n') {
+        take_line(rt, alloc, server, caller, reader, line, writer)?;
     }
+    Ok(0)
 }
 
-fn take_parts<L: Server, T: Wait>(
+// Calls what a line says until it is made and published.
+fn take_line<L: Server, T: Wait, W: Write>(
     rt: &T,
     alloc: Global,
     server: &CapServer<NoGate, L>,
     caller: &mut Pass<L>,
     reader: &mut Pass<L>,
-    tally: &mut Tally,
-) {
-    for part in PARTS {
-        take_turns(rt, alloc, server, caller, reader, part.turns(), tally);
-    }
-}
-
-fn take_turns<L: Server, T: Wait>(
-    rt: &T,
-    alloc: Global,
-    server: &CapServer<NoGate, L>,
-    caller: &mut Pass<L>,
-    reader: &mut Pass<L>,
-    turns: &[Turn],
-    tally: &mut Tally,
-) {
-    for turn in turns {
-        see(server, caller, turn.question, turn.before, tally);
-        take(rt, alloc, server, caller, *turn, tally);
-        see(server, caller, turn.question, turn.after, tally);
-        see(server, reader, turn.question, turn.after, tally);
-    }
-}
-
-// Makes the event of a turn. Where it isn't published, the question is answered as before until the next event is.
-fn take<L: Server, T: Wait>(
-    rt: &T,
-    alloc: Global,
-    server: &CapServer<NoGate, L>,
-    pass: &mut Pass<L>,
-    turn: Turn,
-    tally: &mut Tally,
-) {
-    let called = make(rt, alloc, server, pass, turn, tally);
-    if called.answer != turn.answer {
-        tally.fail(Fault::Refused);
-    }
-    if !called.is_fresh {
-        tally.late = tally.late.wrapping_add(1);
-        see(server, pass, turn.question, turn.before, tally);
-        catch_up(rt, server, pass, tally);
-    }
-}
-
-// Calls the event of a turn until it is made. A call that finds no memory changes nothing that is seen.
-fn make<L: Server, T: Wait>(
-    rt: &T,
-    alloc: Global,
-    server: &CapServer<NoGate, L>,
-    pass: &mut Pass<L>,
-    turn: Turn,
-    tally: &mut Tally,
-) -> Called {
+    line: &[u8],
+    writer: &mut W,
+) -> Result<(), Fault> {
+    let mut line = line;
     for _ in 0..TRIES {
-        let called = match event(alloc, PLACES, turn.asked) {
-            Some(event) => call(rt, server, pass, event),
-            None => NOT_CALLED,
-        };
-        if is_made(called, tally) {
-            return called;
+        let called = call(rt, alloc, server, caller, line, writer)?;
+        see(server, caller, writer)?;
+        see(server, reader, writer)?;
+        match called.heard {
+            Heard::Answered if called.is_fresh => return Ok(()),
+            Heard::Answered => line = CATCH_UP,
+            Heard::Starved | Heard::Stopped => (),
         }
-        see(server, pass, turn.question, turn.before, tally);
     }
-    tally.fail(Fault::InVain);
-    NOT_CALLED
+    Err(Fault::InVain)
 }
 
-// Whether a call did not find too little memory, which is counted.
-fn is_made(called: Called, tally: &mut Tally) -> bool {
-    match called.answer {
-        Answer::Stopped(Stop::NoMemory) => tally.stops = tally.stops.wrapping_add(1),
-        Answer::NoMemory => tally.starved = tally.starved.wrapping_add(1),
-        _ => return true,
-    }
-    false
-}
-
-// Calls for messages until that is published, and with it what was not.
-fn catch_up<L: Server, T: Wait>(
+fn call<L: Server, T: Wait, W: Write>(
     rt: &T,
+    alloc: Global,
     server: &CapServer<NoGate, L>,
     pass: &mut Pass<L>,
-    tally: &mut Tally,
-) {
-    for _ in 0..TRIES {
-        let called = call(rt, server, pass, polling(CLIENT));
-        if called.is_fresh {
-            return;
-        }
-        if is_made(called, tally) {
-            tally.late = tally.late.wrapping_add(1);
-        }
-    }
-    tally.fail(Fault::InVain);
-}
-
-fn call<L: Server, T: Wait>(
-    rt: &T,
-    server: &CapServer<NoGate, L>,
-    pass: &mut Pass<L>,
-    event: Event,
-) -> Called {
+    line: &[u8],
+    writer: &mut W,
+) -> Result<Called, Fault> {
+    let event = event_of(alloc, line)?;
     match server.call(rt, pass, event) {
-        Ok(answer) => read_answer(answer),
-        Err(stop) => Called {
-            answer: Answer::Stopped(stop),
+        Ok(answer) => tell_answer(alloc, answer, writer),
+        Err(stop) => Ok(Called {
+            heard: tell_stop(stop, writer)?,
             is_fresh: false,
+        }),
+    }
+}
+
+// Writes an answer, and behind it whether it is not published yet.
+fn tell_answer<W: Write>(alloc: Global, answer: Answer, writer: &mut W) -> Result<Called, Fault> {
+    let heard = tell(alloc, &answer.reply, writer)?;
+    let is_fresh = answer.fresh;
+    drop(answer);
+    if !is_fresh {
+        write(writer, b"late\n")?;
+    }
+    Ok(Called { heard, is_fresh })
+}
+
+// Writes what a pass is told, a letter for each question.
+fn see<L: Server, W: Write>(
+    server: &CapServer<NoGate, L>,
+    pass: &mut Pass<L>,
+    writer: &mut W,
+) -> Result<(), Fault> {
+    let mut view = [b'\n'; QUESTIONS + 1];
+    for place in 0..QUESTIONS {
+        view[place] = letter_of(server.explain(pass, &question_at(place as u32)));
+    }
+    write(writer, b"view ")?;
+    write(writer, &view)
+}
+
+// The question at a place: client by client, and for each of them inode by inode.
+fn question_at(place: u32) -> Question {
+    Question {
+        client: ClientId(1 + place / 2 / ASKED),
+        ino: Ino(1 + u64::from(place / 2 % ASKED)),
+        access: if place % 2 == 0 {
+            Access::Read
+        } else {
+            Access::Write
         },
     }
 }
 
-fn read_answer(answer: capserver::Answer) -> Called {
-    Called {
-        answer: read_reply(&answer.reply),
-        is_fresh: answer.fresh,
-    }
-}
-
-// Asks, and sees that the answer is the wanted one.
-fn see<L: Server>(
-    server: &CapServer<NoGate, L>,
-    pass: &mut Pass<L>,
-    asks: Asks,
-    wanted: Told,
-    tally: &mut Tally,
-) {
-    let (client, ino, access) = asks;
-    let question = Question {
-        client,
-        ino,
-        access,
-    };
-    if answer_of(server.explain(pass, &question)) != wanted {
-        tally.fail(Fault::OtherView);
-    }
-}
-
-fn answer_of(answer: Result<Verdict, Unknown>) -> Told {
+fn letter_of(answer: Result<Verdict, Unknown>) -> u8 {
     match answer {
-        Ok(Verdict::Allowed { .. }) => Allowed,
-        Ok(Verdict::Denied { .. }) => Denied,
-        Err(Unknown::NoSession) => NoSession,
-        Err(Unknown::NoIno) => NoIno,
-        Err(Unknown::Gone) => Gone,
-        Err(Unknown::NoView) => NoView,
+        Ok(Verdict::Allowed { .. }) => b'a',
+        Ok(Verdict::Denied { .. }) => b'd',
+        Err(Unknown::NoSession) => b's',
+        Err(Unknown::NoIno) => b'i',
+        Err(Unknown::Gone) => b'g',
+        Err(Unknown::NoView) => b'v',
     }
 }
