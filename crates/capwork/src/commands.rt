@@ -4,6 +4,7 @@ ghost use Rattle.capwork.specs.Status.{status_of};
 
 use crate::fault::Fault;
 use crate::judging::{judge, read};
+use crate::lines::lines_of;
 use crate::retry::retry;
 use crate::serving::serve;
 use crate::work::{Work, work_of};
@@ -83,8 +84,8 @@ fn sum_of<T: Threads + Wait + Sync, W: Write>(
     match work {
         Work::Verdict(times) => judge(alloc, text, times),
         Work::Parse(times) => read(alloc, text, times),
-        Work::Retry => retry(alloc, text, writer),
-        Work::Serve(work) => serve(rt, alloc, work, text, writer),
+        Work::Retry => retry(alloc, lines_of(alloc, text)?.as_slice(), writer),
+        Work::Serve(work) => serve(rt, alloc, work, lines_of(alloc, text)?.as_slice(), writer),
     }
 }
 
@@ -93,7 +94,7 @@ pub fn report(fault: Fault, faults: &mut impl Write) -> u8
     ensures status { result ≡ status_of fault }
     ensures bound { result ≤ USAGE }
 {
-    let _ = writeln!(faults, "capbench: {fault}");
+    let _ = faults.write_all(fault.line().as_bytes());
     match fault {
         Fault::Usage => USAGE,
         _ => FAILED,

@@ -4,8 +4,8 @@
 use crate::fault::Fault;
 use crate::lines::event_of;
 use crate::work::{Asking, Way};
-use capbits::{ClientId, Ino, Mode};
-use capcore::Event;
+use capbits::{ClientId, Ino, Mode, PassId};
+use capcore::{Event, Stop};
 use capgrant::{Access, Verdict};
 use capserver::{CapServer, NoGate, Pass, Question, Server};
 use inotree::Setting;
@@ -13,13 +13,10 @@ use lockmachine::Change;
 use std::alloc::Global;
 use std::sync::atomic::{AtomicU64, Ordering};
 use std::sync::{Mutex, MutexGuard, Wait};
-use std::thread::{Threads, join, map_vec};
+use std::thread::{Threads, map_vec};
 
 /// Who asks, and who changes modes.
 const CLIENT: ClientId = ClientId(1);
-
-/// What the word says that threads read while others still ask.
-const ASKING: u64 = 1;
 
 /// How far apart two inodes are that follow each other. It shares no divisor with a number of inodes.
 const STRIDE: u64 = 7919;
@@ -27,49 +24,64 @@ const STRIDE: u64 = 7919;
 /// The modes that are set by turns.
 const MODES: [u16; 2] = [0o700, 0o755];
 
-/// Has one pass call what a script says, and then change modes until all others have asked their questions, each in a thread of its own.
-/// Returns how many questions were answered with yes.
+/// Has the last pass call what the lines of a script say, and then change modes until all others have asked their questions, each in a
+/// thread of its own. Returns how many questions were answered with yes.
 pub(crate) fn explain<L: Server + Send + Sync, T: Threads + Wait + Sync>(
     rt: &T,
     alloc: Global,
     server: &CapServer<NoGate, L>,
     mut passes: Vec<Pass<L>>,
     asking: Asking,
-    script: &[u8],
+    lines: &[&[u8]],
 ) -> Result<u64, Fault> {
-    let Some(mut caller) = passes.pop() else {
-        return Err(Fault::Usage);
-    };
-    let made = call_lines(rt, alloc, server, &mut caller, script);
-    let sum = ask_while_called(rt, server, caller, passes, asking);
-    made?;
-    sum
+    call_lines(rt, alloc, server, passes.last_mut(), lines)?;
+    let (done, lock) = (AtomicU64::new(0), Mutex::new(()));
+    let work = &|pass: Pass<L>| { take_part(rt, server, pass, &done, &lock, asking) };
+    match map_vec(rt, passes, work) {
+        Ok(sums) => total(sums.as_slice()),
+        Err(_) => Err(Fault::NoMemory),
+    }
 }
 
-// Has one pass change modes until the others have asked in threads of their own.
-fn ask_while_called<L: Server + Send + Sync, T: Threads + Wait + Sync>(
+// What a pass does in its thread: the last one calls, and the others ask. Where no thread can be made for one, it is done before those
+// behind it, so that the last one need not wait.
+fn take_part<L: Server, T: Wait>(
     rt: &T,
     server: &CapServer<NoGate, L>,
-    caller: Pass<L>,
-    passes: Vec<Pass<L>>,
+    pass: Pass<L>,
+    done: &AtomicU64,
+    lock: &Mutex<()>,
     asking: Asking,
 ) -> Result<u64, Fault> {
-    let (word, lock) = (AtomicU64::new(ASKING), Mutex::new(()));
-    let turnstile = match asking.way {
+    if pass.number() > PassId(asking.readers) {
+        return call_while(rt, server, pass, done, lock, asking);
+    }
+    let sum = ask(rt, server, pass, lock, asking);
+    done.fetch_add(1, Ordering::SeqCst);
+    Ok(sum)
+}
+
+// The sum of what all passes came to, or the first fault.
+fn total(sums: &[Result<u64, Fault>]) -> Result<u64, Fault> {
+    let mut total: u64 = 0;
+    for sum in sums {
+        total = total.wrapping_add((*sum)?);
+    }
+    Ok(total)
+}
+
+// Takes the lock, where it is to be taken.
+fn enter<'a, T: Wait>(rt: &T, lock: &'a Mutex<()>, way: Way) -> Option<MutexGuard<'a, ()>> {
+    match way {
         Way::Beside => None,
-        Way::Locked => Some(&lock),
-    };
-    let (sum, called) = join(
-        rt,
-        || {
-            let sum = ask_all(rt, server, passes, turnstile, asking);
-            word.store(0, Ordering::SeqCst);
-            sum
-        },
-        || call_while(rt, server, caller, &word, turnstile, asking),
-    );
-    called?;
-    sum
+        Way::Locked => Some(lock.lock(rt)),
+    }
+}
+
+fn leave(guard: Option<MutexGuard<()>>) {
+    if let Some(guard) = guard {
+        MutexGuard::unlock(guard);
+    }
 }
 
 // An inode for an operation. Those that follow each other come to each inode once before one comes again.
@@ -86,34 +98,41 @@ fn call_lines<L: Server, T: Wait>(
     rt: &T,
     alloc: Global,
     server: &CapServer<NoGate, L>,
-    pass: &mut Pass<L>,
-    script: &[u8],
+    pass: Option<&mut Pass<L>>,
+    lines: &[&[u8]],
 ) -> Result<(), Fault> {
-    for line in script.split(|byte| *byte == b'\n') {
-        call(rt, server, pass, None, event_of(alloc, line)?)?;
+    let Some(pass) = pass else {
+        return Err(Fault::Usage);
+    };
+    for line in lines {
+        let event = event_of(alloc, line)?;
+        call(rt, server, pass, event)?;
     }
     Ok(())
 }
 
-// Changes the mode of one inode after another as long as others ask.
+// Changes the mode of one inode after another until all others have asked.
 fn call_while<L: Server, T: Wait>(
     rt: &T,
     server: &CapServer<NoGate, L>,
     mut pass: Pass<L>,
-    word: &AtomicU64,
-    turnstile: Option<&Mutex<()>>,
+    done: &AtomicU64,
+    lock: &Mutex<()>,
     asking: Asking,
-) -> Result<(), Fault> {
+) -> Result<u64, Fault> {
     let mut turn: u32 = 0;
     for _ in rt.forever() {
-        if word.load(Ordering::SeqCst) != ASKING {
+        if done.load(Ordering::SeqCst) == u64::from(asking.readers) {
             break;
         }
         let event = mode_change(inode_at(turn, asking.inodes), turn);
-        call(rt, server, &mut pass, turnstile, event)?;
+        let guard = enter(rt, lock, asking.way);
+        let called = call(rt, server, &mut pass, event);
+        leave(guard);
+        called?;
         turn = turn.wrapping_add(1);
     }
-    Ok(())
+    Ok(0)
 }
 
 fn mode_change(ino: Ino, turn: u32) -> Event {
@@ -127,89 +146,46 @@ fn mode_change(ino: Ino, turn: u32) -> Event {
     }
 }
 
-// Calls an event, under the lock if there is one. What the server promises of an answer stays behind here.
+// Calls an event. What the server promises of an answer stays behind here.
 fn call<L: Server, T: Wait>(
     rt: &T,
     server: &CapServer<NoGate, L>,
     pass: &mut Pass<L>,
-    turnstile: Option<&Mutex<()>>,
     event: Event,
 ) -> Result<(), Fault> {
-    let guard = turnstile.map(|lock| lock.lock(rt));
-    let called = server.call(rt, pass, event);
-    if let Some(guard) = guard {
-        MutexGuard::unlock(guard);
-    }
-    match called {
+    match server.call(rt, pass, event) {
         Ok(_answer) => Ok(()),
-        Err(stop) => Err(Fault::from(stop)),
+        Err(Stop::NoMemory) => Err(Fault::NoMemory),
+        Err(Stop::Full) => Err(Fault::Full),
     }
 }
 
 // ---- the threads that ask
-
-// Has each pass ask in a thread of its own, and returns how many questions were answered with yes.
-fn ask_all<L: Server + Send + Sync, T: Threads + Wait + Sync>(
-    rt: &T,
-    server: &CapServer<NoGate, L>,
-    passes: Vec<Pass<L>>,
-    turnstile: Option<&Mutex<()>>,
-    asking: Asking,
-) -> Result<u64, Fault> {
-    let asked = map_vec(
-        rt,
-        passes,
-        &|pass: Pass<L>| { ask(rt, server, pass, turnstile, asking) },
-    );
-    match asked {
-        Ok(sums) => Ok(total(sums.as_slice())),
-        Err(_) => Err(Fault::NoMemory),
-    }
-}
-
-fn total(sums: &[u64]) -> u64 {
-    let mut total: u64 = 0;
-    for sum in sums {
-        total = total.wrapping_add(*sum);
-    }
-    total
-}
 
 // Asks so many questions, and returns how many were answered with yes.
 fn ask<L: Server, T: Wait>(
     rt: &T,
     server: &CapServer<NoGate, L>,
     mut pass: Pass<L>,
-    turnstile: Option<&Mutex<()>>,
+    lock: &Mutex<()>,
     asking: Asking,
 ) -> u64 {
     let mut sum: u64 = 0;
     for turn in 0..asking.times {
-        let ino = inode_at(turn, asking.inodes);
-        if is_allowed(rt, server, &mut pass, turnstile, ino) {
-            sum = sum.wrapping_add(1);
-        }
+        let guard = enter(rt, lock, asking.way);
+        let is_allowed = is_allowed(server, &mut pass, inode_at(turn, asking.inodes));
+        leave(guard);
+        sum = sum.wrapping_add(u64::from(is_allowed));
     }
     sum
 }
 
-// Asks whether the client may write an inode, under the lock if there is one.
-fn is_allowed<L: Server, T: Wait>(
-    rt: &T,
-    server: &CapServer<NoGate, L>,
-    pass: &mut Pass<L>,
-    turnstile: Option<&Mutex<()>>,
-    ino: Ino,
-) -> bool {
+// Asks whether the client may write an inode.
+fn is_allowed<L: Server>(server: &CapServer<NoGate, L>, pass: &mut Pass<L>, ino: Ino) -> bool {
     let question = Question {
         client: CLIENT,
         ino,
         access: Access::Write,
     };
-    let guard = turnstile.map(|lock| lock.lock(rt));
-    let answer = server.explain(pass, &question);
-    if let Some(guard) = guard {
-        MutexGuard::unlock(guard);
-    }
-    matches!(answer, Ok(Verdict::Allowed { .. }))
+    matches!(server.explain(pass, &question), Ok(Verdict::Allowed { .. }))
 }

@@ -1,12 +1,9 @@
 //! Why the program gave no sum.
 
-use capcore::Stop;
 use capscript::ScriptFault;
 use capserver::StartFault;
 use capspec::{SpecFault, SpecFaultKind};
 use std::alloc::{AllocError, AllocFailed};
-use std::fmt;
-use std::fmt::Display;
 
 /// Why a piece of work gave no sum.
 #[derive(Clone, Copy)]
@@ -29,19 +26,20 @@ pub enum Fault {
     WriteFailed,
 }
 
-impl Display for Fault {
-    fn fmt<W: fmt::Write>(&self, f: &mut fmt::Formatter<W>) -> fmt::Result {
-        f.write_str(match self {
+impl Fault {
+    /// The line that says it.
+    pub(crate) fn line(self) -> &'static str {
+        match self {
             Fault::Usage =>
-                "wanted is one of: verdict N, parse N, explain READERS INODES N, locked READERS INODES N, retry, publish, or a WORKLOAD with COUNT and SEED",
-            Fault::Text => "the text can't be used",
-            Fault::Changed => "the core changed, where it found no memory",
-            Fault::InVain => "an event was asked for in vain",
-            Fault::Full => "the history is full",
-            Fault::NoMemory => "no memory",
-            Fault::ReadFailed => "read failed",
-            Fault::WriteFailed => "write failed",
-        })
+                "capbench: wanted is one of: verdict N, parse N, explain READERS INODES N, locked READERS INODES N, retry, publish, or a WORKLOAD with COUNT and SEED\n",
+            Fault::Text => "capbench: the text can't be used\n",
+            Fault::Changed => "capbench: the core changed, where it found no memory\n",
+            Fault::InVain => "capbench: an event was asked for in vain\n",
+            Fault::Full => "capbench: the history is full\n",
+            Fault::NoMemory => "capbench: no memory\n",
+            Fault::ReadFailed => "capbench: read failed\n",
+            Fault::WriteFailed => "capbench: write failed\n",
+        }
     }
 }
 
@@ -54,15 +52,6 @@ impl From<AllocError> for Fault {
 impl<T: Drop> From<AllocFailed<T>> for Fault {
     fn from(_: AllocFailed<T>) -> Self {
         Fault::NoMemory
-    }
-}
-
-impl From<Stop> for Fault {
-    fn from(stop: Stop) -> Self {
-        match stop {
-            Stop::NoMemory => Fault::NoMemory,
-            Stop::Full => Fault::Full,
-        }
     }
 }
 

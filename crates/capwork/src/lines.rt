@@ -15,10 +15,17 @@ pub(crate) const TRIES: u32 = 16;
 pub(crate) enum Heard {
     /// It was answered.
     Answered,
+    /// It was answered, and is not published yet.
+    Late,
     /// It found no memory when it was served.
     Starved,
     /// The event found no memory.
     Stopped,
+}
+
+/// The lines of a script.
+pub(crate) fn lines_of(alloc: Global, script: &[u8]) -> Result<Vec<&[u8]>, Fault> {
+    Ok(script.split(|byte| *byte == b'\n').collect(alloc)?)
 }
 
 /// The event that a line says. Where it finds no memory it is read again.

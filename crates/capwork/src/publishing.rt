@@ -17,32 +17,26 @@ const ASKED: u32 = 4;
 /// How many questions there are on them: whether each client may read and write each inode.
 const QUESTIONS: usize = 32;
 
+/// The line of what a pass is told, before its letters are in it.
+const VIEW: &[u8; 38] = b"view ................................\n";
+
 /// The line that is called where an event was made and not published: it changes nothing, and is published with it.
 const CATCH_UP: &[u8] = b"poll 1 9";
 
-/// What is answered to a call, and whether that is published.
-#[derive(Clone, Copy)]
-struct Called {
-    heard: Heard,
-    is_fresh: bool,
-}
-
-/// Has the first pass call what a script says. What is answered is written, and behind that what each pass is told of all questions.
+/// Has the first pass call what the lines of a script say. What is answered is written, and behind that what each pass is told of all
+/// questions.
 pub(crate) fn publish<L: Server, T: Wait, W: Write>(
     rt: &T,
     alloc: Global,
     server: &CapServer<NoGate, L>,
-    mut passes: Vec<Pass<L>>,
-    script: &[u8],
+    passes: &mut [Pass<L>],
+    lines: &[&[u8]],
     writer: &mut W,
-) -> Result<u64, Fault> {
-    let [caller, reader] = passes.as_mut_slice() else {
-        return Err(Fault::Usage);
-    };
-    for line in script.split(|byte| *byte == b'\n') {
-        take_line(rt, alloc, server, caller, reader, line, writer)?;
+) -> Result<(), Fault> {
+    for line in lines {
+        take_line(rt, alloc, server, passes, line, writer)?;
     }
-    Ok(0)
+    Ok(())
 }
 
 // Calls what a line says until it is made and published.
@@ -50,19 +44,17 @@ fn take_line<L: Server, T: Wait, W: Write>(
     rt: &T,
     alloc: Global,
     server: &CapServer<NoGate, L>,
-    caller: &mut Pass<L>,
-    reader: &mut Pass<L>,
+    passes: &mut [Pass<L>],
     line: &[u8],
     writer: &mut W,
 ) -> Result<(), Fault> {
     let mut line = line;
     for _ in 0..TRIES {
-        let called = call(rt, alloc, server, caller, line, writer)?;
-        see(server, caller, writer)?;
-        see(server, reader, writer)?;
-        match called.heard {
-            Heard::Answered if called.is_fresh => return Ok(()),
-            Heard::Answered => line = CATCH_UP,
+        let heard = call(rt, alloc, server, passes, line, writer)?;
+        see_all(server, passes, writer)?;
+        match heard {
+            Heard::Answered => return Ok(()),
+            Heard::Late => line = CATCH_UP,
             Heard::Starved | Heard::Stopped => (),
         }
     }
@@ -73,29 +65,42 @@ fn call<L: Server, T: Wait, W: Write>(
     rt: &T,
     alloc: Global,
     server: &CapServer<NoGate, L>,
-    pass: &mut Pass<L>,
+    passes: &mut [Pass<L>],
     line: &[u8],
     writer: &mut W,
-) -> Result<Called, Fault> {
+) -> Result<Heard, Fault> {
+    let Some(caller) = passes.first_mut() else {
+        return Err(Fault::Usage);
+    };
     let event = event_of(alloc, line)?;
-    match server.call(rt, pass, event) {
-        Ok(answer) => tell_answer(alloc, answer, writer),
-        Err(stop) => Ok(Called {
-            heard: tell_stop(stop, writer)?,
-            is_fresh: false,
-        }),
+    match server.call(rt, caller, event) {
+        Ok(answer) => tell_answer(alloc, &answer, writer),
+        Err(stop) => tell_stop(stop, writer),
     }
 }
 
-// Writes an answer, and behind it whether it is not published yet.
-fn tell_answer<W: Write>(alloc: Global, answer: Answer, writer: &mut W) -> Result<Called, Fault> {
+// Writes an answer, and behind it that it is not published yet.
+fn tell_answer<W: Write>(alloc: Global, answer: &Answer, writer: &mut W) -> Result<Heard, Fault> {
     let heard = tell(alloc, &answer.reply, writer)?;
-    let is_fresh = answer.fresh;
-    drop(answer);
-    if !is_fresh {
-        write(writer, b"late\n")?;
+    if answer.fresh {
+        return Ok(heard);
     }
-    Ok(Called { heard, is_fresh })
+    write(writer, b"late\n")?;
+    Ok(match heard {
+        Heard::Answered => Heard::Late,
+        heard => heard,
+    })
+}
+
+fn see_all<L: Server, W: Write>(
+    server: &CapServer<NoGate, L>,
+    passes: &mut [Pass<L>],
+    writer: &mut W,
+) -> Result<(), Fault> {
+    for pass in passes {
+        see(server, pass, writer)?;
+    }
+    Ok(())
 }
 
 // Writes what a pass is told, a letter for each question.
@@ -104,12 +109,16 @@ fn see<L: Server, W: Write>(
     pass: &mut Pass<L>,
     writer: &mut W,
 ) -> Result<(), Fault> {
-    let mut view = [b'\n'; QUESTIONS + 1];
+    let mut view = *VIEW;
     for place in 0..QUESTIONS {
-        view[place] = letter_of(server.explain(pass, &question_at(place as u32)));
+        view[5 + place] = letter_at(server, pass, place as u32);
     }
-    write(writer, b"view ")?;
     write(writer, &view)
+}
+
+// What is told of the question at a place. What the server promises of it stays behind here.
+fn letter_at<L: Server>(server: &CapServer<NoGate, L>, pass: &mut Pass<L>, place: u32) -> u8 {
+    letter_of(server.explain(pass, &question_at(place)))
 }
 
 // The question at a place: client by client, and for each of them inode by inode.

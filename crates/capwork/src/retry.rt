@@ -12,12 +12,16 @@ use std::io::Write;
 
 const PASS: PassId = PassId(1);
 
-/// Plays a script, writes what is answered to each line, and returns the hash of the core in the end. No other function owns a core:
+/// Plays the lines of a script, writes what is answered to each line, and returns the hash of the core in the end. No other function owns a core:
 /// what it keeps is carried through each way out of its owner.
-pub(crate) fn retry<W: Write>(alloc: Global, script: &[u8], writer: &mut W) -> Result<u64, Fault> {
+pub(crate) fn retry<W: Write>(
+    alloc: Global,
+    lines: &[&[u8]],
+    writer: &mut W,
+) -> Result<u64, Fault> {
     let (fs, tree) = file_system(alloc)?;
     let mut core = Core::new(alloc, fs, tree, u32::MAX)?;
-    let sum = play(alloc, &mut core, script, writer);
+    let sum = play(alloc, &mut core, lines, writer);
     drop(core);
     sum
 }
@@ -25,10 +29,10 @@ pub(crate) fn retry<W: Write>(alloc: Global, script: &[u8], writer: &mut W) -> R
 fn play<W: Write>(
     alloc: Global,
     core: &mut Core,
-    script: &[u8],
+    lines: &[&[u8]],
     writer: &mut W,
 ) -> Result<u64, Fault> {
-    for line in script.split(|byte| *byte == b'\n') {
+    for line in lines {
         take_line(alloc, core, line, writer)?;
     }
     Ok(digest_of(core))
@@ -45,7 +49,7 @@ fn take_line<W: Write>(
     for _ in 0..TRIES {
         let (whole, tree) = (digest_of(core), digest_of(core.tree()));
         let is_same = match ask(alloc, core, line, writer)? {
-            Heard::Answered => return Ok(()),
+            Heard::Answered | Heard::Late => return Ok(()),
             Heard::Starved => tree == digest_of(core.tree()),
             Heard::Stopped => whole == digest_of(core),
         };

@@ -21,7 +21,7 @@ pub(crate) fn serve<T: Threads + Wait + Sync, W: Write>(
     rt: &T,
     alloc: Global,
     work: ServerWork,
-    script: &[u8],
+    lines: &[&[u8]],
     writer: &mut W,
 ) -> Result<u64, Fault> {
     let count = passes_for(work);
@@ -34,7 +34,7 @@ pub(crate) fn serve<T: Threads + Wait + Sync, W: Write>(
         Blank::new(32),
         count,
         work,
-        script,
+        lines,
         writer,
     )
 }
@@ -54,7 +54,7 @@ fn served<L: Server + Send + Sync, T: Threads + Wait + Sync, W: Write>(
     blank: Blank,
     count: u32,
     work: ServerWork,
-    script: &[u8],
+    lines: &[&[u8]],
     writer: &mut W,
 ) -> Result<u64, Fault>
     requires opening { opening ≡ opened L.opening L.max_rows L.history }
@@ -62,18 +62,19 @@ fn served<L: Server + Send + Sync, T: Threads + Wait + Sync, W: Write>(
     requires parts { (blank.parts ≡ L.parts) × (L.parts ≡ 32) }
     requires passes { count ≡ L.passes }
 {
-    let (server, passes) = CapServer::<NoGate, L>::start(rt, opening, blank, count, NoGate)?;
-    let asked = match work {
-        ServerWork::Publish => publish(rt, alloc, &server, passes, script, writer),
-        ServerWork::Explain(asking) => explain(rt, alloc, &server, passes, asking, script),
-    };
-    let rows = rows_of(rt, alloc, server);
+    let (server, mut passes) = CapServer::<NoGate, L>::start(rt, opening, blank, count, NoGate)?;
     match work {
         ServerWork::Publish => {
-            asked?;
+            let published = publish(rt, alloc, &server, passes.as_mut_slice(), lines, writer);
+            let rows = rows_of(rt, alloc, server);
+            published?;
             Ok(rows)
         }
-        ServerWork::Explain(_) => asked,
+        ServerWork::Explain(asking) => {
+            let sum = explain(rt, alloc, &server, passes, asking, lines);
+            rows_of(rt, alloc, server);
+            sum
+        }
     }
 }
 
