@@ -66,13 +66,6 @@ pub struct Place {
     pub fault: BookFault,
 }
 
-impl Display for Place {
-    fn fmt<W: fmt::Write>(&self, f: &mut fmt::Formatter<W>) -> fmt::Result {
-        let Place { line, fault } = self;
-        write!(f, "line {line}: {fault}")
-    }
-}
-
 /// Why no more was played.
 pub enum Stop {
     /// The command line names no file.
@@ -98,7 +91,10 @@ impl Display for Stop {
     fn fmt<W: fmt::Write>(&self, f: &mut fmt::Formatter<W>) -> fmt::Result {
         match self {
             Stop::NoFile => f.write_str("no file is named"),
-            Stop::InFile { name, place } => write!(f, "{name}, {place}"),
+            Stop::InFile { name, place } => {
+                let Place { line, fault } = place;
+                write!(f, "{name}, line {line}: {fault}")
+            }
             Stop::NoMemory => f.write_str("no memory"),
         }
     }
