@@ -1,3 +1,1 @@
-pub mod Fault
-pub mod Inquiry
 pub mod Commands

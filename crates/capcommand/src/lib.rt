@@ -1,17 +1,14 @@
-//! The commands of `capd`: what the words of its command line ask for, what each command writes, and with which status it ends.
+//! The commands of `capd`: what each writes, and with which status it ends. Those that answer a question about grants stand in
+//! `capanswers`; here are those that run or serve a script, and what chooses among all by the words of the command line.
 //!
 //! They stand in a library, as nothing can stand on a program, and the checks of a program load all that it links.
 #![tactic(auto)]
 
-mod advice;
-mod arguments;
-mod command_line;
 mod commands;
 mod fault;
-mod inquiry;
 
-pub use arguments::words;
-pub use command_line::Ask;
-pub use commands::{DENIED, DONE, FAILED, FOUND, USAGE, carry_out, dispatch, report};
+pub use capanswers::{
+    AnswerFault, Ask, DENIED, DONE, FAILED, FOUND, Form, Inquiry, Source, USAGE, report, words,
+};
+pub use commands::{carry_out, dispatch};
 pub use fault::Fault;
-pub use inquiry::{Form, Inquiry, Source};

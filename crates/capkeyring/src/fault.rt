@@ -1,23 +1,31 @@
 //! Why a keyring gives no grants.
 
 use std::alloc::{AllocError, AllocFailed};
-use thiserror::Error;
+use std::fmt;
+use std::fmt::Display;
 
 /// Why a keyring gives no grants of an entity.
-#[derive(Clone, Copy, Debug, PartialEq, Eq, Error)]
+#[derive(Clone, Copy)]
 pub enum KeyringFault {
     /// No line is the entity's name between brackets.
-    #[error("NoEntity")]
     NoEntity,
     /// The entity's section has no line that begins with `caps mds = `.
-    #[error("NoCaps")]
     NoCaps,
     /// What stands behind that is not one text in double quotes.
-    #[error("NotQuoted")]
     NotQuoted,
     /// No memory was left.
-    #[error("no memory")]
     NoMemory,
+}
+
+impl Display for KeyringFault {
+    fn fmt<W: fmt::Write>(&self, f: &mut fmt::Formatter<W>) -> fmt::Result {
+        f.write_str(match self {
+            KeyringFault::NoEntity => "NoEntity",
+            KeyringFault::NoCaps => "NoCaps",
+            KeyringFault::NotQuoted => "NotQuoted",
+            KeyringFault::NoMemory => "no memory",
+        })
+    }
 }
 
 impl From<AllocError> for KeyringFault {

@@ -7,20 +7,28 @@ use capcompare::{gained, lost};
 use capexplain::comparison_lines;
 use capspec::{Grants, SpecFault};
 use std::alloc::{AllocError, Global};
-use thiserror::Error;
+use std::fmt;
+use std::fmt::Display;
 
 /// Why two texts of grants are not compared.
-#[derive(Clone, Copy, Debug, PartialEq, Eq, Error)]
+#[derive(Clone, Copy)]
 pub enum CompareFault {
     /// The old grants can't be read: this is their first fault.
-    #[error("old grants: {0}")]
     Old(SpecFault),
     /// The new grants can't be read.
-    #[error("new grants: {0}")]
     New(SpecFault),
     /// No memory was left.
-    #[error("no memory")]
     NoMemory,
+}
+
+impl Display for CompareFault {
+    fn fmt<W: fmt::Write>(&self, f: &mut fmt::Formatter<W>) -> fmt::Result {
+        match self {
+            CompareFault::Old(fault) => write!(f, "old grants: {fault}"),
+            CompareFault::New(fault) => write!(f, "new grants: {fault}"),
+            CompareFault::NoMemory => f.write_str("no memory"),
+        }
+    }
 }
 
 impl From<AllocError> for CompareFault {

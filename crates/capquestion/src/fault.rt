@@ -3,20 +3,28 @@
 use crate::options::Opt;
 use capspec::{SpecFault, SpecFaultKind};
 use std::alloc::AllocError;
-use thiserror::Error;
+use std::fmt;
+use std::fmt::Display;
 
 /// Why values ask no question.
-#[derive(Clone, Copy, Debug, PartialEq, Eq, Error)]
+#[derive(Clone, Copy)]
 pub enum QuestionFault {
     /// The grants can't be read: this is their first fault.
-    #[error("grants: {0}")]
     Grants(SpecFault),
     /// The value of this option, which is not `Opt::Grants`, is the first bad one.
-    #[error("bad value of --{0}")]
     BadValue(Opt),
     /// Each value is good, but no memory was left for the question.
-    #[error("no memory")]
     NoMemory,
+}
+
+impl Display for QuestionFault {
+    fn fmt<W: fmt::Write>(&self, f: &mut fmt::Formatter<W>) -> fmt::Result {
+        match self {
+            QuestionFault::Grants(fault) => write!(f, "grants: {fault}"),
+            QuestionFault::BadValue(option) => write!(f, "bad value of --{option}"),
+            QuestionFault::NoMemory => f.write_str("no memory"),
+        }
+    }
 }
 
 impl From<AllocError> for QuestionFault {

@@ -6,7 +6,7 @@ ghost use Rattle.capquestion.specs.Options.{option_name};
 use std::fmt;
 
 /// An option of `explain`. Their values are tested in this order.
-#[derive(Clone, Copy, Debug, PartialEq, Eq)]
+#[derive(Clone, Copy)]
 pub enum Opt {
     /// The client's grants.
     Grants,

@@ -20,7 +20,6 @@ use capspec::{FsName, Grants, TreePath};
 use std::alloc::{AllocError, Global};
 
 /// The values of the options as they stand on the command line, as bytes.
-#[derive(Debug)]
 pub struct Values {
     /// The client's grants, as `ceph fs authorize` writes them.
     pub grants: Vec<u8>,
@@ -63,7 +62,6 @@ impl Drop for Values {
 }
 
 /// Whether these grants let a caller make an access to an inode.
-#[derive(Debug)]
 pub struct Question {
     /// The grants of the client.
     pub grants: Grants,

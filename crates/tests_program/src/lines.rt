@@ -2,7 +2,7 @@
 
 use crate::asserting::{made, same};
 use arrayvec::ArrayVec;
-use capcommand::{Fault, report};
+use capcommand::{AnswerFault, report};
 use capexplain::explain_line;
 use capgrant::{Access, Rules, Verdict};
 use capquestion::spelled;
@@ -30,7 +30,7 @@ fn texts_spell_bytes(rt: HostRuntime) {
 // The status of want of memory, and what is said of it.
 fn reported_want_of_memory(alloc: Global) -> (u8, Vec<u8>) {
     let mut faults = Vec::new(alloc);
-    let status = report(Fault::NoMemory, &mut faults);
+    let status = report(AnswerFault::NoMemory, &mut faults);
     (status, faults)
 }
 

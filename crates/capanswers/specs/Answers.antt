@@ -1,0 +1,40 @@
+-- What a command that answers a question about grants writes, and why it stops before that.
+use Rattle.std.specs.Prelude.{◌≡◌, ◌⊎◌, ℕ, Bool, List, length, Option, IsTrue, IsFalse, codes, ◌==◌, if◌then◌else◌}
+use Rattle.std.specs.Global.{Vec}
+use Rattle.std.specs.Io.KnownBytes.{Appends, Keeps}
+use Rattle.capquestion.specs.declared.fault.QuestionFault.{QuestionFault}
+use Rattle.capquestion.specs.declared.question.Question.{Question}
+use Rattle.capquestion.specs.Question.{AsksFor, IsFaultIn}
+use Rattle.capquestion.specs.Linting.{IsLintOf}
+use Rattle.capanswers.specs.declared.fault.AnswerFault.{AnswerFault}
+use Rattle.capanswers.specs.declared.fault.AnswerFault.TheVariants.{WriteFailed}
+use Rattle.capanswers.specs.declared.inquiry.Inquiry.{Inquiry}
+use Rattle.capanswers.specs.Fault.{Tells, TellsOfTexts}
+use Rattle.capanswers.specs.Inquiry.{IsGrantsText, IsUnread, with_grants, IsAnswered}
+
+-- a write failed, or the fault is one of which this holds, and nothing was written
+abbrev pub StopsBefore : (QuestionFault → Type 0) → AnswerFault → Bool → Option (List ℕ) → Option (List ℕ) → Type 0
+StopsBefore P fault failed old new = ((fault ≡ WriteFailed) × IsTrue failed) ⊎ (Tells P fault × Keeps old new)
+
+-- the same of two texts that are compared
+abbrev pub StopsComparing : List ℕ → List ℕ → AnswerFault → Bool → Option (List ℕ) → Option (List ℕ) → Type 0
+StopsComparing before after fault failed old new = ((fault ≡ WriteFailed) × IsTrue failed) ⊎ (TellsOfTexts before after fault × Keeps old new)
+
+-- the question of `explain` was answered with this status, by the text of the grants from where it is
+pub record AnswersInquiry (inquiry : Inquiry) (input : Option (List ℕ)) (status : ℕ) (old new : Option (List ℕ)) : Type 0 where
+  pub grants : Vec ℕ
+  pub asked : Question
+  pub text : IsGrantsText inquiry.source inquiry.values.grants.items input grants.items
+  pub asks : AsksFor (with_grants inquiry.values grants) asked
+  pub answered : IsAnswered inquiry.form asked status old new
+
+-- the text of the grants can't be had, and nothing was written; or no read failed, and the question by that text stops
+abbrev pub StopsInquiry : Inquiry → AnswerFault → Option (List ℕ) → Bool → Bool → Option (List ℕ) → Option (List ℕ) → Type 0
+StopsInquiry inquiry fault input unread unwritten old new = (IsUnread inquiry.source fault input unread × Keeps old new)
+    ⊎ ((grants : Vec ℕ) × IsGrantsText inquiry.source inquiry.values.grants.items input grants.items × IsFalse unread
+    × StopsBefore (IsFaultIn (with_grants inquiry.values grants)) fault unwritten old new)
+
+-- the lines for what is found in a text of grants were written, with the status 3; where that is nothing, a line that says so, with 0
+abbrev pub AnswersLint : List ℕ → ℕ → Option (List ℕ) → Option (List ℕ) → Type 0
+AnswersLint text status old new = (lines : List ℕ) × IsLintOf text lines × (status ≡ (if length lines == 0 then 0 else 3))
+    × Appends old new (if length lines == 0 then codes "nothing found\n" else lines)

@@ -1,0 +1,39 @@
+-- How a fault of a question, or of a text of grants, is told.
+use Rattle.std.specs.Prelude.{◌≡◌, ℕ, List}
+use Rattle.capquestion.specs.declared.fault.QuestionFault.{QuestionFault}
+use Rattle.capquestion.specs.declared.fault.QuestionFault.TheVariants.{Grants, BadValue}
+use Rattle.capquestion.specs.declared.fault.QuestionFault.TheVariants as asked
+use Rattle.capquestion.specs.declared.comparing.CompareFault.{CompareFault}
+use Rattle.capquestion.specs.declared.comparing.CompareFault.TheVariants as compared
+use Rattle.capquestion.specs.Comparing.{IsFaultOfTexts}
+use Rattle.capkeyring.specs.declared.fault.KeyringFault.{KeyringFault}
+use Rattle.capkeyring.specs.declared.fault.KeyringFault.TheVariants as keyrings
+use Rattle.capanswers.specs.declared.fault.AnswerFault.{AnswerFault}
+use Rattle.capanswers.specs.declared.fault.AnswerFault.TheVariants.{Question, Compare, Keyring, NoMemory}
+
+-- want of memory stays that; any other fault is passed on as it is
+abbrev pub fault_of : QuestionFault → AnswerFault
+fault_of (Grants refused) = Question (Grants refused)
+fault_of (BadValue option) = Question (BadValue option)
+fault_of asked.NoMemory = NoMemory
+
+-- what is told is a fault of which this holds
+abbrev pub Tells : (QuestionFault → Type 0) → AnswerFault → Type 0
+Tells P fault = (found : QuestionFault) × (fault ≡ fault_of found) × P found
+
+-- the same of a keyring
+abbrev pub keyring_fault_of : KeyringFault → AnswerFault
+keyring_fault_of keyrings.NoEntity = Keyring keyrings.NoEntity
+keyring_fault_of keyrings.NoCaps = Keyring keyrings.NoCaps
+keyring_fault_of keyrings.NotQuoted = Keyring keyrings.NotQuoted
+keyring_fault_of keyrings.NoMemory = NoMemory
+
+-- the same of two texts that are compared
+abbrev pub compare_fault_of : CompareFault → AnswerFault
+compare_fault_of (compared.Old refused) = Compare (compared.Old refused)
+compare_fault_of (compared.New refused) = Compare (compared.New refused)
+compare_fault_of compared.NoMemory = NoMemory
+
+-- what is told is why these two texts are not compared
+abbrev pub TellsOfTexts : List ℕ → List ℕ → AnswerFault → Type 0
+TellsOfTexts before after fault = (found : CompareFault) × (fault ≡ compare_fault_of found) × IsFaultOfTexts before after found

@@ -1,0 +1,3 @@
+pub mod Fault
+pub mod Inquiry
+pub mod Answers

@@ -1,0 +1,129 @@
+//! What is said of a fault, and beside it.
+ghost use Rattle.std.specs.Prelude.{◌≡◌};
+
+use crate::command_line::Ask;
+use crate::fault::AnswerFault;
+use crate::inquiry::{Form, Inquiry};
+use crate::status::{FAILED, report};
+use capexplain::print_quoted;
+use capkeyring::KeyringFault;
+use capquestion::{Opt, QuestionFault, Values};
+use std::alloc::{AllocError, Global};
+use std::io::Write;
+
+/// Writes the fault as a line, and what helps against it, and returns its status.
+pub fn refuse(alloc: Global, ask: &Ask, fault: AnswerFault, faults: &mut impl Write) -> u8
+    ensures { result ≡ FAILED }
+{
+    let status = report(fault, faults);
+    advise(alloc, ask, fault, faults);
+    status
+}
+
+// Writes what helps against the fault, on a line of its own, where something is known to help.
+fn advise(alloc: Global, ask: &Ask, fault: AnswerFault, faults: &mut impl Write) {
+    if let Some(advice) = advice(ask, fault) {
+        let _ = writeln!(faults, "hint: {advice}");
+    }
+    match (ask, fault) {
+        (Ask::Explain(inquiry), AnswerFault::Question(QuestionFault::BadValue(option))) => {
+            name_value(alloc, inquiry, option, faults);
+        }
+        _ => {}
+    }
+}
+
+// Writes the bad value, in quotes where it has to be, and what the option takes, where more is asked for than the one line of the
+// fault. Without memory for that nothing is written.
+fn name_value(alloc: Global, inquiry: &Inquiry, option: Opt, faults: &mut impl Write) {
+    let Form::More = inquiry.form else {
+        return;
+    };
+    let Ok(value) = shown(alloc, value_of(&inquiry.values, option)) else {
+        return;
+    };
+    let taken = taken_by(option);
+    let _ = write!(faults, "hint: --{option} ");
+    let _ = faults.write_all(value.as_slice());
+    let _ = writeln!(faults, ": {taken}");
+}
+
+fn shown(alloc: Global, value: &[u8]) -> Result<Vec<u8>, AllocError> {
+    let mut text = Vec::new(alloc);
+    if value.is_empty() {
+        text.extend_from_slice(b"\"\"")?;
+    } else {
+        print_quoted(&mut text, value)?;
+    }
+    Ok(text)
+}
+
+fn value_of(values: &Values, option: Opt) -> &[u8] {
+    let value = match option {
+        Opt::Grants => &values.grants,
+        Opt::Fs => &values.fs,
+        Opt::Uid => &values.uid,
+        Opt::Gid => &values.gid,
+        Opt::Groups => match &values.groups {
+            Some(groups) => groups,
+            None => return b"",
+        },
+        Opt::Path => &values.path,
+        Opt::Owner => &values.owner,
+        Opt::Group => &values.group,
+        Opt::Mode => &values.mode,
+        Opt::Access => &values.access,
+    };
+    value.as_slice()
+}
+
+// What the option takes.
+fn taken_by(option: Opt) -> &'static str {
+    match option {
+        Opt::Grants => "a text of grants",
+        Opt::Fs => "1 to 64 bytes out of A-Z a-z 0-9 _ . -",
+        Opt::Uid | Opt::Gid | Opt::Owner | Opt::Group => "a decimal number up to 4294967295",
+        Opt::Groups =>
+            "1 to 16 decimal numbers with a comma between them; left out where there is none",
+        Opt::Path => "at most 32 names of at most 255 bytes, with / between them",
+        Opt::Mode => "1 to 4 octal digits, or the kind of the inode and 4 of them, as 0100640",
+        Opt::Access => "one of read, write, vxattr, snapshot, chmod, chown:N, chgrp:N",
+    }
+}
+
+fn advice(ask: &Ask, fault: AnswerFault) -> Option<&'static str> {
+    match fault {
+        AnswerFault::Question(QuestionFault::Grants(_)) => match ask {
+            Ask::Explain(inquiry) => pasted(inquiry.values.grants.as_slice()),
+            _ => None,
+        },
+        AnswerFault::Keyring(found) => keyring_advice(found),
+        AnswerFault::Unopened => Some(
+            "--keyring takes the name of a file, or - for standard input",
+        ),
+        _ => None,
+    }
+}
+
+// Against a line of a keyring in the place of the text in it.
+fn pasted(text: &[u8]) -> Option<&'static str> {
+    let text = text.trim_ascii_start();
+    if text.starts_with(b"caps mds") || text.starts_with(b"\"") {
+        Some("paste what stands between the quotes")
+    } else {
+        None
+    }
+}
+
+fn keyring_advice(found: KeyringFault) -> Option<&'static str> {
+    match found {
+        KeyringFault::NoEntity => {
+            Some("--client takes a name that the keyring has between [ and ], as client.tenant")
+        }
+        KeyringFault::NoCaps => Some("the client's section has no line caps mds = \"..\""),
+        KeyringFault::NotQuoted => Some(
+            "caps mds = takes one text in double quotes, with a backslash before each quote in it",
+        ),
+        KeyringFault::NoMemory => None,
+    }
+}

@@ -1,0 +1,132 @@
+//! Why a command that answers a question about grants gave no answer.
+
+use capkeyring::KeyringFault;
+use caplines::ScriptFault;
+use capquestion::{CompareFault, QuestionFault};
+use capspec::SpecFault;
+use std::alloc::{AllocError, AllocFailed};
+use std::fmt;
+use std::fmt::Display;
+
+/// Why a command gave no answer.
+#[derive(Clone, Copy)]
+pub enum AnswerFault {
+    /// The grants can't be read, or another value is bad.
+    Question(QuestionFault),
+    /// One of two texts of grants can't be read.
+    Compare(CompareFault),
+    /// A keyring has no grants of the client.
+    Keyring(KeyringFault),
+    /// The file of the keyring can't be opened.
+    Unopened,
+    /// What has the text of the grants can't be read, as a script can't.
+    Unread(ScriptFault),
+    /// The answer could not be written.
+    WriteFailed,
+    /// No memory was left.
+    NoMemory,
+}
+
+impl Display for AnswerFault {
+    fn fmt<W: fmt::Write>(&self, f: &mut fmt::Formatter<W>) -> fmt::Result {
+        match self {
+            AnswerFault::Question(fault) => Display::fmt(fault, f),
+            AnswerFault::Compare(fault) => Display::fmt(fault, f),
+            AnswerFault::Keyring(fault) => write!(f, "keyring: {fault}"),
+            AnswerFault::Unopened => f.write_str("keyring: Unopened"),
+            AnswerFault::Unread(fault) => Display::fmt(fault, f),
+            AnswerFault::WriteFailed => f.write_str("write failed"),
+            AnswerFault::NoMemory => f.write_str("no memory"),
+        }
+    }
+}
+
+// Where only memory was missing, the question is not to blame.
+impl From<QuestionFault> for AnswerFault {
+    ghost use Rattle.std.specs.Prelude.{◌≡◌};
+    ghost use Rattle.capanswers.specs.Fault.{fault_of};
+
+    ghost from_gives = { λ asked fault. fault ≡ fault_of asked };
+
+    fn from(asked: QuestionFault) -> Self {
+        match asked {
+            QuestionFault::NoMemory => AnswerFault::NoMemory,
+            _ => AnswerFault::Question(asked),
+        }
+    }
+}
+
+// The grants of a command are refused as those of a question are.
+impl From<SpecFault> for AnswerFault {
+    ghost use Rattle.capquestion.specs.Fault.{IsFaultOf};
+    ghost use Rattle.capanswers.specs.Fault.{Tells};
+
+    ghost from_gives = { λ refused. Tells (IsFaultOf refused) };
+
+    fn from(refused: SpecFault) -> Self {
+        AnswerFault::from(QuestionFault::from(refused))
+    }
+}
+
+// Where only memory was missing, the keyring is not to blame.
+impl From<KeyringFault> for AnswerFault {
+    ghost use Rattle.std.specs.Prelude.{◌≡◌};
+    ghost use Rattle.capanswers.specs.Fault.{keyring_fault_of};
+
+    ghost from_gives = { λ found fault. fault ≡ keyring_fault_of found };
+
+    fn from(found: KeyringFault) -> Self {
+        match found {
+            KeyringFault::NoMemory => AnswerFault::NoMemory,
+            _ => AnswerFault::Keyring(found),
+        }
+    }
+}
+
+// Where only memory was missing, the texts are not to blame.
+impl From<CompareFault> for AnswerFault {
+    ghost use Rattle.std.specs.Prelude.{◌≡◌};
+    ghost use Rattle.capanswers.specs.Fault.{compare_fault_of};
+
+    ghost from_gives = { λ asked fault. fault ≡ compare_fault_of asked };
+
+    fn from(asked: CompareFault) -> Self {
+        match asked {
+            CompareFault::NoMemory => AnswerFault::NoMemory,
+            _ => AnswerFault::Compare(asked),
+        }
+    }
+}
+
+impl From<ScriptFault> for AnswerFault {
+    ghost use Rattle.std.specs.Prelude.{◌≡◌};
+    ghost use Rattle.capanswers.specs.declared.fault.AnswerFault.TheVariants as faults;
+
+    ghost from_gives = { λ unread fault. fault ≡ faults.Unread unread };
+
+    fn from(unread: ScriptFault) -> Self {
+        AnswerFault::Unread(unread)
+    }
+}
+
+impl From<AllocError> for AnswerFault {
+    ghost use Rattle.std.specs.Prelude.{◌≡◌};
+    ghost use Rattle.capanswers.specs.declared.fault.AnswerFault.TheVariants as faults;
+
+    ghost from_gives = { λ _ fault. fault ≡ faults.NoMemory };
+
+    fn from(_: AllocError) -> Self {
+        AnswerFault::NoMemory
+    }
+}
+
+impl<T: Drop> From<AllocFailed<T>> for AnswerFault {
+    ghost use Rattle.std.specs.Prelude.{◌≡◌};
+    ghost use Rattle.capanswers.specs.declared.fault.AnswerFault.TheVariants as faults;
+
+    ghost from_gives = { λ _ fault. fault ≡ faults.NoMemory };
+
+    fn from(_: AllocFailed<T>) -> Self {
+        AnswerFault::NoMemory
+    }
+}

@@ -1,0 +1,107 @@
+//! What `explain` is asked, where the text of its grants is, and how it answers.
+ghost use Rattle.std.specs.Prelude.{◌≡◌, ◌⊎◌, ℕ, List, length, OnOk, IfErr, IfSome, IsTrue, IsFalse};
+ghost use Rattle.caplines.specs.Lines.{longest_script};
+ghost use Rattle.capstreams.specs.Watched.{inner_of, has_failed, has_ended};
+ghost use Rattle.capanswers.specs.Inquiry.{IsWithoutLineFeed, IsGrantsText, IsUnread};
+
+use crate::fault::AnswerFault;
+use capkeyring::mds_caps;
+use capquestion::Values;
+use capstreams::{Watched, read_script};
+use std::alloc::Global;
+use std::io::Read;
+
+/// Where the text of the grants is.
+pub enum Source {
+    /// On the command line.
+    Word,
+    /// Standard input, all of it but a line feed at its end.
+    Input,
+    /// A keyring.
+    Keyring {
+        /// The name of its file, or `-` for standard input.
+        file: Vec<u8>,
+        /// Whose section it is.
+        client: Vec<u8>,
+    },
+}
+
+// By hand, so that whoever lets one go has one call to prove.
+impl Drop for Source {
+    fn drop(self) {
+        match self {
+            Source::Word => {}
+            Source::Input => {}
+            Source::Keyring { file: _, client: _ } => {}
+        }
+    }
+}
+
+/// How the question is answered.
+#[derive(Clone, Copy)]
+pub enum Form {
+    /// By a line.
+    Line,
+    /// By that line, and by lines for what is worth a word beside it.
+    More,
+    /// By the status alone.
+    Status,
+}
+
+/// What `explain` is asked.
+pub struct Inquiry {
+    /// The values of the options. The grants are those of the command line.
+    pub values: Values,
+    /// Where the text of the grants is.
+    pub source: Source,
+    /// How the question is answered.
+    pub form: Form,
+}
+
+// By hand, so that whoever lets one go has one call to prove.
+impl Drop for Inquiry {
+    fn drop(self) {
+        let Inquiry {
+            values: _,
+            source: _,
+            form: _,
+        } = self;
+    }
+}
+
+/// Puts the text of the grants, from where it is, in the place of that of the command line. The reader has what stands there.
+pub fn fill<R: Read>(
+    alloc: Global,
+    source: &Source,
+    grants: &mut Vec<u8>,
+    reader: &mut Watched<R>,
+) -> Result<(), AnswerFault>
+    requires clear { IsFalse (has_failed reader.old) }
+    requires unended { IsFalse (has_ended reader.old) }
+    ensures ok { OnOk result (IsFalse (has_failed reader.new)
+        × IsGrantsText source.now grants.old.items (R.remaining (inner_of reader.old)) grants.new.items) }
+    ensures err { IfErr result (λ fault. IsUnread source.now fault (R.remaining (inner_of reader.old)) (has_failed reader.new)) }
+{
+    match source {
+        Source::Word => {}
+        Source::Input => {
+            let mut text = read_script(alloc, reader)?;
+            take_line_feed_off(&mut text);
+            *grants = text;
+        }
+        Source::Keyring { client, .. } => {
+            let keyring = read_script(alloc, reader)?;
+            *grants = mds_caps(alloc, keyring.as_slice(), client.as_slice())?;
+        }
+    }
+    Ok(())
+}
+
+// Takes a line feed off the end, if one is there.
+fn take_line_feed_off(text: &mut Vec<u8>)
+    ensures { IsWithoutLineFeed text.old.items text.new.items }
+{
+    if text.last() == Some(&b'\n') {
+        text.pop();
+    }
+}

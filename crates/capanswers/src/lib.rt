@@ -1,0 +1,27 @@
+//! The commands of `capd` that answer a question about grants, by their words and streams alone: `explain`, `grants`, `compare` and `lint`.
+//! And what all commands need before and behind that: what the words of the command line ask for, with which status a command ends, and
+//! what is said of a fault.
+//!
+//! No server is below it, so that whoever reads or tries these need not wait for one.
+#![tactic(auto)]
+
+mod advice;
+mod arguments;
+mod command_line;
+mod commands;
+mod fault;
+mod inquiry;
+mod keyring;
+mod matched;
+mod reading;
+mod status;
+
+pub use advice::refuse;
+pub use arguments::words;
+pub use command_line::Ask;
+pub use commands::{compare_texts, grants, inquire, look_over};
+pub use fault::AnswerFault;
+pub use inquiry::{Form, Inquiry, Source};
+pub use keyring::keyring_file;
+pub use reading::{Said, read_words, show};
+pub use status::{DENIED, DONE, FAILED, FOUND, USAGE, report};

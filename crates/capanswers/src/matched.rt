@@ -1,0 +1,124 @@
+//! What the matched words of a command line ask for.
+
+use crate::command_line::{
+    Ask, CLIENT, COMPARE, EXPLAIN, GRANTS, INPUT, KEYRING, LINT, MORE, NEW, OLD, QUIET, RUN, SERVE,
+    TEXT,
+};
+use crate::inquiry::{Form, Inquiry, Source};
+use capquestion::{Opt, Values, spelled};
+use clap::ArgMatches;
+use clap::error::ErrorKind;
+use std::alloc::Global;
+
+/// What the words ask for. The error says what is wrong with them; the parser of the command line lets no such words through.
+pub fn asked(alloc: Global, matches: &ArgMatches<'_>) -> Result<Ask, ErrorKind> {
+    let Some((name, matches)) = matches.subcommand() else {
+        return Err(ErrorKind::MissingSubcommand);
+    };
+    let mut matched = Matched {
+        alloc,
+        matches,
+        fault: None,
+    };
+    let ask = match name {
+        EXPLAIN => Ask::Explain(matched.inquiry()),
+        GRANTS => Ask::Grants(matched.value(TEXT)),
+        COMPARE => Ask::Compare {
+            old: matched.value(OLD),
+            new: matched.value(NEW),
+        },
+        LINT => Ask::Lint(matched.value(TEXT)),
+        RUN => Ask::Run,
+        SERVE => Ask::Serve,
+        _ => return Err(ErrorKind::MissingSubcommand),
+    };
+    match matched.fault {
+        Some(kind) => Err(kind),
+        None => Ok(ask),
+    }
+}
+
+// The words of a command as they were matched. What is wrong with them is kept, and asked for at the end.
+#[derive(Drop)]
+struct Matched<'m, 'a> {
+    alloc: Global,
+    matches: &'m ArgMatches<'a>,
+    fault: Option<ErrorKind>,
+}
+
+impl Matched<'_, '_> {
+    fn inquiry(&mut self) -> Inquiry {
+        let values = self.values();
+        let source = self.source(&values);
+        let form = self.form();
+        Inquiry {
+            values,
+            source,
+            form,
+        }
+    }
+
+    fn values(&mut self) -> Values {
+        Values {
+            grants: self
+                .given(Opt::Grants.name())
+                .unwrap_or(Vec::new(self.alloc)),
+            fs: self.option(Opt::Fs),
+            uid: self.option(Opt::Uid),
+            gid: self.option(Opt::Gid),
+            groups: self.given(Opt::Groups.name()),
+            path: self.option(Opt::Path),
+            owner: self.option(Opt::Owner),
+            group: self.option(Opt::Group),
+            mode: self.option(Opt::Mode),
+            access: self.option(Opt::Access),
+        }
+    }
+
+    fn source(&mut self, values: &Values) -> Source {
+        match self.given(KEYRING) {
+            Some(file) => Source::Keyring {
+                file,
+                client: self.value(CLIENT),
+            },
+            None if values.grants.as_slice() == INPUT => Source::Input,
+            None => Source::Word,
+        }
+    }
+
+    fn form(&self) -> Form {
+        if self.matches.get_flag(QUIET) {
+            Form::Status
+        } else if self.matches.get_flag(MORE) {
+            Form::More
+        } else {
+            Form::Line
+        }
+    }
+
+    fn option(&mut self, option: Opt) -> Vec<u8> {
+        self.value(option.name())
+    }
+
+    // The value of a word that has to be given, and no byte where it is not.
+    fn value(&mut self, name: &str) -> Vec<u8> {
+        match self.given(name) {
+            Some(value) => value,
+            None => {
+                self.fault = Some(self.fault.unwrap_or(ErrorKind::MissingRequiredArgument));
+                Vec::new(self.alloc)
+            }
+        }
+    }
+
+    // The value of a word, if it is given and there is memory for it.
+    fn given(&mut self, name: &str) -> Option<Vec<u8>> {
+        match spelled(self.alloc, self.matches.get_str(name)?) {
+            Ok(value) => Some(value),
+            Err(_) => {
+                self.fault = Some(ErrorKind::OutOfMemory);
+                None
+            }
+        }
+    }
+}

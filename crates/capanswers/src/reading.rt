@@ -1,0 +1,76 @@
+//! What the words of the command line ask for, or what is said of them.
+ghost use Rattle.std.specs.Prelude.{◌≡◌, ◌≤◌};
+ghost use Rattle.std.specs.Io.KnownBytes.{Keeps};
+
+use crate::command_line::{Ask, parse};
+use crate::fault::AnswerFault;
+use crate::status::{DONE, USAGE, report};
+use capquestion::spelled;
+use clap::error::ErrorKind;
+use std::alloc::{AllocError, Global};
+use std::io::Write;
+
+/// What is said of words that ask for no command.
+pub enum Said {
+    /// The help that they ask for.
+    Help(Vec<u8>),
+    /// What is wrong with them.
+    Usage(Vec<u8>),
+    /// No memory was left.
+    NoMemory,
+}
+
+// By hand, so that whoever lets one go has one call to prove.
+impl Drop for Said {
+    fn drop(self) {
+        match self {
+            Said::Help(_) => {}
+            Said::Usage(_) => {}
+            Said::NoMemory => {}
+        }
+    }
+}
+
+/// What the words behind the program's name ask for, or what the parser of the command line says of them, with the words in it as they
+/// came.
+pub fn read_words(alloc: Global, words: &[Vec<u8>]) -> Result<Ask, Said> {
+    match parse(alloc, words) {
+        Ok(ask) => Ok(ask),
+        Err(error) => Err(said_by(alloc, &error)),
+    }
+}
+
+fn said_by(alloc: Global, error: &clap::Error) -> Said {
+    if error.kind() == ErrorKind::OutOfMemory {
+        return Said::NoMemory;
+    }
+    match shown(alloc, error) {
+        Ok(text) if error.use_stderr() => Said::Usage(text),
+        Ok(text) => Said::Help(text),
+        Err(_) => Said::NoMemory,
+    }
+}
+
+fn shown(alloc: Global, error: &clap::Error) -> Result<Vec<u8>, AllocError> {
+    let text = format!(in alloc; "{error}")?;
+    spelled(alloc, text.as_str())
+}
+
+/// Writes what is said of words, the help on `writer`, what is wrong on `faults`, and returns the status.
+pub fn show<W: Write, F: Write>(said: &Said, writer: &mut W, faults: &mut F) -> u8
+    ensures status { result ≤ USAGE }
+    ensures done { result ≡ DONE → Keeps (F.contents faults.old) (F.contents faults.new) }
+    ensures usage { result ≡ USAGE → Keeps (W.contents writer.old) (W.contents writer.new) }
+{
+    match said {
+        Said::Help(text) => match writer.write_all(text.as_slice()) {
+            Ok(()) => DONE,
+            Err(_) => report(AnswerFault::WriteFailed, faults),
+        },
+        Said::Usage(text) => {
+            let _ = faults.write_all(text.as_slice());
+            USAGE
+        }
+        Said::NoMemory => report(AnswerFault::NoMemory, faults),
+    }
+}

@@ -1,0 +1,28 @@
+//! How a command ends: its status, and what is said of a fault.
+ghost use Rattle.std.specs.Prelude.{◌≡◌};
+
+use std::fmt::Display;
+use std::io::Write;
+
+/// The work was done, or the help was shown. A denial is an answer.
+pub const DONE: u8 = 0;
+
+/// A value is bad, or memory or the output failed.
+pub const FAILED: u8 = 1;
+
+/// The command line is wrong.
+pub const USAGE: u8 = 2;
+
+/// No grant allows what is asked, where that is answered by the status alone.
+pub const DENIED: u8 = 3;
+
+/// Something was found in grants that were looked over. The same status as `DENIED`, of another command.
+pub const FOUND: u8 = 3;
+
+/// Writes the fault as a line, and returns its status.
+pub fn report(fault: impl Display + Copy, faults: &mut impl Write) -> u8
+    ensures { result ≡ FAILED }
+{
+    let _ = writeln!(faults, "capd: {fault}");
+    FAILED
+}

@@ -1,0 +1,120 @@
+//! Runs of a program, and what comes of them.
+
+use crate::fault::BookFault;
+use crate::line::Line;
+use crate::page::Page;
+use crate::program::Program;
+use crate::text::push_line;
+use std::alloc::Global;
+use std::fs::Files;
+use std::io::Write;
+use std::sync::Wait;
+use std::thread::Threads;
+
+/// What a program writes, what it says of faults, and its status.
+#[derive(Clone, PartialEq)]
+pub struct Outcome {
+    written: Vec<u8>,
+    complaints: Vec<u8>,
+    status: u8,
+}
+
+// By hand, so that whoever lets one go has one call to prove.
+impl Drop for Outcome {
+    fn drop(self) {
+        let Outcome {
+            written: _,
+            complaints: _,
+            status: _,
+        } = self;
+    }
+}
+
+impl Outcome {
+    fn new(alloc: Global) -> Outcome {
+        Outcome {
+            written: Vec::new(alloc),
+            complaints: Vec::new(alloc),
+            status: 0,
+        }
+    }
+
+    /// Writes it as a talk has it.
+    pub fn write<W: Write>(&self, page: &mut Page<'_, W>) {
+        page.write(self.written.as_slice());
+        page.write(self.complaints.as_slice());
+        page.write_status(self.status);
+    }
+}
+
+/// A run of the program: its words, what it reads, and its outcome as the talk has it.
+#[derive(Clone)]
+pub struct Run {
+    words: Vec<Vec<u8>>,
+    input: Vec<u8>,
+    /// The outcome that is wanted.
+    pub wanted: Outcome,
+}
+
+// By hand, so that whoever lets one go has one call to prove.
+impl Drop for Run {
+    fn drop(self) {
+        let Run {
+            words: _,
+            input: _,
+            wanted: _,
+        } = self;
+    }
+}
+
+impl Run {
+    /// A run on these words that reads nothing, and of which nothing is wanted but the status 0.
+    pub fn new(alloc: Global, words: Vec<Vec<u8>>) -> Run {
+        Run {
+            words,
+            input: Vec::new(alloc),
+            wanted: Outcome::new(alloc),
+        }
+    }
+
+    /// What comes when the program is run.
+    pub fn outcome<P: Program, R: AllocGlobal + Files + Threads + Wait + Sync>(
+        &self,
+        rt: &R,
+    ) -> Outcome {
+        let mut came = Outcome::new(rt.alloc());
+        came.status = P::run(
+            rt,
+            self.words.as_slice(),
+            self.input.as_slice(),
+            &mut came.written,
+            &mut came.complaints,
+        );
+        came
+    }
+
+    /// One line more of what the program is given, or is to answer.
+    pub fn take(&mut self, line: Line<'_>) -> Result<(), BookFault> {
+        match line {
+            Line::Asked(text) => push_line(&mut self.input, text),
+            Line::Written(text) => push_line(&mut self.wanted.written, text),
+            Line::Complaint(text) => push_line(&mut self.wanted.complaints, text),
+            Line::Status(text) => {
+                self.wanted.status = status(text)?;
+                Ok(())
+            }
+            _ => Ok(()),
+        }
+    }
+}
+
+// The status that the program can end with.
+fn status(text: &[u8]) -> Result<u8, BookFault> {
+    match text {
+        b"0" => Ok(0),
+        b"1" => Ok(1),
+        b"2" => Ok(2),
+        b"3" => Ok(3),
+        _ => Err(BookFault::NotUnderstood),
+    }
+}
