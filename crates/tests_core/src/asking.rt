@@ -1,7 +1,7 @@
 //! The core that is asked: steps of passes, what is seen beside each answer, and what is left.
 
 use crate::asserting::{made, same};
-use crate::looking::{Look, seen};
+use crate::looking::{Look, row_text};
 use crate::steps::locks_text;
 use crate::viewing::changes_text;
 use capbits::PassId;
@@ -72,9 +72,9 @@ fn take_parts(rt: &impl Abort, alloc: Global, core: &mut Core, parts: &[Part]) {
     }
 }
 
-fn look_at(rt: &impl Abort, alloc: Global, core: &Core, shown: &[(Look, &str)]) {
-    for (look, wanted) in shown {
-        let text = made(rt, seen(alloc, core, *look), *wanted);
+fn look_at(rt: &impl Abort, alloc: Global, core: &Core, shown: &[Look]) {
+    for (place, wanted) in shown {
+        let text = made(rt, row_text(alloc, core, *place), *wanted);
         same(rt, text.as_str(), *wanted, "the end");
     }
 }
@@ -85,14 +85,9 @@ fn fresh(alloc: Global, max_rows: u32) -> Result<Core, AllocError> {
     Core::new(alloc, fs, tree, max_rows)
 }
 
-/// Takes the parts on a fresh core whose history takes so many rows, and looks at what is left. No other function of the
+/// Takes the parts on a fresh core whose history takes so many rows, and looks at rows of its history. No other function of the
 /// tests owns a core: each statement of one that does is dear to prove.
-pub fn plays(
-    rt: &(impl AllocGlobal + Abort),
-    max_rows: u32,
-    parts: &[Part],
-    shown: &[(Look, &str)],
-) {
+pub fn plays(rt: &(impl AllocGlobal + Abort), max_rows: u32, parts: &[Part], shown: &[Look]) {
     let mut core = made(rt, fresh(rt.alloc(), max_rows), "a core");
     take_parts(rt, rt.alloc(), &mut core, parts);
     look_at(rt, rt.alloc(), &core, shown);

@@ -7,40 +7,6 @@ use std::alloc::Global;
 use std::io;
 use std::io::{ErrorKind, Read, Write};
 
-// Reads a byte and then fails, over and over. Writes at most a byte of each text, and fails where it is a line feed.
-#[derive(Drop)]
-struct Shaky {
-    is_next_bad: bool,
-}
-
-impl Read for Shaky {
-    fn read(&mut self, buf: &mut [u8]) -> io::Result<usize> {
-        self.is_next_bad = !self.is_next_bad;
-        if self.is_next_bad || buf.is_empty() {
-            return Ok(buf.len().min(1));
-        }
-        Err(io::Error::from(ErrorKind::Interrupted))
-    }
-}
-
-impl Write for Shaky {
-    fn write(&mut self, buf: &[u8]) -> io::Result<usize> {
-        match buf {
-            [b'\n', ..] => Err(io::Error::from(ErrorKind::Interrupted)),
-            [b'0', ..] => Ok(0),
-            _ => Ok(buf.len().min(1)),
-        }
-    }
-
-    fn flush(&mut self) -> io::Result<()> {
-        Err(io::Error::from(ErrorKind::BrokenPipe))
-    }
-}
-
-fn watched_shaky() -> Watched<Shaky> {
-    Watched::new(Shaky { is_next_bad: false })
-}
-
 // Reads once into so much room: how many bytes came, or none for a failure, whether the reader has failed by then, and whether
 // it came to its end.
 fn read_once<R: Read>(reader: &mut Watched<R>, room: usize) -> (Option<usize>, bool, bool) {
@@ -49,54 +15,7 @@ fn read_once<R: Read>(reader: &mut Watched<R>, room: usize) -> (Option<usize>, b
     (count, reader.failed(), reader.ended())
 }
 
-// Writes once: how many bytes were taken, or none for a failure, and whether the flag is set then.
-fn write_once<W: Write>(writer: &mut Watched<W>, text: &[u8]) -> (Option<usize>, bool) {
-    (writer.write(text).ok(), writer.failed())
-}
-
-// Flushes: whether it went well, and whether the flag is set then.
-fn flush_once<W: Write>(writer: &mut Watched<W>) -> (bool, bool) {
-    (writer.flush().is_ok(), writer.failed())
-}
-
-#[test]
-fn a_flag_tells_of_a_failed_read(rt: HostRuntime) {
-    let mut reader = watched_shaky();
-    for (nth, wanted) in [
-        (1, (Some(1), false, false)),
-        (2, (None, true, false)),
-        (3, (Some(1), true, false)),
-    ] {
-        same(&rt, read_once(&mut reader, 4), wanted, nth);
-    }
-}
-
-#[test]
-fn a_flag_tells_of_a_failed_write(rt: HostRuntime) {
-    for (text, wanted) in [
-        ("", (Some(0), false)),
-        ("ab", (Some(1), false)),
-        ("0", (Some(0), true)),
-        ("\n", (None, true)),
-    ] {
-        let mut writer = watched_shaky();
-        same(&rt, write_once(&mut writer, text.as_bytes()), wanted, text);
-    }
-}
-
-#[test]
-fn a_flag_tells_of_a_failed_flush(rt: HostRuntime) {
-    let mut writer = watched_shaky();
-    same(&rt, flush_once(&mut writer), (false, true), "flush");
-}
-
-#[test]
-fn a_clear_flag_stays_clear(rt: HostRuntime) {
-    let mut writer = Watched::new(Vec::new(rt.alloc()));
-    same(&rt, write_once(&mut writer, b"ab"), (Some(2), false), "ab");
-    same(&rt, flush_once(&mut writer), (true, false), "flush");
-}
-
+// An end is no failure. Only where there was room is it one.
 #[test]
 fn a_flag_tells_of_the_end(rt: HostRuntime) {
     let mut reader = Watched::new(b"ab".as_slice());
@@ -161,7 +80,7 @@ fn a_read_that_fails_writes_nothing(rt: HostRuntime) {
     }
 }
 
-// Takes so many bytes, a few at once, and then none or fails.
+// Takes so many bytes, a few at once, and then none; or fails then, and where it is flushed.
 #[derive(Drop)]
 struct Full<'a> {
     text: &'a mut Vec<u8>,
@@ -181,7 +100,24 @@ impl Write for Full<'_> {
     }
 
     fn flush(&mut self) -> io::Result<()> {
+        if self.fails {
+            return Err(io::Error::from(ErrorKind::BrokenPipe));
+        }
         Ok(())
+    }
+}
+
+#[test]
+fn a_flush_is_passed_on(rt: HostRuntime) {
+    for fails in [false, true] {
+        let mut text = Vec::new(rt.alloc());
+        let mut writer = Watched::new(Full {
+            text: &mut text,
+            room: 0,
+            fails,
+        });
+        let found = (writer.flush().is_ok(), writer.failed());
+        same(&rt, found, (!fails, fails), "a flush");
     }
 }
 

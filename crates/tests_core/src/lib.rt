@@ -31,8 +31,6 @@ mod sessions_end;
 #[cfg(test)]
 mod steps;
 #[cfg(test)]
-mod texts;
-#[cfg(test)]
 mod viewing;
 #[cfg(test)]
 mod waits;

@@ -6,8 +6,8 @@ use capscript::MAX_SCRIPT;
 use std::alloc::{AllocError, Global};
 use std::process::Abort;
 
-// A text, and how often it stands there. A `%` in it stands for how many of them there are with this one.
-type Part = (usize, &'static str);
+// Numbers from the first on and below the second, and a text that stands there for each of them. A `%` in it stands for the number.
+type Part = (usize, usize, &'static str);
 
 fn push_numbered(
     alloc: Global,
@@ -22,12 +22,13 @@ fn push_numbered(
 fn push_all(
     alloc: Global,
     text: &mut String,
-    (times, part): (usize, &str),
+    (first, end, part): (usize, usize, &str),
 ) -> Result<(), AllocError> {
     if !part.contains('%') {
+        let times = end.saturating_sub(first);
         return text.push_str(part.repeat(alloc, times)?.as_str());
     }
-    for number in 1..=times {
+    for number in first..end {
         push_numbered(alloc, text, part, number)?;
     }
     Ok(())
@@ -56,33 +57,41 @@ fn writes(rt: &(impl AllocGlobal + Abort), script: &[Part], wanted: &[Part]) {
 fn lines_have_a_greatest_length(rt: HostRuntime) {
     writes(
         &rt,
-        &[(1, "lookup 1 1 "), (65536 - 11, "a")],
-        &[(1, "refused NoSession\n")],
+        &[(0, 1, "lookup 1 1 "), (0, 65536 - 11, "a")],
+        &[(0, 1, "refused NoSession\n")],
     );
-    let wrong_count: &[Part] = &[(1, "=line 1: Count")];
-    writes(&rt, &[(1, "lookup 1 1 "), (65537 - 11, "a")], wrong_count);
+    let wrong_count: &[Part] = &[(0, 1, "=line 1: Count")];
     writes(
         &rt,
-        &[(1, "lookup x x x x"), (65537 - 14, "a")],
+        &[(0, 1, "lookup 1 1 "), (0, 65537 - 11, "a")],
         wrong_count,
     );
-    writes(&rt, &[(1, "session x"), (65537 - 9, "a")], wrong_count);
     writes(
         &rt,
-        &[(1, "fly "), (65537 - 4, "a")],
-        &[(1, "=line 1: Command")],
+        &[(0, 1, "lookup x x x x"), (0, 65537 - 14, "a")],
+        wrong_count,
     );
-    writes(&rt, &[(1, "#"), (70000 - 1, "a")], &[]);
+    writes(
+        &rt,
+        &[(0, 1, "session x"), (0, 65537 - 9, "a")],
+        wrong_count,
+    );
+    writes(
+        &rt,
+        &[(0, 1, "fly "), (0, 65537 - 4, "a")],
+        &[(0, 1, "=line 1: Command")],
+    );
+    writes(&rt, &[(0, 1, "#"), (0, 70000 - 1, "a")], &[]);
 }
 
 #[test]
 fn the_longest_script_is_run(rt: HostRuntime) {
-    writes(&rt, &[(MAX_SCRIPT, "\n")], &[]);
+    writes(&rt, &[(0, MAX_SCRIPT, "\n")], &[]);
 }
 
 #[test]
 fn longer_scripts_are_not_run(rt: HostRuntime) {
-    writes(&rt, &[(MAX_SCRIPT + 1, "\n")], &[(1, "=read failed")]);
+    writes(&rt, &[(0, MAX_SCRIPT + 1, "\n")], &[(0, 1, "=read failed")]);
 }
 
 #[test]
@@ -90,10 +99,10 @@ fn many_lines_are_answered(rt: HostRuntime) {
     writes(
         &rt,
         &[
-            (1, "session 1 10 10 - allow rw\n"),
-            (100_000, "lookup 1 1 a\n"),
+            (0, 1, "session 1 10 10 - allow rw\n"),
+            (0, 100_000, "lookup 1 1 a\n"),
         ],
-        &[(1, "done\n"), (100_000, "refused NoEnt\n")],
+        &[(0, 1, "done\n"), (0, 100_000, "refused NoEnt\n")],
     );
 }
 
@@ -105,15 +114,16 @@ fn a_value_has_4096_bytes_at_most(rt: HostRuntime) {
     writes(
         &rt,
         &[
-            (1, "session 1 10 10 - allow rw\nalter 1 1 setx user.a "),
-            (2 * 4097, "0"),
-            (1, "\nalter 1 1 rmx user.a\nalter 1 1 setx user.a "),
-            (2 * 4096, "0"),
-            (1, "\nalter 1 1 setx user.a "),
-            (2 * 4097, "0"),
-            (1, "\nalter 1 1 setx user.a -\nget 1 1 X\n"),
+            (0, 1, "session 1 10 10 - allow rw\nalter 1 1 setx user.a "),
+            (0, 2 * 4097, "0"),
+            (0, 1, "\nalter 1 1 rmx user.a\nalter 1 1 setx user.a "),
+            (0, 2 * 4096, "0"),
+            (0, 1, "\nalter 1 1 setx user.a "),
+            (0, 2 * 4097, "0"),
+            (0, 1, "\nalter 1 1 setx user.a -\nget 1 1 X\n"),
         ],
         &[(
+            0,
             1,
             "done\nrefused Limit\nrefused NoXattr\ndone\nrefused Limit\ndone\nattr X 1 user.a=-\n",
         )],
@@ -148,10 +158,10 @@ fn a_full_blocklist_takes_no_more(rt: HostRuntime) {
     writes(
         &rt,
         &[
-            (1024, "session % 1 1 - none\nevict %\n"),
-            (1, ONE_THROWN_OUT_MORE),
+            (1, 1025, "session % 1 1 - none\nevict %\n"),
+            (0, 1, ONE_THROWN_OUT_MORE),
         ],
-        &[(1024, "done\ndone\n"), (1, NO_ROOM_FOR_IT)],
+        &[(0, 1024, "done\ndone\n"), (0, 1, NO_ROOM_FOR_IT)],
     );
 }
 
@@ -217,17 +227,17 @@ fn a_thousand_and_twenty_four_requests_wait_at_most(rt: HostRuntime) {
     writes(
         &rt,
         &[
-            (1, ONE_HAS_A_FILE),
-            (1024, "alter 2 2 size 5\n"),
-            (1, ONE_MORE),
-            (1, ROOM_AGAIN),
+            (0, 1, ONE_HAS_A_FILE),
+            (0, 1024, "alter 2 2 size 5\n"),
+            (0, 1, ONE_MORE),
+            (0, 1, ROOM_AGAIN),
         ],
         &[
-            (1, ONE_HAS_A_FILE_ANSWERED),
-            (1024, "waiting %\n"),
-            (1, ONE_MORE_ANSWERED),
-            (1024, "  ended % done\n"),
-            (1, ROOM_AGAIN_ANSWERED),
+            (0, 1, ONE_HAS_A_FILE_ANSWERED),
+            (1, 1025, "waiting %\n"),
+            (0, 1, ONE_MORE_ANSWERED),
+            (1, 1025, "  ended % done\n"),
+            (0, 1, ROOM_AGAIN_ANSWERED),
         ],
     );
 }

@@ -4,7 +4,6 @@
 use crate::asking::Beside::Locks;
 use crate::asking::{Step, plays};
 use crate::looking::Look;
-use crate::looking::Look::Row;
 
 // The row of the step has the ends in their order. The file lock of inode 2 stands beside each step.
 const A_DIRECTORY_IS_MOVED: &[Step] = &[
@@ -57,10 +56,10 @@ const A_DIRECTORY_IS_MOVED: &[Step] = &[
     ),
 ];
 
-const THE_ENDS_IN_THE_ROW: &[(Look, &str)] = &[
-    (Row(12), "1.13 rename 1 3 4 a => done"),
+const THE_ENDS_IN_THE_ROW: &[Look] = &[
+    (12, "1.13 rename 1 3 4 a => done"),
     (
-        Row(15),
+        15,
         "1.16 ack 1 2 4 => done; ended 2 denied write 1:4; ended 4 done; of 2; of 1",
     ),
 ];

@@ -3,7 +3,6 @@
 use crate::asking::Beside::Locks;
 use crate::asking::{Step, plays};
 use crate::looking::Look;
-use crate::looking::Look::Row;
 
 // Four requests wait, two of each client, the change of the second first.
 const FOUR_WAIT: &[Step] = &[
@@ -43,8 +42,8 @@ const THE_FIRST_CLOSES: &[Step] = &[
     ),
 ];
 
-const WHAT_ENDED: &[(Look, &str)] = &[(
-    Row(8),
+const WHAT_ENDED: &[Look] = &[(
+    8,
     "1.9 close 1 => done; ended 2 dropped; ended 4 dropped; ended 1 done; ended 3 attr F 5 0; of 1; of 1; of 2; of 2",
 )];
 

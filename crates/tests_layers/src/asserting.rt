@@ -17,11 +17,6 @@ pub fn same<T: PartialEq + Debug + Drop>(
     assert_eq!(rt; found, wanted, "at {place:?}");
 }
 
-/// Fails the test unless the condition holds.
-pub fn holds(rt: &impl Abort, condition: bool, place: impl Debug + Copy) {
-    same(rt, condition, true, place);
-}
-
 /// What a call has made. Fails the test where it has not.
 pub fn made<T, E: Debug + Drop>(
     rt: &impl Abort,

@@ -118,7 +118,7 @@ fn audited(
         path,
         attr: &attr,
     };
-    beyond(held, &grants_of(rt, grants.as_bytes()), &inode)
+    beyond(held, &grants_of(rt, grants), &inode)
 }
 
 // Sees what was found.

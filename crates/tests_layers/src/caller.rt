@@ -4,16 +4,10 @@ use crate::asserting::same;
 use capbits::{Caller, Groups, TooManyGroups};
 use std::process::Abort;
 
-// Whether there are no groups, how many there are, and the greatest of them.
-fn sizes(groups: &Groups) -> (bool, usize, Option<u32>) {
-    let greatest = groups.iter().copied().max();
-    (groups.is_empty(), groups.len(), greatest)
-}
-
 // Sixteen groups, and what is said of one more.
 fn sixteen_groups(rt: &impl Abort) -> Groups {
     let mut groups = Groups::new();
-    same(rt, sizes(&groups), (true, 0, None), "no groups");
+    same(rt, (groups.is_empty(), groups.len()), (true, 0), "none");
     for gid in 100..116 {
         same(rt, groups.try_push(gid), Ok(()), gid);
     }
@@ -43,17 +37,11 @@ const GIDS: &[(u32, bool)] = &[
 
 #[test]
 fn a_copy_of_a_caller_has_its_first_group_and_sixteen_more(rt: HostRuntime) {
-    let groups = sixteen_groups(&rt);
-    same(
-        &rt,
-        sizes(&groups),
-        (false, 16, Some(115)),
-        "sixteen groups",
-    );
-    let caller = copied(groups);
-    same(&rt, caller.uid, 10, "uid");
-    for row in GIDS {
-        let (gid, wanted) = *row;
-        same(&rt, caller.has_gid(gid), wanted, gid);
+    let caller = copied(sixteen_groups(&rt));
+    let greatest = caller.groups.iter().copied().max();
+    let found = (caller.uid, caller.groups.len(), greatest);
+    same(&rt, found, (10, 16, Some(115)), "sixteen groups");
+    for (gid, wanted) in GIDS {
+        same(&rt, caller.has_gid(*gid), *wanted, *gid);
     }
 }

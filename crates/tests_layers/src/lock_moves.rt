@@ -1,570 +1,542 @@
-//! Worked runs: what clients want and hold of inodes, and the moves that the locks make for it.
+//! Locks: the inodes that have them, the requests that wait for them, and the moves that they make for what is wanted and held.
 
 use crate::asserting::{made, present, same};
-use crate::cap_table::{caps, open, release};
-use crate::sessions::{made as no_sessions, marked, opened_for};
-use crate::tree_steps::{create, made as no_inodes, unlink};
-use capbits::{CapSet, ClientId, Ino, Part};
+use crate::entries::{ONE_2, ONE_3, TWO_2, caps, open, release};
+use crate::sessions::Ask::{Open, Stale};
+use crate::sessions::{change as change_sessions, no_sessions};
+use crate::trees::Ask::{Make, Unlink};
+use crate::trees::{change as change_tree, new_tree};
+use capbits::{CapSet, ClientId, Ino, Part, Ticket};
 use capspec::FsName;
-use captable::CapTable;
-use inotree::Tree;
-use lockmachine::{Locks, Move, Wants, wants_on};
-use locktable::State;
+use captable::{CapTable, Holder};
+use inotree::{Kind, Tree};
+use lockmachine::{Ask, Locks, Move, Wants, wants_on};
+use locktable::{LockState, State};
 use sessiontab::Sessions;
-use std::alloc::Global;
 use std::process::Abort;
 
-// What happens before the locks move, or is seen then. A client's user has the client's number.
-#[derive(Clone, Copy)]
-enum Act {
-    // A client connects, with these grants.
-    Connect(u32, &'static str),
-    Goes(u32),
-    // The file with this number is made, in the root, with its locks.
-    File(u8),
-    Unlink(u64),
-    // A client wants these of an inode; its entry is made where there is none.
-    Want(u32, u64, &'static str),
-    Issue(u32, u64, &'static str),
-    Release(u32, u64, &'static str),
-    // The locks move until no move applies.
-    Settle,
-    // What somebody wants of inode 2, and the loner with what it wants.
-    Wanted(&'static str, Option<(u32, &'static str)>),
-}
-
-use Act::*;
-
-// All that the next move depends on. It is made in two halves, as each part that is held makes the making of the next
-// one dearer to prove.
-#[derive(Drop)]
-struct Stage {
-    fs: FsName,
-    known: Known,
-    held: Held,
-}
-
-// What is there, and who is connected.
+// What there is, and who is connected.
 #[derive(Drop)]
 struct Known {
+    fs: FsName,
     tree: Tree,
     sessions: Sessions,
 }
 
-// What clients hold and want, and the locks.
-#[derive(Drop)]
-struct Held {
-    table: CapTable,
-    locks: Locks,
+fn some_files(rt: &(impl Abort + AllocGlobal)) -> Tree {
+    let mut tree = new_tree(rt);
+    let asks = &[
+        Make(Kind::File, 1, b"f"),
+        Make(Kind::File, 1, b"g"),
+        Make(Kind::File, 1, b"h"),
+        Unlink(4),
+    ];
+    change_tree(rt, &mut tree, asks);
+    tree
 }
 
-fn nobody_known(rt: &(impl Abort + AllocGlobal)) -> Known {
-    let sessions = made(rt, no_sessions(rt.alloc()), "sessions");
-    let tree = no_inodes(rt);
-    Known { tree, sessions }
+fn some_clients(rt: &(impl Abort + AllocGlobal)) -> Sessions {
+    let mut sessions = no_sessions(rt);
+    let asks = &[
+        (Open(1, "allow rw"), None),
+        (Open(2, "allow rw"), None),
+        (Open(3, "allow r"), None),
+        (Open(4, "allow rw"), None),
+        (Stale(4), None),
+    ];
+    change_sessions(rt, &mut sessions, asks);
+    sessions
 }
 
-fn nothing_held(rt: &(impl Abort + AllocGlobal)) -> Held {
-    let table = made(rt, CapTable::new(rt.alloc()), "a table");
-    let locks = made(rt, Locks::new(rt.alloc()), "locks");
-    Held { table, locks }
+// The files 2 and 3, and 4, which was unlinked. The clients 1 and 2 may do all, and 3 may read; 4 is stale, and 5 has no session.
+fn files_and_clients(rt: &(impl Abort + AllocGlobal)) -> Known {
+    let tree = some_files(rt);
+    let sessions = some_clients(rt);
+    let fs = present(rt, FsName::read(b"cephfs"), "a file system");
+    Known { fs, tree, sessions }
 }
 
-fn empty_stage(rt: &(impl Abort + AllocGlobal)) -> Stage {
-    let held = nothing_held(rt);
-    let known = nobody_known(rt);
-    let fs = present(rt, FsName::read(b"cephfs"), "the name of the file system");
-    Stage { fs, known, held }
+// What happens, or is seen.
+enum Step {
+    // An inode has locks from now on, or none any more.
+    Add(u64),
+    Forget(u64),
+    Lock(u64, Part, Option<LockState>),
+    // A client wants these of an inode; its entry is made where there is none.
+    Want(Holder, &'static str),
+    Issue(Holder, &'static str),
+    Release(Holder, &'static str),
+    // A client asks for a part of an inode: the number under which its request waits.
+    Waits(Holder, Part, u64),
+    // The requests of a client are dropped.
+    DropRequests(u32),
+    // How many requests wait, and the last number that was given.
+    Queue(usize, u64),
+    // The locks make these moves, and no more.
+    Moves(&'static [Move]),
+    // What somebody wants of inode 2, and the loner with what it wants.
+    Wanted(&'static str, Option<(u32, &'static str)>),
 }
 
-// What a case shows, and its number.
-type Numbered = (&'static str, usize);
+use Step::*;
 
-// Where a test fails: the case, and the number of the act or the move in it.
+// Where a test fails: the case, and the number of the step, and of the move in it.
 type At = (&'static str, usize, usize);
 
-// The next move is made. Nobody waits, so no request is handed out.
-fn make_next(stage: &mut Stage) -> Move {
-    let next = stage.held.locks.next_move(
-        &stage.held.table,
-        &stage.known.sessions,
-        &stage.known.tree,
-        &stage.fs,
-    );
-    let _nobody = stage.held.locks.apply_move(next);
+fn enqueue(locks: &mut Locks, holder: Holder, part: Part) -> Option<Ticket> {
+    if locks.enqueue_refusal().is_some() || locks.last() == u64::MAX {
+        return None;
+    }
+    Some(locks.enqueue(holder.client, holder.ino, Ask::Get(part)))
+}
+
+// Makes the next move. A request that is served is the one that the move names.
+fn make_next(rt: &impl Abort, known: &Known, table: &CapTable, locks: &mut Locks) -> Move {
+    let next = locks.next_move(table, &known.sessions, &known.tree, &known.fs);
+    if let Some(request) = locks.apply_move(next) {
+        same(rt, Move::Serve(request.ticket), next, "a request");
+    }
     next
 }
 
-// Makes moves until none applies, and answers whether it came to that: no run here has as many as twenty.
-fn settle(stage: &mut Stage) -> bool {
-    for _ in 0..20 {
-        if matches!(make_next(stage), Move::Settled) {
-            return true;
-        }
+// Sees that the locks make these moves, and no more.
+fn make(
+    rt: &impl Abort,
+    (known, table): (&Known, &CapTable),
+    locks: &mut Locks,
+    want: &[Move],
+    (title, step): (&'static str, usize),
+) {
+    for (nth, want) in want.iter().enumerate() {
+        same(
+            rt,
+            make_next(rt, known, table, locks),
+            *want,
+            (title, step, nth),
+        );
     }
-    false
-}
-
-// A loner, and what it wants.
-fn loner_of(loner: Option<(u32, &str)>) -> Option<(ClientId, CapSet)> {
-    match loner {
-        Some((client, text)) => Some((ClientId(client), caps(text))),
-        None => None,
-    }
+    let at: At = (title, step, want.len());
+    same(rt, make_next(rt, known, table, locks), Move::Settled, at);
 }
 
 // What is wanted of inode 2.
-fn wants(stage: &Stage) -> Wants {
-    wants_on(
-        &stage.fs,
-        &stage.known.tree,
-        &stage.known.sessions,
-        &stage.held.table,
-        Ino(2),
-    )
+fn wants(known: &Known, table: &CapTable) -> Wants {
+    wants_on(&known.fs, &known.tree, &known.sessions, table, Ino(2))
 }
 
-fn take(rt: &impl Abort, alloc: Global, stage: &mut Stage, act: Act, at: At) {
-    let (known, held) = (&mut stage.known, &mut stage.held);
-    match act {
-        Connect(client, grants) => {
-            let refusal = opened_for(alloc, &mut known.sessions, client, client, grants);
-            same(rt, refusal, Ok(None), at)
-        }
-        Goes(client) => same(rt, marked(&mut known.sessions, ClientId(client)), None, at),
-        File(name) => {
-            same(
-                rt,
-                create(&mut known.tree, 1, &[name]),
-                Ok(Ok(name as u64)),
-                at,
-            );
-            same(rt, held.locks.add_ino(Ino(name as u64)), Ok(()), at)
-        }
-        Unlink(ino) => same(rt, unlink(&mut known.tree, ino), Ok(0), at),
-        Want(client, ino, text) => {
-            same(rt, open(&mut held.table, client, ino), true, at);
-            held.table.set_want(ClientId(client), Ino(ino), caps(text))
-        }
-        Issue(client, ino, text) => held.table.issue(ClientId(client), Ino(ino), caps(text)),
-        Release(client, ino, text) => {
-            same(rt, release(&mut held.table, client, ino, text), Ok(()), at)
-        }
-        Settle => same(rt, settle(stage), true, at),
-        Wanted(text, loner) => {
-            let (wanted, loner) = (caps(text), loner_of(loner));
-            same(rt, wants(stage), Wants { wanted, loner }, at)
-        }
+fn wants_of(wanted: &str, loner: Option<(u32, &str)>) -> Wants {
+    let loner: Option<(ClientId, CapSet)> = match loner {
+        Some((client, text)) => Some((ClientId(client), caps(text))),
+        None => None,
+    };
+    Wants {
+        wanted: caps(wanted),
+        loner,
     }
 }
 
-// Does all that a case of this number has.
-fn take_all(rt: &impl Abort, alloc: Global, stage: &mut Stage, acts: &[Act], case: Numbered) {
-    for (nth, act) in acts.iter().enumerate() {
-        take(rt, alloc, stage, *act, (case.0, case.1, nth));
+// Makes the entry where there is none.
+fn want(rt: &impl Abort, table: &mut CapTable, holder: Holder, wanted: CapSet) {
+    let _refusal = open(rt, table, holder);
+    table.set_want(holder.client, holder.ino, wanted);
+}
+
+fn take(
+    rt: &impl Abort,
+    known: &Known,
+    (table, locks): (&mut CapTable, &mut Locks),
+    step: &Step,
+    at: (&'static str, usize),
+) {
+    match step {
+        Add(ino) => made(rt, locks.add_ino(Ino(*ino)), at),
+        Forget(ino) => locks.drop_ino(Ino(*ino)),
+        Lock(ino, part, want) => same(rt, locks.state(Ino(*ino), *part), *want, at),
+        Want(h, text) => want(rt, table, *h, caps(text)),
+        Issue(h, text) => table.issue(h.client, h.ino, caps(text)),
+        Release(h, text) => same(rt, release(table, *h, text), Ok(()), at),
+        Waits(h, part, want) => same(rt, enqueue(locks, *h, *part), Some(Ticket(*want)), at),
+        DropRequests(client) => locks.drop_requests_of(ClientId(*client)),
+        Queue(count, last) => same(rt, (locks.waiting(), locks.last()), (*count, *last), at),
+        Moves(want) => make(rt, (known, table), locks, want, at),
+        Wanted(text, loner) => same(rt, wants(known, table), wants_of(text, *loner), at),
     }
 }
 
-// A move: the inode, the part, and the state to which a gather begins, or none where one ends.
-type Row = (u64, Part, Option<State>);
-
-fn move_of((ino, part, to): Row) -> Move {
-    let ino = Ino(ino);
-    match to {
-        Some(to) => Move::Begin { ino, part, to },
-        None => Move::End { ino, part },
+// Takes the steps with a new table and new locks, those of inode 2. No other function owns them.
+fn plays(rt: &(impl Abort + AllocGlobal), known: &Known, title: &'static str, steps: &[Step]) {
+    let mut table = made(rt, CapTable::new(rt.alloc()), title);
+    let mut locks = made(rt, Locks::new(rt.alloc()), title);
+    made(rt, locks.add_ino(Ino(2)), title);
+    for (nth, step) in steps.iter().enumerate() {
+        take(rt, known, (&mut table, &mut locks), step, (title, nth));
     }
 }
 
-// Sees that the locks make these moves, and no more after them.
-fn moves_are(rt: &impl Abort, stage: &mut Stage, rows: &[Row], (title, number): Numbered) {
-    for (nth, row) in rows.iter().enumerate() {
-        same(rt, make_next(stage), move_of(*row), (title, number, nth));
-    }
-    same(
-        rt,
-        make_next(stage),
-        Move::Settled,
-        (title, number, rows.len()),
-    );
+fn runs(rt: &(impl Abort + AllocGlobal), title: &'static str, steps: &[Step]) {
+    let known = files_and_clients(rt);
+    plays(rt, &known, title, steps);
 }
 
-const ALL: &str = "allow rw";
+const THREE_2: Holder = Holder {
+    client: ClientId(3),
+    ino: Ino(2),
+};
 
-const READ: &str = "allow r";
+const FOUR_2: Holder = Holder {
+    client: ClientId(4),
+    ino: Ino(2),
+};
+
+const FIVE_2: Holder = Holder {
+    client: ClientId(5),
+    ino: Ino(2),
+};
+
+const TWO_3: Holder = Holder {
+    client: ClientId(2),
+    ino: Ino(3),
+};
+
+// The root, which has no locks here, and an inode that is not there.
+const ONE_1: Holder = Holder {
+    client: ClientId(1),
+    ino: Ino(1),
+};
+
+const ONE_9: Holder = Holder {
+    client: ClientId(1),
+    ino: Ino(9),
+};
 
 // What a client wants to read, and to read and write.
 const READER: &str = "pFscr";
 
 const WRITER: &str = "pFsxcrwb";
 
-// Two clients that may do all, and a file.
-const TWO: &[Act] = &[Connect(1, ALL), Connect(2, ALL), File(2)];
-
-// The acts, and the moves behind them.
-type Case = (&'static [Act], &'static [Row]);
-
-// What some cases show, and the cases.
-type Titled = (&'static str, &'static [Case]);
-
-// Plays a case on a new stage, behind two clients and a file. The stage is dropped by a call: it has many parts.
-fn runs(rt: &(impl Abort + AllocGlobal), (acts, rows): Case, case: Numbered) {
-    let mut stage = empty_stage(rt);
-    take_all(rt, rt.alloc(), &mut stage, TWO, case);
-    take_all(rt, rt.alloc(), &mut stage, acts, case);
-    moves_are(rt, &mut stage, rows, case);
-    drop(stage);
-}
-
-fn run_all(rt: &(impl Abort + AllocGlobal), (title, cases): Titled) {
-    for (number, case) in cases.iter().enumerate() {
-        runs(rt, *case, (title, number));
-    }
-}
-
 const FIRST: State = State::Excl(ClientId(1));
 
 const SECOND: State = State::Excl(ClientId(2));
 
-// Whether a lock that is stable at its goal is left alone.
-const NOTHING_MOVES: &[Case] = &[
-    (&[], &[]),
-    (&[Want(1, 2, "p")], &[]),
+const SYNC: Option<LockState> = Some(LockState::Stable(State::Sync));
+
+const NOTHING_MOVES: &[Step] = &[
+    Moves(&[]),
+    Want(ONE_2, "p"),
+    Moves(&[]),
     // Reading is what SYNC lets all do.
-    (&[Want(1, 2, READER)], &[]),
-    (&[Want(1, 2, READER), Want(2, 2, READER)], &[]),
-    (&[Want(1, 2, "pAsLsXs")], &[]),
-    // What is not permitted does not count: the third client may read alone.
-    (&[Connect(3, READ), Want(3, 2, WRITER)], &[]),
-    (&[Connect(3, READ), Want(3, 2, "pAsxLsxXsx")], &[]),
-    (&[Want(3, 2, WRITER)], &[]),
-    // Nor does what a stale client wants, or what anybody wants of an inode without a path.
-    (&[Want(1, 2, WRITER), Goes(1)], &[]),
-    (&[Want(1, 2, WRITER), Unlink(2)], &[]),
-    // An inode that is not there, and the root, which has no locks here.
-    (&[Want(1, 9, WRITER)], &[]),
-    (&[Want(1, 1, "pAsx")], &[]),
+    Want(ONE_2, READER),
+    Moves(&[]),
+    Want(TWO_2, READER),
+    Moves(&[]),
+    Want(TWO_2, "p"),
+    Want(ONE_2, "pAsLsXs"),
+    Moves(&[]),
+    Want(ONE_2, "p"),
+    // What is not permitted does not count, nor what somebody wants who is stale or has no session.
+    Want(THREE_2, "pAsxLsxXsxFsxcrwb"),
+    Moves(&[]),
+    Want(THREE_2, "p"),
+    Want(FOUR_2, WRITER),
+    Want(FIVE_2, WRITER),
+    Moves(&[]),
+    Want(ONE_9, WRITER),
+    Want(ONE_1, "pAsx"),
+    Moves(&[]),
     // Two that want more than the pin, of whom none writes; and each alone would have the lock to itself.
-    (&[Want(1, 2, "pAsx"), Want(2, 2, "pAsx")], &[]),
-    (&[Want(1, 2, "pFsxcb"), Want(2, 2, READER)], &[]),
-    // A lock stays where it is when nobody wants its part.
-    (&[Want(1, 2, WRITER), Settle, Want(1, 2, "p")], &[]),
-];
-
-// A lock goes to such a state by a gather that ends at once.
-const F_TO_FIRST: &[Row] = &[(2, Part::F, Some(FIRST)), (2, Part::F, None)];
-
-const F_TO_SECOND: &[Row] = &[(2, Part::F, Some(SECOND)), (2, Part::F, None)];
-
-const F_TO_MIX: &[Row] = &[(2, Part::F, Some(State::Mix)), (2, Part::F, None)];
-
-const GOALS: &[Case] = &[
-    // Alone with more than the pin, a client that writes has the lock to itself.
-    (&[Want(1, 2, WRITER)], F_TO_FIRST),
-    (&[Want(1, 2, "pFw")], F_TO_FIRST),
-    (&[Want(1, 2, "pFb")], F_TO_FIRST),
-    (&[Want(1, 2, "pFx")], F_TO_FIRST),
-    (&[Want(1, 2, "p"), Want(2, 2, WRITER)], F_TO_SECOND),
-    (
-        &[Want(1, 2, WRITER), Want(2, 2, WRITER), Goes(1)],
-        F_TO_SECOND,
-    ),
-    (
-        &[Want(1, 2, "pAsx")],
-        &[(2, Part::A, Some(FIRST)), (2, Part::A, None)],
-    ),
-    (
-        &[Want(1, 2, "pLx")],
-        &[(2, Part::L, Some(FIRST)), (2, Part::L, None)],
-    ),
-    (&[Want(1, 2, "pFw"), Want(2, 2, "pFa")], F_TO_FIRST),
-    (
-        &[
-            Want(1, 2, WRITER),
-            Settle,
-            Want(1, 2, "p"),
-            Want(2, 2, WRITER),
-        ],
-        F_TO_SECOND,
-    ),
-    // Two that want more: shared writing, where one of them writes.
-    (&[Want(1, 2, "pFrw"), Want(2, 2, READER)], F_TO_MIX),
-    (&[Want(1, 2, "pFw"), Want(2, 2, "pAs")], F_TO_MIX),
-];
-
-// A gather stays open while somebody holds what its target does not let it hold.
-const WAITING: &[Case] = &[
-    (
-        &[
-            Want(1, 2, WRITER),
-            Settle,
-            Issue(1, 2, WRITER),
-            Want(2, 2, READER),
-        ],
-        &[(2, Part::F, Some(State::Mix))],
-    ),
-    // Half of what is to be given back, and all.
-    (
-        &[
-            Want(1, 2, WRITER),
-            Settle,
-            Issue(1, 2, WRITER),
-            Want(2, 2, READER),
-            Settle,
-            Release(1, 2, "Fsc"),
-        ],
-        &[],
-    ),
-    (
-        &[
-            Want(1, 2, WRITER),
-            Settle,
-            Issue(1, 2, WRITER),
-            Want(2, 2, READER),
-            Settle,
-            Release(1, 2, "Fsxcb"),
-        ],
-        &[(2, Part::F, None)],
-    ),
-    // Then the first stops to write, and both read.
-    (
-        &[
-            Want(1, 2, WRITER),
-            Settle,
-            Issue(1, 2, WRITER),
-            Want(2, 2, READER),
-            Settle,
-            Release(1, 2, "Fsxcb"),
-            Settle,
-            Release(1, 2, "Fw"),
-        ],
-        &[(2, Part::F, Some(State::Sync)), (2, Part::F, None)],
-    ),
-];
-
-// A holder that is stale wants nothing that counts, and still holds.
-const A_STALE_HOLDER: &[Case] = &[
-    (
-        &[
-            Want(1, 2, WRITER),
-            Settle,
-            Issue(1, 2, WRITER),
-            Goes(1),
-            Want(2, 2, READER),
-        ],
-        &[(2, Part::F, Some(State::Sync))],
-    ),
-    (
-        &[
-            Want(1, 2, WRITER),
-            Settle,
-            Issue(1, 2, WRITER),
-            Goes(1),
-            Want(2, 2, READER),
-            Settle,
-            Release(1, 2, "Fxwb"),
-        ],
-        &[(2, Part::F, None)],
-    ),
-];
-
-// From one client to another: what the first holds is outside the row of the second.
-const THE_CLIENT_BEFORE: &[Case] = &[(
-    &[
-        Want(1, 2, WRITER),
-        Settle,
-        Issue(1, 2, "pFr"),
-        Want(1, 2, "p"),
-        Want(2, 2, WRITER),
-    ],
-    &[(2, Part::F, Some(SECOND))],
-)];
-
-// A gather ends where it was to end, though its goal is another by then; the next gather goes there.
-const A_GOAL_CHANGES: &[Case] = &[(
-    &[
-        Want(1, 2, WRITER),
-        Settle,
-        Issue(1, 2, WRITER),
-        Want(2, 2, READER),
-        Settle,
-        // The second wants the pin alone again, and the first gives back what MIX does not let it hold.
-        Want(2, 2, "p"),
-        Release(1, 2, "Fsxcb"),
-    ],
-    &[
-        (2, Part::F, None),
-        (2, Part::F, Some(FIRST)),
-        (2, Part::F, None),
-    ],
-)];
-
-// An end comes before a beginning, the lesser inode first, and of one inode the parts in their order.
-const IN_ORDER: &[Case] = &[
-    (
-        &[Want(1, 2, "pAsxFsxcrwb")],
-        &[
-            (2, Part::A, Some(FIRST)),
-            (2, Part::A, None),
-            (2, Part::F, Some(FIRST)),
-            (2, Part::F, None),
-        ],
-    ),
-    (
-        &[File(3), Want(1, 3, "pXx"), Want(1, 2, "pFw")],
-        &[
-            (2, Part::F, Some(FIRST)),
-            (2, Part::F, None),
-            (3, Part::X, Some(FIRST)),
-            (3, Part::X, None),
-        ],
-    ),
-    (
-        &[Want(1, 2, "pAsxLsxXsxFw")],
-        &[
-            (2, Part::A, Some(FIRST)),
-            (2, Part::A, None),
-            (2, Part::L, Some(FIRST)),
-            (2, Part::L, None),
-            (2, Part::X, Some(FIRST)),
-            (2, Part::X, None),
-            (2, Part::F, Some(FIRST)),
-            (2, Part::F, None),
-        ],
-    ),
-];
-
-const ENDS_IN_ORDER: &[Case] = &[
-    // Two gathers of one inode that may end at once, and one of each of two inodes.
-    (
-        &[
-            Want(1, 2, "pAsxFsxcrwb"),
-            Settle,
-            Issue(1, 2, "pAsxFsxcrwb"),
-            Want(2, 2, "pAsFr"),
-            Settle,
-            Release(1, 2, "AxFsxcb"),
-        ],
-        &[(2, Part::A, None), (2, Part::F, None)],
-    ),
-    (
-        &[
-            File(3),
-            Want(1, 3, WRITER),
-            Want(1, 2, WRITER),
-            Settle,
-            Issue(1, 3, WRITER),
-            Issue(1, 2, WRITER),
-            Want(2, 3, READER),
-            Want(2, 2, READER),
-            Settle,
-            Release(1, 3, "Fsxcb"),
-            Release(1, 2, "Fsxcb"),
-        ],
-        &[(2, Part::F, None), (3, Part::F, None)],
-    ),
-    (
-        &[
-            File(3),
-            Want(1, 3, WRITER),
-            Settle,
-            Issue(1, 3, WRITER),
-            Want(2, 3, READER),
-            Settle,
-            Release(1, 3, "Fsxcb"),
-            Want(1, 2, "pLx"),
-        ],
-        &[
-            (3, Part::F, None),
-            (2, Part::L, Some(FIRST)),
-            (2, Part::L, None),
-        ],
-    ),
-];
-
-const MOVES: &[Titled] = &[
-    ("what does not count moves no lock", NOTHING_MOVES),
-    ("a lock goes to what is wanted", GOALS),
-    ("a gather waits for what is held", WAITING),
-    ("a gather waits for a stale holder", A_STALE_HOLDER),
-    ("a gather waits for the client before", THE_CLIENT_BEFORE),
-    (
-        "a goal that changes in a gather comes after it",
-        A_GOAL_CHANGES,
-    ),
-    ("moves come in their order", IN_ORDER),
-    ("ends come in their order", ENDS_IN_ORDER),
+    Want(ONE_2, "pAsxFsxcb"),
+    Want(TWO_2, "pAsxFscr"),
+    Moves(&[]),
 ];
 
 #[test]
-fn locks_move_to_what_is_wanted(rt: HostRuntime) {
-    for titled in MOVES {
-        run_all(&rt, *titled);
-    }
+fn what_does_not_count_moves_no_lock(rt: HostRuntime) {
+    runs(&rt, "nothing moves", NOTHING_MOVES);
 }
 
-const WANTED: &[Case] = &[
-    (&[Settle, Wanted("-", None)], &[]),
-    (&[Want(1, 2, "p"), Settle, Wanted("p", None)], &[]),
-    (
-        &[Want(1, 2, "pFr"), Settle, Wanted("pFr", Some((1, "pFr")))],
-        &[],
-    ),
-    (
-        &[
-            Want(1, 2, "p"),
-            Want(2, 2, "pAs"),
-            Settle,
-            Wanted("pAs", Some((2, "pAs"))),
-        ],
-        &[],
-    ),
-    (
-        &[
-            Want(1, 2, "pFr"),
-            Want(2, 2, "pAs"),
-            Settle,
-            Wanted("pAsFr", None),
-        ],
-        &[],
-    ),
-    // Lazy io is permitted to nobody.
-    (
-        &[Want(1, 2, "pFra"), Settle, Wanted("pFr", Some((1, "pFr")))],
-        &[],
-    ),
-    (&[Want(1, 2, "pFa"), Settle, Wanted("p", None)], &[]),
-    (
-        &[
-            Connect(3, READ),
-            Want(3, 2, WRITER),
-            Settle,
-            Wanted("pFscr", Some((3, "pFscr"))),
-        ],
-        &[],
-    ),
-    (
-        &[
-            Want(1, 2, WRITER),
-            Want(2, 2, "pAs"),
-            Goes(1),
-            Settle,
-            Wanted("pAs", Some((2, "pAs"))),
-        ],
-        &[],
-    ),
-    (
-        &[Want(1, 2, WRITER), Unlink(2), Settle, Wanted("p", None)],
-        &[],
-    ),
-    // Another inode's wants are not this one's.
-    (
-        &[File(3), Want(1, 3, WRITER), Settle, Wanted("-", None)],
-        &[],
-    ),
+const END_F: Move = Move::End {
+    ino: Ino(2),
+    part: Part::F,
+};
+
+const F_BEGINS_FIRST: Move = Move::Begin {
+    ino: Ino(2),
+    part: Part::F,
+    to: FIRST,
+};
+
+const F_BEGINS_SECOND: Move = Move::Begin {
+    ino: Ino(2),
+    part: Part::F,
+    to: SECOND,
+};
+
+const F_BEGINS_MIX: Move = Move::Begin {
+    ino: Ino(2),
+    part: Part::F,
+    to: State::Mix,
+};
+
+const F_BEGINS_SYNC: Move = Move::Begin {
+    ino: Ino(2),
+    part: Part::F,
+    to: State::Sync,
+};
+
+// Of one inode the parts move in their order.
+const THREE_PARTS: &[Move] = &[
+    Move::Begin {
+        ino: Ino(2),
+        part: Part::A,
+        to: FIRST,
+    },
+    Move::End {
+        ino: Ino(2),
+        part: Part::A,
+    },
+    Move::Begin {
+        ino: Ino(2),
+        part: Part::L,
+        to: FIRST,
+    },
+    Move::End {
+        ino: Ino(2),
+        part: Part::L,
+    },
+    Move::Begin {
+        ino: Ino(2),
+        part: Part::X,
+        to: FIRST,
+    },
+    Move::End {
+        ino: Ino(2),
+        part: Part::X,
+    },
+];
+
+const GOALS: &[Step] = &[
+    // Alone with more than the pin, a client that writes has the lock to itself.
+    Want(ONE_2, "pFw"),
+    Moves(&[F_BEGINS_FIRST, END_F]),
+    // A lock stays where it is when nobody wants its part.
+    Want(ONE_2, "p"),
+    Moves(&[]),
+    Want(TWO_2, WRITER),
+    Moves(&[F_BEGINS_SECOND, END_F]),
+    // Two that want more: shared writing, where one of them writes.
+    Want(ONE_2, "pAs"),
+    Moves(&[F_BEGINS_MIX, END_F]),
+    Want(TWO_2, READER),
+    Moves(&[F_BEGINS_SYNC, END_F]),
+    Want(TWO_2, "p"),
+    Want(ONE_2, "pAsxLsxXsx"),
+    Moves(THREE_PARTS),
+];
+
+#[test]
+fn a_lock_goes_to_what_is_wanted(rt: HostRuntime) {
+    runs(&rt, "goals", GOALS);
+}
+
+const TO_MIX: Option<LockState> = Some(LockState::Gather {
+    from: FIRST,
+    to: State::Mix,
+});
+
+// A gather stays open while somebody holds what its target does not let it hold.
+const WAITING: &[Step] = &[
+    Want(ONE_2, WRITER),
+    Moves(&[F_BEGINS_FIRST, END_F]),
+    Issue(ONE_2, WRITER),
+    Want(TWO_2, READER),
+    Moves(&[F_BEGINS_MIX]),
+    Lock(2, Part::F, TO_MIX),
+    // Half of what is to be given back, and all.
+    Release(ONE_2, "Fsc"),
+    Moves(&[]),
+    Release(ONE_2, "Fxb"),
+    Moves(&[END_F]),
+    Lock(2, Part::F, Some(LockState::Stable(State::Mix))),
+    // Then the first stops to write, and both read.
+    Release(ONE_2, "Fw"),
+    Moves(&[F_BEGINS_SYNC, END_F]),
+];
+
+#[test]
+fn a_gather_waits_for_what_is_held(rt: HostRuntime) {
+    runs(&rt, "a gather", WAITING);
+}
+
+// A gather ends where it was to end, though its goal is another by then; the next gather goes there.
+const A_GOAL_CHANGES: &[Step] = &[
+    Want(ONE_2, WRITER),
+    Moves(&[F_BEGINS_FIRST, END_F]),
+    Issue(ONE_2, WRITER),
+    Want(TWO_2, READER),
+    Moves(&[F_BEGINS_MIX]),
+    Want(TWO_2, "p"),
+    Release(ONE_2, "Fsxcb"),
+    Moves(&[END_F, F_BEGINS_FIRST, END_F]),
+    // What a stale client wants does not count; what it holds does.
+    Want(ONE_2, "p"),
+    Want(FOUR_2, WRITER),
+    Issue(FOUR_2, "pFsr"),
+    Want(TWO_2, WRITER),
+    Moves(&[F_BEGINS_SECOND]),
+    Release(ONE_2, "Frw"),
+    Moves(&[]),
+    Release(FOUR_2, "Fsr"),
+    Moves(&[END_F]),
+];
+
+#[test]
+fn a_goal_that_changes_in_a_gather_comes_after_it(rt: HostRuntime) {
+    runs(&rt, "a goal changes", A_GOAL_CHANGES);
+}
+
+const F3_BEGINS_FIRST: Move = Move::Begin {
+    ino: Ino(3),
+    part: Part::F,
+    to: FIRST,
+};
+
+const F3_BEGINS_MIX: Move = Move::Begin {
+    ino: Ino(3),
+    part: Part::F,
+    to: State::Mix,
+};
+
+const END_F3: Move = Move::End {
+    ino: Ino(3),
+    part: Part::F,
+};
+
+const END_L: Move = Move::End {
+    ino: Ino(2),
+    part: Part::L,
+};
+
+const L_BEGINS_SECOND: Move = Move::Begin {
+    ino: Ino(2),
+    part: Part::L,
+    to: SECOND,
+};
+
+// An end comes before a beginning, and of either the lesser inode first.
+const IN_ORDER: &[Step] = &[
+    Add(3),
+    Want(ONE_3, WRITER),
+    Want(ONE_2, WRITER),
+    Moves(&[F_BEGINS_FIRST, END_F, F3_BEGINS_FIRST, END_F3]),
+    Issue(ONE_3, WRITER),
+    Issue(ONE_2, WRITER),
+    Want(TWO_3, READER),
+    Want(TWO_2, READER),
+    Moves(&[F_BEGINS_MIX, F3_BEGINS_MIX]),
+    Release(ONE_3, "Fsxcb"),
+    Release(ONE_2, "Fsxcb"),
+    Moves(&[END_F, END_F3]),
+    // A beginning of the lesser inode, and an end of the greater.
+    Want(TWO_3, "p"),
+    Moves(&[F3_BEGINS_FIRST, END_F3]),
+    Issue(ONE_3, "Fsxcb"),
+    Want(TWO_3, READER),
+    Moves(&[F3_BEGINS_MIX]),
+    Want(ONE_2, "p"),
+    Release(ONE_2, "Frw"),
+    Want(TWO_2, "pLsx"),
+    Release(ONE_3, "Fsxcb"),
+    Moves(&[END_F3, L_BEGINS_SECOND, END_L]),
+];
+
+#[test]
+fn moves_come_in_their_order(rt: HostRuntime) {
+    runs(&rt, "an order", IN_ORDER);
+}
+
+const REQUESTS: &[Step] = &[
+    // SYNC serves who reads.
+    Queue(0, 0),
+    Waits(THREE_2, Part::F, 1),
+    Queue(1, 1),
+    Moves(&[Move::Serve(Ticket(1))]),
+    Queue(0, 1),
+    // Shared writing does not, and so it is left until all are served.
+    Want(ONE_2, WRITER),
+    Want(TWO_2, READER),
+    Moves(&[F_BEGINS_MIX, END_F]),
+    Waits(ONE_2, Part::F, 2),
+    Waits(TWO_2, Part::F, 3),
+    Waits(ONE_3, Part::F, 4),
+    Queue(3, 4),
+    DropRequests(1),
+    Queue(1, 4),
+    Moves(&[
+        F_BEGINS_SYNC,
+        END_F,
+        Move::Serve(Ticket(3)),
+        F_BEGINS_MIX,
+        END_F,
+    ]),
+    Queue(0, 4),
+];
+
+#[test]
+fn requests_wait_under_numbers(rt: HostRuntime) {
+    runs(&rt, "requests", REQUESTS);
+}
+
+const COMING_AND_GOING: &[Step] = &[
+    Lock(1, Part::F, None),
+    Lock(2, Part::A, SYNC),
+    Lock(2, Part::L, SYNC),
+    Lock(2, Part::X, SYNC),
+    Lock(2, Part::F, SYNC),
+    Lock(u64::MAX, Part::F, None),
+    Forget(1),
+    Add(3),
+    Lock(3, Part::X, SYNC),
+    Forget(2),
+    Lock(2, Part::F, None),
+    Lock(3, Part::F, SYNC),
+    Forget(2),
+    Add(2),
+    Add(1),
+    Forget(3),
+    Lock(1, Part::A, SYNC),
+    Lock(2, Part::A, SYNC),
+    Lock(3, Part::A, None),
+];
+
+#[test]
+fn an_inode_has_locks_from_its_making_to_its_end(rt: HostRuntime) {
+    runs(&rt, "inodes come and go", COMING_AND_GOING);
+}
+
+const WANTED: &[Step] = &[
+    Wanted("-", None),
+    Want(ONE_2, "p"),
+    Wanted("p", None),
+    Want(ONE_2, "pFr"),
+    Wanted("pFr", Some((1, "pFr"))),
+    Want(TWO_2, "pAs"),
+    Wanted("pAsFr", None),
+    Want(ONE_2, "p"),
+    Wanted("pAs", Some((2, "pAs"))),
+    // To extend is permitted to nobody.
+    Want(TWO_2, "pFra"),
+    Wanted("pFr", Some((2, "pFr"))),
+    Want(TWO_2, "pFa"),
+    Wanted("p", None),
+    Want(THREE_2, WRITER),
+    Wanted("pFscr", Some((3, "pFscr"))),
+    // A stale client, and another inode.
+    Want(FOUR_2, WRITER),
+    Want(ONE_3, WRITER),
+    Wanted("pFscr", Some((3, "pFscr"))),
 ];
 
 #[test]
 fn wants_count_as_far_as_they_are_permitted(rt: HostRuntime) {
-    run_all(&rt, ("wants count as far as permitted", WANTED));
+    runs(&rt, "wants", WANTED);
 }

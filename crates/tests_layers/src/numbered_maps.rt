@@ -1,110 +1,53 @@
-//! Maps by number: what they have, and show, beside a tree map that takes the same steps.
+//! A map by number: its values are found by number, and shown in the order of the numbers, in whatever order they came.
 
 use crate::asserting::{made, same};
-use crate::texts::{line_of, lines_of};
+use crate::texts::line_of;
 use numbered::Numbered;
-use std::alloc::Global;
-use std::collections::BTreeMap;
 use std::process::Abort;
 
-// A step of a run: a value that comes, or is put in place of another; one that is written to; and one that goes.
-#[derive(Clone, Copy)]
+// A value that comes, or is put in place of another; one that is written to; and one that goes.
 enum Step {
-    Insert(u64),
-    Write(u64),
+    Insert(u64, u64),
+    Write(u64, u64),
     Remove(u64),
 }
 
-// The same values, kept in two ways.
-#[derive(Drop)]
-struct Both {
-    numbered: Numbered<u64>,
-    tree: BTreeMap<u64, u64>,
-}
+use Step::*;
 
-impl Both {
-    fn new(alloc: Global) -> Both {
-        Both {
-            numbered: Numbered::new(alloc),
-            tree: BTreeMap::new(alloc),
-        }
-    }
-
-    // Takes the step in both, in which the value is used.
-    fn take(&mut self, rt: &impl Abort, step: Step, value: u64) {
-        match step {
-            Step::Insert(number) => {
-                made(rt, self.numbered.insert(number, value), value);
-                let _before = made(rt, self.tree.insert(number, value), value);
-            }
-            Step::Write(number) => {
-                write(self.numbered.get_mut(number), value);
-                write(self.tree.get_mut(&number), value);
-            }
-            Step::Remove(number) => {
-                self.numbered.remove(number);
-                self.tree.remove(&number);
+fn take(rt: &impl Abort, map: &mut Numbered<u64>, step: &Step) {
+    match step {
+        Insert(number, value) => made(rt, map.insert(*number, *value), *number),
+        Write(number, value) => {
+            if let Some(place) = map.get_mut(*number) {
+                *place = *value;
             }
         }
-    }
-
-    // Sees that both have and show the same; the number is one to look up.
-    fn agree(&self, rt: &impl Abort, alloc: Global, number: u64, at: u64) {
-        let (numbered, tree) = (&self.numbered, &self.tree);
-        same(rt, numbered.len(), tree.len(), ("len", at));
-        same(rt, numbered.get(number), tree.get(&number), ("get", at));
-        let (line, wanted) = (line_of(rt, alloc, numbered), line_of(rt, alloc, tree));
-        same(rt, line, wanted, ("one line", at));
-        let (lines, wanted) = (lines_of(rt, alloc, numbered), lines_of(rt, alloc, tree));
-        same(rt, lines, wanted, ("many lines", at));
+        Remove(number) => map.remove(*number),
     }
 }
 
-// Writes the value where there is one.
-fn write(place: Option<&mut u64>, value: u64) {
-    if let Some(place) = place {
-        *place = value;
-    }
-}
-
-// How many numbers come and go. There is room for a multiple of them when most have gone.
-const NUMBERS: u64 = 48;
-
-// The numbers that come, this far apart, in no order.
-fn number_at(time: u64, apart: u64) -> u64 {
-    let k = time % NUMBERS * 29 % NUMBERS;
-    k.wrapping_mul(apart).wrapping_add(1)
-}
-
-// The step of a run at this time: all numbers come, each is put in again or written to, or the one behind it, and most go.
-fn step_at(time: u64, apart: u64) -> Step {
-    let number = number_at(time, apart);
-    match time / NUMBERS {
-        0 => Step::Insert(number),
-        1 if time % 3 == 0 => Step::Insert(number),
-        1 => Step::Write(number.wrapping_add(time % 2)),
-        _ => Step::Remove(number),
-    }
-}
-
-// A run of numbers this far apart.
-fn run(rt: &impl Abort, alloc: Global, apart: u64) {
-    let mut both = Both::new(alloc);
-    both.agree(rt, alloc, 1, 0);
-    for time in 0..3 * NUMBERS - 2 {
-        both.take(rt, step_at(time, apart), time);
-        both.agree(rt, alloc, number_at(time + 1, apart), time);
-    }
-    both.take(rt, Step::Insert(7), 7);
-    both.agree(rt, alloc, 7, 3 * NUMBERS);
-}
+// Steps, the value of 9 behind each, how many values there are, and what the map shows.
+const STEPS: &[(Step, Option<u64>, usize, &str)] = &[
+    (Insert(9, 90), Some(90), 1, "{9: 90}"),
+    (Insert(1048577, 20), Some(90), 2, "{9: 90, 1048577: 20}"),
+    (Insert(1, 10), Some(90), 3, "{1: 10, 9: 90, 1048577: 20}"),
+    (Insert(9, 91), Some(91), 3, "{1: 10, 9: 91, 1048577: 20}"),
+    (Write(9, 92), Some(92), 3, "{1: 10, 9: 92, 1048577: 20}"),
+    (Write(2, 0), Some(92), 3, "{1: 10, 9: 92, 1048577: 20}"),
+    (Remove(9), None, 2, "{1: 10, 1048577: 20}"),
+    (Remove(9), None, 2, "{1: 10, 1048577: 20}"),
+    (Insert(9, 93), Some(93), 3, "{1: 10, 9: 93, 1048577: 20}"),
+    (Remove(1), Some(93), 2, "{9: 93, 1048577: 20}"),
+    (Remove(1048577), Some(93), 1, "{9: 93}"),
+    (Remove(9), None, 0, "{}"),
+];
 
 #[test]
-fn numbers_in_a_row(rt: HostRuntime) {
-    run(&rt, rt.alloc(), 1);
-}
-
-#[test]
-fn numbers_that_share_their_last_bits(rt: HostRuntime) {
-    run(&rt, rt.alloc(), 1 << 20);
+fn values_are_found_and_shown_by_number(rt: HostRuntime) {
+    let mut map = Numbered::new(rt.alloc());
+    for (nth, (step, nine, len, line)) in STEPS.iter().enumerate() {
+        take(&rt, &mut map, step);
+        same(&rt, (map.get(9).copied(), map.len()), (*nine, *len), nth);
+        same(&rt, line_of(&rt, rt.alloc(), &map).as_str(), *line, nth);
+    }
 }

@@ -30,15 +30,7 @@ fn caller(rt: &impl Abort, (uid, gid, groups): Who) -> Caller {
     }
 }
 
-fn attr_of(rt: &impl Abort, owner: u32, bits: u16) -> Attr {
-    let mode = Mode::new(bits).expect(rt, "a mode");
-    Attr {
-        uid: owner,
-        gid: 50,
-        mode,
-    }
-}
-
+// Two rules in a list.
 fn two_rules() -> Rules {
     let mut given = ArrayVec::new();
     given.push(Rule::Path);
@@ -46,17 +38,13 @@ fn two_rules() -> Rules {
     Rules::from(given)
 }
 
-// How many rules there are, whether there are none, and the greatest number of one.
-fn sizes(rules: &Rules) -> (usize, bool, Option<u8>) {
-    let greatest = rules.iter().copied().map(Rule::number).max();
-    (rules.len(), rules.is_empty(), greatest)
-}
-
 #[test]
 fn a_list_of_rules_gives_its_vector_back(rt: HostRuntime) {
     let rules = two_rules();
     let wanted: &[Rule] = &[Rule::Path, Rule::NoWrite];
-    same(&rt, sizes(&rules), (2, false, Some(5)), "sizes");
+    let greatest = rules.iter().copied().map(Rule::number).max();
+    let found = (rules.len(), rules.is_empty(), greatest);
+    same(&rt, found, (2, false, Some(5)), "sizes");
     same(&rt, rules.as_slice(), wanted, "as_slice");
     let given = rules.into_inner();
     same(&rt, given.as_slice(), wanted, "into_inner");
@@ -72,7 +60,9 @@ const WRITES: &str = "pAxLxXxFxwb";
 const BOTH: &str = "pAsxLsxXsxFsxcrwbl";
 
 // Grants, who asks, the owner and the mode of an inode, and what may be held of it.
-const PERMITTED: &[(&str, Who, u32, u16, &str)] = &[
+type Row = (&'static str, Who, u32, u16, &'static str);
+
+const PERMITTED: &[Row] = &[
     ("allow rw", ANA, 7, 0o000, BOTH),
     ("allow rwps", ANA, 7, 0o000, BOTH),
     ("allow r", ANA, 7, 0o777, READS),
@@ -89,11 +79,14 @@ const PERMITTED: &[(&str, Who, u32, u16, &str)] = &[
     ("allow rw uid=9", ANA, 9, 0o200, WRITES),
 ];
 
-// Sees what the grants permit to hold on the file system `cephfs`.
-fn permit(rt: &(impl Abort + AllocGlobal), grants: &str, who: Who, attr: Attr, wanted: &str) {
+// Sees what the grants permit to hold on the file system `cephfs`, of an inode of group 50.
+fn permit(rt: &(impl Abort + AllocGlobal), row: &Row) {
+    let (grants, who, uid, bits, wanted) = *row;
     let fs = present(rt, FsName::read(b"cephfs"), "a name");
+    let mode = present(rt, Mode::new(bits), "a mode");
     let caller = caller(rt, who);
-    let given = grants_of(rt, grants.as_bytes());
+    let given = grants_of(rt, grants);
+    let attr = Attr { uid, gid: 50, mode };
     let found = write_caps(permitted(&given, &fs, &caller, B_X, &attr));
     same(rt, found.as_slice(), wanted.as_bytes(), (grants, who));
 }
@@ -101,7 +94,6 @@ fn permit(rt: &(impl Abort + AllocGlobal), grants: &str, who: Who, attr: Attr, w
 #[test]
 fn reading_and_writing_permit_their_capabilities(rt: HostRuntime) {
     for row in PERMITTED {
-        let (grants, who, owner, mode, wanted) = *row;
-        permit(&rt, grants, who, attr_of(&rt, owner, mode), wanted);
+        permit(&rt, row);
     }
 }

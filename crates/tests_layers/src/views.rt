@@ -1,16 +1,15 @@
 //! Worked runs: a view that follows a server by the changes that it is told, and what it answers.
 
 use crate::asserting::{made, present, same};
-use crate::sessions::{caller, made as no_sessions};
+use crate::sessions::{caller, no_sessions};
 use crate::texts::grants_of;
-use crate::tree_steps::Ask::{Keep, Mkdir};
-use crate::tree_steps::Keeping::Snapshot;
-use crate::tree_steps::{Round as TreeRound, attr_of, made as no_inodes, runs_on};
+use crate::trees::Ask::{Make, Snapshot};
+use crate::trees::{attr_of, change as change_tree, new_tree};
 use capbits::{ClientId, Ino};
 use capgrant::{Access, Verdict};
 use capspec::FsName;
 use capview::{Question, Unknown, View, ViewChange};
-use inotree::{Name, Tree};
+use inotree::{Kind, Name, Tree};
 use std::process::Abort;
 
 // What a view is told. The first number is that of an inode or a client.
@@ -37,13 +36,6 @@ type Look = (u32, u64, Access, &'static str);
 
 // What is told, whether the view can follow, and what is answered then.
 type Round = (&'static [(Told, bool)], &'static [Look]);
-
-// What a case shows, what was made of the tree before it was copied, and its rounds.
-type Case = (
-    &'static str,
-    &'static [TreeRound<'static>],
-    &'static [Round],
-);
 
 // Where a test fails: the case, the number of the round, and of what is told or asked in it.
 type At = (&'static str, usize, usize);
@@ -78,14 +70,14 @@ fn change(rt: &(impl Abort + AllocGlobal), told: Told) -> ViewChange {
         Opened(client, uid, text) => ViewChange::Opened {
             client: ClientId(client),
             caller: caller(uid),
-            grants: grants_of(rt, text.as_bytes()),
+            grants: grants_of(rt, text),
         },
         Ended(client) => ViewChange::Ended {
             client: ClientId(client),
         },
         Regranted(client, text) => ViewChange::Regranted {
             client: ClientId(client),
-            grants: grants_of(rt, text.as_bytes()),
+            grants: grants_of(rt, text),
         },
     }
 }
@@ -142,28 +134,13 @@ fn play(
     }
 }
 
-// A view of the tree and of no sessions.
-fn view_of(rt: &(impl Abort + AllocGlobal), tree: &Tree) -> View {
-    let sessions = made(rt, no_sessions(rt.alloc()), "sessions");
-    made(rt, View::of(tree, &sessions), "a view")
-}
-
-// Plays the rounds on a copy of the view, and then on the view itself, which is still as it was.
-fn plays_twice(
-    rt: &(impl Abort + AllocGlobal),
-    tree: &Tree,
-    rounds: (&'static str, &'static [Round]),
-) {
-    let mut view = view_of(rt, tree);
-    let mut copy = made(rt, view.copy(), "a copy");
+// Plays the rounds on a copy of a view of the tree, on which nobody has a session, and then on the view itself, which is still
+// as it was.
+fn runs(rt: &(impl Abort + AllocGlobal), tree: &Tree, rounds: (&'static str, &'static [Round])) {
+    let mut view = made(rt, View::of(tree, &no_sessions(rt)), rounds.0);
+    let mut copy = made(rt, view.copy(), rounds.0);
     play(rt, &mut copy, rounds);
     play(rt, &mut view, rounds);
-}
-
-fn runs(rt: &(impl Abort + AllocGlobal), (title, before, rounds): Case) {
-    let mut tree = no_inodes(rt);
-    runs_on(rt, &mut tree, (title, before));
-    plays_twice(rt, &tree, (title, rounds));
 }
 
 const MOVED: &[Round] = &[
@@ -301,12 +278,7 @@ const OF_ANOTHER: &[Round] = &[
     ),
 ];
 
-// The tree had a snapshot when it was copied. That it went is not told.
-const A_SNAPSHOT: &[TreeRound] = &[(
-    &[(Mkdir(1, b"d"), Ok(2)), (Keep(2, b"s", Snapshot), Ok(0))],
-    &[],
-)];
-
+// The tree had a directory with a snapshot when it was copied. That the snapshot went is not told.
 const WITH_A_SNAPSHOT: &[Round] = &[(
     &[
         (Opened(1, 10, "allow rw"), true),
@@ -320,22 +292,19 @@ const WITH_A_SNAPSHOT: &[Round] = &[(
     ],
 )];
 
-const CASES: &[Case] = &[
-    ("an inode is judged where it stands", &[], MOVED),
-    ("what is gone has no verdict", &[], GONE),
-    ("an inode is judged by whose it is", &[], SETTLED),
-    ("the last grants count", &[], REGRANTED),
-    ("what does not fit changes nothing", &[], OF_ANOTHER),
-    (
-        "a directory may have had snapshots",
-        A_SNAPSHOT,
-        WITH_A_SNAPSHOT,
-    ),
-];
-
 #[test]
 fn a_view_follows_what_it_is_told(rt: HostRuntime) {
-    for case in CASES {
-        runs(&rt, *case);
-    }
+    let mut tree = new_tree(&rt);
+    runs(&rt, &tree, ("an inode is judged where it stands", MOVED));
+    runs(&rt, &tree, ("what is gone has no verdict", GONE));
+    runs(&rt, &tree, ("an inode is judged by whose it is", SETTLED));
+    runs(&rt, &tree, ("the last grants count", REGRANTED));
+    runs(
+        &rt,
+        &tree,
+        ("what does not fit changes nothing", OF_ANOTHER),
+    );
+    let asks = &[Make(Kind::Directory, 1, b"d"), Snapshot(2, b"s")];
+    change_tree(&rt, &mut tree, asks);
+    runs(&rt, &tree, ("a directory had a snapshot", WITH_A_SNAPSHOT));
 }

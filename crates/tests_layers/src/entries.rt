@@ -1,0 +1,379 @@
+//! The table of capabilities: the orders in which its entries stand, and what each keeps.
+
+use crate::asserting::{made, same};
+use capbits::{CapSet, ClientId, Ino, Refusal, read_caps};
+use captable::{CapTable, Entry, Holder, Holders, Walk};
+use std::alloc::AllocError;
+use std::process::Abort;
+
+type Places = &'static [Holder];
+
+// The holders of the entries of a walk, and whether each is asked for capabilities.
+type Rows = &'static [(Holder, bool)];
+
+// What is held, what is wanted, the numbers of the last change, of the last revocation and of the last change that was told,
+// and whether capabilities are asked for.
+type Kept = (&'static str, &'static str, (u64, u64, u64), bool);
+
+// What is done with a table, or seen in it. A text names capabilities.
+enum Step {
+    // An entry of a client is opened on an inode.
+    Open(Holder),
+    // As many as there may be are opened, of 64 clients on 1024 inodes. No further one is.
+    Fill,
+    Full(Holder),
+    // The client wants these.
+    Want(Holder, &'static str),
+    // It holds these too.
+    Give(Holder, &'static str),
+    // What it is to know of changes: before, and after.
+    Renumber(Holder, &'static str, &'static str),
+    // A message tells it.
+    Tell(Holder),
+    // It gives these back.
+    Release(Holder, &'static str, Result<(), Refusal>),
+    Touch(Holder),
+    DropClient(u32),
+    // So many entries are recalled, which are these.
+    Recall(u32, Places),
+    // An entry is asked for capabilities, or not any more.
+    Mark(Holder, bool),
+    // A client's entries that are not due are walked over, up to the first that is.
+    SkipQuiet(u32),
+    Keeps(Holder, Option<Kept>),
+    // The order of recall, one by one.
+    Order(Places),
+    // The orders of making: of an inode, and of a client.
+    HoldersOf(u64, Rows),
+    EntriesOf(u32, Rows),
+    // The client's entries from the first on that may be due.
+    DueOf(u32, Rows),
+}
+
+use Step::*;
+
+// Where a test fails: the case, and the number of the step.
+type At = (&'static str, usize);
+
+/// The set that a text names; no set for a text that names none.
+pub fn caps(text: &str) -> CapSet {
+    match read_caps(text.as_bytes()) {
+        Ok(set) => set,
+        Err(_fault) => CapSet::empty(),
+    }
+}
+
+// ---- what is done
+
+/// Makes the entry where there is none. Answers why it can't be made.
+pub fn open(rt: &impl Abort, table: &mut CapTable, holder: Holder) -> Option<Refusal> {
+    let refusal = table.open_refusal();
+    if table.find(holder.client, holder.ino).is_some() {
+        return Some(Refusal::Exists);
+    }
+    if refusal.is_none() && table.made() < u64::MAX {
+        made(rt, table.open_entry(holder.client, holder.ino), holder);
+    }
+    refusal
+}
+
+fn fill(rt: &impl Abort, table: &mut CapTable) {
+    for n in 0..65536 {
+        let (client, ino) = (ClientId(n % 64), Ino(u64::from(n / 64)));
+        same(rt, open(rt, table, Holder { client, ino }), None, n);
+    }
+}
+
+fn renumber(table: &mut CapTable, holder: Holder, before: CapSet, after: CapSet) {
+    if let Some(entry) = table.find(holder.client, holder.ino) {
+        if entry.seq < u64::MAX {
+            table.renumber(holder.client, holder.ino, before, after);
+        }
+    }
+}
+
+/// The client gives these back, unless that is refused.
+pub fn release(table: &mut CapTable, holder: Holder, text: &str) -> Result<(), Refusal> {
+    let (client, ino, caps) = (holder.client, holder.ino, caps(text));
+    if let Some(refusal) = table.release_refusal(client, ino, caps) {
+        return Err(refusal);
+    }
+    table.release(client, ino, caps);
+    Ok(())
+}
+
+// ---- what is seen
+
+// Sees that these holders are named, and are the same once they have been a list.
+fn are(rt: &impl Abort, found: Result<Holders, AllocError>, want: Places, at: At) {
+    let holders = made(rt, found, at);
+    same(rt, holders.as_slice(), want, at);
+    let again = Holders::from_vec(holders.into_vec());
+    same(rt, again.as_slice(), want, at);
+}
+
+// Sees that so many entries are the first to be recalled, and recalls them.
+fn recall(rt: &impl Abort, table: &mut CapTable, n: u32, want: Places, at: At) {
+    are(rt, table.first_to_recall(n), want, at);
+    are(rt, table.recall(n), want, at);
+}
+
+// An entry as it is looked at.
+fn kept(found: Option<Entry>) -> Option<(CapSet, CapSet, (u64, u64, u64), bool)> {
+    let entry = found?;
+    let numbers = (entry.seq, entry.revoke_seq, entry.told_seq);
+    Some((entry.held, entry.want, numbers, entry.asked))
+}
+
+fn keeps(rt: &impl Abort, found: Option<Entry>, want: Option<Kept>, at: At) {
+    let want = match want {
+        Some((held, wanted, numbers, asked)) => Some((caps(held), caps(wanted), numbers, asked)),
+        None => None,
+    };
+    same(rt, kept(found), want, at);
+}
+
+// Sees that a walk goes by these entries.
+fn goes_by(rt: &impl Abort, walk: Walk<'_>, want: Rows, at: At) {
+    let mut walk = walk;
+    for row in want {
+        let found = match walk.next() {
+            Some(row) => Some((row.holder, row.entry.asked)),
+            None => None,
+        };
+        same(rt, found, Some(*row), at);
+    }
+    same(rt, walk.next().is_none(), true, at);
+}
+
+fn is_order(rt: &impl Abort, table: &CapTable, want: Places, at: At) {
+    let mut next = table.oldest();
+    for holder in want {
+        same(rt, next, Some(*holder), at);
+        next = table.newer(holder.client, holder.ino);
+    }
+    same(rt, next, None, at);
+}
+
+// ---- whole runs
+
+fn take(rt: &impl Abort, table: &mut CapTable, step: &Step, at: At) {
+    match step {
+        Open(h) => same(rt, open(rt, table, *h), None, at),
+        Fill => fill(rt, table),
+        Full(h) => same(rt, open(rt, table, *h), Some(Refusal::Limit), at),
+        Want(h, text) => table.set_want(h.client, h.ino, caps(text)),
+        Give(h, text) => table.issue(h.client, h.ino, caps(text)),
+        Renumber(h, before, after) => renumber(table, *h, caps(before), caps(after)),
+        Tell(h) => table.tell(h.client, h.ino),
+        Release(h, text, want) => same(rt, release(table, *h, text), *want, at),
+        Touch(h) => table.touch(h.client, h.ino),
+        DropClient(client) => table.drop_client(ClientId(*client)),
+        Recall(n, want) => recall(rt, table, *n, want, at),
+        Mark(h, asked) => table.ask(h.client, h.ino, *asked),
+        SkipQuiet(client) => table.skip_quiet(ClientId(*client)),
+        Keeps(h, want) => keeps(rt, table.find(h.client, h.ino), *want, at),
+        Order(want) => is_order(rt, table, want, at),
+        HoldersOf(ino, want) => goes_by(rt, table.holders_of(Ino(*ino)), want, at),
+        EntriesOf(client, want) => goes_by(rt, table.entries_of(ClientId(*client)), want, at),
+        DueOf(client, want) => goes_by(rt, table.due_of(ClientId(*client)), want, at),
+    }
+}
+
+// Takes the steps on a new table. No other function owns a table: each statement of one that does is dear to prove.
+fn runs(rt: &(impl Abort + AllocGlobal), title: &'static str, steps: &[Step]) {
+    let mut table = made(rt, CapTable::new(rt.alloc()), title);
+    for (nth, step) in steps.iter().enumerate() {
+        take(rt, &mut table, step, (title, nth));
+    }
+}
+
+/// Client 1 with inode 2.
+pub const ONE_2: Holder = Holder {
+    client: ClientId(1),
+    ino: Ino(2),
+};
+
+/// Client 1 with inode 3.
+pub const ONE_3: Holder = Holder {
+    client: ClientId(1),
+    ino: Ino(3),
+};
+
+const ONE_4: Holder = Holder {
+    client: ClientId(1),
+    ino: Ino(4),
+};
+
+/// Client 2 with inode 2.
+pub const TWO_2: Holder = Holder {
+    client: ClientId(2),
+    ino: Ino(2),
+};
+
+const TWO_3: Holder = Holder {
+    client: ClientId(2),
+    ino: Ino(3),
+};
+
+const EMPTY: Option<Kept> = Some(("-", "-", (0, 0, 0), false));
+
+// A client has a file for itself and is asked to give back all but reading and writing, while another one has it open. Then
+// the first gives back more, and holds more anew.
+const SHARED_FILE: &[Step] = &[
+    Keeps(ONE_2, None),
+    Open(ONE_2),
+    Keeps(ONE_2, EMPTY),
+    // Client and inode exchanged.
+    Keeps(
+        Holder {
+            client: ClientId(2),
+            ino: Ino(1),
+        },
+        None,
+    ),
+    Want(ONE_2, "pFsxcrwb"),
+    Give(ONE_2, "pFsxcrwb"),
+    Renumber(ONE_2, "-", "pFsxcrwb"),
+    Tell(ONE_2),
+    Open(TWO_2),
+    Want(TWO_2, "pFscr"),
+    Give(TWO_2, "p"),
+    Renumber(TWO_2, "-", "p"),
+    Keeps(ONE_2, Some(("pFsxcrwb", "pFsxcrwb", (1, 0, 1), false))),
+    Renumber(ONE_2, "pFsxcrwb", "pFrw"),
+    Keeps(ONE_2, Some(("pFsxcrwb", "pFsxcrwb", (2, 2, 1), false))),
+    Tell(ONE_2),
+    // What is given back is neither held nor wanted.
+    Release(ONE_2, "Fsxcb", Ok(())),
+    Keeps(ONE_2, Some(("pFrw", "pFrw", (2, 2, 2), false))),
+    Release(ONE_2, "Fxw", Err(Refusal::NotHeld)),
+    Release(ONE_3, "Fw", Err(Refusal::NoEntry)),
+    // More has a new number, and is no revocation; the same has none.
+    Give(ONE_2, "Fsc"),
+    Renumber(ONE_2, "pFrw", "pFscrw"),
+    Renumber(ONE_2, "pFscrw", "pFscrw"),
+    Keeps(ONE_2, Some(("pFscrw", "pFrw", (3, 2, 2), false))),
+    Keeps(TWO_2, Some(("p", "pFscr", (1, 0, 0), false))),
+    HoldersOf(2, &[(ONE_2, false), (TWO_2, false)]),
+    // The pin takes the entry with it.
+    Release(ONE_2, "pFscrw", Ok(())),
+    Keeps(ONE_2, None),
+    Order(&[TWO_2]),
+    HoldersOf(2, &[(TWO_2, false)]),
+];
+
+#[test]
+fn an_entry_keeps_what_is_held_wanted_and_told(rt: HostRuntime) {
+    runs(&rt, "a shared file", SHARED_FILE);
+}
+
+const ORDERS: &[Step] = &[
+    Order(&[]),
+    Open(ONE_2),
+    Open(ONE_3),
+    Open(TWO_2),
+    Touch(ONE_2),
+    // A client without an entry.
+    Touch(TWO_3),
+    Order(&[ONE_3, TWO_2, ONE_2]),
+    HoldersOf(2, &[(ONE_2, false), (TWO_2, false)]),
+    EntriesOf(1, &[(ONE_2, false), (ONE_3, false)]),
+    EntriesOf(3, &[]),
+    DropClient(1),
+    Keeps(ONE_3, None),
+    Order(&[TWO_2]),
+    HoldersOf(2, &[(TWO_2, false)]),
+    EntriesOf(1, &[]),
+];
+
+#[test]
+fn the_orders_are_kept_apart(rt: HostRuntime) {
+    runs(&rt, "three entries", ORDERS);
+}
+
+// The entries of one client, the first of which was touched last.
+const RECALLS: &[Step] = &[
+    Open(ONE_2),
+    Open(ONE_3),
+    Open(ONE_4),
+    Touch(ONE_2),
+    Recall(0, &[]),
+    EntriesOf(1, &[(ONE_2, false), (ONE_3, false), (ONE_4, false)]),
+    Recall(2, &[ONE_3, ONE_4]),
+    EntriesOf(1, &[(ONE_2, false), (ONE_3, true), (ONE_4, true)]),
+    Recall(9, &[ONE_3, ONE_4, ONE_2]),
+    EntriesOf(1, &[(ONE_2, true), (ONE_3, true), (ONE_4, true)]),
+    // A message takes the mark away and leaves the order.
+    Mark(ONE_3, false),
+    EntriesOf(1, &[(ONE_2, true), (ONE_3, false), (ONE_4, true)]),
+    Order(&[ONE_3, ONE_4, ONE_2]),
+    Recall(1, &[ONE_3]),
+];
+
+#[test]
+fn recall_names_the_oldest(rt: HostRuntime) {
+    runs(&rt, "recalls", RECALLS);
+}
+
+// A walk over what is due begins behind what is not.
+const DUE: &[Step] = &[
+    Open(ONE_2),
+    Open(ONE_3),
+    Open(ONE_4),
+    // A new entry is not due.
+    DueOf(1, &[]),
+    SkipQuiet(1),
+    DueOf(1, &[]),
+    Mark(ONE_3, true),
+    DueOf(1, &[(ONE_3, true), (ONE_4, false)]),
+    Mark(ONE_4, true),
+    Mark(ONE_2, true),
+    DueOf(1, &[(ONE_2, true), (ONE_3, true), (ONE_4, true)]),
+    Mark(ONE_2, false),
+    SkipQuiet(1),
+    DueOf(1, &[(ONE_3, true), (ONE_4, true)]),
+    // A change that the client was not told of.
+    Give(ONE_2, "p"),
+    Renumber(ONE_2, "-", "p"),
+    DueOf(1, &[(ONE_2, false), (ONE_3, true), (ONE_4, true)]),
+    // The entry at the place goes, and others come and go.
+    Tell(ONE_2),
+    Release(ONE_2, "p", Ok(())),
+    DueOf(1, &[(ONE_3, true), (ONE_4, true)]),
+    Open(ONE_2),
+    Open(TWO_3),
+    DropClient(2),
+    DueOf(1, &[(ONE_3, true), (ONE_4, true), (ONE_2, false)]),
+    DueOf(2, &[]),
+    DropClient(1),
+    Open(ONE_4),
+    Open(ONE_2),
+    DueOf(1, &[]),
+    Mark(ONE_2, true),
+    DueOf(1, &[(ONE_2, true)]),
+];
+
+#[test]
+fn a_walk_over_what_is_due_begins_behind_what_is_not(rt: HostRuntime) {
+    runs(&rt, "what is due", DUE);
+}
+
+const ONE_MORE: Holder = Holder {
+    client: ClientId(64),
+    ino: Ino(2000),
+};
+
+const ALL_ENTRIES: &[Step] = &[
+    Fill,
+    Full(ONE_MORE),
+    Give(ONE_2, "p"),
+    Release(ONE_2, "p", Ok(())),
+    Open(ONE_MORE),
+    Full(ONE_2),
+];
+
+#[test]
+fn no_more_than_65536_entries(rt: HostRuntime) {
+    runs(&rt, "all entries", ALL_ENTRIES);
+}
