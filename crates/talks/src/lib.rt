@@ -1,19 +1,19 @@
-//! Talks: worked cases in text files, of what is asked of a program and what it is to answer. A talk is read from its file, played to the
-//! program over streams in memory, and compared with what came.
+//! Talks: worked cases in text files, of what is asked of a program and what it is to answer. They are read from their file, and what is
+//! said of them is written here; who has the program plays them.
 //!
-//! The program is whatever runs command lines (`Program`), so that nothing here waits for the one that is tried.
+//! No crate is below it, so that nothing here waits for the program that is tried.
 #![tactic(auto)]
 
 mod book;
 mod fault;
-mod files;
 mod line;
 mod page;
-mod play;
-mod program;
 mod run;
+mod telling;
 mod text;
 
-pub use fault::Stop;
-pub use files::{play_files, report};
-pub use program::Program;
+pub use book::{Talk, read_talks};
+pub use fault::{BookFault, Place, Stop};
+pub use page::Page;
+pub use run::{Outcome, Run};
+pub use telling::{report, topic};

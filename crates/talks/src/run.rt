@@ -2,21 +2,18 @@
 
 use crate::fault::BookFault;
 use crate::line::Line;
-use crate::page::Page;
-use crate::program::Program;
 use crate::text::push_line;
 use std::alloc::Global;
-use std::fs::Files;
-use std::io::Write;
-use std::sync::Wait;
-use std::thread::Threads;
 
 /// What a program writes, what it says of faults, and its status.
 #[derive(Clone, PartialEq)]
 pub struct Outcome {
-    written: Vec<u8>,
-    complaints: Vec<u8>,
-    status: u8,
+    /// What it writes.
+    pub written: Vec<u8>,
+    /// What it says of faults.
+    pub complaints: Vec<u8>,
+    /// Its status.
+    pub status: u8,
 }
 
 // By hand, so that whoever lets one go has one call to prove.
@@ -31,27 +28,23 @@ impl Drop for Outcome {
 }
 
 impl Outcome {
-    fn new(alloc: Global) -> Outcome {
+    /// Nothing is written or said, and the status is 0.
+    pub fn new(alloc: Global) -> Outcome {
         Outcome {
             written: Vec::new(alloc),
             complaints: Vec::new(alloc),
             status: 0,
         }
     }
-
-    /// Writes it as a talk has it.
-    pub fn write<W: Write>(&self, page: &mut Page<'_, W>) {
-        page.write(self.written.as_slice());
-        page.write(self.complaints.as_slice());
-        page.write_status(self.status);
-    }
 }
 
 /// A run of the program: its words, what it reads, and its outcome as the talk has it.
 #[derive(Clone)]
 pub struct Run {
-    words: Vec<Vec<u8>>,
-    input: Vec<u8>,
+    /// The words behind the program's name.
+    pub words: Vec<Vec<u8>>,
+    /// What it reads.
+    pub input: Vec<u8>,
     /// The outcome that is wanted.
     pub wanted: Outcome,
 }
@@ -75,22 +68,6 @@ impl Run {
             input: Vec::new(alloc),
             wanted: Outcome::new(alloc),
         }
-    }
-
-    /// What comes when the program is run.
-    pub fn outcome<P: Program, R: AllocGlobal + Files + Threads + Wait + Sync>(
-        &self,
-        rt: &R,
-    ) -> Outcome {
-        let mut came = Outcome::new(rt.alloc());
-        came.status = P::run(
-            rt,
-            self.words.as_slice(),
-            self.input.as_slice(),
-            &mut came.written,
-            &mut came.complaints,
-        );
-        came
     }
 
     /// One line more of what the program is given, or is to answer.
