@@ -1,5 +1,7 @@
 -- Texts of items, one after another.
 use Rattle.std.proofs.Common.{◌≡◌, ℕ, ◌+◌, ◌<◌, List, [], ◌∷◌, ◌++◌, length, take, get_or, map, refl, sym, ap, ◌∙◌, append_assoc, arith}
+use Rattle.std.specs.Prelude.{codes}
+use Rattle.std.specs.Fmt.{decimal}
 use Rattle.std.specs.List.{flat_map}
 use Rattle.std.proofs.lemmas.List.{append-nil, take_more, map-append}
 use Rattle.std.proofs.lemmas.List.Concat.{flat_map-append}
@@ -27,6 +29,10 @@ pub texts-yielded : {A X : Type 0} (f : X → List ℕ) (shows : A → X) (start
     → after ≡ start ++ flat_map f (map shows (xs ++ x ∷ []))
 texts-yielded f shows start line after xs x before now =
     texts-push f start line after (map shows xs) (shows x) before now ∙ ap (λ t. start ++ flat_map f t) (sym (map-append shows xs (x ∷ [])))
+
+-- a number behind a space
+abbrev pub behind_space : ℕ → List ℕ
+behind_space number = codes " " ++ decimal number
 
 -- some bytes have no dash
 pub some_hex : (bytes : List ℕ) → 0 < length bytes → hex_text bytes ≡ flat_map byte_text bytes

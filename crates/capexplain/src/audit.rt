@@ -1,5 +1,5 @@
 //! The texts of the rows of a history.
-ghost use Rattle.std.specs.Prelude.{◌≡◌, ◌++◌, codes, decimal, IfOk, OnOk};
+ghost use Rattle.std.specs.Prelude.{◌≡◌, ◌++◌, IfOk, OnOk};
 ghost use Rattle.std.specs.List.{flat_map};
 ghost use Rattle.capexplain.specs.Audit.{audit_text, ended_text};
 
@@ -27,20 +27,13 @@ pub fn audit_line(alloc: Global, row: &Row) -> Result<Vec<u8>, AllocError>
 pub fn append_audit_line(text: &mut Vec<u8>, row: &Row) -> Result<(), AllocError>
     ensures { OnOk result (text.new.items ≡ text.old.items ++ audit_text row.now) }
 {
-    print_place(text, row)?;
+    print_number(text, u64::from(row.pass.0))?;
+    print_numbered(text, ".", row.nth)?;
+    print_str(text, " ")?;
     print_event(text, &row.event)?;
     print_str(text, " => ")?;
     print_reply(text, &row.reply)?;
     print_ended(text, row.ended.as_slice())
-}
-
-// The pass of a row, and its number there.
-fn print_place(text: &mut Vec<u8>, row: &Row) -> Result<(), AllocError>
-    ensures { OnOk result (text.new.items ≡ text.old.items ++ (decimal row.now.pass.0 ++ codes "." ++ decimal row.now.nth ++ codes " ")) }
-{
-    print_number(text, u64::from(row.pass.0))?;
-    print_numbered(text, ".", row.nth)?;
-    print_str(text, " ")
 }
 
 // The requests that ended, in the order in which they did.

@@ -5,7 +5,7 @@ ghost use Rattle.capexplain.specs.Words.{command_of, command_word};
 use capevents::Event;
 
 /// What a line says, by its first word.
-#[derive(Clone, Copy, Debug, PartialEq, Eq)]
+#[derive(Clone, Copy)]
 pub enum Command {
     /// A client opens a session.
     Session,

@@ -9,7 +9,7 @@ use crate::quoting::print_quoted;
 use capbits::Caller;
 use capcompare::Witness;
 use capgrant::Attr;
-use captext::print;
+use captext::{print, print_str};
 use std::alloc::{AllocError, Global};
 
 /// A line `gained: ..` for a question that was gained, and one `lost: ..` for one that was lost, or `the same` where there is
@@ -23,7 +23,7 @@ pub fn comparison_lines(
 {
     let mut lines = Vec::new(alloc);
     if gain.is_none() && loss.is_none() {
-        print(&mut lines, "the same\n")?;
+        print_str(&mut lines, "the same\n")?;
         return Ok(lines);
     }
     print_found(&mut lines, "gained: ", gain)?;
@@ -57,7 +57,7 @@ fn print_witness(text: &mut Vec<u8>, witness: &Witness<'_>) -> Result<(), AllocE
     let (access, grant) = (witness.access, witness.grant);
     print(text, format_args!("{access} "))?;
     print_quoted(text, path.as_slice())?;
-    print(text, " fs ")?;
+    print_str(text, " fs ")?;
     text.extend_from_slice(witness.fs.as_bytes())?;
     print_caller(text, &witness.caller)?;
     print_owner(text, &witness.attr)?;

@@ -1,6 +1,7 @@
 //! The texts of events: the lines that say them.
 ghost use Rattle.std.specs.Prelude.{◌≡◌, ◌++◌, codes, IfOk, OnOk};
 ghost use Rattle.std.specs.Fmt.{decimal};
+ghost use Rattle.std.specs.List.{flat_map};
 ghost use Rattle.capbits.specs.Text.{text_of};
 ghost use Rattle.capexplain.specs.EventTexts.{arguments_text, change_text, event_text, grants_text, groups_text, named_text, numbered_text, setting_text};
 ghost use Rattle.capexplain.specs.PartTexts.{mode_text};
@@ -12,7 +13,7 @@ use crate::part_text::{print_bytes, print_mode};
 use capbits::{Caller, CapSet, ClientId, Groups, Ino, Mode, Part};
 use capevents::{Event, OpenMode};
 use capspec::{Grants, write_grants};
-use captext::{print, print_caps, print_number, print_numbered, print_str};
+use captext::{print_caps, print_number, print_numbered, print_str};
 use inotree::Setting;
 use lockmachine::{Bytes, Change};
 use std::alloc::{AllocError, Global};
@@ -49,9 +50,9 @@ fn print_arguments(text: &mut Vec<u8>, event: &Event) -> Result<(), AllocError>
         | Event::Stale { client }
         | Event::Renew { client }
         | Event::Evict { client }
-        | Event::Unblock { client } => print_client(text, *client),
+        | Event::Unblock { client } => print_numbers(text, &[u64::from(client.0)]),
         Event::Regrant { client, grants } => print_regrant(text, *client, grants),
-        Event::Recall { count } => print_count(text, *count),
+        Event::Recall { count } => print_numbers(text, &[u64::from(*count)]),
         Event::Lookup { client, dir, name } => print_named(text, *client, *dir, name),
         Event::MakeSnapshot { client, ino, name } | Event::RemoveSnapshot { client, ino, name } => {
             print_named(text, *client, *ino, name)
@@ -72,7 +73,9 @@ fn print_arguments(text: &mut Vec<u8>, event: &Event) -> Result<(), AllocError>
         Event::Want { client, ino, caps } | Event::Release { client, ino, caps } => {
             print_wanted(text, *client, *ino, *caps)
         }
-        Event::Ack { client, ino, seq } => print_inode_and(text, *client, *ino, *seq),
+        Event::Ack { client, ino, seq } => {
+            print_numbers(text, &[u64::from(client.0), ino.0, *seq])
+        },
         Event::Get { client, ino, part } => print_word(text, *client, *ino, part_word(*part)),
         Event::Alter {
             client,
@@ -85,7 +88,7 @@ fn print_arguments(text: &mut Vec<u8>, event: &Event) -> Result<(), AllocError>
             change,
         } => print_changed(text, *client, *ino, change),
         Event::Unlink { client, ino } | Event::Rmdir { client, ino } => {
-            print_inode(text, *client, *ino)
+            print_numbers(text, &[u64::from(client.0), ino.0])
         }
         Event::Rename {
             client,
@@ -93,53 +96,22 @@ fn print_arguments(text: &mut Vec<u8>, event: &Event) -> Result<(), AllocError>
             dir,
             name,
         } => print_new_place(text, *client, *ino, *dir, name),
-        Event::Poll { client, max } => print_limit(text, *client, *max),
+        Event::Poll { client, max } => {
+            print_numbers(text, &[u64::from(client.0), u64::from(*max)])
+        },
     }
 }
 
 // ---- the numbers of a line
 
-// A client.
-fn print_client(text: &mut Vec<u8>, client: ClientId) -> Result<(), AllocError>
-    ensures { OnOk result (text.new.items ≡ text.old.items ++ (codes " " ++ decimal client.0)) }
+// Each number behind a space.
+fn print_numbers(text: &mut Vec<u8>, numbers: &[u64]) -> Result<(), AllocError>
+    ensures { OnOk result (text.new.items ≡ text.old.items ++ flat_map (λ n. codes " " ++ decimal n) numbers.now) }
 {
-    print_numbered(text, " ", u64::from(client.0))
-}
-
-// How many entries are recalled.
-fn print_count(text: &mut Vec<u8>, count: u32) -> Result<(), AllocError>
-    ensures { OnOk result (text.new.items ≡ text.old.items ++ (codes " " ++ decimal count)) }
-{
-    print_numbered(text, " ", u64::from(count))
-}
-
-// A client, and how many messages it is told at most.
-fn print_limit(text: &mut Vec<u8>, client: ClientId, max: u32) -> Result<(), AllocError>
-    ensures { OnOk result (text.new.items ≡ text.old.items ++ (codes " " ++ decimal client.0 ++ codes " " ++ decimal max)) }
-{
-    print_client(text, client)?;
-    print_numbered(text, " ", u64::from(max))
-}
-
-// A client and an inode.
-fn print_inode(text: &mut Vec<u8>, client: ClientId, ino: Ino) -> Result<(), AllocError>
-    ensures { OnOk result (text.new.items ≡ text.old.items ++ (codes " " ++ decimal client.0 ++ codes " " ++ decimal ino.0)) }
-{
-    print_client(text, client)?;
-    print_numbered(text, " ", ino.0)
-}
-
-// A client, an inode, and a number: that of a change, or of a directory.
-fn print_inode_and(
-    text: &mut Vec<u8>,
-    client: ClientId,
-    ino: Ino,
-    number: u64,
-) -> Result<(), AllocError>
-    ensures { OnOk result (text.new.items ≡ text.old.items ++ named_text client ino (decimal number)) }
-{
-    print_inode(text, client, ino)?;
-    print_numbered(text, " ", number)
+    for number in numbers {
+        print_numbered(text, " ", *number)?;
+    }
+    Ok(())
 }
 
 // ---- a session
@@ -155,10 +127,11 @@ fn print_session(
         ++ (codes " " ++ decimal client.0 ++ codes " " ++ decimal caller.now.uid ++ codes " " ++ decimal caller.now.gid ++ codes " "
         ++ groups_text caller.now.groups ++ codes " " ++ grants_text grants.now)) }
 {
-    let (uid, gid) = (caller.uid, caller.gid);
-    print(text, format_args!(" {client} {uid} {gid} "))?;
+    let (uid, gid) = (u64::from(caller.uid), u64::from(caller.gid));
+    print_numbers(text, &[u64::from(client.0), uid, gid])?;
+    print_str(text, " ")?;
     print_groups(text, &caller.groups)?;
-    print(text, " ")?;
+    print_str(text, " ")?;
     print_grants(text, grants)
 }
 
@@ -166,7 +139,8 @@ fn print_session(
 fn print_regrant(text: &mut Vec<u8>, client: ClientId, grants: &Grants) -> Result<(), AllocError>
     ensures { OnOk result (text.new.items ≡ text.old.items ++ (codes " " ++ decimal client.0 ++ codes " " ++ grants_text grants.now)) }
 {
-    print(text, format_args!(" {client} "))?;
+    print_numbered(text, " ", u64::from(client.0))?;
+    print_str(text, " ")?;
     print_grants(text, grants)
 }
 
@@ -175,11 +149,11 @@ pub(crate) fn print_groups(text: &mut Vec<u8>, groups: &Groups) -> Result<(), Al
     ensures { OnOk result (text.new.items ≡ text.old.items ++ groups_text groups.now) }
 {
     let Some((first, more)) = groups.as_slice().split_first() else {
-        return print(text, "-");
+        return print_str(text, "-");
     };
-    print(text, *first)?;
+    print_number(text, u64::from(*first))?;
     for gid in more {
-        print(text, format_args!(",{gid}"))?;
+        print_numbered(text, ",", u64::from(*gid))?;
     }
     Ok(())
 }
@@ -189,7 +163,7 @@ fn print_grants(text: &mut Vec<u8>, grants: &Grants) -> Result<(), AllocError>
     ensures { OnOk result (text.new.items ≡ text.old.items ++ grants_text grants.now) }
 {
     if grants.len() == 0 {
-        return print(text, "none");
+        return print_str(text, "none");
     }
     let written = write_grants(*text.allocator(), grants)?;
     text.extend_from_slice(written.as_slice())?;
@@ -202,7 +176,7 @@ fn print_grants(text: &mut Vec<u8>, grants: &Grants) -> Result<(), AllocError>
 fn print_entry(text: &mut Vec<u8>, client: ClientId, ino: Ino) -> Result<(), AllocError>
     ensures { OnOk result (text.new.items ≡ text.old.items ++ (codes " " ++ decimal client.0 ++ codes " " ++ decimal ino.0 ++ codes " ")) }
 {
-    print_inode(text, client, ino)?;
+    print_numbers(text, &[u64::from(client.0), ino.0])?;
     print_str(text, " ")
 }
 
@@ -266,7 +240,7 @@ fn print_new_place(
     ensures { OnOk result (text.new.items ≡ text.old.items
         ++ (codes " " ++ decimal client.0 ++ codes " " ++ decimal ino.0 ++ codes " " ++ decimal dir.0 ++ codes " " ++ name.now)) }
 {
-    print_inode_and(text, client, ino, dir.0)?;
+    print_numbers(text, &[u64::from(client.0), ino.0, dir.0])?;
     print_str(text, " ")?;
     print_name(text, name)
 }

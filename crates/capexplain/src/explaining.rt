@@ -4,7 +4,7 @@ ghost use Rattle.capwords.specs.Paths.{slashed};
 ghost use Rattle.capexplain.specs.Explaining.{explain_text, outcome_text, path_text, reason_text, failure_text, failures_text};
 
 use capgrant::{Access, Rule, Verdict};
-use captext::print;
+use captext::{print, print_numbered, print_str};
 use std::alloc::{AllocError, Global};
 
 // How many bytes most lines have at the most. A list for one grows but once.
@@ -46,9 +46,9 @@ pub(crate) fn print_reason(line: &mut Vec<u8>, verdict: &Verdict) -> Result<(), 
     ensures { OnOk result (line.new.items ≡ line.old.items ++ reason_text verdict.now) }
 {
     match verdict {
-        Verdict::Allowed { grant } => print(line, format_args!(" grant {grant}")),
+        Verdict::Allowed { grant } => print_numbered(line, " grant ", u64::from(*grant)),
         Verdict::Denied { rules } => {
-            print(line, " ")?;
+            print_str(line, " ")?;
             print_failures(line, rules.as_slice())
         }
     }
@@ -79,11 +79,11 @@ fn print_failures(line: &mut Vec<u8>, rules: &[Rule]) -> Result<(), AllocError>
     ensures { OnOk result (line.new.items ≡ line.old.items ++ failures_text rules.now) }
 {
     if rules.is_empty() {
-        print(line, "no grants")?;
+        print_str(line, "no grants")?;
     }
     for (place, rule) in rules.iter().enumerate() {
         if place > 0 {
-            print(line, ", ")?;
+            print_str(line, ", ")?;
         }
         print_failure(line, place + 1, *rule)?;
     }

@@ -6,7 +6,7 @@ ghost use Rattle.capexplain.specs.PartTexts.{attr_text, attribute_text, byte_tex
 use capbits::Mode;
 use capevents::PartValues;
 use capgrant::Attr;
-use captext::{print, print_number, print_str};
+use captext::{print, print_number, print_numbered, print_str};
 use inotree::Attributes;
 use std::alloc::AllocError;
 
@@ -16,7 +16,7 @@ pub(crate) fn print_values(text: &mut Vec<u8>, values: &PartValues) -> Result<()
 {
     match values {
         PartValues::Auth(attr) => print_attr(text, attr),
-        PartValues::Link => print(text, "L 1"),
+        PartValues::Link => print_str(text, "L 1"),
         PartValues::Xattr(attributes) => print_attributes(text, attributes),
         PartValues::File { size, time } => print(text, format_args!("F {size} {time}")),
     }
@@ -45,7 +45,7 @@ fn print_attributes(text: &mut Vec<u8>, attributes: &Attributes) -> Result<(), A
     ensures { OnOk result (text.new.items ≡ text.old.items ++ values_text (PartValues.Xattr attributes.now)) }
 {
     let count = attributes.len();
-    print(text, format_args!("X {count}"))?;
+    print_numbered(text, "X ", count as u64)?;
     for (name, value) in attributes.iter() {
         print_attribute(text, name.as_bytes(), value.as_bytes())?;
     }

@@ -4,21 +4,22 @@ ghost use Rattle.capbits.specs.Caps.{Caps};
 ghost use Rattle.capbits.specs.declared.ids.ClientId.{ClientId as AClient};
 ghost use Rattle.capbits.specs.declared.ids.Ino.{Ino as AnIno};
 ghost use Rattle.capevents.specs.declared.event.Event.{Event as AnEvent};
-ghost use Rattle.capevents.specs.declared.event.Event.TheVariants as events;
 ghost use Rattle.caplines.specs.Events.{Tells, ack_by, caps_by, open_by, poll_by};
 ghost use Rattle.caplines.specs.Faults.{IsRefused};
 
 use crate::fault::{LineFault, Refused};
-use crate::values::{read_cap_set, read_client, read_ino, read_number, read_open_mode, read_seq};
+use crate::values::{
+    read_cap_set, read_client, read_ino, read_long_number, read_number, read_open_mode,
+};
 use capbits::{CapSet, ClientId, Ino};
 use capevents::Event;
 
 // Capabilities on an inode, and whose they are.
 #[derive(Clone, Copy)]
-struct EntryCaps {
-    client: ClientId,
-    ino: Ino,
-    caps: CapSet,
+pub(crate) struct EntryCaps {
+    pub(crate) client: ClientId,
+    pub(crate) ino: Ino,
+    pub(crate) caps: CapSet,
 }
 
 // A client, an inode and what it is opened for.
@@ -36,15 +37,6 @@ pub(crate) fn read_open(arguments: &[&[u8]]) -> Result<Event, Refused>
     Ok(Event::Open { client, ino, mode })
 }
 
-// A client, an inode and what it wants of it.
-pub(crate) fn read_want(arguments: &[&[u8]]) -> Result<Event, Refused>
-    ensures { let said = caps_by events.Want (map (λ word. word.now) arguments.now) in
-        MatchResult result (Tells said) (IsRefused said) }
-{
-    let EntryCaps { client, ino, caps } = read_entry_caps(arguments)?;
-    Ok(Event::Want { client, ino, caps })
-}
-
 // A client, an inode and the number of a change.
 #[tactic(auto, using(crate::proofs::SaidLines::three))]
 pub(crate) fn read_ack(arguments: &[&[u8]]) -> Result<Event, Refused>
@@ -56,17 +48,8 @@ pub(crate) fn read_ack(arguments: &[&[u8]]) -> Result<Event, Refused>
     };
     let client = read_client(client)?;
     let ino = read_ino(ino)?;
-    let seq = read_seq(seq)?;
+    let seq = read_long_number(seq)?;
     Ok(Event::Ack { client, ino, seq })
-}
-
-// A client, an inode and what it gives back.
-pub(crate) fn read_release(arguments: &[&[u8]]) -> Result<Event, Refused>
-    ensures { let said = caps_by events.Release (map (λ word. word.now) arguments.now) in
-        MatchResult result (Tells said) (IsRefused said) }
-{
-    let EntryCaps { client, ino, caps } = read_entry_caps(arguments)?;
-    Ok(Event::Release { client, ino, caps })
 }
 
 // A client, and how many messages it takes at most.
@@ -84,7 +67,7 @@ pub(crate) fn read_poll(arguments: &[&[u8]]) -> Result<Event, Refused>
 
 // A client, an inode and a set of capabilities, whichever event they are said for.
 #[tactic(auto, using(crate::proofs::SaidLines::three))]
-fn read_entry_caps(arguments: &[&[u8]]) -> Result<EntryCaps, Refused>
+pub(crate) fn read_entry_caps(arguments: &[&[u8]]) -> Result<EntryCaps, Refused>
     ensures { (event : AClient → AnIno → Caps → AnEvent)
         → let said = caps_by event (map (λ word. word.now) arguments.now) in
         MatchResult result

@@ -9,13 +9,13 @@ ghost use Rattle.caplines.specs.Faults.{IsRefused};
 ghost use Rattle.caplines.specs.Words.{arguments_in};
 
 use crate::command::read_command;
-use crate::entry_event::{read_ack, read_open, read_poll, read_release, read_want};
+use crate::entry_event::{EntryCaps, read_ack, read_entry_caps, read_open, read_poll};
 use crate::fault::{LineFault, Refused};
-use crate::inode_event::{read_alter, read_flush, read_get, read_rename, read_rmdir, read_unlink};
-use crate::line::MAX_LINE;
-use crate::session_event::{
-    read_close, read_evict, read_recall, read_renew, read_stale, read_unblock,
+use crate::inode_event::{
+    InodeChange, InodeOf, read_get, read_inode, read_inode_change, read_rename,
 };
+use crate::line::MAX_LINE;
+use crate::session_event::{read_only_client, read_recall};
 use crate::values::{read_client, read_groups, read_ino, read_number, read_permissions};
 use crate::words::{split_at_space, split_words};
 use capbits::{Caller, ClientId, Ino, Mode};
@@ -70,12 +70,27 @@ fn read_arguments(
 {
     match command {
         Command::Session => read_session(alloc, arguments),
-        Command::CloseSession => read_close(arguments),
-        Command::Stale => read_stale(arguments),
-        Command::Renew => read_renew(arguments),
+        Command::CloseSession => {
+            let client = read_only_client(arguments)?;
+            Ok(Event::CloseSession { client })
+        }
+        Command::Stale => {
+            let client = read_only_client(arguments)?;
+            Ok(Event::Stale { client })
+        }
+        Command::Renew => {
+            let client = read_only_client(arguments)?;
+            Ok(Event::Renew { client })
+        }
         Command::Regrant => read_regrant(alloc, text),
-        Command::Evict => read_evict(arguments),
-        Command::Unblock => read_unblock(arguments),
+        Command::Evict => {
+            let client = read_only_client(arguments)?;
+            Ok(Event::Evict { client })
+        }
+        Command::Unblock => {
+            let client = read_only_client(arguments)?;
+            Ok(Event::Unblock { client })
+        }
         Command::Recall => read_recall(arguments),
         Command::Lookup => {
             let Named { client, ino, name } = read_named(alloc, arguments)?;
@@ -122,15 +137,49 @@ fn read_arguments(
             Ok(Event::RemoveSnapshot { client, ino, name })
         }
         Command::Open => read_open(arguments),
-        Command::Want => read_want(arguments),
+        Command::Want => {
+            let EntryCaps { client, ino, caps } = read_entry_caps(arguments)?;
+            Ok(Event::Want { client, ino, caps })
+        }
         Command::Ack => read_ack(arguments),
-        Command::Release => read_release(arguments),
+        Command::Release => {
+            let EntryCaps { client, ino, caps } = read_entry_caps(arguments)?;
+            Ok(Event::Release { client, ino, caps })
+        }
         Command::Get => read_get(arguments),
-        Command::Alter => read_alter(alloc, arguments),
-        Command::Unlink => read_unlink(arguments),
-        Command::Rmdir => read_rmdir(arguments),
+        Command::Alter => {
+            let InodeChange {
+                client,
+                ino,
+                change,
+            } = read_inode_change(alloc, arguments)?;
+            Ok(Event::Alter {
+                client,
+                ino,
+                change,
+            })
+        }
+        Command::Unlink => {
+            let InodeOf { client, ino } = read_inode(arguments)?;
+            Ok(Event::Unlink { client, ino })
+        }
+        Command::Rmdir => {
+            let InodeOf { client, ino } = read_inode(arguments)?;
+            Ok(Event::Rmdir { client, ino })
+        }
         Command::Rename => read_rename(alloc, arguments),
-        Command::Flush => read_flush(alloc, arguments),
+        Command::Flush => {
+            let InodeChange {
+                client,
+                ino,
+                change,
+            } = read_inode_change(alloc, arguments)?;
+            Ok(Event::Flush {
+                client,
+                ino,
+                change,
+            })
+        }
         Command::Poll => read_poll(arguments),
     }
 }

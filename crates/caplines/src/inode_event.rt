@@ -4,7 +4,6 @@ ghost use Rattle.capbits.specs.declared.ids.ClientId.{ClientId as AClient};
 ghost use Rattle.capbits.specs.declared.ids.Ino.{Ino as AnIno};
 ghost use Rattle.lockmachine.specs.declared.request.Change.{Change as AChange};
 ghost use Rattle.capevents.specs.declared.event.Event.{Event as AnEvent};
-ghost use Rattle.capevents.specs.declared.event.Event.TheVariants as events;
 ghost use Rattle.caplines.specs.Events.{Tells, change_by, get_by, inode_by, rename_by};
 ghost use Rattle.caplines.specs.Faults.{IsRefused};
 
@@ -18,17 +17,17 @@ use std::alloc::Global;
 
 // An inode, and who asks.
 #[derive(Clone, Copy)]
-struct InodeOf {
-    client: ClientId,
-    ino: Ino,
+pub(crate) struct InodeOf {
+    pub(crate) client: ClientId,
+    pub(crate) ino: Ino,
 }
 
 // A change of an inode, and whose it is.
 #[derive(Drop)]
-struct InodeChange {
-    client: ClientId,
-    ino: Ino,
-    change: Change,
+pub(crate) struct InodeChange {
+    pub(crate) client: ClientId,
+    pub(crate) ino: Ino,
+    pub(crate) change: Change,
 }
 
 // A client, an inode and the part that it asks for.
@@ -44,41 +43,6 @@ pub(crate) fn read_get(arguments: &[&[u8]]) -> Result<Event, Refused>
     let ino = read_ino(ino)?;
     let part = read_part(part)?;
     Ok(Event::Get { client, ino, part })
-}
-
-// A client, an inode and how it changes.
-pub(crate) fn read_alter(alloc: Global, arguments: &[&[u8]]) -> Result<Event, Refused>
-    ensures { let said = change_by events.Alter (map (λ word. word.now) arguments.now) in
-        MatchResult result (Tells said) (IsRefused said) }
-{
-    let InodeChange {
-        client,
-        ino,
-        change,
-    } = read_inode_change(alloc, arguments)?;
-    Ok(Event::Alter {
-        client,
-        ino,
-        change,
-    })
-}
-
-// A client, and the file that it unlinks.
-pub(crate) fn read_unlink(arguments: &[&[u8]]) -> Result<Event, Refused>
-    ensures { let said = inode_by events.Unlink (map (λ word. word.now) arguments.now) in
-        MatchResult result (Tells said) (IsRefused said) }
-{
-    let InodeOf { client, ino } = read_inode(arguments)?;
-    Ok(Event::Unlink { client, ino })
-}
-
-// A client, and the directory that it removes.
-pub(crate) fn read_rmdir(arguments: &[&[u8]]) -> Result<Event, Refused>
-    ensures { let said = inode_by events.Rmdir (map (λ word. word.now) arguments.now) in
-        MatchResult result (Tells said) (IsRefused said) }
-{
-    let InodeOf { client, ino } = read_inode(arguments)?;
-    Ok(Event::Rmdir { client, ino })
 }
 
 // A client, an inode, the directory that it is to stand in, and its name there.
@@ -102,25 +66,8 @@ pub(crate) fn read_rename(alloc: Global, arguments: &[&[u8]]) -> Result<Event, R
     })
 }
 
-// A client, an inode and how it has changed it.
-pub(crate) fn read_flush(alloc: Global, arguments: &[&[u8]]) -> Result<Event, Refused>
-    ensures { let said = change_by events.Flush (map (λ word. word.now) arguments.now) in
-        MatchResult result (Tells said) (IsRefused said) }
-{
-    let InodeChange {
-        client,
-        ino,
-        change,
-    } = read_inode_change(alloc, arguments)?;
-    Ok(Event::Flush {
-        client,
-        ino,
-        change,
-    })
-}
-
 // A client and an inode, whichever event they are said for.
-fn read_inode(arguments: &[&[u8]]) -> Result<InodeOf, Refused>
+pub(crate) fn read_inode(arguments: &[&[u8]]) -> Result<InodeOf, Refused>
     ensures { (event : AClient → AnIno → AnEvent)
         → let said = inode_by event (map (λ word. word.now) arguments.now) in
         MatchResult result (λ of. Tells said (event of.client of.ino)) (IsRefused said) }
@@ -134,7 +81,7 @@ fn read_inode(arguments: &[&[u8]]) -> Result<InodeOf, Refused>
 }
 
 // A client, an inode and a change, whichever event they are said for. How many words there are is told before what they are.
-fn read_inode_change(alloc: Global, arguments: &[&[u8]]) -> Result<InodeChange, Refused>
+pub(crate) fn read_inode_change(alloc: Global, arguments: &[&[u8]]) -> Result<InodeChange, Refused>
     ensures { (event : AClient → AnIno → AChange → AnEvent)
         → let said = change_by event (map (λ word. word.now) arguments.now) in
         MatchResult result (λ of. Tells said (event of.client of.ino of.change)) (IsRefused said) }

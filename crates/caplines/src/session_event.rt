@@ -2,7 +2,6 @@
 ghost use Rattle.std.specs.Prelude.{map, MatchResult};
 ghost use Rattle.capbits.specs.declared.ids.ClientId.{ClientId as AClient};
 ghost use Rattle.capevents.specs.declared.event.Event.{Event as AnEvent};
-ghost use Rattle.capevents.specs.declared.event.Event.TheVariants as events;
 ghost use Rattle.caplines.specs.Events.{Tells, client_by, recall_by};
 ghost use Rattle.caplines.specs.Faults.{IsRefused};
 
@@ -10,51 +9,6 @@ use crate::fault::{LineFault, Refused};
 use crate::values::{read_client, read_number};
 use capbits::ClientId;
 use capevents::Event;
-
-// A client that ends its session.
-pub(crate) fn read_close(arguments: &[&[u8]]) -> Result<Event, Refused>
-    ensures { let said = client_by events.CloseSession (map (λ word. word.now) arguments.now) in
-        MatchResult result (Tells said) (IsRefused said) }
-{
-    let client = read_only_client(arguments)?;
-    Ok(Event::CloseSession { client })
-}
-
-// A client whose session is stale.
-pub(crate) fn read_stale(arguments: &[&[u8]]) -> Result<Event, Refused>
-    ensures { let said = client_by events.Stale (map (λ word. word.now) arguments.now) in
-        MatchResult result (Tells said) (IsRefused said) }
-{
-    let client = read_only_client(arguments)?;
-    Ok(Event::Stale { client })
-}
-
-// A client whose session is open again.
-pub(crate) fn read_renew(arguments: &[&[u8]]) -> Result<Event, Refused>
-    ensures { let said = client_by events.Renew (map (λ word. word.now) arguments.now) in
-        MatchResult result (Tells said) (IsRefused said) }
-{
-    let client = read_only_client(arguments)?;
-    Ok(Event::Renew { client })
-}
-
-// A client that is thrown out.
-pub(crate) fn read_evict(arguments: &[&[u8]]) -> Result<Event, Refused>
-    ensures { let said = client_by events.Evict (map (λ word. word.now) arguments.now) in
-        MatchResult result (Tells said) (IsRefused said) }
-{
-    let client = read_only_client(arguments)?;
-    Ok(Event::Evict { client })
-}
-
-// A client that comes off the blocklist.
-pub(crate) fn read_unblock(arguments: &[&[u8]]) -> Result<Event, Refused>
-    ensures { let said = client_by events.Unblock (map (λ word. word.now) arguments.now) in
-        MatchResult result (Tells said) (IsRefused said) }
-{
-    let client = read_only_client(arguments)?;
-    Ok(Event::Unblock { client })
-}
 
 // How many entries are asked for.
 pub(crate) fn read_recall(arguments: &[&[u8]]) -> Result<Event, Refused>
@@ -69,7 +23,7 @@ pub(crate) fn read_recall(arguments: &[&[u8]]) -> Result<Event, Refused>
 }
 
 // A client, whichever event it is said for.
-fn read_only_client(arguments: &[&[u8]]) -> Result<ClientId, Refused>
+pub(crate) fn read_only_client(arguments: &[&[u8]]) -> Result<ClientId, Refused>
     ensures { (event : AClient → AnEvent)
         → let said = client_by event (map (λ word. word.now) arguments.now) in
         MatchResult result (λ client. Tells said (event client)) (IsRefused said) }

@@ -1,7 +1,7 @@
 //! The values that single words write.
 ghost use Rattle.std.specs.Prelude.{◌≡◌, ◌^◌, IfOk, IfErr};
 ghost use Rattle.caplines.specs.declared.fault.LineFault.TheVariants as faults;
-ghost use Rattle.caplines.specs.Values.{number_below, number_in, client_in, ino_in, seq_in, mode_in, open_mode_in, part_in, groups_in, Spells, SpellsNone};
+ghost use Rattle.caplines.specs.Values.{number_below, number_in, client_in, ino_in, mode_in, open_mode_in, part_in, groups_in, Spells, SpellsNone};
 
 use crate::fault::LineFault;
 use capbits::{
@@ -28,13 +28,6 @@ pub(crate) fn read_ino(word: &[u8]) -> Result<Ino, LineFault>
     ensures { result ≡ ino_in word.now }
 {
     Ok(Ino(read_long_number(word)?))
-}
-
-// The number of a change, of 64 bits.
-pub(crate) fn read_seq(word: &[u8]) -> Result<u64, LineFault>
-    ensures { result ≡ seq_in word.now }
-{
-    read_long_number(word)
 }
 
 // The decimal number of 64 bits.

@@ -18,7 +18,7 @@ returns c =
     let start = c.args.text.now.items in
     let more = c.in-Some.more.now in
     c.loop-gid.invariant
-    ∙ ap (λ gids. c.print-2.new.text.items ++ flat_map further gids) (take_all c.loop-gid.gid-index more (omega arith))
-    ∙ ap (λ text. text ++ flat_map further more) c.in_ok-print.ensures
+    ∙ ap (λ gids. c.print_number.new.text.items ++ flat_map further gids) (take_all c.loop-gid.gid-index more (omega arith))
+    ∙ ap (λ text. text ++ flat_map further more) (c.in_ok-print_number.ensures ∙ ap (λ n. start ++ decimal n) c.from.ensures)
     ∙ append_assoc start (decimal c.in-Some.first.now) (flat_map further more)
     ∙ ap (λ gids. start ++ groups_text gids) (sym c.in-Some.ensures.cases.0 ∙ c.as_slice.ensures.value)

@@ -22,6 +22,6 @@ pub returns : goal.returns
 returns c =
     let start = c.into_iter-name-iterator.ensures.into_iter_gives ∙ c.iter-name-items.ensures in
     let whole = (iter_end deref_pair _ c.loop-name.yielded _ _ _ _ start c.loop-name.yielded_by c.in-None.is c.next.ensures.steps).0 in
-    let printed = c.in_ok-print.ensures ∙ ap (λ n. c.args.text.now.items ++ (codes "X " ++ decimal n)) c.len-count.ensures in
-    c.loop-name.invariant ∙ ap (λ all. c.print.new.text.items ++ flat_map attribute_text all) whole
+    let printed = c.in_ok-print_numbered.ensures ∙ append_assoc c.args.text.now.items (codes "X ") _ ∙ ap (λ n. c.args.text.now.items ++ (codes "X " ++ decimal n)) c.len-count.ensures in
+    c.loop-name.invariant ∙ ap (λ all. c.print_numbered.new.text.items ++ flat_map attribute_text all) whole
     ∙ ap (λ t. t ++ flat_map attribute_text (entries c.args.attributes.now)) printed ∙ append_assoc c.args.text.now.items _ _
