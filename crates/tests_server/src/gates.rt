@@ -1,7 +1,7 @@
 //! A gate at which each call gives way to the others: the calls of two clients alternate, and stand one behind the other.
 
 use crate::asserting::{holds, made, present, same};
-use crate::servers::{Numbers, count_numbered, numbers};
+use crate::rows::{Numbers, count_numbered, numbers};
 use capjobs::{read_plan, serve_plan};
 use capscript::MAX_SCRIPT;
 use capserver::Gate;
@@ -54,24 +54,11 @@ fn look_round(signs: &Signs) {
     }
 }
 
-// How many lines each of two clients has. They differ, so that it is seen which pass calls which of them.
-const LINES: [(&str, u32); 2] = [("poll 1 1\n", 20), ("poll 2 1\n", 19)];
-
-// Two clients, each with its lines behind the line `threads`.
+// Two clients, each with its lines behind the line `threads`: 20 and 19 of them, so that it is seen which pass calls which.
 fn two_clients(alloc: Global) -> Result<String, AllocError> {
-    let mut script = String::new(alloc);
-    script.push_str("threads\n")?;
-    for (line, count) in LINES {
-        add_lines(&mut script, line, count)?;
-    }
-    Ok(script)
-}
-
-fn add_lines(script: &mut String, line: &str, count: u32) -> Result<(), AllocError> {
-    for _ in 0..count {
-        script.push_str(line)?;
-    }
-    Ok(())
+    let one = "poll 1 1\n".repeat(alloc, 20)?;
+    let two = "poll 2 1\n".repeat(alloc, 19)?;
+    format!(in alloc; "threads\n{one}{two}")
 }
 
 // The rows of a script whose calls are slow.

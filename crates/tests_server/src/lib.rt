@@ -7,12 +7,18 @@
 #[cfg(test)]
 mod asserting;
 #[cfg(test)]
+mod calls;
+#[cfg(test)]
 mod gates;
 #[cfg(test)]
-mod held_questions;
+mod holding;
 #[cfg(test)]
 mod passes;
 #[cfg(test)]
 mod questions;
 #[cfg(test)]
+mod rows;
+#[cfg(test)]
 mod servers;
+#[cfg(test)]
+mod threads;

@@ -1,172 +1,21 @@
 //! Questions on policy beside the lock: what they answer after a call that is fresh, and while another one is held.
-ghost use Rattle.std.specs.Prelude.{◌≡◌};
-ghost use Rattle.capserver.specs.Opened.{opened};
 
-use crate::asserting::{holds, same};
-use crate::servers::{MANY_ROWS, opening};
-use capbits::{ClientId, Ino};
-use capcore::{Reply, Stop};
-use capgrant::{Access, Verdict};
-use capscript::read_line;
-use capserver::{
-    Answer, CapServer, Gate, NoGate, Opening, Pass, Question, Server, StartFault, Unknown,
-};
-use std::alloc::Global;
-use std::marker::Brand;
+use crate::asserting::holds;
+use crate::calls::Turn;
+use crate::calls::Turn::{Call, Make, Read};
+use crate::servers::{MANY_ROWS, Work, rows_by};
 use std::process::Abort;
 use std::sync::Wait;
-use std::sync::ledger::Blank;
-
-// What is done by one pass.
-#[derive(Clone, Copy)]
-enum Turn {
-    // Calls the event that a line says.
-    Call(&'static str),
-    // Calls it until it is answered, be it fresh or not.
-    Make(&'static str),
-    // Asks whether a client may read an inode.
-    Read(u32, u64),
-}
-
-use Turn::*;
-
-// What is done, with what comes of each turn, and in short what it shows.
-type Case = (&'static str, &'static [(Turn, &'static str)]);
-
-// So often an event is called that finds no memory.
-const TRIES: u32 = 3;
-
-// What came of a call: `fresh`, or why it isn't.
-fn called(answer: &Answer) -> &'static str {
-    match &answer.reply {
-        Reply::Denied { .. } | Reply::Refused(_) | Reply::OutOfMemory => "stopped",
-        Reply::Waiting(_) => "waits",
-        _ if answer.fresh => "fresh",
-        _ => "answered",
-    }
-}
-
-/// Calls the event that a line says.
-pub fn call_line<G: Gate, L: Server, R: Wait>(
-    rt: &R,
-    alloc: Global,
-    server: &CapServer<G, L>,
-    pass: &mut Pass<L>,
-    line: &str,
-) -> &'static str {
-    match read_line(alloc, 1, line.as_bytes()) {
-        Ok(Some((_, event))) => match server.call(rt, pass, event) {
-            Ok(answer) => called(&answer),
-            Err(Stop::NoMemory) => "no memory",
-            Err(Stop::Full) => "full",
-        },
-        _ => "no event",
-    }
-}
-
-/// Asks whether a client may read an inode.
-pub fn ask_read<G: Gate, L: Server>(
-    server: &CapServer<G, L>,
-    pass: &mut Pass<L>,
-    client: u32,
-    ino: u64,
-) -> &'static str {
-    let question = Question {
-        client: ClientId(client),
-        ino: Ino(ino),
-        access: Access::Read,
-    };
-    match server.explain(pass, &question) {
-        Ok(Verdict::Allowed { .. }) => "allowed",
-        Ok(Verdict::Denied { rules }) => match rules.as_slice().first() {
-            Some(rule) => rule.word(),
-            None => "no grants",
-        },
-        Err(Unknown::NoSession) => "no session",
-        Err(Unknown::NoIno) => "no inode",
-        Err(Unknown::Gone) => "gone",
-        Err(Unknown::NoView) => "no view",
-    }
-}
-
-// Calls the event that a line says until it is answered: memory may be missing once.
-fn make<G: Gate, L: Server, R: Wait>(
-    rt: &R,
-    alloc: Global,
-    server: &CapServer<G, L>,
-    pass: &mut Pass<L>,
-    line: &str,
-) -> &'static str {
-    for _ in 0..TRIES {
-        if call_line(rt, alloc, server, pass, line) != "no memory" {
-            return "made";
-        }
-    }
-    "no memory"
-}
-
-// Takes the turns, and sees that each comes out as it is to.
-fn take_turns<G: Gate, L: Server, R: Abort + Wait>(
-    rt: &R,
-    alloc: Global,
-    server: &CapServer<G, L>,
-    pass: &mut Pass<L>,
-    (title, turns): Case,
-) {
-    for (nth, (turn, want)) in turns.iter().enumerate() {
-        let came = match turn {
-            Call(line) => call_line(rt, alloc, server, pass, line),
-            Make(line) => make(rt, alloc, server, pass, line),
-            Read(client, ino) => ask_read(server, pass, *client, *ino),
-        };
-        same(rt, came, *want, (title, nth));
-    }
-}
-
-// Takes the turns by the first of the passes, and ends the server.
-fn served<L: Server, R: Abort + Wait>(
-    rt: &R,
-    alloc: Global,
-    opening: Opening,
-    blank: Blank,
-    count: u32,
-    case: Case,
-) -> Result<(), StartFault>
-    requires opening { opening ≡ opened L.opening L.max_rows L.history }
-    requires name { blank.name ≡ L.name }
-    requires parts { (blank.parts ≡ L.parts) × (L.parts ≡ 32) }
-    requires passes { count ≡ L.passes }
-{
-    let (server, mut passes) = CapServer::<NoGate, L>::start(rt, opening, blank, count, NoGate)?;
-    match passes.first_mut() {
-        Some(pass) => take_turns(rt, alloc, &server, pass, case),
-        None => holds(rt, false, case.0),
-    }
-    let closed = server.close(rt, passes);
-    drop(closed);
-    Ok(())
-}
-
-// Takes the turns by one pass of a server on a root alone, whose history takes so many rows.
-fn told_by<R: AllocGlobal + Abort + Wait>(
-    rt: &R,
-    max_rows: u32,
-    case: Case,
-) -> Result<(), StartFault> {
-    let Ok(opening) = opening(rt.alloc(), max_rows) else {
-        return Err(StartFault::NoMemory);
-    };
-    served::<Brand, R>(rt, rt.alloc(), opening, Blank::new(32), 2, case)
-}
+use std::thread::Threads;
 
 // Sees that each turn comes out as it is to.
-fn comes_out<R: AllocGlobal + Abort + Wait>(
+fn comes_out<R: AllocGlobal + Abort + Threads + Wait + Sync>(
     rt: &R,
     max_rows: u32,
     title: &'static str,
     turns: &'static [(Turn, &'static str)],
 ) {
-    let told = told_by(rt, max_rows, (title, turns));
+    let told = rows_by(rt, max_rows, 2, Work::Turns((title, turns)));
     holds(rt, told.is_ok(), title);
 }
 
@@ -265,4 +114,10 @@ fn a_full_history_leaves_what_is_published(rt: HostRuntime) {
 #[test]
 fn what_was_refused_comes_with_the_next(rt: HostRuntime) {
     comes_out(&rt, MANY_ROWS, "a directory had a snapshot", SNAPSHOT);
+}
+
+#[test]
+fn a_question_is_answered_beside_a_held_call(rt: HostRuntime) {
+    let told = rows_by(&rt, MANY_ROWS, 2, Work::Beside);
+    holds(&rt, told.is_ok(), "start");
 }

@@ -1,48 +1,78 @@
-//! Servers in tests: what they begin with, and the rows that they leave, which are seen as numbers.
+//! The servers of the tests: one function owns each, has something done at it, and closes it.
+ghost use Rattle.std.specs.Prelude.{◌≡◌};
+ghost use Rattle.capserver.specs.Opened.{opened};
 
-use capcore::{Reply, Row};
+use crate::asserting::made;
+use crate::calls::{Case, take_turns};
+use crate::holding::{Hold, Signs, ask_beside, open_gate};
+use crate::rows::{Numbers, numbers};
+use crate::threads::make_all;
 use capscript::file_system;
-use capserver::Opening;
+use capserver::{CapServer, Opening, Server, StartFault};
 use std::alloc::{AllocError, Global};
+use std::marker::Brand;
+use std::process::Abort;
+use std::sync::ledger::Blank;
+use std::sync::{Arc, Wait};
+use std::thread::Threads;
 
 /// How many rows the history of a server in a test may have, where that doesn't matter.
 pub const MANY_ROWS: u32 = 1000;
 
-/// An opening on a root alone, for a history of at most so many rows.
-pub fn opening(alloc: Global, max_rows: u32) -> Result<Opening, AllocError> {
+/// What is done at a server.
+#[derive(Clone, Copy)]
+pub enum Work {
+    /// Its first pass takes turns.
+    Turns(Case),
+    /// Each pass makes files, in a thread of its own.
+    Files,
+    /// The first pass asks while a call of the second is held.
+    Beside,
+}
+
+// An opening on a root alone, for a history of at most so many rows.
+fn opening(alloc: Global, max_rows: u32) -> Result<Opening, AllocError> {
     let (fs, tree) = file_system(alloc)?;
     Opening::new(alloc, fs, tree, max_rows)
 }
 
-/// The numbers of a row: its pass, its number there, and the inode that was answered, or 0.
-pub type Numbers = (u32, u64, u64);
-
-fn numbers_of(row: &Row) -> Numbers {
-    match &row.reply {
-        Reply::Ino(ino) => (row.pass.0, row.nth, ino.0),
-        _ => (row.pass.0, row.nth, 0),
-    }
+// Serves with so many passes, and answers the rows.
+fn served<L: Server + Send + Sync, R: Abort + Threads + Wait + Sync>(
+    rt: &R,
+    alloc: Global,
+    opening: Opening,
+    blank: Blank,
+    count: u32,
+    held: (Hold, Arc<Signs, Global>),
+    work: Work,
+) -> Result<Vec<Numbers>, StartFault>
+    requires opening { opening ≡ opened L.opening L.max_rows L.history }
+    requires name { blank.name ≡ L.name }
+    requires parts { (blank.parts ≡ L.parts) × (L.parts ≡ 32) }
+    requires passes { count ≡ L.passes }
+{
+    let (gate, signs) = held;
+    let (server, passes) = CapServer::<Hold, L>::start(rt, opening, blank, count, gate)?;
+    let back = match work {
+        Work::Turns(case) => take_turns(rt, alloc, &server, passes, case),
+        Work::Files => make_all(rt, alloc, &server, passes),
+        Work::Beside => ask_beside(rt, alloc, &server, &signs, passes),
+    };
+    let closed = server.close(rt, back);
+    let rows = made(rt, numbers(alloc, closed.core.history()), "rows");
+    drop(closed);
+    Ok(rows)
 }
 
-/// The numbers of each row.
-pub fn numbers(alloc: Global, rows: &[Row]) -> Result<Vec<Numbers>, AllocError> {
-    let mut all = Vec::new(alloc);
-    for row in rows {
-        all.push(numbers_of(row))?;
-    }
-    Ok(all)
-}
-
-/// How many rows are those of a pass, where these are numbered 1, 2, 3 and so on.
-pub fn count_numbered(rows: &[Numbers], pass: u32) -> Option<u64> {
-    let mut count = 0u64;
-    for row in rows {
-        if row.0 == pass {
-            count = count.checked_add(1)?;
-            if row.1 != count {
-                return None;
-            }
-        }
-    }
-    Some(count)
+/// The rows of a server on a root alone, with so many passes and a history of so many rows, when this was done.
+pub fn rows_by<R: AllocGlobal + Abort + Threads + Wait + Sync>(
+    rt: &R,
+    max_rows: u32,
+    count: u32,
+    work: Work,
+) -> Result<Vec<Numbers>, StartFault> {
+    let (Ok(opening), Ok(held)) = (opening(rt.alloc(), max_rows), open_gate(rt.alloc())) else {
+        return Err(StartFault::NoMemory);
+    };
+    served::<Brand, R>(rt, rt.alloc(), opening, Blank::new(32), count, held, work)
 }
