@@ -18,7 +18,7 @@ use Rattle.captable.proofs.Searches.{find_passes}
 use Rattle.captable.proofs.Tables.{same-is}
 use Rattle.lockmachine.specs.Scene.{Scene, told_set}
 use Rattle.lockmachine.proofs.Told.{told-less}
-use Rattle.capsteps.specs.Known.{known_in, HasAll, OthersHaveAll, kept_anew, KeptAnew}
+use Rattle.capacts.specs.Known.{known_in, HasAll, OthersHaveAll, kept_anew, KeptAnew}
 use Rattle.capsteps.specs.Touching.{told_then, finished_entry}
 use Rattle.capsteps.proofs.Finishing.{same-issue_row, same-renumbered}
 

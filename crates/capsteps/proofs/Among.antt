@@ -9,7 +9,8 @@ use Rattle.lockmachine.specs.Moves.{IsQuietOutside}
 use Rattle.lockmachine.specs.Scene.{Scene}
 use Rattle.capevents.specs.declared.outcome.Ended.{Ended}
 use Rattle.capnotes.specs.InoSets.{InoSet}
-use Rattle.capsteps.specs.Serves.{EndsWith, is_touched}
+use Rattle.capacts.specs.Reach.{is_touched}
+use Rattle.capsteps.specs.Serves.{EndsWith}
 
 or_true : (a b : Bool) → a || b ≡ true → (a ≡ true) ⊎ (b ≡ true)
 or_true true b is = inl refl

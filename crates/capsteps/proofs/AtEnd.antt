@@ -1,7 +1,7 @@
 -- The end of a step: the entries on an inode one by one, and all inodes that it touched.
 use Rattle.std.proofs.Common.{◌≡◌, ℕ, zero, suc, ◌<◌, Bool, true, false, cond, ◌||◌, Option, Some, None, List, [], ◌∷◌, length, filter, take, get_or, refl, sym, ap, ◌∙◌, arith, eq-eqb, true≢false}
 use Rattle.std.specs.Prelude.{All, IfSome, ◌==◌}
-use Rattle.std.specs.List.{find, list_any, fold, AllByRecursion, IsDistinct}
+use Rattle.std.specs.List.{find, fold, AllByRecursion, IsDistinct}
 use Rattle.std.specs.FinMap as map
 use Rattle.std.specs.FinSet as set
 use Rattle.std.proofs.lemmas.List.Elements.{All-contains, All-from_recursion, recursion_from_All}
@@ -23,24 +23,12 @@ use Rattle.captable.proofs.Searches.{find_passes}
 use Rattle.lockmachine.specs.declared.states.InodeLocks.{InodeLocks}
 use Rattle.lockmachine.specs.Inodes.{StateMap}
 use Rattle.lockmachine.specs.Scene.{Scene}
-use Rattle.capsteps.specs.Finishing.{due_under, told_at, numbered_as, entry_under, entry_by}
+use Rattle.capacts.specs.Finishing.{due_under, told_at, numbered_as, entry_under, entry_by}
 use Rattle.capnotes.specs.InoSets.{InoSet}
 use Rattle.capsteps.specs.Touching.{forget_at, forget_among}
-use Rattle.capsteps.specs.Serves.{is_touched}
+use Rattle.capacts.specs.Reach.{is_touched}
 use Rattle.capsteps.proofs.Leaving.{found-contains}
 use Rattle.capsteps.proofs.Strays.{forget-one, forget-twice, forget-same}
-
--- ---- who has an entry
-
-pub some-pass : {X : Type 0} (p : X → Bool) (xs : List X) (y : X) (ys : List X) → filter p xs ≡ y ∷ ys → list_any p xs ≡ true
-some-pass p [] y ys is = absurd (cc)
-some-pass p (x ∷ xs) y ys is =
-    elim (p x) as (λ b. cond b (x ∷ filter p xs) (filter p xs) ≡ y ∷ ys → (b || list_any p xs) ≡ true) [ true ↦ λ is. refl | false ↦ λ is. some-pass p xs y ys is ] is
-
-pub none-pass : {X : Type 0} (p : X → Bool) (xs : List X) → filter p xs ≡ [] → list_any p xs ≡ false
-none-pass p [] is = refl
-none-pass p (x ∷ xs) is =
-    elim (p x) as (λ b. cond b (x ∷ filter p xs) (filter p xs) ≡ [] → (b || list_any p xs) ≡ false) [ true ↦ λ is. absurd (cc) | false ↦ λ is. none-pass p xs is ] is
 
 -- ---- one entry
 

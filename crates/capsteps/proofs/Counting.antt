@@ -21,7 +21,7 @@ use Rattle.captable.specs.Table.{Table, IsTable, same, holder, holders_of_rows}
 use Rattle.captable.specs.Calls.{is_of_inode, entries_on}
 use Rattle.captable.proofs.Tables.{same_equiv, holders-filter, distinct-filter}
 use Rattle.lockmachine.proofs.Rest.{same_key}
-use Rattle.capsteps.specs.Finishing.{clients_of}
+use Rattle.capacts.specs.Finishing.{clients_of}
 
 -- ---- keys of a map
 

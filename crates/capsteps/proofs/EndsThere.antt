@@ -31,13 +31,14 @@ use Rattle.lockmachine.specs.Inodes.{lock_in}
 use Rattle.lockmachine.proofs.PolicyElsewhere.{permitted-kept, want-kept}
 use Rattle.lockmachine.proofs.Told.{told-same}
 use Rattle.capsteps.specs.State.{State}
-use Rattle.capsteps.specs.Finish.{allowed_by, due, issue_row, issue, is_kept, forget, told_before, number_row, finished}
+use Rattle.capacts.specs.Finish.{allowed_by, due, issue_row, issue, is_kept, forget, told_before, number_row, finished}
 use Rattle.capsteps.specs.Headline.{holds, IssuesExactly}
 use Rattle.capsteps.specs.Sound.{IsSound, IsSoundEntry}
 use Rattle.capsteps.specs.Settle.{Made}
 use Rattle.capsteps.specs.Touching.{Touches, SettlesAt, Knows, stays, told_then, finished_entry, finished_at}
-use Rattle.capsteps.specs.Known.{AreKnown, kept_anew, KeptAnew}
-use Rattle.capsteps.proofs.Finishing.{same-issue_row, same-renumbered, or_inside, kept_by}
+use Rattle.capacts.specs.Known.{AreKnown, kept_anew, KeptAnew}
+use Rattle.capacts.proofs.Held.{or_inside}
+use Rattle.capsteps.proofs.Finishing.{same-issue_row, same-renumbered, kept_by}
 use Rattle.capsteps.proofs.Forgotten.{due-left}
 use Rattle.capsteps.proofs.Leaving.{found-contains}
 use Rattle.capsteps.proofs.Moved.{moved-all}

@@ -1,6 +1,6 @@
 -- In a sound state the end of a step changes nothing.
 use Rattle.std.proofs.Common.{◌≡◌, ℕ, suc, Bool, true, false, cond, not, ◌&&◌, ◌||◌, Some, None, List, [], ◌∷◌, refl, sym, ap, ◌∙◌, Contains, arith}
-use Rattle.std.specs.Prelude.{IsTrue, map}
+use Rattle.std.specs.Prelude.{map}
 use Rattle.std.specs.List.{find}
 use Rattle.std.specs.Cmp.{nat_cmp_total}
 use Rattle.std.specs.Ordering.{nat_cmp}
@@ -20,9 +20,10 @@ use Rattle.captable.specs.Calls.{renumbered}
 use Rattle.captable.proofs.ByHolder.{row_found}
 use Rattle.lockmachine.specs.Scene.{Scene, told_set}
 use Rattle.lockmachine.proofs.Exact.{settled}
+use Rattle.capacts.proofs.Held.{or_inside}
 use Rattle.capsteps.specs.State.{State}
 use Rattle.capsteps.specs.Settle.{Settles}
-use Rattle.capsteps.specs.Finish.{sizes_owed, due, issue_row, issue, is_kept, forget, told_before, number_row, number, finished}
+use Rattle.capacts.specs.Finish.{sizes_owed, due, issue_row, issue, is_kept, forget, told_before, number_row, number, finished}
 use Rattle.capsteps.specs.Sound.{IsSound, IsSoundEntry}
 
 -- ---- lists of rows that stay
@@ -41,11 +42,6 @@ unfolding with_rows
 none-sized s = ap (with_rows s) (same_rows (λ row. row) s.table.rows (λ row inside. refl))
 
 -- ---- issue
-
-pub or_inside : (h d : Bool) → (IsTrue d → IsTrue h) → (h || d) ≡ h
-or_inside true d e = refl
-or_inside false false e = refl
-or_inside false true e = sym (e refl)
 
 -- who has all that is due gains nothing
 pub same-issue_row : (s : Scene) (row : EntryRow) → IsSubset (due s row) row.entry.held → issue_row s row ≡ row

@@ -28,7 +28,7 @@ use Rattle.lockmachine.specs.Rows.{IsInRowOf, IsInRow}
 use Rattle.lockmachine.proofs.PolicyElsewhere.{want-kept, wants-kept}
 use Rattle.capsteps.specs.State.{State}
 use Rattle.capsteps.specs.Direct.{with_scene}
-use Rattle.capsteps.specs.Finish.{allowed_by, due, is_kept}
+use Rattle.capacts.specs.Finish.{allowed_by, due, is_kept}
 use Rattle.capsteps.specs.Sound.{IsSoundEntry, IsSound}
 use Rattle.capsteps.specs.Touching.{stays, forget_among}
 use Rattle.capsteps.proofs.Leaving.{found-contains}

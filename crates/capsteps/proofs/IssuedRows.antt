@@ -26,9 +26,9 @@ use Rattle.lockmachine.specs.Policy.{permitted}
 use Rattle.lockmachine.specs.Wants.{effective_want}
 use Rattle.lockmachine.specs.Scene.{Scene, outside, told_set}
 use Rattle.lockmachine.specs.Rows.{IsInRowOf, IsInRow}
-use Rattle.capsteps.specs.Finish.{allowed_by, allowed_part, allowed_to, due, issue_row}
+use Rattle.capacts.specs.Finish.{allowed_by, allowed_part, allowed_to, due, issue_row}
 use Rattle.capsteps.specs.Touching.{finished_entry}
-use Rattle.capsteps.proofs.Placed.{second_true}
+use Rattle.capacts.proofs.Walked.{second_true}
 
 either : (a b : Bool) → (a || b) ≡ true → (a ≡ true) ⊎ (b ≡ true)
 either true b e = inl refl

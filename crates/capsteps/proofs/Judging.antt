@@ -5,12 +5,12 @@ use Rattle.lockmachine.specs.Scene.{Scene}
 use Rattle.capevents.specs.declared.event.Event.{Event}
 use Rattle.capbits.specs.declared.refusal.Refusal.{Refusal}
 use Rattle.capevents.specs.declared.reply.Reply.{Reply}
-use Rattle.capsteps.specs.declared.stopped.Stopped.{Stopped}
-use Rattle.capsteps.specs.declared.stopped.Stopped.TheVariants.{ByTest}
+use Rattle.capacts.specs.declared.stopped.Stopped.{Stopped}
+use Rattle.capacts.specs.declared.stopped.Stopped.TheVariants.{ByTest}
 use Rattle.capsteps.specs.State.{State}
 use Rattle.capbits.specs.Refusal.{Test, first_failing}
-use Rattle.capsteps.specs.Judge.{stop, stop_by, stop_reply, first_denied, judged}
-use Rattle.capsteps.specs.Needs.{Need}
+use Rattle.capacts.specs.Judge.{stop, stop_by, stop_reply, first_denied, judged}
+use Rattle.capacts.specs.Needs.{Need}
 use Rattle.capsteps.specs.Direct.{Says, effect, effect_unless, IsDirect}
 
 stop_by-stopped : (s : Scene) (o : Option Refusal) (d : Option Need) (l : Option Refusal) (r : Stopped) → stop_by s o d None ≡ Some r → stop_by s o d l ≡ Some r

@@ -15,8 +15,8 @@ use Rattle.captable.proofs.Searches.{find-map}
 use Rattle.lockmachine.specs.Scene.{Scene, told_set}
 use Rattle.lockmachine.specs.Told.{is_taken}
 use Rattle.lockmachine.proofs.Told.{has-against, has-told, told-less}
-use Rattle.capsteps.specs.Judge.{revoked_of}
-use Rattle.capsteps.specs.Known.{known_in, AreKnown, HaveRoom, is_still_kept, StillKept}
+use Rattle.capacts.specs.Judge.{revoked_of}
+use Rattle.capacts.specs.Known.{known_in, AreKnown, HaveRoom, is_still_kept, StillKept}
 use Rattle.capsteps.specs.Touching.{Knows}
 use Rattle.capsteps.proofs.Revoking.{revoked-found}
 use Rattle.capsteps.proofs.ShownSteps.{told-held}

@@ -35,10 +35,10 @@ use Rattle.lockmachine.specs.Scene.{Scene, rows_on, loner, wanted, against, told
 use Rattle.lockmachine.specs.Moves.{IsQuiet}
 use Rattle.lockmachine.proofs.PolicyElsewhere.{wants-kept}
 use Rattle.capsteps.specs.State.{State}
-use Rattle.capsteps.specs.Known.{AreKnown}
+use Rattle.capacts.specs.Known.{AreKnown}
 use Rattle.capsteps.specs.Direct.{with_scene}
-use Rattle.capsteps.specs.Finish.{due, finished}
-use Rattle.capsteps.specs.Finishing.{against_under, allowed_under}
+use Rattle.capacts.specs.Finish.{due, finished}
+use Rattle.capacts.specs.Finishing.{against_under, allowed_under}
 use Rattle.capsteps.specs.Headline.{IsInPlace}
 use Rattle.capsteps.specs.Sound.{IsSoundEntry, IsSound}
 use Rattle.capsteps.specs.Leaving.{with_parts, LeavesEntries}

@@ -19,8 +19,8 @@ use Rattle.captable.specs.Calls.{is_of_inode, entries_on}
 use Rattle.captable.specs.Many.{changed_where, remade}
 use Rattle.captable.proofs.OneByOne.{same_holder}
 use Rattle.capnotes.specs.InoSets.{InoSet, IsListOf}
-use Rattle.capsteps.specs.Known.{KeptAnew}
-use Rattle.capsteps.proofs.KeptSets.{kept-nobody, kept-same, kept-then, kept-not, found-stays}
+use Rattle.capacts.specs.Known.{KeptAnew}
+use Rattle.capacts.proofs.KeptSets.{kept-nobody, kept-same, kept-then, kept-not, found-stays}
 
 -- the same number
 abbrev pub same_number : ℕ → ℕ → Bool

@@ -31,7 +31,7 @@ use Rattle.lockmachine.proofs.Queue.{moved-kept}
 use Rattle.capevents.specs.declared.outcome.Outcome.{Outcome}
 use Rattle.capevents.specs.declared.outcome.Outcome.TheVariants as outcome
 use Rattle.capevents.specs.declared.outcome.Ended.{Ended}
-use Rattle.capsteps.specs.Serving.{served}
+use Rattle.capacts.specs.Serving.{served}
 use Rattle.capnotes.specs.Changing.{tree_with, tree_after}
 use Rattle.capsteps.specs.Settle.{Made, Began, Gathered, Served, Makes, MakesAll, ended_in}
 use Rattle.capsteps.proofs.Leaving.{found-contains}

@@ -15,10 +15,11 @@ use Rattle.lockmachine.specs.Locks.{LockMap}
 use Rattle.lockmachine.specs.Policy.{permitted}
 use Rattle.lockmachine.specs.Scene.{Scene, scene}
 use Rattle.capevents.specs.declared.outcome.Ended.{Ended}
-use Rattle.capsteps.specs.Finishing.{due_under, told_under}
+use Rattle.capacts.specs.Finishing.{due_under, told_under}
 use Rattle.capnotes.specs.InoSets.{InoSet, IsNext}
-use Rattle.capsteps.specs.Known.{OthersHaveAll}
-use Rattle.capsteps.specs.Serves.{SettlesWith, EndsAt, EndsWith, is_touched}
+use Rattle.capacts.specs.Known.{OthersHaveAll}
+use Rattle.capacts.specs.Reach.{is_touched}
+use Rattle.capsteps.specs.Serves.{SettlesWith, EndsAt, EndsWith}
 use Rattle.capsteps.specs.Settle.{Made, Began, Gathered, Served, MakesAll, ended_in, sized_in}
 use Rattle.capsteps.proofs.SameOff.{off-wider}
 

@@ -13,8 +13,8 @@ use Rattle.capview.specs.declared.change.ViewChange.{ViewChange}
 use Rattle.capview.specs.declared.change.ViewChange.TheVariants as change
 use Rattle.capview.specs.Changes.{AreChanges}
 use Rattle.capview.proofs.Likeness.{guests-unseen, shows-sessions}
-use Rattle.capsteps.specs.declared.client.Turn.{Turn}
-use Rattle.capsteps.specs.declared.client.Turn.TheVariants.{Close, Stale, Renew, Regrant, Evict}
+use Rattle.capacts.specs.declared.leaving.Turn.{Turn}
+use Rattle.capacts.specs.declared.leaving.Turn.TheVariants.{Close, Stale, Renew, Regrant, Evict}
 use Rattle.capnotes.specs.Noted.{view}
 use Rattle.capnotes.proofs.Noting.{changes-one, changes-unseen}
 use Rattle.capsteps.specs.Turn.{Notes, turned_sessions}

@@ -22,11 +22,11 @@ use Rattle.lockmachine.specs.Scene.{Scene}
 use Rattle.lockmachine.proofs.PolicyElsewhere.{alike-itself}
 use Rattle.capevents.specs.declared.outcome.Outcome.{Outcome}
 use Rattle.capevents.specs.declared.outcome.Outcome.TheVariants as outcome
-use Rattle.capsteps.specs.Serving.{MayEndAs}
+use Rattle.capacts.specs.Serving.{MayEndAs}
 use Rattle.capnotes.specs.Changing.{tree_after, tree_with, tree_changed}
-use Rattle.capsteps.specs.Asks.{ask_before, ask_needs, ask_after, change_tests}
-use Rattle.capsteps.specs.Served.{is_rename}
-use Rattle.capsteps.proofs.Again.{leaves-or-makes, passed-all}
+use Rattle.capacts.specs.Asks.{ask_before, ask_needs, ask_after, change_tests}
+use Rattle.capacts.specs.Served.{is_rename}
+use Rattle.capacts.proofs.Again.{leaves-or-makes, passed-all}
 
 -- ---- whatever is asked for
 

@@ -19,11 +19,8 @@ use Rattle.lockmachine.specs.Locks.{lock_at}
 use Rattle.lockmachine.specs.Scene.{Scene, outside, against_lock, against_part, against_locks, against_policy, against, told_set}
 use Rattle.lockmachine.specs.Rows.{IsInRowOf, IsInRow}
 use Rattle.lockmachine.specs.Policy.{permitted}
+use Rattle.capacts.proofs.Walked.{second_true}
 use Rattle.capsteps.specs.Headline.{IsTakenBack, IsInPlace, AreRevoked}
-
-pub second_true : (a b : Bool) → b ≡ true → (a || b) ≡ true
-second_true true b e = refl
-second_true false b e = e
 
 -- a row that passes two tests is found by both
 pub any_found : (p q : EntryRow → Bool) (rows : List EntryRow) (row : EntryRow) → Contains rows row → p row ≡ true → q row ≡ true → list_any q (filter p rows) ≡ true

@@ -7,7 +7,7 @@ use Rattle.std.specs.FinMap as finite
 use Rattle.std.specs.HashMap.{HashMap}
 use Rattle.std.specs.Option.{unwrap_or}
 use Rattle.capbits.specs.Sets.{no_caps}
-use Rattle.capsteps.specs.Known.{known_in, AreKnown}
+use Rattle.capacts.specs.Known.{known_in, AreKnown}
 use Rattle.std.proofs.lemmas.Bool.{or_parts}
 use Rattle.std.proofs.lemmas.List.{take-append-le, take_all}
 use Rattle.std.proofs.lemmas.List.Folds.{list_any-append}

@@ -3,10 +3,9 @@ use Rattle.std.proofs.Common.{◌≡◌, ℕ, Bool, true, false, ◌⊎◌, inl,
 use Rattle.std.specs.FinSet as set
 use Rattle.captable.specs.declared.entry.EntryRow.{EntryRow}
 use Rattle.capnotes.specs.InoSets.{InoSet}
-use Rattle.capsteps.specs.Serves.{is_touched}
-use Rattle.capsteps.specs.Sweep.{Widens}
+use Rattle.capacts.specs.Reach.{is_touched, Widens}
 use Rattle.capsteps.proofs.Among.{more-touched, other-touched}
-use Rattle.capsteps.proofs.InoSets.{none-there, added}
+use Rattle.capacts.proofs.InoSets.{none-there, added}
 
 pub touched-still : (ino : ℕ) (a b : InoSet) → Widens ino a b → (other : ℕ) → is_touched ino a other ≡ true → is_touched ino b other ≡ true
 touched-still ino a b widens = more-touched ino a b widens.stay

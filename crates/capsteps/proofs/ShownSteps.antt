@@ -38,12 +38,12 @@ use Rattle.capevents.specs.declared.outcome.Message.{Message}
 use Rattle.capevents.specs.declared.outcome.Message.TheVariants as message
 use Rattle.capevents.specs.declared.reply.Reply.{Reply}
 use Rattle.capevents.specs.declared.reply.Reply.TheVariants as reply
-use Rattle.capsteps.specs.declared.stopped.Stopped.{Stopped}
-use Rattle.capsteps.specs.declared.stopped.Stopped.TheVariants.{ByPolicy, ByTest}
+use Rattle.capacts.specs.declared.stopped.Stopped.{Stopped}
+use Rattle.capacts.specs.declared.stopped.Stopped.TheVariants.{ByPolicy, ByTest}
 use Rattle.capsteps.specs.State.{State}
 use Rattle.capsteps.specs.Direct.{Direct, Shows, Gives, direct, effect, effect_unless, with_entry, with_opening, with_wanted, reply_of, shown, found, opened_as}
-use Rattle.capsteps.specs.Finish.{is_sized, owed, sizes_owed, due, issue_row, issue, forget, told_before, number_row}
-use Rattle.capsteps.specs.Judge.{judged, stop_reply, revoked_of}
+use Rattle.capacts.specs.Finish.{is_sized, owed, sizes_owed, due, issue_row, issue, forget, told_before, number_row}
+use Rattle.capacts.specs.Judge.{judged, stop_reply, revoked_of}
 use Rattle.capsteps.specs.Messages.{first_messages, messages_to, after_messages, row_messages, caps_messages, size_message, size_messages, recall_messages, end_message, end_messages, is_caps_of, is_size_of, is_recall_of, told_if, sized_if, unasked_if}
 use Rattle.capnotes.specs.Untold.{is_to}
 use Rattle.capsteps.specs.Settle.{Made, Settles, ended_in, sized_in}

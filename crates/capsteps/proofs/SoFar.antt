@@ -31,12 +31,13 @@ use Rattle.lockmachine.proofs.Turns.{served-ends, ends-turn}
 use Rattle.lockmachine.proofs.Waiting.{quiet-waits-at, waits-wider, waits-less-at, served-at}
 use Rattle.capevents.specs.declared.outcome.Ended.{Ended}
 use Rattle.capnotes.specs.InoSets.{InoSet}
-use Rattle.capsteps.specs.declared.settle.SweepPlace.{SweepPlace}
-use Rattle.capsteps.specs.Served.{is_rename}
-use Rattle.capsteps.specs.Serves.{Serves, SettlesWith, is_touched}
+use Rattle.capacts.specs.declared.sweep.SweepPlace.{SweepPlace}
+use Rattle.capacts.specs.Served.{is_rename}
+use Rattle.capacts.specs.Reach.{is_touched, Widens, Covers, Reaches}
+use Rattle.capsteps.specs.Serves.{Serves, SettlesWith}
 use Rattle.capnotes.specs.Changing.{tree_after}
 use Rattle.capsteps.specs.Settle.{Made, Began, Gathered, Served, Makes, MakesAll, ended_by, ended_in, sized_by, sized_in}
-use Rattle.capsteps.specs.Sweep.{AreStill, GoesOnBehind, IsFirstPlace, IsSwept, IsTurnOfLeast, StandsAt, Widens, Covers, Reaches, changed_alone}
+use Rattle.capsteps.specs.Sweep.{AreStill, GoesOnBehind, IsFirstPlace, IsSwept, IsTurnOfLeast, StandsAt, changed_alone}
 use Rattle.capsteps.specs.Touching.{IsSameOff}
 use Rattle.capsteps.proofs.Among.{untouched, not-touched, more-touched}
 use Rattle.capsteps.proofs.Moved.{makes-append}

@@ -33,7 +33,7 @@ use Rattle.lockmachine.specs.Wants.{effective_want}
 use Rattle.lockmachine.proofs.Rest.{at_rest}
 use Rattle.capevents.specs.declared.outcome.Ended.{Ended}
 use Rattle.capsteps.specs.State.{State}
-use Rattle.capsteps.specs.Finish.{due, allowed_to}
+use Rattle.capacts.specs.Finish.{due, allowed_to}
 use Rattle.capsteps.specs.Sound.{IsSoundEntry, IsSound, AreGiven}
 use Rattle.capsteps.specs.Settle.{Made, ended_in}
 use Rattle.capsteps.specs.Step.{earlier, state_at_end}

@@ -8,9 +8,9 @@ use Rattle.lockmachine.specs.declared.moves.Move.TheVariants.{Begin, End, Serve,
 use Rattle.capevents.specs.declared.event.Event.{Event}
 use Rattle.capevents.specs.declared.outcome.Ended.{Ended}
 use Rattle.capevents.specs.declared.reply.Reply.{Reply}
-use Rattle.capsteps.specs.declared.stopped.Stopped.{Stopped}
+use Rattle.capacts.specs.declared.stopped.Stopped.{Stopped}
 use Rattle.capsteps.specs.State.{State}
-use Rattle.capsteps.specs.Judge.{judged, stop_reply}
+use Rattle.capacts.specs.Judge.{judged, stop_reply}
 use Rattle.capsteps.specs.Direct.{Direct, direct, says, effect_unless, reply_of, shown}
 use Rattle.capsteps.specs.Settle.{Made, Began, Gathered, Served, Makes, MakesAll, Settles, ended_in}
 use Rattle.capsteps.specs.Step.{Step, all_ended, state_after}

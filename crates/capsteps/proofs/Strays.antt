@@ -22,7 +22,7 @@ use Rattle.captable.specs.Calls.{is_of_inode}
 use Rattle.lockmachine.specs.Locks.{without_ino}
 use Rattle.lockmachine.specs.Scene.{Scene}
 use Rattle.capnotes.specs.InoSets.{InoSet, IsListOf}
-use Rattle.capsteps.specs.Finish.{is_kept}
+use Rattle.capacts.specs.Finish.{is_kept}
 use Rattle.capsteps.specs.Touching.{stays, forget_at, forget_among}
 use Rattle.capsteps.proofs.Finishing.{same_kept}
 use Rattle.capsteps.proofs.ManyInodes.{same_number}

@@ -30,7 +30,7 @@ use Rattle.capevents.specs.declared.outcome.Ended.{Ended}
 use Rattle.capevents.specs.declared.outcome.Message.{Message}
 use Rattle.capsteps.specs.State.{State}
 use Rattle.capsteps.specs.Direct.{Answer, Says, Shows, Gives, Awaits, with_scene, shown}
-use Rattle.capsteps.specs.Finish.{due}
+use Rattle.capacts.specs.Finish.{due}
 use Rattle.capsteps.specs.Headline.{holds, is_due, IssuesExactly, IsInPlace, AreInPlace}
 use Rattle.capsteps.specs.Messages.{first_messages, after_messages, is_caps_of, is_size_of, is_recall_of, told_if, sized_if, unasked_if}
 use Rattle.capnotes.specs.Untold.{is_end_of, is_to}

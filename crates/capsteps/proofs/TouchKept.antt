@@ -17,7 +17,7 @@ use Rattle.captable.proofs.Tables.{same-is}
 use Rattle.capsteps.specs.declared.touch.Touch.{Touch}
 use Rattle.capsteps.specs.declared.touch.Touch.TheVariants.{Open, Want, Ack, Release}
 use Rattle.capsteps.specs.Direct.{opening_wants, with_entry, with_opening}
-use Rattle.capsteps.specs.Known.{is_still_kept, AreKnown, StillKept, OthersHaveAll}
+use Rattle.capacts.specs.Known.{is_still_kept, AreKnown, StillKept, OthersHaveAll}
 use Rattle.capsteps.specs.Sound.{IsSound, IsSoundEntry}
 use Rattle.capsteps.specs.State.{State}
 use Rattle.capsteps.specs.Touch.{touched_table}

@@ -26,7 +26,6 @@ use Rattle.captable.specs.Calls.{opened, wanting, acked, released, touched, told
 use Rattle.lockmachine.specs.declared.request.Ask.{Ask}
 use Rattle.lockmachine.specs.declared.request.Ask.TheVariants.{Get, Alter, Unlink, Rmdir, Rename}
 use Rattle.lockmachine.specs.declared.request.Change.{Change}
-use Rattle.lockmachine.specs.declared.request.Request.{Request}
 use Rattle.lockmachine.specs.Locks.{with_ino, with_request, requests_of, without_requests_of}
 use Rattle.lockmachine.specs.Scene.{Scene, told_set}
 use Rattle.capevents.specs.Replies.{outcome_reply}
@@ -35,14 +34,14 @@ use Rattle.capevents.specs.declared.event.Event.TheVariants as event
 use Rattle.capevents.specs.declared.event.OpenMode.{OpenMode}
 use Rattle.capevents.specs.declared.event.OpenMode.TheVariants as opening
 use Rattle.capevents.specs.declared.outcome.Ended.{Ended}
-use Rattle.capevents.specs.declared.outcome.Outcome.TheVariants as outcome
 use Rattle.capevents.specs.declared.reply.Reply.{Reply}
 use Rattle.capevents.specs.declared.reply.Reply.TheVariants as reply
 use Rattle.capnotes.specs.Untold.{is_of_ticket, is_to}
 use Rattle.capsteps.specs.State.{State}
-use Rattle.capsteps.specs.declared.stopped.Stopped.{Stopped}
+use Rattle.capacts.specs.declared.stopped.Stopped.{Stopped}
 use Rattle.capnotes.specs.Changing.{tree_changed}
-use Rattle.capsteps.specs.Judge.{judged, stop_reply, revoked_of}
+use Rattle.capacts.specs.Left.{dropped_of}
+use Rattle.capacts.specs.Judge.{judged, stop_reply, revoked_of}
 use Rattle.capsteps.specs.Messages.{first_messages, with_given}
 
 abbrev pub with_scene : State → Scene → State
@@ -181,10 +180,6 @@ without s client sessions = record {
   };
   messages = filter (λ m. not (is_to client m)) s.messages;
 }
-
--- a request ends unserved, since its client's session does
-abbrev pub dropped_of : Request → Ended
-dropped_of q = record { client = q.client; ticket = q.ticket; outcome = outcome.Dropped }
 
 -- the client's session ends, by which these are left: its requests are dropped, the oldest first
 abbrev pub ends : State → ClientId → SessionTable → Direct

@@ -27,7 +27,7 @@ use Rattle.lockmachine.specs.declared.moves.Move.{Move}
 use Rattle.lockmachine.specs.declared.moves.Move.TheVariants.{Begin, End, Serve}
 use Rattle.capevents.specs.declared.outcome.Outcome.{Outcome}
 use Rattle.capevents.specs.declared.outcome.Outcome.TheVariants as outcome
-use Rattle.capsteps.specs.Asks.{ask_before, ask_needs}
+use Rattle.capacts.specs.Asks.{ask_before, ask_needs}
 use Rattle.capsteps.specs.Settle.{Made, Began, Gathered, Served, MakesAll, ended_in}
 use Rattle.capsteps.specs.State.{State}
 use Rattle.capsteps.specs.Direct.{direct}
@@ -37,9 +37,9 @@ use Rattle.capevents.specs.declared.event.Event.{Event}
 use Rattle.capevents.specs.declared.reply.Reply.{Reply}
 use Rattle.capevents.specs.declared.reply.Reply.TheVariants as reply
 use Rattle.capbits.specs.Refusal.{Test, first_failing}
-use Rattle.capsteps.specs.Needs.{Need}
-use Rattle.capsteps.specs.Judge.{before, needs, first_denied}
-use Rattle.capsteps.specs.Finish.{due}
+use Rattle.capacts.specs.Needs.{Need}
+use Rattle.capacts.specs.Judge.{before, needs, first_denied}
+use Rattle.capacts.specs.Finish.{due}
 
 -- ---- denials
 

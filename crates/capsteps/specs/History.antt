@@ -1,6 +1,5 @@
 -- Histories: what rows lead to, and when they are legal.
-use Rattle.std.specs.Prelude.{length, ◌≤◌, ◌≡◌, ◌≢◌, ℕ, ◌+◌, ◌==◌, List, [], ◌∷◌, ◌++◌}
-use Rattle.std.specs.List.{count_by}
+use Rattle.std.specs.Prelude.{length, ◌≤◌, ◌≡◌, ◌≢◌, ℕ, ◌+◌, List, [], ◌∷◌, ◌++◌}
 use Rattle.std.specs.Option.{option_map}
 use Rattle.std.specs.FinMap as map
 use Rattle.std.specs.FinSet as set
@@ -14,6 +13,7 @@ use Rattle.capevents.specs.declared.event.Event.{Event}
 use Rattle.capevents.specs.declared.row.Row.{Row}
 use Rattle.capevents.specs.declared.outcome.Ended.{Ended}
 use Rattle.capevents.specs.declared.reply.Reply.{Reply}
+use Rattle.capacts.specs.Numbers.{rows_of, AreNumbered}
 use Rattle.capsteps.specs.State.{State}
 use Rattle.capsteps.specs.Step.{Step}
 use Rattle.capsteps.specs.Sound.{IsSound, AreGiven}
@@ -53,14 +53,6 @@ pub record IsOpening (fs : List ℕ) (tree : Nodes) (s : State) : Type 0 where
 abbrev pub Replays : State → List Row → State → Type 0
 Replays first [] last = last ≡ first
 Replays first (row ∷ rows) last = (mid : State) × Step first row.event row.reply row.ended mid × Replays mid rows last
-
--- how many of the rows are of a pass
-abbrev pub rows_of : PassId → List Row → ℕ
-rows_of pass rows = count_by (λ row. row.pass.0 == pass.0) rows
-
--- the rows of each pass are numbered 1, 2, 3 and so on
-abbrev pub AreNumbered : List Row → Type 0
-AreNumbered rows = (earlier later : List Row) (row : Row) → rows ≡ earlier ++ row ∷ later → row.nth ≡ rows_of row.pass earlier + 1
 
 -- the rows lead from the first state to the last, a step each, and are numbered
 pub record IsLegal (first : State) (rows : List Row) (last : State) : Type 0 where

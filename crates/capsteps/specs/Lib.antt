@@ -1,18 +1,11 @@
 pub mod State
-pub mod Needs
-pub mod Asks
-pub mod Judge
 pub mod Direct
-pub mod Serving
-pub mod Served
 pub mod Settle
-pub mod Finish
 pub mod Messages
 pub mod Step
 pub mod Touch
 pub mod Touching
 pub mod Turn
-pub mod Finishing
 pub mod History
 pub mod Headline
 pub mod Sound
@@ -22,4 +15,3 @@ pub mod Noted
 pub mod Serves
 pub mod Sweep
 pub mod Shown
-pub mod Known

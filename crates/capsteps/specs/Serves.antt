@@ -1,6 +1,5 @@
 -- One serving by its number, and a settling with all that it served.
-use Rattle.std.specs.Prelude.{◌≡◌, ℕ, Bool, ◌||◌, ◌==◌, List, Some}
-use Rattle.std.specs.FinSet as set
+use Rattle.std.specs.Prelude.{◌≡◌, ℕ, Bool, List, Some}
 use Rattle.std.specs.HashMap.{HashMap}
 use Rattle.capbits.specs.declared.ids.Ino.{Ino}
 use Rattle.capbits.specs.declared.ids.Ticket.{Ticket}
@@ -11,13 +10,12 @@ use Rattle.lockmachine.specs.declared.request.Request.{Request}
 use Rattle.lockmachine.specs.Locks.{request_at, without_request}
 use Rattle.lockmachine.specs.Scene.{Scene}
 use Rattle.capevents.specs.declared.outcome.Ended.{Ended}
-use Rattle.capsteps.specs.Serving.{MayEndAs}
+use Rattle.capacts.specs.Serving.{MayEndAs}
 use Rattle.capnotes.specs.Changing.{tree_after}
-use Rattle.capsteps.specs.Finish.{sizes_owed}
-use Rattle.capnotes.specs.InoSets.{InoSet}
+use Rattle.capacts.specs.Finish.{sizes_owed}
 use Rattle.capsteps.specs.Settle.{Made, ended_in, sized_in}
 use Rattle.capsteps.specs.Touching.{SettlesAt, told_then, finished_at}
-use Rattle.capsteps.specs.Known.{known_in, KeptAnew}
+use Rattle.capacts.specs.Known.{known_in, KeptAnew}
 
 -- the request with this number is served, ends so and waits no more
 pub record Serves (old : Scene) (ticket : Ticket) (ended : Ended) (new : Scene) : Type 0 where
@@ -26,10 +24,6 @@ pub record Serves (old : Scene) (ticket : Ticket) (ended : Ended) (new : Scene) 
   pub may : MayEndAs old request ended.outcome
   pub ended_is : ended ≡ record { client = request.client; ticket = request.ticket; outcome = ended.outcome }
   pub is : new ≡ record old { tree = tree_after old.tree request ended.outcome; locks = without_request old.locks ticket.0 }
-
--- the inode, or one of the others: another of the event, or one that was moved
-abbrev pub is_touched : ℕ → InoSet → ℕ → Bool
-is_touched ino others other = (other == ino) || set.contains others other
 
 -- by some moves the locks settle, nothing changes but at these inodes, among which are those of the event, these requests end, in
 -- this order, and the sizes of these inodes change

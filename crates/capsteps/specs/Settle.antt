@@ -18,7 +18,7 @@ use Rattle.lockmachine.specs.Moves.{first_move, with_moved}
 use Rattle.capevents.specs.declared.outcome.Outcome.{Outcome}
 use Rattle.capevents.specs.declared.outcome.Outcome.TheVariants as outcome
 use Rattle.capevents.specs.declared.outcome.Ended.{Ended}
-use Rattle.capsteps.specs.Serving.{MayEndAs, served}
+use Rattle.capacts.specs.Serving.{MayEndAs, served}
 
 -- a move that was made
 pub data Made : Type 0 where

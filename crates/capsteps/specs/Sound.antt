@@ -13,7 +13,7 @@ use Rattle.captable.specs.declared.entry.EntryRow.{EntryRow}
 use Rattle.captable.specs.Calls.{is_of_inode}
 use Rattle.lockmachine.specs.Scene.{Scene}
 use Rattle.lockmachine.specs.Moves.{IsAtRest}
-use Rattle.capsteps.specs.Finish.{due}
+use Rattle.capacts.specs.Finish.{due}
 use Rattle.capsteps.specs.Headline.{AreInPlace}
 use Rattle.capsteps.specs.State.{State}
 

@@ -7,7 +7,7 @@ use Rattle.capevents.specs.declared.reply.Reply.{Reply}
 use Rattle.capsteps.specs.State.{State}
 use Rattle.capsteps.specs.Direct.{Direct, direct, reply_of, shown}
 use Rattle.capsteps.specs.Settle.{Made, Settles, ended_in, sized_in}
-use Rattle.capsteps.specs.Finish.{sizes_owed, finished}
+use Rattle.capacts.specs.Finish.{sizes_owed, finished}
 
 -- of the requests that the moves ended, those of earlier steps: they have no number above the last that was given before
 abbrev pub earlier : ℕ → List Ended → List Ended

@@ -1,22 +1,19 @@
 -- How the locks of several inodes settle: in the order of their numbers, and anew once an inode was moved.
-use Rattle.std.specs.Prelude.{◌≡◌, ◌≢◌, ◌<◌, ◌≤◌, ℕ, Bool, true, false, ◌⊎◌, List, [], Option, Some, None, Contains, if◌then◌else◌}
+use Rattle.std.specs.Prelude.{◌≡◌, ◌<◌, ◌≤◌, ℕ, Bool, true, false, ◌⊎◌, List, [], Option, Some, None, if◌then◌else◌}
 use Rattle.std.specs.FinMap as map
 use Rattle.std.specs.FinSet as set
 use Rattle.capbits.specs.declared.cap.Part.{Part}
 use Rattle.capbits.specs.declared.ids.Ino.{Ino}
 use Rattle.capbits.specs.declared.ids.Ticket.{Ticket}
-use Rattle.inotree.specs.Tree.{Nodes, is_within}
-use Rattle.captable.specs.declared.entry.EntryRow.{EntryRow}
-use Rattle.captable.specs.Table.{Table}
 use Rattle.lockmachine.specs.declared.request.Request.{Request}
 use Rattle.lockmachine.specs.declared.moves.Move.TheVariants.{Serve, Settled}
 use Rattle.lockmachine.specs.Scene.{Scene}
 use Rattle.lockmachine.specs.Moves.{first_move, may_end, may_begin}
 use Rattle.lockmachine.specs.Turns.{IsTurnOf, NobodyElsewhere, WaitAt}
 use Rattle.capnotes.specs.InoSets.{InoSet}
-use Rattle.capsteps.specs.declared.settle.SweepPlace.{SweepPlace}
-use Rattle.capsteps.specs.Served.{is_rename}
-use Rattle.capsteps.specs.Serves.{is_touched}
+use Rattle.capacts.specs.declared.sweep.SweepPlace.{SweepPlace}
+use Rattle.capacts.specs.Served.{is_rename}
+use Rattle.capacts.specs.Reach.{is_touched}
 use Rattle.capsteps.specs.Settle.{Made, MakesAll, ended_in}
 
 -- the least of these inodes
@@ -75,27 +72,3 @@ pub record IsSwept (at : ℕ → Bool) (first now : Scene) : Type 0 where
 abbrev pub GoesOn : Scene → Option Ticket → Type 0
 GoesOn s None = first_move s ≡ Settled
 GoesOn s (Some ticket) = first_move s ≡ Serve ticket
-
--- every inode at or below one that somebody has an entry on is one of these, but for this one
-abbrev pub CoversBelow : ℕ → ℕ → Nodes → Table → InoSet → Type 0
-CoversBelow above ino tree table others =
-    (row : EntryRow) → Contains table.rows row → row.holder.ino.0 ≢ ino →
-    is_within tree.nodes row.holder.ino.0 above ≡ true → set.contains others row.holder.ino.0 ≡ true
-
--- if the request moves its inode, that is so of it
-abbrev pub Covers : Request → ℕ → Nodes → Table → InoSet → Type 0
-Covers q ino tree table others = is_rename q.ask ≡ true → CoversBelow q.ino.0 ino tree table others
-
--- and it is so of each inode from which a rename of this step has walked over what lies below
-abbrev pub AreWalked : InoSet → ℕ → Nodes → Table → InoSet → Type 0
-AreWalked walked ino tree table others = (above : ℕ) → set.contains walked above ≡ true → CoversBelow above ino tree table others
-
--- inodes other than this one come besides
-pub record Widens (ino : ℕ) (old new : InoSet) : Type 0 where
-  pub stay : (other : ℕ) → set.contains old other ≡ true → set.contains new other ≡ true
-  pub besides : (other : ℕ) → set.contains old other ≡ false → set.contains new other ≡ true → other ≢ ino
-
--- when the request is served, inodes other than this one come besides; they cover what it moves, or the tree stays as it was
-pub record Reaches (q : Request) (ino : ℕ) (tree after : Nodes) (table : Table) (old new : InoSet) : Type 0 where
-  pub widens : Widens ino old new
-  pub covers : (after ≡ tree) ⊎ Covers q ino tree table new

@@ -13,7 +13,7 @@ use Rattle.capevents.specs.declared.event.Event.TheVariants as event
 use Rattle.capevents.specs.declared.reply.Reply.TheVariants as reply
 use Rattle.capsteps.specs.declared.touch.Touch.{Touch}
 use Rattle.capsteps.specs.declared.touch.Touch.TheVariants.{Open, Want, Ack, Release}
-use Rattle.capsteps.specs.Judge.{room_for}
+use Rattle.capacts.specs.Judge.{room_for}
 use Rattle.capsteps.specs.Direct.{Answer, Says, Shows, with_opening, with_wanted}
 
 -- the event that asks it of the client's entry on the inode

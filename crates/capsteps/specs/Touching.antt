@@ -27,7 +27,7 @@ use Rattle.lockmachine.specs.Rows.{IsInRow}
 use Rattle.lockmachine.specs.Turns.{WaitAt}
 use Rattle.capevents.specs.declared.event.Event.{Event}
 use Rattle.capevents.specs.declared.event.Event.TheVariants as event
-use Rattle.capsteps.specs.Finish.{issue_row, is_kept}
+use Rattle.capacts.specs.Finish.{issue_row, is_kept}
 use Rattle.capsteps.specs.Settle.{Made, Settles}
 use Rattle.capsteps.specs.State.{State}
 

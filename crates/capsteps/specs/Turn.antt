@@ -1,5 +1,5 @@
 -- What becomes of a client's session, and what goes with it.
-use Rattle.std.specs.Prelude.{◌≡◌, ℕ, Bool, true, false, not, List, [], ◌∷◌, map as each, filter, Contains, if◌then◌else◌}
+use Rattle.std.specs.Prelude.{◌≡◌, ℕ, true, false, List, [], ◌∷◌, map as each, Contains}
 use Rattle.std.specs.FinSet as set
 use Rattle.capbits.specs.declared.ids.ClientId.{ClientId}
 use Rattle.capbits.specs.Refusal.{Test}
@@ -10,22 +10,20 @@ use Rattle.sessiontab.specs.Calls.{without_session, with_status, with_grants, wi
 use Rattle.sessiontab.specs.Tests.{connected_test, session_tests, stale_tests, evict_tests}
 use Rattle.captable.specs.declared.entry.EntryRow.{EntryRow}
 use Rattle.captable.specs.Table.{Table}
-use Rattle.captable.specs.Calls.{is_of_client, without_client}
+use Rattle.captable.specs.Calls.{is_of_client}
 use Rattle.lockmachine.specs.declared.request.Request.{Request}
-use Rattle.lockmachine.specs.Locks.{LockMap, requests_of, without_requests_of}
+use Rattle.lockmachine.specs.Locks.{LockMap}
 use Rattle.lockmachine.specs.Requests.{is_of_client as is_asked_by}
 use Rattle.capview.specs.declared.change.ViewChange.{ViewChange}
 use Rattle.capview.specs.Changes.{AreChanges}
-use Rattle.capsteps.specs.declared.client.Turn.{Turn}
-use Rattle.capsteps.specs.declared.client.Turn.TheVariants.{Close, Stale, Renew, Regrant, Evict}
+use Rattle.capacts.specs.declared.leaving.Turn.{Turn}
+use Rattle.capacts.specs.declared.leaving.Turn.TheVariants.{Close, Stale, Renew, Regrant, Evict}
 use Rattle.capevents.specs.declared.event.Event.{Event}
 use Rattle.capevents.specs.declared.event.Event.TheVariants as event
-use Rattle.capevents.specs.declared.outcome.Ended.{Ended}
-use Rattle.capsteps.specs.Direct.{dropped_of}
 use Rattle.capnotes.specs.InoSets.{InoSet}
-use Rattle.capnotes.specs.Untold.{is_to}
 use Rattle.capnotes.specs.Noted.{view}
-use Rattle.capsteps.specs.Serves.{is_touched}
+use Rattle.capacts.specs.Left.{is_end, table_left, locks_left, messages_left}
+use Rattle.capacts.specs.Reach.{is_touched}
 use Rattle.capsteps.specs.State.{State}
 
 -- the event by which it does
@@ -56,29 +54,6 @@ turned_sessions sessions client Evict = with_evicted sessions client.0
 pub record Notes (changes : List ViewChange) (client : ClientId) (turn : Turn) : Type 0 where
   pub lead : (tree : Nodes) (sessions : SessionTable)
       → AreChanges changes (view tree sessions.sessions) (view tree (turned_sessions sessions client turn).sessions)
-
--- the session ends
-abbrev pub is_end : Turn → Bool
-is_end Close = true
-is_end Stale = false
-is_end Renew = false
-is_end (Regrant grants) = false
-is_end Evict = true
-
--- ---- what is left, where the session ends or does not
-
-abbrev pub table_left : Bool → Table → ClientId → Table
-table_left ends table client = if ends then without_client table client else table
-
-abbrev pub locks_left : Bool → LockMap → ClientId → LockMap
-locks_left ends locks client = if ends then without_requests_of locks client else locks
-
-abbrev pub messages_left : Bool → List Ended → ClientId → List Ended
-messages_left ends messages client = if ends then filter (λ m. not (is_to client m)) messages else messages
-
--- the requests that are dropped, the oldest first
-abbrev pub dropped_by : Bool → LockMap → ClientId → List Ended
-dropped_by ends locks client = if ends then each dropped_of (requests_of locks client) else []
 
 -- the state then
 abbrev pub turned : State → ClientId → Turn → State

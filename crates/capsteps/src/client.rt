@@ -1,28 +1,19 @@
 //! Steps by which a client's session ends, becomes stale, is open again or has other grants.
-ghost use Rattle.std.specs.Prelude.{Some, ◌≡◌, ◌+◌, ◌≤◌, ◌<◌, ◌++◌, true, [], ◌∷◌, None, All, Contains, length, map as each, IfOk, OnOk, OnErr, vec_capacity};
-ghost use Rattle.std.specs.HashMap.{get};
+ghost use Rattle.std.specs.Prelude.{Some, ◌≡◌, ◌+◌, ◌≤◌, ◌<◌, true, [], ◌∷◌, None, All, Contains, length, map as each, IfOk, OnOk, OnErr, vec_capacity};
 ghost use Rattle.capbits.specs.Refusal.{first_failing};
 ghost use Rattle.sessiontab.specs.Calls.{with_grants};
 ghost use Rattle.sessiontab.specs.Tests.{connected_test};
 ghost use Rattle.captable.specs.declared.entry.EntryRow.{EntryRow};
-ghost use Rattle.captable.specs.declared.entry.Entry.{Entry};
-ghost use Rattle.captable.specs.declared.entry.Holder.{Holder};
-ghost use Rattle.captable.specs.Table.{same, entry_at};
 ghost use Rattle.captable.specs.Calls.{is_of_client};
 ghost use Rattle.lockmachine.specs.declared.request.Request.{Request};
-ghost use Rattle.lockmachine.specs.Locks.{requests_of, without_requests_of};
 ghost use Rattle.lockmachine.specs.Requests.{is_of_client as is_asked_by};
 ghost use Rattle.capnotes.specs.Noted.{HavePlaces};
-ghost use Rattle.capsteps.specs.Direct.{dropped_of};
-ghost use Rattle.capsteps.specs.Serves.{is_touched};
-ghost use Rattle.capsteps.specs.Sweep.{Widens};
-ghost use Rattle.capsteps.specs.Turn.{Notes, ReachesClient, turn_tests, turned_sessions, is_end};
-ghost use Rattle.capsteps.specs.Turn as words;
+ghost use Rattle.capacts.specs.Reach.{is_touched, Widens};
+ghost use Rattle.capsteps.specs.Turn.{Notes, ReachesClient, turn_tests, turned_sessions};
 
 use crate::endings::Endings;
-use crate::known::Known;
+use capacts::leaving::Turn;
 use capbits::{ClientId, Ino, Refusal};
-use capevents::{Ended, Outcome};
 use capnotes::{ChangeList, InoSet, Messages};
 use capspec::Grants;
 use captable::CapTable;
@@ -31,21 +22,6 @@ use inotree::ROOT;
 use lockmachine::Locks;
 use sessiontab::Sessions;
 use std::alloc::{AllocError, Global};
-
-/// What becomes of a client's session.
-#[derive(Clone, Copy)]
-pub enum Turn<'a> {
-    /// The client ends it.
-    Close,
-    /// It is stale.
-    Stale,
-    /// It is open again.
-    Renew,
-    /// It has these grants in place of those that it had.
-    Regrant(&'a Grants),
-    /// The client is thrown out.
-    Evict,
-}
 
 /// What the step takes, made before anything changes.
 #[derive(Drop)]
@@ -99,58 +75,6 @@ fn regrant(sessions: &mut Sessions, client: ClientId, grants: &Grants) -> Result
         unreachable!()
     };
     Ok(())
-}
-
-// ---- what goes with it
-
-/// Where the session ends, takes out all that is the client's, and lists its requests as dropped.
-pub fn leave(
-    table: &mut CapTable,
-    known: &mut Known,
-    locks: &mut Locks,
-    messages: &mut Messages,
-    client: ClientId,
-    turn: Turn,
-    dropped: &mut Messages,
-)
-    requires room { length dropped.old.items + length locks.old.queue ≤ dropped.old.room }
-    ensures table { table.new ≡ words.table_left (is_end turn.entry) table.old client }
-    ensures known { (k : Holder) (e : Entry) → entry_at table.new k ≡ Some e → get same known.new.sets k ≡ get same known.old.sets k }
-    ensures locks { locks.new ≡ words.locks_left (is_end turn.entry) locks.old client }
-    ensures messages { messages.new.items ≡ words.messages_left (is_end turn.entry) messages.old.items client }
-    ensures left { messages.new.room ≡ messages.old.room }
-    ensures dropped { dropped.new.items ≡ dropped.old.items ++ words.dropped_by (is_end turn.entry) locks.old client }
-    ensures room { length dropped.new.items + length locks.new.queue ≤ dropped.new.room }
-{
-    match turn {
-        Turn::Close | Turn::Evict => {
-            known.remove_client(table, client);
-            table.drop_client(client);
-            messages.remove_to(client);
-            drop_requests(locks, client, dropped);
-        }
-        Turn::Stale | Turn::Renew | Turn::Regrant(_) => {}
-    }
-}
-
-// Takes the client's requests out, and lists them, the oldest first.
-fn drop_requests(locks: &mut Locks, client: ClientId, dropped: &mut Messages)
-    requires room { length dropped.old.items + length locks.old.queue ≤ dropped.old.room }
-    ensures locks { locks.new ≡ without_requests_of locks.old client }
-    ensures dropped { dropped.new.items ≡ dropped.old.items ++ each dropped_of (requests_of locks.old client) }
-    ensures room { length dropped.new.items + length locks.new.queue ≤ dropped.new.room }
-{
-    for request in locks.requests() {
-        if request.client.0 == client.0 {
-            let (ticket, outcome) = (request.ticket, Outcome::Dropped);
-            dropped.push(Ended {
-                client,
-                ticket,
-                outcome,
-            });
-        }
-    }
-    locks.drop_requests_of(client);
 }
 
 // ---- room

@@ -2,7 +2,7 @@
 ghost use Rattle.std.specs.Prelude.{◌≡◌, ◌+◌, ◌≤◌, ◌<◌, ◌++◌, [], ◌∷◌, length, OnOk, vec_capacity};
 ghost use Rattle.std.specs.List.{filter_map};
 
-use crate::serving::Served;
+use capacts::serving::Served;
 use capbits::{ClientId, Ino, Ticket};
 use capevents::Ended;
 use capnotes::{ChangeList, Messages};

@@ -7,9 +7,9 @@ ghost use Rattle.inotree.specs.Alike.{IsAlike};
 ghost use Rattle.lockmachine.specs.declared.request.Request.{Request};
 ghost use Rattle.lockmachine.specs.Scene.{Scene};
 ghost use Rattle.capevents.specs.declared.outcome.Outcome.{Outcome};
-ghost use Rattle.capsteps.specs.Serving.{MayEndAs};
+ghost use Rattle.capacts.specs.Serving.{MayEndAs};
 ghost use Rattle.capnotes.specs.Changing.{tree_after};
-ghost use Rattle.capsteps.specs.Served.{is_rename};
+ghost use Rattle.capacts.specs.Served.{is_rename};
 
 /// However a request ends that is served, every other inode than its own has the same path, owner, group and mode, unless the
 /// request is to move its inode and the other lies below it; and the tree stays a tree.

@@ -11,23 +11,24 @@ ghost use Rattle.lockmachine.specs.declared.request.Request.{Request};
 ghost use Rattle.lockmachine.specs.Locks.{request_at};
 ghost use Rattle.lockmachine.specs.Scene.{scene};
 ghost use Rattle.lockmachine.specs.Moves.{may_end_by, IsQuietOutside};
-ghost use Rattle.lockmachine.specs.Runs.{MoveLittle, ChangesLocksOf};
-ghost use Rattle.lockmachine.specs.Turns.{IsTurnOf, IsDue, NobodyElsewhere, WaitAt};
+ghost use Rattle.lockmachine.specs.Turns.{WaitAt};
 ghost use Rattle.capevents.specs.declared.outcome.Ended.{Ended};
 ghost use Rattle.capnotes.specs.InoSets.{IsNext};
-ghost use Rattle.capsteps.specs.Known.{HaveRoom, OthersHaveAll};
+ghost use Rattle.capacts.specs.Known.{HaveRoom, OthersHaveAll};
 ghost use Rattle.capnotes.specs.Noted.{HavePlaces, LeadOn};
-ghost use Rattle.capsteps.specs.Serves.{Serves, SettlesWith, EndsAt, EndsWith, is_touched};
+ghost use Rattle.capacts.specs.Reach.{is_touched, AreWalked, Reaches};
+ghost use Rattle.capsteps.specs.Serves.{Serves, SettlesWith, EndsAt, EndsWith};
 ghost use Rattle.capsteps.specs.Settle.{Served as Serving, sized_by, sized_in};
-ghost use Rattle.capsteps.specs.Sweep.{AreStill, AreWalked, GoesOn, GoesOnBehind, IsFirstPlace, IsLeastOf, IsNextOf, IsSwept, Reaches, StandsAt, changed_alone};
+ghost use Rattle.capsteps.specs.Sweep.{AreStill, GoesOn, GoesOnBehind, IsFirstPlace, IsLeastOf, IsNextOf, IsSwept, StandsAt, changed_alone};
 ghost use Rattle.capnotes.specs.Untold.{HasRoom};
 
 use crate::endings::Endings;
 use crate::finish::{finish, finish_alone};
-use crate::known::Known;
-use crate::reach::reach;
-use crate::serving::{Served, serve};
 use crate::sizes::owe_sizes;
+use capacts::known::Known;
+use capacts::reach::reach;
+use capacts::serving::{Served, serve};
+use capacts::sweep::{SweepPlace, advance};
 use capbits::{Ino, Part, Ticket};
 use capevents::Outcome;
 use capnotes::{ChangeList, InoSet};
@@ -313,15 +314,6 @@ fn end_gathers(table: &CapTable, locks: &mut Locks, ino: Ino, touched: &InoSet)
     }
 }
 
-/// Where a sweep over the touched inodes has come to.
-#[derive(Clone, Copy)]
-pub struct SweepPlace {
-    // The inode whose turn it is.
-    at: Ino,
-    // Whether it is known that nobody who waits at another inode may be served.
-    alone: bool,
-}
-
 // Where a sweep begins.
 fn first_place(touched: &InoSet, ino: Ino) -> SweepPlace
     ensures { IsFirstPlace ino.0 touched.now result }
@@ -373,31 +365,6 @@ fn sweep(
             Some(at) => *place = SweepPlace { at, alone: true },
             None => return None,
         }
-    }
-}
-
-// Lets the locks of the inode that the sweep has come to move, until a request is to be served, whose number it answers, or the
-// inode is done. Where nobody who waits at another may be served, the requests for others need not be looked at.
-fn advance(
-    fs: &FsName,
-    tree: &Tree,
-    sessions: &Sessions,
-    table: &CapTable,
-    locks: &mut Locks,
-    place: SweepPlace,
-) -> Option<Ticket>
-    requires turn { IsTurnOf (scene fs.now tree.now sessions.now table.now locks.old) place.at.0 }
-    requires alone { place.alone ≡ true → NobodyElsewhere locks.old place.at.0 }
-    ensures moves { MoveLittle (scene fs.now tree.now sessions.now table.now locks.old)
-        (scene fs.now tree.now sessions.now table.now locks.new) }
-    ensures due { IsDue (scene fs.now tree.now sessions.now table.now locks.new) place.at.0 result }
-    ensures turn { IsTurnOf (scene fs.now tree.now sessions.now table.now locks.new) place.at.0 }
-    ensures elsewhere { ChangesLocksOf place.at.0 locks.old locks.new }
-{
-    if place.alone {
-        locks.advance_alone_at(table, sessions, tree, fs, place.at)
-    } else {
-        locks.advance_at(table, sessions, tree, fs, place.at)
     }
 }
 

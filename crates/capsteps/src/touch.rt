@@ -1,18 +1,19 @@
 //! What an event asks of one entry, and what of the entry that changes.
 ghost use Rattle.std.specs.Prelude.{◌≡◌, ◌<◌, ◌^◌, ◌-◌, [], None, OnOk, OnErr};
 ghost use Rattle.capbits.specs.Refusal.{first_failing};
-ghost use Rattle.capsteps.specs.Judge.{room_for};
+ghost use Rattle.capacts.specs.Judge.{revoked_of, room_for};
+ghost use Rattle.lockmachine.specs.Scene.{Scene};
 ghost use Rattle.captable.specs.Table.{IsTable, entry_at};
 ghost use Rattle.captable.specs.Calls.{opened};
 ghost use Rattle.captable.specs.Tests.{open_tests};
-ghost use Rattle.capsteps.specs.Known.{AreKnown, StillKept};
+ghost use Rattle.capacts.specs.Known.{AreKnown, StillKept};
 ghost use Rattle.capsteps.specs.State.{State};
 ghost use Rattle.capsteps.specs.Direct.{reply_of, shown, with_table};
 ghost use Rattle.capsteps.specs.Direct as effects;
 ghost use Rattle.capsteps.specs.Touch as words;
 
 use crate::finish::show;
-use crate::known::Known;
+use capacts::known::Known;
 use capbits::{Cap, CapSet};
 use capevents::{OpenMode, Reply};
 use captable::{CapTable, Holder};
@@ -29,6 +30,16 @@ pub enum Touch {
     Ack(u64),
     /// It gives these back.
     Release(CapSet),
+}
+
+/// What is being revoked of the holder's entry, where it has one: what it holds and its client is not to know of.
+pub fn revoked_of(table: &CapTable, known: &Known, holder: Holder) -> CapSet
+    ensures { (s : Scene) → s.table ≡ table.now → AreKnown known.now.sets s → result ≡ revoked_of s holder }
+{
+    match table.find(holder.client, holder.ino) {
+        Some(entry) => entry.held.minus(known.of(holder)),
+        None => CapSet::empty(),
+    }
 }
 
 /// Does to the holder's entry what is asked, where what is being revoked of it is this. An opening alone takes memory: for

@@ -1,5 +1,5 @@
 use Rattle.std.proofs.Common.{◌≢◌, sym, ◌∙◌, eq-eqb, true≢false}
-use Rattle.capsteps.proofs.InoSets.{widens-tried}
+use Rattle.capacts.proofs.InoSets.{widens-tried}
 use Rattle.capsteps.proofs.Reaching.{touched-tried}
 use Rattle.capsteps.proofs.client.add_other.Goals as goal
 

@@ -1,4 +1,4 @@
-use Rattle.capsteps.proofs.InoSets.{widens-then}
+use Rattle.capacts.proofs.InoSets.{widens-then}
 use Rattle.capsteps.proofs.Reaching.{touched-still, none-of_it}
 use Rattle.capsteps.proofs.client.reach_client.Goals as goal
 

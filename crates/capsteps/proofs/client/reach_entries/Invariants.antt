@@ -1,6 +1,6 @@
 use Rattle.std.proofs.Common.{Contains, length}
 use Rattle.captable.specs.declared.entry.EntryRow.{EntryRow}
-use Rattle.capsteps.specs.Sweep.{Widens}
+use Rattle.capacts.specs.Reach.{Widens}
 use Rattle.capsteps.proofs.Reaching.{AreReached}
 use Rattle.capsteps.proofs.client.reach_entries.Given as goal
 

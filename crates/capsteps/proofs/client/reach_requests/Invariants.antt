@@ -1,8 +1,7 @@
 use Rattle.std.proofs.Common.{◌≡◌, true}
 use Rattle.std.specs.List.{AllWithin}
 use Rattle.lockmachine.specs.Requests.{is_of_client}
-use Rattle.capsteps.specs.Serves.{is_touched}
-use Rattle.capsteps.specs.Sweep.{Widens}
+use Rattle.capacts.specs.Reach.{is_touched, Widens}
 use Rattle.capsteps.proofs.client.reach_requests.Given as goal
 
 abbrev pub invariant-loop-request : goal.invariant-loop-request

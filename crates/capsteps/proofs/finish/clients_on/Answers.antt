@@ -2,7 +2,7 @@ use Rattle.std.proofs.Common.{◌≡◌, ◌≤◌, ◌<◌, sym, List, ◌∷�
 use Rattle.std.proofs.lemmas.List.{length-map}
 use Rattle.captable.specs.declared.entry.EntryRow.{EntryRow}
 use Rattle.captable.specs.Calls.{entries_on}
-use Rattle.capsteps.specs.Finishing.{clients_of}
+use Rattle.capacts.specs.Finishing.{clients_of}
 use Rattle.capsteps.proofs.Counting.{few-entries}
 use Rattle.capsteps.proofs.finish.clients_on.Goals as goal
 

@@ -8,12 +8,12 @@ use Rattle.captable.proofs.Tables.{same-is}
 use Rattle.captable.specs.Many.{changed_by, changed_where}
 use Rattle.lockmachine.specs.declared.states.InodeLocks.{InodeLocks}
 use Rattle.lockmachine.specs.Scene.{Scene, scene}
-use Rattle.capsteps.specs.Finishing.{entry_under, told_at}
-use Rattle.capsteps.specs.Known.{known_in, KeptAnew}
+use Rattle.capacts.specs.Finishing.{entry_under, told_at}
+use Rattle.capacts.specs.Known.{known_in, KeptAnew}
 use Rattle.capsteps.specs.Touching.{forget_among, finished_at, finished_entry, told_then}
 use Rattle.capsteps.proofs.AloneAtEnd.{alone-changed, alone-kept}
 use Rattle.capsteps.proofs.Finishing.{none-sized}
-use Rattle.capsteps.proofs.KeptSets.{kept-as, room-of}
+use Rattle.capacts.proofs.KeptSets.{kept-as, room-of}
 use Rattle.capsteps.proofs.Strays.{forget-one}
 use Rattle.capsteps.proofs.finish.finish_alone.Goals as goal
 

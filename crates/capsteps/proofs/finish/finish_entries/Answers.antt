@@ -18,11 +18,11 @@ use Rattle.captable.specs.Calls.{changed, entries_on}
 use Rattle.captable.specs.Many.{changed_by}
 use Rattle.captable.proofs.OneByOne.{fold-on_inode}
 use Rattle.captable.proofs.Tables.{same-is}
-use Rattle.capsteps.specs.Finishing.{told_at, due_under, numbered_as, entry_under}
-use Rattle.capsteps.specs.Known.{known_in}
+use Rattle.capacts.specs.Finishing.{told_at, due_under, numbered_as, entry_under}
+use Rattle.capacts.specs.Known.{known_in}
 use Rattle.capsteps.proofs.AtEnd.{entry-on, yet-unchanged}
 use Rattle.capsteps.proofs.Counting.{named, named-clients, distinct-on}
-use Rattle.capsteps.proofs.KeptSets.{kept-same, kept-then, kept-not, kept-on, kept-nobody, found-as, not-yet, room-of}
+use Rattle.capacts.proofs.KeptSets.{kept-same, kept-then, kept-not, kept-on, kept-nobody, found-as, not-yet, room-of}
 use Rattle.capsteps.proofs.finish.finish_entries.Goals as goal
 
 -- nobody has an entry on the inode

@@ -2,8 +2,8 @@ use Rattle.std.proofs.Common.{◌≡◌, take}
 use Rattle.std.specs.List.{fold}
 use Rattle.captable.specs.Table.{is_among}
 use Rattle.captable.specs.Many.{changed_by}
-use Rattle.capsteps.specs.Finishing.{told_at, entry_under}
-use Rattle.capsteps.specs.Known.{known_in, KeptAnew}
+use Rattle.capacts.specs.Finishing.{told_at, entry_under}
+use Rattle.capacts.specs.Known.{known_in, KeptAnew}
 use Rattle.capsteps.proofs.Counting.{named}
 use Rattle.capsteps.proofs.finish.finish_entries.Given as goal
 

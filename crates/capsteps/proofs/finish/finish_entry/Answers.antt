@@ -3,9 +3,9 @@ use Rattle.std.specs.Prelude.{IfSome}
 use Rattle.captable.specs.declared.entry.Entry.{Entry}
 use Rattle.captable.specs.Table.{entry_at}
 use Rattle.captable.proofs.Changes.{none_found}
-use Rattle.capsteps.specs.Finishing as words
-use Rattle.capsteps.specs.Known.{known_in}
-use Rattle.capsteps.proofs.KeptSets.{kept-none}
+use Rattle.capacts.specs.Finishing as words
+use Rattle.capacts.specs.Known.{known_in}
+use Rattle.capacts.proofs.KeptSets.{kept-none}
 use Rattle.capsteps.proofs.finish.finish_entry.Goals as goal
 
 pub finish_row-requires : goal.finish_row-requires

@@ -15,11 +15,11 @@ use Rattle.captable.specs.declared.entry.EntryRow.{EntryRow}
 use Rattle.captable.specs.Table.{Table}
 use Rattle.captable.specs.Calls.{is_of_inode, entries_on}
 use Rattle.lockmachine.specs.declared.states.InodeLocks.{InodeLocks}
-use Rattle.capsteps.specs.Finishing.{told_at, told_by, entry_under, entry_by}
+use Rattle.capacts.specs.Finishing.{told_at, told_by, entry_under, entry_by}
 use Rattle.capnotes.specs.InoSets.{InoSet, IsListOf}
-use Rattle.capsteps.specs.Known.{known_in, HaveRoom}
+use Rattle.capacts.specs.Known.{known_in, HaveRoom}
 use Rattle.capsteps.proofs.AtEnd.{entry-alike}
-use Rattle.capsteps.proofs.KeptSets.{kept-as, room-still}
+use Rattle.capacts.proofs.KeptSets.{kept-as, room-still}
 use Rattle.capsteps.proofs.ManyInodes.{same_number, on, IsFinishing, none-finished, next-finished, next-apart, all-finished, holders-stay, entries_on-stay}
 use Rattle.capsteps.proofs.finish.finish_touched.Goals as goal
 

@@ -1,5 +1,5 @@
-use Rattle.capsteps.specs.Finishing.{told_by, entry_by}
-use Rattle.capsteps.specs.Known.{known_in}
+use Rattle.capacts.specs.Finishing.{told_by, entry_by}
+use Rattle.capacts.specs.Known.{known_in}
 use Rattle.capsteps.proofs.ManyInodes.{IsFinishing}
 use Rattle.capsteps.proofs.finish.finish_touched.Given as goal
 

@@ -2,7 +2,7 @@ use Rattle.std.proofs.Common.{◌≡◌, ◌≤◌, true, Contains, filter, leng
 use Rattle.captable.specs.declared.entry.EntryRow.{EntryRow}
 use Rattle.captable.specs.Calls.{is_due}
 use Rattle.lockmachine.specs.Scene.{Scene}
-use Rattle.capsteps.specs.Known.{AreKnown}
+use Rattle.capacts.specs.Known.{AreKnown}
 use Rattle.capsteps.specs.Messages.{end_messages}
 use Rattle.capsteps.proofs.Polling.{IsListed}
 use Rattle.capsteps.proofs.poll.due_messages.Given as goal

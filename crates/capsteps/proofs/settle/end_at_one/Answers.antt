@@ -4,7 +4,7 @@ use Rattle.std.specs.Ordering.{nat_cmp}
 use Rattle.lockmachine.specs.Scene.{scene}
 use Rattle.capnotes.specs.InoSets.{InoSet}
 use Rattle.capsteps.proofs.Among.{quiet-among, ends-one}
-use Rattle.capsteps.proofs.InoSets.{none-there}
+use Rattle.capacts.proofs.InoSets.{none-there}
 use Rattle.capsteps.proofs.settle.end_at_one.Goals as goal
 
 pub end_at-requires-clause-quiet : goal.end_at-requires-clause-quiet

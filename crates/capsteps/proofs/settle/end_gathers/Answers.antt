@@ -7,7 +7,7 @@ use Rattle.lockmachine.specs.Moves.{may_end_by}
 use Rattle.lockmachine.specs.Scene.{scene}
 use Rattle.lockmachine.specs.Turns.{WaitAt}
 use Rattle.lockmachine.proofs.Ending.{ends-little}
-use Rattle.capsteps.specs.Serves.{is_touched}
+use Rattle.capacts.specs.Reach.{is_touched}
 use Rattle.capsteps.specs.Sweep.{IsSwept, IsNextOf}
 use Rattle.capsteps.proofs.Sweeping.{fewer_behind, swept-begins, swept-on, ends-passed, same-elsewhere}
 use Rattle.capsteps.proofs.settle.end_gathers.Goals as goal

@@ -6,7 +6,7 @@ use Rattle.sessiontab.specs.Table.{SessionTable}
 use Rattle.lockmachine.specs.Moves.{may_end_by}
 use Rattle.lockmachine.specs.Scene.{scene}
 use Rattle.lockmachine.specs.Turns.{WaitAt}
-use Rattle.capsteps.specs.Serves.{is_touched}
+use Rattle.capacts.specs.Reach.{is_touched}
 use Rattle.capsteps.specs.Sweep.{IsSwept}
 use Rattle.capsteps.proofs.Sweeping.{behind}
 use Rattle.capsteps.proofs.settle.end_gathers.Given as goal

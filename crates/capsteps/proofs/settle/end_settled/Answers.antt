@@ -3,11 +3,11 @@ use Rattle.std.specs.Prelude.{All, IsTrue}
 use Rattle.sessiontab.specs.Calls.{has_session}
 use Rattle.captable.specs.Table.{Table}
 use Rattle.lockmachine.specs.Scene.{Scene, scene}
-use Rattle.capsteps.specs.Finish.{is_sized, owed}
-use Rattle.capsteps.specs.Serves.{is_touched}
-use Rattle.capsteps.specs.Known.{known_in, HaveRoom, KeptAnew}
+use Rattle.capacts.specs.Finish.{is_sized, owed}
+use Rattle.capacts.specs.Reach.{is_touched}
+use Rattle.capacts.specs.Known.{known_in, HaveRoom, KeptAnew}
 use Rattle.capsteps.specs.Touching.{told_then, finished_at}
-use Rattle.capsteps.proofs.KeptSets.{was-there}
+use Rattle.capacts.proofs.KeptSets.{was-there}
 use Rattle.capsteps.proofs.ManyInodes.{holders-stay}
 use Rattle.capsteps.proofs.SizesOwed.{owed-numbers}
 use Rattle.capsteps.proofs.settle.end_settled.Goals as goal

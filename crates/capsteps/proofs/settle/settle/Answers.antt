@@ -11,13 +11,15 @@ use Rattle.lockmachine.proofs.Exact.{ends_not}
 use Rattle.lockmachine.proofs.Waiting.{served-at}
 use Rattle.capevents.specs.declared.outcome.Ended.{Ended}
 use Rattle.capevents.specs.declared.outcome.Outcome.{Outcome}
-use Rattle.capsteps.specs.declared.settle.SweepPlace.{SweepPlace}
-use Rattle.capsteps.specs.Serves.{Serves, is_touched}
+use Rattle.capacts.specs.declared.sweep.SweepPlace.{SweepPlace}
+use Rattle.capacts.specs.Reach.{is_touched, Reaches}
+use Rattle.capsteps.specs.Serves.{Serves}
 use Rattle.capsteps.specs.Settle.{Served, sets_size, is_done, sized_in}
-use Rattle.capsteps.specs.Sweep.{GoesOn, GoesOnBehind, IsSwept, Reaches, StandsAt}
+use Rattle.capsteps.specs.Sweep.{GoesOn, GoesOnBehind, IsSwept, StandsAt}
 use Rattle.capnotes.proofs.Noting.{leads-none, leads-then}
 use Rattle.capsteps.proofs.SoFar.{IsSoFar, so-far-begins, so-far-served, so-far-settled, so-far-swept, stands-behind, stands-first, turn-of_least}
-use Rattle.capsteps.proofs.Walked.{none-walked, walked-served}
+use Rattle.capacts.proofs.Walked.{none-walked}
+use Rattle.capsteps.proofs.WalkedStill.{walked-served}
 use Rattle.capsteps.proofs.settle.settle.Goals as goal
 use Rattle.capsteps.proofs.settle.settle.Goals.{After-last-last, After-place_behind-place}
 

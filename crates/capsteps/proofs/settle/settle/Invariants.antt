@@ -2,8 +2,8 @@ use Rattle.std.proofs.Common.{◌≡◌, ◌≤◌, ◌+◌, length}
 use Rattle.std.specs.Prelude.{vec_capacity}
 use Rattle.lockmachine.specs.Scene.{scene}
 use Rattle.capnotes.specs.Noted.{HavePlaces, LeadOn}
-use Rattle.capsteps.specs.Serves.{is_touched}
-use Rattle.capsteps.specs.Sweep.{AreWalked, StandsAt}
+use Rattle.capacts.specs.Reach.{is_touched, AreWalked}
+use Rattle.capsteps.specs.Sweep.{StandsAt}
 use Rattle.capnotes.specs.Untold.{HasRoom}
 use Rattle.capsteps.proofs.SoFar.{IsSoFar}
 use Rattle.capsteps.proofs.settle.settle.Given as goal

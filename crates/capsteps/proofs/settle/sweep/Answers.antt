@@ -2,7 +2,7 @@ use Rattle.std.proofs.Common.{subst}
 use Rattle.lockmachine.specs.Scene.{Scene, scene}
 use Rattle.lockmachine.specs.Turns.{IsDue}
 use Rattle.lockmachine.proofs.Alone.{nobody-done, nobody-kept}
-use Rattle.capsteps.specs.Serves.{is_touched}
+use Rattle.capacts.specs.Reach.{is_touched}
 use Rattle.capsteps.specs.Sweep.{AreStill, IsNextOf, IsSwept, StandsAt}
 use Rattle.capsteps.proofs.Sweeping.{fewer_behind, last-turn, next-turn, still-kept, swept-on}
 use Rattle.capsteps.proofs.settle.sweep.Goals as goal

@@ -1,5 +1,5 @@
 use Rattle.lockmachine.specs.Scene.{scene}
-use Rattle.capsteps.specs.Serves.{is_touched}
+use Rattle.capacts.specs.Reach.{is_touched}
 use Rattle.capsteps.specs.Sweep.{IsSwept, StandsAt}
 use Rattle.capsteps.proofs.Sweeping.{behind}
 use Rattle.capsteps.proofs.settle.sweep.Given as goal

@@ -1,6 +1,6 @@
 use Rattle.std.proofs.Common.{sym, subst, ◌∙◌}
 use Rattle.captable.specs.Table.{Table}
-use Rattle.capsteps.specs.Known.{StillKept}
+use Rattle.capacts.specs.Known.{StillKept}
 use Rattle.capsteps.proofs.TouchKept.{still-but, still-opened}
 use Rattle.capsteps.proofs.touch.make_entry.Goals as goal
 

@@ -3,7 +3,7 @@ use Rattle.capbits.specs.Sets.{union}
 use Rattle.captable.specs.Table.{entry_at}
 use Rattle.captable.specs.Calls.{wanting}
 use Rattle.capsteps.specs.Direct.{opening_wants, with_want}
-use Rattle.capsteps.specs.Known.{StillKept}
+use Rattle.capacts.specs.Known.{StillKept}
 use Rattle.capsteps.proofs.Knowing.{still-then}
 use Rattle.capsteps.proofs.Openings.{opening-there, opening-new}
 use Rattle.capsteps.proofs.TouchKept.{WasThere, still-itself, there-changed}

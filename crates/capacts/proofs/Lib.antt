@@ -1,0 +1,10 @@
+pub mod Again
+pub mod Memory
+pub mod InoSets
+pub mod Adding
+pub mod Numbered
+pub mod Verdicts
+pub mod Dropped
+pub mod Walked
+pub mod KeptSets
+pub mod Held

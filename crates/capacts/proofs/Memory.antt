@@ -1,0 +1,14 @@
+-- Which requests take memory.
+use Rattle.std.proofs.Common.{◌≡◌, true, refl}
+use Rattle.lockmachine.specs.declared.request.Ask.{Ask}
+use Rattle.lockmachine.specs.declared.request.Ask.TheVariants.{Get, Alter, Unlink, Rmdir, Rename}
+use Rattle.capacts.specs.Served.{is_rename}
+use Rattle.capacts.specs.Serving.{takes_memory}
+
+-- one that is to move an inode does, for the name
+pub rename-takes : (ask : Ask) → is_rename ask ≡ true → takes_memory ask ≡ true
+rename-takes (Get part) is = absurd (cc)
+rename-takes (Alter change) is = absurd (cc)
+rename-takes Unlink is = absurd (cc)
+rename-takes Rmdir is = absurd (cc)
+rename-takes (Rename dir name) is = refl

@@ -1,0 +1,48 @@
+use Rattle.std.proofs.Common.{◌≢◌, ℕ, ◌+◌, get_or, List, sym, ap, subst, ◌∙◌, true≢false, arith}
+use Rattle.std.specs.List.{AllWithin}
+use Rattle.capbits.specs.declared.ids.Ino.{Ino}
+use Rattle.captable.specs.declared.entry.EntryRow.{EntryRow}
+use Rattle.capnotes.specs.InoSets.{InoSet}
+use Rattle.capnotes.specs.Noted.{Noted}
+use Rattle.capacts.specs.Reach.{Widens}
+use Rattle.capacts.proofs.Adding.{differ, same-one, IsAdded, added-more}
+use Rattle.capacts.proofs.InoSets.{added, widens-added, widens-then}
+use Rattle.capacts.proofs.reach.add_held.Goals as goal
+use Rattle.capacts.proofs.reach.add_held.Goals.{then-ne+then-is_held+in_ok-add, else-ne, else-ne-via-then-ne+else-is_held, else-ne-via-else-ne}
+
+pub loop-other-preserved : goal.loop-other-preserved
+loop-other-preserved c =
+    let rows : List EntryRow = c.args.table.now.rows in
+    let ino : ℕ = c.args.ino.0 in
+    let inos : List Ino = c.args.inos.now in
+    let i : ℕ = c.loop-other.other-index in
+    let other : Ino = get_or inos i (record { 0 = 0 }) in
+    let was : InoSet = c.loop-other.touched in
+    elim c.if-ne.branch [
+      | then-ne+then-is_held+in_ok-add w ↦
+          let now : InoSet = w.add.new.touched in
+          let apart : other.0 ≢ ino = differ other.0 ino (sym c.ne.ensures ∙ w.if-ne.true) in
+          let one : Widens ino was now = widens-added other.0 was now w.in_ok-add.ensures.ok ino apart in
+          record {
+            items = ap (λ (n : Noted). n.items) w.changes-is ∙ w.add.ensures.items ∙ c.loop-other.invariant.items;
+            places = rw (w.touched-is, w.changes-is) (omega (arith, w.add.ensures.places, c.loop-other.invariant.places));
+            room = rw w.changes-is (omega (arith, w.add.ensures.room, c.loop-other.invariant.room));
+            widens = subst (Widens ino c.args.touched.now) (sym w.touched-is) (widens-then ino c.args.touched.now was now c.loop-other.invariant.widens one);
+            covers = subst (λ (m : InoSet). AllWithin (IsAdded rows ino m) inos 0 (i + 1)) (sym w.touched-is)
+                (added-more rows ino was now inos i (record { 0 = 0 }) c.loop-other-test.true one.stay c.loop-other.invariant.covers (λ _ _. added other.0 was now w.in_ok-add.ensures.ok));
+          }
+      | else-ne w ↦
+          let here : IsAdded rows ino was other = λ apart held.
+          elim w.else-ne.branch [
+            | else-ne-via-then-ne+else-is_held w' ↦ absurd (true≢false (sym held ∙ sym w'.is_held.ensures ∙ w'.if-is_held.false))
+            | else-ne-via-else-ne w' ↦ absurd (apart (same-one other.0 ino (sym c.ne.ensures ∙ w'.if-ne.false)))
+          ] in
+          record {
+            items = ap (λ (n : Noted). n.items) w.changes-is ∙ c.loop-other.invariant.items;
+            places = rw (w.touched-is, w.changes-is) c.loop-other.invariant.places;
+            room = rw w.changes-is c.loop-other.invariant.room;
+            widens = subst (Widens ino c.args.touched.now) (sym w.touched-is) c.loop-other.invariant.widens;
+            covers = subst (λ (m : InoSet). AllWithin (IsAdded rows ino m) inos 0 (i + 1)) (sym w.touched-is)
+                (added-more rows ino was was inos i (record { 0 = 0 }) c.loop-other-test.true (λ other there. there) c.loop-other.invariant.covers here);
+          }
+    ]

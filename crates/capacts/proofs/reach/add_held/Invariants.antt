@@ -1,0 +1,15 @@
+use Rattle.std.proofs.Common.{◌≡◌, ◌≤◌, ◌+◌}
+use Rattle.std.specs.FinSet as set
+use Rattle.std.specs.List.{AllWithin}
+use Rattle.capacts.specs.Reach.{Widens}
+use Rattle.capacts.proofs.Adding.{IsAdded}
+use Rattle.capacts.proofs.reach.add_held.Given as goal
+
+abbrev pub invariant-loop-other : goal.invariant-loop-other
+invariant-loop-other l = record {
+  widens : Widens l.ino.0 l.fn.touched l.touched;
+  items : l.changes.items ≡ l.fn.changes.items;
+  places : l.fn.changes.room + set.len l.touched ≤ l.changes.room + set.len l.fn.touched;
+  room : l.fn.changes.room ≤ l.changes.room;
+  covers : AllWithin (IsAdded l.table.rows l.ino.0 l.touched) l.inos 0 l.other-index;
+}

@@ -1,0 +1,85 @@
+-- What clients ask to be told or to change: the accesses that it needs, the tests that it has to pass, and what changes.
+use Rattle.std.specs.Prelude.{ℕ, List, [], ◌∷◌, ◌++◌, take, if◌then◌else◌}
+use Rattle.std.specs.Ordering.{eq_by_cmp}
+use Rattle.capbits.specs.declared.ids.ClientId.{ClientId}
+use Rattle.capbits.specs.declared.cap.Cap.{Cap}
+use Rattle.capbits.specs.declared.cap.Cap.TheVariants.{Ax, Lx, Xx, Fx}
+use Rattle.capbits.specs.declared.cap.Part.{Part}
+use Rattle.capbits.specs.declared.cap.Part.TheVariants.{A, L, X, F}
+use Rattle.capbits.specs.Refusal.{Test}
+use Rattle.capgrant.specs.declared.access.Access.{Access}
+use Rattle.capgrant.specs.declared.access.Access.TheVariants as access
+use Rattle.inotree.specs.declared.node.Setting.{Setting}
+use Rattle.inotree.specs.declared.node.Setting.TheVariants.{Mode, Uid, Gid, Size, Time}
+use Rattle.inotree.specs.Names.{name_cmp}
+use Rattle.inotree.specs.Tree.{parent}
+use Rattle.inotree.specs.Tests.{inode_tests, root_test, directory_test, file_test, empty_test, new_place_tests, setting_tests, new_attribute_tests, old_attribute_tests}
+use Rattle.lockmachine.specs.declared.request.Change.{Change}
+use Rattle.lockmachine.specs.declared.request.Change.TheVariants.{Set, SetXattr, RemoveXattr}
+use Rattle.lockmachine.specs.declared.request.Ask.{Ask}
+use Rattle.lockmachine.specs.declared.request.Ask.TheVariants.{Get, Alter, Unlink, Rmdir, Rename}
+use Rattle.lockmachine.specs.Scene.{Scene}
+use Rattle.capacts.specs.Needs.{Need, need, need_if}
+
+-- ---- accesses
+
+-- `ceph.`
+abbrev pub virtual_prefix : List ℕ
+virtual_prefix = 99 ∷ 101 ∷ 112 ∷ 104 ∷ 46 ∷ []
+
+-- an attribute whose name begins so needs an access of its own
+abbrev pub attribute_access : List ℕ → Access
+attribute_access name = if eq_by_cmp name_cmp (take 5 name) virtual_prefix then access.SetVxattr else access.Write
+
+abbrev pub setting_access : Setting → Access
+setting_access (Mode mode) = access.Chmod
+setting_access (Uid uid) = access.Chown uid
+setting_access (Gid gid) = access.Chgrp gid
+setting_access (Size size) = access.Write
+setting_access (Time time) = access.Write
+
+abbrev pub change_access : Change → Access
+change_access (Set setting) = setting_access setting
+change_access (SetXattr name value) = attribute_access name
+change_access (RemoveXattr name) = attribute_access name
+
+-- the accesses that it needs, in order
+abbrev pub ask_needs : Scene → ClientId → ℕ → Ask → List Need
+ask_needs s client ino (Get part) = need client ino access.Read ∷ []
+ask_needs s client ino (Alter change) = need client ino (change_access change) ∷ []
+ask_needs s client ino Unlink = need_if client (parent s.tree.nodes ino) access.Write
+ask_needs s client ino Rmdir = need_if client (parent s.tree.nodes ino) access.Write
+ask_needs s client ino (Rename dir name) = need_if client (parent s.tree.nodes ino) access.Write ++ need client dir.0 access.Write ∷ []
+
+-- ---- what is tested
+
+-- the tests before policy, without those of the session
+abbrev pub ask_before : Scene → ℕ → Ask → List Test
+ask_before s ino (Get part) = inode_tests s.tree ino
+ask_before s ino (Alter change) = inode_tests s.tree ino
+ask_before s ino Unlink = inode_tests s.tree ino ++ root_test s.tree ino ∷ []
+ask_before s ino Rmdir = inode_tests s.tree ino ++ root_test s.tree ino ∷ []
+ask_before s ino (Rename dir name) = inode_tests s.tree ino ++ root_test s.tree ino ∷ inode_tests s.tree dir.0
+
+-- the tests of a change
+abbrev pub change_tests : Scene → ℕ → Change → List Test
+change_tests s ino (Set setting) = setting_tests s.tree ino setting
+change_tests s ino (SetXattr name value) = new_attribute_tests s.tree ino name value
+change_tests s ino (RemoveXattr name) = old_attribute_tests s.tree ino name
+
+-- the tests behind policy, without that of the queue's room
+abbrev pub ask_after : Scene → ℕ → Ask → List Test
+ask_after s ino (Get part) = []
+ask_after s ino (Alter change) = change_tests s ino change
+ask_after s ino Unlink = file_test s.tree ino ∷ []
+ask_after s ino Rmdir = directory_test s.tree ino ∷ empty_test s.tree ino ∷ []
+ask_after s ino (Rename dir name) = new_place_tests s.tree ino dir.0 name
+
+-- ---- what changes
+
+-- the capability with which a client changes a part by itself
+abbrev pub exclusive : Part → Cap
+exclusive A = Ax
+exclusive L = Lx
+exclusive X = Xx
+exclusive F = Fx

@@ -1,0 +1,82 @@
+-- What an entry becomes at the end of a step, by the locks of its inode alone.
+use Rattle.std.specs.Prelude.{ℕ, Bool, List, [], ◌∷◌, Option, map as each}
+use Rattle.std.specs.Option.{option_map}
+use Rattle.std.specs.FinMap as map
+use Rattle.std.specs.FinSet as set
+use Rattle.capbits.specs.declared.cap.Cap.TheVariants.{P}
+use Rattle.capbits.specs.declared.cap.Part.{Part}
+use Rattle.capbits.specs.declared.cap.Part.TheVariants.{A, L, X, F}
+use Rattle.capbits.specs.Caps.{Caps}
+use Rattle.capbits.specs.Sets.{caps_in, union, meet, minus}
+use Rattle.locktable.specs.declared.states.LockState.{LockState}
+use Rattle.inotree.specs.Tree.{Nodes}
+use Rattle.sessiontab.specs.Table.{SessionTable}
+use Rattle.captable.specs.declared.entry.Entry.{Entry}
+use Rattle.captable.specs.declared.entry.EntryRow.{EntryRow}
+use Rattle.captable.specs.declared.entry.Holder.{Holder}
+use Rattle.captable.specs.Calls.{issued, renumbered}
+use Rattle.lockmachine.specs.declared.states.InodeLocks.{InodeLocks}
+use Rattle.lockmachine.specs.Inodes.{StateMap, lock_in}
+use Rattle.lockmachine.specs.Scene.{against_lock}
+use Rattle.lockmachine.specs.Policy.{permitted}
+use Rattle.lockmachine.specs.Wants.{effective_want}
+use Rattle.capacts.specs.Finish.{allowed_by}
+use Rattle.capnotes.specs.InoSets.{InoSet}
+
+-- the clients of these entries
+abbrev pub clients_of : List EntryRow → List ℕ
+clients_of rows = each (λ row. row.holder.client.0) rows
+
+-- the lock of a part, where the inode has locks
+abbrev pub lock_under : Option InodeLocks → Part → Option LockState
+lock_under locks part = option_map (lock_in part) locks
+
+-- what these locks of its inode revoke of the entry
+abbrev pub against_under : Option InodeLocks → EntryRow → Caps
+against_under locks row =
+    union (against_lock A row (lock_under locks A))
+    (union (against_lock L row (lock_under locks L)) (union (against_lock X row (lock_under locks X)) (against_lock F row (lock_under locks F))))
+
+-- what its client is to know that it holds, where it is permitted these capabilities
+abbrev pub told_under : Caps → Option InodeLocks → EntryRow → Caps
+told_under permitted locks row = minus row.entry.held (union (against_under locks row) (minus row.entry.held permitted))
+
+-- what the locks let its client hold, and the pin always
+abbrev pub allowed_under : Option InodeLocks → EntryRow → Caps
+allowed_under locks row =
+    union (caps_in (P ∷ []))
+    (union (allowed_by A row (lock_under locks A))
+    (union (allowed_by L row (lock_under locks L)) (union (allowed_by X row (lock_under locks X)) (allowed_by F row (lock_under locks F)))))
+
+-- the entry, with more held
+abbrev pub with_issued : Caps → EntryRow → EntryRow
+with_issued caps row = record row { entry = issued caps row.entry }
+
+-- what its client effectively wants and the locks allow
+abbrev pub due_under : List ℕ → Nodes → SessionTable → Option InodeLocks → EntryRow → Caps
+due_under fs tree sessions locks row = meet (effective_want fs tree sessions row) (allowed_under locks row)
+
+-- the entry, once this was issued: it has a new number if its client is told of another set than was known, so far as it still
+-- held that
+abbrev pub numbered_as : Caps → Caps → Caps → EntryRow → Entry
+numbered_as known told due row = renumbered (meet known row.entry.held) told (issued due row.entry)
+
+-- what its client is to know of at the end, where its inode has these locks
+abbrev pub told_at : List ℕ → Nodes → SessionTable → Option InodeLocks → EntryRow → Caps
+told_at fs tree sessions locks row = told_under (permitted fs tree sessions row.holder) locks (with_issued (due_under fs tree sessions locks row) row)
+
+-- the entry at the end, where this was known of entries
+abbrev pub entry_under : (Holder → Caps) → List ℕ → Nodes → SessionTable → Option InodeLocks → EntryRow → Entry
+entry_under known fs tree sessions locks row =
+    numbered_as (known row.holder) (told_at fs tree sessions locks row) (due_under fs tree sessions locks row) row
+
+-- both by the locks of all inodes
+abbrev pub told_by : List ℕ → Nodes → SessionTable → StateMap → EntryRow → Caps
+told_by fs tree sessions states row = told_at fs tree sessions (map.get states row.holder.ino.0) row
+
+abbrev pub entry_by : (Holder → Caps) → List ℕ → Nodes → SessionTable → StateMap → EntryRow → Entry
+entry_by known fs tree sessions states row = entry_under known fs tree sessions (map.get states row.holder.ino.0) row
+
+-- whether the row is an entry on one of these inodes
+abbrev pub is_on : InoSet → EntryRow → Bool
+is_on inos row = set.contains inos row.holder.ino.0

@@ -1,0 +1,39 @@
+-- What goes with a client's session where it ends, and what is left.
+use Rattle.std.specs.Prelude.{Bool, true, false, not, List, [], map as each, filter, if◌then◌else◌}
+use Rattle.capbits.specs.declared.ids.ClientId.{ClientId}
+use Rattle.captable.specs.Table.{Table}
+use Rattle.captable.specs.Calls.{without_client}
+use Rattle.lockmachine.specs.declared.request.Request.{Request}
+use Rattle.lockmachine.specs.Locks.{LockMap, requests_of, without_requests_of}
+use Rattle.capevents.specs.declared.outcome.Ended.{Ended}
+use Rattle.capevents.specs.declared.outcome.Outcome.TheVariants as outcome
+use Rattle.capnotes.specs.Untold.{is_to}
+use Rattle.capacts.specs.declared.leaving.Turn.{Turn}
+use Rattle.capacts.specs.declared.leaving.Turn.TheVariants.{Close, Stale, Renew, Regrant, Evict}
+
+-- the session ends
+abbrev pub is_end : Turn → Bool
+is_end Close = true
+is_end Stale = false
+is_end Renew = false
+is_end (Regrant grants) = false
+is_end Evict = true
+
+-- a request ends unserved, since its client's session does
+abbrev pub dropped_of : Request → Ended
+dropped_of q = record { client = q.client; ticket = q.ticket; outcome = outcome.Dropped }
+
+-- ---- what is left, where the session ends or does not
+
+abbrev pub table_left : Bool → Table → ClientId → Table
+table_left ends table client = if ends then without_client table client else table
+
+abbrev pub locks_left : Bool → LockMap → ClientId → LockMap
+locks_left ends locks client = if ends then without_requests_of locks client else locks
+
+abbrev pub messages_left : Bool → List Ended → ClientId → List Ended
+messages_left ends messages client = if ends then filter (λ m. not (is_to client m)) messages else messages
+
+-- the requests that are dropped, the oldest first
+abbrev pub dropped_by : Bool → LockMap → ClientId → List Ended
+dropped_by ends locks client = if ends then each dropped_of (requests_of locks client) else []

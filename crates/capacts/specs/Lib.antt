@@ -1,0 +1,11 @@
+pub mod Needs
+pub mod Asks
+pub mod Judge
+pub mod Serving
+pub mod Served
+pub mod Finish
+pub mod Finishing
+pub mod Known
+pub mod Reach
+pub mod Left
+pub mod Numbers

@@ -1,0 +1,85 @@
+-- How a request that waits for a lock is judged when it is served, and what it does then.
+use Rattle.std.specs.Prelude.{◌≡◌, ℕ, Bool, true, false, IsTrue, Option, Some, None}
+use Rattle.std.specs.FinMap as map
+use Rattle.capbits.specs.declared.cap.Part.{Part}
+use Rattle.capbits.specs.declared.cap.Part.TheVariants.{A, L, X, F}
+use Rattle.inotree.specs.declared.node.Node.{Node}
+use Rattle.lockmachine.specs.declared.request.Change.{Change}
+use Rattle.lockmachine.specs.declared.request.Change.TheVariants.{Set, SetXattr, RemoveXattr}
+use Rattle.lockmachine.specs.declared.request.Ask.{Ask}
+use Rattle.lockmachine.specs.declared.request.Ask.TheVariants.{Get, Alter, Unlink, Rmdir, Rename}
+use Rattle.lockmachine.specs.declared.request.Request.{Request}
+use Rattle.lockmachine.specs.declared.moves.Move.TheVariants.{Serve}
+use Rattle.lockmachine.specs.Moves.{moved as moved_locks}
+use Rattle.lockmachine.specs.Scene.{Scene}
+use Rattle.capevents.specs.declared.outcome.PartValues.{PartValues}
+use Rattle.capevents.specs.declared.outcome.PartValues.TheVariants as values
+use Rattle.capevents.specs.declared.outcome.Outcome.{Outcome}
+use Rattle.capevents.specs.declared.outcome.Outcome.TheVariants as outcome
+use Rattle.capacts.specs.declared.stopped.Stopped.{Stopped}
+use Rattle.capacts.specs.declared.stopped.Stopped.TheVariants.{ByPolicy, ByTest}
+use Rattle.capacts.specs.Asks.{ask_before, ask_needs, ask_after}
+use Rattle.capnotes.specs.Changing.{tree_after}
+use Rattle.capacts.specs.Judge.{stop}
+
+-- what stops the request now
+abbrev pub judged_again : Scene → Request → Option Stopped
+judged_again s q = stop s (ask_before s q.ino.0 q.ask) (ask_needs s q.client q.ino.0 q.ask) (ask_after s q.ino.0 q.ask)
+
+-- ---- what it does
+
+abbrev pub values_of : Part → Node → PartValues
+values_of A node = values.Auth node.attr
+values_of L node = values.Link
+values_of X node = values.Xattr node.attributes
+values_of F node = values.File node.size node.time
+
+-- what the inode keeps of a part; one that a test has found is there
+abbrev pub told_of : Part → Option Node → Outcome
+told_of part None = outcome.Done
+told_of part (Some node) = outcome.Values (values_of part node)
+
+abbrev pub passed_as : Scene → ℕ → Ask → Outcome
+passed_as s ino (Get part) = told_of part (map.get s.tree.nodes ino)
+passed_as s ino (Alter change) = outcome.Done
+passed_as s ino Unlink = outcome.Done
+passed_as s ino Rmdir = outcome.Done
+passed_as s ino (Rename dir name) = outcome.Done
+
+-- what stopped it, as its outcome
+abbrev pub stop_outcome : Stopped → Outcome
+stop_outcome (ByPolicy access rules) = outcome.Denied access rules
+stop_outcome (ByTest refusal) = outcome.Refused refusal
+
+abbrev pub outcome_unless : Scene → Request → Option Stopped → Outcome
+outcome_unless s q (Some stopped) = stop_outcome stopped
+outcome_unless s q None = passed_as s q.ino.0 q.ask
+
+-- how the request ends if it is served now and finds its memory
+abbrev pub outcome_of : Scene → Request → Outcome
+outcome_of s q = outcome_unless s q (judged_again s q)
+
+abbrev pub change_takes_memory : Change → Bool
+change_takes_memory (SetXattr name value) = true
+change_takes_memory (Set setting) = false
+change_takes_memory (RemoveXattr name) = false
+
+-- an attribute that is set, a new name and a list of attributes take memory
+abbrev pub takes_memory : Ask → Bool
+takes_memory (Get X) = true
+takes_memory (Get A) = false
+takes_memory (Get L) = false
+takes_memory (Get F) = false
+takes_memory (Alter change) = change_takes_memory change
+takes_memory Unlink = false
+takes_memory Rmdir = false
+takes_memory (Rename dir name) = true
+
+-- how it may end: as it is judged now; or nothing stops it, but it takes memory and finds none
+pub data MayEndAs (s : Scene) (q : Request) : Outcome → Type 0 where
+  As_judged : MayEndAs s q (outcome_of s q)
+  Without_memory : judged_again s q ≡ None → IsTrue (takes_memory q.ask) → MayEndAs s q outcome.OutOfMemory
+
+-- it waits no more
+abbrev pub served : Scene → Request → Outcome → Scene
+served s q o = record s { tree = tree_after s.tree q o; locks = moved_locks s.locks (Serve q.ticket) }

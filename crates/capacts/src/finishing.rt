@@ -1,0 +1,99 @@
+//! The end of a step at one entry.
+ghost use Rattle.std.specs.Prelude.{◌≡◌, ◌<◌, ◌^◌, ◌-◌, Some, IsSome};
+ghost use Rattle.std.specs.HashMap.{get};
+ghost use Rattle.std.specs.FinMap as map;
+ghost use Rattle.std.specs.Option.{option_copied};
+ghost use Rattle.inotree.specs.Tree.{path_of};
+ghost use Rattle.captable.specs.Table.{same, entry_at};
+ghost use Rattle.captable.specs.Calls.{changed};
+ghost use Rattle.captable.specs.Many.{changed_by};
+ghost use Rattle.capacts.specs.Finish.{allowed_by};
+ghost use Rattle.capacts.specs.Finishing as words;
+ghost use Rattle.capacts.specs.Known.{KeptAnew, known_in};
+
+use crate::known::Known;
+use crate::told::{lock_under, told_under};
+use capbits::{Cap, CapSet, Part};
+use capspec::FsName;
+use captable::{CapTable, Entry, EntryRow};
+use inotree::{Names, Node, Tree};
+use lockmachine::{InodeLocks, permitted_and_wanted};
+use locktable::allowed;
+use sessiontab::Sessions;
+
+/// Issues what is due to the entry, which is there, numbers what its client is to know of, and keeps that. The inode has this path
+/// and this node in the tree, and these locks.
+pub fn finish_row(
+    fs: &FsName,
+    tree: &Tree,
+    sessions: &Sessions,
+    table: &mut CapTable,
+    known: &mut Known,
+    row: EntryRow,
+    path: Option<&Names<'_>>,
+    node: Option<&Node>,
+    locks: &Option<InodeLocks>,
+)
+    requires there { entry_at table.old row.holder ≡ Some row.entry }
+    requires path { option_copied path ≡ path_of tree.now.nodes row.holder.ino.0 }
+    requires node { option_copied node ≡ map.get tree.now.nodes row.holder.ino.0 }
+    requires number { row.entry.seq < 2 ^ 64 - 1 }
+    requires room { IsSome (get same known.old.sets row.holder) }
+    ensures table { table.new
+        ≡ changed_by (words.entry_under (known_in known.old.sets) fs.now tree.now sessions.now locks.now) table.old row.holder }
+    ensures known { KeptAnew (λ k. same k row.holder) (words.told_at fs.now tree.now sessions.now locks.now)
+        table.old known.old.sets known.new.sets }
+{
+    let (permitted, wanted) = permitted_and_wanted(fs, sessions, row, path, node);
+    let due = wanted.meet(allowed_under(&row, locks));
+    let told = told_under(&with_issued(&row, due), permitted, locks);
+    let before = known.put(row.holder, told);
+    issue(table, &row, due, before, told);
+}
+
+// Issues this to the entry's client, and numbers what it is to know of, where that is told now and was known before the event.
+fn issue(table: &mut CapTable, row: &EntryRow, due: CapSet, known: CapSet, told: CapSet)
+    requires there { entry_at table.old row.now.holder ≡ Some row.now.entry }
+    requires room { row.now.entry.seq < 2 ^ 64 - 1 }
+    ensures { table.new ≡ changed table.old row.now.holder (λ _. words.numbered_as known told due row.now) }
+{
+    let (client, ino) = (row.holder.client, row.holder.ino);
+    let before = known.meet(row.entry.held);
+    // Most entries of an inode stay as they are.
+    let unheld = due.minus(row.entry.held);
+    let (lost, gained) = (before.minus(told), told.minus(before));
+    if unheld.is_empty() && lost.is_empty() && gained.is_empty() {
+        return;
+    }
+    table.issue_numbered(client, ino, due, before, told);
+}
+
+// The entry, with more held.
+fn with_issued(row: &EntryRow, due: CapSet) -> EntryRow
+    ensures { result ≡ words.with_issued due row.now }
+{
+    let held = row.entry.held.union(due);
+    let entry = Entry { held, ..row.entry };
+    EntryRow { entry, ..*row }
+}
+
+// What these locks of the inode let the client hold, and the pin always.
+fn allowed_under(row: &EntryRow, locks: &Option<InodeLocks>) -> CapSet
+    ensures { result ≡ words.allowed_under locks.now row.now }
+{
+    let auth = allowed_part(Part::A, row, locks);
+    let link = allowed_part(Part::L, row, locks);
+    let xattr = allowed_part(Part::X, row, locks);
+    let file = allowed_part(Part::F, row, locks);
+    CapSet::of(&[Cap::P]).union(auth.union(link.union(xattr.union(file))))
+}
+
+// What they let the client hold of a part.
+fn allowed_part(part: Part, row: &EntryRow, locks: &Option<InodeLocks>) -> CapSet
+    ensures { result ≡ allowed_by part row.now (words.lock_under locks.now part) }
+{
+    match lock_under(locks, part) {
+        Some(lock) => allowed(part, lock, row.holder.client),
+        None => CapSet::empty(),
+    }
+}

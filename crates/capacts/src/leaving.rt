@@ -1,0 +1,82 @@
+//! What goes with a client's session where it ends.
+ghost use Rattle.std.specs.Prelude.{Some, ◌≡◌, ◌+◌, ◌≤◌, ◌++◌, length, map as each};
+ghost use Rattle.std.specs.HashMap.{get};
+ghost use Rattle.captable.specs.declared.entry.Entry.{Entry};
+ghost use Rattle.captable.specs.declared.entry.Holder.{Holder};
+ghost use Rattle.captable.specs.Table.{same, entry_at};
+ghost use Rattle.lockmachine.specs.Locks.{requests_of, without_requests_of};
+ghost use Rattle.capacts.specs.Left.{dropped_of, is_end};
+ghost use Rattle.capacts.specs.Left as words;
+
+use crate::known::Known;
+use capbits::ClientId;
+use capevents::{Ended, Outcome};
+use capnotes::Messages;
+use capspec::Grants;
+use captable::CapTable;
+use lockmachine::Locks;
+
+/// What becomes of a client's session.
+#[derive(Clone, Copy)]
+pub enum Turn<'a> {
+    /// The client ends it.
+    Close,
+    /// It is stale.
+    Stale,
+    /// It is open again.
+    Renew,
+    /// It has these grants in place of those that it had.
+    Regrant(&'a Grants),
+    /// The client is thrown out.
+    Evict,
+}
+
+/// Where the session ends, takes out all that is the client's, and lists its requests as dropped.
+pub fn leave(
+    table: &mut CapTable,
+    known: &mut Known,
+    locks: &mut Locks,
+    messages: &mut Messages,
+    client: ClientId,
+    turn: Turn,
+    dropped: &mut Messages,
+)
+    requires room { length dropped.old.items + length locks.old.queue ≤ dropped.old.room }
+    ensures table { table.new ≡ words.table_left (is_end turn.entry) table.old client }
+    ensures known { (k : Holder) (e : Entry) → entry_at table.new k ≡ Some e → get same known.new.sets k ≡ get same known.old.sets k }
+    ensures locks { locks.new ≡ words.locks_left (is_end turn.entry) locks.old client }
+    ensures messages { messages.new.items ≡ words.messages_left (is_end turn.entry) messages.old.items client }
+    ensures left { messages.new.room ≡ messages.old.room }
+    ensures dropped { dropped.new.items ≡ dropped.old.items ++ words.dropped_by (is_end turn.entry) locks.old client }
+    ensures room { length dropped.new.items + length locks.new.queue ≤ dropped.new.room }
+{
+    match turn {
+        Turn::Close | Turn::Evict => {
+            known.remove_client(table, client);
+            table.drop_client(client);
+            messages.remove_to(client);
+            drop_requests(locks, client, dropped);
+        }
+        Turn::Stale | Turn::Renew | Turn::Regrant(_) => {}
+    }
+}
+
+// Takes the client's requests out, and lists them, the oldest first.
+fn drop_requests(locks: &mut Locks, client: ClientId, dropped: &mut Messages)
+    requires room { length dropped.old.items + length locks.old.queue ≤ dropped.old.room }
+    ensures locks { locks.new ≡ without_requests_of locks.old client }
+    ensures dropped { dropped.new.items ≡ dropped.old.items ++ each dropped_of (requests_of locks.old client) }
+    ensures room { length dropped.new.items + length locks.new.queue ≤ dropped.new.room }
+{
+    for request in locks.requests() {
+        if request.client.0 == client.0 {
+            let (ticket, outcome) = (request.ticket, Outcome::Dropped);
+            dropped.push(Ended {
+                client,
+                ticket,
+                outcome,
+            });
+        }
+    }
+    locks.drop_requests_of(client);
+}

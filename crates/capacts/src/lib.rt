@@ -1,0 +1,17 @@
+//! The acts of a step, each on one thing: a request that is judged, or served and what it reaches; an inode whose locks move; an
+//! entry at the end of the step; a client that leaves; a row more in the history.
+//!
+//! `capsteps` goes over all that a step touches with them.
+#![tactic(auto)]
+
+pub mod finishing;
+pub mod history;
+pub mod judge;
+pub mod known;
+pub mod leaving;
+pub mod reach;
+pub mod serving;
+pub mod stop;
+pub mod stopped;
+pub mod sweep;
+pub mod told;

@@ -1,0 +1,121 @@
+//! What a request that moves its inode reaches: the inodes below that somebody has an entry on.
+ghost use Rattle.std.specs.Prelude.{◌≡◌, ◌≢◌, ◌≤◌, ◌+◌, true, Contains, OnOk, OnErr};
+ghost use Rattle.std.specs.List.{list_any};
+ghost use Rattle.std.specs.FinSet as set;
+ghost use Rattle.captable.specs.Calls.{is_of_inode};
+ghost use Rattle.capacts.specs.Served.{is_rename};
+ghost use Rattle.capacts.specs.Reach.{AreWalked, Covers, CoversBelow, Widens};
+
+use capbits::Ino;
+use capnotes::{ChangeList, InoSet};
+use captable::CapTable;
+use inotree::Tree;
+use lockmachine::{Ask, Request};
+use std::alloc::{AllocError, Global};
+
+/// If the request moves its inode, adds every inode at or below it that somebody has an entry on, but for this one, with a place
+/// for the change of each. What renames of this step have walked over is touched, and stays so.
+pub fn reach(
+    alloc: Global,
+    tree: &Tree,
+    table: &CapTable,
+    request: &Request,
+    ino: Ino,
+    walked: &mut InoSet,
+    touched: &mut InoSet,
+    changes: &mut ChangeList,
+) -> Result<(), AllocError>
+    requires walked { AreWalked walked.old ino.0 tree.now table.now touched.old }
+    ensures walked { AreWalked walked.new ino.0 tree.now table.now touched.new }
+    ensures widens { Widens ino.0 touched.old touched.new }
+    ensures covers { OnOk result (Covers request.now ino.0 tree.now table.now touched.new) }
+    ensures memory { OnErr result (is_rename request.now.ask ≡ true) }
+    // There is a place more for each.
+    ensures items { changes.new.items ≡ changes.old.items }
+    ensures places { changes.old.room + set.len touched.new ≤ changes.new.room + set.len touched.old }
+    ensures room { changes.old.room ≤ changes.new.room }
+{
+    match request.ask {
+        Ask::Rename { .. } => {
+            let above = request.ino;
+            walk(alloc, tree, table, above, ino, walked, touched, changes)
+        }
+        Ask::Get(_) | Ask::Alter(_) | Ask::Unlink | Ask::Rmdir => Ok(()),
+    }
+}
+
+// Adds those at or below this inode, unless a rename of the step has walked from it before: what lies there now was touched then,
+// or when it was moved there.
+fn walk(
+    alloc: Global,
+    tree: &Tree,
+    table: &CapTable,
+    above: Ino,
+    ino: Ino,
+    walked: &mut InoSet,
+    touched: &mut InoSet,
+    changes: &mut ChangeList,
+) -> Result<(), AllocError>
+    requires walked { AreWalked walked.old ino.0 tree.now table.now touched.old }
+    ensures walked { AreWalked walked.new ino.0 tree.now table.now touched.new }
+    ensures widens { Widens ino.0 touched.old touched.new }
+    ensures covers { OnOk result (CoversBelow above.0 ino.0 tree.now table.now touched.new) }
+    ensures items { changes.new.items ≡ changes.old.items }
+    ensures places { changes.old.room + set.len touched.new ≤ changes.new.room + set.len touched.old }
+    ensures room { changes.old.room ≤ changes.new.room }
+{
+    if walked.contains(above) {
+        return Ok(());
+    }
+    let inos = tree.within(alloc, above)?;
+    add_held(table, ino, inos.as_slice(), touched, changes)?;
+    // Where this finds no memory, the next rename of the inode walks once more.
+    let _walked = walked.insert(above);
+    Ok(())
+}
+
+// Adds each of these inodes that somebody has an entry on, but for this one.
+fn add_held(
+    table: &CapTable,
+    ino: Ino,
+    inos: &[Ino],
+    touched: &mut InoSet,
+    changes: &mut ChangeList,
+) -> Result<(), AllocError>
+    ensures widens { Widens ino.0 touched.old touched.new }
+    ensures covers { OnOk result ((other : Ino) → Contains inos.now other → other.0 ≢ ino.0
+        → list_any (is_of_inode other) table.now.rows ≡ true → set.contains touched.new other.0 ≡ true) }
+    ensures items { changes.new.items ≡ changes.old.items }
+    ensures places { changes.old.room + set.len touched.new ≤ changes.new.room + set.len touched.old }
+    ensures room { changes.old.room ≤ changes.new.room }
+{
+    for other in inos {
+        if *other != ino && is_held(table, *other) {
+            add(*other, touched, changes)?;
+        }
+    }
+    Ok(())
+}
+
+// Adds the inode, with a place for its change. For want of memory it is not added.
+fn add(ino: Ino, touched: &mut InoSet, changes: &mut ChangeList) -> Result<(), AllocError>
+    ensures ok { OnOk result (touched.new ≡ set.insert touched.old ino.0) }
+    ensures err { OnErr result (touched.new ≡ touched.old) }
+    ensures items { changes.new.items ≡ changes.old.items }
+    ensures places { changes.old.room + set.len touched.new ≤ changes.new.room + set.len touched.old }
+    ensures room { changes.old.room ≤ changes.new.room }
+{
+    changes.add_place()?;
+    touched.insert(ino)
+}
+
+/// Whether somebody has an entry on the inode.
+pub fn is_held(table: &CapTable, ino: Ino) -> bool
+    ensures { result ≡ list_any (is_of_inode ino) table.now.rows }
+{
+    let mut walk = table.holders_of(ino);
+    match walk.next() {
+        Some(_row) => true,
+        None => false,
+    }
+}

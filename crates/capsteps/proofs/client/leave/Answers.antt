@@ -1,9 +1,0 @@
-use Rattle.std.proofs.Common.{◌≡◌, None, ap, ◌∙◌}
-use Rattle.captable.specs.Table.{Table, entry_at}
-use Rattle.captable.proofs.ByHolder.{entry_at-without_client}
-use Rattle.capsteps.proofs.client.leave.Goals as goal
-
-pub returns-in-Close-clause-known : goal.returns-in-Close-clause-known
-returns-in-Close-clause-known c = λ k e there.
-    c.remove_client.ensures k (λ mine.
-    let gone : entry_at c.drop_client.new.self k ≡ None = ap (λ (t : Table). entry_at t k) c.drop_client.ensures ∙ entry_at-without_client c.args.table.now c.args.client k mine in absurd (cc))
