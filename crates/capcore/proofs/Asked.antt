@@ -29,11 +29,11 @@ use Rattle.lockmachine.proofs.SameBut.{same-request}
 use Rattle.capevents.specs.declared.event.Event.{Event}
 use Rattle.capevents.specs.declared.event.Event.TheVariants as event
 use Rattle.capsteps.specs.State.{State}
-use Rattle.capsteps.specs.Asks.{ask_before, ask_needs, ask_after}
-use Rattle.capsteps.specs.Judge.{judged, asked_tests, asking_tests, waiting_tests, stop, stop_by, first_denied}
-use Rattle.capsteps.specs.Needs.{Need}
+use Rattle.capacts.specs.Asks.{ask_before, ask_needs, ask_after}
+use Rattle.capacts.specs.Judge.{judged, asked_tests, asking_tests, waiting_tests, stop, stop_by, first_denied}
+use Rattle.capacts.specs.Needs.{Need}
 use Rattle.capsteps.specs.Direct.{direct, effect, effect_unless, asks}
-use Rattle.capsteps.specs.Serving.{judged_again}
+use Rattle.capacts.specs.Serving.{judged_again}
 use Rattle.capsteps.specs.Sound.{IsSound, AreGiven}
 use Rattle.capsteps.specs.Touching.{asks_for, IsTouchedEntry, TouchesOne}
 use Rattle.capsteps.proofs.NothingServed.{sound-pinned}

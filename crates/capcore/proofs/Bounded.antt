@@ -11,11 +11,11 @@ use Rattle.capevents.specs.declared.event.Event.{Event}
 use Rattle.capevents.specs.declared.event.Event.TheVariants as event
 use Rattle.capevents.specs.declared.outcome.Ended.{Ended}
 use Rattle.capevents.specs.declared.reply.Reply.{Reply}
-use Rattle.capsteps.specs.declared.stopped.Stopped.{Stopped}
+use Rattle.capacts.specs.declared.stopped.Stopped.{Stopped}
 use Rattle.capsteps.specs.State.{State}
 use Rattle.capsteps.specs.Direct.{direct, effect, effect_unless, found}
 use Rattle.capsteps.specs.Headline.{ByMoves, AreBounded, move_of}
-use Rattle.capsteps.specs.Judge.{judged}
+use Rattle.capacts.specs.Judge.{judged}
 use Rattle.capsteps.specs.Settle.{Made, Began, Gathered, Served, MakesAll, ended_in}
 use Rattle.capsteps.specs.Step.{Step}
 use Rattle.capsteps.specs.Touching.{touched_by}

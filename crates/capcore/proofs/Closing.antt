@@ -25,14 +25,14 @@ use Rattle.capsteps.specs.declared.said.Said.{Said}
 use Rattle.capsteps.specs.State.{State}
 use Rattle.capsteps.specs.Answered.{IsAnswered}
 use Rattle.capsteps.specs.Direct.{direct, reply_of, shown, with_scene}
-use Rattle.capsteps.specs.Judge.{judged}
+use Rattle.capacts.specs.Judge.{judged}
 use Rattle.capsteps.specs.Serves.{SettlesWith, EndsWith}
-use Rattle.capsteps.specs.Finish.{sizes_owed}
+use Rattle.capacts.specs.Finish.{sizes_owed}
 use Rattle.capsteps.specs.Settle.{MakesAll, ended_in, sized_in}
 use Rattle.capsteps.specs.Sound.{IsSoundEntry, IsSound, NumbersLeft}
 use Rattle.capsteps.specs.Step.{earlier, all_ended, state_at_end}
 use Rattle.capsteps.specs.Touching.{touched_by, IsTouchedEntry, Touches, TouchesOne, SettlesAt, Knows, finished_at}
-use Rattle.capsteps.specs.Known.{known_in, AreKnown, StillKept}
+use Rattle.capacts.specs.Known.{known_in, AreKnown, StillKept}
 use Rattle.capnotes.specs.Untold.{HaveOwnNumbers, but_for}
 use Rattle.capcore.proofs.Concluded.{IsConcluded, GivesOne, concluded}
 use Rattle.capcore.proofs.EndKnown.{ends-known}

@@ -14,7 +14,7 @@ use Rattle.capevents.specs.declared.reply.Reply.{Reply}
 use Rattle.capsteps.specs.State.{State}
 use Rattle.capsteps.specs.Direct.{direct, reply_of, shown}
 use Rattle.capsteps.specs.Headline.{IssuesExactly}
-use Rattle.capsteps.specs.Finish.{sizes_owed}
+use Rattle.capacts.specs.Finish.{sizes_owed}
 use Rattle.capsteps.specs.Settle.{Made, ended_in, sized_in}
 use Rattle.capsteps.specs.Sound.{IsSound, AreGiven}
 use Rattle.capsteps.specs.Step.{Step, all_ended, state_at_end}

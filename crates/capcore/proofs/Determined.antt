@@ -28,15 +28,15 @@ use Rattle.capevents.specs.declared.outcome.Outcome.{Outcome}
 use Rattle.capevents.specs.declared.outcome.Outcome.TheVariants as outcome
 use Rattle.capevents.specs.declared.reply.Reply.{Reply}
 use Rattle.capevents.specs.declared.reply.Reply.TheVariants as reply
-use Rattle.capsteps.specs.declared.stopped.Stopped.{Stopped}
+use Rattle.capacts.specs.declared.stopped.Stopped.{Stopped}
 use Rattle.capevents.specs.Replies.{outcome_reply}
 use Rattle.capsteps.specs.Direct.{Direct, Answer, Says, Shows, Gives, Awaits, direct, effect, effect_unless, asks, found, reply_of, shown, awaited_as}
 use Rattle.capnotes.specs.Untold.{is_of_ticket, HaveOwnNumbers}
-use Rattle.capsteps.specs.Finish.{sizes_owed, finished}
+use Rattle.capacts.specs.Finish.{sizes_owed, finished}
 use Rattle.capsteps.specs.Headline.{move_of}
-use Rattle.capsteps.specs.Judge.{judged}
+use Rattle.capacts.specs.Judge.{judged}
 use Rattle.capcore.specs.SameEvents.{FoundMemory}
-use Rattle.capsteps.specs.Serving.{MayEndAs, As_judged, Without_memory, served}
+use Rattle.capacts.specs.Serving.{MayEndAs, As_judged, Without_memory, served}
 use Rattle.capsteps.specs.Settle.{Made, Began, Gathered, Served, Makes, MakesAll, ended_in, sized_in}
 use Rattle.capsteps.specs.State.{State}
 use Rattle.capsteps.specs.Step.{Step, StepBy, earlier, state_after, all_ended}

@@ -16,11 +16,11 @@ use Rattle.capevents.specs.declared.event.Event.{Event}
 use Rattle.capevents.specs.declared.event.Event.TheVariants as event
 use Rattle.capevents.specs.declared.reply.Reply.{Reply}
 use Rattle.capevents.specs.declared.reply.Reply.TheVariants as reply
-use Rattle.capsteps.specs.declared.stopped.Stopped.{Stopped}
-use Rattle.capsteps.specs.declared.stopped.Stopped.TheVariants.{ByTest}
+use Rattle.capacts.specs.declared.stopped.Stopped.{Stopped}
+use Rattle.capacts.specs.declared.stopped.Stopped.TheVariants.{ByTest}
 use Rattle.capsteps.specs.State.{State}
-use Rattle.capsteps.specs.Judge.{stop, stop_reply, judged, asked_tests}
-use Rattle.capsteps.specs.Needs.{Need, need}
+use Rattle.capacts.specs.Judge.{stop, stop_reply, judged, asked_tests}
+use Rattle.capacts.specs.Needs.{Need, need}
 use Rattle.capsteps.specs.Direct.{Says, IsDirect, direct, effect_unless, found, with_birth, owned_by, made_event}
 use Rattle.capsteps.proofs.Judging.{stopped, passed, direct-stopped, direct-passed}
 

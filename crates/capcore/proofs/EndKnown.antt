@@ -10,8 +10,8 @@ use Rattle.captable.proofs.ByHolder.{row_found}
 use Rattle.lockmachine.specs.Scene.{Scene, told_set}
 use Rattle.capevents.specs.declared.outcome.Ended.{Ended}
 use Rattle.capsteps.specs.State.{State}
-use Rattle.capsteps.specs.Finish.{sizes_owed}
-use Rattle.capsteps.specs.Known.{known_in, AreKnown, StillKept, KeptAnew}
+use Rattle.capacts.specs.Finish.{sizes_owed}
+use Rattle.capacts.specs.Known.{known_in, AreKnown, StillKept, KeptAnew}
 use Rattle.capsteps.specs.Serves.{SettlesWith, EndsWith}
 use Rattle.capsteps.specs.Sound.{IsSound}
 use Rattle.capsteps.specs.Touching.{Touches, Knows, told_then, finished_at}

@@ -23,14 +23,14 @@ use Rattle.lockmachine.proofs.SameBut.{same-trans, same-tree, same-entries}
 use Rattle.capevents.specs.declared.event.Event.TheVariants as event
 use Rattle.capevents.specs.declared.reply.Reply.TheVariants as reply
 use Rattle.capsteps.specs.State.{State}
-use Rattle.capsteps.specs.Asks.{change_tests, exclusive}
+use Rattle.capacts.specs.Asks.{change_tests, exclusive}
 use Rattle.capnotes.specs.Changing.{tree_changed}
-use Rattle.capsteps.specs.Judge.{judged}
+use Rattle.capacts.specs.Judge.{judged}
 use Rattle.capsteps.specs.Direct.{direct, effect_unless, says, with_flush}
-use Rattle.capsteps.specs.Served.{change_call_tests}
+use Rattle.capacts.specs.Served.{change_call_tests}
 use Rattle.capsteps.specs.Sound.{IsSound, AreGiven}
 use Rattle.capsteps.specs.Touching.{IsTouchedEntry, TouchesOne}
-use Rattle.capsteps.proofs.Again.{change-passed}
+use Rattle.capacts.proofs.Again.{change-passed}
 use Rattle.capsteps.proofs.OneChange.{by_change, alike_change}
 use Rattle.capsteps.proofs.NothingServed.{sound-pinned}
 use Rattle.capsteps.proofs.Touched.{all-left, before-passed, after-passed, AreBelow}

@@ -7,8 +7,9 @@ use Rattle.capevents.specs.declared.row.Row.{Row}
 use Rattle.capsteps.specs.State.{State}
 use Rattle.capsteps.specs.Step.{Step}
 use Rattle.capsteps.specs.Sound.{IsSound, AreGiven}
-use Rattle.capsteps.specs.History.{Told, told, IsTold, IsOpening, HasNoStray, Replays, rows_of}
-use Rattle.capsteps.proofs.Numbered.{numbered-nil, numbered-snoc}
+use Rattle.capacts.specs.Numbers.{rows_of}
+use Rattle.capsteps.specs.History.{Told, told, IsTold, IsOpening, HasNoStray, Replays}
+use Rattle.capacts.proofs.Numbered.{numbered-nil, numbered-snoc}
 use Rattle.capsteps.proofs.ShownSteps.{step-shown}
 use Rattle.capcore.proofs.Sounding.{opening-sound, opening-given}
 

@@ -17,11 +17,11 @@ use Rattle.lockmachine.specs.Scene.{Scene}
 use Rattle.capevents.specs.declared.event.Event.{Event}
 use Rattle.capevents.specs.declared.event.Event.TheVariants as event
 use Rattle.capevents.specs.declared.event.OpenMode.{OpenMode}
-use Rattle.capsteps.specs.declared.stopped.Stopped.{Stopped}
+use Rattle.capacts.specs.declared.stopped.Stopped.{Stopped}
 use Rattle.capsteps.specs.State.{State}
 use Rattle.capsteps.specs.Direct.{Direct, direct, effect, effect_unless, found, with_entry, with_opening}
 use Rattle.capsteps.specs.Headline.{holds, is_due, IssuesExactly}
-use Rattle.capsteps.specs.Judge.{judged, revoked_of}
+use Rattle.capacts.specs.Judge.{judged, revoked_of}
 use Rattle.capsteps.specs.Shown.{may_take, TakesOnlySo}
 use Rattle.capsteps.proofs.ShownSteps.{apart-of, apart_client, entry_at-entry_other}
 use Rattle.capcore.proofs.ShownWords.{holds-entry, holds-found, gone_is}

@@ -9,11 +9,11 @@ use Rattle.lockmachine.specs.declared.request.Change.{Change}
 use Rattle.lockmachine.specs.Locks.{IsLockMap}
 use Rattle.capevents.specs.declared.event.Event.{Event}
 use Rattle.capevents.specs.declared.event.Event.TheVariants as event
-use Rattle.capsteps.specs.declared.stopped.Stopped.{Stopped}
+use Rattle.capacts.specs.declared.stopped.Stopped.{Stopped}
 use Rattle.capsteps.specs.declared.touch.Touch.{Touch}
 use Rattle.capsteps.specs.declared.touch.Touch.TheVariants.{Open, Want, Ack, Release}
 use Rattle.capsteps.specs.State.{State}
-use Rattle.capsteps.specs.Judge.{judged}
+use Rattle.capacts.specs.Judge.{judged}
 use Rattle.capsteps.specs.Direct.{Direct, direct, effect, effect_unless}
 use Rattle.capsteps.specs.Touch.{touch_event}
 use Rattle.capsteps.specs.Touching.{touched_by, asks_for, TouchesOne}

@@ -15,7 +15,7 @@ use Rattle.capevents.specs.declared.event.Event.{Event}
 use Rattle.capevents.specs.declared.outcome.Ended.{Ended}
 use Rattle.capevents.specs.declared.reply.Reply.{Reply}
 use Rattle.capsteps.specs.Direct.{Answer, Says, Shows, Gives, Awaits, direct, shown}
-use Rattle.capsteps.specs.Finish.{is_kept, issue, sizes_owed}
+use Rattle.capacts.specs.Finish.{is_kept, issue, sizes_owed}
 use Rattle.capsteps.specs.Headline.{ByMoves, OtherLocksStay, is_of_lock_at}
 use Rattle.capsteps.specs.Settle.{Made, Began, Gathered, Served, Makes, MakesAll, sized_in}
 use Rattle.capsteps.specs.State.{State}

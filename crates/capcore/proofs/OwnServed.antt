@@ -33,12 +33,12 @@ use Rattle.lockmachine.proofs.Rest.{same_part_is}
 use Rattle.capevents.specs.declared.outcome.Outcome.{Outcome}
 use Rattle.capevents.specs.declared.reply.Reply.{Reply}
 use Rattle.capevents.specs.declared.reply.Reply.TheVariants as reply
-use Rattle.capsteps.specs.declared.stopped.Stopped.{Stopped}
+use Rattle.capacts.specs.declared.stopped.Stopped.{Stopped}
 use Rattle.capevents.specs.Replies.{outcome_reply}
 use Rattle.capsteps.specs.Direct.{awaited_as}
 use Rattle.capnotes.specs.Untold.{is_of_ticket}
 use Rattle.capsteps.specs.Headline.{is_stop}
-use Rattle.capsteps.specs.Serving.{judged_again, told_of, passed_as, outcome_unless, MayEndAs, As_judged, Without_memory}
+use Rattle.capacts.specs.Serving.{judged_again, told_of, passed_as, outcome_unless, MayEndAs, As_judged, Without_memory}
 use Rattle.capsteps.specs.Settle.{Made, Began, Gathered, Served, MakesAll, ended_in}
 use Rattle.capsteps.proofs.Stopping.{no_moves}
 

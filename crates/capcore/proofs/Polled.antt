@@ -13,10 +13,10 @@ use Rattle.capevents.specs.declared.outcome.Message.{Message}
 use Rattle.capevents.specs.declared.reply.Reply.{Reply}
 use Rattle.capevents.specs.declared.reply.Reply.TheVariants as reply
 use Rattle.capsteps.specs.declared.said.Said.{Said}
-use Rattle.capsteps.specs.declared.stopped.Stopped.{Stopped}
+use Rattle.capacts.specs.declared.stopped.Stopped.{Stopped}
 use Rattle.capsteps.specs.State.{State}
 use Rattle.capsteps.specs.Answered.{IsAnswered}
-use Rattle.capsteps.specs.Judge.{judged, stop_by, first_denied}
+use Rattle.capacts.specs.Judge.{judged, stop_by, first_denied}
 use Rattle.capsteps.specs.Direct.{Direct, Gives, direct, effect_unless, reply_of, shown}
 use Rattle.capsteps.specs.Headline.{IssuesExactly}
 use Rattle.capsteps.specs.Messages.{first_messages, with_given, after_messages}

@@ -24,11 +24,11 @@ use Rattle.capevents.specs.declared.reply.Reply.{Reply}
 use Rattle.capevents.specs.declared.reply.Reply.TheVariants as reply
 use Rattle.capsteps.specs.State.{State}
 use Rattle.capbits.specs.Refusal.{first_failing}
-use Rattle.capsteps.specs.Judge.{judged, before, needs, after, first_denied, stop_by}
-use Rattle.capsteps.specs.Needs.{Need}
+use Rattle.capacts.specs.Judge.{judged, before, needs, after, first_denied, stop_by}
+use Rattle.capacts.specs.Needs.{Need}
 use Rattle.capevents.specs.declared.outcome.Ended.{Ended}
-use Rattle.capsteps.specs.declared.stopped.Stopped.{Stopped}
-use Rattle.capsteps.specs.declared.stopped.Stopped.TheVariants.{ByPolicy, ByTest}
+use Rattle.capacts.specs.declared.stopped.Stopped.{Stopped}
+use Rattle.capacts.specs.declared.stopped.Stopped.TheVariants.{ByPolicy, ByTest}
 use Rattle.capsteps.specs.Direct.{Direct, effect, effect_unless, found, direct, opened_as, reply_of, IsDirect}
 use Rattle.capsteps.specs.Settle.{Made, MakesAll, ended_in}
 use Rattle.capsteps.specs.Touching.{asks_for}
@@ -36,7 +36,7 @@ use Rattle.capcore.proofs.Asked.{asking, asking-stop, asking-direct, asking-agai
 use Rattle.capcore.proofs.OwnServed.{own-not_stopped}
 use Rattle.capsteps.specs.Step.{Step, state_after}
 use Rattle.capsteps.proofs.Stopping.{stopped-only}
-use Rattle.capsteps.specs.Finish.{due}
+use Rattle.capacts.specs.Finish.{due}
 use Rattle.capsteps.specs.Sound.{IsSoundEntry, IsSound}
 use Rattle.capsteps.proofs.Leaving.{found-contains}
 use Rattle.capsteps.specs.Headline.{DeniedExactly, DeniesByName, IssuesExactly, is_stop}

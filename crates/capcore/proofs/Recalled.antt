@@ -12,10 +12,10 @@ use Rattle.capevents.specs.declared.event.Event.TheVariants as event
 use Rattle.capevents.specs.declared.reply.Reply.TheVariants as reply
 use Rattle.capsteps.specs.declared.said.Said.{Said}
 use Rattle.capsteps.specs.State.{State}
-use Rattle.capsteps.specs.Known.{AreKnown}
+use Rattle.capacts.specs.Known.{AreKnown}
 use Rattle.capsteps.specs.Answered.{IsAnswered}
 use Rattle.capsteps.specs.Direct.{with_table}
-use Rattle.capsteps.specs.Finish.{finished}
+use Rattle.capacts.specs.Finish.{finished}
 use Rattle.capsteps.specs.Sound.{IsSound, AreGiven}
 use Rattle.capsteps.proofs.Finishing.{same-finished}
 use Rattle.capsteps.proofs.Knowing.{HoldAlike, known-alike, alike-where}

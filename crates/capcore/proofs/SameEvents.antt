@@ -10,7 +10,8 @@ use Rattle.capevents.specs.declared.event.Event.{Event}
 use Rattle.capevents.specs.declared.row.Row.{Row}
 use Rattle.capevents.specs.declared.outcome.Ended.{Ended}
 use Rattle.capevents.specs.declared.reply.Reply.{Reply}
-use Rattle.capsteps.specs.History.{IsOpening, Replays, AreNumbered, rows_of}
+use Rattle.capacts.specs.Numbers.{AreNumbered, rows_of}
+use Rattle.capsteps.specs.History.{IsOpening, Replays}
 use Rattle.capcore.specs.SameEvents.{FoundMemory, AllFoundMemory, events_of, ends_of, passes_of}
 use Rattle.capsteps.specs.State.{State}
 use Rattle.capsteps.specs.Step.{Step}

@@ -14,10 +14,10 @@ use Rattle.capevents.specs.declared.outcome.Outcome.{Outcome}
 use Rattle.capevents.specs.declared.outcome.Outcome.TheVariants as outcome
 use Rattle.capbits.specs.declared.refusal.Refusal.{Refusal}
 use Rattle.capbits.specs.Refusal.{first_failing}
-use Rattle.capsteps.specs.Judge.{first_denied, stop_by}
-use Rattle.capsteps.specs.Needs.{Need}
-use Rattle.capsteps.specs.Serving.{MayEndAs, As_judged, Without_memory, told_of, passed_as, outcome_unless}
-use Rattle.capsteps.specs.Asks.{ask_before, ask_needs, ask_after}
+use Rattle.capacts.specs.Judge.{first_denied, stop_by}
+use Rattle.capacts.specs.Needs.{Need}
+use Rattle.capacts.specs.Serving.{MayEndAs, As_judged, Without_memory, told_of, passed_as, outcome_unless}
+use Rattle.capacts.specs.Asks.{ask_before, ask_needs, ask_after}
 use Rattle.capsteps.specs.Settle.{Made, Began, Gathered, Served, Makes, MakesAll}
 use Rattle.capsteps.specs.Headline.{ServedDenied, ServedByName, EachServing}
 

@@ -24,11 +24,11 @@ use Rattle.lockmachine.specs.Told.{is_taken}
 use Rattle.lockmachine.proofs.Told.{has-against, has-told, pin-takes_all}
 use Rattle.capevents.specs.declared.event.Event.{Event}
 use Rattle.capevents.specs.declared.event.Event.TheVariants as event
-use Rattle.capsteps.specs.declared.stopped.Stopped.{Stopped}
+use Rattle.capacts.specs.declared.stopped.Stopped.{Stopped}
 use Rattle.capsteps.specs.declared.touch.Touch.TheVariants.{Ack}
 use Rattle.capsteps.specs.Direct.{Direct, direct, effect_unless}
 use Rattle.capsteps.specs.Headline.{holds}
-use Rattle.capsteps.specs.Judge.{judged, revoked_of}
+use Rattle.capacts.specs.Judge.{judged, revoked_of}
 use Rattle.capevents.specs.declared.row.Row.{Row}
 use Rattle.capsteps.specs.State.{State}
 use Rattle.capsteps.specs.Shown.{AreShown, ShowsWhatIsTold, ShowsOnlyPermitted, TakesUnshown, shown_of}

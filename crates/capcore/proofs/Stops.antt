@@ -16,14 +16,14 @@ use Rattle.capevents.specs.declared.event.Event.TheVariants as event
 use Rattle.capevents.specs.declared.outcome.Ended.{Ended}
 use Rattle.capevents.specs.declared.reply.Reply.{Reply}
 use Rattle.capsteps.specs.declared.said.Said.{Said}
-use Rattle.capsteps.specs.declared.stopped.Stopped.{Stopped}
+use Rattle.capacts.specs.declared.stopped.Stopped.{Stopped}
 use Rattle.capsteps.specs.State.{State}
 use Rattle.capsteps.specs.Answered.{IsAnswered}
 use Rattle.capsteps.specs.Direct.{Direct, direct, effect_unless, says}
 use Rattle.capsteps.specs.Headline.{IssuesExactly}
-use Rattle.capsteps.specs.Asks.{ask_needs}
-use Rattle.capsteps.specs.Judge.{judged, stop, stop_reply, asked_tests, asking_tests, waiting_tests}
-use Rattle.capsteps.specs.Needs.{need}
+use Rattle.capacts.specs.Asks.{ask_needs}
+use Rattle.capacts.specs.Judge.{judged, stop, stop_reply, asked_tests, asking_tests, waiting_tests}
+use Rattle.capacts.specs.Needs.{need}
 use Rattle.capsteps.specs.Sound.{IsSound}
 use Rattle.capsteps.specs.Step.{Step}
 use Rattle.capsteps.specs.Touching.{asks_for, touched_by}

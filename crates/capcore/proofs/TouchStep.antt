@@ -6,7 +6,7 @@ use Rattle.capevents.specs.declared.reply.Reply.{Reply}
 use Rattle.capsteps.specs.State.{State}
 use Rattle.capsteps.specs.Direct.{direct, reply_of, shown}
 use Rattle.capsteps.specs.Settle.{Made, Settles, ended_in, sized_in}
-use Rattle.capsteps.specs.Finish.{sizes_owed, finished}
+use Rattle.capacts.specs.Finish.{sizes_owed, finished}
 use Rattle.capsteps.specs.Step.{Step, earlier, all_ended, state_after, state_at_end}
 
 module _ (old : State) (e : Event) (moves : List Made) (settled last : Scene) (settles : Settles (direct old e).state.scene moves settled)

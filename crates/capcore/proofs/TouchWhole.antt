@@ -13,9 +13,9 @@ use Rattle.capsteps.specs.declared.touch.Touch.{Touch}
 use Rattle.capsteps.specs.declared.touch.Touch.TheVariants.{Open, Want, Ack, Release}
 use Rattle.capevents.specs.declared.event.Event.{Event}
 use Rattle.capevents.specs.declared.outcome.Ended.{Ended}
-use Rattle.capsteps.specs.declared.stopped.Stopped.{Stopped}
+use Rattle.capacts.specs.declared.stopped.Stopped.{Stopped}
 use Rattle.capsteps.specs.State.{State}
-use Rattle.capsteps.specs.Judge.{judged, revoked_of}
+use Rattle.capacts.specs.Judge.{judged, revoked_of}
 use Rattle.capevents.specs.Replies.{has_list}
 use Rattle.capsteps.specs.Direct.{direct, effect, effect_unless, reply_of, shown, opened_as}
 use Rattle.capsteps.specs.Sound.{IsSound}

@@ -26,26 +26,28 @@ use Rattle.lockmachine.specs.Scene.{Scene}
 use Rattle.lockmachine.proofs.Queue.{without_requests_of-kept}
 use Rattle.lockmachine.proofs.SameOutside.{rest-outside}
 use Rattle.capnotes.specs.InoSets.{InoSet}
-use Rattle.capsteps.specs.declared.client.Turn.{Turn}
-use Rattle.capsteps.specs.declared.client.Turn.TheVariants.{Close, Stale, Renew, Regrant, Evict}
+use Rattle.capacts.specs.declared.leaving.Turn.{Turn}
+use Rattle.capacts.specs.declared.leaving.Turn.TheVariants.{Close, Stale, Renew, Regrant, Evict}
 use Rattle.capevents.specs.declared.event.Event.{Event}
 use Rattle.capevents.specs.declared.outcome.Ended.{Ended}
 use Rattle.capevents.specs.declared.reply.Reply.TheVariants as reply
 use Rattle.capsteps.specs.declared.said.Said.{Said}
-use Rattle.capsteps.specs.declared.stopped.Stopped.TheVariants.{ByTest}
+use Rattle.capacts.specs.declared.stopped.Stopped.TheVariants.{ByTest}
 use Rattle.capsteps.specs.State.{State}
 use Rattle.capsteps.specs.Answered.{IsAnswered}
 use Rattle.capsteps.specs.Direct.{Direct, direct, reply_of, shown}
-use Rattle.capsteps.specs.Judge.{judged, stop}
+use Rattle.capacts.specs.Judge.{judged, stop}
 use Rattle.capnotes.specs.Untold.{is_to}
-use Rattle.capsteps.specs.Serves.{SettlesWith, EndsWith, is_touched}
-use Rattle.capsteps.specs.Finish.{sizes_owed}
+use Rattle.capacts.specs.Reach.{is_touched}
+use Rattle.capsteps.specs.Serves.{SettlesWith, EndsWith}
+use Rattle.capacts.specs.Finish.{sizes_owed}
 use Rattle.capsteps.specs.Settle.{ended_in, sized_in}
 use Rattle.capsteps.specs.Sound.{IsSound, NumbersLeft}
 use Rattle.capsteps.specs.Step.{earlier, all_ended, state_at_end}
 use Rattle.capsteps.specs.Touching.{Touches, SettlesAt, Knows, finished_at}
-use Rattle.capsteps.specs.Known.{known_in, AreKnown, StillKept}
-use Rattle.capsteps.specs.Turn.{ReachesClient, turn_event, turn_tests, is_end, table_left, locks_left, messages_left, dropped_by, turned}
+use Rattle.capacts.specs.Known.{known_in, AreKnown, StillKept}
+use Rattle.capacts.specs.Left.{is_end, table_left, locks_left, messages_left, dropped_by}
+use Rattle.capsteps.specs.Turn.{ReachesClient, turn_event, turn_tests, turned}
 use Rattle.capcore.proofs.Closing.{told-all, touches-clients}
 use Rattle.capcore.proofs.EndKnown.{ends-known}
 use Rattle.capsteps.proofs.Knowing.{HoldAlike, alike-less, still-knows}

@@ -31,16 +31,17 @@ use Rattle.lockmachine.specs.Scene.{Scene}
 use Rattle.lockmachine.proofs.PolicyElsewhere.{alike-itself}
 use Rattle.lockmachine.proofs.Finding.{contains-filter, fails_at, find_none}
 use Rattle.lockmachine.proofs.SameOutside.{outside-itself, outside-then, outside-dropped}
-use Rattle.capsteps.specs.declared.client.Turn.{Turn}
-use Rattle.capsteps.specs.declared.client.Turn.TheVariants.{Close, Stale, Renew, Regrant, Evict}
+use Rattle.capacts.specs.declared.leaving.Turn.{Turn}
+use Rattle.capacts.specs.declared.leaving.Turn.TheVariants.{Close, Stale, Renew, Regrant, Evict}
 use Rattle.capevents.specs.declared.reply.Reply.TheVariants as reply
 use Rattle.capsteps.specs.State.{State}
 use Rattle.capsteps.specs.Direct.{Direct, Says, direct, effect, effect_unless}
-use Rattle.capsteps.specs.Judge.{judged}
+use Rattle.capacts.specs.Judge.{judged}
 use Rattle.capnotes.specs.Untold.{is_to}
 use Rattle.capsteps.specs.Sound.{IsSound}
 use Rattle.capsteps.specs.Touching.{Touches, IsTouchedEntry}
-use Rattle.capsteps.specs.Turn.{turn_event, turned_sessions, is_end, table_left, locks_left, messages_left, dropped_by, turned}
+use Rattle.capacts.specs.Left.{is_end, table_left, locks_left, messages_left, dropped_by}
+use Rattle.capsteps.specs.Turn.{turn_event, turned_sessions, turned}
 use Rattle.capsteps.proofs.NothingServed.{sound-pinned}
 use Rattle.capsteps.proofs.Touched.{IsKeptEntry, kept-left, sound-kept}
 

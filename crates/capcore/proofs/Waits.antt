@@ -18,11 +18,11 @@ use Rattle.lockmachine.proofs.SameOutside.{rest-outside}
 use Rattle.captable.specs.Table.{IsTable}
 use Rattle.capsteps.specs.State.{State}
 use Rattle.capsteps.specs.Answered.{IsAnswered}
-use Rattle.capsteps.specs.Asks.{ask_needs}
+use Rattle.capacts.specs.Asks.{ask_needs}
 use Rattle.capsteps.specs.declared.said.Said.{Said}
 use Rattle.capsteps.specs.Direct.{Answer, Awaits, Direct, direct, reply_of, shown, with_scene, awaited_as}
 use Rattle.capnotes.specs.Untold.{is_of_ticket, HaveOwnNumbers, but_for}
-use Rattle.capsteps.specs.Judge.{judged, stop, asking_tests, waiting_tests}
+use Rattle.capacts.specs.Judge.{judged, stop, asking_tests, waiting_tests}
 use Rattle.capsteps.specs.Serves.{EndsWith}
 use Rattle.capsteps.specs.Sound.{IsSound}
 use Rattle.capsteps.specs.Step.{earlier}
@@ -35,7 +35,7 @@ use Rattle.capevents.specs.declared.event.Event.{Event}
 use Rattle.capevents.specs.declared.event.Event.TheVariants as event
 use Rattle.capevents.specs.declared.outcome.Ended.{Ended}
 use Rattle.capsteps.specs.Touching.{asks_for, Touches, Knows}
-use Rattle.capsteps.specs.Known.{known_in, AreKnown, StillKept}
+use Rattle.capacts.specs.Known.{known_in, AreKnown, StillKept}
 
 -- an event asks for it
 pub some-asking : (k : Holder) (ask : Ask) → (e : Event) × (asks_for e ≡ Some (k, ask))

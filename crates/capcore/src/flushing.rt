@@ -9,11 +9,11 @@ ghost use Rattle.capsteps.specs.Sound.{NumbersLeft};
 
 use crate::judging::flush_stop;
 use crate::world::World;
+use capacts::serving::alter;
 use capbits::{ClientId, Ino};
 use capevents::Reply;
 use capsteps::ended::close;
 use capsteps::said::Said;
-use capsteps::serving::alter;
 use capsteps::settle::end_at_one;
 use captable::Holder;
 use lockmachine::Change;

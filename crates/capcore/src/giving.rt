@@ -6,7 +6,7 @@ ghost use Rattle.captable.specs.Calls.{recalled};
 ghost use Rattle.lockmachine.specs.Scene.{Scene};
 ghost use Rattle.capsteps.specs.State.{State};
 ghost use Rattle.capsteps.specs.Direct.{Answer, shown, with_table};
-ghost use Rattle.capsteps.specs.Finish.{finished};
+ghost use Rattle.capacts.specs.Finish.{finished};
 ghost use Rattle.capsteps.specs.Headline.{IssuesExactly};
 ghost use Rattle.capsteps.specs.Sound.{IsSound, AreGiven};
 

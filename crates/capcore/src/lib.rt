@@ -16,13 +16,13 @@ mod touch_laws;
 mod turning;
 mod world;
 
+pub use capacts::stop::Stop;
+pub use capacts::stopped::Stopped;
 pub use capbits::Refusal;
 pub use capevents::{
     Ended, EndedList, Event, Message, MessageList, OpenMode, Outcome, PartValues, Reply, Row,
 };
 pub use capsteps::serving_laws::{a_serving_changes_what_it_moves, a_serving_keeps_what_is_known};
-pub use capsteps::stop::Stop;
-pub use capsteps::stopped::Stopped;
 pub use capview::ViewChange;
 pub use giving::{a_recall_leaves_all_but_the_marks, telling_leaves_all_but_what_was_told};
 pub use laws::{

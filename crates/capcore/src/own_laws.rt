@@ -9,7 +9,7 @@ ghost use Rattle.lockmachine.specs.Scene.{Scene};
 ghost use Rattle.capsteps.specs.State.{State};
 ghost use Rattle.capsteps.specs.Direct.{Awaits, reply_of};
 ghost use Rattle.capsteps.specs.Headline.{is_stop};
-ghost use Rattle.capsteps.specs.Serving.{judged_again};
+ghost use Rattle.capacts.specs.Serving.{judged_again};
 ghost use Rattle.capsteps.specs.Settle.{Made, MakesAll, ended_in};
 ghost use Rattle.capsteps.specs.Sound.{IsSound};
 

@@ -6,7 +6,7 @@ ghost use Rattle.capevents.specs.declared.event.Event.{Event};
 ghost use Rattle.capevents.specs.declared.reply.Reply.{Reply};
 ghost use Rattle.capsteps.specs.State.{State};
 ghost use Rattle.capsteps.specs.Direct.{direct, reply_of, shown};
-ghost use Rattle.capsteps.specs.Finish.{sizes_owed, finished};
+ghost use Rattle.capacts.specs.Finish.{sizes_owed, finished};
 ghost use Rattle.capsteps.specs.Settle.{Made, Settles, ended_in, sized_in};
 ghost use Rattle.capsteps.specs.Step.{Step, all_ended, state_at_end};
 

@@ -7,9 +7,10 @@ ghost use Rattle.capsteps.specs.Sound.{NumbersLeft};
 ghost use Rattle.capsteps.specs.Turn.{turn_event};
 
 use crate::world::World;
+use capacts::leaving::{Turn, leave};
 use capbits::ClientId;
 use capevents::Reply;
-use capsteps::client::{Room, Turn, leave, turn_refusal, turn_session};
+use capsteps::client::{Room, turn_refusal, turn_session};
 use capsteps::ended::close_dropped;
 use capsteps::said::Said;
 use capsteps::settle::end_at;

@@ -24,22 +24,21 @@ ghost use Rattle.capevents.specs.declared.outcome.Ended.{Ended as AnEnded};
 ghost use Rattle.capevents.specs.declared.event.Event.TheVariants as event;
 
 use crate::judging::{access_stop, asked_refusal, touch_stop};
+use capacts::judge::denial;
+use capacts::known::Known;
+use capacts::leaving::Turn;
 use capbits::{Caller, ClientId, Ino, Mode, Part, Refusal};
 use capevents::{EndedList, Event, Reply, copy_of_messages};
 use capgrant::{Access, Attr};
 use capnotes::{ChangeList, Messages, ToldNumbers};
 use capspec::{FsName, Grants};
-use capsteps::client::Turn;
 use capsteps::ended::close;
 use capsteps::endings::Endings;
-use capsteps::judge::denial;
-use capsteps::known::Known;
 use capsteps::poll::{due_messages, give};
 use capsteps::said::Said;
 use capsteps::settle::end_at_entry;
 use capsteps::start::first_locks;
-use capsteps::told::revoked_of;
-use capsteps::touch::{Touch, tell, touch_entry};
+use capsteps::touch::{Touch, revoked_of, tell, touch_entry};
 use captable::{CapTable, Holder};
 use capview::ViewChange;
 use inotree::{Kind, Tree};
@@ -88,7 +87,7 @@ impl Model for World {
     ghost use Rattle.capsteps.specs.Touch.{touch_event};
     ghost use Rattle.capsteps.specs.Touching.{touched_by, is_listing};
     ghost use Rattle.capnotes.specs.Untold.{HasRoom};
-    ghost use Rattle.capsteps.specs.Known.{AreKnown};
+    ghost use Rattle.capacts.specs.Known.{AreKnown};
 
     ghost Value = { State };
 

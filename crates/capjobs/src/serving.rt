@@ -2,7 +2,7 @@
 ghost use Rattle.std.specs.Prelude.{◌≡◌, ◌≢◌, ◌<◌, ◌≤◌, ◌+◌, ◌⊎◌, ◌↔◌, ℕ, List, Err, length, vec_len, IfOk, IfErr, IfSome, OnErr, IsTrue, IsFalse};
 ghost use Rattle.std.specs.Io.KnownBytes.{Appends, Keeps};
 ghost use Rattle.capsteps.specs.History.{IsLegal};
-ghost use Rattle.capsteps.specs.declared.stop.Stop.TheVariants as stop_kind;
+ghost use Rattle.capacts.specs.declared.stop.Stop.TheVariants as stop_kind;
 ghost use Rattle.capserver.specs.Opened.{opened};
 ghost use Rattle.caplines.specs.Lines.{lines, longest_script};
 ghost use Rattle.caplines.specs.declared.fault.ScriptFault.TheVariants as stops;

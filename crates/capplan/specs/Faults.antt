@@ -1,6 +1,6 @@
 -- How a call that was not answered is told.
-use Rattle.capsteps.specs.declared.stop.Stop.{Stop}
-use Rattle.capsteps.specs.declared.stop.Stop.TheVariants as stopped
+use Rattle.capacts.specs.declared.stop.Stop.{Stop}
+use Rattle.capacts.specs.declared.stop.Stop.TheVariants as stopped
 use Rattle.caplines.specs.declared.fault.ScriptFault.TheVariants as stops
 use Rattle.capplan.specs.declared.fault.ServeFault.{ServeFault}
 use Rattle.capplan.specs.declared.fault.ServeFault.TheVariants.{Script, HistoryFull}

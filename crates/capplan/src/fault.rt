@@ -3,8 +3,8 @@ ghost use Rattle.std.specs.Prelude.{◌≡◌};
 ghost use Rattle.caplines.specs.declared.fault.ScriptFault.TheVariants as stops;
 ghost use Rattle.capplan.specs.declared.fault.ServeFault.TheVariants as faults;
 
+use capacts::stop::Stop;
 use caplines::{LineFault, ScriptFault};
-use capsteps::stop::Stop;
 use std::alloc::{AllocError, AllocFailed};
 use thiserror::Error;
 

@@ -15,7 +15,8 @@ use Rattle.lockmachine.specs.Inodes.{in_sync}
 use Rattle.inotree.specs.Calls.{first_tree}
 use Rattle.capevents.specs.declared.event.Event.{Event}
 use Rattle.capevents.specs.declared.row.Row.{Row}
-use Rattle.capsteps.specs.History.{Told, IsOpening, Replays, AreNumbered, rows_of}
+use Rattle.capacts.specs.Numbers.{AreNumbered, rows_of}
+use Rattle.capsteps.specs.History.{Told, IsOpening, Replays}
 use Rattle.capsteps.specs.State.{State}
 use Rattle.capbits.specs.declared.ids.ClientId.{ClientId}
 use Rattle.caplines.specs.Events.{Reads}
@@ -26,7 +27,7 @@ use Rattle.caplines.specs.Lines.{lines, is_skipped}
 use Rattle.capexplain.specs.Replies.{reply_text}
 use Rattle.capscript.specs.Transcript.{LinesSay, replies_text, IsTranscript, Answered, Ran, Answers, AnswersLine, StopsIn, fs_name, root_attr}
 use Rattle.capcore.proofs.Growing.{replays-more}
-use Rattle.capsteps.proofs.Numbered.{numbered-nil, numbered-snoc}
+use Rattle.capacts.proofs.Numbered.{numbered-nil, numbered-snoc}
 use Rattle.caplines.proofs.SaidLines.{not_skipped}
 use Rattle.capstreams.proofs.KnownBytes.{none_appended, appends_more, appends_same}
 

@@ -10,7 +10,8 @@ use Rattle.capview.proofs.Likeness.{shows-refl}
 use Rattle.capevents.specs.declared.event.Event.{Event}
 use Rattle.capevents.specs.declared.reply.Reply.{Reply}
 use Rattle.capevents.specs.declared.row.Row.{Row}
-use Rattle.capsteps.specs.History.{AreNumbered, IsLegal, IsTold, Told, IsNext, Replays, made_row, rows_of}
+use Rattle.capacts.specs.Numbers.{AreNumbered, rows_of}
+use Rattle.capsteps.specs.History.{IsLegal, IsTold, Told, IsNext, Replays, made_row}
 use Rattle.capsteps.specs.State.{State}
 use Rattle.capsteps.specs.Noted.{view_of}
 use Rattle.published.specs.Publishing.{Publishing, IsReady}

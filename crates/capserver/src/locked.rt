@@ -3,7 +3,7 @@ ghost use Rattle.std.specs.Prelude.{◌≡◌, ◌≤◌, ◌+◌, ◌↔◌, []
 ghost use mathlib.Core.List.{IsPrefix};
 ghost use Rattle.capsteps.specs.History.{IsLegal};
 ghost use Rattle.capcore.specs.Promised.{IsPromised};
-ghost use Rattle.capsteps.specs.declared.stop.Stop.TheVariants as stop_kind;
+ghost use Rattle.capacts.specs.declared.stop.Stop.TheVariants as stop_kind;
 ghost use Rattle.capsteps.specs.Noted.{view_of};
 ghost use Rattle.rowbook.specs.Rows.{Legal};
 ghost use Rattle.capserver.specs.Fresh.{IsFresh};

@@ -1,8 +1,8 @@
 use Rattle.std.proofs.Common.{[], ◌∷◌, None, sym, ap, ◌∙◌}
 use Rattle.lockmachine.specs.Scene.{Scene, scene}
-use Rattle.capsteps.specs.Judge.{asked_tests, first_denied, stop_by}
-use Rattle.capsteps.specs.Needs.{need}
-use Rattle.capsteps.proofs.Again.{denial-stop, stopped-before}
+use Rattle.capacts.specs.Judge.{asked_tests, first_denied, stop_by}
+use Rattle.capacts.specs.Needs.{need}
+use Rattle.capacts.proofs.Again.{denial-stop, stopped-before}
 use Rattle.capcore.proofs.judging.access_stop.Goals as goal
 
 pub returns-in-Some : goal.returns-in-Some

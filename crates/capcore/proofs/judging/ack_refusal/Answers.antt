@@ -2,7 +2,7 @@ use Rattle.std.proofs.Common.{refl, sym, ap, ◌∙◌}
 use Rattle.capbits.specs.Refusal.{first_failing}
 use Rattle.captable.specs.Tests.{ack_tests}
 use Rattle.lockmachine.specs.Scene.{Scene, scene}
-use Rattle.capsteps.specs.Judge.{connected_tests, revoked_of}
+use Rattle.capacts.specs.Judge.{connected_tests, revoked_of}
 use Rattle.capsteps.proofs.Revoking.{passed-front}
 use Rattle.capcore.proofs.judging.ack_refusal.Goals as goal
 

@@ -1,10 +1,10 @@
 use Rattle.std.proofs.Common.{refl, sym, ap, ◌∙◌}
 use Rattle.std.specs.Option.{option_map}
 use Rattle.lockmachine.specs.Scene.{Scene, scene}
-use Rattle.capsteps.specs.declared.stopped.Stopped.TheVariants.{ByTest}
-use Rattle.capsteps.specs.Asks.{ask_needs}
-use Rattle.capsteps.specs.Judge.{asking_tests, waiting_tests}
-use Rattle.capsteps.proofs.Again.{stopped-before, stopped-policy, stopped-after}
+use Rattle.capacts.specs.declared.stopped.Stopped.TheVariants.{ByTest}
+use Rattle.capacts.specs.Asks.{ask_needs}
+use Rattle.capacts.specs.Judge.{asking_tests, waiting_tests}
+use Rattle.capacts.proofs.Again.{stopped-before, stopped-policy, stopped-after}
 use Rattle.capcore.proofs.judging.ask_stop.Goals as goal
 
 pub returns-in-Some : goal.returns-in-Some

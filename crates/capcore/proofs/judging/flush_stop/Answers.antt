@@ -5,9 +5,9 @@ use Rattle.lockmachine.specs.Locks.{LockMap}
 use Rattle.lockmachine.specs.Scene.{Scene, scene}
 use Rattle.capevents.specs.declared.event.Event.{Event}
 use Rattle.capevents.specs.declared.event.Event.TheVariants.{Flush}
-use Rattle.capsteps.specs.declared.stopped.Stopped.TheVariants.{ByTest}
-use Rattle.capsteps.specs.Judge.{stop, asked_tests, before, needs, after}
-use Rattle.capsteps.specs.Needs.{need}
+use Rattle.capacts.specs.declared.stopped.Stopped.TheVariants.{ByTest}
+use Rattle.capacts.specs.Judge.{stop, asked_tests, before, needs, after}
+use Rattle.capacts.specs.Needs.{need}
 use Rattle.capsteps.proofs.Judging.{stopped, passed}
 use Rattle.capcore.proofs.judging.flush_stop.Goals as goal
 use Rattle.capcore.proofs.judging.flush_stop.Goals.{After-access_stop}

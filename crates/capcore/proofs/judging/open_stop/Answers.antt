@@ -3,9 +3,9 @@ use Rattle.std.specs.Option.{option_map}
 use Rattle.lockmachine.specs.Scene.{Scene, scene}
 use Rattle.capevents.specs.declared.event.Event.{Event}
 use Rattle.capevents.specs.declared.event.Event.TheVariants.{Open}
-use Rattle.capsteps.specs.declared.stopped.Stopped.TheVariants.{ByTest}
-use Rattle.capsteps.specs.Judge.{before, needs, after}
-use Rattle.capsteps.proofs.Again.{stopped-after}
+use Rattle.capacts.specs.declared.stopped.Stopped.TheVariants.{ByTest}
+use Rattle.capacts.specs.Judge.{before, needs, after}
+use Rattle.capacts.proofs.Again.{stopped-after}
 use Rattle.capcore.proofs.judging.open_stop.Goals as goal
 
 pub returns : goal.returns

@@ -5,9 +5,9 @@ use Rattle.capbits.specs.declared.refusal.Refusal.{Refusal}
 use Rattle.lockmachine.specs.Scene.{Scene, scene}
 use Rattle.capevents.specs.declared.event.Event.{Event}
 use Rattle.capevents.specs.declared.event.Event.TheVariants.{Ack}
-use Rattle.capsteps.specs.declared.stopped.Stopped.TheVariants.{ByTest}
+use Rattle.capacts.specs.declared.stopped.Stopped.TheVariants.{ByTest}
 use Rattle.capsteps.specs.declared.touch.Touch.{Touch}
-use Rattle.capsteps.specs.Judge.{before, judged, stop_by}
+use Rattle.capacts.specs.Judge.{before, judged, stop_by}
 use Rattle.capsteps.specs.Touch.{touch_event}
 use Rattle.capcore.proofs.judging.touch_stop.Goals as goal
 

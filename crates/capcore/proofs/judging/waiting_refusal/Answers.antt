@@ -2,7 +2,7 @@ use Rattle.std.proofs.Common.{sym, ap, ◌∙◌, ◌++◌}
 use Rattle.capbits.specs.Refusal.{first_failing}
 use Rattle.capbits.proofs.Tests.{failing-front}
 use Rattle.lockmachine.specs.Locks.{LockMap, queue_tests}
-use Rattle.capsteps.specs.Asks.{ask_after}
+use Rattle.capacts.specs.Asks.{ask_after}
 use Rattle.capsteps.proofs.Revoking.{passed-front}
 use Rattle.capcore.proofs.judging.waiting_refusal.Goals as goal
 

@@ -5,7 +5,8 @@ use Rattle.capevents.specs.declared.reply.Reply.{Reply}
 use Rattle.capsteps.specs.Answered.{IsAnswered}
 use Rattle.capsteps.specs.Direct.{direct}
 use Rattle.capsteps.specs.Headline.{ServedDenied, ServedByName, EachServing, AreBounded}
-use Rattle.capsteps.specs.History.{Told, told, made_row, rows_of}
+use Rattle.capacts.specs.Numbers.{rows_of}
+use Rattle.capsteps.specs.History.{Told, told, made_row}
 use Rattle.capcore.specs.Promised.{IsPromised}
 use Rattle.capsteps.specs.Shown.{ShowsWhatIsTold}
 use Rattle.capsteps.specs.Sound.{IsSound}

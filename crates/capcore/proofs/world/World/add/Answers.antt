@@ -3,7 +3,7 @@ use Rattle.capbits.specs.Refusal.{first_failing}
 use Rattle.inotree.specs.Tests.{create_tests}
 use Rattle.inotree.proofs.Passing.{passed-create}
 use Rattle.lockmachine.specs.Locks.{LockMap}
-use Rattle.capsteps.specs.Known.{AreKnown}
+use Rattle.capacts.specs.Known.{AreKnown}
 use Rattle.capnotes.specs.Untold.{HasRoom}
 use Rattle.capsteps.specs.State.{State}
 use Rattle.capcore.proofs.Undone.{added-dropped, not_given}

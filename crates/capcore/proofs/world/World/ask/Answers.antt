@@ -8,8 +8,8 @@ use Rattle.capevents.specs.declared.event.Event.{Event}
 use Rattle.capevents.specs.declared.outcome.Ended.{Ended}
 use Rattle.capsteps.specs.State.{State}
 use Rattle.capsteps.specs.Answered.{IsAnswered}
-use Rattle.capsteps.specs.Asks.{ask_needs}
-use Rattle.capsteps.specs.Judge.{stop, asking_tests, waiting_tests}
+use Rattle.capacts.specs.Asks.{ask_needs}
+use Rattle.capacts.specs.Judge.{stop, asking_tests, waiting_tests}
 use Rattle.capsteps.specs.Touching.{asks_for}
 use Rattle.capnotes.specs.Untold.{but_for}
 use Rattle.capcore.proofs.Asked.{asking-room, asking-stop}

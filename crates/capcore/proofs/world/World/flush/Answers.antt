@@ -10,8 +10,8 @@ use Rattle.capevents.specs.declared.reply.Reply.TheVariants as reply
 use Rattle.capsteps.specs.State.{State}
 use Rattle.capsteps.specs.Answered.{IsAnswered}
 use Rattle.capsteps.specs.Direct.{Answer, Says, Direct, direct, reply_of, shown, says, with_flush}
-use Rattle.capsteps.specs.Judge.{judged}
-use Rattle.capsteps.specs.Known.{known_in, StillKept}
+use Rattle.capacts.specs.Judge.{judged}
+use Rattle.capacts.specs.Known.{known_in, StillKept}
 use Rattle.capsteps.specs.Touching.{Knows}
 use Rattle.capsteps.specs.Serves.{EndsWith}
 use Rattle.capsteps.specs.Sound.{IsSound}

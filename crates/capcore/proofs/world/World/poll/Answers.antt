@@ -10,13 +10,13 @@ use Rattle.capevents.specs.declared.outcome.Ended.{Ended}
 use Rattle.capevents.specs.declared.outcome.Message.{Message}
 use Rattle.capevents.specs.declared.reply.Reply.TheVariants as reply
 use Rattle.capsteps.specs.declared.said.Said.{Said}
-use Rattle.capsteps.specs.declared.stopped.Stopped.TheVariants.{ByTest}
+use Rattle.capacts.specs.declared.stopped.Stopped.TheVariants.{ByTest}
 use Rattle.capsteps.specs.State.{State}
 use Rattle.capsteps.specs.Answered.{IsAnswered}
 use Rattle.capsteps.specs.Messages.{first_messages, with_given, after_messages}
 use Rattle.capnotes.specs.Untold.{AreEndsOf, is_left}
 use Rattle.capsteps.specs.Sound.{IsSound}
-use Rattle.capsteps.proofs.Again.{stopped-before}
+use Rattle.capacts.proofs.Again.{stopped-before}
 use Rattle.capcore.proofs.Polled.{poll-answered, polled-new}
 use Rattle.capcore.proofs.Stops.{stopped-answered}
 use Rattle.capsteps.proofs.Telling.{given-held}

@@ -12,8 +12,8 @@ use Rattle.capsteps.specs.State.{State}
 use Rattle.capsteps.specs.Answered.{IsAnswered}
 use Rattle.capevents.specs.Replies.{has_list}
 use Rattle.capsteps.specs.Direct.{Answer, direct, reply_of, shown}
-use Rattle.capsteps.specs.Judge.{judged}
-use Rattle.capsteps.specs.Known.{known_in, AreKnown, StillKept}
+use Rattle.capacts.specs.Judge.{judged}
+use Rattle.capacts.specs.Known.{known_in, AreKnown, StillKept}
 use Rattle.capsteps.specs.Touching.{Knows}
 use Rattle.capsteps.specs.Serves.{EndsWith}
 use Rattle.capsteps.specs.Sound.{IsSound, NumbersLeft}

@@ -8,14 +8,16 @@ use Rattle.lockmachine.specs.Moves.{IsQuietOutside}
 use Rattle.lockmachine.specs.Scene.{Scene}
 use Rattle.capevents.specs.declared.event.Event.{Event}
 use Rattle.capevents.specs.declared.outcome.Ended.{Ended}
-use Rattle.capsteps.specs.declared.stopped.Stopped.TheVariants.{ByTest}
+use Rattle.capacts.specs.declared.stopped.Stopped.TheVariants.{ByTest}
 use Rattle.capsteps.specs.State.{State}
 use Rattle.capsteps.specs.Answered.{IsAnswered}
-use Rattle.capsteps.specs.Judge.{judged}
-use Rattle.capsteps.specs.Known.{AreKnown, StillKept}
-use Rattle.capsteps.specs.Serves.{EndsWith, is_touched}
+use Rattle.capacts.specs.Judge.{judged}
+use Rattle.capacts.specs.Known.{AreKnown, StillKept}
+use Rattle.capacts.specs.Reach.{is_touched}
+use Rattle.capsteps.specs.Serves.{EndsWith}
 use Rattle.capsteps.specs.Sound.{IsSound, NumbersLeft}
-use Rattle.capsteps.specs.Turn.{turn_event, turned, is_end, dropped_by}
+use Rattle.capacts.specs.Left.{is_end, dropped_by}
+use Rattle.capsteps.specs.Turn.{turn_event, turned}
 use Rattle.capcore.proofs.Stops.{stopped-answered}
 use Rattle.capcore.proofs.TurnStep.{turn-stop, few-waiting, few-messages, turn-quiet, turn-clients, turn-numbers, turn-alike, turn-known, turn-closed}
 use Rattle.capsteps.proofs.Knowing.{HoldAlike, still-there, still-room}
