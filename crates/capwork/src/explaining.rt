@@ -43,8 +43,8 @@ pub(crate) fn explain<L: Server + Send + Sync, T: Threads + Wait + Sync>(
     }
 }
 
-// What a pass does in its thread: the last one calls, and the others ask. Where no thread can be made for one, it is done before those
-// behind it, so that the last one need not wait.
+// What a pass does in its thread: the last one calls, and the others ask. It needs threads: where none can be made, nobody asks, and the
+// last one goes on.
 fn take_part<L: Server, T: Wait>(
     rt: &T,
     server: &CapServer<NoGate, L>,
