@@ -72,25 +72,27 @@ impl Gate for Hold {
 // What came of the calls and of the questions: of what stood there before, asked for while the call of pass 2 was held; of
 // what that call made, at the same time; of the call that was held; of what it made, asked for by its pass afterwards; of the
 // same, asked for by the pass that calls nothing, once both threads have ended; and whether somebody waited for too long.
-const TOLD: ([&str; 5], bool) = (
+const TOLD: Told = (
     ["allowed", "no inode", "fresh", "allowed", "allowed"],
     false,
 );
 
-/// Holds a call of the second pass, while the first one asks, which calls nothing at all.
-pub fn ask_beside<L: Server + Send + Sync, R: Abort + Threads + Wait + Sync>(
+// What came of the calls and of the questions, as in `TOLD`.
+type Told = ([&'static str; 5], bool);
+
+// A pass, and what came of its two turns.
+type Came<L> = (Pass<L>, &'static str, &'static str);
+
+// While a call of the second pass is held, the first one asks for what stood there before, and for what that call makes.
+fn both<L: Server + Send + Sync, R: Threads + Wait + Sync>(
     rt: &R,
     alloc: Global,
     server: &CapServer<Hold, L>,
     signs: &Signs,
-    passes: Vec<Pass<L>>,
-) -> Vec<Pass<L>> {
-    let mut passes = passes;
-    let mut two = present(rt, passes.pop(), "pass 2");
-    let mut one = present(rt, passes.pop(), "pass 1");
-    call_line(rt, alloc, server, &mut two, "session 1 10 10 - allow rw");
-    signs.closed.store(1, Ordering::SeqCst);
-    let (asked, called) = join(
+    (one, two): (Pass<L>, Pass<L>),
+) -> (Came<L>, Came<L>) {
+    let (mut one, mut two) = (one, two);
+    join(
         rt,
         move || {
             wait_for(&signs.entered, &signs.late);
@@ -104,14 +106,42 @@ pub fn ask_beside<L: Server + Send + Sync, R: Abort + Threads + Wait + Sync>(
             let after = ask_read(server, &mut two, 1, 2);
             (two, held, after)
         },
-    );
+    )
+}
+
+// Holds a call of the second pass, while the first one asks, which calls nothing at all.
+fn told_beside<L: Server + Send + Sync, R: Threads + Wait + Sync>(
+    rt: &R,
+    alloc: Global,
+    server: &CapServer<Hold, L>,
+    signs: &Signs,
+    (one, two): (Pass<L>, Pass<L>),
+) -> Told {
+    let mut two = two;
+    call_line(rt, alloc, server, &mut two, "session 1 10 10 - allow rw");
+    signs.closed.store(1, Ordering::SeqCst);
+    let (asked, called) = both(rt, alloc, server, signs, (one, two));
     let (mut one, beside, unpublished) = asked;
     let (two, held, after) = called;
     let by_the_other = ask_read(server, &mut one, 1, 2);
-    let late = signs.late.load(Ordering::SeqCst) == 1;
-    let told = ([beside, unpublished, held, after, by_the_other], late);
-    same(rt, told, TOLD, "a held call");
     drop(one);
     drop(two);
+    let late = signs.late.load(Ordering::SeqCst) == 1;
+    ([beside, unpublished, held, after, by_the_other], late)
+}
+
+/// Has the last pass call and the one before it ask, and sees what came of it. Those two are gone then.
+pub fn ask_beside<L: Server + Send + Sync, R: Abort + Threads + Wait + Sync>(
+    rt: &R,
+    alloc: Global,
+    server: &CapServer<Hold, L>,
+    signs: &Signs,
+    passes: Vec<Pass<L>>,
+) -> Vec<Pass<L>> {
+    let mut passes = passes;
+    let two = present(rt, passes.pop(), "pass 2");
+    let one = present(rt, passes.pop(), "pass 1");
+    let told = told_beside(rt, alloc, server, signs, (one, two));
+    same(rt, told, TOLD, "a held call");
     passes
 }

@@ -23,7 +23,7 @@ fn saw_all(rt: &impl Abort, rows: &[Numbers]) {
 
 #[test]
 fn two_threads_make_four_hundred_files(rt: HostRuntime) {
-    let rows = made(&rt, rows_by(&rt, MANY_ROWS, 2, Work::Files), "start");
+    let rows = made(&rt, rows_by(&rt, MANY_ROWS, 2, Work::Both), "start");
     saw_all(&rt, rows.as_slice());
 }
 

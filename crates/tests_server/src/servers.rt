@@ -6,7 +6,7 @@ use crate::asserting::made;
 use crate::calls::{Case, take_turns};
 use crate::holding::{Hold, Signs, ask_beside, open_gate};
 use crate::rows::{Numbers, numbers};
-use crate::threads::make_all;
+use crate::threads::{make_all, make_two};
 use capscript::file_system;
 use capserver::{CapServer, Opening, Server, StartFault};
 use std::alloc::{AllocError, Global};
@@ -24,8 +24,10 @@ pub const MANY_ROWS: u32 = 1000;
 pub enum Work {
     /// Its first pass takes turns.
     Turns(Case),
-    /// Each pass makes files, in a thread of its own.
+    /// Each pass makes files, one after the other.
     Files,
+    /// Two passes make files at once.
+    Both,
     /// The first pass asks while a call of the second is held.
     Beside,
 }
@@ -56,6 +58,7 @@ fn served<L: Server + Send + Sync, R: Abort + Threads + Wait + Sync>(
     let back = match work {
         Work::Turns(case) => take_turns(rt, alloc, &server, passes, case),
         Work::Files => make_all(rt, alloc, &server, passes),
+        Work::Both => make_two(rt, alloc, &server, passes),
         Work::Beside => ask_beside(rt, alloc, &server, &signs, passes),
     };
     let closed = server.close(rt, back);

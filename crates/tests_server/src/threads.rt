@@ -1,10 +1,12 @@
-//! What passes do side by side: each makes files, in a thread of its own.
+//! What passes do beside each other: they make files, one after the other or at once.
 
+use crate::asserting::present;
 use crate::calls::call_line;
 use capserver::{CapServer, Gate, Pass, Server};
 use std::alloc::Global;
+use std::process::Abort;
 use std::sync::Wait;
-use std::thread::{Threads, scope, scope_env};
+use std::thread::{Threads, join};
 
 const MADE: u32 = 200;
 
@@ -28,24 +30,46 @@ fn make_files<G: Gate, L: Server, R: Wait>(
     pass
 }
 
-/// Makes files with each pass, in a thread of its own.
-pub fn make_all<G: Gate + Send + Sync, L: Server + Send + Sync, R: Threads + Wait + Sync>(
+/// Makes files with each pass, one after the other.
+pub fn make_all<G: Gate, L: Server, R: Wait>(
     rt: &R,
     alloc: Global,
     server: &CapServer<G, L>,
     passes: Vec<Pass<L>>,
 ) -> Vec<Pass<L>> {
-    scope(scope_env(), rt, |scope| {
-        let mut threads = Vec::new(alloc);
-        for pass in passes {
-            if let Ok(thread) = scope.spawn(move || make_files(rt, alloc, server, pass)) {
-                let _ = threads.push(thread);
-            }
-        }
-        let mut back = Vec::new(alloc);
-        for thread in threads {
-            let _ = back.push(thread.join(rt));
-        }
-        back
-    })
+    let mut back = Vec::new(alloc);
+    for pass in passes {
+        let _ = back.push(make_files(rt, alloc, server, pass));
+    }
+    back
+}
+
+// Each in a thread of its own.
+fn both<G: Gate + Send + Sync, L: Server + Send + Sync, R: Threads + Wait + Sync>(
+    rt: &R,
+    alloc: Global,
+    server: &CapServer<G, L>,
+    (one, two): (Pass<L>, Pass<L>),
+) -> (Pass<L>, Pass<L>) {
+    join(
+        rt,
+        move || make_files(rt, alloc, server, one),
+        move || make_files(rt, alloc, server, two),
+    )
+}
+
+/// Makes files with the last two passes at once, which are gone then.
+pub fn make_two<G: Gate + Send + Sync, L: Server + Send + Sync, R: Abort + Threads + Wait + Sync>(
+    rt: &R,
+    alloc: Global,
+    server: &CapServer<G, L>,
+    passes: Vec<Pass<L>>,
+) -> Vec<Pass<L>> {
+    let mut passes = passes;
+    let two = present(rt, passes.pop(), "pass 2");
+    let one = present(rt, passes.pop(), "pass 1");
+    let (one, two) = both(rt, alloc, server, (one, two));
+    drop(one);
+    drop(two);
+    passes
 }
