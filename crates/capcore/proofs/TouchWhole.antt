@@ -61,7 +61,11 @@ tell-alike s k (Want caps) = alike-changed s.scene.table k told (λ e. refl)
 tell-alike s k (Ack seq) = λ j e there. (e, there, refl)
 tell-alike s k (Release caps) = λ j e there. (e, there, refl)
 
--- ---- the table that the first call left
+-- ---- what the first calls answered, on the state that the call was handed
+
+pub passed-of : (s handed : State) (client : ClientId) (ino : Ino) (touch : Touch) (o : Option Stopped) → s ≡ handed → o ≡ judged handed.scene (touch_event client ino touch) → o ≡ None
+    → judged s.scene (touch_event client ino touch) ≡ None
+passed-of s handed client ino touch o view asked none = ap (λ (w : State). judged w.scene (touch_event client ino touch)) view ∙ sym asked ∙ none
 
 pub table-of : (s : Scene) (k : Holder) (touch : Touch) (new : Table) (revoked : Caps) → new ≡ touched_table s.table k revoked touch → revoked ≡ revoked_of s k → new ≡ touched_table s.table k (revoked_of s k) touch
 table-of s k touch new revoked is same = is ∙ ap (λ r. touched_table s.table k r touch) same
