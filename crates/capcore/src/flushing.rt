@@ -1,23 +1,27 @@
 //! The step of a flush: a client that alone may change a part has changed it.
-ghost use Rattle.std.specs.Prelude.{◌≡◌, IfOk, OnErr};
+ghost use Rattle.std.specs.Prelude.{◌≡◌, IfOk, IfErr, OnErr};
+ghost use Rattle.capbits.specs.Refusal.{first_failing};
 ghost use Rattle.captable.specs.Table.{holder};
 ghost use Rattle.capevents.specs.declared.event.Event.TheVariants as event;
 ghost use Rattle.capsteps.specs.Answered.{IsAnswered};
 ghost use Rattle.capsteps.specs.Noted.{view_of};
 ghost use Rattle.capview.specs.Changes.{AreChanges};
+ghost use Rattle.capacts.specs.Asks as words;
+ghost use Rattle.capacts.specs.Judge.{judged, flush_tests};
 ghost use Rattle.capsteps.specs.Sound.{NumbersLeft};
 
-use crate::judging::flush_stop;
 use crate::world::World;
-use capacts::serving::alter;
-use capbits::{ClientId, Ino};
+use capacts::judge::{by_test, denial};
+use capacts::serving::{alter, change_access, change_refusal};
+use capacts::stop::Stop;
+use capacts::stopped::Stopped;
+use capbits::{Cap, CapSet, ClientId, Ino, Part, Refusal};
 use capevents::Reply;
 use capsteps::ended::close;
 use capsteps::said::Said;
 use capsteps::settle::end_at_one;
 use captable::Holder;
 use lockmachine::Change;
-use std::alloc::AllocError;
 
 impl World {
     // A step of a flush. It waits for no lock.
@@ -26,17 +30,17 @@ impl World {
         client: ClientId,
         ino: Ino,
         change: &Change,
-    ) -> Result<Said, AllocError>
+    ) -> Result<Said, Stop>
         requires numbers { NumbersLeft self.old }
         ensures answered { IfOk result (λ said. IsAnswered self.old (event.Flush client ino change.now) said self.new) }
         ensures changes { IfOk result (λ said. AreChanges said.changes.items (view_of self.old) (view_of self.new)) }
         ensures err { OnErr result (self.new ≡ self.old) }
+        ensures memory { IfErr result (λ stop. stop ≡ Stop.NoMemory) }
     {
         // A look at the entries, by which the proof knows what they keep.
         let _oldest = self.table.oldest();
-        let (fs, tree, holder) = (&self.fs, &self.tree, Holder { client, ino });
-        if let Some(stopped) = flush_stop(fs, tree, &self.sessions, &self.table, holder, change) {
-            return Ok(Said::alone(self.messages.alloc(), stopped.into()));
+        if let Some(stopped) = self.flush_stop(client, ino, change) {
+            return Ok(Said::alone(self.alloc(), stopped.into()));
         }
         let waiting = self.locks.waiting();
         self.endings.begin(waiting, waiting + 2)?;
@@ -54,5 +58,42 @@ impl World {
             &mut self.endings,
         );
         Ok(close(&mut self.messages, Reply::Done, &mut self.endings))
+    }
+
+    // What stops a flush.
+    fn flush_stop(&self, client: ClientId, ino: Ino, change: &Change) -> Option<Stopped>
+        ensures { result ≡ judged self.now.scene (event.Flush client ino change.now) }
+    {
+        if let Some(refusal) = self.inode_stop(client, ino) {
+            return Some(Stopped::ByTest(refusal));
+        }
+        let (holder, access) = (Holder { client, ino }, change_access(change));
+        if let Some(denied) = denial(&self.fs, &self.tree, &self.sessions, holder, access) {
+            return Some(denied);
+        }
+        by_test(self.flush_refusal(client, ino, change))
+    }
+
+    // The first test of a flush behind policy that fails.
+    fn flush_refusal(&self, client: ClientId, ino: Ino, change: &Change) -> Option<Refusal>
+        ensures { result ≡ first_failing (flush_tests self.now.scene (holder client ino) change.now) }
+    {
+        let held = CapSet::of(&[exclusive(change.part())]);
+        match self.table.release_refusal(client, ino, held) {
+            Some(refusal) => Some(refusal),
+            None => change_refusal(&self.tree, ino, change),
+        }
+    }
+}
+
+// The capability with which a client changes a part by itself.
+fn exclusive(part: Part) -> Cap
+    ensures { result ≡ words.exclusive part }
+{
+    match part {
+        Part::A => Cap::Ax,
+        Part::L => Cap::Lx,
+        Part::X => Cap::Xx,
+        Part::F => Cap::Fx,
     }
 }

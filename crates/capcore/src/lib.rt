@@ -6,7 +6,6 @@
 mod asking;
 mod flushing;
 mod giving;
-mod judging;
 mod laws;
 mod own_laws;
 mod recalling;

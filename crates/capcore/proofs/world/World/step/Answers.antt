@@ -1,4 +1,4 @@
-use Rattle.std.proofs.Common.{◌≡◌, Some, ap, sym, ◌∙◌}
+use Rattle.std.proofs.Common.{◌≡◌, Some, ap}
 use Rattle.std.proofs.lemmas.Result.{IfOk-weaker}
 use Rattle.captable.specs.declared.entry.Holder.{Holder}
 use Rattle.captable.specs.Table.{holder}
@@ -21,11 +21,11 @@ returns-in-Get-clause-answered c =
     IfOk-weaker c.ask.result (Each c.args.self.now k (ask_kind.Get c.in-Get.part) c.ask.new.self) (λ said. IsAnswered c.args.self.now c.args.event.now said c.ask.new.self)
     (λ said each. each c.args.event.now (ap asks_for c.in-Get.is)) c.ask.ensures.answered
 
-pub returns-in_ok-change-in-Alter-clause-answered : goal.returns-in_ok-change-in-Alter-clause-answered
-returns-in_ok-change-in-Alter-clause-answered c =
+pub returns-in-Alter-clause-answered : goal.returns-in-Alter-clause-answered
+returns-in-Alter-clause-answered c =
     let k : Holder = holder c.in-Alter.client c.in-Alter.ino in
-    IfOk-weaker c.ask-in-Alter.result (Each c.args.self.now k (ask_kind.Alter c.in_ok-change-in-Alter.change) c.ask-in-Alter.new.self) (λ said. IsAnswered c.args.self.now c.args.event.now said c.ask-in-Alter.new.self)
-    (λ said each. each c.args.event.now (ap asks_for c.in-Alter.is ∙ ap (λ change. Some (k, ask_kind.Alter change)) (sym c.in_ok-change-in-Alter.ensures))) c.ask-in-Alter.ensures.answered
+    IfOk-weaker c.ask_change.result (Each c.args.self.now k (ask_kind.Alter c.in-Alter.change) c.ask_change.new.self) (λ said. IsAnswered c.args.self.now c.args.event.now said c.ask_change.new.self)
+    (λ said each. each c.args.event.now (ap asks_for c.in-Alter.is)) c.ask_change.ensures.answered
 
 pub returns-in-Unlink-clause-answered : goal.returns-in-Unlink-clause-answered
 returns-in-Unlink-clause-answered c =
@@ -39,8 +39,8 @@ returns-in-Rmdir-clause-answered c =
     IfOk-weaker c.ask-in-Rmdir.result (Each c.args.self.now k ask_kind.Rmdir c.ask-in-Rmdir.new.self) (λ said. IsAnswered c.args.self.now c.args.event.now said c.ask-in-Rmdir.new.self)
     (λ said each. each c.args.event.now (ap asks_for c.in-Rmdir.is)) c.ask-in-Rmdir.ensures.answered
 
-pub returns-in_ok-name-in-Rename-clause-answered : goal.returns-in_ok-name-in-Rename-clause-answered
-returns-in_ok-name-in-Rename-clause-answered c =
+pub returns-in-Rename-clause-answered : goal.returns-in-Rename-clause-answered
+returns-in-Rename-clause-answered c =
     let k : Holder = holder c.in-Rename.client c.in-Rename.ino in
-    IfOk-weaker c.ask-in-Rename.result (Each c.args.self.now k (ask_kind.Rename c.in-Rename.dir c.in_ok-name-in-Rename.name) c.ask-in-Rename.new.self) (λ said. IsAnswered c.args.self.now c.args.event.now said c.ask-in-Rename.new.self)
-    (λ said each. each c.args.event.now (ap asks_for c.in-Rename.is ∙ ap (λ name. Some (k, ask_kind.Rename c.in-Rename.dir name)) (sym (c.in_ok-name-in-Rename.ensures ∙ c.as_slice.ensures)))) c.ask-in-Rename.ensures.answered
+    IfOk-weaker c.ask_rename.result (Each c.args.self.now k (ask_kind.Rename c.in-Rename.dir c.in-Rename.name) c.ask_rename.new.self) (λ said. IsAnswered c.args.self.now c.args.event.now said c.ask_rename.new.self)
+    (λ said each. each c.args.event.now (ap asks_for c.in-Rename.is)) c.ask_rename.ensures.answered

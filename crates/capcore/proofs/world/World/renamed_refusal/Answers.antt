@@ -1,0 +1,24 @@
+use Rattle.std.proofs.Common.{sym, ap, ◌∙◌}
+use Rattle.capbits.specs.Refusal.{first_failing}
+use Rattle.capbits.proofs.Tests.{failing-front}
+use Rattle.lockmachine.specs.declared.request.Ask.TheVariants.{Rename}
+use Rattle.lockmachine.specs.Locks.{queue_tests}
+use Rattle.lockmachine.specs.Scene.{Scene}
+use Rattle.capsteps.specs.State.{State}
+use Rattle.capacts.specs.Asks.{ask_after}
+use Rattle.capacts.specs.Judge.{waiting_tests}
+use Rattle.capsteps.proofs.Revoking.{passed-front}
+use Rattle.capcore.proofs.world.World.renamed_refusal.Goals as goal
+
+pub returns-in-Some : goal.returns-in-Some
+returns-in-Some c =
+    let s : Scene = record { fs = c.self.inside.fs; tree = c.self.inside.tree; sessions = c.self.inside.sessions; table = c.self.inside.table; locks = c.self.inside.locks } in
+    sym (failing-front (ask_after s c.args.ino.0 (Rename c.args.dir c.args.name.now)) (queue_tests s.locks) c.in-Some.refusal (sym (c.new_place_refusal.ensures) ∙ c.in-Some.is))
+    ∙ ap (λ (w : State). first_failing (waiting_tests w.scene c.args.ino.0 (Rename c.args.dir c.args.name.now))) c.self.view_is
+
+pub returns-in-None : goal.returns-in-None
+returns-in-None c =
+    let s : Scene = record { fs = c.self.inside.fs; tree = c.self.inside.tree; sessions = c.self.inside.sessions; table = c.self.inside.table; locks = c.self.inside.locks } in
+    c.enqueue_refusal.ensures
+    ∙ sym (passed-front (ask_after s c.args.ino.0 (Rename c.args.dir c.args.name.now)) (queue_tests s.locks) (sym (c.new_place_refusal.ensures) ∙ c.in-None.is))
+    ∙ ap (λ (w : State). first_failing (waiting_tests w.scene c.args.ino.0 (Rename c.args.dir c.args.name.now))) c.self.view_is

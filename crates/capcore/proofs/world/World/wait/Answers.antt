@@ -1,0 +1,105 @@
+use Rattle.std.proofs.Common.{is_some, ◌≡◌, ◌+◌, ◌++◌, ◌∷◌, List, length, [], None, Some, sym, ap, subst, ◌∙◌, arith}
+use Rattle.std.proofs.lemmas.List.{length-append}
+use Rattle.captable.specs.declared.entry.Holder.{Holder}
+use Rattle.captable.specs.Table.{holder}
+use Rattle.lockmachine.specs.Locks.{LockMap, next_request}
+use Rattle.lockmachine.specs.Scene.{Scene}
+use Rattle.capevents.specs.declared.event.Event.{Event}
+use Rattle.capevents.specs.declared.outcome.Ended.{Ended}
+use Rattle.capsteps.specs.State.{State}
+use Rattle.capsteps.specs.Answered.{IsAnswered}
+use Rattle.capacts.specs.Asks.{ask_needs}
+use Rattle.capacts.specs.Judge.{stop, asking_tests, waiting_tests}
+use Rattle.capsteps.specs.Touching.{asks_for}
+use Rattle.capnotes.specs.Untold.{but_for}
+use Rattle.capcore.proofs.Asked.{asking-room}
+use Rattle.capcore.proofs.Waits.{some-asking, room-left, few-others, wait-quiet, wait-differ, wait-known, wait-answered}
+use Rattle.capview.specs.Changes.{AreChanges}
+use Rattle.capsteps.specs.Noted.{view_of}
+use Rattle.capnotes.proofs.Noting.{changes-all}
+use Rattle.capcore.proofs.world.World.wait.Goals as goal
+use Rattle.capcore.proofs.world.World.wait.Goals.{After-oldest-oldest, After-close_with}
+
+-- ---- before the request waits
+
+module _ (c : After-oldest-oldest) where
+  abbrev old : State
+  old = record { scene = record { fs = c.self.inside.fs; tree = c.self.inside.tree; sessions = c.self.inside.sessions; table = c.self.inside.table; locks = c.self.inside.locks }; messages = c.self.inside.messages.items }
+
+  abbrev k : Holder
+  k = holder c.args.client c.args.ino
+
+  free : stop old.scene (asking_tests old.scene c.args.client c.args.ino.0 c.args.ask) (ask_needs old.scene c.args.client c.args.ino.0 c.args.ask) (waiting_tests old.scene c.args.ino.0 c.args.ask) ≡ None
+  free =
+      subst (λ (s : State). stop s.scene (asking_tests s.scene c.args.client c.args.ino.0 c.args.ask) (ask_needs s.scene c.args.client c.args.ino.0 c.args.ask) (waiting_tests s.scene c.args.ino.0 c.args.ask) ≡ None)
+      (sym c.self.view_is) c.requires.passed
+
+pub enqueue-ticket-requires-clause-room : goal.enqueue-ticket-requires-clause-room
+enqueue-ticket-requires-clause-room g =
+    let c = (goal.at.enqueue-ticket-requires-clause-room g).After-oldest-oldest in
+    room-left c.self.inside.locks (asking-room (old c).scene (k c) c.args.ask (free c))
+
+-- ---- while it waits
+
+pub end_at_one-requires-clause-quiet : goal.end_at_one-requires-clause-quiet
+end_at_one-requires-clause-quiet g =
+    let c = (goal.at.end_at_one-requires-clause-quiet g).After-oldest-oldest in
+    wait-quiet (old c) (k c) g.args.ask g.self.invariant.0 g.oldest-oldest.ensures.sound g.waiting-waiting.ensures.sound (free c) g.enqueue-ticket.new.self g.enqueue-ticket.ensures.queued
+
+pub end_at_one-requires-clause-room : goal.end_at_one-requires-clause-room
+end_at_one-requires-clause-room g = λ j f there. ap is_some (g.self.invariant.2 j f there)
+
+pub close_with-requires-clause-differ : goal.close_with-requires-clause-differ
+close_with-requires-clause-differ g =
+    let c = (goal.at.close_with-requires-clause-differ g).After-oldest-oldest in
+    let last : Scene = record { fs = g.self.inside.fs; tree = g.end_at_one.new.tree; sessions = g.self.inside.sessions; table = g.end_at_one.new.table; locks = g.end_at_one.new.locks } in
+    wait-differ (old c) (k c) g.args.ask g.self.invariant.0 g.oldest-oldest.ensures.sound g.waiting-waiting.ensures.sound (free c) g.enqueue-ticket.new.self g.enqueue-ticket.ensures.queued
+    _ _ g.self.invariant.2 last g.end_at_one.new.endings.told.items
+    g.end_at_one.ensures.ends
+
+-- ---- the end of the step
+
+module _ (g : After-close_with) where
+  abbrev c : After-oldest-oldest
+  c = (goal.at.invariant_of-self-2 g).After-oldest-oldest
+
+  abbrev last : Scene
+  last = record { fs = g.self.inside.fs; tree = g.end_at_one.new.tree; sessions = g.self.inside.sessions; table = g.end_at_one.new.table; locks = g.end_at_one.new.locks }
+
+  abbrev new : State
+  new = record { scene = last; messages = g.close_with.new.messages.items }
+
+  whole : (e : Event) → asks_for e ≡ Some (k c, g.args.ask) → IsAnswered (old c) e g.close_with.result new
+  whole =
+      wait-answered (old c) (k c) g.args.ask g.self.invariant.0 g.oldest-oldest.ensures.sound g.waiting-waiting.ensures.sound (free c) g.enqueue-ticket.new.self g.enqueue-ticket.ensures.queued
+      _ _ g.self.invariant.2 last g.end_at_one.new.endings.told.items
+      g.end_at_one.ensures.ends
+      g.end_at_one.ensures.table g.enqueue-ticket.result g.enqueue-ticket.ensures.ticket g.close_with.result g.close_with.new.messages.items
+      g.close_with.ensures.reply g.close_with.ensures.kept g.close_with.ensures.ended
+      (g.close_with.ensures.items ∙ ap (λ (ms : List Ended). ms ++ but_for g.enqueue-ticket.result g.end_at_one.new.endings.told.items) g.reserve.ensures.items)
+
+pub invariant_of-self-2 : goal.invariant_of-self-2
+invariant_of-self-2 g =
+    let asked = some-asking (k (c g)) g.args.ask in
+    let w = whole g asked.0 asked.1 in
+    let ticket = g.enqueue-ticket.result in
+    let told = g.end_at_one.new.endings.told.items in
+    let items : length g.close_with.new.messages.items ≡ length g.self.inside.messages.items + length (but_for ticket told) =
+    ap length g.close_with.ensures.items ∙ length-append g.reserve.new.self.items (but_for ticket told) ∙ ap (λ (ms : List Ended). length ms + length (but_for ticket told)) g.reserve.ensures.items in
+    let few = few-others ticket told in
+    let queue : length g.enqueue-ticket.new.self.queue ≡ length g.self.inside.locks.queue + 1 =
+    ap (λ (l : LockMap). length l.queue) g.enqueue-ticket.ensures.queued ∙ length-append g.self.inside.locks.queue (next_request g.self.inside.locks g.args.client g.args.ino g.args.ask ∷ []) in (
+      w.sound,
+      omega (arith, items, few, queue, g.in_default-reserve.ensures.ok, g.close_with.ensures.room, g.end_at_one.ensures.count, g.waiting-waiting.ensures.waiting),
+      wait-known (old (c g)) (k (c g)) g.args.ask g.self.invariant.0 g.oldest-oldest.ensures.sound g.waiting-waiting.ensures.sound (free (c g)) g.enqueue-ticket.new.self g.enqueue-ticket.ensures.queued
+          _ _ g.self.invariant.2 (last g) g.end_at_one.new.endings.told.items g.end_at_one.ensures.ends,
+    )
+
+pub returns-clause-answered : goal.returns-clause-answered
+returns-clause-answered g = λ e asked. subst (λ (s : State). IsAnswered s e g.close_with.result (new g)) g.self.view_is (whole g e asked)
+
+pub returns-clause-changes : goal.returns-clause-changes
+returns-clause-changes g =
+    subst (λ (s : State). AreChanges g.close_with.result.changes.items (view_of s) (view_of (new g))) g.self.view_is
+    (subst (λ items. AreChanges items (view_of (old (c g))) (view_of (new g))) (sym g.close_with.ensures.changes)
+    (changes-all g.begin.new.self.changes.items g.end_at_one.new.endings.changes.items g.self.inside.tree g.end_at_one.new.tree g.self.inside.sessions.sessions g.in_default.ensures.changes.0 g.end_at_one.ensures.lead))
