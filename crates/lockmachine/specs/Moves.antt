@@ -1,49 +1,32 @@
 -- Which move comes next, what each does to the locks, and when they are at rest.
-use Rattle.std.specs.Prelude.{◌≡◌, ◌≤◌, ℕ, Bool, true, false, ◌&&◌, not, ◌==◌, IsTrue}
-use Rattle.std.specs.Prelude.{List, [], ◌∷◌, Option, Some, None, Contains, map as each}
-use Rattle.std.specs.List.{find, list_any, flat_map}
+use Rattle.std.specs.Prelude.{◌≡◌, ◌≤◌, ℕ, Bool, true, false, ◌&&◌, not, IsTrue, List, [], ◌∷◌, Option, Some, None, Contains, map as each}
+use Rattle.std.specs.List.{find, flat_map}
 use Rattle.std.specs.Option.{option_map_or}
 use Rattle.std.specs.FinMap as map
 use Rattle.capbits.specs.declared.cap.Part.{Part}
 use Rattle.capbits.specs.declared.cap.Part.TheVariants.{A, L, X, F}
-use Rattle.capbits.specs.declared.ids.Ino.{Ino}
-use Rattle.capbits.specs.Sets.{is_empty}
 use Rattle.locktable.specs.declared.states.State.{State}
-use Rattle.locktable.specs.declared.states.State.TheVariants.{Sync, Lock, Mix, Excl}
+use Rattle.locktable.specs.declared.states.State.TheVariants.{Sync}
 use Rattle.locktable.specs.declared.states.LockState.{LockState}
 use Rattle.locktable.specs.declared.states.LockState.TheVariants.{Stable, Gather}
 use Rattle.locktable.specs.declared.targets.Head.{Head}
 use Rattle.locktable.specs.Targets.{is_served}
 use Rattle.captable.specs.Table.{Table}
-use Rattle.captable.specs.Calls.{entries_on}
 use Rattle.lockmachine.specs.declared.request.Request.{Request}
 use Rattle.lockmachine.specs.declared.wants.Wants.{Wants}
 use Rattle.lockmachine.specs.declared.moves.Move.{Move}
 use Rattle.lockmachine.specs.declared.moves.Move.TheVariants.{Begin, End, Serve, Settled}
 use Rattle.lockmachine.specs.Requests.{first_for, part_of_ask, head_of_ask, is_numbered}
 use Rattle.lockmachine.specs.Locks.{LockMap, lock_at, with_lock, request_at, without_request}
-use Rattle.lockmachine.specs.Scene.{Scene, wanted_in_all, target_by, target, outside}
-
-abbrev pub same_state : State → State → Bool
-same_state Sync Sync = true
-same_state Lock Lock = true
-same_state Mix Mix = true
-same_state (Excl a) (Excl b) = a.0 == b.0
-same_state a b = false
-
--- some client has capabilities of the part that it may not hold where the part's lock is stable in a state
-abbrev pub is_held_outside : Table → Ino → Part → State → Bool
-is_held_outside table ino part state = list_any (λ row. not (is_empty (outside part state row))) (entries_on table ino)
+use Rattle.lockmachine.specs.Scene.{Scene, wanted_in_all, target_by, target}
+pub use Rattle.onelock.specs.Held.{is_held_outside}
+pub use Rattle.onelock.specs.Lock.{same_state, LockPlace, may_end_in}
 
 -- some capabilities are still to be told back before the lock can be in its target
 abbrev pub is_open : Scene → ℕ → Part → State → Bool
 is_open s ino part to = is_held_outside s.table (record { 0 = ino }) part to
 
 -- ---- which moves apply
-
--- a lock, by its inode and part
-abbrev pub LockPlace : Type 0
-LockPlace = ℕ × Part
 
 -- the parts, in their order
 abbrev pub parts : List Part
@@ -55,11 +38,6 @@ places_of ino = each (λ part. (ino, part)) parts
 
 abbrev pub places : LockMap → List LockPlace
 places locks = flat_map places_of (map.keys locks.states)
-
-abbrev pub may_end_in : Table → LockPlace → Option LockState → Bool
-may_end_in table at None = false
-may_end_in table at (Some (Stable state)) = false
-may_end_in table at (Some (Gather from to)) = not (is_held_outside table (record { 0 = at.0 }) at.1 to)
 
 -- the lock is in a gather that is not open, by the entries of the table
 abbrev pub may_end_by : Table → LockMap → LockPlace → Bool

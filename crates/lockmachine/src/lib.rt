@@ -8,7 +8,6 @@ mod laws;
 mod locks;
 mod moves;
 mod request;
-mod revoked;
 mod states;
 mod waiters;
 mod wants;

@@ -20,7 +20,6 @@ ghost use Rattle.lockmachine.specs.Turns.{IsTurnOf, IsNextAt, IsDue, NobodyElsew
 
 use crate::moves::Move;
 use crate::request::{Ask, Request};
-use crate::revoked::is_held_outside;
 use crate::states::{InodeLocks, States};
 use crate::waiters::{MAX_WAITING, Waiter, Waiters};
 use crate::wants::{Wants, known_or_found, wants_on};
@@ -29,6 +28,7 @@ use capspec::FsName;
 use captable::CapTable;
 use inotree::Tree;
 use locktable::{Head, LockState, State, serves, target};
+use onelock::{is_off_target, may_end};
 use sessiontab::Sessions;
 use std::alloc::{AllocError, Global};
 use std::marker::Model;
@@ -348,7 +348,10 @@ impl Locks {
         ensures { result ≡ moves.may_begin_in (waiting.queue_if waits self.now.queue) wants.now (ino.0, part) (Some lock) }
     {
         match lock {
-            LockState::Stable(state) => self.target_for(waits, ino, part, state, wants) != state,
+            LockState::Stable(state) => {
+                let head = self.head(waits, ino, part);
+                is_off_target(part, state, head, wants.loner, wants.wanted)
+            }
             LockState::Gather { .. } => false,
         }
     }
@@ -688,14 +691,4 @@ fn is_of_client(client: ClientId, request: &Request) -> bool
     ensures { result ≡ requests.is_of_client client request.now }
 {
     request.client.0 == client.0
-}
-
-// Whether the lock of the part, which is in this state, is in a gather that is not open.
-fn may_end(table: &CapTable, ino: Ino, part: Part, lock: LockState) -> bool
-    ensures { result ≡ moves.may_end_in table.now (ino.0, part) (Some lock) }
-{
-    match lock {
-        LockState::Gather { to, .. } => !is_held_outside(table, ino, part, to),
-        LockState::Stable(_) => false,
-    }
 }

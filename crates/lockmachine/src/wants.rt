@@ -1,7 +1,5 @@
 //! What clients want of an inode, so far as it counts.
-ghost use Rattle.std.specs.Prelude.{◌≡◌, Some, IfSome, List, [], ◌∷◌, if◌then◌else◌};
-ghost use Rattle.capbits.specs.Sets.{no_caps, meet};
-ghost use Rattle.sessiontab.specs.Tests.{is_open};
+ghost use Rattle.std.specs.Prelude.{◌≡◌, Some, IfSome, List, [], ◌∷◌};
 ghost use Rattle.std.specs.Option.{option_copied};
 ghost use Rattle.std.specs.FinMap as map;
 ghost use Rattle.captable.specs.Table.{holder};
@@ -12,7 +10,8 @@ use capbits::{Cap, CapSet, ClientId, Ino};
 use capspec::FsName;
 use captable::{CapTable, EntryRow};
 use inotree::{Names, Node, Tree};
-use sessiontab::{Session, Sessions, Status};
+use onelock::wanted_while;
+use sessiontab::{Session, Sessions};
 
 /// What the clients with an entry on an inode effectively want of it.
 #[derive(Clone, Copy, Debug, PartialEq, Eq)]
@@ -81,16 +80,6 @@ pub fn want_of_permitted(sessions: &Sessions, row: EntryRow, permitted: CapSet) 
     ensures { result ≡ words.want_of_permitted sessions.now permitted row }
 {
     wanted_while(sessions.status(row.holder.client), row, permitted)
-}
-
-// The same, in a session of this status.
-fn wanted_while(status: Option<Status>, row: EntryRow, permitted: CapSet) -> CapSet
-    ensures { result ≡ (if is_open status then meet row.entry.want permitted else no_caps) }
-{
-    match status {
-        Some(Status::Open) => row.entry.want.meet(permitted),
-        Some(Status::Stale) | None => CapSet::empty(),
-    }
 }
 
 /// What the grants permit the client to hold of an inode. Without a session or a path, the pin alone.

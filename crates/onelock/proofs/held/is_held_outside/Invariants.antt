@@ -1,8 +1,8 @@
 use Rattle.std.proofs.Common.{◌≡◌, length, not}
 use Rattle.std.specs.List.{list_any}
 use Rattle.capbits.specs.Sets.{is_empty}
-use Rattle.lockmachine.specs.Scene.{outside}
-use Rattle.lockmachine.proofs.revoked.is_held_outside.Given as goal
+use Rattle.onelock.specs.Held.{outside}
+use Rattle.onelock.proofs.held.is_held_outside.Given as goal
 
 abbrev pub decreases-rows : goal.decreases-rows
 decreases-rows l = length l.walk

@@ -1,15 +1,15 @@
 //! What is held that a state of a lock does not allow.
 ghost use Rattle.std.specs.Prelude.{◌≡◌, not};
 ghost use Rattle.capbits.specs.Sets.{is_empty};
-ghost use Rattle.lockmachine.specs.Scene.{outside};
-ghost use Rattle.lockmachine.specs.Moves as words;
+ghost use Rattle.onelock.specs.Held as words;
+ghost use Rattle.onelock.specs.Held.{outside};
 
 use capbits::{Ino, Part};
 use captable::{CapTable, EntryRow};
 use locktable::{State, row};
 
-// Whether some client has capabilities of the part that it may not hold where the part's lock is stable in a state.
-pub(crate) fn is_held_outside(table: &CapTable, ino: Ino, part: Part, state: State) -> bool
+/// Whether some client has capabilities of the part that it may not hold where the part's lock is stable in a state.
+pub fn is_held_outside(table: &CapTable, ino: Ino, part: Part, state: State) -> bool
     ensures { result ≡ words.is_held_outside table.now ino part state }
 {
     let mut walk = table.holders_of(ino);

@@ -1,0 +1,13 @@
+//! One lock, beside what clients hold and want of its inode: whether its gather may end, whether it is to go elsewhere, and what a want
+//! counts for. Neither the queue nor other locks are looked at.
+//!
+//! Public source: "Capabilities in CephFS" in the Ceph documentation.
+#![tactic(auto)]
+
+mod held;
+mod lock;
+mod want;
+
+pub use held::is_held_outside;
+pub use lock::{is_off_target, may_end};
+pub use want::wanted_while;
