@@ -11,15 +11,15 @@ use Rattle.capbits.proofs.Tests.{pass-both}
 use Rattle.capgrant.specs.declared.access.Access.{Access}
 use Rattle.inotree.specs.declared.node.Node.{Node}
 use Rattle.inotree.specs.Tree.{Nodes}
-use Rattle.lockmachine.specs.declared.request.Change.{Change}
-use Rattle.lockmachine.specs.declared.request.Change.TheVariants.{Set, SetXattr, RemoveXattr}
-use Rattle.lockmachine.specs.declared.request.Ask.{Ask}
-use Rattle.lockmachine.specs.declared.request.Ask.TheVariants.{Get, Alter, Unlink, Rmdir, Rename}
-use Rattle.lockmachine.specs.declared.request.Request.{Request}
-use Rattle.lockmachine.specs.Policy.{failures}
-use Rattle.lockmachine.specs.Scene.{Scene}
-use Rattle.capevents.specs.declared.outcome.Outcome.{Outcome}
-use Rattle.capevents.specs.declared.outcome.Outcome.TheVariants as outcome
+use Rattle.capnotes.specs.Lockmachine.declared.request.Change.{Change}
+use Rattle.capnotes.specs.Lockmachine.declared.request.Change.TheVariants.{Set, SetXattr, RemoveXattr}
+use Rattle.capnotes.specs.Lockmachine.declared.request.Ask.{Ask}
+use Rattle.capnotes.specs.Lockmachine.declared.request.Ask.TheVariants.{Get, Alter, Unlink, Rmdir, Rename}
+use Rattle.capnotes.specs.Lockmachine.declared.request.Request.{Request}
+use Rattle.capnotes.specs.Lockmachine.Policy.{failures}
+use Rattle.capnotes.specs.Lockmachine.Scene.{Scene}
+use Rattle.capnotes.specs.Capevents.declared.outcome.Outcome.{Outcome}
+use Rattle.capnotes.specs.Capevents.declared.outcome.Outcome.TheVariants as outcome
 use Rattle.capacts.specs.declared.stopped.Stopped.{Stopped}
 use Rattle.capacts.specs.declared.stopped.Stopped.TheVariants.{ByPolicy, ByTest}
 use Rattle.capacts.specs.Judge.{is_met, first_denied, stop_by, stop, denial_of}

@@ -3,9 +3,9 @@ use Rattle.std.proofs.Common.{◌≡◌, ℕ, ◌+◌, ◌≤◌, true, false, n
 use Rattle.std.specs.Prelude.{map as each, filter}
 use Rattle.std.proofs.lemmas.List.{length-take-le}
 use Rattle.capbits.specs.declared.ids.ClientId.{ClientId}
-use Rattle.lockmachine.specs.declared.request.Request.{Request}
-use Rattle.lockmachine.specs.Requests.{is_of_client}
-use Rattle.capevents.specs.declared.outcome.Ended.{Ended}
+use Rattle.capnotes.specs.Lockmachine.declared.request.Request.{Request}
+use Rattle.capnotes.specs.Lockmachine.Requests.{is_of_client}
+use Rattle.capnotes.specs.Capevents.declared.outcome.Ended.{Ended}
 use Rattle.capacts.specs.Left.{dropped_of}
 
 -- those of a client among these requests, dropped

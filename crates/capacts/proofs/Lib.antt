@@ -8,3 +8,7 @@ pub mod Dropped
 pub mod Walked
 pub mod KeptSets
 pub mod Held
+pub use Rattle.capnotes.proofs.Capevents
+pub use Rattle.capnotes.proofs as Capnotes
+pub use Rattle.capnotes.proofs.Capview
+pub use Rattle.capnotes.proofs.Lockmachine

@@ -1,7 +1,7 @@
 -- Which requests take memory.
 use Rattle.std.proofs.Common.{◌≡◌, true, refl}
-use Rattle.lockmachine.specs.declared.request.Ask.{Ask}
-use Rattle.lockmachine.specs.declared.request.Ask.TheVariants.{Get, Alter, Unlink, Rmdir, Rename}
+use Rattle.capnotes.specs.Lockmachine.declared.request.Ask.{Ask}
+use Rattle.capnotes.specs.Lockmachine.declared.request.Ask.TheVariants.{Get, Alter, Unlink, Rmdir, Rename}
 use Rattle.capacts.specs.Served.{is_rename}
 use Rattle.capacts.specs.Serving.{takes_memory}
 

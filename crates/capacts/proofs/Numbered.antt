@@ -8,7 +8,7 @@ use Rattle.std.proofs.lemmas.List.Folds.{find-append}
 use Rattle.std.proofs.lemmas.List.Sums.{sum_by-cons, count_by-le-length}
 use Rattle.std.proofs.lemmas.Option.{same_Some, none-some}
 use Rattle.capbits.specs.declared.ids.PassId.{PassId}
-use Rattle.capevents.specs.declared.row.Row.{Row}
+use Rattle.capnotes.specs.Capevents.declared.row.Row.{Row}
 use Rattle.capacts.specs.Numbers.{rows_of, AreNumbered}
 
 -- ---- the last element that passes a test

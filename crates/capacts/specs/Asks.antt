@@ -14,11 +14,11 @@ use Rattle.inotree.specs.declared.node.Setting.TheVariants.{Mode, Uid, Gid, Size
 use Rattle.inotree.specs.Names.{name_cmp}
 use Rattle.inotree.specs.Tree.{parent}
 use Rattle.inotree.specs.Tests.{inode_tests, root_test, directory_test, file_test, empty_test, new_place_tests, setting_tests, new_attribute_tests, old_attribute_tests}
-use Rattle.lockmachine.specs.declared.request.Change.{Change}
-use Rattle.lockmachine.specs.declared.request.Change.TheVariants.{Set, SetXattr, RemoveXattr}
-use Rattle.lockmachine.specs.declared.request.Ask.{Ask}
-use Rattle.lockmachine.specs.declared.request.Ask.TheVariants.{Get, Alter, Unlink, Rmdir, Rename}
-use Rattle.lockmachine.specs.Scene.{Scene}
+use Rattle.capnotes.specs.Lockmachine.declared.request.Change.{Change}
+use Rattle.capnotes.specs.Lockmachine.declared.request.Change.TheVariants.{Set, SetXattr, RemoveXattr}
+use Rattle.capnotes.specs.Lockmachine.declared.request.Ask.{Ask}
+use Rattle.capnotes.specs.Lockmachine.declared.request.Ask.TheVariants.{Get, Alter, Unlink, Rmdir, Rename}
+use Rattle.capnotes.specs.Lockmachine.Scene.{Scene}
 use Rattle.capacts.specs.Needs.{Need, need, need_if}
 
 -- ---- accesses

@@ -17,9 +17,9 @@ use Rattle.captable.specs.declared.entry.EntryRow.{EntryRow}
 use Rattle.captable.specs.Table.{is_row_of}
 use Rattle.captable.specs.Calls.{issued, renumbered, with_size_due, is_of_inode}
 use Rattle.captable.specs.Many.{changed_where}
-use Rattle.lockmachine.specs.Locks.{lock_at}
-use Rattle.lockmachine.specs.Wants.{effective_want}
-use Rattle.lockmachine.specs.Scene.{Scene, told_set}
+use Rattle.capnotes.specs.Lockmachine.Locks.{lock_at}
+use Rattle.capnotes.specs.Lockmachine.Wants.{effective_want}
+use Rattle.capnotes.specs.Lockmachine.Scene.{Scene, told_set}
 use Rattle.inotree.specs.Tests.{is_gone}
 
 -- ---- sizes

@@ -15,11 +15,11 @@ use Rattle.captable.specs.declared.entry.Entry.{Entry}
 use Rattle.captable.specs.declared.entry.EntryRow.{EntryRow}
 use Rattle.captable.specs.declared.entry.Holder.{Holder}
 use Rattle.captable.specs.Calls.{issued, renumbered}
-use Rattle.lockmachine.specs.declared.states.InodeLocks.{InodeLocks}
-use Rattle.lockmachine.specs.Inodes.{StateMap, lock_in}
-use Rattle.lockmachine.specs.Scene.{against_lock}
-use Rattle.lockmachine.specs.Policy.{permitted}
-use Rattle.lockmachine.specs.Wants.{effective_want}
+use Rattle.capnotes.specs.Lockmachine.declared.states.InodeLocks.{InodeLocks}
+use Rattle.capnotes.specs.Lockmachine.Inodes.{StateMap, lock_in}
+use Rattle.capnotes.specs.Lockmachine.Scene.{against_lock}
+use Rattle.capnotes.specs.Lockmachine.Policy.{permitted}
+use Rattle.capnotes.specs.Lockmachine.Wants.{effective_want}
 use Rattle.capacts.specs.Finish.{allowed_by}
 use Rattle.capnotes.specs.InoSets.{InoSet}
 

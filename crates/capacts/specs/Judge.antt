@@ -15,20 +15,20 @@ use Rattle.inotree.specs.Tests.{known_test, inode_tests, directory_test, file_te
 use Rattle.captable.specs.declared.entry.Holder.{Holder}
 use Rattle.captable.specs.Table.{Table, holder, is_row_of, entry_at}
 use Rattle.captable.specs.Tests.{open_tests, entry_test, ack_tests, release_tests}
-use Rattle.lockmachine.specs.declared.request.Change.{Change}
-use Rattle.lockmachine.specs.declared.request.Ask.{Ask}
-use Rattle.lockmachine.specs.declared.request.Ask.TheVariants.{Get, Alter, Unlink, Rmdir, Rename}
-use Rattle.lockmachine.specs.Requests.{part_of_change}
-use Rattle.lockmachine.specs.Locks.{queue_tests}
-use Rattle.lockmachine.specs.Policy.{is_granted, failures}
-use Rattle.lockmachine.specs.Scene.{Scene, against}
+use Rattle.capnotes.specs.Lockmachine.declared.request.Change.{Change}
+use Rattle.capnotes.specs.Lockmachine.declared.request.Ask.{Ask}
+use Rattle.capnotes.specs.Lockmachine.declared.request.Ask.TheVariants.{Get, Alter, Unlink, Rmdir, Rename}
+use Rattle.capnotes.specs.Lockmachine.Requests.{part_of_change}
+use Rattle.capnotes.specs.Lockmachine.Locks.{queue_tests}
+use Rattle.capnotes.specs.Lockmachine.Policy.{is_granted, failures}
+use Rattle.capnotes.specs.Lockmachine.Scene.{Scene, against}
 use Rattle.capbits.specs.declared.refusal.Refusal.{Refusal}
-use Rattle.capevents.specs.declared.event.Event.{Event}
-use Rattle.capevents.specs.declared.event.Event.TheVariants as event
-use Rattle.capevents.specs.declared.event.OpenMode.{OpenMode}
-use Rattle.capevents.specs.declared.event.OpenMode.TheVariants as opening
-use Rattle.capevents.specs.declared.reply.Reply.{Reply}
-use Rattle.capevents.specs.declared.reply.Reply.TheVariants as reply
+use Rattle.capnotes.specs.Capevents.declared.event.Event.{Event}
+use Rattle.capnotes.specs.Capevents.declared.event.Event.TheVariants as event
+use Rattle.capnotes.specs.Capevents.declared.event.OpenMode.{OpenMode}
+use Rattle.capnotes.specs.Capevents.declared.event.OpenMode.TheVariants as opening
+use Rattle.capnotes.specs.Capevents.declared.reply.Reply.{Reply}
+use Rattle.capnotes.specs.Capevents.declared.reply.Reply.TheVariants as reply
 use Rattle.capacts.specs.declared.stopped.Stopped.{Stopped}
 use Rattle.capacts.specs.declared.stopped.Stopped.TheVariants.{ByPolicy, ByTest}
 use Rattle.capacts.specs.Needs.{Need, need, need_if}

@@ -8,7 +8,7 @@ use Rattle.captable.specs.declared.entry.Entry.{Entry}
 use Rattle.captable.specs.declared.entry.EntryRow.{EntryRow}
 use Rattle.captable.specs.declared.entry.Holder.{Holder}
 use Rattle.captable.specs.Table.{Table, same, is_row_of, entry_at}
-use Rattle.lockmachine.specs.Scene.{Scene, told_set}
+use Rattle.capnotes.specs.Lockmachine.Scene.{Scene, told_set}
 use Rattle.capacts.specs.Finish.{due}
 
 -- what is kept of a holder, and nothing where nothing is

@@ -3,10 +3,10 @@ use Rattle.std.specs.Prelude.{Bool, true, false, not, List, [], map as each, fil
 use Rattle.capbits.specs.declared.ids.ClientId.{ClientId}
 use Rattle.captable.specs.Table.{Table}
 use Rattle.captable.specs.Calls.{without_client}
-use Rattle.lockmachine.specs.declared.request.Request.{Request}
-use Rattle.lockmachine.specs.Locks.{LockMap, requests_of, without_requests_of}
-use Rattle.capevents.specs.declared.outcome.Ended.{Ended}
-use Rattle.capevents.specs.declared.outcome.Outcome.TheVariants as outcome
+use Rattle.capnotes.specs.Lockmachine.declared.request.Request.{Request}
+use Rattle.capnotes.specs.Lockmachine.Locks.{LockMap, requests_of, without_requests_of}
+use Rattle.capnotes.specs.Capevents.declared.outcome.Ended.{Ended}
+use Rattle.capnotes.specs.Capevents.declared.outcome.Outcome.TheVariants as outcome
 use Rattle.capnotes.specs.Untold.{is_to}
 use Rattle.capacts.specs.declared.leaving.Turn.{Turn}
 use Rattle.capacts.specs.declared.leaving.Turn.TheVariants.{Close, Stale, Renew, Regrant, Evict}

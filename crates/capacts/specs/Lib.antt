@@ -9,3 +9,7 @@ pub mod Known
 pub mod Reach
 pub mod Left
 pub mod Numbers
+pub use Rattle.capnotes.specs.Capevents
+pub use Rattle.capnotes.specs as Capnotes
+pub use Rattle.capnotes.specs.Capview
+pub use Rattle.capnotes.specs.Lockmachine

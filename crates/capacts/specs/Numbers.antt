@@ -2,7 +2,7 @@
 use Rattle.std.specs.Prelude.{◌≡◌, ◌==◌, ℕ, ◌+◌, List, ◌∷◌, ◌++◌}
 use Rattle.std.specs.List.{count_by}
 use Rattle.capbits.specs.declared.ids.PassId.{PassId}
-use Rattle.capevents.specs.declared.row.Row.{Row}
+use Rattle.capnotes.specs.Capevents.declared.row.Row.{Row}
 
 -- how many of the rows are of a pass
 abbrev pub rows_of : PassId → List Row → ℕ

@@ -4,7 +4,7 @@ use Rattle.std.specs.FinSet as set
 use Rattle.inotree.specs.Tree.{Nodes, is_within}
 use Rattle.captable.specs.declared.entry.EntryRow.{EntryRow}
 use Rattle.captable.specs.Table.{Table}
-use Rattle.lockmachine.specs.declared.request.Request.{Request}
+use Rattle.capnotes.specs.Lockmachine.declared.request.Request.{Request}
 use Rattle.capnotes.specs.InoSets.{InoSet}
 use Rattle.capacts.specs.Served.{is_rename}
 

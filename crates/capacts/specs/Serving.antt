@@ -4,18 +4,18 @@ use Rattle.std.specs.FinMap as map
 use Rattle.capbits.specs.declared.cap.Part.{Part}
 use Rattle.capbits.specs.declared.cap.Part.TheVariants.{A, L, X, F}
 use Rattle.inotree.specs.declared.node.Node.{Node}
-use Rattle.lockmachine.specs.declared.request.Change.{Change}
-use Rattle.lockmachine.specs.declared.request.Change.TheVariants.{Set, SetXattr, RemoveXattr}
-use Rattle.lockmachine.specs.declared.request.Ask.{Ask}
-use Rattle.lockmachine.specs.declared.request.Ask.TheVariants.{Get, Alter, Unlink, Rmdir, Rename}
-use Rattle.lockmachine.specs.declared.request.Request.{Request}
-use Rattle.lockmachine.specs.declared.moves.Move.TheVariants.{Serve}
-use Rattle.lockmachine.specs.Moves.{moved as moved_locks}
-use Rattle.lockmachine.specs.Scene.{Scene}
-use Rattle.capevents.specs.declared.outcome.PartValues.{PartValues}
-use Rattle.capevents.specs.declared.outcome.PartValues.TheVariants as values
-use Rattle.capevents.specs.declared.outcome.Outcome.{Outcome}
-use Rattle.capevents.specs.declared.outcome.Outcome.TheVariants as outcome
+use Rattle.capnotes.specs.Lockmachine.declared.request.Change.{Change}
+use Rattle.capnotes.specs.Lockmachine.declared.request.Change.TheVariants.{Set, SetXattr, RemoveXattr}
+use Rattle.capnotes.specs.Lockmachine.declared.request.Ask.{Ask}
+use Rattle.capnotes.specs.Lockmachine.declared.request.Ask.TheVariants.{Get, Alter, Unlink, Rmdir, Rename}
+use Rattle.capnotes.specs.Lockmachine.declared.request.Request.{Request}
+use Rattle.capnotes.specs.Lockmachine.declared.moves.Move.TheVariants.{Serve}
+use Rattle.capnotes.specs.Lockmachine.Moves.{moved as moved_locks}
+use Rattle.capnotes.specs.Lockmachine.Scene.{Scene}
+use Rattle.capnotes.specs.Capevents.declared.outcome.PartValues.{PartValues}
+use Rattle.capnotes.specs.Capevents.declared.outcome.PartValues.TheVariants as values
+use Rattle.capnotes.specs.Capevents.declared.outcome.Outcome.{Outcome}
+use Rattle.capnotes.specs.Capevents.declared.outcome.Outcome.TheVariants as outcome
 use Rattle.capacts.specs.declared.stopped.Stopped.{Stopped}
 use Rattle.capacts.specs.declared.stopped.Stopped.TheVariants.{ByPolicy, ByTest}
 use Rattle.capacts.specs.Asks.{ask_before, ask_needs, ask_after}

@@ -3,7 +3,7 @@ ghost use Rattle.std.specs.Prelude.{◌≡◌, []};
 ghost use Rattle.std.specs.Option.{option_map};
 ghost use Rattle.capgrant.specs.Verdict.{is_allowed, IfDenied};
 ghost use Rattle.capgrant.specs.declared.answer.Verdict.TheVariants as verdict_kind;
-ghost use Rattle.lockmachine.specs.Policy.{is_granted, failures};
+ghost use Rattle.capnotes.specs.Lockmachine.Policy.{is_granted, failures};
 ghost use Rattle.capacts.specs.Judge.{denial_of};
 ghost use Rattle.capacts.specs.declared.stopped.Stopped.TheVariants as stopped_kind;
 

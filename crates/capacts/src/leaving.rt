@@ -4,17 +4,17 @@ ghost use Rattle.std.specs.HashMap.{get};
 ghost use Rattle.captable.specs.declared.entry.Entry.{Entry};
 ghost use Rattle.captable.specs.declared.entry.Holder.{Holder};
 ghost use Rattle.captable.specs.Table.{same, entry_at};
-ghost use Rattle.lockmachine.specs.Locks.{requests_of, without_requests_of};
+ghost use Rattle.capnotes.specs.Lockmachine.Locks.{requests_of, without_requests_of};
 ghost use Rattle.capacts.specs.Left.{dropped_of, is_end};
 ghost use Rattle.capacts.specs.Left as words;
 
 use crate::known::Known;
 use capbits::ClientId;
-use capevents::{Ended, Outcome};
 use capnotes::Messages;
+use capnotes::capevents::{Ended, Outcome};
+use capnotes::lockmachine::Locks;
 use capspec::Grants;
 use captable::CapTable;
-use lockmachine::Locks;
 
 /// What becomes of a client's session.
 #[derive(Clone, Copy)]

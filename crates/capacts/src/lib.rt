@@ -15,3 +15,6 @@ pub mod stop;
 pub mod stopped;
 pub mod sweep;
 pub mod told;
+
+pub use capnotes;
+pub use capnotes::{capevents, capview, lockmachine};

@@ -7,10 +7,10 @@ ghost use Rattle.capacts.specs.Served.{is_rename};
 ghost use Rattle.capacts.specs.Reach.{AreWalked, Covers, CoversBelow, Widens};
 
 use capbits::Ino;
+use capnotes::lockmachine::{Ask, Request};
 use capnotes::{ChangeList, InoSet};
 use captable::CapTable;
 use inotree::Tree;
-use lockmachine::{Ask, Request};
 use std::alloc::{AllocError, Global};
 
 /// If the request moves its inode, adds every inode at or below it that somebody has an entry on, but for this one, with a place

@@ -1,9 +1,10 @@
 //! What stops a request.
 ghost use Rattle.std.specs.Prelude.{◌≡◌};
+ghost use Rattle.capacts.specs.Judge.{stop_reply};
 
 use capbits::Refusal;
-use capevents::Reply;
 use capgrant::{Access, Rules};
+use capnotes::capevents::Reply;
 
 /// What stops a request, whether it has just come or was waiting for a lock.
 #[derive(Debug, Drop)]
@@ -19,13 +20,12 @@ pub enum Stopped {
     ByTest(Refusal),
 }
 
-impl From<Stopped> for Reply {
-    ghost use Rattle.capacts.specs.Judge.{stop_reply};
-
-    ghost from_gives = { λ stopped reply. reply ≡ stop_reply stopped };
-
-    fn from(stopped: Stopped) -> Reply {
-        match stopped {
+impl Stopped {
+    /// Returns the reply to the request that it stops.
+    pub fn into_reply(self) -> Reply
+        ensures reply { result ≡ stop_reply self }
+    {
+        match self {
             Stopped::ByPolicy { access, rules } => Reply::Denied { access, rules },
             Stopped::ByTest(refusal) => Reply::Refused(refusal),
         }

@@ -1,14 +1,14 @@
 //! Where a sweep over inodes has come to, and what it does there.
 ghost use Rattle.std.specs.Prelude.{◌≡◌, true};
-ghost use Rattle.lockmachine.specs.Scene.{scene};
-ghost use Rattle.lockmachine.specs.Runs.{MoveLittle, ChangesLocksOf};
-ghost use Rattle.lockmachine.specs.Turns.{IsTurnOf, IsDue, NobodyElsewhere};
+ghost use Rattle.capnotes.specs.Lockmachine.Scene.{scene};
+ghost use Rattle.capnotes.specs.Lockmachine.Runs.{MoveLittle, ChangesLocksOf};
+ghost use Rattle.capnotes.specs.Lockmachine.Turns.{IsTurnOf, IsDue, NobodyElsewhere};
 
 use capbits::{Ino, Ticket};
+use capnotes::lockmachine::Locks;
 use capspec::FsName;
 use captable::CapTable;
 use inotree::Tree;
-use lockmachine::Locks;
 use sessiontab::Sessions;
 
 /// Where a sweep over the touched inodes has come to.

@@ -1,11 +1,11 @@
 //! What the client of an entry is to know that it holds.
 ghost use Rattle.std.specs.Prelude.{◌≡◌};
-ghost use Rattle.lockmachine.specs.Scene.{against_lock};
+ghost use Rattle.capnotes.specs.Lockmachine.Scene.{against_lock};
 ghost use Rattle.capacts.specs.Finishing as words;
 
 use capbits::{CapSet, Part};
+use capnotes::lockmachine::InodeLocks;
 use captable::EntryRow;
-use lockmachine::InodeLocks;
 use locktable::{LockState, row};
 
 /// What the client is to know that it holds, under these locks of the inode and where it is permitted these capabilities.

@@ -1,2 +1,3 @@
 pub mod Unwritten
 pub mod Inquired
+pub use Rattle.capquestion.proofs as Capquestion

@@ -7,8 +7,8 @@ use Rattle.capquestion.specs.declared.question.Question.{Question}
 use Rattle.capquestion.specs.declared.question.Values.{Values}
 use Rattle.capquestion.specs.Question.{verdict_on, answer_text}
 use Rattle.capquestion.specs.Remarks.{full_text}
-use Rattle.caplines.specs.declared.fault.ScriptFault.TheVariants as stops
-use Rattle.caplines.specs.Lines.{longest_script}
+use Rattle.capstreams.specs.Caplines.declared.fault.ScriptFault.TheVariants as stops
+use Rattle.capstreams.specs.Caplines.Lines.{longest_script}
 use Rattle.capkeyring.specs.declared.fault.KeyringFault.{KeyringFault}
 use Rattle.capkeyring.specs.declared.fault.KeyringFault.TheVariants.{NoMemory}
 use Rattle.capkeyring.specs.Keyring.{caps_in}

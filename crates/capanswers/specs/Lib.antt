@@ -1,3 +1,4 @@
 pub mod Fault
 pub mod Inquiry
 pub mod Answers
+pub use Rattle.capquestion.specs as Capquestion

@@ -5,9 +5,9 @@ use crate::command_line::Ask;
 use crate::fault::AnswerFault;
 use crate::inquiry::{Form, Inquiry};
 use crate::status::{FAILED, report};
-use capexplain::print_quoted;
 use capkeyring::KeyringFault;
 use capquestion::{Opt, QuestionFault, Values};
+use capstreams::capexplain::print_quoted;
 use std::alloc::{AllocError, Global};
 use std::io::Write;
 

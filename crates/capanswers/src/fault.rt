@@ -1,9 +1,9 @@
 //! Why a command that answers a question about grants gave no answer.
 
 use capkeyring::KeyringFault;
-use caplines::ScriptFault;
 use capquestion::{CompareFault, QuestionFault};
 use capspec::SpecFault;
+use capstreams::caplines::ScriptFault;
 use std::alloc::{AllocError, AllocFailed};
 use std::fmt;
 use std::fmt::Display;

@@ -1,6 +1,6 @@
 //! What `explain` is asked, where the text of its grants is, and how it answers.
 ghost use Rattle.std.specs.Prelude.{◌≡◌, ◌⊎◌, ℕ, List, length, OnOk, IfErr, IfSome, IsTrue, IsFalse};
-ghost use Rattle.caplines.specs.Lines.{longest_script};
+ghost use Rattle.capstreams.specs.Caplines.Lines.{longest_script};
 ghost use Rattle.capstreams.specs.Watched.{inner_of, has_failed, has_ended};
 ghost use Rattle.capanswers.specs.Inquiry.{IsWithoutLineFeed, IsGrantsText, IsUnread};
 

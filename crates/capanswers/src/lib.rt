@@ -18,6 +18,7 @@ mod status;
 
 pub use advice::refuse;
 pub use arguments::words;
+pub use capquestion;
 pub use command_line::Ask;
 pub use commands::{compare_texts, grants, inquire, look_over};
 pub use fault::AnswerFault;

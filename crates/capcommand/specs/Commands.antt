@@ -4,14 +4,14 @@ use Rattle.std.specs.Io.KnownBytes.{Appends, Keeps}
 use Rattle.capspec.specs.Grants.{Reads}
 use Rattle.capspec.specs.Written.{written}
 use Rattle.capspec.specs.declared.grant.Grant.{Grant}
-use Rattle.capquestion.specs.Fault.{IsFaultOfText}
-use Rattle.capquestion.specs.Comparing.{IsComparison}
-use Rattle.caplines.specs.declared.fault.ScriptFault.{ScriptFault}
-use Rattle.caplines.specs.declared.fault.ScriptFault.TheVariants as stops
-use Rattle.caplines.specs.Lines.{lines, longest_script}
-use Rattle.capscript.specs.Transcript.{Ran, IsTranscript}
-use Rattle.capplan.specs.declared.fault.ServeFault.{ServeFault}
-use Rattle.capplan.specs.declared.fault.ServeFault.TheVariants.{Script as ServeScript}
+use Rattle.capanswers.specs.Capquestion.Fault.{IsFaultOfText}
+use Rattle.capanswers.specs.Capquestion.Comparing.{IsComparison}
+use Rattle.capjobs.specs.Caplines.declared.fault.ScriptFault.{ScriptFault}
+use Rattle.capjobs.specs.Caplines.declared.fault.ScriptFault.TheVariants as stops
+use Rattle.capjobs.specs.Caplines.Lines.{lines, longest_script}
+use Rattle.capjobs.specs.Capscript.Transcript.{Ran, IsTranscript}
+use Rattle.capjobs.specs.Capplan.declared.fault.ServeFault.{ServeFault}
+use Rattle.capjobs.specs.Capplan.declared.fault.ServeFault.TheVariants.{Script as ServeScript}
 use Rattle.capjobs.specs.Served.{IsServed, IsWritten}
 use Rattle.capanswers.specs.declared.command_line.Ask.{Ask}
 use Rattle.capanswers.specs.declared.command_line.Ask.TheVariants as asks

@@ -1,1 +1,2 @@
 pub mod Commands
+pub use Rattle.capanswers.specs.Capquestion

@@ -1,11 +1,11 @@
 //! The commands of the program, over streams that the caller passes.
 ghost use Rattle.std.specs.Prelude.{◌≡◌, ◌≤◌, ◌⊎◌, ℕ, List, length, OnOk, IfOk, IfErr, IfSome, IsFalse};
 ghost use Rattle.std.specs.Io.KnownBytes.{Appends, Keeps};
-ghost use Rattle.caplines.specs.declared.fault.ScriptFault.{ScriptFault as AScriptFault};
-ghost use Rattle.caplines.specs.Lines.{lines, longest_script};
-ghost use Rattle.capscript.specs.Transcript.{IsTranscript};
-ghost use Rattle.capstreams.specs.Watched.{inner_of, has_failed, has_ended};
-ghost use Rattle.capplan.specs.declared.fault.ServeFault.{ServeFault as AServeFault};
+ghost use Rattle.capjobs.specs.Caplines.declared.fault.ScriptFault.{ScriptFault as AScriptFault};
+ghost use Rattle.capjobs.specs.Caplines.Lines.{lines, longest_script};
+ghost use Rattle.capjobs.specs.Capscript.Transcript.{IsTranscript};
+ghost use Rattle.capjobs.specs.Capstreams.Watched.{inner_of, has_failed, has_ended};
+ghost use Rattle.capjobs.specs.Capplan.declared.fault.ServeFault.{ServeFault as AServeFault};
 ghost use Rattle.capjobs.specs.Served.{IsServed};
 ghost use Rattle.capcommand.specs.declared.fault.Fault.{Fault as AFault};
 ghost use Rattle.capcommand.specs.declared.fault.Fault.TheVariants as faults;
@@ -16,8 +16,8 @@ use capanswers::{
     Ask, DENIED, DONE, FAILED, FOUND, USAGE, compare_texts, grants, inquire, keyring_file,
     look_over, read_words, report, show,
 };
+use capjobs::capscript::{Watched, run};
 use capjobs::serve;
-use capscript::{Watched, run};
 use std::alloc::Global;
 use std::fs::Files;
 use std::io::{Read, Write};

@@ -2,7 +2,7 @@
 
 use capanswers::AnswerFault;
 use capjobs::ServeFault;
-use capscript::ScriptFault;
+use capjobs::capscript::ScriptFault;
 
 /// Why a command stopped before its end.
 #[derive(Clone, Copy)]

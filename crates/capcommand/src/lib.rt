@@ -8,7 +8,8 @@ mod commands;
 mod fault;
 
 pub use capanswers::{
-    AnswerFault, Ask, DENIED, DONE, FAILED, FOUND, Form, Inquiry, Source, USAGE, report, words,
+    AnswerFault, Ask, DENIED, DONE, FAILED, FOUND, Form, Inquiry, Source, USAGE, capquestion,
+    report, words,
 };
 pub use commands::{carry_out, dispatch};
 pub use fault::Fault;

@@ -21,9 +21,9 @@ use Rattle.captable.specs.declared.entry.EntryRow.{EntryRow}
 use Rattle.captable.specs.declared.entry.Holder.{Holder}
 use Rattle.captable.specs.Table.{same, is_row_of}
 use Rattle.captable.proofs.Searches.{find_passes}
-use Rattle.lockmachine.specs.Locks.{lock_at}
-use Rattle.lockmachine.specs.Scene.{Scene}
-use Rattle.lockmachine.specs.Moves.{present_state}
+use Rattle.capsteps.specs.Lockmachine.Locks.{lock_at}
+use Rattle.capsteps.specs.Lockmachine.Scene.{Scene}
+use Rattle.capsteps.specs.Lockmachine.Moves.{present_state}
 use Rattle.capsteps.specs.State.{State}
 use Rattle.capsteps.specs.Headline.{IsInPlace, AreInPlace, NoneConflict}
 use Rattle.capsteps.specs.Sound.{IsSound}

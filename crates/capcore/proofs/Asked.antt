@@ -17,23 +17,23 @@ use Rattle.sessiontab.specs.Tests.{session_tests}
 use Rattle.captable.specs.declared.entry.Holder.{Holder}
 use Rattle.captable.specs.Table.{IsTable, holder}
 use Rattle.captable.specs.Calls.{is_of_inode}
-use Rattle.lockmachine.specs.declared.request.Ask.{Ask}
-use Rattle.lockmachine.specs.declared.request.Ask.TheVariants.{Get, Alter, Unlink, Rmdir, Rename}
-use Rattle.lockmachine.specs.declared.request.Request.{Request}
-use Rattle.lockmachine.specs.declared.states.InodeLocks.{InodeLocks}
-use Rattle.lockmachine.specs.Inodes.{lock_in}
-use Rattle.lockmachine.specs.Locks.{IsLockMap, queue_tests, next_request, with_request}
-use Rattle.lockmachine.specs.Scene.{Scene}
-use Rattle.lockmachine.proofs.Queue.{with_request-kept}
-use Rattle.lockmachine.proofs.SameBut.{same-request}
-use Rattle.capevents.specs.declared.event.Event.{Event}
-use Rattle.capevents.specs.declared.event.Event.TheVariants as event
+use Rattle.capsteps.specs.Lockmachine.declared.request.Ask.{Ask}
+use Rattle.capsteps.specs.Lockmachine.declared.request.Ask.TheVariants.{Get, Alter, Unlink, Rmdir, Rename}
+use Rattle.capsteps.specs.Lockmachine.declared.request.Request.{Request}
+use Rattle.capsteps.specs.Lockmachine.declared.states.InodeLocks.{InodeLocks}
+use Rattle.capsteps.specs.Lockmachine.Inodes.{lock_in}
+use Rattle.capsteps.specs.Lockmachine.Locks.{IsLockMap, queue_tests, next_request, with_request}
+use Rattle.capsteps.specs.Lockmachine.Scene.{Scene}
+use Rattle.capsteps.proofs.Lockmachine.Queue.{with_request-kept}
+use Rattle.capsteps.proofs.Lockmachine.SameBut.{same-request}
+use Rattle.capsteps.specs.Capevents.declared.event.Event.{Event}
+use Rattle.capsteps.specs.Capevents.declared.event.Event.TheVariants as event
 use Rattle.capsteps.specs.State.{State}
-use Rattle.capacts.specs.Asks.{ask_before, ask_needs, ask_after}
-use Rattle.capacts.specs.Judge.{judged, asked_tests, asking_tests, waiting_tests, stop, stop_by, first_denied}
-use Rattle.capacts.specs.Needs.{Need}
+use Rattle.capsteps.specs.Capacts.Asks.{ask_before, ask_needs, ask_after}
+use Rattle.capsteps.specs.Capacts.Judge.{judged, asked_tests, asking_tests, waiting_tests, stop, stop_by, first_denied}
+use Rattle.capsteps.specs.Capacts.Needs.{Need}
 use Rattle.capsteps.specs.Direct.{direct, effect, effect_unless, asks}
-use Rattle.capacts.specs.Serving.{judged_again}
+use Rattle.capsteps.specs.Capacts.Serving.{judged_again}
 use Rattle.capsteps.specs.Sound.{IsSound, AreGiven}
 use Rattle.capsteps.specs.Touching.{asks_for, IsTouchedEntry, TouchesOne}
 use Rattle.capsteps.proofs.NothingServed.{sound-pinned}

@@ -2,20 +2,20 @@
 use Rattle.std.proofs.Common.{◌≡◌, ◌++◌, ℕ, List, [], ◌∷◌, Option, Some, None, map, refl, sym, subst, arith}
 use Rattle.inotree.specs.Tree.{child}
 use Rattle.captable.specs.declared.entry.Holder.{Holder}
-use Rattle.lockmachine.specs.Locks.{IsLockMap}
-use Rattle.lockmachine.specs.Runs.{Runs}
-use Rattle.lockmachine.specs.Scene.{Scene}
-use Rattle.lockmachine.proofs.Ending.{few}
-use Rattle.lockmachine.proofs.Queue.{without_requests_of-kept}
-use Rattle.capevents.specs.declared.event.Event.{Event}
-use Rattle.capevents.specs.declared.event.Event.TheVariants as event
-use Rattle.capevents.specs.declared.outcome.Ended.{Ended}
-use Rattle.capevents.specs.declared.reply.Reply.{Reply}
-use Rattle.capacts.specs.declared.stopped.Stopped.{Stopped}
+use Rattle.capsteps.specs.Lockmachine.Locks.{IsLockMap}
+use Rattle.capsteps.specs.Lockmachine.Runs.{Runs}
+use Rattle.capsteps.specs.Lockmachine.Scene.{Scene}
+use Rattle.capsteps.proofs.Lockmachine.Ending.{few}
+use Rattle.capsteps.proofs.Lockmachine.Queue.{without_requests_of-kept}
+use Rattle.capsteps.specs.Capevents.declared.event.Event.{Event}
+use Rattle.capsteps.specs.Capevents.declared.event.Event.TheVariants as event
+use Rattle.capsteps.specs.Capevents.declared.outcome.Ended.{Ended}
+use Rattle.capsteps.specs.Capevents.declared.reply.Reply.{Reply}
+use Rattle.capsteps.specs.Capacts.declared.stopped.Stopped.{Stopped}
 use Rattle.capsteps.specs.State.{State}
 use Rattle.capsteps.specs.Direct.{direct, effect, effect_unless, found}
 use Rattle.capsteps.specs.Headline.{ByMoves, AreBounded, move_of}
-use Rattle.capacts.specs.Judge.{judged}
+use Rattle.capsteps.specs.Capacts.Judge.{judged}
 use Rattle.capsteps.specs.Settle.{Made, Began, Gathered, Served, MakesAll, ended_in}
 use Rattle.capsteps.specs.Step.{Step}
 use Rattle.capsteps.specs.Touching.{touched_by}

@@ -11,29 +11,29 @@ use Rattle.captable.specs.declared.entry.EntryRow.{EntryRow}
 use Rattle.captable.specs.declared.entry.Holder.{Holder}
 use Rattle.captable.specs.Table.{IsTable}
 use Rattle.captable.specs.Calls.{is_of_inode, entries_on}
-use Rattle.lockmachine.specs.Locks.{IsLockMap, lock_at}
-use Rattle.lockmachine.specs.Requests.{first_for}
-use Rattle.lockmachine.specs.Scene.{Scene}
-use Rattle.lockmachine.specs.Moves.{IsQuietOutside}
-use Rattle.lockmachine.proofs.Finding.{filter-contains}
-use Rattle.lockmachine.proofs.SameOutside.{outside-one, rest-outside}
+use Rattle.capsteps.specs.Lockmachine.Locks.{IsLockMap, lock_at}
+use Rattle.capsteps.specs.Lockmachine.Requests.{first_for}
+use Rattle.capsteps.specs.Lockmachine.Scene.{Scene}
+use Rattle.capsteps.specs.Lockmachine.Moves.{IsQuietOutside}
+use Rattle.capsteps.proofs.Lockmachine.Finding.{filter-contains}
+use Rattle.capsteps.proofs.Lockmachine.SameOutside.{outside-one, rest-outside}
 use Rattle.capbits.specs.declared.ids.Ino.{Ino}
 use Rattle.capbits.specs.declared.ids.Ticket.{Ticket}
-use Rattle.capevents.specs.declared.event.Event.{Event}
-use Rattle.capevents.specs.declared.outcome.Ended.{Ended}
+use Rattle.capsteps.specs.Capevents.declared.event.Event.{Event}
+use Rattle.capsteps.specs.Capevents.declared.outcome.Ended.{Ended}
 use Rattle.capsteps.specs.declared.said.Said.{Said}
 use Rattle.capsteps.specs.State.{State}
 use Rattle.capsteps.specs.Answered.{IsAnswered}
 use Rattle.capsteps.specs.Direct.{direct, reply_of, shown, with_scene}
-use Rattle.capacts.specs.Judge.{judged}
+use Rattle.capsteps.specs.Capacts.Judge.{judged}
 use Rattle.capsteps.specs.Serves.{SettlesWith, EndsWith}
-use Rattle.capacts.specs.Finish.{sizes_owed}
+use Rattle.capsteps.specs.Capacts.Finish.{sizes_owed}
 use Rattle.capsteps.specs.Settle.{MakesAll, ended_in, sized_in}
 use Rattle.capsteps.specs.Sound.{IsSoundEntry, IsSound, NumbersLeft}
 use Rattle.capsteps.specs.Step.{earlier, all_ended, state_at_end}
 use Rattle.capsteps.specs.Touching.{touched_by, IsTouchedEntry, Touches, TouchesOne, SettlesAt, Knows, finished_at}
-use Rattle.capacts.specs.Known.{known_in, AreKnown, StillKept}
-use Rattle.capnotes.specs.Untold.{HaveOwnNumbers, but_for}
+use Rattle.capsteps.specs.Capacts.Known.{known_in, AreKnown, StillKept}
+use Rattle.capsteps.specs.Capnotes.Untold.{HaveOwnNumbers, but_for}
 use Rattle.capcore.proofs.Concluded.{IsConcluded, GivesOne, concluded}
 use Rattle.capcore.proofs.EndKnown.{ends-known}
 use Rattle.capcore.proofs.EndedIn.{earlier-all, earlier-but_own, own-numbers}

@@ -12,31 +12,31 @@ use Rattle.capbits.specs.declared.ids.ClientId.{ClientId}
 use Rattle.capbits.specs.declared.ids.Ino.{Ino}
 use Rattle.capbits.specs.declared.ids.Ticket.{Ticket}
 use Rattle.inotree.specs.Tree.{child}
-use Rattle.lockmachine.specs.declared.moves.Move.TheVariants.{Begin, End, Serve, Settled}
-use Rattle.lockmachine.specs.declared.request.Ask.{Ask}
-use Rattle.lockmachine.specs.declared.request.Ask.TheVariants.{Get, Alter, Unlink, Rmdir, Rename}
-use Rattle.lockmachine.specs.declared.request.Request.{Request}
-use Rattle.lockmachine.specs.Requests.{is_of_client}
-use Rattle.lockmachine.specs.Locks.{IsLockMap, next_request, request_at}
-use Rattle.lockmachine.specs.Moves.{first_move, with_moved}
-use Rattle.lockmachine.specs.Scene.{Scene}
-use Rattle.lockmachine.proofs.Finding.{contains-filter, filter-contains}
-use Rattle.capevents.specs.declared.event.Event.{Event}
-use Rattle.capevents.specs.declared.event.Event.TheVariants as event
-use Rattle.capevents.specs.declared.outcome.Ended.{Ended}
-use Rattle.capevents.specs.declared.outcome.Outcome.{Outcome}
-use Rattle.capevents.specs.declared.outcome.Outcome.TheVariants as outcome
-use Rattle.capevents.specs.declared.reply.Reply.{Reply}
-use Rattle.capevents.specs.declared.reply.Reply.TheVariants as reply
-use Rattle.capacts.specs.declared.stopped.Stopped.{Stopped}
-use Rattle.capevents.specs.Replies.{outcome_reply}
+use Rattle.capsteps.specs.Lockmachine.declared.moves.Move.TheVariants.{Begin, End, Serve, Settled}
+use Rattle.capsteps.specs.Lockmachine.declared.request.Ask.{Ask}
+use Rattle.capsteps.specs.Lockmachine.declared.request.Ask.TheVariants.{Get, Alter, Unlink, Rmdir, Rename}
+use Rattle.capsteps.specs.Lockmachine.declared.request.Request.{Request}
+use Rattle.capsteps.specs.Lockmachine.Requests.{is_of_client}
+use Rattle.capsteps.specs.Lockmachine.Locks.{IsLockMap, next_request, request_at}
+use Rattle.capsteps.specs.Lockmachine.Moves.{first_move, with_moved}
+use Rattle.capsteps.specs.Lockmachine.Scene.{Scene}
+use Rattle.capsteps.proofs.Lockmachine.Finding.{contains-filter, filter-contains}
+use Rattle.capsteps.specs.Capevents.declared.event.Event.{Event}
+use Rattle.capsteps.specs.Capevents.declared.event.Event.TheVariants as event
+use Rattle.capsteps.specs.Capevents.declared.outcome.Ended.{Ended}
+use Rattle.capsteps.specs.Capevents.declared.outcome.Outcome.{Outcome}
+use Rattle.capsteps.specs.Capevents.declared.outcome.Outcome.TheVariants as outcome
+use Rattle.capsteps.specs.Capevents.declared.reply.Reply.{Reply}
+use Rattle.capsteps.specs.Capevents.declared.reply.Reply.TheVariants as reply
+use Rattle.capsteps.specs.Capacts.declared.stopped.Stopped.{Stopped}
+use Rattle.capsteps.specs.Capevents.Replies.{outcome_reply}
 use Rattle.capsteps.specs.Direct.{Direct, Answer, Says, Shows, Gives, Awaits, direct, effect, effect_unless, asks, found, reply_of, shown, awaited_as}
-use Rattle.capnotes.specs.Untold.{is_of_ticket, HaveOwnNumbers}
-use Rattle.capacts.specs.Finish.{sizes_owed, finished}
+use Rattle.capsteps.specs.Capnotes.Untold.{is_of_ticket, HaveOwnNumbers}
+use Rattle.capsteps.specs.Capacts.Finish.{sizes_owed, finished}
 use Rattle.capsteps.specs.Headline.{move_of}
-use Rattle.capacts.specs.Judge.{judged}
+use Rattle.capsteps.specs.Capacts.Judge.{judged}
 use Rattle.capcore.specs.SameEvents.{FoundMemory}
-use Rattle.capacts.specs.Serving.{MayEndAs, As_judged, Without_memory, served}
+use Rattle.capsteps.specs.Capacts.Serving.{MayEndAs, As_judged, Without_memory, served}
 use Rattle.capsteps.specs.Settle.{Made, Began, Gathered, Served, Makes, MakesAll, ended_in, sized_in}
 use Rattle.capsteps.specs.State.{State}
 use Rattle.capsteps.specs.Step.{Step, StepBy, earlier, state_after, all_ended}
@@ -44,7 +44,7 @@ use Rattle.capcore.proofs.Bounded.{direct-order}
 use Rattle.capcore.proofs.EndedIn.{own-numbers}
 use Rattle.capsteps.proofs.Moved.{Waited, ended-waited, moved-all}
 use Rattle.capsteps.proofs.Stopping.{no_moves}
-use Rattle.capnotes.proofs.Taking.{own-head, own-tail}
+use Rattle.capsteps.proofs.Capnotes.Taking.{own-head, own-tail}
 
 -- ---- moves
 

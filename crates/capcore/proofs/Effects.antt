@@ -11,14 +11,14 @@ use Rattle.capgrant.specs.declared.access.Access.TheVariants.{Write, Snapshot}
 use Rattle.inotree.specs.declared.node.Kind.{Kind}
 use Rattle.inotree.specs.declared.node.Kind.TheVariants.{Directory, File}
 use Rattle.inotree.specs.Tests.{new_inode_tests, new_snapshot_tests, old_snapshot_tests}
-use Rattle.capevents.specs.declared.event.Event.{Event}
-use Rattle.capevents.specs.declared.event.Event.TheVariants as event
-use Rattle.capevents.specs.declared.reply.Reply.TheVariants as reply
-use Rattle.capacts.specs.declared.stopped.Stopped.{Stopped}
-use Rattle.capacts.specs.declared.stopped.Stopped.TheVariants.{ByTest}
+use Rattle.capsteps.specs.Capevents.declared.event.Event.{Event}
+use Rattle.capsteps.specs.Capevents.declared.event.Event.TheVariants as event
+use Rattle.capsteps.specs.Capevents.declared.reply.Reply.TheVariants as reply
+use Rattle.capsteps.specs.Capacts.declared.stopped.Stopped.{Stopped}
+use Rattle.capsteps.specs.Capacts.declared.stopped.Stopped.TheVariants.{ByTest}
 use Rattle.capsteps.specs.State.{State}
-use Rattle.capacts.specs.Judge.{stop, stop_reply, judged, asked_tests}
-use Rattle.capacts.specs.Needs.{Need, need}
+use Rattle.capsteps.specs.Capacts.Judge.{stop, stop_reply, judged, asked_tests}
+use Rattle.capsteps.specs.Capacts.Needs.{Need, need}
 use Rattle.capsteps.specs.Direct.{Says, IsDirect, with_birth, owned_by, made_event}
 use Rattle.capsteps.proofs.Judging.{stopped, passed, direct-stopped, direct-passed}
 

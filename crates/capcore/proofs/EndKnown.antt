@@ -7,11 +7,11 @@ use Rattle.captable.specs.declared.entry.EntryRow.{EntryRow}
 use Rattle.captable.specs.declared.entry.Holder.{Holder}
 use Rattle.captable.specs.Table.{IsTable, same, entry_of}
 use Rattle.captable.proofs.ByHolder.{row_found}
-use Rattle.lockmachine.specs.Scene.{Scene, told_set}
-use Rattle.capevents.specs.declared.outcome.Ended.{Ended}
+use Rattle.capsteps.specs.Lockmachine.Scene.{Scene, told_set}
+use Rattle.capsteps.specs.Capevents.declared.outcome.Ended.{Ended}
 use Rattle.capsteps.specs.State.{State}
-use Rattle.capacts.specs.Finish.{sizes_owed}
-use Rattle.capacts.specs.Known.{known_in, AreKnown, StillKept, KeptAnew}
+use Rattle.capsteps.specs.Capacts.Finish.{sizes_owed}
+use Rattle.capsteps.specs.Capacts.Known.{known_in, AreKnown, StillKept, KeptAnew}
 use Rattle.capsteps.specs.Serves.{SettlesWith, EndsWith}
 use Rattle.capsteps.specs.Sound.{IsSound}
 use Rattle.capsteps.specs.Touching.{Touches, Knows, told_then, finished_at}

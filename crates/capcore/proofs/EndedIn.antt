@@ -6,14 +6,14 @@ use Rattle.std.proofs.lemmas.Bool.{eqb-true, eqb-false, le-leb, lt-leb}
 use Rattle.std.proofs.lemmas.List.Kept.{AllPairs-cons}
 use Rattle.std.proofs.lemmas.List.Elements.{All-head, All-tail, All-weaker, All-contains, filter_passes}
 use Rattle.capbits.specs.declared.ids.Ticket.{Ticket}
-use Rattle.lockmachine.specs.declared.request.Request.{Request}
-use Rattle.lockmachine.specs.Requests.{is_numbered}
-use Rattle.lockmachine.specs.Locks.{IsLockMap}
-use Rattle.lockmachine.specs.Scene.{Scene}
-use Rattle.capevents.specs.declared.outcome.Ended.{Ended}
+use Rattle.capsteps.specs.Lockmachine.declared.request.Request.{Request}
+use Rattle.capsteps.specs.Lockmachine.Requests.{is_numbered}
+use Rattle.capsteps.specs.Lockmachine.Locks.{IsLockMap}
+use Rattle.capsteps.specs.Lockmachine.Scene.{Scene}
+use Rattle.capsteps.specs.Capevents.declared.outcome.Ended.{Ended}
 use Rattle.capsteps.specs.Settle.{Made, Began, Gathered, Served, Makes, MakesAll, ended_in}
 use Rattle.capsteps.specs.Step.{earlier}
-use Rattle.capnotes.specs.Untold.{HaveOwnNumbers, but_for}
+use Rattle.capsteps.specs.Capnotes.Untold.{HaveOwnNumbers, but_for}
 use Rattle.capsteps.proofs.Moved.{Waited, ended-waited}
 
 -- ---- lists that are filtered alike

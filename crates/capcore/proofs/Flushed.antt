@@ -14,23 +14,23 @@ use Rattle.captable.specs.Table.{IsTable}
 use Rattle.captable.specs.Calls.{is_of_inode, touched}
 use Rattle.captable.specs.Tests.{release_tests}
 use Rattle.captable.proofs.Moves.{IsTable-touched}
-use Rattle.lockmachine.specs.declared.request.Change.{Change}
-use Rattle.lockmachine.specs.Elsewhere.{IsSameBut}
-use Rattle.lockmachine.specs.Moves.{IsQuiet}
-use Rattle.lockmachine.specs.Requests.{part_of_change}
-use Rattle.lockmachine.specs.Scene.{Scene}
-use Rattle.lockmachine.proofs.SameBut.{same-trans, same-tree, same-entries}
-use Rattle.capevents.specs.declared.event.Event.TheVariants as event
-use Rattle.capevents.specs.declared.reply.Reply.TheVariants as reply
+use Rattle.capsteps.specs.Lockmachine.declared.request.Change.{Change}
+use Rattle.capsteps.specs.Lockmachine.Elsewhere.{IsSameBut}
+use Rattle.capsteps.specs.Lockmachine.Moves.{IsQuiet}
+use Rattle.capsteps.specs.Lockmachine.Requests.{part_of_change}
+use Rattle.capsteps.specs.Lockmachine.Scene.{Scene}
+use Rattle.capsteps.proofs.Lockmachine.SameBut.{same-trans, same-tree, same-entries}
+use Rattle.capsteps.specs.Capevents.declared.event.Event.TheVariants as event
+use Rattle.capsteps.specs.Capevents.declared.reply.Reply.TheVariants as reply
 use Rattle.capsteps.specs.State.{State}
-use Rattle.capacts.specs.Asks.{change_tests, exclusive}
-use Rattle.capnotes.specs.Changing.{tree_changed}
-use Rattle.capacts.specs.Judge.{judged}
+use Rattle.capsteps.specs.Capacts.Asks.{change_tests, exclusive}
+use Rattle.capsteps.specs.Capnotes.Changing.{tree_changed}
+use Rattle.capsteps.specs.Capacts.Judge.{judged}
 use Rattle.capsteps.specs.Direct.{direct, effect_unless, says, with_flush}
-use Rattle.capacts.specs.Served.{change_call_tests}
+use Rattle.capsteps.specs.Capacts.Served.{change_call_tests}
 use Rattle.capsteps.specs.Sound.{IsSound, AreGiven}
 use Rattle.capsteps.specs.Touching.{IsTouchedEntry, TouchesOne}
-use Rattle.capacts.proofs.Again.{change-passed}
+use Rattle.capsteps.proofs.Capacts.Again.{change-passed}
 use Rattle.capsteps.proofs.OneChange.{by_change, alike_change}
 use Rattle.capsteps.proofs.NothingServed.{sound-pinned}
 use Rattle.capsteps.proofs.Touched.{all-left, before-passed, after-passed, AreBelow}

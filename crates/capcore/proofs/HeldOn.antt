@@ -13,15 +13,15 @@ use Rattle.captable.specs.Table.{Table, holder, same, is_among, entry_at}
 use Rattle.captable.specs.Calls.{opened, changed, acked, given_back, released, recalled, with_asked, without_client}
 use Rattle.captable.proofs.ByHolder.{entry_at-changed, entry_at-changed_other, entry_at-without_client_other, entry_at-acked_other, entry_at-released, entry_at-released_other, entry_at-recalled, entry_at-recalled_other}
 use Rattle.captable.proofs.Tables.{same-is}
-use Rattle.lockmachine.specs.Scene.{Scene}
-use Rattle.capevents.specs.declared.event.Event.{Event}
-use Rattle.capevents.specs.declared.event.Event.TheVariants as event
-use Rattle.capevents.specs.declared.event.OpenMode.{OpenMode}
-use Rattle.capacts.specs.declared.stopped.Stopped.{Stopped}
+use Rattle.capsteps.specs.Lockmachine.Scene.{Scene}
+use Rattle.capsteps.specs.Capevents.declared.event.Event.{Event}
+use Rattle.capsteps.specs.Capevents.declared.event.Event.TheVariants as event
+use Rattle.capsteps.specs.Capevents.declared.event.OpenMode.{OpenMode}
+use Rattle.capsteps.specs.Capacts.declared.stopped.Stopped.{Stopped}
 use Rattle.capsteps.specs.State.{State}
 use Rattle.capsteps.specs.Direct.{Direct, direct, effect, effect_unless, found, with_entry, with_opening}
 use Rattle.capsteps.specs.Headline.{holds, is_due, IssuesExactly}
-use Rattle.capacts.specs.Judge.{judged, revoked_of}
+use Rattle.capsteps.specs.Capacts.Judge.{judged, revoked_of}
 use Rattle.capsteps.specs.Shown.{may_take, TakesOnlySo}
 use Rattle.capsteps.proofs.ShownSteps.{apart-of, apart_client, entry_at-entry_other}
 use Rattle.capcore.proofs.ShownWords.{holds-entry, holds-found, gone_is}

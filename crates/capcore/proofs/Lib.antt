@@ -30,3 +30,8 @@ pub mod TurnStep
 pub mod ShownWords
 pub mod HeldOn
 pub mod EndKnown
+pub use Rattle.capsteps.proofs.Capacts
+pub use Rattle.capsteps.proofs.Capevents
+pub use Rattle.capsteps.proofs as Capsteps
+pub use Rattle.capsteps.proofs.Capview
+pub use Rattle.capsteps.proofs.Lockmachine

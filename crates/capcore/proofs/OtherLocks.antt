@@ -6,16 +6,16 @@ use Rattle.std.specs.FinMap as map
 use Rattle.capbits.specs.declared.cap.Part.{Part}
 use Rattle.locktable.specs.declared.states.LockState.{LockState}
 use Rattle.locktable.specs.declared.states.LockState.TheVariants.{Stable, Gather}
-use Rattle.lockmachine.specs.Inodes.{lock_in}
-use Rattle.lockmachine.specs.Locks.{LockMap, lock_at, with_lock}
-use Rattle.lockmachine.specs.Moves.{LockPlace, present_state, coming_state}
-use Rattle.lockmachine.specs.Scene.{Scene}
-use Rattle.lockmachine.proofs.Moving.{is_at, with_lock-each}
-use Rattle.capevents.specs.declared.event.Event.{Event}
-use Rattle.capevents.specs.declared.outcome.Ended.{Ended}
-use Rattle.capevents.specs.declared.reply.Reply.{Reply}
+use Rattle.capsteps.specs.Lockmachine.Inodes.{lock_in}
+use Rattle.capsteps.specs.Lockmachine.Locks.{LockMap, lock_at, with_lock}
+use Rattle.capsteps.specs.Lockmachine.Moves.{LockPlace, present_state, coming_state}
+use Rattle.capsteps.specs.Lockmachine.Scene.{Scene}
+use Rattle.capsteps.proofs.Lockmachine.Moving.{is_at, with_lock-each}
+use Rattle.capsteps.specs.Capevents.declared.event.Event.{Event}
+use Rattle.capsteps.specs.Capevents.declared.outcome.Ended.{Ended}
+use Rattle.capsteps.specs.Capevents.declared.reply.Reply.{Reply}
 use Rattle.capsteps.specs.Direct.{Answer, Says, Shows, Gives, Awaits, direct, shown}
-use Rattle.capacts.specs.Finish.{is_kept, issue, sizes_owed}
+use Rattle.capsteps.specs.Capacts.Finish.{is_kept, issue, sizes_owed}
 use Rattle.capsteps.specs.Headline.{ByMoves, OtherLocksStay, is_of_lock_at}
 use Rattle.capsteps.specs.Settle.{Made, Began, Gathered, Served, Makes, MakesAll, sized_in}
 use Rattle.capsteps.specs.State.{State}

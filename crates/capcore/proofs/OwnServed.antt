@@ -17,28 +17,28 @@ use Rattle.capbits.specs.Sets.{and_parts}
 use Rattle.inotree.specs.declared.node.Node.{Node}
 use Rattle.locktable.specs.declared.states.LockState.{LockState}
 use Rattle.locktable.specs.declared.states.LockState.TheVariants.{Stable, Gather}
-use Rattle.lockmachine.specs.declared.moves.Move.TheVariants.{Begin, End, Serve}
-use Rattle.lockmachine.specs.declared.request.Ask.{Ask}
-use Rattle.lockmachine.specs.declared.request.Ask.TheVariants.{Get, Alter, Unlink, Rmdir, Rename}
-use Rattle.lockmachine.specs.declared.request.Request.{Request}
-use Rattle.lockmachine.specs.Requests.{part_place, same_part, part_of_ask, head_of, is_for, first_for, is_numbered}
-use Rattle.lockmachine.specs.Locks.{LockMap, IsLockMap, lock_at, with_lock, next_request, with_request}
-use Rattle.lockmachine.specs.Scene.{Scene, wanted_in_all}
+use Rattle.capsteps.specs.Lockmachine.declared.moves.Move.TheVariants.{Begin, End, Serve}
+use Rattle.capsteps.specs.Lockmachine.declared.request.Ask.{Ask}
+use Rattle.capsteps.specs.Lockmachine.declared.request.Ask.TheVariants.{Get, Alter, Unlink, Rmdir, Rename}
+use Rattle.capsteps.specs.Lockmachine.declared.request.Request.{Request}
+use Rattle.capsteps.specs.Lockmachine.Requests.{part_place, same_part, part_of_ask, head_of, is_for, first_for, is_numbered}
+use Rattle.capsteps.specs.Lockmachine.Locks.{LockMap, IsLockMap, lock_at, with_lock, next_request, with_request}
+use Rattle.capsteps.specs.Lockmachine.Scene.{Scene, wanted_in_all}
 use Rattle.locktable.specs.Targets as table_of_targets
-use Rattle.lockmachine.specs.Moves.{LockPlace, may_end, may_begin, may_serve, is_first, is_servable, present_state, coming_state, first_move, begun_locks, gathered_locks, IsQuiet, IsAtRest}
-use Rattle.lockmachine.proofs.Exact.{ends_not, begins_not, serves_not, settled}
-use Rattle.lockmachine.proofs.Moving.{IsMove, first_is, is_at, with_lock-each}
-use Rattle.lockmachine.proofs.Queue.{least_served, found_by_number, moved-kept}
-use Rattle.lockmachine.proofs.Rest.{same_part_is}
-use Rattle.capevents.specs.declared.outcome.Outcome.{Outcome}
-use Rattle.capevents.specs.declared.reply.Reply.{Reply}
-use Rattle.capevents.specs.declared.reply.Reply.TheVariants as reply
-use Rattle.capacts.specs.declared.stopped.Stopped.{Stopped}
-use Rattle.capevents.specs.Replies.{outcome_reply}
+use Rattle.capsteps.specs.Lockmachine.Moves.{LockPlace, may_end, may_begin, may_serve, is_first, is_servable, present_state, coming_state, first_move, begun_locks, gathered_locks, IsQuiet, IsAtRest}
+use Rattle.capsteps.proofs.Lockmachine.Exact.{ends_not, begins_not, serves_not, settled}
+use Rattle.capsteps.proofs.Lockmachine.Moving.{IsMove, first_is, is_at, with_lock-each}
+use Rattle.capsteps.proofs.Lockmachine.Queue.{least_served, found_by_number, moved-kept}
+use Rattle.capsteps.proofs.Lockmachine.Rest.{same_part_is}
+use Rattle.capsteps.specs.Capevents.declared.outcome.Outcome.{Outcome}
+use Rattle.capsteps.specs.Capevents.declared.reply.Reply.{Reply}
+use Rattle.capsteps.specs.Capevents.declared.reply.Reply.TheVariants as reply
+use Rattle.capsteps.specs.Capacts.declared.stopped.Stopped.{Stopped}
+use Rattle.capsteps.specs.Capevents.Replies.{outcome_reply}
 use Rattle.capsteps.specs.Direct.{awaited_as}
-use Rattle.capnotes.specs.Untold.{is_of_ticket}
+use Rattle.capsteps.specs.Capnotes.Untold.{is_of_ticket}
 use Rattle.capsteps.specs.Headline.{is_stop}
-use Rattle.capacts.specs.Serving.{judged_again, told_of, passed_as, outcome_unless, MayEndAs, As_judged, Without_memory}
+use Rattle.capsteps.specs.Capacts.Serving.{judged_again, told_of, passed_as, outcome_unless, MayEndAs, As_judged, Without_memory}
 use Rattle.capsteps.specs.Settle.{Made, Began, Gathered, Served, MakesAll, ended_in}
 use Rattle.capsteps.proofs.Stopping.{no_moves}
 

@@ -6,21 +6,21 @@ use Rattle.sessiontab.specs.Tests.{session_tests}
 use Rattle.captable.specs.Table.{Table, IsTable}
 use Rattle.captable.specs.Calls.{is_of_client}
 use Rattle.captable.specs.Many.{changed_where}
-use Rattle.capevents.specs.declared.event.Event.{Event}
-use Rattle.capevents.specs.declared.event.Event.TheVariants as event
-use Rattle.capevents.specs.declared.outcome.Ended.{Ended}
-use Rattle.capevents.specs.declared.outcome.Message.{Message}
-use Rattle.capevents.specs.declared.reply.Reply.{Reply}
-use Rattle.capevents.specs.declared.reply.Reply.TheVariants as reply
+use Rattle.capsteps.specs.Capevents.declared.event.Event.{Event}
+use Rattle.capsteps.specs.Capevents.declared.event.Event.TheVariants as event
+use Rattle.capsteps.specs.Capevents.declared.outcome.Ended.{Ended}
+use Rattle.capsteps.specs.Capevents.declared.outcome.Message.{Message}
+use Rattle.capsteps.specs.Capevents.declared.reply.Reply.{Reply}
+use Rattle.capsteps.specs.Capevents.declared.reply.Reply.TheVariants as reply
 use Rattle.capsteps.specs.declared.said.Said.{Said}
-use Rattle.capacts.specs.declared.stopped.Stopped.{Stopped}
+use Rattle.capsteps.specs.Capacts.declared.stopped.Stopped.{Stopped}
 use Rattle.capsteps.specs.State.{State}
 use Rattle.capsteps.specs.Answered.{IsAnswered}
-use Rattle.capacts.specs.Judge.{judged, stop_by, first_denied}
+use Rattle.capsteps.specs.Capacts.Judge.{judged, stop_by, first_denied}
 use Rattle.capsteps.specs.Direct.{Direct, Gives, direct, effect_unless, reply_of, shown}
 use Rattle.capsteps.specs.Headline.{IssuesExactly}
 use Rattle.capsteps.specs.Messages.{first_messages, with_given, after_messages}
-use Rattle.capnotes.specs.Untold.{is_left}
+use Rattle.capsteps.specs.Capnotes.Untold.{is_left}
 use Rattle.capsteps.specs.Settle.{Settles}
 use Rattle.capsteps.specs.Sound.{IsSound, AreGiven}
 use Rattle.capsteps.specs.Step.{Step, all_ended, state_after}

@@ -12,23 +12,23 @@ use Rattle.captable.specs.declared.entry.EntryRow.{EntryRow}
 use Rattle.captable.specs.declared.entry.Holder.{Holder}
 use Rattle.captable.specs.Table.{IsTable, holder, is_row_of}
 use Rattle.inotree.specs.Tree.{child}
-use Rattle.lockmachine.specs.declared.request.Ask.{Ask}
-use Rattle.lockmachine.specs.declared.request.Ask.TheVariants.{Get, Alter, Unlink, Rmdir, Rename}
-use Rattle.lockmachine.specs.Locks.{IsLockMap}
-use Rattle.lockmachine.specs.Scene.{Scene}
-use Rattle.lockmachine.specs.Policy.{failures}
-use Rattle.capevents.specs.declared.event.Event.{Event}
-use Rattle.capevents.specs.declared.event.Event.TheVariants as event
+use Rattle.capsteps.specs.Lockmachine.declared.request.Ask.{Ask}
+use Rattle.capsteps.specs.Lockmachine.declared.request.Ask.TheVariants.{Get, Alter, Unlink, Rmdir, Rename}
+use Rattle.capsteps.specs.Lockmachine.Locks.{IsLockMap}
+use Rattle.capsteps.specs.Lockmachine.Scene.{Scene}
+use Rattle.capsteps.specs.Lockmachine.Policy.{failures}
+use Rattle.capsteps.specs.Capevents.declared.event.Event.{Event}
+use Rattle.capsteps.specs.Capevents.declared.event.Event.TheVariants as event
 use Rattle.capbits.specs.declared.refusal.Refusal.{Refusal}
-use Rattle.capevents.specs.declared.reply.Reply.{Reply}
-use Rattle.capevents.specs.declared.reply.Reply.TheVariants as reply
+use Rattle.capsteps.specs.Capevents.declared.reply.Reply.{Reply}
+use Rattle.capsteps.specs.Capevents.declared.reply.Reply.TheVariants as reply
 use Rattle.capsteps.specs.State.{State}
 use Rattle.capbits.specs.Refusal.{first_failing}
-use Rattle.capacts.specs.Judge.{judged, before, needs, after, first_denied, stop_by}
-use Rattle.capacts.specs.Needs.{Need}
-use Rattle.capevents.specs.declared.outcome.Ended.{Ended}
-use Rattle.capacts.specs.declared.stopped.Stopped.{Stopped}
-use Rattle.capacts.specs.declared.stopped.Stopped.TheVariants.{ByPolicy, ByTest}
+use Rattle.capsteps.specs.Capacts.Judge.{judged, before, needs, after, first_denied, stop_by}
+use Rattle.capsteps.specs.Capacts.Needs.{Need}
+use Rattle.capsteps.specs.Capevents.declared.outcome.Ended.{Ended}
+use Rattle.capsteps.specs.Capacts.declared.stopped.Stopped.{Stopped}
+use Rattle.capsteps.specs.Capacts.declared.stopped.Stopped.TheVariants.{ByPolicy, ByTest}
 use Rattle.capsteps.specs.Direct.{Direct, effect, effect_unless, found, direct, opened_as, reply_of, IsDirect}
 use Rattle.capsteps.specs.Settle.{Made, MakesAll, ended_in}
 use Rattle.capsteps.specs.Touching.{asks_for}
@@ -36,7 +36,7 @@ use Rattle.capcore.proofs.Asked.{asking, asking-stop, asking-direct, asking-agai
 use Rattle.capcore.proofs.OwnServed.{own-not_stopped}
 use Rattle.capsteps.specs.Step.{Step, state_after}
 use Rattle.capsteps.proofs.Stopping.{stopped-only}
-use Rattle.capacts.specs.Finish.{due}
+use Rattle.capsteps.specs.Capacts.Finish.{due}
 use Rattle.capsteps.specs.Sound.{IsSoundEntry, IsSound}
 use Rattle.capsteps.proofs.Leaving.{found-contains}
 use Rattle.capsteps.specs.Headline.{DeniedExactly, DeniesByName, IssuesExactly, is_stop}

@@ -8,14 +8,14 @@ use Rattle.captable.specs.declared.entry.Holder.{Holder}
 use Rattle.captable.specs.Table.{Table, IsTable, is_among}
 use Rattle.captable.specs.Calls.{asked_row, recalled, with_asked}
 use Rattle.captable.proofs.Tables.{IsTable-recalled}
-use Rattle.capevents.specs.declared.event.Event.TheVariants as event
-use Rattle.capevents.specs.declared.reply.Reply.TheVariants as reply
+use Rattle.capsteps.specs.Capevents.declared.event.Event.TheVariants as event
+use Rattle.capsteps.specs.Capevents.declared.reply.Reply.TheVariants as reply
 use Rattle.capsteps.specs.declared.said.Said.{Said}
 use Rattle.capsteps.specs.State.{State}
-use Rattle.capacts.specs.Known.{AreKnown}
+use Rattle.capsteps.specs.Capacts.Known.{AreKnown}
 use Rattle.capsteps.specs.Answered.{IsAnswered}
 use Rattle.capsteps.specs.Direct.{with_table}
-use Rattle.capacts.specs.Finish.{finished}
+use Rattle.capsteps.specs.Capacts.Finish.{finished}
 use Rattle.capsteps.specs.Sound.{IsSound, AreGiven}
 use Rattle.capsteps.proofs.Finishing.{same-finished}
 use Rattle.capsteps.proofs.Knowing.{HoldAlike, known-alike, alike-where}

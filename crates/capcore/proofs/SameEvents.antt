@@ -3,14 +3,14 @@ use Rattle.std.proofs.Common.{◌≡◌, ◌≤◌, ◌+◌, ℕ, length, List, 
 use Rattle.std.proofs.lemmas.List.Elements.{All-nil, All-head, All-tail}
 use Rattle.capbits.specs.declared.ids.PassId.{PassId}
 use Rattle.inotree.specs.Tree.{Nodes}
-use Rattle.lockmachine.specs.declared.request.Request.{Request}
-use Rattle.lockmachine.specs.Requests.{AreTicketsRising}
-use Rattle.lockmachine.specs.Locks.{IsLockMap}
-use Rattle.capevents.specs.declared.event.Event.{Event}
-use Rattle.capevents.specs.declared.row.Row.{Row}
-use Rattle.capevents.specs.declared.outcome.Ended.{Ended}
-use Rattle.capevents.specs.declared.reply.Reply.{Reply}
-use Rattle.capacts.specs.Numbers.{AreNumbered, rows_of}
+use Rattle.capsteps.specs.Lockmachine.declared.request.Request.{Request}
+use Rattle.capsteps.specs.Lockmachine.Requests.{AreTicketsRising}
+use Rattle.capsteps.specs.Lockmachine.Locks.{IsLockMap}
+use Rattle.capsteps.specs.Capevents.declared.event.Event.{Event}
+use Rattle.capsteps.specs.Capevents.declared.row.Row.{Row}
+use Rattle.capsteps.specs.Capevents.declared.outcome.Ended.{Ended}
+use Rattle.capsteps.specs.Capevents.declared.reply.Reply.{Reply}
+use Rattle.capsteps.specs.Capacts.Numbers.{AreNumbered, rows_of}
 use Rattle.capsteps.specs.History.{IsOpening, Replays}
 use Rattle.capcore.specs.SameEvents.{FoundMemory, AllFoundMemory, events_of, ends_of, passes_of}
 use Rattle.capsteps.specs.State.{State}

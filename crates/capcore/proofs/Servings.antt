@@ -5,19 +5,19 @@ use Rattle.capgrant.specs.declared.access.Access.{Access}
 use Rattle.capgrant.specs.declared.rule.Rule.{Rule}
 use Rattle.inotree.specs.declared.node.Node.{Node}
 use Rattle.capbits.specs.declared.cap.Part.{Part}
-use Rattle.lockmachine.specs.declared.request.Ask.{Ask}
-use Rattle.lockmachine.specs.declared.request.Ask.TheVariants.{Get, Alter, Unlink, Rmdir, Rename}
-use Rattle.lockmachine.specs.declared.request.Request.{Request}
-use Rattle.lockmachine.specs.Policy.{failures}
-use Rattle.lockmachine.specs.Scene.{Scene}
-use Rattle.capevents.specs.declared.outcome.Outcome.{Outcome}
-use Rattle.capevents.specs.declared.outcome.Outcome.TheVariants as outcome
+use Rattle.capsteps.specs.Lockmachine.declared.request.Ask.{Ask}
+use Rattle.capsteps.specs.Lockmachine.declared.request.Ask.TheVariants.{Get, Alter, Unlink, Rmdir, Rename}
+use Rattle.capsteps.specs.Lockmachine.declared.request.Request.{Request}
+use Rattle.capsteps.specs.Lockmachine.Policy.{failures}
+use Rattle.capsteps.specs.Lockmachine.Scene.{Scene}
+use Rattle.capsteps.specs.Capevents.declared.outcome.Outcome.{Outcome}
+use Rattle.capsteps.specs.Capevents.declared.outcome.Outcome.TheVariants as outcome
 use Rattle.capbits.specs.declared.refusal.Refusal.{Refusal}
 use Rattle.capbits.specs.Refusal.{first_failing}
-use Rattle.capacts.specs.Judge.{first_denied, stop_by}
-use Rattle.capacts.specs.Needs.{Need}
-use Rattle.capacts.specs.Serving.{MayEndAs, As_judged, Without_memory, told_of, passed_as, outcome_unless}
-use Rattle.capacts.specs.Asks.{ask_before, ask_needs, ask_after}
+use Rattle.capsteps.specs.Capacts.Judge.{first_denied, stop_by}
+use Rattle.capsteps.specs.Capacts.Needs.{Need}
+use Rattle.capsteps.specs.Capacts.Serving.{MayEndAs, As_judged, Without_memory, told_of, passed_as, outcome_unless}
+use Rattle.capsteps.specs.Capacts.Asks.{ask_before, ask_needs, ask_after}
 use Rattle.capsteps.specs.Settle.{Made, Began, Gathered, Served, Makes, MakesAll}
 use Rattle.capsteps.specs.Headline.{ServedDenied, ServedByName, EachServing}
 

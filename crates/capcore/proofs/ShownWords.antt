@@ -19,17 +19,17 @@ use Rattle.captable.specs.Table.{Table, holder, is_row_of, entry_of, entry_at}
 use Rattle.captable.specs.Calls.{taken, changed, without}
 use Rattle.captable.specs.Tests.{last_revocation}
 use Rattle.captable.proofs.ByHolder.{entry_at-changed}
-use Rattle.lockmachine.specs.Scene.{Scene, against}
-use Rattle.lockmachine.specs.Told.{is_taken}
-use Rattle.lockmachine.proofs.Told.{has-against, has-told, pin-takes_all}
-use Rattle.capevents.specs.declared.event.Event.{Event}
-use Rattle.capevents.specs.declared.event.Event.TheVariants as event
-use Rattle.capacts.specs.declared.stopped.Stopped.{Stopped}
+use Rattle.capsteps.specs.Lockmachine.Scene.{Scene, against}
+use Rattle.capsteps.specs.Lockmachine.Told.{is_taken}
+use Rattle.capsteps.proofs.Lockmachine.Told.{has-against, has-told, pin-takes_all}
+use Rattle.capsteps.specs.Capevents.declared.event.Event.{Event}
+use Rattle.capsteps.specs.Capevents.declared.event.Event.TheVariants as event
+use Rattle.capsteps.specs.Capacts.declared.stopped.Stopped.{Stopped}
 use Rattle.capsteps.specs.declared.touch.Touch.TheVariants.{Ack}
 use Rattle.capsteps.specs.Direct.{Direct, direct, effect_unless}
 use Rattle.capsteps.specs.Headline.{holds}
-use Rattle.capacts.specs.Judge.{judged, revoked_of}
-use Rattle.capevents.specs.declared.row.Row.{Row}
+use Rattle.capsteps.specs.Capacts.Judge.{judged, revoked_of}
+use Rattle.capsteps.specs.Capevents.declared.row.Row.{Row}
 use Rattle.capsteps.specs.State.{State}
 use Rattle.capsteps.specs.Shown.{AreShown, ShowsWhatIsTold, ShowsOnlyPermitted, TakesUnshown, shown_of}
 use Rattle.capsteps.specs.Sound.{IsSound, IsSoundEntry}

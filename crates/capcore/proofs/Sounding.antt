@@ -10,11 +10,11 @@ use Rattle.inotree.specs.Tree.{Nodes, place}
 use Rattle.sessiontab.specs.Calls.{has_session}
 use Rattle.captable.specs.declared.entry.EntryRow.{EntryRow}
 use Rattle.captable.specs.Table.{is_row_of}
-use Rattle.lockmachine.specs.declared.states.InodeLocks.{InodeLocks}
-use Rattle.lockmachine.specs.Inodes.{in_sync}
-use Rattle.lockmachine.specs.Requests.{first_for}
-use Rattle.lockmachine.proofs.Idle.{InSync, idle}
-use Rattle.lockmachine.proofs.Rest.{at_rest}
+use Rattle.capsteps.specs.Lockmachine.declared.states.InodeLocks.{InodeLocks}
+use Rattle.capsteps.specs.Lockmachine.Inodes.{in_sync}
+use Rattle.capsteps.specs.Lockmachine.Requests.{first_for}
+use Rattle.capsteps.proofs.Lockmachine.Idle.{InSync, idle}
+use Rattle.capsteps.proofs.Lockmachine.Rest.{at_rest}
 use Rattle.capsteps.specs.State.{State}
 use Rattle.capsteps.specs.History.{HasNoStray, IsOpening}
 use Rattle.capsteps.specs.Sound.{IsSoundEntry, IsSound, AreGiven}

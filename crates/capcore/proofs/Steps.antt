@@ -6,21 +6,21 @@ use Rattle.inotree.specs.Inodes.{with_snapshot, without_snapshot}
 use Rattle.inotree.specs.Tree.{IsTree, child}
 use Rattle.sessiontab.specs.Tests.{new_session_tests}
 use Rattle.captable.specs.Table.{IsTable, holder}
-use Rattle.capevents.specs.declared.event.Event.{Event}
-use Rattle.capevents.specs.declared.event.Event.TheVariants as event
-use Rattle.capevents.specs.declared.outcome.Ended.{Ended}
-use Rattle.capevents.specs.declared.reply.Reply.{Reply}
+use Rattle.capsteps.specs.Capevents.declared.event.Event.{Event}
+use Rattle.capsteps.specs.Capevents.declared.event.Event.TheVariants as event
+use Rattle.capsteps.specs.Capevents.declared.outcome.Ended.{Ended}
+use Rattle.capsteps.specs.Capevents.declared.reply.Reply.{Reply}
 use Rattle.capsteps.specs.declared.said.Said.{Said}
-use Rattle.capacts.specs.declared.stopped.Stopped.{Stopped}
-use Rattle.capacts.specs.declared.stopped.Stopped.TheVariants.{ByPolicy, ByTest}
+use Rattle.capsteps.specs.Capacts.declared.stopped.Stopped.{Stopped}
+use Rattle.capsteps.specs.Capacts.declared.stopped.Stopped.TheVariants.{ByPolicy, ByTest}
 use Rattle.capsteps.specs.State.{State}
 use Rattle.capsteps.specs.Answered.{IsAnswered}
 use Rattle.inotree.specs.declared.node.Kind.TheVariants.{Directory, File}
-use Rattle.capacts.specs.Judge.{judged}
-use Rattle.capevents.specs.Replies.{has_list}
+use Rattle.capsteps.specs.Capacts.Judge.{judged}
+use Rattle.capsteps.specs.Capevents.Replies.{has_list}
 use Rattle.capsteps.specs.Direct.{Answer, Says, Shows, Gives, Awaits, Direct, direct, effect, effect_unless, found, reply_of, shown, with_scene, IsDirect}
 use Rattle.capsteps.specs.Settle.{Settles}
-use Rattle.capacts.specs.Finish.{sizes_owed, finished}
+use Rattle.capsteps.specs.Capacts.Finish.{sizes_owed, finished}
 use Rattle.capsteps.specs.Leaving.{with_parts, LeavesEntries}
 use Rattle.capsteps.specs.Sound.{IsSound, AreGiven}
 use Rattle.capsteps.specs.Step.{Step, state_after}

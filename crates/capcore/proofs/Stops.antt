@@ -2,18 +2,18 @@
 use Rattle.std.proofs.Common.{◌≡◌, List, Some, [], sym, ap, subst}
 use Rattle.captable.specs.declared.entry.Holder.{Holder}
 use Rattle.captable.specs.Table.{IsTable}
-use Rattle.lockmachine.specs.declared.request.Ask.{Ask}
-use Rattle.capevents.specs.declared.event.Event.{Event}
-use Rattle.capevents.specs.declared.event.Event.TheVariants as event
-use Rattle.capevents.specs.declared.outcome.Ended.{Ended}
-use Rattle.capevents.specs.declared.reply.Reply.{Reply}
+use Rattle.capsteps.specs.Lockmachine.declared.request.Ask.{Ask}
+use Rattle.capsteps.specs.Capevents.declared.event.Event.{Event}
+use Rattle.capsteps.specs.Capevents.declared.event.Event.TheVariants as event
+use Rattle.capsteps.specs.Capevents.declared.outcome.Ended.{Ended}
+use Rattle.capsteps.specs.Capevents.declared.reply.Reply.{Reply}
 use Rattle.capsteps.specs.declared.said.Said.{Said}
-use Rattle.capacts.specs.declared.stopped.Stopped.{Stopped}
+use Rattle.capsteps.specs.Capacts.declared.stopped.Stopped.{Stopped}
 use Rattle.capsteps.specs.State.{State}
 use Rattle.capsteps.specs.Answered.{IsAnswered}
 use Rattle.capsteps.specs.Direct.{Direct, direct, effect_unless, says}
 use Rattle.capsteps.specs.Headline.{IssuesExactly}
-use Rattle.capacts.specs.Judge.{judged, stop_reply}
+use Rattle.capsteps.specs.Capacts.Judge.{judged, stop_reply}
 use Rattle.capsteps.specs.Sound.{IsSound}
 use Rattle.capsteps.specs.Step.{Step}
 use Rattle.capsteps.specs.Touching.{asks_for, touched_by}

@@ -1,12 +1,12 @@
 -- An event is a whole step, when the locks have settled and the step has ended.
 use Rattle.std.proofs.Common.{◌≡◌, List, ◌++◌, refl, sym, ap, ◌∙◌}
-use Rattle.lockmachine.specs.Scene.{Scene}
-use Rattle.capevents.specs.declared.event.Event.{Event}
-use Rattle.capevents.specs.declared.reply.Reply.{Reply}
+use Rattle.capsteps.specs.Lockmachine.Scene.{Scene}
+use Rattle.capsteps.specs.Capevents.declared.event.Event.{Event}
+use Rattle.capsteps.specs.Capevents.declared.reply.Reply.{Reply}
 use Rattle.capsteps.specs.State.{State}
 use Rattle.capsteps.specs.Direct.{direct, reply_of, shown}
 use Rattle.capsteps.specs.Settle.{Made, Settles, ended_in, sized_in}
-use Rattle.capacts.specs.Finish.{sizes_owed, finished}
+use Rattle.capsteps.specs.Capacts.Finish.{sizes_owed, finished}
 use Rattle.capsteps.specs.Step.{Step, earlier, all_ended, state_after, state_at_end}
 
 module _ (old : State) (e : Event) (moves : List Made) (settled last : Scene) (settles : Settles (direct old e).state.scene moves settled)

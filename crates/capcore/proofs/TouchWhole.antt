@@ -8,15 +8,15 @@ use Rattle.captable.specs.declared.entry.EntryRow.{EntryRow}
 use Rattle.captable.specs.declared.entry.Holder.{Holder}
 use Rattle.captable.specs.Table.{Table, IsTable, holder, is_row_of}
 use Rattle.captable.specs.Calls.{told}
-use Rattle.lockmachine.specs.Scene.{Scene}
+use Rattle.capsteps.specs.Lockmachine.Scene.{Scene}
 use Rattle.capsteps.specs.declared.touch.Touch.{Touch}
 use Rattle.capsteps.specs.declared.touch.Touch.TheVariants.{Open, Want, Ack, Release}
-use Rattle.capevents.specs.declared.event.Event.{Event}
-use Rattle.capevents.specs.declared.outcome.Ended.{Ended}
-use Rattle.capacts.specs.declared.stopped.Stopped.{Stopped}
+use Rattle.capsteps.specs.Capevents.declared.event.Event.{Event}
+use Rattle.capsteps.specs.Capevents.declared.outcome.Ended.{Ended}
+use Rattle.capsteps.specs.Capacts.declared.stopped.Stopped.{Stopped}
 use Rattle.capsteps.specs.State.{State}
-use Rattle.capacts.specs.Judge.{judged, revoked_of}
-use Rattle.capevents.specs.Replies.{has_list}
+use Rattle.capsteps.specs.Capacts.Judge.{judged, revoked_of}
+use Rattle.capsteps.specs.Capevents.Replies.{has_list}
 use Rattle.capsteps.specs.Direct.{direct, effect, effect_unless, reply_of, shown, opened_as}
 use Rattle.capsteps.specs.Sound.{IsSound}
 use Rattle.capsteps.specs.Touch.{touch_event, touched_table, touch_answer}

@@ -18,35 +18,35 @@ use Rattle.sessiontab.specs.Calls.{has_session}
 use Rattle.captable.specs.declared.entry.EntryRow.{EntryRow}
 use Rattle.captable.specs.Table.{Table, IsTable, entry_at}
 use Rattle.captable.proofs.ByHolder.{entry_at-without_client, entry_at-without_client_other}
-use Rattle.lockmachine.specs.declared.request.Request.{Request}
-use Rattle.lockmachine.specs.Locks.{LockMap, IsLockMap}
-use Rattle.lockmachine.specs.Requests.{is_of_client}
-use Rattle.lockmachine.specs.Moves.{IsQuietOutside}
-use Rattle.lockmachine.specs.Scene.{Scene}
-use Rattle.lockmachine.proofs.Queue.{without_requests_of-kept}
-use Rattle.lockmachine.proofs.SameOutside.{rest-outside}
-use Rattle.capnotes.specs.InoSets.{InoSet}
-use Rattle.capacts.specs.declared.leaving.Turn.{Turn}
-use Rattle.capacts.specs.declared.leaving.Turn.TheVariants.{Close, Stale, Renew, Regrant, Evict}
-use Rattle.capevents.specs.declared.event.Event.{Event}
-use Rattle.capevents.specs.declared.outcome.Ended.{Ended}
-use Rattle.capevents.specs.declared.reply.Reply.TheVariants as reply
+use Rattle.capsteps.specs.Lockmachine.declared.request.Request.{Request}
+use Rattle.capsteps.specs.Lockmachine.Locks.{LockMap, IsLockMap}
+use Rattle.capsteps.specs.Lockmachine.Requests.{is_of_client}
+use Rattle.capsteps.specs.Lockmachine.Moves.{IsQuietOutside}
+use Rattle.capsteps.specs.Lockmachine.Scene.{Scene}
+use Rattle.capsteps.proofs.Lockmachine.Queue.{without_requests_of-kept}
+use Rattle.capsteps.proofs.Lockmachine.SameOutside.{rest-outside}
+use Rattle.capsteps.specs.Capnotes.InoSets.{InoSet}
+use Rattle.capsteps.specs.Capacts.declared.leaving.Turn.{Turn}
+use Rattle.capsteps.specs.Capacts.declared.leaving.Turn.TheVariants.{Close, Stale, Renew, Regrant, Evict}
+use Rattle.capsteps.specs.Capevents.declared.event.Event.{Event}
+use Rattle.capsteps.specs.Capevents.declared.outcome.Ended.{Ended}
+use Rattle.capsteps.specs.Capevents.declared.reply.Reply.TheVariants as reply
 use Rattle.capsteps.specs.declared.said.Said.{Said}
-use Rattle.capacts.specs.declared.stopped.Stopped.TheVariants.{ByTest}
+use Rattle.capsteps.specs.Capacts.declared.stopped.Stopped.TheVariants.{ByTest}
 use Rattle.capsteps.specs.State.{State}
 use Rattle.capsteps.specs.Answered.{IsAnswered}
 use Rattle.capsteps.specs.Direct.{Direct, direct, reply_of, shown}
-use Rattle.capacts.specs.Judge.{judged, stop}
-use Rattle.capnotes.specs.Untold.{is_to}
-use Rattle.capacts.specs.Reach.{is_touched}
+use Rattle.capsteps.specs.Capacts.Judge.{judged, stop}
+use Rattle.capsteps.specs.Capnotes.Untold.{is_to}
+use Rattle.capsteps.specs.Capacts.Reach.{is_touched}
 use Rattle.capsteps.specs.Serves.{SettlesWith, EndsWith}
-use Rattle.capacts.specs.Finish.{sizes_owed}
+use Rattle.capsteps.specs.Capacts.Finish.{sizes_owed}
 use Rattle.capsteps.specs.Settle.{ended_in, sized_in}
 use Rattle.capsteps.specs.Sound.{IsSound, NumbersLeft}
 use Rattle.capsteps.specs.Step.{earlier, all_ended, state_at_end}
 use Rattle.capsteps.specs.Touching.{Touches, SettlesAt, Knows, finished_at}
-use Rattle.capacts.specs.Known.{known_in, AreKnown, StillKept}
-use Rattle.capacts.specs.Left.{is_end, table_left, locks_left, messages_left, dropped_by}
+use Rattle.capsteps.specs.Capacts.Known.{known_in, AreKnown, StillKept}
+use Rattle.capsteps.specs.Capacts.Left.{is_end, table_left, locks_left, messages_left, dropped_by}
 use Rattle.capsteps.specs.Turn.{ReachesClient, turn_event, turn_tests, turned}
 use Rattle.capcore.proofs.Closing.{told-all, touches-clients}
 use Rattle.capcore.proofs.EndKnown.{ends-known}

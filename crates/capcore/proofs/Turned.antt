@@ -21,26 +21,26 @@ use Rattle.captable.specs.Table.{Table, IsTable}
 use Rattle.captable.specs.Calls.{is_of_client, is_of_inode, entries_on, without_client}
 use Rattle.captable.proofs.ByInode.{entries_on-without_client}
 use Rattle.captable.proofs.Tables.{IsTable-without_client}
-use Rattle.lockmachine.specs.declared.request.Request.{Request}
-use Rattle.lockmachine.specs.Inodes.{StateMap}
-use Rattle.lockmachine.specs.Locks.{LockMap, lock_at}
-use Rattle.lockmachine.specs.Requests.{is_of_client as is_asked_by, first_for, is_for}
-use Rattle.lockmachine.specs.Elsewhere.{IsSameOutside}
-use Rattle.lockmachine.specs.Moves.{IsQuiet}
-use Rattle.lockmachine.specs.Scene.{Scene}
-use Rattle.lockmachine.proofs.PolicyElsewhere.{alike-itself}
-use Rattle.lockmachine.proofs.Finding.{contains-filter, fails_at, find_none}
-use Rattle.lockmachine.proofs.SameOutside.{outside-itself, outside-then, outside-dropped}
-use Rattle.capacts.specs.declared.leaving.Turn.{Turn}
-use Rattle.capacts.specs.declared.leaving.Turn.TheVariants.{Close, Stale, Renew, Regrant, Evict}
-use Rattle.capevents.specs.declared.reply.Reply.TheVariants as reply
+use Rattle.capsteps.specs.Lockmachine.declared.request.Request.{Request}
+use Rattle.capsteps.specs.Lockmachine.Inodes.{StateMap}
+use Rattle.capsteps.specs.Lockmachine.Locks.{LockMap, lock_at}
+use Rattle.capsteps.specs.Lockmachine.Requests.{is_of_client as is_asked_by, first_for, is_for}
+use Rattle.capsteps.specs.Lockmachine.Elsewhere.{IsSameOutside}
+use Rattle.capsteps.specs.Lockmachine.Moves.{IsQuiet}
+use Rattle.capsteps.specs.Lockmachine.Scene.{Scene}
+use Rattle.capsteps.proofs.Lockmachine.PolicyElsewhere.{alike-itself}
+use Rattle.capsteps.proofs.Lockmachine.Finding.{contains-filter, fails_at, find_none}
+use Rattle.capsteps.proofs.Lockmachine.SameOutside.{outside-itself, outside-then, outside-dropped}
+use Rattle.capsteps.specs.Capacts.declared.leaving.Turn.{Turn}
+use Rattle.capsteps.specs.Capacts.declared.leaving.Turn.TheVariants.{Close, Stale, Renew, Regrant, Evict}
+use Rattle.capsteps.specs.Capevents.declared.reply.Reply.TheVariants as reply
 use Rattle.capsteps.specs.State.{State}
 use Rattle.capsteps.specs.Direct.{Direct, Says, direct, effect, effect_unless}
-use Rattle.capacts.specs.Judge.{judged}
-use Rattle.capnotes.specs.Untold.{is_to}
+use Rattle.capsteps.specs.Capacts.Judge.{judged}
+use Rattle.capsteps.specs.Capnotes.Untold.{is_to}
 use Rattle.capsteps.specs.Sound.{IsSound}
 use Rattle.capsteps.specs.Touching.{Touches, IsTouchedEntry}
-use Rattle.capacts.specs.Left.{is_end, table_left, locks_left, messages_left, dropped_by}
+use Rattle.capsteps.specs.Capacts.Left.{is_end, table_left, locks_left, messages_left, dropped_by}
 use Rattle.capsteps.specs.Turn.{turn_event, turned_sessions, turned}
 use Rattle.capsteps.proofs.NothingServed.{sound-pinned}
 use Rattle.capsteps.proofs.Touched.{IsKeptEntry, kept-left, sound-kept}

@@ -5,8 +5,8 @@ use Rattle.std.specs.FinMap as map
 use Rattle.std.specs.Option.{is_some}
 use Rattle.inotree.specs.Tree.{IsTree}
 use Rattle.numbered.proofs.Maps.{put_back}
-use Rattle.lockmachine.specs.Inodes.{StateMap, in_sync}
-use Rattle.lockmachine.specs.Locks.{LockMap, with_ino, without_ino}
+use Rattle.capsteps.specs.Lockmachine.Inodes.{StateMap, in_sync}
+use Rattle.capsteps.specs.Lockmachine.Locks.{LockMap, with_ino, without_ino}
 use Rattle.capsteps.specs.State.{State}
 use Rattle.capsteps.specs.Sound.{IsSound}
 use Rattle.capsteps.proofs.Leaving.{no_locks}

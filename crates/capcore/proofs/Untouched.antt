@@ -7,7 +7,7 @@ use Rattle.std.specs.FinMap as map
 use Rattle.std.specs.HashMap.{HashMap}
 use Rattle.capbits.specs.Caps.{Caps}
 use Rattle.captable.specs.declared.entry.Holder.{Holder}
-use Rattle.capacts.specs.Known.{AreKnown}
+use Rattle.capsteps.specs.Capacts.Known.{AreKnown}
 use Rattle.std.specs.FinSet as set
 use Rattle.std.specs.FinSet.{FinSet}
 use Rattle.std.proofs.lemmas.List.Elements.{All-weaker}
@@ -28,12 +28,12 @@ use Rattle.sessiontab.specs.Calls.{with_session, without_blocked}
 use Rattle.sessiontab.specs.Tests.{new_session_tests}
 use Rattle.sessiontab.proofs.Elsewhere.{session-kept}
 use Rattle.captable.specs.declared.entry.EntryRow.{EntryRow}
-use Rattle.lockmachine.specs.declared.states.InodeLocks.{InodeLocks}
-use Rattle.lockmachine.specs.Inodes.{in_sync}
-use Rattle.lockmachine.specs.Locks.{with_ino}
-use Rattle.lockmachine.specs.Policy.{permitted}
-use Rattle.lockmachine.specs.Wants.{effective_want}
-use Rattle.lockmachine.proofs.PolicyElsewhere.{permitted-session, permitted-new, permitted-changed, want-session, want-new, want-changed}
+use Rattle.capsteps.specs.Lockmachine.declared.states.InodeLocks.{InodeLocks}
+use Rattle.capsteps.specs.Lockmachine.Inodes.{in_sync}
+use Rattle.capsteps.specs.Lockmachine.Locks.{with_ino}
+use Rattle.capsteps.specs.Lockmachine.Policy.{permitted}
+use Rattle.capsteps.specs.Lockmachine.Wants.{effective_want}
+use Rattle.capsteps.proofs.Lockmachine.PolicyElsewhere.{permitted-session, permitted-new, permitted-changed, want-session, want-new, want-changed}
 use Rattle.capsteps.specs.State.{State}
 use Rattle.capsteps.specs.Direct.{with_scene, with_tree, with_birth}
 use Rattle.capsteps.specs.Sound.{IsSoundEntry, IsSound}

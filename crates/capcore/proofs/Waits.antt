@@ -9,20 +9,20 @@ use Rattle.capbits.specs.declared.ids.Ticket.{Ticket}
 use Rattle.capbits.specs.declared.refusal.Refusal.TheVariants as refusal
 use Rattle.capbits.specs.Refusal.{first_failing}
 use Rattle.captable.specs.declared.entry.Holder.{Holder}
-use Rattle.lockmachine.specs.declared.request.Ask.{Ask}
-use Rattle.lockmachine.specs.declared.request.Ask.TheVariants.{Get, Alter, Unlink, Rmdir, Rename}
-use Rattle.lockmachine.specs.Locks.{LockMap, IsLockMap, queue_tests, with_request}
-use Rattle.lockmachine.specs.Scene.{Scene}
-use Rattle.lockmachine.specs.Moves.{IsQuietOutside}
-use Rattle.lockmachine.proofs.SameOutside.{rest-outside}
+use Rattle.capsteps.specs.Lockmachine.declared.request.Ask.{Ask}
+use Rattle.capsteps.specs.Lockmachine.declared.request.Ask.TheVariants.{Get, Alter, Unlink, Rmdir, Rename}
+use Rattle.capsteps.specs.Lockmachine.Locks.{LockMap, IsLockMap, queue_tests, with_request}
+use Rattle.capsteps.specs.Lockmachine.Scene.{Scene}
+use Rattle.capsteps.specs.Lockmachine.Moves.{IsQuietOutside}
+use Rattle.capsteps.proofs.Lockmachine.SameOutside.{rest-outside}
 use Rattle.captable.specs.Table.{IsTable}
 use Rattle.capsteps.specs.State.{State}
 use Rattle.capsteps.specs.Answered.{IsAnswered}
-use Rattle.capacts.specs.Asks.{ask_needs}
+use Rattle.capsteps.specs.Capacts.Asks.{ask_needs}
 use Rattle.capsteps.specs.declared.said.Said.{Said}
 use Rattle.capsteps.specs.Direct.{Answer, Awaits, Direct, direct, reply_of, shown, with_scene, awaited_as}
-use Rattle.capnotes.specs.Untold.{is_of_ticket, HaveOwnNumbers, but_for}
-use Rattle.capacts.specs.Judge.{judged, stop, asking_tests, waiting_tests}
+use Rattle.capsteps.specs.Capnotes.Untold.{is_of_ticket, HaveOwnNumbers, but_for}
+use Rattle.capsteps.specs.Capacts.Judge.{judged, stop, asking_tests, waiting_tests}
 use Rattle.capsteps.specs.Serves.{EndsWith}
 use Rattle.capsteps.specs.Sound.{IsSound}
 use Rattle.capsteps.specs.Step.{earlier}
@@ -31,11 +31,11 @@ use Rattle.capcore.proofs.EndKnown.{ends-known}
 use Rattle.capsteps.proofs.Knowing.{HoldAlike, alike-less, still-there, still-knows}
 use Rattle.capcore.proofs.Closing.{told-own_numbers, told-but_own, touches-one, closed}
 use Rattle.capcore.proofs.Stops.{touched-asks}
-use Rattle.capevents.specs.declared.event.Event.{Event}
-use Rattle.capevents.specs.declared.event.Event.TheVariants as event
-use Rattle.capevents.specs.declared.outcome.Ended.{Ended}
+use Rattle.capsteps.specs.Capevents.declared.event.Event.{Event}
+use Rattle.capsteps.specs.Capevents.declared.event.Event.TheVariants as event
+use Rattle.capsteps.specs.Capevents.declared.outcome.Ended.{Ended}
 use Rattle.capsteps.specs.Touching.{asks_for, Touches, Knows}
-use Rattle.capacts.specs.Known.{known_in, AreKnown, StillKept}
+use Rattle.capsteps.specs.Capacts.Known.{known_in, AreKnown, StillKept}
 
 -- an event asks for it
 pub some-asking : (k : Holder) (ask : Ask) → (e : Event) × (asks_for e ≡ Some (k, ask))

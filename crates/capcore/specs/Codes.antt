@@ -5,15 +5,15 @@ use Rattle.inotree.specs.Tree.{Nodes, nodes_code}
 use Rattle.sessiontab.specs.Table.{SessionTable, table_code}
 use Rattle.captable.specs.Table.{Table}
 use Rattle.captable.specs.Codes as entries
-use Rattle.lockmachine.specs.Locks.{LockMap}
-use Rattle.lockmachine.specs.Codes.{lock_map_code}
-use Rattle.lockmachine.specs.Scene.{Scene}
-use Rattle.capevents.specs.declared.outcome.Ended.{Ended}
-use Rattle.capevents.specs.declared.row.Row.{Row}
-use Rattle.capview.specs.declared.change.ViewChange.{ViewChange}
-use Rattle.capview.specs.contracts.change.ViewChange as view_change
-use Rattle.capevents.specs.contracts.outcome.Ended as ended
-use Rattle.capevents.specs.contracts.row.Row as history_row
+use Rattle.capsteps.specs.Lockmachine.Locks.{LockMap}
+use Rattle.capsteps.specs.Lockmachine.Codes.{lock_map_code}
+use Rattle.capsteps.specs.Lockmachine.Scene.{Scene}
+use Rattle.capsteps.specs.Capevents.declared.outcome.Ended.{Ended}
+use Rattle.capsteps.specs.Capevents.declared.row.Row.{Row}
+use Rattle.capsteps.specs.Capview.declared.change.ViewChange.{ViewChange}
+use Rattle.capsteps.specs.Capview.contracts.change.ViewChange as view_change
+use Rattle.capsteps.specs.Capevents.contracts.outcome.Ended as ended
+use Rattle.capsteps.specs.Capevents.contracts.row.Row as history_row
 use Rattle.capsteps.specs.State.{State}
 use Rattle.capsteps.specs.History.{Told, told}
 

@@ -1,3 +1,8 @@
 pub mod Codes
 pub mod SameEvents
 pub mod Promised
+pub use Rattle.capsteps.specs.Capacts
+pub use Rattle.capsteps.specs.Capevents
+pub use Rattle.capsteps.specs as Capsteps
+pub use Rattle.capsteps.specs.Capview
+pub use Rattle.capsteps.specs.Lockmachine

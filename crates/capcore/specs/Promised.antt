@@ -2,10 +2,10 @@
 -- under its lock: both name this record, so that neither can promise less.
 use Rattle.std.specs.Prelude.{◌≡◌, IsTrue}
 use Rattle.capbits.specs.declared.ids.PassId.{PassId}
-use Rattle.capview.specs.Changes.{AreChanges}
-use Rattle.lockmachine.specs.Moves.{IsAtRest}
-use Rattle.capevents.specs.declared.event.Event.{Event}
-use Rattle.capevents.specs.declared.reply.Reply.{Reply}
+use Rattle.capsteps.specs.Capview.Changes.{AreChanges}
+use Rattle.capsteps.specs.Lockmachine.Moves.{IsAtRest}
+use Rattle.capsteps.specs.Capevents.declared.event.Event.{Event}
+use Rattle.capsteps.specs.Capevents.declared.reply.Reply.{Reply}
 use Rattle.capsteps.specs.State.{State}
 use Rattle.capsteps.specs.Direct.{direct}
 use Rattle.capsteps.specs.Headline.{DeniedExactly, DeniesByName, ServedDenied, ServedByName, EachServing, ByMoves, AreBounded, OtherLocksStay, IssuesExactly, AreInPlace, AreRevoked, NoneConflict, is_stop}

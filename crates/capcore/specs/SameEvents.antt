@@ -1,12 +1,12 @@
 -- Where no request finds no memory, events alone say what is answered and where they lead.
 use Rattle.std.specs.Prelude.{◌≢◌, List, All, map}
 use Rattle.capbits.specs.declared.ids.PassId.{PassId}
-use Rattle.capevents.specs.declared.event.Event.{Event}
-use Rattle.capevents.specs.declared.row.Row.{Row}
-use Rattle.capevents.specs.declared.outcome.Ended.{Ended}
-use Rattle.capevents.specs.declared.outcome.Outcome.TheVariants as outcome
-use Rattle.capevents.specs.declared.reply.Reply.{Reply}
-use Rattle.capevents.specs.declared.reply.Reply.TheVariants as reply
+use Rattle.capsteps.specs.Capevents.declared.event.Event.{Event}
+use Rattle.capsteps.specs.Capevents.declared.row.Row.{Row}
+use Rattle.capsteps.specs.Capevents.declared.outcome.Ended.{Ended}
+use Rattle.capsteps.specs.Capevents.declared.outcome.Outcome.TheVariants as outcome
+use Rattle.capsteps.specs.Capevents.declared.reply.Reply.{Reply}
+use Rattle.capsteps.specs.Capevents.declared.reply.Reply.TheVariants as reply
 
 -- neither the request of this answer nor one of those that ended found no memory
 pub record FoundMemory (answer : Reply) (ended : List Ended) : Type 0 where

@@ -2,30 +2,30 @@
 ghost use Rattle.std.specs.Prelude.{◌≡◌, ℕ, List, None, Some, IfOk, IfErr, OnErr};
 ghost use Rattle.capbits.specs.Refusal.{first_failing};
 ghost use Rattle.captable.specs.Table.{holder};
-ghost use Rattle.lockmachine.specs.declared.request.Ask.TheVariants as ask_kind;
-ghost use Rattle.capevents.specs.declared.event.Event.{Event};
+ghost use Rattle.capsteps.specs.Lockmachine.declared.request.Ask.TheVariants as ask_kind;
+ghost use Rattle.capsteps.specs.Capevents.declared.event.Event.{Event};
 ghost use Rattle.capsteps.specs.Answered.{IsAnswered};
 ghost use Rattle.capsteps.specs.Noted.{view_of};
-ghost use Rattle.capview.specs.Changes.{AreChanges};
-ghost use Rattle.capacts.specs.Asks.{ask_needs};
-ghost use Rattle.capacts.specs.Judge.{asking_tests, waiting_tests, stop};
+ghost use Rattle.capsteps.specs.Capview.Changes.{AreChanges};
+ghost use Rattle.capsteps.specs.Capacts.Asks.{ask_needs};
+ghost use Rattle.capsteps.specs.Capacts.Judge.{asking_tests, waiting_tests, stop};
 ghost use Rattle.capsteps.specs.Sound.{NumbersLeft};
 ghost use Rattle.capsteps.specs.Touching.{asks_for};
 
 use crate::world::World;
-use capacts::judge::{by_test, denial};
-use capacts::serving::{
+use capbits::{ClientId, Ino, Refusal};
+use capsteps::capacts::judge::{by_test, denial};
+use capsteps::capacts::serving::{
     after_refusal, ask_denial, before_refusal, change_access, change_refusal, places_refusal,
     rename_denial,
 };
-use capacts::stop::Stop;
-use capacts::stopped::Stopped;
-use capbits::{ClientId, Ino, Refusal};
+use capsteps::capacts::stop::Stop;
+use capsteps::capacts::stopped::Stopped;
 use capsteps::ended::close_with;
+use capsteps::lockmachine::{Ask, Bytes, Change};
 use capsteps::said::Said;
 use capsteps::settle::end_at_one;
 use captable::Holder;
-use lockmachine::{Ask, Bytes, Change};
 
 impl World {
     // A step of a request: what stops it is answered, and else it waits for the lock, which may serve it at once.
@@ -40,7 +40,7 @@ impl World {
         let _oldest = self.table.oldest();
         if let Some(stopped) = self.ask_stop(client, ino, &ask) {
             drop(ask);
-            return Ok(Said::alone(self.alloc(), stopped.into()));
+            return Ok(Said::alone(self.alloc(), stopped.into_reply()));
         }
         self.wait(client, ino, ask)
     }
@@ -62,7 +62,7 @@ impl World {
         // A look at the entries, by which the proof knows what they keep.
         let _oldest = self.table.oldest();
         if let Some(stopped) = self.change_stop(client, ino, change) {
-            return Ok(Said::alone(self.alloc(), stopped.into()));
+            return Ok(Said::alone(self.alloc(), stopped.into_reply()));
         }
         let change = change.copy(self.alloc())?;
         self.wait(client, ino, Ask::Alter(change))
@@ -86,7 +86,7 @@ impl World {
         // A look at the entries, by which the proof knows what they keep.
         let _oldest = self.table.oldest();
         if let Some(stopped) = self.rename_stop(client, ino, dir, name.as_slice()) {
-            return Ok(Said::alone(self.alloc(), stopped.into()));
+            return Ok(Said::alone(self.alloc(), stopped.into_reply()));
         }
         let name = Bytes::read(self.alloc(), name.as_slice())?;
         self.wait(client, ino, Ask::Rename { dir, name })

@@ -2,26 +2,26 @@
 ghost use Rattle.std.specs.Prelude.{◌≡◌, IfOk, IfErr, OnErr};
 ghost use Rattle.capbits.specs.Refusal.{first_failing};
 ghost use Rattle.captable.specs.Table.{holder};
-ghost use Rattle.capevents.specs.declared.event.Event.TheVariants as event;
+ghost use Rattle.capsteps.specs.Capevents.declared.event.Event.TheVariants as event;
 ghost use Rattle.capsteps.specs.Answered.{IsAnswered};
 ghost use Rattle.capsteps.specs.Noted.{view_of};
-ghost use Rattle.capview.specs.Changes.{AreChanges};
-ghost use Rattle.capacts.specs.Asks as words;
-ghost use Rattle.capacts.specs.Judge.{judged, flush_tests};
+ghost use Rattle.capsteps.specs.Capview.Changes.{AreChanges};
+ghost use Rattle.capsteps.specs.Capacts.Asks as words;
+ghost use Rattle.capsteps.specs.Capacts.Judge.{judged, flush_tests};
 ghost use Rattle.capsteps.specs.Sound.{NumbersLeft};
 
 use crate::world::World;
-use capacts::judge::{by_test, denial};
-use capacts::serving::{alter, change_access, change_refusal};
-use capacts::stop::Stop;
-use capacts::stopped::Stopped;
 use capbits::{Cap, CapSet, ClientId, Ino, Part, Refusal};
-use capevents::Reply;
+use capsteps::capacts::judge::{by_test, denial};
+use capsteps::capacts::serving::{alter, change_access, change_refusal};
+use capsteps::capacts::stop::Stop;
+use capsteps::capacts::stopped::Stopped;
+use capsteps::capevents::Reply;
 use capsteps::ended::close;
+use capsteps::lockmachine::Change;
 use capsteps::said::Said;
 use capsteps::settle::end_at_one;
 use captable::Holder;
-use lockmachine::Change;
 
 impl World {
     // A step of a flush. It waits for no lock.
@@ -40,7 +40,7 @@ impl World {
         // A look at the entries, by which the proof knows what they keep.
         let _oldest = self.table.oldest();
         if let Some(stopped) = self.flush_stop(client, ino, change) {
-            return Ok(Said::alone(self.alloc(), stopped.into()));
+            return Ok(Said::alone(self.alloc(), stopped.into_reply()));
         }
         let waiting = self.locks.waiting();
         self.endings.begin(waiting, waiting + 2)?;

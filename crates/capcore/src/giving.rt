@@ -3,10 +3,10 @@
 ghost use Rattle.std.specs.Prelude.{◌≡◌, ℕ};
 ghost use Rattle.captable.specs.Table.{IsTable};
 ghost use Rattle.captable.specs.Calls.{recalled};
-ghost use Rattle.lockmachine.specs.Scene.{Scene};
+ghost use Rattle.capsteps.specs.Lockmachine.Scene.{Scene};
 ghost use Rattle.capsteps.specs.State.{State};
 ghost use Rattle.capsteps.specs.Direct.{Answer, shown, with_table};
-ghost use Rattle.capacts.specs.Finish.{finished};
+ghost use Rattle.capsteps.specs.Capacts.Finish.{finished};
 ghost use Rattle.capsteps.specs.Headline.{IssuesExactly};
 ghost use Rattle.capsteps.specs.Sound.{IsSound, AreGiven};
 

@@ -3,13 +3,13 @@
 ghost use Rattle.std.specs.Prelude.{◌≡◌, ◌+◌, false, List, None};
 ghost use Rattle.capbits.specs.declared.ids.ClientId.{ClientId};
 ghost use Rattle.capbits.specs.declared.ids.Ino.{Ino};
-ghost use Rattle.lockmachine.specs.declared.request.Ask.{Ask};
-ghost use Rattle.lockmachine.specs.Locks.{IsLockMap, next_request, with_request};
-ghost use Rattle.lockmachine.specs.Scene.{Scene};
+ghost use Rattle.capsteps.specs.Lockmachine.declared.request.Ask.{Ask};
+ghost use Rattle.capsteps.specs.Lockmachine.Locks.{IsLockMap, next_request, with_request};
+ghost use Rattle.capsteps.specs.Lockmachine.Scene.{Scene};
 ghost use Rattle.capsteps.specs.State.{State};
 ghost use Rattle.capsteps.specs.Direct.{Awaits, reply_of};
 ghost use Rattle.capsteps.specs.Headline.{is_stop};
-ghost use Rattle.capacts.specs.Serving.{judged_again};
+ghost use Rattle.capsteps.specs.Capacts.Serving.{judged_again};
 ghost use Rattle.capsteps.specs.Settle.{Made, MakesAll, ended_in};
 ghost use Rattle.capsteps.specs.Sound.{IsSound};
 

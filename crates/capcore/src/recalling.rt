@@ -1,14 +1,14 @@
 //! The step of a recall: clients are asked to give back what they have not used for longest.
 ghost use Rattle.std.specs.Prelude.{◌≡◌, IfOk, IfErr, OnErr};
-ghost use Rattle.capevents.specs.declared.event.Event.TheVariants as event;
+ghost use Rattle.capsteps.specs.Capevents.declared.event.Event.TheVariants as event;
 ghost use Rattle.capsteps.specs.Answered.{IsAnswered};
 ghost use Rattle.capsteps.specs.Noted.{view_of};
-ghost use Rattle.capview.specs.Changes.{AreChanges};
+ghost use Rattle.capsteps.specs.Capview.Changes.{AreChanges};
 
 use crate::world::World;
-use capacts::stop::Stop;
-use capevents::{EndedList, Reply};
-use capnotes::ChangeList;
+use capsteps::capacts::stop::Stop;
+use capsteps::capevents::{EndedList, Reply};
+use capsteps::capnotes::ChangeList;
 use capsteps::said::Said;
 
 impl World {

@@ -2,11 +2,11 @@
 
 ghost use Rattle.std.specs.Prelude.{◌++◌, [], ◌∷◌, List};
 ghost use Rattle.captable.specs.Table.{IsTable};
-ghost use Rattle.lockmachine.specs.Scene.{Scene};
-ghost use Rattle.capevents.specs.declared.row.Row.{Row};
+ghost use Rattle.capsteps.specs.Lockmachine.Scene.{Scene};
+ghost use Rattle.capsteps.specs.Capevents.declared.row.Row.{Row};
 ghost use Rattle.capsteps.specs.State.{State};
 ghost use Rattle.capsteps.specs.Direct.{direct};
-ghost use Rattle.capevents.specs.declared.event.Event.{Event};
+ghost use Rattle.capsteps.specs.Capevents.declared.event.Event.{Event};
 ghost use Rattle.capsteps.specs.Headline.{IssuesExactly};
 ghost use Rattle.capsteps.specs.Sound.{IsSound};
 ghost use Rattle.capsteps.specs.Step.{Step};

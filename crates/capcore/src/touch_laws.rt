@@ -1,12 +1,12 @@
 //! How an event becomes a step. No program needs to call this law.
 
 ghost use Rattle.std.specs.Prelude.{◌≡◌, List};
-ghost use Rattle.lockmachine.specs.Scene.{Scene};
-ghost use Rattle.capevents.specs.declared.event.Event.{Event};
-ghost use Rattle.capevents.specs.declared.reply.Reply.{Reply};
+ghost use Rattle.capsteps.specs.Lockmachine.Scene.{Scene};
+ghost use Rattle.capsteps.specs.Capevents.declared.event.Event.{Event};
+ghost use Rattle.capsteps.specs.Capevents.declared.reply.Reply.{Reply};
 ghost use Rattle.capsteps.specs.State.{State};
 ghost use Rattle.capsteps.specs.Direct.{direct, reply_of, shown};
-ghost use Rattle.capacts.specs.Finish.{sizes_owed, finished};
+ghost use Rattle.capsteps.specs.Capacts.Finish.{sizes_owed, finished};
 ghost use Rattle.capsteps.specs.Settle.{Made, Settles, ended_in, sized_in};
 ghost use Rattle.capsteps.specs.Step.{Step, all_ended, state_at_end};
 

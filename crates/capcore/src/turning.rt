@@ -1,16 +1,16 @@
 //! Steps by which a client's session ends, becomes stale, is open again or has other grants.
 ghost use Rattle.std.specs.Prelude.{◌≡◌, IfOk, IfErr, OnErr};
-ghost use Rattle.capview.specs.Changes.{AreChanges};
+ghost use Rattle.capsteps.specs.Capview.Changes.{AreChanges};
 ghost use Rattle.capsteps.specs.Answered.{IsAnswered};
 ghost use Rattle.capsteps.specs.Noted.{view_of};
 ghost use Rattle.capsteps.specs.Sound.{NumbersLeft};
 ghost use Rattle.capsteps.specs.Turn.{turn_event};
 
 use crate::world::World;
-use capacts::leaving::{Turn, leave};
-use capacts::stop::Stop;
 use capbits::ClientId;
-use capevents::Reply;
+use capsteps::capacts::leaving::{Turn, leave};
+use capsteps::capacts::stop::Stop;
+use capsteps::capevents::Reply;
 use capsteps::client::{Room, turn_refusal, turn_session};
 use capsteps::ended::close_dropped;
 use capsteps::said::Said;

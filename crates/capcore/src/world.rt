@@ -7,43 +7,43 @@ ghost use Rattle.capsteps.specs.Sound.{IsSound, NumbersLeft};
 ghost use Rattle.capsteps.specs.Touch.{touch_event};
 ghost use Rattle.capsteps.specs.Touching.{touched_by, turned_by, is_listing};
 ghost use Rattle.captable.specs.Table.{IsTable, holder, entry_at};
-ghost use Rattle.lockmachine.specs.Locks.{lock_at, IsLockMap};
+ghost use Rattle.capsteps.specs.Lockmachine.Locks.{lock_at, IsLockMap};
 ghost use Rattle.sessiontab.specs.Calls.{status_of, with_session};
 ghost use Rattle.sessiontab.specs.Tests.{new_session_tests};
-ghost use Rattle.capacts.specs.Judge.{judged, stop, before, asked_tests, connected_tests, opening_needs, opening_tests, room_for};
-ghost use Rattle.capacts.specs.Needs.{need};
+ghost use Rattle.capsteps.specs.Capacts.Judge.{judged, stop, before, asked_tests, connected_tests, opening_needs, opening_tests, room_for};
+ghost use Rattle.capsteps.specs.Capacts.Needs.{need};
 ghost use Rattle.captable.specs.Tests.{entry_test};
 ghost use Rattle.std.specs.FinMap as map;
 ghost use Rattle.capsteps.specs.Direct.{Says, IsDirect, direct, made_event, owned_by, with_birth, with_sessions};
 ghost use Rattle.capsteps.specs.History.{IsOpening, HasNoStray};
 ghost use Rattle.capsteps.specs.Answered.{IsAnswered};
 ghost use Rattle.capsteps.specs.Noted.{view_of};
-ghost use Rattle.capview.specs.Changes.{AreChanges};
-ghost use Rattle.capview.specs.Sight.{Shows};
+ghost use Rattle.capsteps.specs.Capview.Changes.{AreChanges};
+ghost use Rattle.capsteps.specs.Capview.Sight.{Shows};
 ghost use Rattle.capbits.specs.Refusal.{first_failing};
-ghost use Rattle.capevents.specs.declared.event.Event.TheVariants as event;
+ghost use Rattle.capsteps.specs.Capevents.declared.event.Event.TheVariants as event;
 
-use capacts::judge::{by_test, denial};
-use capacts::known::Known;
-use capacts::leaving::Turn;
-use capacts::stop::Stop;
-use capacts::stopped::Stopped;
 use capbits::{Caller, CapSet, ClientId, Ino, Mode, Part, Refusal};
-use capevents::{EndedList, Event, OpenMode, Reply, copy_of_messages};
 use capgrant::{Access, Attr};
-use capnotes::{ChangeList, Messages, ToldNumbers};
 use capspec::{FsName, Grants};
+use capsteps::capacts::judge::{by_test, denial};
+use capsteps::capacts::known::Known;
+use capsteps::capacts::leaving::Turn;
+use capsteps::capacts::stop::Stop;
+use capsteps::capacts::stopped::Stopped;
+use capsteps::capevents::{EndedList, Event, OpenMode, Reply, copy_of_messages};
+use capsteps::capnotes::{ChangeList, Messages, ToldNumbers};
+use capsteps::capview::ViewChange;
 use capsteps::ended::close;
 use capsteps::endings::Endings;
+use capsteps::lockmachine::{Ask, Locks};
 use capsteps::poll::{due_messages, give};
 use capsteps::said::Said;
 use capsteps::settle::end_at_entry;
 use capsteps::start::first_locks;
 use capsteps::touch::{Touch, revoked_of, tell, touch_entry};
 use captable::{CapTable, Entry, Holder};
-use capview::ViewChange;
 use inotree::{Kind, Tree};
-use lockmachine::{Ask, Locks};
 use locktable::LockState;
 use sessiontab::{Sessions, Status};
 use std::alloc::{AllocError, Global};
@@ -88,8 +88,8 @@ impl Model for World {
     ghost use Rattle.capsteps.specs.Sound.{IsSound, NumbersLeft};
     ghost use Rattle.capsteps.specs.Touch.{touch_event};
     ghost use Rattle.capsteps.specs.Touching.{touched_by, is_listing};
-    ghost use Rattle.capnotes.specs.Untold.{HasRoom};
-    ghost use Rattle.capacts.specs.Known.{AreKnown};
+    ghost use Rattle.capsteps.specs.Capnotes.Untold.{HasRoom};
+    ghost use Rattle.capsteps.specs.Capacts.Known.{AreKnown};
 
     ghost Value = { State };
 
@@ -217,7 +217,7 @@ impl World {
         let (_last, _oldest) = (self.tree.last(), self.table.oldest());
         let holder = Holder { client, ino };
         if let Some(stopped) = self.touch_stop(holder, &touch) {
-            return Ok(Said::alone(self.alloc(), stopped.into()));
+            return Ok(Said::alone(self.alloc(), stopped.into_reply()));
         }
         let revoked = revoked_of(&self.table, &self.known, holder);
         let waiting = self.locks.waiting();
@@ -423,7 +423,7 @@ impl World {
             return Reply::Refused(Refusal::NoEnt);
         };
         match self.denial(client, ino, Access::Read) {
-            Some(denied) => denied.into(),
+            Some(denied) => denied.into_reply(),
             None => Reply::Ino(ino),
         }
     }
@@ -445,7 +445,7 @@ impl World {
         ensures memory { IfErr result (λ stop. stop ≡ Stop.NoMemory) }
     {
         if let Some(stopped) = self.stop(client, dir, Access::Write) {
-            return Ok(stopped.into());
+            return Ok(stopped.into_reply());
         }
         if let Some(refusal) = self.tree.new_inode_refusal(dir, name) {
             return Ok(Reply::Refused(refusal));
@@ -483,7 +483,7 @@ impl World {
         ensures memory { IfErr result (λ stop. stop ≡ Stop.NoMemory) }
     {
         if let Some(stopped) = self.stop(client, ino, Access::Snapshot) {
-            return Ok(stopped.into());
+            return Ok(stopped.into_reply());
         }
         if let Some(refusal) = self.tree.new_snapshot_refusal(ino, name) {
             return Ok(Reply::Refused(refusal));
@@ -499,7 +499,7 @@ impl World {
         ensures memory { IfErr result (λ stop. stop ≡ Stop.NoMemory) }
     {
         if let Some(stopped) = self.stop(client, ino, Access::Snapshot) {
-            return Ok(stopped.into());
+            return Ok(stopped.into_reply());
         }
         if let Some(refusal) = self.tree.old_snapshot_refusal(ino, name) {
             return Ok(Reply::Refused(refusal));

@@ -1,0 +1,1 @@
+pub use Rattle.lockmachine.proofs as Lockmachine

@@ -1,1 +1,2 @@
 pub mod Replies
+pub use Rattle.lockmachine.specs as Lockmachine

@@ -1,3 +1,7 @@
 pub mod Hex
 pub mod Texts
 pub mod Numbered
+pub use Rattle.capremarks.proofs.Capcompare
+pub use Rattle.capevents.proofs as Capevents
+pub use Rattle.capremarks.proofs as Capremarks
+pub use Rattle.capevents.proofs.Lockmachine

@@ -9,8 +9,8 @@ use Rattle.capspec.specs.declared.grant.Grant.{Grant}
 use Rattle.capspec.specs.Written.{written}
 use Rattle.inotree.specs.declared.node.Setting.{Setting}
 use Rattle.inotree.specs.declared.node.Setting.TheVariants.{Mode, Uid, Gid, Size, Time}
-use Rattle.lockmachine.specs.declared.request.Change.{Change}
-use Rattle.lockmachine.specs.declared.request.Change.TheVariants.{Set, SetXattr, RemoveXattr}
+use Rattle.capevents.specs.Lockmachine.declared.request.Change.{Change}
+use Rattle.capevents.specs.Lockmachine.declared.request.Change.TheVariants.{Set, SetXattr, RemoveXattr}
 use Rattle.capevents.specs.declared.event.Event.{Event}
 use Rattle.capevents.specs.declared.event.Event.TheVariants as event
 use Rattle.capexplain.specs.declared.change_word.ChangeWord.{ChangeWord}

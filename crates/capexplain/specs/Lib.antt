@@ -9,3 +9,7 @@ pub mod Quoting
 pub mod Remarks
 pub mod Comparing
 pub mod Linting
+pub use Rattle.capremarks.specs.Capcompare
+pub use Rattle.capevents.specs as Capevents
+pub use Rattle.capremarks.specs as Capremarks
+pub use Rattle.capevents.specs.Lockmachine

@@ -2,7 +2,7 @@
 use Rattle.std.specs.Prelude.{ℕ, Bool, not, is_some, List, [], ◌++◌, codes, if◌then◌else◌}
 use Rattle.std.specs.Fmt.{decimal}
 use Rattle.std.specs.List.{flat_map}
-use Rattle.capcompare.specs.declared.finding.Finding.{Finding}
+use Rattle.capremarks.specs.Capcompare.declared.finding.Finding.{Finding}
 use Rattle.capexplain.specs.Comparing.{found_line}
 
 abbrev pub covered_text : List ℕ

@@ -7,8 +7,8 @@ use crate::explaining::print_path;
 use crate::part_text::print_mode;
 use crate::quoting::print_quoted;
 use capbits::Caller;
-use capcompare::Witness;
 use capgrant::Attr;
+use capremarks::capcompare::Witness;
 use captext::{print, print_str};
 use std::alloc::{AllocError, Global};
 

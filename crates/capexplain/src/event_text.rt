@@ -11,11 +11,11 @@ use crate::change_word::ChangeWord;
 use crate::command::Command;
 use crate::part_text::{print_bytes, print_mode};
 use capbits::{Caller, CapSet, ClientId, Groups, Ino, Mode, Part};
+use capevents::lockmachine::{Bytes, Change};
 use capevents::{Event, OpenMode};
 use capspec::{Grants, write_grants};
 use captext::{print_caps, print_number, print_numbered, print_str};
 use inotree::Setting;
-use lockmachine::{Bytes, Change};
 use std::alloc::{AllocError, Global};
 
 /// The line of a script that says the event, without its line feed: grants in their written form or `none`, modes as four octal

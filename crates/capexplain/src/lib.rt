@@ -20,6 +20,10 @@ mod reply;
 
 pub use access::read_access;
 pub use audit::{append_audit_line, audit_line};
+pub use capevents;
+pub use capevents::lockmachine;
+pub use capremarks;
+pub use capremarks::capcompare;
 pub use change_word::ChangeWord;
 pub use command::Command;
 pub use comparing::comparison_lines;

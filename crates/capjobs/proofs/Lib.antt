@@ -1,2 +1,9 @@
 mod NewPasses
 mod Writing
+pub use Rattle.capserver.proofs.Capcore
+pub use Rattle.capscript.proofs.Capexplain
+pub use Rattle.capscript.proofs.Caplines
+pub use Rattle.capplan.proofs as Capplan
+pub use Rattle.capscript.proofs as Capscript
+pub use Rattle.capserver.proofs as Capserver
+pub use Rattle.capscript.proofs.Capstreams

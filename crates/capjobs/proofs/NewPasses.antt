@@ -2,7 +2,7 @@
 use Rattle.std.proofs.Common.{◌≡◌, ℕ, ◌+◌, ◌<◌, ◌≤◌, List, [], ◌∷◌, ◌++◌, length, get_or, refl, sym, ap, ◌∙◌, arith}
 use Rattle.std.specs.List.{sum_by, remove}
 use Rattle.std.proofs.lemmas.List.Sums.{sum_by-cons, sum_by_push}
-use Rattle.cappass.specs.Passes.{PassState, AllNew}
+use Rattle.capserver.specs.Cappass.Passes.{PassState, AllNew}
 
 none_called : (n : ℕ) (ps : List PassState) → AllNew n ps → sum_by (λ p. p.calls) ps ≡ 0
 none_called n [] new = refl

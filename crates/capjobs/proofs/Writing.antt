@@ -3,10 +3,10 @@ use Rattle.std.proofs.Common.{◌≡◌, ℕ, ◌+◌, Option, Some, None, List,
 use Rattle.std.specs.Prelude.{◌⊎◌, Result, Err, IfSome}
 use Rattle.std.specs.Io.KnownBytes.{Appends, Consumes, IsAtEnd}
 use Rattle.std.proofs.lemmas.List.{append-nil}
-use Rattle.caplines.specs.Lines.{lines}
-use Rattle.caplines.specs.declared.fault.ScriptFault.{ScriptFault}
-use Rattle.caplines.specs.declared.fault.ScriptFault.TheVariants as stops
-use Rattle.capstreams.proofs.KnownBytes.{none_appended}
+use Rattle.capscript.specs.Caplines.Lines.{lines}
+use Rattle.capscript.specs.Caplines.declared.fault.ScriptFault.{ScriptFault}
+use Rattle.capscript.specs.Caplines.declared.fault.ScriptFault.TheVariants as stops
+use Rattle.capscript.proofs.Capstreams.KnownBytes.{none_appended}
 use Rattle.capplan.specs.declared.fault.ServeFault.{ServeFault}
 use Rattle.capplan.specs.declared.fault.ServeFault.TheVariants.{Script, Clients, HistoryFull}
 use Rattle.capplan.specs.Jobs.{Work, no_work, IsFaultAt, StopsAt}

@@ -2,12 +2,12 @@
 use Rattle.std.specs.Prelude.{◌≡◌, ◌≤◌, ℕ, List, [], ◌++◌, Result, Ok, Err, length, codes}
 use Rattle.std.specs.List.{flat_map}
 use Rattle.inotree.specs.Calls.{first_tree}
-use Rattle.capevents.specs.declared.row.Row.{Row}
-use Rattle.capsteps.specs.History.{IsOpening, IsLegal}
-use Rattle.capsteps.specs.State.{State}
-use Rattle.capexplain.specs.Audit.{audit_text}
+use Rattle.capserver.specs.Capevents.declared.row.Row.{Row}
+use Rattle.capserver.specs.Capsteps.History.{IsOpening, IsLegal}
+use Rattle.capserver.specs.Capsteps.State.{State}
+use Rattle.capscript.specs.Capexplain.Audit.{audit_text}
 use Rattle.capscript.specs.Transcript.{fs_name, root_attr}
-use Rattle.caplines.specs.declared.fault.ScriptFault.TheVariants as stops
+use Rattle.capscript.specs.Caplines.declared.fault.ScriptFault.TheVariants as stops
 use Rattle.capplan.specs.declared.fault.ServeFault.{ServeFault}
 use Rattle.capplan.specs.declared.fault.ServeFault.TheVariants.{Script, Clients, HistoryFull}
 use Rattle.capplan.specs.Jobs.{Work, no_work, event_count, TakesAll, StopsAt}

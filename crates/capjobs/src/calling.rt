@@ -1,11 +1,11 @@
 //! The calls of a plan, each client's by a thread and a pass of its own.
 ghost use Rattle.std.specs.Prelude.{◌≡◌, ◌≤◌, ◌+◌, length, vec_len, IfOk, IsTrue};
 ghost use Rattle.std.specs.List.{sum_by};
-ghost use Rattle.cappass.specs.Passes.{AllNew};
+ghost use Rattle.capserver.specs.Cappass.Passes.{AllNew};
 ghost use Rattle.capplan.specs.Jobs.{work_of, event_count};
 
-use capevents::Event;
 use capplan::{Job, Plan};
+use capserver::capevents::Event;
 use capserver::{CapServer, Gate, Pass, Server};
 use std::alloc::{AllocError, Global};
 use std::sync::Wait;

@@ -5,5 +5,10 @@ mod audit;
 mod calling;
 mod serving;
 
+pub use capplan;
 pub use capplan::{Job, MAX_CLIENTS, Plan, ServeFault, read_plan};
+pub use capscript;
+pub use capscript::{capexplain, caplines, capstreams};
+pub use capserver;
+pub use capserver::capcore;
 pub use serving::{serve, serve_plan};

@@ -1,21 +1,21 @@
 //! Serving a script: what its lines call is called by the passes of a server, and the history of that is written.
 ghost use Rattle.std.specs.Prelude.{◌≡◌, ◌≢◌, ◌<◌, ◌≤◌, ◌+◌, ◌⊎◌, ◌↔◌, ℕ, List, Err, length, vec_len, IfOk, IfErr, IfSome, OnErr, IsTrue, IsFalse};
 ghost use Rattle.std.specs.Io.KnownBytes.{Appends, Keeps};
-ghost use Rattle.capsteps.specs.History.{IsLegal};
-ghost use Rattle.capacts.specs.declared.stop.Stop.TheVariants as stop_kind;
+ghost use Rattle.capserver.specs.Capsteps.History.{IsLegal};
+ghost use Rattle.capserver.specs.Capacts.declared.stop.Stop.TheVariants as stop_kind;
 ghost use Rattle.capserver.specs.Opened.{opened};
-ghost use Rattle.caplines.specs.Lines.{lines, longest_script};
-ghost use Rattle.caplines.specs.declared.fault.ScriptFault.TheVariants as stops;
-ghost use Rattle.capstreams.specs.Watched.{inner_of, has_failed, has_ended};
+ghost use Rattle.capscript.specs.Caplines.Lines.{lines, longest_script};
+ghost use Rattle.capscript.specs.Caplines.declared.fault.ScriptFault.TheVariants as stops;
+ghost use Rattle.capscript.specs.Capstreams.Watched.{inner_of, has_failed, has_ended};
 ghost use Rattle.capplan.specs.declared.fault.ServeFault.TheVariants as faults;
 ghost use Rattle.capplan.specs.Jobs.{work_of, event_count};
 ghost use Rattle.capjobs.specs.Served.{IsHistory, IsServed, IsUnserved, IsWritten, most_rows};
 
 use crate::audit::audit_lines;
 use crate::calling::{Called, call_all};
-use capcore::{Core, Stop};
 use capplan::{Plan, ServeFault, read_plan};
 use capscript::{Watched, file_system, read_script, write_text};
+use capserver::capcore::{Core, Stop};
 use capserver::{CapServer, Closed, Gate, NoGate, Opening, Server};
 use std::alloc::Global;
 use std::io::{Read, Write};

@@ -2,3 +2,4 @@ pub mod LineWords
 pub mod Numerals
 pub mod GroupNumbers
 pub mod SaidLines
+pub use Rattle.capexplain.proofs as Capexplain

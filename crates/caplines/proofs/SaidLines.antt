@@ -14,8 +14,8 @@ use Rattle.capspec.specs.Faults.{IsFault, IsNoMemory}
 use Rattle.capspec.specs.Grants.{Reads as MeansGrants}
 use Rattle.capspec.proofs.OneReading.{one_fault as one_grant_fault, reads_once, reads_no_fault}
 use Rattle.capspec.proofs.Told.{fault_told}
-use Rattle.capevents.specs.declared.event.Event.{Event}
-use Rattle.capevents.specs.declared.event.Event.TheVariants as events
+use Rattle.capexplain.specs.Capevents.declared.event.Event.{Event}
+use Rattle.capexplain.specs.Capevents.declared.event.Event.TheVariants as events
 use Rattle.caplines.specs.declared.fault.LineFault.{LineFault}
 use Rattle.caplines.specs.declared.fault.LineFault.TheVariants as faults
 use Rattle.caplines.specs.declared.fault.Refused.{Refused}

@@ -8,10 +8,10 @@ use Rattle.capbits.specs.Caps.{Caps}
 use Rattle.capspec.specs.declared.grant.Grant.{Grant}
 use Rattle.capspec.specs.Grants.{Reads as MeansGrants}
 use Rattle.inotree.specs.declared.node.Setting.TheVariants.{Mode, Uid, Gid, Size, Time}
-use Rattle.lockmachine.specs.declared.request.Change.{Change}
-use Rattle.lockmachine.specs.declared.request.Change.TheVariants.{Set, SetXattr, RemoveXattr}
-use Rattle.capevents.specs.declared.event.Event.{Event}
-use Rattle.capevents.specs.declared.event.Event.TheVariants as events
+use Rattle.capexplain.specs.Lockmachine.declared.request.Change.{Change}
+use Rattle.capexplain.specs.Lockmachine.declared.request.Change.TheVariants.{Set, SetXattr, RemoveXattr}
+use Rattle.capexplain.specs.Capevents.declared.event.Event.{Event}
+use Rattle.capexplain.specs.Capevents.declared.event.Event.TheVariants as events
 use Rattle.capexplain.specs.declared.change_word.ChangeWord.{ChangeWord}
 use Rattle.capexplain.specs.declared.change_word.ChangeWord.TheVariants as words
 use Rattle.capexplain.specs.declared.command.Command.{Command}

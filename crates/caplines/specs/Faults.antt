@@ -3,7 +3,7 @@ use Rattle.std.specs.Prelude.{◌≡◌, ◌≢◌, ℕ, List}
 use Rattle.capspec.specs.declared.fault.SpecFault.{SpecFault}
 use Rattle.capspec.specs.declared.fault.SpecFaultKind.TheVariants as kinds
 use Rattle.capspec.specs.Faults.{IsFault}
-use Rattle.capevents.specs.declared.event.Event.{Event}
+use Rattle.capexplain.specs.Capevents.declared.event.Event.{Event}
 use Rattle.caplines.specs.declared.fault.LineFault.{LineFault}
 use Rattle.caplines.specs.declared.fault.LineFault.TheVariants as faults
 use Rattle.caplines.specs.declared.fault.Refused.{Refused}

@@ -4,3 +4,4 @@ pub mod Values
 pub mod Changes
 pub mod Events
 pub mod Faults
+pub use Rattle.capexplain.specs as Capexplain

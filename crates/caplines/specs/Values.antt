@@ -12,8 +12,8 @@ use Rattle.capbits.specs.declared.cap.Part.TheVariants.{A, L, X, F}
 use Rattle.capbits.specs.declared.ids.ClientId.{ClientId}
 use Rattle.capbits.specs.declared.ids.Ino.{Ino}
 use Rattle.capspec.specs.Items.{is_comma}
-use Rattle.capevents.specs.declared.event.OpenMode.{OpenMode}
-use Rattle.capevents.specs.declared.event.OpenMode.TheVariants as opens
+use Rattle.capexplain.specs.Capevents.declared.event.OpenMode.{OpenMode}
+use Rattle.capexplain.specs.Capevents.declared.event.OpenMode.TheVariants as opens
 use Rattle.capexplain.specs.Words.{open_word, part_word}
 use Rattle.caplines.specs.declared.fault.LineFault.{LineFault}
 use Rattle.caplines.specs.declared.fault.LineFault.TheVariants.{Number, Mode, Hex}

@@ -1,7 +1,7 @@
 //! The changes that lines say.
 ghost use Rattle.std.specs.Prelude.{◌≡◌, ◌∷◌, [], map, MatchResult};
-ghost use Rattle.lockmachine.specs.declared.request.Change.{Change as AChange};
-ghost use Rattle.capevents.specs.declared.event.Event.{Event as AnEvent};
+ghost use Rattle.capexplain.specs.Lockmachine.declared.request.Change.{Change as AChange};
+ghost use Rattle.capexplain.specs.Capevents.declared.event.Event.{Event as AnEvent};
 ghost use Rattle.caplines.specs.Changes as changes;
 ghost use Rattle.caplines.specs.Events.{Tells, says_change, says_kind};
 ghost use Rattle.caplines.specs.Faults.{IsRefused};
@@ -11,8 +11,8 @@ use crate::fault::{LineFault, Refused};
 use crate::hex::read_bytes;
 use crate::values::{read_long_number, read_number, read_permissions};
 use capexplain::ChangeWord;
+use capexplain::lockmachine::{Bytes, Change};
 use inotree::Setting;
-use lockmachine::{Bytes, Change};
 use std::alloc::Global;
 
 const KINDS: [ChangeWord; 7] = [

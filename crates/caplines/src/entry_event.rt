@@ -3,7 +3,7 @@ ghost use Rattle.std.specs.Prelude.{map, MatchResult};
 ghost use Rattle.capbits.specs.Caps.{Caps};
 ghost use Rattle.capbits.specs.declared.ids.ClientId.{ClientId as AClient};
 ghost use Rattle.capbits.specs.declared.ids.Ino.{Ino as AnIno};
-ghost use Rattle.capevents.specs.declared.event.Event.{Event as AnEvent};
+ghost use Rattle.capexplain.specs.Capevents.declared.event.Event.{Event as AnEvent};
 ghost use Rattle.caplines.specs.Events.{Tells, ack_by, caps_by, open_by, poll_by};
 ghost use Rattle.caplines.specs.Faults.{IsRefused};
 
@@ -12,7 +12,7 @@ use crate::values::{
     read_cap_set, read_client, read_ino, read_long_number, read_number, read_open_mode,
 };
 use capbits::{CapSet, ClientId, Ino};
-use capevents::Event;
+use capexplain::capevents::Event;
 
 // Capabilities on an inode, and whose they are.
 #[derive(Clone, Copy)]

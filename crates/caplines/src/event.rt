@@ -3,7 +3,7 @@ ghost use Rattle.std.specs.Prelude.{◌≡◌, ℕ, List, map, MatchResult};
 ghost use Rattle.capbits.specs.declared.ids.ClientId.{ClientId as AClient};
 ghost use Rattle.capbits.specs.declared.ids.Ino.{Ino as AnIno};
 ghost use Rattle.capspec.specs.declared.grant.Grant.{Grant as AGrant};
-ghost use Rattle.capevents.specs.declared.event.Event.{Event as AnEvent};
+ghost use Rattle.capexplain.specs.Capevents.declared.event.Event.{Event as AnEvent};
 ghost use Rattle.caplines.specs.Events.{Tells, said_in, said_with, session_by, regrant_by, named_by, new_inode_by, granting};
 ghost use Rattle.caplines.specs.Faults.{IsRefused};
 ghost use Rattle.caplines.specs.Words.{arguments_in};
@@ -19,10 +19,10 @@ use crate::session_event::{read_only_client, read_recall};
 use crate::values::{read_client, read_groups, read_ino, read_number, read_permissions};
 use crate::words::{split_at_space, split_words};
 use capbits::{Caller, ClientId, Ino, Mode};
-use capevents::Event;
 use capexplain::Command;
+use capexplain::capevents::Event;
+use capexplain::lockmachine::Bytes;
 use capspec::{Grants, read_grants};
-use lockmachine::Bytes;
 use std::alloc::Global;
 
 // A name in a directory, and who asks for it.

@@ -2,13 +2,13 @@
 ghost use Rattle.std.specs.Prelude.{◌≡◌, ℕ, ◌<◌, List, IsTrue, IfOk, MatchResult};
 ghost use Rattle.std.specs.Char.{digit_value};
 ghost use Rattle.std.specs.List.{list_all};
-ghost use Rattle.capevents.specs.declared.event.Event.{Event as AnEvent};
+ghost use Rattle.capexplain.specs.Capevents.declared.event.Event.{Event as AnEvent};
 ghost use Rattle.caplines.specs.Events.{Tells, says_bytes};
 ghost use Rattle.caplines.specs.Faults.{IsRefused};
 ghost use Rattle.caplines.specs.Values.{hex_bytes, is_hex, is_hex_digit};
 
 use crate::fault::{LineFault, Refused};
-use lockmachine::Bytes;
+use capexplain::lockmachine::Bytes;
 use std::alloc::{AllocError, Global};
 
 // The bytes that the word writes, whatever is said of them: two digits for each, or `-` for none.

@@ -2,8 +2,8 @@
 ghost use Rattle.std.specs.Prelude.{map, MatchResult};
 ghost use Rattle.capbits.specs.declared.ids.ClientId.{ClientId as AClient};
 ghost use Rattle.capbits.specs.declared.ids.Ino.{Ino as AnIno};
-ghost use Rattle.lockmachine.specs.declared.request.Change.{Change as AChange};
-ghost use Rattle.capevents.specs.declared.event.Event.{Event as AnEvent};
+ghost use Rattle.capexplain.specs.Lockmachine.declared.request.Change.{Change as AChange};
+ghost use Rattle.capexplain.specs.Capevents.declared.event.Event.{Event as AnEvent};
 ghost use Rattle.caplines.specs.Events.{Tells, change_by, get_by, inode_by, rename_by};
 ghost use Rattle.caplines.specs.Faults.{IsRefused};
 
@@ -11,8 +11,8 @@ use crate::change::{is_counted, read_change};
 use crate::fault::{LineFault, Refused};
 use crate::values::{read_client, read_ino, read_part};
 use capbits::{ClientId, Ino};
-use capevents::Event;
-use lockmachine::{Bytes, Change};
+use capexplain::capevents::Event;
+use capexplain::lockmachine::{Bytes, Change};
 use std::alloc::Global;
 
 // An inode, and who asks.

@@ -13,6 +13,7 @@ mod session_event;
 mod values;
 mod words;
 
+pub use capexplain;
 pub use fault::{LineFault, ScriptFault};
 pub use line::{MAX_LINE, read_line, split_line};
 pub use words::split_at_space;

@@ -1,6 +1,6 @@
 //! Cutting a script into lines, and reading a line of it.
 ghost use Rattle.std.specs.Prelude.{◌≡◌, ◌↔◌, ◌⊎◌, ◌<◌, ◌∷◌, [], length, None, Some, Ok, Err, IsTrue, IfOk, IfErr, IfSome, MatchOption};
-ghost use Rattle.capevents.specs.declared.event.Event.{Event as AnEvent};
+ghost use Rattle.capexplain.specs.Capevents.declared.event.Event.{Event as AnEvent};
 ghost use Rattle.caplines.specs.declared.fault.LineFault.{LineFault as AKind};
 ghost use Rattle.caplines.specs.declared.fault.ScriptFault.TheVariants as stops;
 ghost use Rattle.caplines.specs.Events.{Reads, client_of};
@@ -10,7 +10,7 @@ ghost use Rattle.caplines.specs.Lines.{is_skipped, lines};
 use crate::event::read_event;
 use crate::fault::{Refused, ScriptFault};
 use capbits::ClientId;
-use capevents::Event;
+use capexplain::capevents::Event;
 use std::alloc::Global;
 
 /// How many bytes a line may have, without its line feed. A line that is skipped may have more.

@@ -1,14 +1,14 @@
 //! The events that are about a client alone, or about none.
 ghost use Rattle.std.specs.Prelude.{map, MatchResult};
 ghost use Rattle.capbits.specs.declared.ids.ClientId.{ClientId as AClient};
-ghost use Rattle.capevents.specs.declared.event.Event.{Event as AnEvent};
+ghost use Rattle.capexplain.specs.Capevents.declared.event.Event.{Event as AnEvent};
 ghost use Rattle.caplines.specs.Events.{Tells, client_by, recall_by};
 ghost use Rattle.caplines.specs.Faults.{IsRefused};
 
 use crate::fault::{LineFault, Refused};
 use crate::values::{read_client, read_number};
 use capbits::ClientId;
-use capevents::Event;
+use capexplain::capevents::Event;
 
 // How many entries are asked for.
 pub(crate) fn read_recall(arguments: &[&[u8]]) -> Result<Event, Refused>

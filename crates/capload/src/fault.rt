@@ -1,9 +1,9 @@
 //! Why there is no digest.
 
-use capcore::Stop;
 use capjobs::ServeFault;
+use capjobs::capcore::Stop;
+use capjobs::capscript::ScriptFault;
 use capquestion::QuestionFault;
-use capscript::ScriptFault;
 use std::alloc::{AllocError, AllocFailed};
 use std::fmt;
 use std::fmt::Display;

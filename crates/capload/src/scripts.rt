@@ -2,8 +2,8 @@
 
 use crate::fault::Fault;
 use crate::talk::Talk;
+use capjobs::capscript::{Watched, run};
 use capjobs::serve;
-use capscript::{Watched, run};
 use std::alloc::Global;
 use std::hash::{DefaultHasher, Hasher};
 use std::sync::Wait;

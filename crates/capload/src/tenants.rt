@@ -2,7 +2,7 @@
 //! is not its own.
 
 use crate::talk::{Heard, Talk};
-use capcore::Core;
+use capjobs::capcore::Core;
 
 /// How many tenants there are.
 const TENANTS: u64 = 48;

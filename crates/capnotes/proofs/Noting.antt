@@ -23,10 +23,10 @@ use Rattle.capview.specs.Changes.{AreChanges, kind_by, tree_by, view_by}
 use Rattle.capview.specs.Sight.{IsLike, Shows, sight_of}
 use Rattle.capview.proofs.Likeness.{like-unseen, like-settled, shows-tree}
 use Rattle.capview.proofs.Telling.{changes-none, changes-more, changes-alike}
-use Rattle.lockmachine.specs.declared.request.Ask.TheVariants.{Unlink, Rmdir}
-use Rattle.lockmachine.specs.declared.request.Change.{Change}
-use Rattle.lockmachine.specs.declared.request.Change.TheVariants.{Set, SetXattr, RemoveXattr}
-use Rattle.lockmachine.specs.declared.request.Request.{Request}
+use Rattle.capevents.specs.Lockmachine.declared.request.Ask.TheVariants.{Unlink, Rmdir}
+use Rattle.capevents.specs.Lockmachine.declared.request.Change.{Change}
+use Rattle.capevents.specs.Lockmachine.declared.request.Change.TheVariants.{Set, SetXattr, RemoveXattr}
+use Rattle.capevents.specs.Lockmachine.declared.request.Request.{Request}
 use Rattle.capevents.specs.declared.outcome.Outcome.{Outcome}
 use Rattle.capevents.specs.declared.outcome.Outcome.TheVariants.{Done}
 use Rattle.capnotes.specs.Changing.{tree_changed, tree_after, tree_with}

@@ -8,8 +8,8 @@ use Rattle.std.proofs.lemmas.List.Folds.{find_at}
 use Rattle.std.proofs.lemmas.Option.{slice_get-get_or}
 use Rattle.std.proofs.lemmas.List.Elements.{All-head, All-tail}
 use Rattle.captable.proofs.Searches.{find_passes}
-use Rattle.lockmachine.proofs.Positions.{at_position}
-use Rattle.lockmachine.proofs.Rest.{not_found}
+use Rattle.capevents.proofs.Lockmachine.Positions.{at_position}
+use Rattle.capevents.proofs.Lockmachine.Rest.{not_found}
 use Rattle.capbits.specs.declared.ids.Ticket.{Ticket}
 use Rattle.capevents.specs.declared.outcome.Ended.{Ended}
 use Rattle.capnotes.specs.Untold.{is_of_ticket, HaveOwnNumbers, but_for}

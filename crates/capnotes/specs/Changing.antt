@@ -3,11 +3,11 @@ use Rattle.std.specs.Prelude.{ℕ}
 use Rattle.inotree.specs.Tree.{Nodes}
 use Rattle.inotree.specs.Inodes.{with_setting, with_attribute, without_attribute}
 use Rattle.inotree.specs.Calls.{changed, unlinked, moved}
-use Rattle.lockmachine.specs.declared.request.Change.{Change}
-use Rattle.lockmachine.specs.declared.request.Change.TheVariants.{Set, SetXattr, RemoveXattr}
-use Rattle.lockmachine.specs.declared.request.Ask.{Ask}
-use Rattle.lockmachine.specs.declared.request.Ask.TheVariants.{Get, Alter, Unlink, Rmdir, Rename}
-use Rattle.lockmachine.specs.declared.request.Request.{Request}
+use Rattle.capevents.specs.Lockmachine.declared.request.Change.{Change}
+use Rattle.capevents.specs.Lockmachine.declared.request.Change.TheVariants.{Set, SetXattr, RemoveXattr}
+use Rattle.capevents.specs.Lockmachine.declared.request.Ask.{Ask}
+use Rattle.capevents.specs.Lockmachine.declared.request.Ask.TheVariants.{Get, Alter, Unlink, Rmdir, Rename}
+use Rattle.capevents.specs.Lockmachine.declared.request.Request.{Request}
 use Rattle.capevents.specs.declared.outcome.Outcome.{Outcome}
 use Rattle.capevents.specs.declared.outcome.Outcome.TheVariants as outcome
 

@@ -5,9 +5,9 @@ use Rattle.inotree.specs.declared.node.Setting.{Setting}
 use Rattle.inotree.specs.declared.node.Setting.TheVariants.{Mode, Uid, Gid, Size, Time}
 use Rattle.inotree.specs.Tree.{Nodes}
 use Rattle.sessiontab.specs.Connected.{SessionMap}
-use Rattle.lockmachine.specs.declared.request.Change.{Change}
-use Rattle.lockmachine.specs.declared.request.Change.TheVariants.{Set, SetXattr, RemoveXattr}
-use Rattle.lockmachine.specs.Locks.{LockMap}
+use Rattle.capevents.specs.Lockmachine.declared.request.Change.{Change}
+use Rattle.capevents.specs.Lockmachine.declared.request.Change.TheVariants.{Set, SetXattr, RemoveXattr}
+use Rattle.capevents.specs.Lockmachine.Locks.{LockMap}
 use Rattle.capview.specs.declared.change.ViewChange.{ViewChange}
 use Rattle.capview.specs.declared.view.View.{View}
 use Rattle.capview.specs.Changes.{AreChanges}

@@ -3,7 +3,7 @@ use Rattle.std.specs.Prelude.{◌≡◌, ◌≢◌, ℕ, ◌+◌, ◌≤◌, Boo
 use Rattle.std.specs.List.{list_any}
 use Rattle.capbits.specs.declared.ids.ClientId.{ClientId}
 use Rattle.capbits.specs.declared.ids.Ticket.{Ticket}
-use Rattle.lockmachine.specs.Locks.{LockMap}
+use Rattle.capevents.specs.Lockmachine.Locks.{LockMap}
 use Rattle.capevents.specs.declared.outcome.Ended.{Ended}
 use Rattle.capevents.specs.declared.outcome.Message.{Message}
 use Rattle.capevents.specs.declared.outcome.Message.TheVariants as message

@@ -11,9 +11,9 @@ ghost use Rattle.capnotes.specs.Noted.{LeadOn, sets_attr};
 
 use capbits::Ino;
 use capevents::Outcome;
+use capevents::lockmachine::{Ask, Change, Request};
 use capview::ViewChange;
 use inotree::{Kind, Node, Setting, Site, Tree};
-use lockmachine::{Ask, Change, Request};
 use std::alloc::{AllocError, Global};
 use std::fmt;
 use std::marker::Model;

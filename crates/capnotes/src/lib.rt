@@ -8,6 +8,9 @@ mod ino_set;
 mod messages;
 mod told_numbers;
 
+pub use capevents;
+pub use capevents::lockmachine;
+pub use capview;
 pub use changes::ChangeList;
 pub use ino_set::InoSet;
 pub use messages::Messages;

@@ -1,1 +1,3 @@
 pub mod Passes
+pub use Rattle.published.specs as Published
+pub use Rattle.published.specs.Rowbook

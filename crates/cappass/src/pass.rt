@@ -1,15 +1,15 @@
 //! A caller's pass.
 ghost use Rattle.std.specs.Prelude.{◌≡◌, ◌≢◌, ◌<◌, ◌+◌, Err, length, IsTrue};
 ghost use mathlib.Core.List.{IsPrefix};
-ghost use Rattle.capview.specs.declared.answer.Unknown.TheVariants as unknown;
+ghost use Rattle.published.specs.Capview.declared.answer.Unknown.TheVariants as unknown;
 ghost use Rattle.published.specs.Answers.{IsAnswered};
-ghost use Rattle.rowbook.specs.Rows.{Legal};
+ghost use Rattle.published.specs.Rowbook.Rows.{Legal};
 ghost use Rattle.cappass.specs.Passes.{pass_state};
 
 use capbits::PassId;
 use capgrant::Verdict;
 use capspec::FsName;
-use capview::{Question, Unknown};
+use published::capview::{Question, Unknown};
 use published::{Beginning, Recorder, Server, Witness};
 use std::marker::Model;
 use std::sync::ledger::{Book, Share};

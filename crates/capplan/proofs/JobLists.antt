@@ -4,9 +4,9 @@ use Rattle.std.specs.Prelude.{map, if◌then◌else◌, IsFalse}
 use Rattle.std.specs.List.{position, position_or_len, list_any, sum_by}
 use Rattle.std.proofs.lemmas.Bool.{ltb-false}
 use Rattle.std.proofs.lemmas.List.Sums.{sum_by-cons}
-use Rattle.lockmachine.proofs.Positions.{at_position}
+use Rattle.capacts.proofs.Lockmachine.Positions.{at_position}
 use Rattle.capbits.specs.declared.ids.ClientId.{ClientId}
-use Rattle.capevents.specs.declared.event.Event.{Event}
+use Rattle.capacts.specs.Capevents.declared.event.Event.{Event}
 use Rattle.capplan.specs.declared.plan.Job.{Job}
 use Rattle.capplan.specs.Jobs.{Calls, calls_by, calls_of, is_of, is_known, with_event, job_events}
 

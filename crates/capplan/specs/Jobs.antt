@@ -2,7 +2,7 @@
 use Rattle.std.specs.Prelude.{◌≡◌, ◌≢◌, ◌⊎◌, ◌+◌, ◌≤◌, ◌==◌, ℕ, Bool, true, false, Some, None, List, [], ◌∷◌, ◌++◌, length, map, codes, bytes_eq, if◌then◌else◌, IsTrue, IsFalse}
 use Rattle.std.specs.List.{list_any, sum_by}
 use Rattle.capbits.specs.declared.ids.ClientId.{ClientId}
-use Rattle.capevents.specs.declared.event.Event.{Event}
+use Rattle.capacts.specs.Capevents.declared.event.Event.{Event}
 use Rattle.caplines.specs.declared.fault.LineFault.{LineFault}
 use Rattle.caplines.specs.declared.fault.LineFault.TheVariants as kinds
 use Rattle.caplines.specs.declared.fault.ScriptFault.TheVariants as stops

@@ -3,8 +3,8 @@ use Rattle.std.specs.Prelude.{◌≡◌, ℕ, Option, MatchOption, IsTrue, List}
 use Rattle.capspec.specs.declared.grant.Grant.{Grant}
 use Rattle.capspec.specs.Faults.{IsFault}
 use Rattle.capspec.specs.Grants.{Reads}
-use Rattle.capcompare.specs.declared.witness.Witness.{Witness}
-use Rattle.capcompare.specs.Comparing.{Covers, CoversBut, IsWitness, is_root}
+use Rattle.capexplain.specs.Capcompare.declared.witness.Witness.{Witness}
+use Rattle.capexplain.specs.Capcompare.Comparing.{Covers, CoversBut, IsWitness, is_root}
 use Rattle.capexplain.specs.Comparing.{comparison}
 use Rattle.capquestion.specs.declared.comparing.CompareFault.{CompareFault}
 use Rattle.capquestion.specs.declared.comparing.CompareFault.TheVariants.{Old, New, NoMemory}

@@ -2,8 +2,8 @@
 use Rattle.std.specs.Prelude.{◌≡◌, ℕ, List}
 use Rattle.capspec.specs.declared.grant.Grant.{Grant}
 use Rattle.capspec.specs.Grants.{Reads}
-use Rattle.capcompare.specs.declared.finding.Finding.{Finding}
-use Rattle.capcompare.specs.Findings.{AreFindings}
+use Rattle.capexplain.specs.Capcompare.declared.finding.Finding.{Finding}
+use Rattle.capexplain.specs.Capcompare.Findings.{AreFindings}
 use Rattle.capexplain.specs.Linting.{lint_lines}
 
 -- the lines tell what is found of the grants that the text means, and are empty where that is nothing

@@ -1,8 +1,8 @@
 -- The answer to a question with all that is worth a word beside it.
 use Rattle.std.specs.Prelude.{ℕ, List}
 use Rattle.capgrant.specs.Question.{Question as Asked, question}
-use Rattle.capremarks.specs.Left.{left_to_client}
-use Rattle.capremarks.specs.Differences.{answered_otherwise}
+use Rattle.capexplain.specs.Capremarks.Left.{left_to_client}
+use Rattle.capexplain.specs.Capremarks.Differences.{answered_otherwise}
 use Rattle.capexplain.specs.Remarks.{remarked_text}
 use Rattle.capquestion.specs.declared.question.Question.{Question}
 use Rattle.capquestion.specs.Question.{verdict_on}

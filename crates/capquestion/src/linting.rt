@@ -4,7 +4,7 @@ ghost use Rattle.capquestion.specs.Fault.{IsFaultOfText};
 ghost use Rattle.capquestion.specs.Linting.{IsLintOf};
 
 use crate::fault::QuestionFault;
-use capcompare::lint;
+use capexplain::capcompare::lint;
 use capexplain::lint_lines;
 use capspec::read_grants;
 use std::alloc::Global;

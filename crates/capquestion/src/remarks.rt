@@ -1,8 +1,8 @@
 //! What is said beside the answer to a question.
 
 use crate::question::Question;
+use capexplain::capremarks::{answered_otherwise, left_to_client};
 use capexplain::remarked_lines;
-use capremarks::{answered_otherwise, left_to_client};
 use std::alloc::{AllocError, Global};
 
 impl Question {

@@ -1,1 +1,2 @@
 pub mod Unnamed
+pub use Rattle.capcompare.proofs as Capcompare

@@ -11,24 +11,24 @@ use Rattle.std.proofs.lemmas.List.{map-append, append-nil}
 use Rattle.std.proofs.lemmas.List.Concat.{flat_map-append}
 use Rattle.inotree.specs.declared.node.Node.{Node}
 use Rattle.std.specs.FinSet as set
-use Rattle.lockmachine.specs.Inodes.{in_sync}
+use Rattle.capcore.specs.Lockmachine.Inodes.{in_sync}
 use Rattle.inotree.specs.Calls.{first_tree}
-use Rattle.capevents.specs.declared.event.Event.{Event}
-use Rattle.capevents.specs.declared.row.Row.{Row}
-use Rattle.capacts.specs.Numbers.{AreNumbered, rows_of}
-use Rattle.capsteps.specs.History.{Told, IsOpening, Replays}
-use Rattle.capsteps.specs.State.{State}
+use Rattle.capcore.specs.Capevents.declared.event.Event.{Event}
+use Rattle.capcore.specs.Capevents.declared.row.Row.{Row}
+use Rattle.capcore.specs.Capacts.Numbers.{AreNumbered, rows_of}
+use Rattle.capcore.specs.Capsteps.History.{Told, IsOpening, Replays}
+use Rattle.capcore.specs.Capsteps.State.{State}
 use Rattle.capbits.specs.declared.ids.ClientId.{ClientId}
-use Rattle.caplines.specs.Events.{Reads}
-use Rattle.caplines.specs.Faults.{IsStop}
-use Rattle.caplines.specs.declared.fault.ScriptFault.{ScriptFault}
-use Rattle.caplines.specs.declared.fault.ScriptFault.TheVariants as stops
-use Rattle.caplines.specs.Lines.{lines, is_skipped}
-use Rattle.capexplain.specs.Replies.{reply_text}
+use Rattle.capstreams.specs.Caplines.Events.{Reads}
+use Rattle.capstreams.specs.Caplines.Faults.{IsStop}
+use Rattle.capstreams.specs.Caplines.declared.fault.ScriptFault.{ScriptFault}
+use Rattle.capstreams.specs.Caplines.declared.fault.ScriptFault.TheVariants as stops
+use Rattle.capstreams.specs.Caplines.Lines.{lines, is_skipped}
+use Rattle.capstreams.specs.Capexplain.Replies.{reply_text}
 use Rattle.capscript.specs.Transcript.{LinesSay, replies_text, IsTranscript, Answered, Ran, Answers, AnswersLine, StopsIn, fs_name, root_attr}
 use Rattle.capcore.proofs.Growing.{replays-more}
-use Rattle.capacts.proofs.Numbered.{numbered-nil, numbered-snoc}
-use Rattle.caplines.proofs.SaidLines.{not_skipped}
+use Rattle.capcore.proofs.Capacts.Numbered.{numbered-nil, numbered-snoc}
+use Rattle.capstreams.proofs.Caplines.SaidLines.{not_skipped}
 use Rattle.capstreams.proofs.KnownBytes.{none_appended, appends_more, appends_same}
 
 -- ---- there is an opening state on the first tree

@@ -1,1 +1,5 @@
 pub mod Histories
+pub use Rattle.capcore.proofs as Capcore
+pub use Rattle.capstreams.proofs.Capexplain
+pub use Rattle.capstreams.proofs.Caplines
+pub use Rattle.capstreams.proofs as Capstreams

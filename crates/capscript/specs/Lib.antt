@@ -1,1 +1,5 @@
 pub mod Transcript
+pub use Rattle.capcore.specs as Capcore
+pub use Rattle.capstreams.specs.Capexplain
+pub use Rattle.capstreams.specs.Caplines
+pub use Rattle.capstreams.specs as Capstreams

@@ -3,6 +3,10 @@
 
 mod running;
 
-pub use caplines::{LineFault, MAX_LINE, ScriptFault, read_line, split_at_space, split_line};
-pub use capstreams::{MAX_SCRIPT, Watched, read_script, write_text};
+pub use capcore;
+pub use capstreams;
+pub use capstreams::caplines::{
+    LineFault, MAX_LINE, ScriptFault, read_line, split_at_space, split_line,
+};
+pub use capstreams::{MAX_SCRIPT, Watched, capexplain, caplines, read_script, write_text};
 pub use running::{file_system, run};

@@ -2,18 +2,18 @@
 ghost use Rattle.std.specs.Prelude.{◌≡◌, ◌≢◌, ◌⊎◌, ◌↔◌, ◌<◌, ◌≤◌, ◌+◌, ◌++◌, ℕ, List, [], length, IsTrue, IsFalse, IfOk, IfErr, IfSome, OnOk, OnErr, Err};
 ghost use Rattle.std.specs.Io.KnownBytes.{Appends, Consumes};
 ghost use Rattle.inotree.specs.Calls.{first_tree};
-ghost use Rattle.capsteps.specs.History.{HasNoStray, IsOpening};
-ghost use Rattle.caplines.specs.declared.fault.ScriptFault.TheVariants as stops;
-ghost use Rattle.caplines.specs.Lines.{lines, longest_script};
+ghost use Rattle.capcore.specs.Capsteps.History.{HasNoStray, IsOpening};
+ghost use Rattle.capstreams.specs.Caplines.declared.fault.ScriptFault.TheVariants as stops;
+ghost use Rattle.capstreams.specs.Caplines.Lines.{lines, longest_script};
 ghost use Rattle.capscript.specs.Transcript.{Ran, Answered, Answers, AnswersLine, StopsIn, fs_name, root_attr};
 ghost use Rattle.capstreams.specs.Watched.{inner_of, has_failed, has_ended};
 
 use capbits::{Mode, PassId};
 use capcore::{Core, Event, Stop};
-use capexplain::reply_lines;
 use capgrant::Attr;
-use caplines::{ScriptFault, read_line, split_line};
 use capspec::FsName;
+use capstreams::capexplain::reply_lines;
+use capstreams::caplines::{ScriptFault, read_line, split_line};
 use capstreams::{Watched, read_script, write_text};
 use inotree::Tree;
 use std::alloc::{AllocError, Global};

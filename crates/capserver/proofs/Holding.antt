@@ -2,21 +2,21 @@
 use Rattle.std.proofs.Common.{◌≡◌, ◌∙◌, ℕ, ◌+◌, ◌<◌, ◌≤◌, ◌∷◌, [], Bool, true, false, List, Option, Some, None, IfSome, MatchOption, length, fold, refl, ap, sym, subst, arith, length-append}
 use mathlib.Core.List.{IsPrefix}
 use Rattle.capbits.specs.declared.ids.PassId.{PassId}
-use Rattle.capview.specs.declared.change.ViewChange.{ViewChange}
-use Rattle.capview.specs.declared.view.View.{View}
-use Rattle.capview.specs.Changes.{AreChanges, view_by}
-use Rattle.capview.specs.Sight.{Shows}
-use Rattle.capview.proofs.Likeness.{shows-refl}
-use Rattle.capevents.specs.declared.event.Event.{Event}
-use Rattle.capevents.specs.declared.reply.Reply.{Reply}
-use Rattle.capevents.specs.declared.row.Row.{Row}
-use Rattle.capacts.specs.Numbers.{AreNumbered, rows_of}
-use Rattle.capsteps.specs.History.{IsLegal, IsTold, Told, IsNext, Replays, made_row}
-use Rattle.capsteps.specs.State.{State}
-use Rattle.capsteps.specs.Noted.{view_of}
-use Rattle.published.specs.Publishing.{Publishing, IsReady}
-use Rattle.rowbook.specs.Rows.{Legal}
-use Rattle.rowbook.proofs.Beginnings.{prefix_more, prefix_trans, prefix_length}
+use Rattle.capcore.specs.Capview.declared.change.ViewChange.{ViewChange}
+use Rattle.capcore.specs.Capview.declared.view.View.{View}
+use Rattle.capcore.specs.Capview.Changes.{AreChanges, view_by}
+use Rattle.capcore.specs.Capview.Sight.{Shows}
+use Rattle.capcore.proofs.Capview.Likeness.{shows-refl}
+use Rattle.capcore.specs.Capevents.declared.event.Event.{Event}
+use Rattle.capcore.specs.Capevents.declared.reply.Reply.{Reply}
+use Rattle.capcore.specs.Capevents.declared.row.Row.{Row}
+use Rattle.capcore.specs.Capacts.Numbers.{AreNumbered, rows_of}
+use Rattle.capcore.specs.Capsteps.History.{IsLegal, IsTold, Told, IsNext, Replays, made_row}
+use Rattle.capcore.specs.Capsteps.State.{State}
+use Rattle.capcore.specs.Capsteps.Noted.{view_of}
+use Rattle.cappass.specs.Published.Publishing.{Publishing, IsReady}
+use Rattle.cappass.specs.Rowbook.Rows.{Legal}
+use Rattle.cappass.proofs.Rowbook.Beginnings.{prefix_more, prefix_trans, prefix_length}
 use Rattle.capserver.specs.Fresh.{IsFresh}
 use Rattle.capserver.specs.Held.{IsHeld, IsLed}
 use Rattle.cappass.specs.Passes.{PassState, pass_id}

@@ -7,10 +7,13 @@ mod locked;
 mod opening;
 mod server;
 
+pub use capcore;
+pub use capcore::capview::{Question, Unknown};
+pub use capcore::{capacts, capevents, capsteps, capview, lockmachine};
+pub use cappass;
+pub use cappass::published::{MAX_PASSES, Server};
 pub use cappass::{Pass, StartFault};
-pub use capview::{Question, Unknown};
 pub use gate::{Answer, Gate, NoGate};
 pub use locked::Locked;
 pub use opening::Opening;
-pub use published::{MAX_PASSES, Server};
 pub use server::{CapServer, Closed};

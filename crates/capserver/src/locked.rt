@@ -1,11 +1,11 @@
 //! What stands under the lock.
 ghost use Rattle.std.specs.Prelude.{◌≡◌, ◌≤◌, ◌+◌, ◌↔◌, [], false, Err, Some, length, IsTrue, IfOk, IfSome, OnOk, OnErr};
 ghost use mathlib.Core.List.{IsPrefix};
-ghost use Rattle.capsteps.specs.History.{IsLegal};
+ghost use Rattle.capcore.specs.Capsteps.History.{IsLegal};
 ghost use Rattle.capcore.specs.Promised.{IsPromised};
-ghost use Rattle.capacts.specs.declared.stop.Stop.TheVariants as stop_kind;
-ghost use Rattle.capsteps.specs.Noted.{view_of};
-ghost use Rattle.rowbook.specs.Rows.{Legal};
+ghost use Rattle.capcore.specs.Capacts.declared.stop.Stop.TheVariants as stop_kind;
+ghost use Rattle.capcore.specs.Capsteps.Noted.{view_of};
+ghost use Rattle.cappass.specs.Rowbook.Rows.{Legal};
 ghost use Rattle.capserver.specs.Fresh.{IsFresh};
 ghost use Rattle.capserver.specs.Held.{IsLed};
 ghost use Rattle.cappass.specs.Passes.{pass_id};
@@ -13,7 +13,7 @@ ghost use Rattle.cappass.specs.Passes.{pass_id};
 use crate::gate::{Answer, Gate};
 use capcore::{Core, Event, Reply, Stop};
 use cappass::Pass;
-use published::{Beginning, Publisher, Recorder, Server};
+use cappass::published::{Beginning, Publisher, Recorder, Server};
 use std::marker::Model;
 use std::mem::replace;
 use std::sync::Wait;
@@ -33,7 +33,7 @@ pub struct Locked<L: Server> {
 
 impl<L: Server> Model for Locked<L> {
     ghost use Rattle.std.specs.Prelude.{◌≡◌, ◌+◌, MatchOption};
-    ghost use Rattle.capsteps.specs.History.{Told};
+    ghost use Rattle.capcore.specs.Capsteps.History.{Told};
     ghost use Rattle.capcore.specs.Codes.{told_code};
     ghost use Rattle.capserver.specs.Held.{IsHeld, IsLed};
 

@@ -16,8 +16,8 @@ use Rattle.captable.proofs.ByHolder.{row_found}
 use Rattle.captable.proofs.OneByOne.{fold-changed_by}
 use Rattle.captable.proofs.Searches.{find_passes}
 use Rattle.captable.proofs.Tables.{same-is}
-use Rattle.lockmachine.specs.Scene.{Scene, told_set}
-use Rattle.lockmachine.proofs.Told.{told-less}
+use Rattle.capacts.specs.Lockmachine.Scene.{Scene, told_set}
+use Rattle.capacts.proofs.Lockmachine.Told.{told-less}
 use Rattle.capacts.specs.Known.{known_in, HasAll, OthersHaveAll, kept_anew, KeptAnew}
 use Rattle.capsteps.specs.Touching.{told_then, finished_entry}
 use Rattle.capsteps.proofs.Finishing.{same-issue_row, same-renumbered}

@@ -5,10 +5,10 @@ use Rattle.std.specs.HashMap.{HashMap}
 use Rattle.capbits.specs.Caps.{Caps}
 use Rattle.captable.specs.declared.entry.Holder.{Holder}
 use Rattle.std.proofs.lemmas.Bool.{ne_eqb}
-use Rattle.lockmachine.specs.Moves.{IsQuietOutside}
-use Rattle.lockmachine.specs.Scene.{Scene}
-use Rattle.capevents.specs.declared.outcome.Ended.{Ended}
-use Rattle.capnotes.specs.InoSets.{InoSet}
+use Rattle.capacts.specs.Lockmachine.Moves.{IsQuietOutside}
+use Rattle.capacts.specs.Lockmachine.Scene.{Scene}
+use Rattle.capacts.specs.Capevents.declared.outcome.Ended.{Ended}
+use Rattle.capacts.specs.Capnotes.InoSets.{InoSet}
 use Rattle.capacts.specs.Reach.{is_touched}
 use Rattle.capsteps.specs.Serves.{EndsWith}
 

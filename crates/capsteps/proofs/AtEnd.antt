@@ -20,11 +20,11 @@ use Rattle.captable.specs.Many.{changed_by}
 use Rattle.captable.proofs.Tables.{same_equiv, same-is}
 use Rattle.captable.proofs.ByHolder.{entry_at-changed_other}
 use Rattle.captable.proofs.Searches.{find_passes}
-use Rattle.lockmachine.specs.declared.states.InodeLocks.{InodeLocks}
-use Rattle.lockmachine.specs.Inodes.{StateMap}
-use Rattle.lockmachine.specs.Scene.{Scene}
+use Rattle.capacts.specs.Lockmachine.declared.states.InodeLocks.{InodeLocks}
+use Rattle.capacts.specs.Lockmachine.Inodes.{StateMap}
+use Rattle.capacts.specs.Lockmachine.Scene.{Scene}
 use Rattle.capacts.specs.Finishing.{due_under, told_at, numbered_as, entry_under, entry_by}
-use Rattle.capnotes.specs.InoSets.{InoSet}
+use Rattle.capacts.specs.Capnotes.InoSets.{InoSet}
 use Rattle.capsteps.specs.Touching.{forget_at, forget_among}
 use Rattle.capacts.specs.Reach.{is_touched}
 use Rattle.capsteps.proofs.Leaving.{found-contains}

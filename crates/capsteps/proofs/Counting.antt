@@ -20,7 +20,7 @@ use Rattle.captable.specs.declared.entry.Holder.{Holder}
 use Rattle.captable.specs.Table.{Table, IsTable, same, holder, holders_of_rows}
 use Rattle.captable.specs.Calls.{is_of_inode, entries_on}
 use Rattle.captable.proofs.Tables.{same_equiv, holders-filter, distinct-filter}
-use Rattle.lockmachine.proofs.Rest.{same_key}
+use Rattle.capacts.proofs.Lockmachine.Rest.{same_key}
 use Rattle.capacts.specs.Finishing.{clients_of}
 
 -- ---- keys of a map

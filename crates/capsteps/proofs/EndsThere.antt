@@ -23,13 +23,13 @@ use Rattle.captable.specs.Many.{remade}
 use Rattle.captable.proofs.ByHolder.{row_found}
 use Rattle.captable.proofs.Searches.{find-map, find_passes}
 use Rattle.captable.proofs.Tables.{same-is}
-use Rattle.lockmachine.specs.Locks.{lock_at}
-use Rattle.lockmachine.specs.Wants.{effective_want}
-use Rattle.lockmachine.specs.Policy.{permitted}
-use Rattle.lockmachine.specs.Scene.{Scene, told_set}
-use Rattle.lockmachine.specs.Inodes.{lock_in}
-use Rattle.lockmachine.proofs.PolicyElsewhere.{permitted-kept, want-kept}
-use Rattle.lockmachine.proofs.Told.{told-same}
+use Rattle.capacts.specs.Lockmachine.Locks.{lock_at}
+use Rattle.capacts.specs.Lockmachine.Wants.{effective_want}
+use Rattle.capacts.specs.Lockmachine.Policy.{permitted}
+use Rattle.capacts.specs.Lockmachine.Scene.{Scene, told_set}
+use Rattle.capacts.specs.Lockmachine.Inodes.{lock_in}
+use Rattle.capacts.proofs.Lockmachine.PolicyElsewhere.{permitted-kept, want-kept}
+use Rattle.capacts.proofs.Lockmachine.Told.{told-same}
 use Rattle.capsteps.specs.State.{State}
 use Rattle.capacts.specs.Finish.{allowed_by, due, issue_row, issue, is_kept, forget, told_before, number_row, finished}
 use Rattle.capsteps.specs.Headline.{holds, IssuesExactly}

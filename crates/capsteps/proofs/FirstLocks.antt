@@ -8,9 +8,9 @@ use Rattle.inotree.specs.Inodes.{InodeMap}
 use Rattle.inotree.specs.Tree.{Nodes, IsTree}
 use Rattle.inotree.specs.declared.node.Node.{Node}
 use Rattle.numbered.proofs.Maps.{insert-here, insert-other}
-use Rattle.lockmachine.specs.declared.states.InodeLocks.{InodeLocks}
-use Rattle.lockmachine.specs.Inodes.{in_sync}
-use Rattle.lockmachine.specs.Locks.{LockMap, with_ino, no_locks}
+use Rattle.capacts.specs.Lockmachine.declared.states.InodeLocks.{InodeLocks}
+use Rattle.capacts.specs.Lockmachine.Inodes.{in_sync}
+use Rattle.capacts.specs.Lockmachine.Locks.{LockMap, with_ino, no_locks}
 
 -- the locks that an inode begins with, where there is an inode
 abbrev first_of : Option Node → Option InodeLocks

@@ -18,14 +18,14 @@ use Rattle.locktable.specs.declared.states.LockState.TheVariants.{Stable, Gather
 use Rattle.captable.specs.declared.entry.EntryRow.{EntryRow}
 use Rattle.captable.specs.Table.{is_row_of}
 use Rattle.captable.specs.Calls.{is_of_inode}
-use Rattle.lockmachine.specs.Inodes.{lock_in}
-use Rattle.lockmachine.specs.Locks.{lock_at}
-use Rattle.lockmachine.specs.Requests.{first_for}
-use Rattle.lockmachine.specs.Wants.{Want, effective_want, in_all}
-use Rattle.lockmachine.specs.Scene.{Scene, target_by, outside}
-use Rattle.lockmachine.specs.Moves.{IsQuiet, IsAtRest}
-use Rattle.lockmachine.specs.Rows.{IsInRowOf, IsInRow}
-use Rattle.lockmachine.proofs.PolicyElsewhere.{want-kept, wants-kept}
+use Rattle.capacts.specs.Lockmachine.Inodes.{lock_in}
+use Rattle.capacts.specs.Lockmachine.Locks.{lock_at}
+use Rattle.capacts.specs.Lockmachine.Requests.{first_for}
+use Rattle.capacts.specs.Lockmachine.Wants.{Want, effective_want, in_all}
+use Rattle.capacts.specs.Lockmachine.Scene.{Scene, target_by, outside}
+use Rattle.capacts.specs.Lockmachine.Moves.{IsQuiet, IsAtRest}
+use Rattle.capacts.specs.Lockmachine.Rows.{IsInRowOf, IsInRow}
+use Rattle.capacts.proofs.Lockmachine.PolicyElsewhere.{want-kept, wants-kept}
 use Rattle.capsteps.specs.State.{State}
 use Rattle.capsteps.specs.Direct.{with_scene}
 use Rattle.capacts.specs.Finish.{allowed_by, due, is_kept}

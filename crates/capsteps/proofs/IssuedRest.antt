@@ -14,10 +14,10 @@ use Rattle.captable.specs.declared.entry.Holder.{Holder}
 use Rattle.captable.specs.Calls.{is_of_inode}
 use Rattle.captable.specs.Many.{changed_where}
 use Rattle.captable.proofs.Searches.{filter-map}
-use Rattle.lockmachine.specs.Locks.{lock_at}
-use Rattle.lockmachine.specs.Wants.{Want, want_of, in_all}
-use Rattle.lockmachine.specs.Scene.{Scene, wants, target_by, outside}
-use Rattle.lockmachine.specs.Moves.{is_open, IsQuiet, IsAtRest}
+use Rattle.capacts.specs.Lockmachine.Locks.{lock_at}
+use Rattle.capacts.specs.Lockmachine.Wants.{Want, want_of, in_all}
+use Rattle.capacts.specs.Lockmachine.Scene.{Scene, wants, target_by, outside}
+use Rattle.capacts.specs.Lockmachine.Moves.{is_open, IsQuiet, IsAtRest}
 use Rattle.capsteps.specs.Touching.{finished_entry}
 use Rattle.capsteps.proofs.IssuedRows.{ended_row, effective-ended, outside-ended}
 

@@ -21,11 +21,11 @@ use Rattle.captable.specs.declared.entry.EntryRow.{EntryRow}
 use Rattle.captable.specs.declared.entry.Holder.{Holder}
 use Rattle.captable.specs.Calls.{renumbered}
 use Rattle.captable.specs.Many.{remade}
-use Rattle.lockmachine.specs.Locks.{lock_at}
-use Rattle.lockmachine.specs.Policy.{permitted}
-use Rattle.lockmachine.specs.Wants.{effective_want}
-use Rattle.lockmachine.specs.Scene.{Scene, outside, told_set}
-use Rattle.lockmachine.specs.Rows.{IsInRowOf, IsInRow}
+use Rattle.capacts.specs.Lockmachine.Locks.{lock_at}
+use Rattle.capacts.specs.Lockmachine.Policy.{permitted}
+use Rattle.capacts.specs.Lockmachine.Wants.{effective_want}
+use Rattle.capacts.specs.Lockmachine.Scene.{Scene, outside, told_set}
+use Rattle.capacts.specs.Lockmachine.Rows.{IsInRowOf, IsInRow}
 use Rattle.capacts.specs.Finish.{allowed_by, allowed_part, allowed_to, due, issue_row}
 use Rattle.capsteps.specs.Touching.{finished_entry}
 use Rattle.capacts.proofs.Walked.{second_true}

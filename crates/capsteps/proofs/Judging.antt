@@ -1,10 +1,10 @@
 -- What stops a request, test by test.
 use Rattle.std.proofs.Common.{◌≡◌, List, [], Option, Some, None, refl, sym, ap, ◌∙◌}
 use Rattle.std.specs.Option.{option_map}
-use Rattle.lockmachine.specs.Scene.{Scene}
-use Rattle.capevents.specs.declared.event.Event.{Event}
+use Rattle.capacts.specs.Lockmachine.Scene.{Scene}
+use Rattle.capacts.specs.Capevents.declared.event.Event.{Event}
 use Rattle.capbits.specs.declared.refusal.Refusal.{Refusal}
-use Rattle.capevents.specs.declared.reply.Reply.{Reply}
+use Rattle.capacts.specs.Capevents.declared.reply.Reply.{Reply}
 use Rattle.capacts.specs.declared.stopped.Stopped.{Stopped}
 use Rattle.capacts.specs.declared.stopped.Stopped.TheVariants.{ByTest}
 use Rattle.capsteps.specs.State.{State}

@@ -12,9 +12,9 @@ use Rattle.captable.specs.Table.{Table, IsTable, same, is_row_of, entry_of, entr
 use Rattle.captable.specs.Many.{changed_where, remade}
 use Rattle.captable.proofs.ByHolder.{row_found}
 use Rattle.captable.proofs.Searches.{find-map}
-use Rattle.lockmachine.specs.Scene.{Scene, told_set}
-use Rattle.lockmachine.specs.Told.{is_taken}
-use Rattle.lockmachine.proofs.Told.{has-against, has-told, told-less}
+use Rattle.capacts.specs.Lockmachine.Scene.{Scene, told_set}
+use Rattle.capacts.specs.Lockmachine.Told.{is_taken}
+use Rattle.capacts.proofs.Lockmachine.Told.{has-against, has-told, told-less}
 use Rattle.capacts.specs.Judge.{revoked_of}
 use Rattle.capacts.specs.Known.{known_in, AreKnown, HaveRoom, is_still_kept, StillKept}
 use Rattle.capsteps.specs.Touching.{Knows}

@@ -26,14 +26,14 @@ use Rattle.captable.specs.Table.{IsTable, same, is_row_of, entry_of}
 use Rattle.captable.proofs.Searches.{find_passes}
 use Rattle.captable.proofs.Tables.{same-is}
 use Rattle.captable.specs.Calls.{is_of_inode}
-use Rattle.lockmachine.specs.Inodes.{StateMap, lock_in, in_sync}
-use Rattle.lockmachine.specs.Locks.{lock_at}
-use Rattle.lockmachine.specs.Policy.{permitted}
-use Rattle.lockmachine.specs.Requests.{first_for, head_of}
-use Rattle.lockmachine.specs.Wants.{effective_want, want_of, loner_of, union_of}
-use Rattle.lockmachine.specs.Scene.{Scene, rows_on, loner, wanted, against, told_set}
-use Rattle.lockmachine.specs.Moves.{IsQuiet}
-use Rattle.lockmachine.proofs.PolicyElsewhere.{wants-kept}
+use Rattle.capacts.specs.Lockmachine.Inodes.{StateMap, lock_in, in_sync}
+use Rattle.capacts.specs.Lockmachine.Locks.{lock_at}
+use Rattle.capacts.specs.Lockmachine.Policy.{permitted}
+use Rattle.capacts.specs.Lockmachine.Requests.{first_for, head_of}
+use Rattle.capacts.specs.Lockmachine.Wants.{effective_want, want_of, loner_of, union_of}
+use Rattle.capacts.specs.Lockmachine.Scene.{Scene, rows_on, loner, wanted, against, told_set}
+use Rattle.capacts.specs.Lockmachine.Moves.{IsQuiet}
+use Rattle.capacts.proofs.Lockmachine.PolicyElsewhere.{wants-kept}
 use Rattle.capsteps.specs.State.{State}
 use Rattle.capacts.specs.Known.{AreKnown}
 use Rattle.capsteps.specs.Direct.{with_scene}

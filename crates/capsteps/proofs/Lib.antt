@@ -38,3 +38,8 @@ pub mod SameLocks
 pub mod Knowing
 pub mod TouchKept
 pub mod WalkedStill
+pub use Rattle.capacts.proofs as Capacts
+pub use Rattle.capacts.proofs.Capevents
+pub use Rattle.capacts.proofs.Capnotes
+pub use Rattle.capacts.proofs.Capview
+pub use Rattle.capacts.proofs.Lockmachine

@@ -18,7 +18,7 @@ use Rattle.std.proofs.lemmas.List.Folds.{list_any-append}
 use Rattle.captable.specs.Calls.{is_of_inode, entries_on}
 use Rattle.captable.specs.Many.{changed_where, remade}
 use Rattle.captable.proofs.OneByOne.{same_holder}
-use Rattle.capnotes.specs.InoSets.{InoSet, IsListOf}
+use Rattle.capacts.specs.Capnotes.InoSets.{InoSet, IsListOf}
 use Rattle.capacts.specs.Known.{KeptAnew}
 use Rattle.capacts.proofs.KeptSets.{kept-nobody, kept-same, kept-then, kept-not, found-stays}
 

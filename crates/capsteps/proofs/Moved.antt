@@ -13,26 +13,26 @@ use Rattle.locktable.specs.declared.states.LockState.{LockState}
 use Rattle.locktable.specs.declared.states.LockState.TheVariants.{Stable, Gather}
 use Rattle.captable.specs.declared.entry.EntryRow.{EntryRow}
 use Rattle.captable.specs.Table.{Table}
-use Rattle.lockmachine.specs.declared.moves.Move.{Move}
-use Rattle.lockmachine.specs.declared.moves.Move.TheVariants.{Begin, End, Serve, Settled}
-use Rattle.lockmachine.specs.declared.request.Ask.{Ask}
-use Rattle.lockmachine.specs.declared.request.Request.{Request}
-use Rattle.lockmachine.specs.Inodes.{lock_in}
-use Rattle.lockmachine.specs.Requests.{is_numbered, first_for, is_for}
-use Rattle.lockmachine.specs.Locks.{LockMap, IsLockMap, lock_at, with_lock}
-use Rattle.lockmachine.specs.Scene.{Scene}
-use Rattle.lockmachine.specs.Moves.{LockPlace, present_state, coming_state, first_move, moved, with_moved}
-use Rattle.lockmachine.specs.Runs.{Runs}
-use Rattle.lockmachine.specs.Rows.{IsInRow}
-use Rattle.lockmachine.proofs.Finding.{contains-filter, fails_at, find_none}
-use Rattle.lockmachine.proofs.InRows.{one_keeps}
-use Rattle.lockmachine.proofs.Moving.{with_lock-each}
-use Rattle.lockmachine.proofs.Queue.{moved-kept}
-use Rattle.capevents.specs.declared.outcome.Outcome.{Outcome}
-use Rattle.capevents.specs.declared.outcome.Outcome.TheVariants as outcome
-use Rattle.capevents.specs.declared.outcome.Ended.{Ended}
+use Rattle.capacts.specs.Lockmachine.declared.moves.Move.{Move}
+use Rattle.capacts.specs.Lockmachine.declared.moves.Move.TheVariants.{Begin, End, Serve, Settled}
+use Rattle.capacts.specs.Lockmachine.declared.request.Ask.{Ask}
+use Rattle.capacts.specs.Lockmachine.declared.request.Request.{Request}
+use Rattle.capacts.specs.Lockmachine.Inodes.{lock_in}
+use Rattle.capacts.specs.Lockmachine.Requests.{is_numbered, first_for, is_for}
+use Rattle.capacts.specs.Lockmachine.Locks.{LockMap, IsLockMap, lock_at, with_lock}
+use Rattle.capacts.specs.Lockmachine.Scene.{Scene}
+use Rattle.capacts.specs.Lockmachine.Moves.{LockPlace, present_state, coming_state, first_move, moved, with_moved}
+use Rattle.capacts.specs.Lockmachine.Runs.{Runs}
+use Rattle.capacts.specs.Lockmachine.Rows.{IsInRow}
+use Rattle.capacts.proofs.Lockmachine.Finding.{contains-filter, fails_at, find_none}
+use Rattle.capacts.proofs.Lockmachine.InRows.{one_keeps}
+use Rattle.capacts.proofs.Lockmachine.Moving.{with_lock-each}
+use Rattle.capacts.proofs.Lockmachine.Queue.{moved-kept}
+use Rattle.capacts.specs.Capevents.declared.outcome.Outcome.{Outcome}
+use Rattle.capacts.specs.Capevents.declared.outcome.Outcome.TheVariants as outcome
+use Rattle.capacts.specs.Capevents.declared.outcome.Ended.{Ended}
 use Rattle.capacts.specs.Serving.{served}
-use Rattle.capnotes.specs.Changing.{tree_with, tree_after}
+use Rattle.capacts.specs.Capnotes.Changing.{tree_with, tree_after}
 use Rattle.capsteps.specs.Settle.{Made, Began, Gathered, Served, Makes, MakesAll, ended_in}
 use Rattle.capsteps.proofs.Leaving.{found-contains}
 use Rattle.capsteps.proofs.OneChange.{by_ask}

@@ -11,12 +11,12 @@ use Rattle.sessiontab.specs.Table.{SessionTable}
 use Rattle.captable.specs.declared.entry.EntryRow.{EntryRow}
 use Rattle.captable.specs.declared.entry.Holder.{Holder}
 use Rattle.captable.specs.Table.{Table}
-use Rattle.lockmachine.specs.Locks.{LockMap}
-use Rattle.lockmachine.specs.Policy.{permitted}
-use Rattle.lockmachine.specs.Scene.{Scene, scene}
-use Rattle.capevents.specs.declared.outcome.Ended.{Ended}
+use Rattle.capacts.specs.Lockmachine.Locks.{LockMap}
+use Rattle.capacts.specs.Lockmachine.Policy.{permitted}
+use Rattle.capacts.specs.Lockmachine.Scene.{Scene, scene}
+use Rattle.capacts.specs.Capevents.declared.outcome.Ended.{Ended}
 use Rattle.capacts.specs.Finishing.{due_under, told_under}
-use Rattle.capnotes.specs.InoSets.{InoSet, IsNext}
+use Rattle.capacts.specs.Capnotes.InoSets.{InoSet, IsNext}
 use Rattle.capacts.specs.Known.{OthersHaveAll}
 use Rattle.capacts.specs.Reach.{is_touched}
 use Rattle.capsteps.specs.Serves.{SettlesWith, EndsAt, EndsWith}

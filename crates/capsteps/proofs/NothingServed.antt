@@ -4,11 +4,11 @@ use Rattle.std.proofs.lemmas.List.Elements.{All-contains}
 use Rattle.capbits.specs.declared.cap.Cap.TheVariants.{P}
 use Rattle.capbits.specs.Caps.{has}
 use Rattle.captable.specs.declared.entry.EntryRow.{EntryRow}
-use Rattle.lockmachine.specs.declared.moves.Move.TheVariants.{Begin, End}
-use Rattle.lockmachine.specs.Locks.{IsLockMap}
-use Rattle.lockmachine.specs.Scene.{Scene}
-use Rattle.lockmachine.specs.Turns.{WaitAt}
-use Rattle.lockmachine.proofs.Waiting.{waits-kept-at, served-at, quiet-waits-at}
+use Rattle.capacts.specs.Lockmachine.declared.moves.Move.TheVariants.{Begin, End}
+use Rattle.capacts.specs.Lockmachine.Locks.{IsLockMap}
+use Rattle.capacts.specs.Lockmachine.Scene.{Scene}
+use Rattle.capacts.specs.Lockmachine.Turns.{WaitAt}
+use Rattle.capacts.proofs.Lockmachine.Waiting.{waits-kept-at, served-at, quiet-waits-at}
 use Rattle.capsteps.specs.State.{State}
 use Rattle.capsteps.specs.Settle.{Made, Began, Gathered, Served, MakesAll, ended_in}
 use Rattle.capsteps.specs.Sound.{IsSound, IsSoundEntry}

@@ -9,14 +9,14 @@ use Rattle.sessiontab.specs.declared.session.Status.TheVariants as status
 use Rattle.sessiontab.specs.Calls.{with_status}
 use Rattle.sessiontab.specs.Connected.{SessionMap}
 use Rattle.sessiontab.specs.Table.{SessionTable}
-use Rattle.capview.specs.declared.change.ViewChange.{ViewChange}
-use Rattle.capview.specs.declared.change.ViewChange.TheVariants as change
-use Rattle.capview.specs.Changes.{AreChanges}
-use Rattle.capview.proofs.Likeness.{guests-unseen, shows-sessions}
+use Rattle.capacts.specs.Capview.declared.change.ViewChange.{ViewChange}
+use Rattle.capacts.specs.Capview.declared.change.ViewChange.TheVariants as change
+use Rattle.capacts.specs.Capview.Changes.{AreChanges}
+use Rattle.capacts.proofs.Capview.Likeness.{guests-unseen, shows-sessions}
 use Rattle.capacts.specs.declared.leaving.Turn.{Turn}
 use Rattle.capacts.specs.declared.leaving.Turn.TheVariants.{Close, Stale, Renew, Regrant, Evict}
-use Rattle.capnotes.specs.Noted.{view}
-use Rattle.capnotes.proofs.Noting.{changes-one, changes-unseen}
+use Rattle.capacts.specs.Capnotes.Noted.{view}
+use Rattle.capacts.proofs.Capnotes.Noting.{changes-one, changes-unseen}
 use Rattle.capsteps.specs.Turn.{Notes, turned_sessions}
 
 module _ (items : List ViewChange) (client : ClientId) (turn : Turn) where

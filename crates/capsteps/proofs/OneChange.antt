@@ -13,17 +13,17 @@ use Rattle.inotree.proofs.Changes.{setting_site}
 use Rattle.inotree.proofs.Elsewhere.{alike-changed}
 use Rattle.inotree.proofs.Moving.{moved-alike, moved-tree, moved-within, changed-within}
 use Rattle.inotree.proofs.OneInode.{known-changed, place-other, alike-but, alike-unlinked, childless-file, childless-empty, sound-setting, sound-attribute, sound-no-attribute, sound-unlink, sound-rmdir}
-use Rattle.lockmachine.specs.declared.request.Change.{Change}
-use Rattle.lockmachine.specs.declared.request.Change.TheVariants.{Set, SetXattr, RemoveXattr}
-use Rattle.lockmachine.specs.declared.request.Ask.{Ask}
-use Rattle.lockmachine.specs.declared.request.Ask.TheVariants.{Get, Alter, Unlink, Rmdir, Rename}
-use Rattle.lockmachine.specs.declared.request.Request.{Request}
-use Rattle.lockmachine.specs.Scene.{Scene}
-use Rattle.lockmachine.proofs.PolicyElsewhere.{alike-itself}
-use Rattle.capevents.specs.declared.outcome.Outcome.{Outcome}
-use Rattle.capevents.specs.declared.outcome.Outcome.TheVariants as outcome
+use Rattle.capacts.specs.Lockmachine.declared.request.Change.{Change}
+use Rattle.capacts.specs.Lockmachine.declared.request.Change.TheVariants.{Set, SetXattr, RemoveXattr}
+use Rattle.capacts.specs.Lockmachine.declared.request.Ask.{Ask}
+use Rattle.capacts.specs.Lockmachine.declared.request.Ask.TheVariants.{Get, Alter, Unlink, Rmdir, Rename}
+use Rattle.capacts.specs.Lockmachine.declared.request.Request.{Request}
+use Rattle.capacts.specs.Lockmachine.Scene.{Scene}
+use Rattle.capacts.proofs.Lockmachine.PolicyElsewhere.{alike-itself}
+use Rattle.capacts.specs.Capevents.declared.outcome.Outcome.{Outcome}
+use Rattle.capacts.specs.Capevents.declared.outcome.Outcome.TheVariants as outcome
 use Rattle.capacts.specs.Serving.{MayEndAs}
-use Rattle.capnotes.specs.Changing.{tree_after, tree_with, tree_changed}
+use Rattle.capacts.specs.Capnotes.Changing.{tree_after, tree_with, tree_changed}
 use Rattle.capacts.specs.Asks.{ask_before, ask_needs, ask_after, change_tests}
 use Rattle.capacts.specs.Served.{is_rename}
 use Rattle.capacts.proofs.Again.{leaves-or-makes, passed-all}

@@ -7,7 +7,7 @@ use Rattle.captable.specs.Table.{Table, entry_at}
 use Rattle.captable.specs.Calls.{new_entry, opened, wanting, touched}
 use Rattle.captable.proofs.Changes.{put_found}
 use Rattle.captable.proofs.ByHolder.{entry_at-opened}
-use Rattle.capevents.specs.declared.event.OpenMode.{OpenMode}
+use Rattle.capacts.specs.Capevents.declared.event.OpenMode.{OpenMode}
 use Rattle.capsteps.specs.Direct.{opening_wants, with_want, with_opening}
 
 -- the wanted set of an entry that is known is written, or changed

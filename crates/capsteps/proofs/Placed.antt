@@ -15,10 +15,10 @@ use Rattle.locktable.specs.declared.states.LockState.TheVariants.{Stable, Gather
 use Rattle.locktable.specs.Rows.{row_of}
 use Rattle.captable.specs.declared.entry.EntryRow.{EntryRow}
 use Rattle.captable.specs.Calls.{is_of_inode}
-use Rattle.lockmachine.specs.Locks.{lock_at}
-use Rattle.lockmachine.specs.Scene.{Scene, outside, against_lock, against_part, against_locks, against_policy, against, told_set}
-use Rattle.lockmachine.specs.Rows.{IsInRowOf, IsInRow}
-use Rattle.lockmachine.specs.Policy.{permitted}
+use Rattle.capacts.specs.Lockmachine.Locks.{lock_at}
+use Rattle.capacts.specs.Lockmachine.Scene.{Scene, outside, against_lock, against_part, against_locks, against_policy, against, told_set}
+use Rattle.capacts.specs.Lockmachine.Rows.{IsInRowOf, IsInRow}
+use Rattle.capacts.specs.Lockmachine.Policy.{permitted}
 use Rattle.capacts.proofs.Walked.{second_true}
 use Rattle.capsteps.specs.Headline.{IsTakenBack, IsInPlace, AreRevoked}
 

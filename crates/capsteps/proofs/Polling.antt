@@ -22,10 +22,10 @@ use Rattle.captable.proofs.ByHolder.{row_found}
 use Rattle.captable.specs.Calls.{is_of_client, is_due, changed, told, with_asked, with_size_due}
 use Rattle.captable.specs.Many.{changed_where, remade}
 use Rattle.captable.proofs.OneByOne.{fold-changed_by}
-use Rattle.lockmachine.specs.Scene.{Scene, told_set}
-use Rattle.capevents.specs.declared.outcome.Ended.{Ended}
-use Rattle.capevents.specs.declared.outcome.Message.{Message}
-use Rattle.capevents.specs.declared.outcome.Message.TheVariants as message
+use Rattle.capacts.specs.Lockmachine.Scene.{Scene, told_set}
+use Rattle.capacts.specs.Capevents.declared.outcome.Ended.{Ended}
+use Rattle.capacts.specs.Capevents.declared.outcome.Message.{Message}
+use Rattle.capacts.specs.Capevents.declared.outcome.Message.TheVariants as message
 use Rattle.capsteps.specs.State.{State}
 use Rattle.capsteps.specs.Messages.{row_messages, size_message, first_messages, end_messages, after_messages, is_caps_of, is_size_of, is_recall_of, told_if, sized_if, unasked_if}
 use Rattle.capsteps.proofs.Telling.{map_alike, given_fields, given-fields}

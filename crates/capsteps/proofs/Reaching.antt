@@ -2,7 +2,7 @@
 use Rattle.std.proofs.Common.{◌≡◌, ℕ, Bool, true, false, ◌⊎◌, inl, inr, Result, Ok, Err, OnOk, List, [], ◌∷◌, Contains, zero, suc, refl, ap, subst, ◌∙◌, arith}
 use Rattle.std.specs.FinSet as set
 use Rattle.captable.specs.declared.entry.EntryRow.{EntryRow}
-use Rattle.capnotes.specs.InoSets.{InoSet}
+use Rattle.capacts.specs.Capnotes.InoSets.{InoSet}
 use Rattle.capacts.specs.Reach.{is_touched, Widens}
 use Rattle.capsteps.proofs.Among.{more-touched, other-touched}
 use Rattle.capacts.proofs.InoSets.{none-there, added}

@@ -8,8 +8,8 @@ use Rattle.locktable.specs.declared.states.LockState.{LockState}
 use Rattle.locktable.specs.declared.states.LockState.TheVariants.{Stable, Gather}
 use Rattle.locktable.specs.declared.states.State.{State}
 use Rattle.locktable.specs.declared.states.State.TheVariants.{Sync, Lock, Mix, Excl}
-use Rattle.lockmachine.specs.contracts.states.InodeLocksPartialEq.TheImpl as inode_locks
-use Rattle.lockmachine.specs.declared.states.InodeLocks.{InodeLocks}
+use Rattle.capacts.specs.Lockmachine.contracts.states.InodeLocksPartialEq.TheImpl as inode_locks
+use Rattle.capacts.specs.Lockmachine.declared.states.InodeLocks.{InodeLocks}
 
 same-state : (a b : State) → states.eq-value.it a b ≡ true → a ≡ b
 same-state Sync Sync is = refl

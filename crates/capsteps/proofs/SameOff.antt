@@ -11,12 +11,12 @@ use Rattle.captable.specs.declared.entry.EntryRow.{EntryRow}
 use Rattle.captable.specs.Calls.{is_of_inode, entries_on}
 use Rattle.captable.specs.Table.{Table}
 use Rattle.sessiontab.specs.Table.{SessionTable}
-use Rattle.lockmachine.specs.Elsewhere.{IsSameOutside}
-use Rattle.lockmachine.specs.Locks.{lock_at}
-use Rattle.lockmachine.specs.Scene.{Scene}
-use Rattle.lockmachine.proofs.Finding.{contains-filter, filter-contains}
-use Rattle.lockmachine.proofs.PolicyElsewhere.{alike-itself}
-use Rattle.lockmachine.proofs.SameOutside.{alike-trans}
+use Rattle.capacts.specs.Lockmachine.Elsewhere.{IsSameOutside}
+use Rattle.capacts.specs.Lockmachine.Locks.{lock_at}
+use Rattle.capacts.specs.Lockmachine.Scene.{Scene}
+use Rattle.capacts.proofs.Lockmachine.Finding.{contains-filter, filter-contains}
+use Rattle.capacts.proofs.Lockmachine.PolicyElsewhere.{alike-itself}
+use Rattle.capacts.proofs.Lockmachine.SameOutside.{alike-trans}
 use Rattle.capsteps.specs.Touching.{IsSameOff}
 
 -- ---- one after another

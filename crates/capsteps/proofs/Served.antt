@@ -1,11 +1,11 @@
 -- How many requests a settling serves.
 use Rattle.std.proofs.Common.{◌≡◌, ◌+◌, List, [], ◌∷◌, length, ap, ◌∙◌, Contains, arith}
 use Rattle.std.proofs.lemmas.List.{length-append}
-use Rattle.lockmachine.specs.declared.request.Request.{Request}
-use Rattle.lockmachine.specs.Requests.{is_numbered}
-use Rattle.lockmachine.specs.Locks.{LockMap, IsLockMap, without_request}
-use Rattle.lockmachine.specs.Scene.{Scene}
-use Rattle.lockmachine.proofs.Queue.{taken_alone}
+use Rattle.capacts.specs.Lockmachine.declared.request.Request.{Request}
+use Rattle.capacts.specs.Lockmachine.Requests.{is_numbered}
+use Rattle.capacts.specs.Lockmachine.Locks.{LockMap, IsLockMap, without_request}
+use Rattle.capacts.specs.Lockmachine.Scene.{Scene}
+use Rattle.capacts.proofs.Lockmachine.Queue.{taken_alone}
 use Rattle.capsteps.specs.Settle.{Made, Began, Gathered, Served, Makes, MakesAll, ended_in}
 use Rattle.capsteps.proofs.Leaving.{found-contains}
 use Rattle.capsteps.proofs.Moved.{moved-made}

@@ -25,19 +25,19 @@ use Rattle.captable.proofs.ByHolder.{entry_at-changed, entry_at-changed_other, e
 use Rattle.captable.proofs.Searches.{find_passes, find-map}
 use Rattle.captable.proofs.Shown.{shown-numbered, shown-less, shown-told}
 use Rattle.captable.proofs.Tables.{same_equiv, same-is}
-use Rattle.lockmachine.specs.Scene.{Scene, against, told_set}
-use Rattle.lockmachine.specs.Told.{is_taken}
-use Rattle.lockmachine.proofs.Told.{has-against, has-told}
-use Rattle.lockmachine.proofs.Exact.{settled as at_rest_settled}
-use Rattle.capevents.specs.declared.event.Event.{Event}
-use Rattle.capevents.specs.declared.event.Event.TheVariants as event
-use Rattle.capevents.specs.declared.event.OpenMode.{OpenMode}
-use Rattle.capevents.specs.declared.row.Row.{Row}
-use Rattle.capevents.specs.declared.outcome.Ended.{Ended}
-use Rattle.capevents.specs.declared.outcome.Message.{Message}
-use Rattle.capevents.specs.declared.outcome.Message.TheVariants as message
-use Rattle.capevents.specs.declared.reply.Reply.{Reply}
-use Rattle.capevents.specs.declared.reply.Reply.TheVariants as reply
+use Rattle.capacts.specs.Lockmachine.Scene.{Scene, against, told_set}
+use Rattle.capacts.specs.Lockmachine.Told.{is_taken}
+use Rattle.capacts.proofs.Lockmachine.Told.{has-against, has-told}
+use Rattle.capacts.proofs.Lockmachine.Exact.{settled as at_rest_settled}
+use Rattle.capacts.specs.Capevents.declared.event.Event.{Event}
+use Rattle.capacts.specs.Capevents.declared.event.Event.TheVariants as event
+use Rattle.capacts.specs.Capevents.declared.event.OpenMode.{OpenMode}
+use Rattle.capacts.specs.Capevents.declared.row.Row.{Row}
+use Rattle.capacts.specs.Capevents.declared.outcome.Ended.{Ended}
+use Rattle.capacts.specs.Capevents.declared.outcome.Message.{Message}
+use Rattle.capacts.specs.Capevents.declared.outcome.Message.TheVariants as message
+use Rattle.capacts.specs.Capevents.declared.reply.Reply.{Reply}
+use Rattle.capacts.specs.Capevents.declared.reply.Reply.TheVariants as reply
 use Rattle.capacts.specs.declared.stopped.Stopped.{Stopped}
 use Rattle.capacts.specs.declared.stopped.Stopped.TheVariants.{ByPolicy, ByTest}
 use Rattle.capsteps.specs.State.{State}
@@ -45,7 +45,7 @@ use Rattle.capsteps.specs.Direct.{Direct, Shows, Gives, direct, effect, effect_u
 use Rattle.capacts.specs.Finish.{is_sized, owed, sizes_owed, due, issue_row, issue, forget, told_before, number_row}
 use Rattle.capacts.specs.Judge.{judged, stop_reply, revoked_of}
 use Rattle.capsteps.specs.Messages.{first_messages, messages_to, after_messages, row_messages, caps_messages, size_message, size_messages, recall_messages, end_message, end_messages, is_caps_of, is_size_of, is_recall_of, told_if, sized_if, unasked_if}
-use Rattle.capnotes.specs.Untold.{is_to}
+use Rattle.capacts.specs.Capnotes.Untold.{is_to}
 use Rattle.capsteps.specs.Settle.{Made, Settles, ended_in, sized_in}
 use Rattle.capsteps.specs.Shown.{AreShown, shown_by, shown_of, shown_opened, shown_less, shown_given, shown_in}
 use Rattle.capsteps.specs.Sound.{IsSound, IsSoundEntry}

@@ -20,8 +20,8 @@ use Rattle.captable.specs.Calls.{is_of_inode, renumbered, with_size_due}
 use Rattle.captable.specs.Many.{changed_where, remade}
 use Rattle.captable.proofs.ByHolder.{row_found}
 use Rattle.captable.proofs.Searches.{find-map}
-use Rattle.lockmachine.specs.Locks.{IsLockMap}
-use Rattle.lockmachine.specs.Scene.{Scene, told_set}
+use Rattle.capacts.specs.Lockmachine.Locks.{IsLockMap}
+use Rattle.capacts.specs.Lockmachine.Scene.{Scene, told_set}
 use Rattle.capacts.specs.Finish.{is_sized, owed, sizes_owed, issue_row, issue, is_kept, forget, told_before, number_row, number, finished}
 use Rattle.capsteps.specs.Headline.{IssuesExactly}
 use Rattle.capsteps.specs.Settle.{Made, sized_in}

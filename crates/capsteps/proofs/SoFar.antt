@@ -13,29 +13,29 @@ use Rattle.inotree.specs.Tree.{Nodes, IsTree, is_within}
 use Rattle.inotree.specs.Alike.{IsAlike}
 use Rattle.captable.specs.declared.entry.EntryRow.{EntryRow}
 use Rattle.captable.specs.Calls.{is_of_inode, entries_on}
-use Rattle.lockmachine.specs.declared.request.Request.{Request}
-use Rattle.lockmachine.specs.declared.moves.Move.TheVariants.{Serve, Settled}
-use Rattle.lockmachine.specs.Inodes.{lock_in}
-use Rattle.lockmachine.specs.Requests.{first_for, is_numbered, part_of_ask}
-use Rattle.lockmachine.specs.Locks.{IsLockMap, lock_at, request_at, without_request}
-use Rattle.lockmachine.specs.Wants.{want_of, in_all}
-use Rattle.lockmachine.specs.Scene.{Scene}
-use Rattle.lockmachine.specs.Moves.{may_begin, may_begin_in, is_servable, first_move, IsQuietOutside}
-use Rattle.lockmachine.specs.Turns.{IsTurnOf, NobodyElsewhere, NothingEnds, WaitAt}
-use Rattle.lockmachine.proofs.Alone.{nobody-held, served-alone}
-use Rattle.lockmachine.proofs.Exact.{ends_not, begins_not}
-use Rattle.lockmachine.proofs.Finding.{contains-filter}
-use Rattle.lockmachine.proofs.PolicyElsewhere.{alike-itself}
-use Rattle.lockmachine.proofs.SameBut.{begin-alike, first-moved}
-use Rattle.lockmachine.proofs.Turns.{served-ends, ends-turn}
-use Rattle.lockmachine.proofs.Waiting.{quiet-waits-at, waits-wider, waits-less-at, served-at}
-use Rattle.capevents.specs.declared.outcome.Ended.{Ended}
-use Rattle.capnotes.specs.InoSets.{InoSet}
+use Rattle.capacts.specs.Lockmachine.declared.request.Request.{Request}
+use Rattle.capacts.specs.Lockmachine.declared.moves.Move.TheVariants.{Serve, Settled}
+use Rattle.capacts.specs.Lockmachine.Inodes.{lock_in}
+use Rattle.capacts.specs.Lockmachine.Requests.{first_for, is_numbered, part_of_ask}
+use Rattle.capacts.specs.Lockmachine.Locks.{IsLockMap, lock_at, request_at, without_request}
+use Rattle.capacts.specs.Lockmachine.Wants.{want_of, in_all}
+use Rattle.capacts.specs.Lockmachine.Scene.{Scene}
+use Rattle.capacts.specs.Lockmachine.Moves.{may_begin, may_begin_in, is_servable, first_move, IsQuietOutside}
+use Rattle.capacts.specs.Lockmachine.Turns.{IsTurnOf, NobodyElsewhere, NothingEnds, WaitAt}
+use Rattle.capacts.proofs.Lockmachine.Alone.{nobody-held, served-alone}
+use Rattle.capacts.proofs.Lockmachine.Exact.{ends_not, begins_not}
+use Rattle.capacts.proofs.Lockmachine.Finding.{contains-filter}
+use Rattle.capacts.proofs.Lockmachine.PolicyElsewhere.{alike-itself}
+use Rattle.capacts.proofs.Lockmachine.SameBut.{begin-alike, first-moved}
+use Rattle.capacts.proofs.Lockmachine.Turns.{served-ends, ends-turn}
+use Rattle.capacts.proofs.Lockmachine.Waiting.{quiet-waits-at, waits-wider, waits-less-at, served-at}
+use Rattle.capacts.specs.Capevents.declared.outcome.Ended.{Ended}
+use Rattle.capacts.specs.Capnotes.InoSets.{InoSet}
 use Rattle.capacts.specs.declared.sweep.SweepPlace.{SweepPlace}
 use Rattle.capacts.specs.Served.{is_rename}
 use Rattle.capacts.specs.Reach.{is_touched, Widens, Covers, Reaches}
 use Rattle.capsteps.specs.Serves.{Serves, SettlesWith}
-use Rattle.capnotes.specs.Changing.{tree_after}
+use Rattle.capacts.specs.Capnotes.Changing.{tree_after}
 use Rattle.capsteps.specs.Settle.{Made, Began, Gathered, Served, Makes, MakesAll, ended_by, ended_in, sized_by, sized_in}
 use Rattle.capsteps.specs.Sweep.{AreStill, GoesOnBehind, IsFirstPlace, IsSwept, IsTurnOfLeast, StandsAt, changed_alone}
 use Rattle.capsteps.specs.Touching.{IsSameOff}

@@ -22,16 +22,16 @@ use Rattle.captable.specs.Calls.{is_of_inode}
 use Rattle.captable.proofs.ByHolder.{row_found}
 use Rattle.captable.proofs.Searches.{find-filter_kept}
 use Rattle.captable.proofs.Tables.{same-is}
-use Rattle.lockmachine.specs.declared.moves.Move.TheVariants.{Settled}
-use Rattle.lockmachine.specs.Inodes.{StateMap, lock_in}
-use Rattle.lockmachine.specs.Locks.{IsLockMap, lock_at}
-use Rattle.lockmachine.specs.Requests.{first_for}
-use Rattle.lockmachine.specs.Scene.{Scene}
-use Rattle.lockmachine.specs.Moves.{first_move, IsQuiet, IsAtRest, WaitAtLocks}
-use Rattle.lockmachine.specs.Rows.{IsInRow}
-use Rattle.lockmachine.specs.Wants.{effective_want}
-use Rattle.lockmachine.proofs.Rest.{at_rest}
-use Rattle.capevents.specs.declared.outcome.Ended.{Ended}
+use Rattle.capacts.specs.Lockmachine.declared.moves.Move.TheVariants.{Settled}
+use Rattle.capacts.specs.Lockmachine.Inodes.{StateMap, lock_in}
+use Rattle.capacts.specs.Lockmachine.Locks.{IsLockMap, lock_at}
+use Rattle.capacts.specs.Lockmachine.Requests.{first_for}
+use Rattle.capacts.specs.Lockmachine.Scene.{Scene}
+use Rattle.capacts.specs.Lockmachine.Moves.{first_move, IsQuiet, IsAtRest, WaitAtLocks}
+use Rattle.capacts.specs.Lockmachine.Rows.{IsInRow}
+use Rattle.capacts.specs.Lockmachine.Wants.{effective_want}
+use Rattle.capacts.proofs.Lockmachine.Rest.{at_rest}
+use Rattle.capacts.specs.Capevents.declared.outcome.Ended.{Ended}
 use Rattle.capsteps.specs.State.{State}
 use Rattle.capacts.specs.Finish.{due, allowed_to}
 use Rattle.capsteps.specs.Sound.{IsSoundEntry, IsSound, AreGiven}

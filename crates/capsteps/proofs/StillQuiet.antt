@@ -4,10 +4,10 @@ use Rattle.capbits.specs.declared.cap.Part.{Part}
 use Rattle.locktable.specs.declared.states.State.{State as LockGoal}
 use Rattle.locktable.specs.declared.states.LockState.{LockState}
 use Rattle.locktable.specs.declared.states.LockState.TheVariants.{Stable, Gather}
-use Rattle.lockmachine.specs.Requests.{first_for}
-use Rattle.lockmachine.specs.Wants.{in_all}
-use Rattle.lockmachine.specs.Scene.{Scene, wants, target_by}
-use Rattle.lockmachine.specs.Moves.{IsQuiet, is_open}
+use Rattle.capacts.specs.Lockmachine.Requests.{first_for}
+use Rattle.capacts.specs.Lockmachine.Wants.{in_all}
+use Rattle.capacts.specs.Lockmachine.Scene.{Scene, wants, target_by}
+use Rattle.capacts.specs.Lockmachine.Moves.{IsQuiet, is_open}
 
 pub still_quiet : (old new : Scene) (ino : ℕ) (part : Part) → new.locks.queue ≡ old.locks.queue → wants new ino ≡ wants old ino
     → ((goal : LockGoal) → is_open new ino part goal ≡ is_open old ino part goal) → (lock : Option LockState) → IsQuiet old ino part lock → IsQuiet new ino part lock

@@ -1,13 +1,13 @@
 -- In a sound state an event that is stopped has one step alone, which changes nothing.
 use Rattle.std.proofs.Common.{◌≡◌, Some, List, [], ◌∷◌, refl, sym, ap, subst, ◌∙◌, append-nil}
 use Rattle.captable.specs.Table.{IsTable}
-use Rattle.lockmachine.specs.Scene.{Scene}
-use Rattle.lockmachine.proofs.Exact.{settled}
-use Rattle.lockmachine.specs.Moves.{first_move}
-use Rattle.lockmachine.specs.declared.moves.Move.TheVariants.{Begin, End, Serve, Settled}
-use Rattle.capevents.specs.declared.event.Event.{Event}
-use Rattle.capevents.specs.declared.outcome.Ended.{Ended}
-use Rattle.capevents.specs.declared.reply.Reply.{Reply}
+use Rattle.capacts.specs.Lockmachine.Scene.{Scene}
+use Rattle.capacts.proofs.Lockmachine.Exact.{settled}
+use Rattle.capacts.specs.Lockmachine.Moves.{first_move}
+use Rattle.capacts.specs.Lockmachine.declared.moves.Move.TheVariants.{Begin, End, Serve, Settled}
+use Rattle.capacts.specs.Capevents.declared.event.Event.{Event}
+use Rattle.capacts.specs.Capevents.declared.outcome.Ended.{Ended}
+use Rattle.capacts.specs.Capevents.declared.reply.Reply.{Reply}
 use Rattle.capacts.specs.declared.stopped.Stopped.{Stopped}
 use Rattle.capsteps.specs.State.{State}
 use Rattle.capacts.specs.Judge.{judged, stop_reply}

@@ -19,9 +19,9 @@ use Rattle.inotree.proofs.Elsewhere.{path_of-kept}
 use Rattle.numbered.proofs.Maps.{same_or_other, remove-here, remove-other}
 use Rattle.captable.specs.declared.entry.EntryRow.{EntryRow}
 use Rattle.captable.specs.Calls.{is_of_inode}
-use Rattle.lockmachine.specs.Locks.{without_ino}
-use Rattle.lockmachine.specs.Scene.{Scene}
-use Rattle.capnotes.specs.InoSets.{InoSet, IsListOf}
+use Rattle.capacts.specs.Lockmachine.Locks.{without_ino}
+use Rattle.capacts.specs.Lockmachine.Scene.{Scene}
+use Rattle.capacts.specs.Capnotes.InoSets.{InoSet, IsListOf}
 use Rattle.capacts.specs.Finish.{is_kept}
 use Rattle.capsteps.specs.Touching.{stays, forget_at, forget_among}
 use Rattle.capsteps.proofs.Finishing.{same_kept}

@@ -8,25 +8,25 @@ use Rattle.std.specs.FinMap as map
 use Rattle.std.specs.FinSet as set
 use Rattle.std.proofs.lemmas.Bool.{ltb-true, lt-ltb, le-ltb}
 use Rattle.std.proofs.lemmas.List.Sums.{sum_by-cons}
-use Rattle.lockmachine.proofs.Rest.{same_key}
-use Rattle.capnotes.specs.InoSets.{InoSet}
+use Rattle.capacts.proofs.Lockmachine.Rest.{same_key}
+use Rattle.capacts.specs.Capnotes.InoSets.{InoSet}
 use Rattle.capacts.specs.Reach.{is_touched}
 use Rattle.capbits.specs.declared.cap.Part.{Part}
 use Rattle.capbits.specs.declared.cap.Part.TheVariants.{A, L, X, F}
 use Rattle.capbits.specs.declared.ids.Ino.{Ino}
 use Rattle.locktable.specs.declared.states.LockState.{LockState}
-use Rattle.lockmachine.specs.declared.request.Request.{Request}
-use Rattle.lockmachine.specs.declared.states.InodeLocks.{InodeLocks}
-use Rattle.lockmachine.specs.Inodes.{lock_in}
-use Rattle.lockmachine.specs.Locks.{LockMap, lock_at}
-use Rattle.lockmachine.specs.Scene.{Scene, wanted_in_all}
-use Rattle.lockmachine.specs.Moves.{may_end_by, may_end_in, may_begin_in, first_move}
-use Rattle.lockmachine.specs.declared.moves.Move.TheVariants.{Settled}
-use Rattle.lockmachine.specs.Runs.{MoveLittle, ChangesLocksOf}
-use Rattle.lockmachine.specs.Turns.{IsTurnOf, IsDoneAt, WaitAt}
-use Rattle.lockmachine.proofs.Turns.{turn-passes, turn-rests}
-use Rattle.lockmachine.proofs.Finding.{by_number}
-use Rattle.lockmachine.proofs.Waiting.{waits-kept-at}
+use Rattle.capacts.specs.Lockmachine.declared.request.Request.{Request}
+use Rattle.capacts.specs.Lockmachine.declared.states.InodeLocks.{InodeLocks}
+use Rattle.capacts.specs.Lockmachine.Inodes.{lock_in}
+use Rattle.capacts.specs.Lockmachine.Locks.{LockMap, lock_at}
+use Rattle.capacts.specs.Lockmachine.Scene.{Scene, wanted_in_all}
+use Rattle.capacts.specs.Lockmachine.Moves.{may_end_by, may_end_in, may_begin_in, first_move}
+use Rattle.capacts.specs.Lockmachine.declared.moves.Move.TheVariants.{Settled}
+use Rattle.capacts.specs.Lockmachine.Runs.{MoveLittle, ChangesLocksOf}
+use Rattle.capacts.specs.Lockmachine.Turns.{IsTurnOf, IsDoneAt, WaitAt}
+use Rattle.capacts.proofs.Lockmachine.Turns.{turn-passes, turn-rests}
+use Rattle.capacts.proofs.Lockmachine.Finding.{by_number}
+use Rattle.capacts.proofs.Lockmachine.Waiting.{waits-kept-at}
 use Rattle.captable.specs.Table.{Table}
 use Rattle.capsteps.specs.Settle.{ended_in}
 use Rattle.capsteps.specs.Sweep.{AreStill, IsSwept, IsNextOf}

@@ -22,18 +22,18 @@ use Rattle.captable.specs.Calls.{is_of_client, is_of_inode, change_rows, changed
 use Rattle.captable.specs.Many.{changed_where, remade}
 use Rattle.captable.proofs.OneByOne.{fold-changed_by}
 use Rattle.captable.proofs.Searches.{find-map, filter-map}
-use Rattle.lockmachine.specs.Locks.{lock_at}
-use Rattle.lockmachine.specs.Wants.{want_of}
-use Rattle.lockmachine.specs.Scene.{Scene, wants, outside}
-use Rattle.lockmachine.specs.Moves.{is_open}
-use Rattle.capevents.specs.declared.outcome.Ended.{Ended}
-use Rattle.capevents.specs.declared.outcome.Message.{Message}
+use Rattle.capacts.specs.Lockmachine.Locks.{lock_at}
+use Rattle.capacts.specs.Lockmachine.Wants.{want_of}
+use Rattle.capacts.specs.Lockmachine.Scene.{Scene, wants, outside}
+use Rattle.capacts.specs.Lockmachine.Moves.{is_open}
+use Rattle.capacts.specs.Capevents.declared.outcome.Ended.{Ended}
+use Rattle.capacts.specs.Capevents.declared.outcome.Message.{Message}
 use Rattle.capsteps.specs.State.{State}
 use Rattle.capsteps.specs.Direct.{Answer, Says, Shows, Gives, Awaits, with_scene, shown}
 use Rattle.capacts.specs.Finish.{due}
 use Rattle.capsteps.specs.Headline.{holds, is_due, IssuesExactly, IsInPlace, AreInPlace}
 use Rattle.capsteps.specs.Messages.{first_messages, after_messages, is_caps_of, is_size_of, is_recall_of, told_if, sized_if, unasked_if}
-use Rattle.capnotes.specs.Untold.{is_end_of, is_to}
+use Rattle.capacts.specs.Capnotes.Untold.{is_end_of, is_to}
 use Rattle.capsteps.specs.Sound.{IsSoundEntry, IsSound, AreGiven}
 use Rattle.capsteps.proofs.StillQuiet.{still_quiet}
 

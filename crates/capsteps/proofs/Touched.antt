@@ -41,20 +41,20 @@ use Rattle.captable.proofs.Tables.{same_equiv, IsTable-changed, IsTable-opened, 
 use Rattle.captable.proofs.Moves.{IsTable-touched}
 use Rattle.captable.proofs.ByHolder.{row_found}
 use Rattle.captable.proofs.ByInode.{entries_on-changed, entries_on-opened, entries_on-released, entries_on-without}
-use Rattle.lockmachine.specs.Inodes.{StateMap, lock_in}
-use Rattle.lockmachine.specs.Locks.{lock_at}
-use Rattle.lockmachine.specs.Policy.{Subject, subject, question_of, is_granted_to, permitted, permitted_to}
-use Rattle.lockmachine.specs.Rows.{IsInRowOf, IsInRow}
-use Rattle.lockmachine.specs.Requests.{part_of_ask}
-use Rattle.lockmachine.specs.Scene.{Scene, outside}
-use Rattle.lockmachine.specs.Turns.{WaitAt}
-use Rattle.lockmachine.specs.Moves.{present_state, is_open, IsQuiet}
-use Rattle.lockmachine.specs.Wants.{effective_want}
-use Rattle.lockmachine.proofs.SameBut.{same-entries}
-use Rattle.capevents.specs.declared.event.Event.{Event}
-use Rattle.capevents.specs.declared.event.Event.TheVariants as event
-use Rattle.capevents.specs.declared.event.OpenMode.{OpenMode}
-use Rattle.capevents.specs.declared.event.OpenMode.TheVariants as opening
+use Rattle.capacts.specs.Lockmachine.Inodes.{StateMap, lock_in}
+use Rattle.capacts.specs.Lockmachine.Locks.{lock_at}
+use Rattle.capacts.specs.Lockmachine.Policy.{Subject, subject, question_of, is_granted_to, permitted, permitted_to}
+use Rattle.capacts.specs.Lockmachine.Rows.{IsInRowOf, IsInRow}
+use Rattle.capacts.specs.Lockmachine.Requests.{part_of_ask}
+use Rattle.capacts.specs.Lockmachine.Scene.{Scene, outside}
+use Rattle.capacts.specs.Lockmachine.Turns.{WaitAt}
+use Rattle.capacts.specs.Lockmachine.Moves.{present_state, is_open, IsQuiet}
+use Rattle.capacts.specs.Lockmachine.Wants.{effective_want}
+use Rattle.capacts.proofs.Lockmachine.SameBut.{same-entries}
+use Rattle.capacts.specs.Capevents.declared.event.Event.{Event}
+use Rattle.capacts.specs.Capevents.declared.event.Event.TheVariants as event
+use Rattle.capacts.specs.Capevents.declared.event.OpenMode.{OpenMode}
+use Rattle.capacts.specs.Capevents.declared.event.OpenMode.TheVariants as opening
 use Rattle.capsteps.specs.declared.touch.Touch.{Touch}
 use Rattle.capsteps.specs.declared.touch.Touch.TheVariants.{Open, Want, Ack, Release}
 use Rattle.capsteps.specs.State.{State}

@@ -2,10 +2,10 @@
 use Rattle.std.proofs.Common.{◌≡◌, ℕ, inl, inr, sym, subst}
 use Rattle.captable.specs.Table.{Table}
 use Rattle.inotree.specs.Tree.{Nodes}
-use Rattle.lockmachine.specs.declared.request.Request.{Request}
-use Rattle.capevents.specs.declared.outcome.Outcome.{Outcome}
-use Rattle.capnotes.specs.InoSets.{InoSet}
-use Rattle.capnotes.specs.Changing.{tree_after}
+use Rattle.capacts.specs.Lockmachine.declared.request.Request.{Request}
+use Rattle.capacts.specs.Capevents.declared.outcome.Outcome.{Outcome}
+use Rattle.capacts.specs.Capnotes.InoSets.{InoSet}
+use Rattle.capacts.specs.Capnotes.Changing.{tree_after}
 use Rattle.capacts.specs.Reach.{AreWalked, Covers, Reaches}
 use Rattle.capsteps.proofs.OneChange.{within-after}
 

@@ -1,6 +1,6 @@
 -- What a step says, and what it leaves.
 use Rattle.std.specs.Prelude.{◌≡◌, ℕ, ◌+◌}
-use Rattle.capevents.specs.declared.event.Event.{Event}
+use Rattle.capacts.specs.Capevents.declared.event.Event.{Event}
 use Rattle.capsteps.specs.declared.said.Said.{Said}
 use Rattle.capsteps.specs.State.{State}
 use Rattle.capsteps.specs.Direct.{direct}

@@ -23,23 +23,23 @@ use Rattle.captable.specs.declared.entry.Holder.{Holder}
 use Rattle.captable.specs.declared.entry.EntryRow.{EntryRow}
 use Rattle.captable.specs.Table.{Table, holder, is_row_of, entry_at}
 use Rattle.captable.specs.Calls.{opened, wanting, acked, released, touched, told, recalled, without_client, changed as changed_entry}
-use Rattle.lockmachine.specs.declared.request.Ask.{Ask}
-use Rattle.lockmachine.specs.declared.request.Ask.TheVariants.{Get, Alter, Unlink, Rmdir, Rename}
-use Rattle.lockmachine.specs.declared.request.Change.{Change}
-use Rattle.lockmachine.specs.Locks.{with_ino, with_request, requests_of, without_requests_of}
-use Rattle.lockmachine.specs.Scene.{Scene, told_set}
-use Rattle.capevents.specs.Replies.{outcome_reply}
-use Rattle.capevents.specs.declared.event.Event.{Event}
-use Rattle.capevents.specs.declared.event.Event.TheVariants as event
-use Rattle.capevents.specs.declared.event.OpenMode.{OpenMode}
-use Rattle.capevents.specs.declared.event.OpenMode.TheVariants as opening
-use Rattle.capevents.specs.declared.outcome.Ended.{Ended}
-use Rattle.capevents.specs.declared.reply.Reply.{Reply}
-use Rattle.capevents.specs.declared.reply.Reply.TheVariants as reply
-use Rattle.capnotes.specs.Untold.{is_of_ticket, is_to}
+use Rattle.capacts.specs.Lockmachine.declared.request.Ask.{Ask}
+use Rattle.capacts.specs.Lockmachine.declared.request.Ask.TheVariants.{Get, Alter, Unlink, Rmdir, Rename}
+use Rattle.capacts.specs.Lockmachine.declared.request.Change.{Change}
+use Rattle.capacts.specs.Lockmachine.Locks.{with_ino, with_request, requests_of, without_requests_of}
+use Rattle.capacts.specs.Lockmachine.Scene.{Scene, told_set}
+use Rattle.capacts.specs.Capevents.Replies.{outcome_reply}
+use Rattle.capacts.specs.Capevents.declared.event.Event.{Event}
+use Rattle.capacts.specs.Capevents.declared.event.Event.TheVariants as event
+use Rattle.capacts.specs.Capevents.declared.event.OpenMode.{OpenMode}
+use Rattle.capacts.specs.Capevents.declared.event.OpenMode.TheVariants as opening
+use Rattle.capacts.specs.Capevents.declared.outcome.Ended.{Ended}
+use Rattle.capacts.specs.Capevents.declared.reply.Reply.{Reply}
+use Rattle.capacts.specs.Capevents.declared.reply.Reply.TheVariants as reply
+use Rattle.capacts.specs.Capnotes.Untold.{is_of_ticket, is_to}
 use Rattle.capsteps.specs.State.{State}
 use Rattle.capacts.specs.declared.stopped.Stopped.{Stopped}
-use Rattle.capnotes.specs.Changing.{tree_changed}
+use Rattle.capacts.specs.Capnotes.Changing.{tree_changed}
 use Rattle.capacts.specs.Left.{dropped_of}
 use Rattle.capacts.specs.Judge.{judged, stop_reply, revoked_of}
 use Rattle.capsteps.specs.Messages.{first_messages, with_given}

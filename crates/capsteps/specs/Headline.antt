@@ -16,26 +16,26 @@ use Rattle.locktable.specs.Rows.{row_of}
 use Rattle.captable.specs.declared.entry.Holder.{Holder}
 use Rattle.captable.specs.declared.entry.EntryRow.{EntryRow}
 use Rattle.captable.specs.Table.{is_row_of}
-use Rattle.lockmachine.specs.Locks.{LockMap, lock_at}
-use Rattle.lockmachine.specs.Policy.{failures, permitted}
-use Rattle.lockmachine.specs.declared.request.Request.{Request}
-use Rattle.lockmachine.specs.Requests.{same_part}
-use Rattle.lockmachine.specs.Scene.{Scene, against}
-use Rattle.lockmachine.specs.Moves.{is_open}
-use Rattle.lockmachine.specs.Runs.{AreFew}
-use Rattle.lockmachine.specs.declared.moves.Move.{Move}
-use Rattle.lockmachine.specs.declared.moves.Move.TheVariants.{Begin, End, Serve}
-use Rattle.capevents.specs.declared.outcome.Outcome.{Outcome}
-use Rattle.capevents.specs.declared.outcome.Outcome.TheVariants as outcome
+use Rattle.capacts.specs.Lockmachine.Locks.{LockMap, lock_at}
+use Rattle.capacts.specs.Lockmachine.Policy.{failures, permitted}
+use Rattle.capacts.specs.Lockmachine.declared.request.Request.{Request}
+use Rattle.capacts.specs.Lockmachine.Requests.{same_part}
+use Rattle.capacts.specs.Lockmachine.Scene.{Scene, against}
+use Rattle.capacts.specs.Lockmachine.Moves.{is_open}
+use Rattle.capacts.specs.Lockmachine.Runs.{AreFew}
+use Rattle.capacts.specs.Lockmachine.declared.moves.Move.{Move}
+use Rattle.capacts.specs.Lockmachine.declared.moves.Move.TheVariants.{Begin, End, Serve}
+use Rattle.capacts.specs.Capevents.declared.outcome.Outcome.{Outcome}
+use Rattle.capacts.specs.Capevents.declared.outcome.Outcome.TheVariants as outcome
 use Rattle.capacts.specs.Asks.{ask_before, ask_needs}
 use Rattle.capsteps.specs.Settle.{Made, Began, Gathered, Served, MakesAll, ended_in}
 use Rattle.capsteps.specs.State.{State}
 use Rattle.capsteps.specs.Direct.{direct}
 use Rattle.capsteps.specs.Step.{StepBy}
-use Rattle.capevents.specs.declared.outcome.Ended.{Ended}
-use Rattle.capevents.specs.declared.event.Event.{Event}
-use Rattle.capevents.specs.declared.reply.Reply.{Reply}
-use Rattle.capevents.specs.declared.reply.Reply.TheVariants as reply
+use Rattle.capacts.specs.Capevents.declared.outcome.Ended.{Ended}
+use Rattle.capacts.specs.Capevents.declared.event.Event.{Event}
+use Rattle.capacts.specs.Capevents.declared.reply.Reply.{Reply}
+use Rattle.capacts.specs.Capevents.declared.reply.Reply.TheVariants as reply
 use Rattle.capbits.specs.Refusal.{Test, first_failing}
 use Rattle.capacts.specs.Needs.{Need}
 use Rattle.capacts.specs.Judge.{before, needs, first_denied}

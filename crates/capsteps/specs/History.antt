@@ -7,12 +7,12 @@ use Rattle.capbits.specs.declared.ids.PassId.{PassId}
 use Rattle.inotree.specs.declared.node.Place.TheVariants.{Gone}
 use Rattle.inotree.specs.Tree.{Nodes, place}
 use Rattle.captable.specs.Table as table
-use Rattle.lockmachine.specs.Inodes.{in_sync}
-use Rattle.capview.specs.declared.change.ViewChange.{ViewChange}
-use Rattle.capevents.specs.declared.event.Event.{Event}
-use Rattle.capevents.specs.declared.row.Row.{Row}
-use Rattle.capevents.specs.declared.outcome.Ended.{Ended}
-use Rattle.capevents.specs.declared.reply.Reply.{Reply}
+use Rattle.capacts.specs.Lockmachine.Inodes.{in_sync}
+use Rattle.capacts.specs.Capview.declared.change.ViewChange.{ViewChange}
+use Rattle.capacts.specs.Capevents.declared.event.Event.{Event}
+use Rattle.capacts.specs.Capevents.declared.row.Row.{Row}
+use Rattle.capacts.specs.Capevents.declared.outcome.Ended.{Ended}
+use Rattle.capacts.specs.Capevents.declared.reply.Reply.{Reply}
 use Rattle.capacts.specs.Numbers.{rows_of, AreNumbered}
 use Rattle.capsteps.specs.State.{State}
 use Rattle.capsteps.specs.Step.{Step}

@@ -15,3 +15,8 @@ pub mod Noted
 pub mod Serves
 pub mod Sweep
 pub mod Shown
+pub use Rattle.capacts.specs as Capacts
+pub use Rattle.capacts.specs.Capevents
+pub use Rattle.capacts.specs.Capnotes
+pub use Rattle.capacts.specs.Capview
+pub use Rattle.capacts.specs.Lockmachine

@@ -1,6 +1,6 @@
 -- What readers see of a state.
-use Rattle.capview.specs.declared.view.View.{View}
-use Rattle.capnotes.specs.Noted.{view}
+use Rattle.capacts.specs.Capview.declared.view.View.{View}
+use Rattle.capacts.specs.Capnotes.Noted.{view}
 use Rattle.capsteps.specs.State.{State}
 
 abbrev pub view_of : State → View

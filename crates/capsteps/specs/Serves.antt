@@ -6,12 +6,12 @@ use Rattle.capbits.specs.declared.ids.Ticket.{Ticket}
 use Rattle.capbits.specs.Caps.{Caps}
 use Rattle.captable.specs.declared.entry.Holder.{Holder}
 use Rattle.inotree.specs.Tree.{IsTree}
-use Rattle.lockmachine.specs.declared.request.Request.{Request}
-use Rattle.lockmachine.specs.Locks.{request_at, without_request}
-use Rattle.lockmachine.specs.Scene.{Scene}
-use Rattle.capevents.specs.declared.outcome.Ended.{Ended}
+use Rattle.capacts.specs.Lockmachine.declared.request.Request.{Request}
+use Rattle.capacts.specs.Lockmachine.Locks.{request_at, without_request}
+use Rattle.capacts.specs.Lockmachine.Scene.{Scene}
+use Rattle.capacts.specs.Capevents.declared.outcome.Ended.{Ended}
 use Rattle.capacts.specs.Serving.{MayEndAs}
-use Rattle.capnotes.specs.Changing.{tree_after}
+use Rattle.capacts.specs.Capnotes.Changing.{tree_after}
 use Rattle.capacts.specs.Finish.{sizes_owed}
 use Rattle.capsteps.specs.Settle.{Made, ended_in, sized_in}
 use Rattle.capsteps.specs.Touching.{SettlesAt, told_then, finished_at}

@@ -10,15 +10,15 @@ use Rattle.captable.specs.declared.entry.Entry.{Entry}
 use Rattle.captable.specs.declared.entry.Holder.{Holder}
 use Rattle.captable.specs.Shown.{IsShown}
 use Rattle.captable.specs.Table.{holder, same, entry_at}
-use Rattle.lockmachine.specs.Policy.{permitted}
-use Rattle.lockmachine.specs.Scene.{Scene, told_set}
-use Rattle.capevents.specs.declared.event.Event.{Event}
-use Rattle.capevents.specs.declared.event.Event.TheVariants as event
-use Rattle.capevents.specs.declared.row.Row.{Row}
-use Rattle.capevents.specs.declared.outcome.Message.{Message}
-use Rattle.capevents.specs.declared.outcome.Message.TheVariants as message
-use Rattle.capevents.specs.declared.reply.Reply.{Reply}
-use Rattle.capevents.specs.declared.reply.Reply.TheVariants as reply
+use Rattle.capacts.specs.Lockmachine.Policy.{permitted}
+use Rattle.capacts.specs.Lockmachine.Scene.{Scene, told_set}
+use Rattle.capacts.specs.Capevents.declared.event.Event.{Event}
+use Rattle.capacts.specs.Capevents.declared.event.Event.TheVariants as event
+use Rattle.capacts.specs.Capevents.declared.row.Row.{Row}
+use Rattle.capacts.specs.Capevents.declared.outcome.Message.{Message}
+use Rattle.capacts.specs.Capevents.declared.outcome.Message.TheVariants as message
+use Rattle.capacts.specs.Capevents.declared.reply.Reply.{Reply}
+use Rattle.capacts.specs.Capevents.declared.reply.Reply.TheVariants as reply
 use Rattle.capsteps.specs.Headline.{holds}
 
 -- ---- by rows alone

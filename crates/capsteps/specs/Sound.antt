@@ -11,8 +11,8 @@ use Rattle.inotree.specs.Tree.{place}
 use Rattle.sessiontab.specs.Calls.{has_session}
 use Rattle.captable.specs.declared.entry.EntryRow.{EntryRow}
 use Rattle.captable.specs.Calls.{is_of_inode}
-use Rattle.lockmachine.specs.Scene.{Scene}
-use Rattle.lockmachine.specs.Moves.{IsAtRest}
+use Rattle.capacts.specs.Lockmachine.Scene.{Scene}
+use Rattle.capacts.specs.Lockmachine.Moves.{IsAtRest}
 use Rattle.capacts.specs.Finish.{due}
 use Rattle.capsteps.specs.Headline.{AreInPlace}
 use Rattle.capsteps.specs.State.{State}

@@ -1,9 +1,9 @@
 -- One step: the event by itself, the moves, and the end of the step.
 use Rattle.std.specs.Prelude.{◌≡◌, ℕ, nat_le, List, ◌++◌, filter}
-use Rattle.lockmachine.specs.Scene.{Scene}
-use Rattle.capevents.specs.declared.event.Event.{Event}
-use Rattle.capevents.specs.declared.outcome.Ended.{Ended}
-use Rattle.capevents.specs.declared.reply.Reply.{Reply}
+use Rattle.capacts.specs.Lockmachine.Scene.{Scene}
+use Rattle.capacts.specs.Capevents.declared.event.Event.{Event}
+use Rattle.capacts.specs.Capevents.declared.outcome.Ended.{Ended}
+use Rattle.capacts.specs.Capevents.declared.reply.Reply.{Reply}
 use Rattle.capsteps.specs.State.{State}
 use Rattle.capsteps.specs.Direct.{Direct, direct, reply_of, shown}
 use Rattle.capsteps.specs.Settle.{Made, Settles, ended_in, sized_in}

@@ -5,12 +5,12 @@ use Rattle.std.specs.FinSet as set
 use Rattle.capbits.specs.declared.cap.Part.{Part}
 use Rattle.capbits.specs.declared.ids.Ino.{Ino}
 use Rattle.capbits.specs.declared.ids.Ticket.{Ticket}
-use Rattle.lockmachine.specs.declared.request.Request.{Request}
-use Rattle.lockmachine.specs.declared.moves.Move.TheVariants.{Serve, Settled}
-use Rattle.lockmachine.specs.Scene.{Scene}
-use Rattle.lockmachine.specs.Moves.{first_move, may_end, may_begin}
-use Rattle.lockmachine.specs.Turns.{IsTurnOf, NobodyElsewhere, WaitAt}
-use Rattle.capnotes.specs.InoSets.{InoSet}
+use Rattle.capacts.specs.Lockmachine.declared.request.Request.{Request}
+use Rattle.capacts.specs.Lockmachine.declared.moves.Move.TheVariants.{Serve, Settled}
+use Rattle.capacts.specs.Lockmachine.Scene.{Scene}
+use Rattle.capacts.specs.Lockmachine.Moves.{first_move, may_end, may_begin}
+use Rattle.capacts.specs.Lockmachine.Turns.{IsTurnOf, NobodyElsewhere, WaitAt}
+use Rattle.capacts.specs.Capnotes.InoSets.{InoSet}
 use Rattle.capacts.specs.declared.sweep.SweepPlace.{SweepPlace}
 use Rattle.capacts.specs.Served.{is_rename}
 use Rattle.capacts.specs.Reach.{is_touched}

@@ -8,9 +8,9 @@ use Rattle.captable.specs.declared.entry.Holder.{Holder}
 use Rattle.captable.specs.Table.{Table}
 use Rattle.captable.specs.Calls.{acked, released}
 use Rattle.captable.specs.Tests.{entry_test, ack_tests, release_tests}
-use Rattle.capevents.specs.declared.event.Event.{Event}
-use Rattle.capevents.specs.declared.event.Event.TheVariants as event
-use Rattle.capevents.specs.declared.reply.Reply.TheVariants as reply
+use Rattle.capacts.specs.Capevents.declared.event.Event.{Event}
+use Rattle.capacts.specs.Capevents.declared.event.Event.TheVariants as event
+use Rattle.capacts.specs.Capevents.declared.reply.Reply.TheVariants as reply
 use Rattle.capsteps.specs.declared.touch.Touch.{Touch}
 use Rattle.capsteps.specs.declared.touch.Touch.TheVariants.{Open, Want, Ack, Release}
 use Rattle.capacts.specs.Judge.{room_for}

@@ -16,17 +16,17 @@ use Rattle.captable.specs.declared.entry.Holder.{Holder}
 use Rattle.captable.specs.Table.{Table, holder}
 use Rattle.captable.specs.Calls.{entries_on, renumbered}
 use Rattle.captable.specs.Many.{changed_where}
-use Rattle.lockmachine.specs.declared.request.Ask.{Ask}
-use Rattle.lockmachine.specs.declared.request.Ask.TheVariants.{Get, Alter, Unlink, Rmdir, Rename}
-use Rattle.lockmachine.specs.Elsewhere.{IsSameBut, IsSameOutside}
-use Rattle.lockmachine.specs.Wants.{effective_want}
-use Rattle.lockmachine.specs.Requests.{first_for}
-use Rattle.lockmachine.specs.Locks.{lock_at, without_ino}
-use Rattle.lockmachine.specs.Scene.{Scene, told_set}
-use Rattle.lockmachine.specs.Rows.{IsInRow}
-use Rattle.lockmachine.specs.Turns.{WaitAt}
-use Rattle.capevents.specs.declared.event.Event.{Event}
-use Rattle.capevents.specs.declared.event.Event.TheVariants as event
+use Rattle.capacts.specs.Lockmachine.declared.request.Ask.{Ask}
+use Rattle.capacts.specs.Lockmachine.declared.request.Ask.TheVariants.{Get, Alter, Unlink, Rmdir, Rename}
+use Rattle.capacts.specs.Lockmachine.Elsewhere.{IsSameBut, IsSameOutside}
+use Rattle.capacts.specs.Lockmachine.Wants.{effective_want}
+use Rattle.capacts.specs.Lockmachine.Requests.{first_for}
+use Rattle.capacts.specs.Lockmachine.Locks.{lock_at, without_ino}
+use Rattle.capacts.specs.Lockmachine.Scene.{Scene, told_set}
+use Rattle.capacts.specs.Lockmachine.Rows.{IsInRow}
+use Rattle.capacts.specs.Lockmachine.Turns.{WaitAt}
+use Rattle.capacts.specs.Capevents.declared.event.Event.{Event}
+use Rattle.capacts.specs.Capevents.declared.event.Event.TheVariants as event
 use Rattle.capacts.specs.Finish.{issue_row, is_kept}
 use Rattle.capsteps.specs.Settle.{Made, Settles}
 use Rattle.capsteps.specs.State.{State}

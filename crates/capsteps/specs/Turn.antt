@@ -11,17 +11,17 @@ use Rattle.sessiontab.specs.Tests.{connected_test, session_tests, stale_tests, e
 use Rattle.captable.specs.declared.entry.EntryRow.{EntryRow}
 use Rattle.captable.specs.Table.{Table}
 use Rattle.captable.specs.Calls.{is_of_client}
-use Rattle.lockmachine.specs.declared.request.Request.{Request}
-use Rattle.lockmachine.specs.Locks.{LockMap}
-use Rattle.lockmachine.specs.Requests.{is_of_client as is_asked_by}
-use Rattle.capview.specs.declared.change.ViewChange.{ViewChange}
-use Rattle.capview.specs.Changes.{AreChanges}
+use Rattle.capacts.specs.Lockmachine.declared.request.Request.{Request}
+use Rattle.capacts.specs.Lockmachine.Locks.{LockMap}
+use Rattle.capacts.specs.Lockmachine.Requests.{is_of_client as is_asked_by}
+use Rattle.capacts.specs.Capview.declared.change.ViewChange.{ViewChange}
+use Rattle.capacts.specs.Capview.Changes.{AreChanges}
 use Rattle.capacts.specs.declared.leaving.Turn.{Turn}
 use Rattle.capacts.specs.declared.leaving.Turn.TheVariants.{Close, Stale, Renew, Regrant, Evict}
-use Rattle.capevents.specs.declared.event.Event.{Event}
-use Rattle.capevents.specs.declared.event.Event.TheVariants as event
-use Rattle.capnotes.specs.InoSets.{InoSet}
-use Rattle.capnotes.specs.Noted.{view}
+use Rattle.capacts.specs.Capevents.declared.event.Event.{Event}
+use Rattle.capacts.specs.Capevents.declared.event.Event.TheVariants as event
+use Rattle.capacts.specs.Capnotes.InoSets.{InoSet}
+use Rattle.capacts.specs.Capnotes.Noted.{view}
 use Rattle.capacts.specs.Left.{is_end, table_left, locks_left, messages_left}
 use Rattle.capacts.specs.Reach.{is_touched}
 use Rattle.capsteps.specs.State.{State}

@@ -5,21 +5,21 @@ ghost use Rattle.sessiontab.specs.Calls.{with_grants};
 ghost use Rattle.sessiontab.specs.Tests.{connected_test};
 ghost use Rattle.captable.specs.declared.entry.EntryRow.{EntryRow};
 ghost use Rattle.captable.specs.Calls.{is_of_client};
-ghost use Rattle.lockmachine.specs.declared.request.Request.{Request};
-ghost use Rattle.lockmachine.specs.Requests.{is_of_client as is_asked_by};
-ghost use Rattle.capnotes.specs.Noted.{HavePlaces};
+ghost use Rattle.capacts.specs.Lockmachine.declared.request.Request.{Request};
+ghost use Rattle.capacts.specs.Lockmachine.Requests.{is_of_client as is_asked_by};
+ghost use Rattle.capacts.specs.Capnotes.Noted.{HavePlaces};
 ghost use Rattle.capacts.specs.Reach.{is_touched, Widens};
 ghost use Rattle.capsteps.specs.Turn.{Notes, ReachesClient, turn_tests, turned_sessions};
 
 use crate::endings::Endings;
+use capacts::capnotes::{ChangeList, InoSet, Messages};
+use capacts::capview::ViewChange;
 use capacts::leaving::Turn;
+use capacts::lockmachine::Locks;
 use capbits::{ClientId, Ino, Refusal};
-use capnotes::{ChangeList, InoSet, Messages};
 use capspec::Grants;
 use captable::CapTable;
-use capview::ViewChange;
 use inotree::ROOT;
-use lockmachine::Locks;
 use sessiontab::Sessions;
 use std::alloc::{AllocError, Global};
 

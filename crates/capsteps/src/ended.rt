@@ -1,16 +1,16 @@
 //! What a step says of the requests that it ended.
 ghost use Rattle.std.specs.Prelude.{◌≡◌, ◌+◌, ◌≤◌, ◌++◌, false, length};
 ghost use Rattle.std.specs.List.{find};
-ghost use Rattle.capevents.specs.Replies.{has_list};
+ghost use Rattle.capacts.specs.Capevents.Replies.{has_list};
 ghost use Rattle.capsteps.specs.Direct.{awaited_as};
-ghost use Rattle.capnotes.specs.Untold.{is_of_ticket, HaveOwnNumbers, but_for};
-ghost use Rattle.capevents.specs.declared.reply.Reply.TheVariants as reply;
+ghost use Rattle.capacts.specs.Capnotes.Untold.{is_of_ticket, HaveOwnNumbers, but_for};
+ghost use Rattle.capacts.specs.Capevents.declared.reply.Reply.TheVariants as reply;
 
 use crate::endings::Endings;
 use crate::said::Said;
+use capacts::capevents::{Ended, Reply, copy_of_reply};
+use capacts::capnotes::Messages;
 use capbits::Ticket;
-use capevents::{Ended, Reply, copy_of_reply};
-use capnotes::Messages;
 
 /// A reply, which has no list, and the requests that the step ended: their clients are to be told of them, and the history keeps
 /// them.

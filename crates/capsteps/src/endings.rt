@@ -2,10 +2,10 @@
 ghost use Rattle.std.specs.Prelude.{◌≡◌, ◌+◌, ◌≤◌, ◌<◌, ◌++◌, [], ◌∷◌, length, OnOk, vec_capacity};
 ghost use Rattle.std.specs.List.{filter_map};
 
+use capacts::capevents::Ended;
+use capacts::capnotes::{ChangeList, Messages};
 use capacts::serving::Served;
 use capbits::{ClientId, Ino, Ticket};
-use capevents::Ended;
-use capnotes::{ChangeList, Messages};
 use std::alloc::{AllocError, Global};
 use std::fmt;
 

@@ -11,27 +11,27 @@ ghost use Rattle.sessiontab.specs.Calls.{has_session};
 ghost use Rattle.captable.specs.Table.{IsTable, same, is_row_of, entry_at};
 ghost use Rattle.captable.specs.Calls.{told, changed, is_of_inode, entries_on};
 ghost use Rattle.captable.specs.Many.{changed_by, changed_where};
-ghost use Rattle.lockmachine.specs.Scene.{Scene, scene};
+ghost use Rattle.capacts.specs.Lockmachine.Scene.{Scene, scene};
 ghost use Rattle.capacts.specs.Finishing as words;
 ghost use Rattle.capsteps.specs.Direct.{opened_as};
 ghost use Rattle.capacts.specs.Known.{AreKnown, HaveRoom, KeptAnew, OthersHaveAll, known_in};
 ghost use Rattle.capsteps.specs.Touching.{forget_at, forget_among, finished_at, told_then};
 ghost use Rattle.capacts.specs.Reach.{is_touched};
 ghost use Rattle.capsteps.specs.Serves.{EndsAt};
-ghost use Rattle.capnotes.specs.Noted.{LeadOn};
+ghost use Rattle.capacts.specs.Capnotes.Noted.{LeadOn};
 
 use arrayvec::ArrayVec;
+use capacts::capevents::Reply;
+use capacts::capnotes::{ChangeList, InoSet};
+use capacts::capview::ViewChange;
 use capacts::finishing::finish_row;
 use capacts::known::Known;
+use capacts::lockmachine::{InodeLocks, Locks};
 use capacts::reach::is_held;
 use capbits::{ClientId, Ino};
-use capevents::Reply;
-use capnotes::{ChangeList, InoSet};
 use capspec::FsName;
 use captable::{CapTable, EntryRow, Holder};
-use capview::ViewChange;
 use inotree::{Names, Node, Place, Tree};
-use lockmachine::{InodeLocks, Locks};
 use sessiontab::{MAX_SESSIONS, Sessions};
 
 // ---- at the touched inodes

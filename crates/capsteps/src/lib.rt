@@ -14,3 +14,6 @@ pub mod settle;
 pub mod sizes;
 pub mod start;
 pub mod touch;
+
+pub use capacts;
+pub use capacts::{capevents, capnotes, capview, lockmachine};

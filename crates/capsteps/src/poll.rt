@@ -2,14 +2,14 @@
 ghost use Rattle.std.specs.Prelude.{◌≡◌, ◌≤◌, ◌-◌, ◌++◌, [], ◌∷◌, true, nat_lt, length, take, if◌then◌else◌, IfOk, OnOk};
 ghost use Rattle.captable.specs.Calls.{is_of_client, is_due};
 ghost use Rattle.captable.specs.Many.{changed_where};
-ghost use Rattle.lockmachine.specs.Scene.{Scene, told_set};
+ghost use Rattle.capacts.specs.Lockmachine.Scene.{Scene, told_set};
 ghost use Rattle.capacts.specs.Known.{AreKnown, known_in};
 ghost use Rattle.capsteps.specs.Messages.{after_messages, caps_messages, end_messages, first_messages, row_messages, size_messages};
 ghost use Rattle.capsteps.specs.State.{State};
 
+use capacts::capevents::{Ended, Message, MessageList, copy_of_outcome};
 use capacts::known::Known;
 use capbits::ClientId;
-use capevents::{Ended, Message, MessageList, copy_of_outcome};
 use captable::{CapTable, EntryRow};
 use inotree::Tree;
 use std::alloc::{AllocError, Global};

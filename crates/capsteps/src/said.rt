@@ -1,9 +1,9 @@
 //! What a step says.
 ghost use Rattle.std.specs.Prelude.{◌≡◌, false, []};
-ghost use Rattle.capevents.specs.Replies.{has_list};
+ghost use Rattle.capacts.specs.Capevents.Replies.{has_list};
 
-use capevents::{EndedList, Reply, copy_of_reply};
-use capnotes::ChangeList;
+use capacts::capevents::{EndedList, Reply, copy_of_reply};
+use capacts::capnotes::ChangeList;
 use std::alloc::Global;
 
 /// What a step says: its reply, the same once more for the history, the requests of earlier steps that it ended, and what it

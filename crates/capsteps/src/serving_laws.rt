@@ -4,11 +4,11 @@ ghost use Rattle.std.specs.Prelude.{◌≡◌, ◌≢◌, ℕ, true, false};
 ghost use Rattle.std.specs.FinMap as map;
 ghost use Rattle.inotree.specs.Tree.{IsTree, is_within, place};
 ghost use Rattle.inotree.specs.Alike.{IsAlike};
-ghost use Rattle.lockmachine.specs.declared.request.Request.{Request};
-ghost use Rattle.lockmachine.specs.Scene.{Scene};
-ghost use Rattle.capevents.specs.declared.outcome.Outcome.{Outcome};
+ghost use Rattle.capacts.specs.Lockmachine.declared.request.Request.{Request};
+ghost use Rattle.capacts.specs.Lockmachine.Scene.{Scene};
+ghost use Rattle.capacts.specs.Capevents.declared.outcome.Outcome.{Outcome};
 ghost use Rattle.capacts.specs.Serving.{MayEndAs};
-ghost use Rattle.capnotes.specs.Changing.{tree_after};
+ghost use Rattle.capacts.specs.Capnotes.Changing.{tree_after};
 ghost use Rattle.capacts.specs.Served.{is_rename};
 
 /// However a request ends that is served, every other inode than its own has the same path, owner, group and mode, unless the

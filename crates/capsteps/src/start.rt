@@ -3,12 +3,12 @@ ghost use Rattle.std.specs.Prelude.{◌≡◌, ℕ, [], IfOk, OnOk, if◌then◌
 ghost use Rattle.std.specs.Option.{option_map};
 ghost use Rattle.std.specs.FinMap as map;
 ghost use Rattle.inotree.specs.Tree.{IsTree};
-ghost use Rattle.lockmachine.specs.Inodes.{in_sync};
-ghost use Rattle.lockmachine.specs.Locks.{with_ino};
+ghost use Rattle.capacts.specs.Lockmachine.Inodes.{in_sync};
+ghost use Rattle.capacts.specs.Lockmachine.Locks.{with_ino};
 
+use capacts::lockmachine::Locks;
 use capbits::Ino;
 use inotree::Tree;
-use lockmachine::Locks;
 use std::alloc::{AllocError, Global};
 
 /// The locks of each inode of the tree, each stable in SYNC.

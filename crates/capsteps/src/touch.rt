@@ -2,7 +2,7 @@
 ghost use Rattle.std.specs.Prelude.{◌≡◌, ◌<◌, ◌^◌, ◌-◌, [], None, OnOk, OnErr};
 ghost use Rattle.capbits.specs.Refusal.{first_failing};
 ghost use Rattle.capacts.specs.Judge.{revoked_of, room_for};
-ghost use Rattle.lockmachine.specs.Scene.{Scene};
+ghost use Rattle.capacts.specs.Lockmachine.Scene.{Scene};
 ghost use Rattle.captable.specs.Table.{IsTable, entry_at};
 ghost use Rattle.captable.specs.Calls.{opened};
 ghost use Rattle.captable.specs.Tests.{open_tests};
@@ -13,9 +13,9 @@ ghost use Rattle.capsteps.specs.Direct as effects;
 ghost use Rattle.capsteps.specs.Touch as words;
 
 use crate::finish::show;
+use capacts::capevents::{OpenMode, Reply};
 use capacts::known::Known;
 use capbits::{Cap, CapSet};
-use capevents::{OpenMode, Reply};
 use captable::{CapTable, Holder};
 use std::alloc::AllocError;
 

@@ -4,5 +4,7 @@
 mod input;
 mod watched;
 
+pub use caplines;
+pub use caplines::capexplain;
 pub use input::{MAX_SCRIPT, read_script, write_text};
 pub use watched::Watched;

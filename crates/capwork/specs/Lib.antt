@@ -1,2 +1,3 @@
 pub mod Status
 pub mod Score
+pub use Rattle.capscript.specs.Capexplain

@@ -5,8 +5,8 @@ use crate::digest::digest_of;
 use crate::fault::Fault;
 use crate::lines::{Heard, TRIES, event_of, tell, tell_stop};
 use capbits::PassId;
-use capcore::Core;
 use capscript::file_system;
+use capserver::capcore::Core;
 use std::alloc::Global;
 use std::io::Write;
 

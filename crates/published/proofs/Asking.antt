@@ -2,16 +2,16 @@
 use Rattle.std.proofs.Common.{◌≡◌, ℕ, List, Result, Ok, Err, sym, subst}
 use Rattle.logbook.specs.Pages.{Book}
 use Rattle.capgrant.specs.declared.answer.Verdict.{Verdict}
-use Rattle.capevents.specs.declared.row.Row.{Row}
-use Rattle.capsteps.specs.State.{State}
-use Rattle.capview.specs.declared.answer.Question.{Question}
-use Rattle.capview.specs.declared.answer.Unknown.{Unknown}
-use Rattle.capview.specs.declared.answer.Unknown.TheVariants as unknown
-use Rattle.capview.specs.declared.view.View.{View}
-use Rattle.capview.specs.Answers.{IsAnswer}
-use Rattle.capview.specs.Sight.{Shows}
+use Rattle.rowbook.specs.Capevents.declared.row.Row.{Row}
+use Rattle.rowbook.specs.Capsteps.State.{State}
+use Rattle.rowbook.specs.Capview.declared.answer.Question.{Question}
+use Rattle.rowbook.specs.Capview.declared.answer.Unknown.{Unknown}
+use Rattle.rowbook.specs.Capview.declared.answer.Unknown.TheVariants as unknown
+use Rattle.rowbook.specs.Capview.declared.view.View.{View}
+use Rattle.rowbook.specs.Capview.Answers.{IsAnswer}
+use Rattle.rowbook.specs.Capview.Sight.{Shows}
 use Rattle.published.specs.declared.value.Published.{Published}
-use Rattle.capsteps.specs.Noted.{view_of}
+use Rattle.rowbook.specs.Capsteps.Noted.{view_of}
 use Rattle.published.specs.Places.{IsPublished}
 use Rattle.published.specs.Answers.{IsAnswered}
 

@@ -1,12 +1,12 @@
 -- What a question is answered by what is published.
 use Rattle.std.specs.Prelude.{List, Result}
 use Rattle.capgrant.specs.declared.answer.Verdict.{Verdict}
-use Rattle.capevents.specs.declared.row.Row.{Row}
-use Rattle.capsteps.specs.State.{State}
-use Rattle.capview.specs.declared.answer.Question.{Question}
-use Rattle.capview.specs.declared.answer.Unknown.{Unknown}
-use Rattle.capview.specs.Answers.{IsAnswer}
-use Rattle.capsteps.specs.Noted.{view_of}
+use Rattle.rowbook.specs.Capevents.declared.row.Row.{Row}
+use Rattle.rowbook.specs.Capsteps.State.{State}
+use Rattle.rowbook.specs.Capview.declared.answer.Question.{Question}
+use Rattle.rowbook.specs.Capview.declared.answer.Unknown.{Unknown}
+use Rattle.rowbook.specs.Capview.Answers.{IsAnswer}
+use Rattle.rowbook.specs.Capsteps.Noted.{view_of}
 use Rattle.rowbook.specs.Rows.{Legal}
 
 -- the rows that are known are legal, and the answer is that of the state to which they lead

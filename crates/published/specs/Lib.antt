@@ -2,3 +2,6 @@ pub mod Value
 pub mod Places
 pub mod Answers
 pub mod Publishing
+pub use Rattle.rowbook.specs.Capevents
+pub use Rattle.rowbook.specs.Capview
+pub use Rattle.rowbook.specs as Rowbook

@@ -10,6 +10,9 @@ mod witness;
 
 pub use place::{Place, PlacesRule, PublishedReader, PublishedReading, PublishedWriter, Sees};
 pub use publisher::Publisher;
-pub use rowbook::{Beginning, Counted, Head, MAX_PASSES, NewRows, Recorder, Rows, Server};
+pub use rowbook;
+pub use rowbook::{
+    Beginning, Counted, Head, MAX_PASSES, NewRows, Recorder, Rows, Server, capevents, capview,
+};
 pub use value::{Published, Stage};
 pub use witness::Witness;

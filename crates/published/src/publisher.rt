@@ -1,8 +1,8 @@
 //! Who publishes: the rows of the history, and the view to which they lead.
 ghost use Rattle.std.specs.Prelude.{◌≡◌, ◌<◌, ◌≤◌, true, false, [], length, fold, IfOk, IfSome};
 ghost use mathlib.Core.List.{IsPrefix};
-ghost use Rattle.capview.specs.Changes.{view_by};
-ghost use Rattle.capsteps.specs.Noted.{view_of};
+ghost use Rattle.rowbook.specs.Capview.Changes.{view_by};
+ghost use Rattle.rowbook.specs.Capsteps.Noted.{view_of};
 ghost use Rattle.published.specs.Publishing.{IsReady};
 ghost use Rattle.rowbook.specs.Rows.{Legal};
 
@@ -10,9 +10,9 @@ use crate::place::{PublishedWriter, Sees};
 use crate::staging::{stage_changes, stage_history, stage_view};
 use crate::value::Published;
 use crate::witness::Witness;
-use capevents::Row;
-use capview::{View, ViewChange};
 use inotree::Tree;
+use rowbook::capevents::Row;
+use rowbook::capview::{View, ViewChange};
 use rowbook::{Beginning, NewRows, Recorder, Server};
 use sessiontab::Sessions;
 use std::alloc::{AllocError, Global};

@@ -1,15 +1,15 @@
 //! The stages that bring what is published up to date.
 ghost use Rattle.std.specs.Prelude.{◌≡◌, ◌≤◌, length, drop, fold, Ok, IsTrue, IfSome};
 ghost use mathlib.Core.List.{IsPrefix};
-ghost use Rattle.capview.specs.Changes.{view_by};
+ghost use Rattle.rowbook.specs.Capview.Changes.{view_by};
 ghost use Rattle.rowbook.specs.Rows.{Legal};
 ghost use Rattle.published.specs.Value.{staged, staged_all};
 
 use crate::place::PublishedWriter;
 use crate::value::Stage;
-use capevents::Row;
-use capview::{View, ViewChange};
 use inotree::Tree;
+use rowbook::capevents::Row;
+use rowbook::capview::{View, ViewChange};
 use rowbook::{Recorder, Server, gather};
 use sessiontab::Sessions;
 use std::alloc::{AllocError, Global};

@@ -2,7 +2,7 @@
 ghost use Rattle.std.specs.Prelude.{◌≡◌, ◌≢◌, ◌<◌, Err, None, length, IfSome, IsTrue, MatchOption};
 ghost use mathlib.Core.List.{IsPrefix};
 ghost use Rattle.left_right.specs.Sides.{view as place_view};
-ghost use Rattle.capview.specs.declared.answer.Unknown.TheVariants as unknown;
+ghost use Rattle.rowbook.specs.Capview.declared.answer.Unknown.TheVariants as unknown;
 ghost use Rattle.published.specs.Places.{IsPublished, Saw};
 ghost use Rattle.rowbook.specs.Rows.{Legal};
 ghost use Rattle.published.specs.Answers.{IsAnswered};
@@ -10,7 +10,7 @@ ghost use Rattle.published.specs.Answers.{IsAnswered};
 use crate::place::{PublishedReader, PublishedReading, Sees};
 use capgrant::Verdict;
 use capspec::FsName;
-use capview::{Question, Unknown};
+use rowbook::capview::{Question, Unknown};
 use rowbook::{Beginning, Recorder, Server};
 use std::marker::Model;
 
@@ -31,7 +31,7 @@ impl<L: Server> Drop for Witness<L> {
 impl<L: Server> Model for Witness<L> {
     ghost use Rattle.std.specs.Prelude.{◌≡◌, List, MatchOption};
     ghost use Rattle.left_right.specs.Sides.{view as place_view};
-    ghost use Rattle.capevents.specs.declared.row.Row.{Row};
+    ghost use Rattle.rowbook.specs.Capevents.declared.row.Row.{Row};
     ghost use Rattle.rowbook.specs.Rows.{Legal, rows_code};
 
     ghost Value = { List Row };

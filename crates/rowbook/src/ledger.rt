@@ -28,7 +28,7 @@ impl Server for Brand {
     ghost use Rattle.std.specs.FinMap as map;
     ghost use Rattle.std.specs.FinSet as set;
     ghost use Rattle.captable.specs.Table as table;
-    ghost use Rattle.lockmachine.specs.Locks.{no_locks};
+    ghost use Rattle.capsteps.specs.Lockmachine.Locks.{no_locks};
 
     ghost passes = { 0 };
 

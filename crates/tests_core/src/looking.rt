@@ -1,7 +1,7 @@
 //! The rows of the history of a core that was asked.
 
-use capcore::{Core, Row};
-use capexplain::audit_line;
+use capscript::capcore::{Core, Row};
+use capscript::capexplain::audit_line;
 use std::alloc::{AllocError, Global};
 
 /// The place of a row in the history, from 0, and what it tells.

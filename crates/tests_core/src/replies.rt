@@ -2,8 +2,8 @@
 
 use crate::asserting::{made, same};
 use capbits::Ticket;
-use capcore::{Message, MessageList, Outcome, Reply, Stop};
-use capexplain::reply_lines;
+use capscript::capcore::{Message, MessageList, Outcome, Reply, Stop};
+use capscript::capexplain::reply_lines;
 use std::alloc::Global;
 use std::process::Abort;
 

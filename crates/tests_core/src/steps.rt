@@ -1,7 +1,7 @@
 //! What stands beside the answers of steps: a lock, and what clients hold.
 
 use capbits::{ClientId, Ino, Part, write_caps};
-use capcore::Core;
+use capscript::capcore::Core;
 use captable::Entry;
 use locktable::{LockState, State};
 use std::alloc::{AllocError, Global};

@@ -2,8 +2,8 @@
 
 use crate::asking::Beside::Changes;
 use crate::asking::{Step, plays};
-use capcore::{Core, ViewChange};
 use capgrant::Attr;
+use capscript::capcore::{Core, ViewChange};
 use capspec::write_grants;
 use std::alloc::{AllocError, Global};
 

@@ -2,10 +2,10 @@
 
 use crate::asserting::{made, same};
 use arrayvec::ArrayVec;
+use capcommand::capquestion::spelled;
 use capcommand::{AnswerFault, report};
-use capexplain::explain_line;
 use capgrant::{Access, Rules, Verdict};
-use capquestion::spelled;
+use capwork::capexplain::explain_line;
 use std::alloc::{AllocError, Global};
 
 /// A text, and the bytes that it spells: a character above 255 stands for its bytes in UTF-8.

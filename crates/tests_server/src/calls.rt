@@ -2,10 +2,10 @@
 
 use crate::asserting::{present, same};
 use capbits::{ClientId, Ino};
-use capcore::{Reply, Stop};
 use capgrant::{Access, Verdict};
-use capscript::read_line;
-use capserver::{Answer, CapServer, Gate, Pass, Question, Server, Unknown};
+use capjobs::capcore::{Reply, Stop};
+use capjobs::capscript::read_line;
+use capjobs::capserver::{Answer, CapServer, Gate, Pass, Question, Server, Unknown};
 use std::alloc::Global;
 use std::process::Abort;
 use std::sync::Wait;

@@ -1,14 +1,14 @@
 //! The servers of the tests: one function owns each, has something done at it, and closes it.
 ghost use Rattle.std.specs.Prelude.{◌≡◌};
-ghost use Rattle.capserver.specs.Opened.{opened};
+ghost use Rattle.capjobs.specs.Capserver.Opened.{opened};
 
 use crate::asserting::made;
 use crate::calls::{Case, take_turns};
 use crate::holding::{Hold, Signs, ask_beside, open_gate};
 use crate::rows::{Numbers, numbers};
 use crate::threads::{make_all, make_two};
-use capscript::file_system;
-use capserver::{CapServer, Opening, Server, StartFault};
+use capjobs::capscript::file_system;
+use capjobs::capserver::{CapServer, Opening, Server, StartFault};
 use std::alloc::{AllocError, Global};
 use std::marker::Brand;
 use std::process::Abort;

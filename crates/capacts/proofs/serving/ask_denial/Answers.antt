@@ -1,7 +1,7 @@
 use Rattle.std.proofs.Common.{[], ap, sym, ◌∙◌}
 use Rattle.capgrant.specs.declared.access.Access.{Access}
-use Rattle.lockmachine.specs.declared.request.Ask.{Ask}
-use Rattle.lockmachine.specs.Scene.{Scene, scene}
+use Rattle.capnotes.specs.Lockmachine.declared.request.Ask.{Ask}
+use Rattle.capnotes.specs.Lockmachine.Scene.{Scene, scene}
 use Rattle.capacts.specs.Judge.{stop, denial_of}
 use Rattle.capacts.specs.Asks.{ask_needs, change_access}
 use Rattle.capacts.proofs.Again.{denial-stop}

@@ -1,6 +1,6 @@
 use Rattle.std.proofs.Common.{[], refl, sym, ap, ◌∙◌}
-use Rattle.lockmachine.specs.Locks.{no_locks}
-use Rattle.lockmachine.specs.Scene.{Scene, scene}
+use Rattle.capnotes.specs.Lockmachine.Locks.{no_locks}
+use Rattle.capnotes.specs.Lockmachine.Scene.{Scene, scene}
 use Rattle.capnotes.specs.Changing.{tree_after}
 use Rattle.capacts.proofs.Again.{calls-passed, ends-stopped, ends-passed, ends-without_memory, tree-stopped, tree-passed}
 use Rattle.capacts.proofs.Memory.{rename-takes}

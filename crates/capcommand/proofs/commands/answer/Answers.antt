@@ -1,6 +1,6 @@
 use Rattle.std.proofs.Common.{rules, sym, ◌∙◌}
 use Rattle.std.proofs.lemmas.Result.{IfErr-at_err}
-use Rattle.capstreams.specs.Watched.{inner_of, has_failed}
+use Rattle.capjobs.specs.Capstreams.Watched.{inner_of, has_failed}
 use Rattle.capanswers.specs.Answers.{StopsInquiry}
 use Rattle.capanswers.specs.declared.fault.AnswerFault.{AnswerFault}
 use Rattle.capcommand.proofs.commands.answer.Goals as goal

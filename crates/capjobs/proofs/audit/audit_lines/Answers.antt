@@ -1,6 +1,6 @@
 use Rattle.std.proofs.Common.{◌++◌, [], arith, ap, ◌∙◌}
 use Rattle.std.proofs.lemmas.List.{take_all}
-use Rattle.capexplain.proofs.Texts.{texts-more}
+use Rattle.capscript.proofs.Capexplain.Texts.{texts-more}
 use Rattle.capjobs.specs.Served.{row_line, audit_lines}
 use Rattle.capjobs.proofs.audit.audit_lines.Goals as goal
 

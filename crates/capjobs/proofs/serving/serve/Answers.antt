@@ -1,7 +1,7 @@
 use Rattle.std.proofs.Common.{◌≡◌, ℕ, refl, inl, inr}
 use Rattle.std.specs.Prelude.{◌⊎◌, Err}
-use Rattle.capstreams.specs.Watched.{inner_of}
-use Rattle.caplines.specs.declared.fault.ScriptFault.TheVariants as stops
+use Rattle.capscript.specs.Capstreams.Watched.{inner_of}
+use Rattle.capscript.specs.Caplines.declared.fault.ScriptFault.TheVariants as stops
 use Rattle.capjobs.proofs.Writing.{whole_written, unread_written}
 use Rattle.capjobs.proofs.serving.serve.Goals as goal
 

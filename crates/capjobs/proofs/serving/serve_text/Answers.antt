@@ -1,5 +1,5 @@
 use Rattle.std.proofs.Common.{ap, ◌∙◌}
-use Rattle.caplines.specs.Lines.{lines}
+use Rattle.capscript.specs.Caplines.Lines.{lines}
 use Rattle.capplan.specs.Jobs.{work_of}
 use Rattle.capjobs.specs.Served.{IsUnserved, audit_lines}
 use Rattle.capplan.proofs.Plans.{handed_on}

@@ -1,8 +1,8 @@
 use Rattle.std.proofs.Common.{ℕ, ◌<◌, ◌≤◌, List, [], ◌∷◌, map, length, arith, refl}
 use Rattle.std.proofs.lemmas.Bool.Decides.{nat_tests}
 use Rattle.std.specs.Borrow.{Bor}
-use Rattle.lockmachine.specs.declared.request.Change.{Change}
-use Rattle.capevents.specs.declared.event.Event.{Event}
+use Rattle.capexplain.specs.Lockmachine.declared.request.Change.{Change}
+use Rattle.capexplain.specs.Capevents.declared.event.Event.{Event}
 use Rattle.capexplain.specs.declared.change_word.ChangeWord.{ChangeWord}
 use Rattle.capexplain.specs.declared.change_word.ChangeWord.TheVariants as words
 use Rattle.caplines.specs.declared.fault.LineFault.TheVariants as faults

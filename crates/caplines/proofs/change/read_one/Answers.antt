@@ -1,4 +1,4 @@
-use Rattle.lockmachine.specs.declared.request.Change.TheVariants.{RemoveXattr}
+use Rattle.capexplain.specs.Lockmachine.declared.request.Change.TheVariants.{RemoveXattr}
 use Rattle.caplines.specs.Events.Line.{Says}
 use Rattle.caplines.proofs.SaidLines.{missed}
 use Rattle.caplines.proofs.change.read_one.Goals as goal

@@ -1,4 +1,4 @@
-use Rattle.lockmachine.specs.declared.request.Change.TheVariants.{SetXattr}
+use Rattle.capexplain.specs.Lockmachine.declared.request.Change.TheVariants.{SetXattr}
 use Rattle.caplines.specs.declared.fault.Refused.TheVariants as refusals
 use Rattle.caplines.proofs.SaidLines.{refused_by}
 use Rattle.caplines.proofs.change.read_two.Goals as goal

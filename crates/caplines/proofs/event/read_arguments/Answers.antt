@@ -1,4 +1,4 @@
-use Rattle.capevents.specs.declared.event.Event.TheVariants as events
+use Rattle.capexplain.specs.Capevents.declared.event.Event.TheVariants as events
 use Rattle.caplines.proofs.SaidLines.{refused_by}
 use Rattle.caplines.proofs.event.read_arguments.Goals as goal
 

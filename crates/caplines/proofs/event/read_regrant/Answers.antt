@@ -1,5 +1,5 @@
 use Rattle.std.proofs.Common.{refl, sym}
-use Rattle.capevents.specs.declared.event.Event.TheVariants as events
+use Rattle.capexplain.specs.Capevents.declared.event.Event.TheVariants as events
 use Rattle.caplines.specs.declared.fault.Refused.TheVariants as refusals
 use Rattle.caplines.specs.Events.Line.{Faulty}
 use Rattle.caplines.proofs.SaidLines.{refused_by, regranted}

@@ -1,5 +1,5 @@
 use Rattle.std.proofs.Common.{arith, sym}
-use Rattle.capevents.specs.declared.event.Event.TheVariants as events
+use Rattle.capexplain.specs.Capevents.declared.event.Event.TheVariants as events
 use Rattle.caplines.proofs.SaidLines.{refused_by, five}
 use Rattle.caplines.proofs.event.read_session.Goals as goal
 

@@ -1,6 +1,6 @@
 use Rattle.std.proofs.Common.{ap, inr, subst, Some, sym, ◌∙◌}
 use Rattle.std.specs.Prelude.{Ok, Err}
-use Rattle.capevents.specs.declared.event.Event.{Event}
+use Rattle.capexplain.specs.Capevents.declared.event.Event.{Event}
 use Rattle.caplines.specs.declared.fault.LineFault.{LineFault as AKind}
 use Rattle.caplines.specs.declared.fault.ScriptFault.TheVariants as stops
 use Rattle.caplines.specs.Events.{client_of, said_in}

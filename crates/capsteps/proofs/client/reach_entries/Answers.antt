@@ -1,7 +1,7 @@
 use Rattle.std.proofs.Common.{Contains, List, suc, sym, subst, arith}
 use Rattle.captable.specs.declared.entry.EntryRow.{EntryRow}
 use Rattle.captable.specs.Calls.{is_of_client}
-use Rattle.lockmachine.proofs.Finding.{contains-filter, filter-contains}
+use Rattle.capacts.proofs.Lockmachine.Finding.{contains-filter, filter-contains}
 use Rattle.capacts.proofs.InoSets.{widens-none, widens-then}
 use Rattle.capsteps.proofs.Reaching.{first-reached, more-reached, all-reached}
 use Rattle.capsteps.proofs.client.reach_entries.Goals as goal

@@ -1,6 +1,6 @@
 use Rattle.std.proofs.Common.{◌≡◌, true}
 use Rattle.std.specs.List.{AllWithin}
-use Rattle.lockmachine.specs.Requests.{is_of_client}
+use Rattle.capacts.specs.Lockmachine.Requests.{is_of_client}
 use Rattle.capacts.specs.Reach.{is_touched, Widens}
 use Rattle.capsteps.proofs.client.reach_requests.Given as goal
 

@@ -15,17 +15,17 @@ use Rattle.captable.specs.declared.entry.Holder.{Holder}
 use Rattle.captable.specs.Table.{Table, is_row_of}
 use Rattle.captable.specs.Calls.{is_of_inode, entries_on}
 use Rattle.captable.specs.Many.{changed_where}
-use Rattle.lockmachine.specs.declared.states.InodeLocks.{InodeLocks}
-use Rattle.lockmachine.specs.Scene.{Scene, scene}
+use Rattle.capacts.specs.Lockmachine.declared.states.InodeLocks.{InodeLocks}
+use Rattle.capacts.specs.Lockmachine.Scene.{Scene, scene}
 use Rattle.capacts.specs.Finishing.{told_at, told_by, entry_under, entry_by, is_on}
-use Rattle.capnotes.specs.InoSets.{InoSet}
+use Rattle.capacts.specs.Capnotes.InoSets.{InoSet}
 use Rattle.capacts.specs.Known.{known_in, HaveRoom}
 use Rattle.capacts.specs.Reach.{is_touched}
 use Rattle.capsteps.specs.Touching.{forget_at, forget_among}
 use Rattle.capsteps.proofs.AtEnd.{or_turned, entry-alike, forget-all}
 use Rattle.capacts.proofs.KeptSets.{kept-as, kept-same, kept-then, kept-not, found-stays, room-still}
 use Rattle.capsteps.proofs.ManyInodes.{changed-twice_where, entries_on-stay, holders-stay}
-use Rattle.capnotes.proofs.Noting.{leads-then}
+use Rattle.capacts.proofs.Capnotes.Noting.{leads-then}
 use Rattle.capsteps.proofs.finish.finish.Goals as goal
 
 pub finish_entries-requires : goal.finish_entries-requires

@@ -6,8 +6,8 @@ use Rattle.captable.specs.declared.entry.Holder.{Holder}
 use Rattle.captable.specs.Table.{Table, IsTable, same}
 use Rattle.captable.proofs.Tables.{same-is}
 use Rattle.captable.specs.Many.{changed_by, changed_where}
-use Rattle.lockmachine.specs.declared.states.InodeLocks.{InodeLocks}
-use Rattle.lockmachine.specs.Scene.{Scene, scene}
+use Rattle.capacts.specs.Lockmachine.declared.states.InodeLocks.{InodeLocks}
+use Rattle.capacts.specs.Lockmachine.Scene.{Scene, scene}
 use Rattle.capacts.specs.Finishing.{entry_under, told_at}
 use Rattle.capacts.specs.Known.{known_in, KeptAnew}
 use Rattle.capsteps.specs.Touching.{forget_among, finished_at, finished_entry, told_then}

@@ -14,9 +14,9 @@ use Rattle.captable.specs.declared.entry.Entry.{Entry}
 use Rattle.captable.specs.declared.entry.EntryRow.{EntryRow}
 use Rattle.captable.specs.Table.{Table}
 use Rattle.captable.specs.Calls.{is_of_inode, entries_on}
-use Rattle.lockmachine.specs.declared.states.InodeLocks.{InodeLocks}
+use Rattle.capacts.specs.Lockmachine.declared.states.InodeLocks.{InodeLocks}
 use Rattle.capacts.specs.Finishing.{told_at, told_by, entry_under, entry_by}
-use Rattle.capnotes.specs.InoSets.{InoSet, IsListOf}
+use Rattle.capacts.specs.Capnotes.InoSets.{InoSet, IsListOf}
 use Rattle.capacts.specs.Known.{known_in, HaveRoom}
 use Rattle.capsteps.proofs.AtEnd.{entry-alike}
 use Rattle.capacts.proofs.KeptSets.{kept-as, room-still}

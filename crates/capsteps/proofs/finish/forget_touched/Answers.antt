@@ -2,9 +2,9 @@ use Rattle.std.proofs.Common.{◌≡◌, length, ℕ, List, [], ◌∷◌, refl,
 use Rattle.std.specs.List.{fold}
 use Rattle.std.specs.Map.Iter.{deref}
 use Rattle.std.proofs.lemmas.Map.Iter.{rest_more, rest_all}
-use Rattle.lockmachine.specs.Scene.{Scene, scene}
-use Rattle.capnotes.specs.InoSets.{IsListOf}
-use Rattle.capnotes.proofs.Noting.{leads-none, leads-then}
+use Rattle.capacts.specs.Lockmachine.Scene.{Scene, scene}
+use Rattle.capacts.specs.Capnotes.InoSets.{IsListOf}
+use Rattle.capacts.proofs.Capnotes.Noting.{leads-none, leads-then}
 use Rattle.capsteps.proofs.Strays.{forget_on, forget-all_of}
 use Rattle.capsteps.proofs.finish.forget_touched.Goals as goal
 

@@ -2,8 +2,8 @@ use Rattle.std.proofs.Common.{◌≡◌, ◌≤◌, ◌+◌, length, ℕ, List}
 use Rattle.std.specs.FinSet as set
 use Rattle.std.specs.List.{fold}
 use Rattle.sessiontab.specs.Table.{SessionTable}
-use Rattle.lockmachine.specs.Scene.{scene}
-use Rattle.capnotes.specs.Noted.{LeadOn}
+use Rattle.capacts.specs.Lockmachine.Scene.{scene}
+use Rattle.capacts.specs.Capnotes.Noted.{LeadOn}
 use Rattle.capsteps.proofs.Strays.{forget_on}
 use Rattle.capsteps.proofs.finish.forget_touched.Given as goal
 

@@ -1,4 +1,4 @@
-use Rattle.capnotes.proofs.Noting.{leads-forgotten}
+use Rattle.capacts.proofs.Capnotes.Noting.{leads-forgotten}
 use Rattle.capsteps.proofs.finish.forget_unheld.Goals as goal
 
 pub returns-then-not-is_held-clause-lead : goal.returns-then-not-is_held-clause-lead

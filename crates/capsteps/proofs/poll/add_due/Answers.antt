@@ -1,7 +1,7 @@
 use Rattle.std.proofs.Common.{◌≡◌, ◌++◌, List, [], ◌∷◌, take, sym, ap, ◌∙◌, append_assoc, if◌then◌else◌}
 use Rattle.captable.specs.declared.entry.EntryRow.{EntryRow}
-use Rattle.capevents.specs.declared.outcome.Message.{Message}
-use Rattle.capevents.specs.declared.outcome.Message.TheVariants.{Recall}
+use Rattle.capacts.specs.Capevents.declared.outcome.Message.{Message}
+use Rattle.capacts.specs.Capevents.declared.outcome.Message.TheVariants.{Recall}
 use Rattle.capsteps.specs.Messages.{caps_messages, size_messages, recall_messages}
 use Rattle.capsteps.proofs.Polling.{take-take_append}
 use Rattle.capsteps.proofs.poll.add_due.Goals as goal

@@ -3,8 +3,8 @@ use Rattle.std.specs.Prelude.{List}
 use Rattle.std.proofs.lemmas.List.{nil_from_length}
 use Rattle.captable.specs.declared.entry.EntryRow.{EntryRow}
 use Rattle.captable.specs.Calls.{is_of_client, is_due}
-use Rattle.lockmachine.proofs.Finding.{contains-filter, filter-contains}
-use Rattle.capevents.specs.declared.outcome.Message.{Message}
+use Rattle.capacts.proofs.Lockmachine.Finding.{contains-filter, filter-contains}
+use Rattle.capacts.specs.Capevents.declared.outcome.Message.{Message}
 use Rattle.capsteps.specs.Messages.{end_messages}
 use Rattle.capsteps.proofs.Polling.{IsListed, due_of, take-take_append, few-more, listed-more, listed-all, listed-full, listed-first, listed-done, left-behind, known-row}
 use Rattle.capsteps.proofs.poll.due_messages.Goals as goal

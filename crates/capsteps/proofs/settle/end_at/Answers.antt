@@ -1,10 +1,10 @@
 use Rattle.std.proofs.Common.{subst, List}
 use Rattle.capbits.specs.declared.ids.Ino.{Ino}
-use Rattle.lockmachine.specs.Scene.{Scene, scene}
+use Rattle.capacts.specs.Lockmachine.Scene.{Scene, scene}
 use Rattle.capacts.specs.Reach.{is_touched}
 use Rattle.capsteps.specs.Serves.{EndsAt}
 use Rattle.capsteps.proofs.NobodyServed.{settled-ends}
-use Rattle.capnotes.proofs.Noting.{leads-then}
+use Rattle.capacts.proofs.Capnotes.Noting.{leads-then}
 use Rattle.capsteps.proofs.settle.end_at.Goals as goal
 
 pub returns-clause-ends : goal.returns-clause-ends

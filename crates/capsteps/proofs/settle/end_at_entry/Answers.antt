@@ -4,15 +4,15 @@ use Rattle.std.specs.Ordering.{nat_cmp}
 use Rattle.std.proofs.lemmas.List.Elements.{All-filter}
 use Rattle.capbits.specs.declared.ids.Ino.{Ino}
 use Rattle.captable.specs.Calls.{is_of_inode}
-use Rattle.lockmachine.specs.Scene.{Scene, scene}
-use Rattle.capnotes.specs.InoSets.{InoSet}
+use Rattle.capacts.specs.Lockmachine.Scene.{Scene, scene}
+use Rattle.capacts.specs.Capnotes.InoSets.{InoSet}
 use Rattle.capacts.specs.Reach.{is_touched}
 use Rattle.capsteps.specs.Serves.{EndsAt}
 use Rattle.capsteps.proofs.Among.{quiet-among, ends-one}
 use Rattle.capsteps.proofs.AtEnd.{entry-on}
 use Rattle.capacts.proofs.InoSets.{none-there}
 use Rattle.capsteps.proofs.NobodyServed.{settled-ends, settles-alone, still-all_there, tree-stays}
-use Rattle.capnotes.proofs.Noting.{leads-then}
+use Rattle.capacts.proofs.Capnotes.Noting.{leads-then}
 use Rattle.capsteps.proofs.settle.end_at_entry.Goals as goal
 
 pub settle-touched-requires-clause-quiet : goal.settle-touched-requires-clause-quiet

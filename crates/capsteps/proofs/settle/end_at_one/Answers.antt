@@ -1,8 +1,8 @@
 use Rattle.std.proofs.Common.{ap, ◌∙◌, arith}
 use Rattle.std.specs.FinSet as set
 use Rattle.std.specs.Ordering.{nat_cmp}
-use Rattle.lockmachine.specs.Scene.{scene}
-use Rattle.capnotes.specs.InoSets.{InoSet}
+use Rattle.capacts.specs.Lockmachine.Scene.{scene}
+use Rattle.capacts.specs.Capnotes.InoSets.{InoSet}
 use Rattle.capsteps.proofs.Among.{quiet-among, ends-one}
 use Rattle.capacts.proofs.InoSets.{none-there}
 use Rattle.capsteps.proofs.settle.end_at_one.Goals as goal

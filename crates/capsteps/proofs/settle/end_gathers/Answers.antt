@@ -3,10 +3,10 @@ use Rattle.std.specs.FinMap as map
 use Rattle.capbits.specs.declared.cap.Part.{Part}
 use Rattle.inotree.specs.Tree.{Nodes}
 use Rattle.sessiontab.specs.Table.{SessionTable}
-use Rattle.lockmachine.specs.Moves.{may_end_by}
-use Rattle.lockmachine.specs.Scene.{scene}
-use Rattle.lockmachine.specs.Turns.{WaitAt}
-use Rattle.lockmachine.proofs.Ending.{ends-little}
+use Rattle.capacts.specs.Lockmachine.Moves.{may_end_by}
+use Rattle.capacts.specs.Lockmachine.Scene.{scene}
+use Rattle.capacts.specs.Lockmachine.Turns.{WaitAt}
+use Rattle.capacts.proofs.Lockmachine.Ending.{ends-little}
 use Rattle.capacts.specs.Reach.{is_touched}
 use Rattle.capsteps.specs.Sweep.{IsSwept, IsNextOf}
 use Rattle.capsteps.proofs.Sweeping.{fewer_behind, swept-begins, swept-on, ends-passed, same-elsewhere}

@@ -2,7 +2,7 @@ use Rattle.std.proofs.Common.{◌<◌, sym, ap, subst, ◌∙◌}
 use Rattle.std.specs.Prelude.{All, IsTrue}
 use Rattle.sessiontab.specs.Calls.{has_session}
 use Rattle.captable.specs.Table.{Table}
-use Rattle.lockmachine.specs.Scene.{Scene, scene}
+use Rattle.capacts.specs.Lockmachine.Scene.{Scene, scene}
 use Rattle.capacts.specs.Finish.{is_sized, owed}
 use Rattle.capacts.specs.Reach.{is_touched}
 use Rattle.capacts.specs.Known.{known_in, HaveRoom, KeptAnew}

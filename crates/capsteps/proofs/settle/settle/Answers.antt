@@ -2,21 +2,21 @@ use Rattle.std.proofs.Common.{◌≡◌, ◌<◌, ◌≤◌, ◌+◌, ◌++◌, 
 use Rattle.std.specs.List.{filter_map}
 use Rattle.std.proofs.lemmas.List.{length-append}
 use Rattle.capbits.specs.declared.ids.Ino.{Ino}
-use Rattle.lockmachine.specs.declared.request.Request.{Request}
-use Rattle.lockmachine.specs.declared.moves.Move.TheVariants.{Serve}
-use Rattle.lockmachine.specs.Locks.{lock_at, request_at}
-use Rattle.lockmachine.specs.Moves.{first_move}
-use Rattle.lockmachine.specs.Scene.{Scene, scene}
-use Rattle.lockmachine.proofs.Exact.{ends_not}
-use Rattle.lockmachine.proofs.Waiting.{served-at}
-use Rattle.capevents.specs.declared.outcome.Ended.{Ended}
-use Rattle.capevents.specs.declared.outcome.Outcome.{Outcome}
+use Rattle.capacts.specs.Lockmachine.declared.request.Request.{Request}
+use Rattle.capacts.specs.Lockmachine.declared.moves.Move.TheVariants.{Serve}
+use Rattle.capacts.specs.Lockmachine.Locks.{lock_at, request_at}
+use Rattle.capacts.specs.Lockmachine.Moves.{first_move}
+use Rattle.capacts.specs.Lockmachine.Scene.{Scene, scene}
+use Rattle.capacts.proofs.Lockmachine.Exact.{ends_not}
+use Rattle.capacts.proofs.Lockmachine.Waiting.{served-at}
+use Rattle.capacts.specs.Capevents.declared.outcome.Ended.{Ended}
+use Rattle.capacts.specs.Capevents.declared.outcome.Outcome.{Outcome}
 use Rattle.capacts.specs.declared.sweep.SweepPlace.{SweepPlace}
 use Rattle.capacts.specs.Reach.{is_touched, Reaches}
 use Rattle.capsteps.specs.Serves.{Serves}
 use Rattle.capsteps.specs.Settle.{Served, sets_size, is_done, sized_in}
 use Rattle.capsteps.specs.Sweep.{GoesOn, GoesOnBehind, IsSwept, StandsAt}
-use Rattle.capnotes.proofs.Noting.{leads-none, leads-then}
+use Rattle.capacts.proofs.Capnotes.Noting.{leads-none, leads-then}
 use Rattle.capsteps.proofs.SoFar.{IsSoFar, so-far-begins, so-far-served, so-far-settled, so-far-swept, stands-behind, stands-first, turn-of_least}
 use Rattle.capacts.proofs.Walked.{none-walked}
 use Rattle.capsteps.proofs.WalkedStill.{walked-served}

@@ -1,10 +1,10 @@
 use Rattle.std.proofs.Common.{◌≡◌, ◌≤◌, ◌+◌, length}
 use Rattle.std.specs.Prelude.{vec_capacity}
-use Rattle.lockmachine.specs.Scene.{scene}
-use Rattle.capnotes.specs.Noted.{HavePlaces, LeadOn}
+use Rattle.capacts.specs.Lockmachine.Scene.{scene}
+use Rattle.capacts.specs.Capnotes.Noted.{HavePlaces, LeadOn}
 use Rattle.capacts.specs.Reach.{is_touched, AreWalked}
 use Rattle.capsteps.specs.Sweep.{StandsAt}
-use Rattle.capnotes.specs.Untold.{HasRoom}
+use Rattle.capacts.specs.Capnotes.Untold.{HasRoom}
 use Rattle.capsteps.proofs.SoFar.{IsSoFar}
 use Rattle.capsteps.proofs.settle.settle.Given as goal
 

@@ -1,7 +1,7 @@
 use Rattle.std.proofs.Common.{subst}
-use Rattle.lockmachine.specs.Scene.{Scene, scene}
-use Rattle.lockmachine.specs.Turns.{IsDue}
-use Rattle.lockmachine.proofs.Alone.{nobody-done, nobody-kept}
+use Rattle.capacts.specs.Lockmachine.Scene.{Scene, scene}
+use Rattle.capacts.specs.Lockmachine.Turns.{IsDue}
+use Rattle.capacts.proofs.Lockmachine.Alone.{nobody-done, nobody-kept}
 use Rattle.capacts.specs.Reach.{is_touched}
 use Rattle.capsteps.specs.Sweep.{AreStill, IsNextOf, IsSwept, StandsAt}
 use Rattle.capsteps.proofs.Sweeping.{fewer_behind, last-turn, next-turn, still-kept, swept-on}

@@ -1,4 +1,4 @@
-use Rattle.lockmachine.specs.Scene.{scene}
+use Rattle.capacts.specs.Lockmachine.Scene.{scene}
 use Rattle.capacts.specs.Reach.{is_touched}
 use Rattle.capsteps.specs.Sweep.{IsSwept, StandsAt}
 use Rattle.capsteps.proofs.Sweeping.{behind}

@@ -1,6 +1,6 @@
 use Rattle.std.proofs.Common.{◌≡◌, ◌∷◌, [], ◌++◌, List, sym, subst, ◌∙◌, arith, rules}
 use mathlib.Core.List.{IsPrefix}
-use Rattle.capevents.specs.declared.row.Row.{Row}
+use Rattle.capsteps.specs.Capevents.declared.row.Row.{Row}
 use Rattle.capsteps.specs.State.{State}
 use Rattle.rowbook.specs.Rows.{Legal}
 use Rattle.rowbook.proofs.Gathering.{legal_more, take_begins}

@@ -1,11 +1,11 @@
 use Rattle.std.proofs.Common.{◌≡◌, ◌+◌, ◌++◌, ◌∷◌, [], List, length, refl, ap, sym, subst, ◌∙◌}
 use Rattle.capsteps.specs.State.{State}
-use Rattle.capevents.specs.declared.row.Row.{Row}
-use Rattle.capevents.specs.declared.reply.Reply.{Reply}
+use Rattle.capsteps.specs.Capevents.declared.row.Row.{Row}
+use Rattle.capsteps.specs.Capevents.declared.reply.Reply.{Reply}
 use Rattle.capsteps.specs.Answered.{IsAnswered}
 use Rattle.capsteps.specs.Direct.{direct}
 use Rattle.capsteps.specs.Headline.{ServedDenied, ServedByName, EachServing, AreBounded}
-use Rattle.capacts.specs.Numbers.{rows_of}
+use Rattle.capsteps.specs.Capacts.Numbers.{rows_of}
 use Rattle.capsteps.specs.History.{Told, told, made_row}
 use Rattle.capcore.specs.Promised.{IsPromised}
 use Rattle.capsteps.specs.Shown.{ShowsWhatIsTold}

@@ -2,9 +2,9 @@ use Rattle.std.proofs.Common.{refl, sym, ap, ◌∙◌}
 use Rattle.capbits.specs.Refusal.{first_failing}
 use Rattle.captable.specs.Table.{holder}
 use Rattle.captable.specs.Tests.{ack_tests}
-use Rattle.lockmachine.specs.Scene.{Scene}
+use Rattle.capsteps.specs.Lockmachine.Scene.{Scene}
 use Rattle.capsteps.specs.State.{State}
-use Rattle.capacts.specs.Judge.{connected_tests, revoked_of}
+use Rattle.capsteps.specs.Capacts.Judge.{connected_tests, revoked_of}
 use Rattle.capsteps.proofs.Revoking.{passed-front}
 use Rattle.capcore.proofs.world.World.ack_stop.Goals as goal
 

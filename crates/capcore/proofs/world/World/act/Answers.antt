@@ -1,6 +1,6 @@
 use Rattle.std.proofs.lemmas.Result.{on_ok_weaker}
 use Rattle.capsteps.specs.Noted.{view_of}
-use Rattle.capnotes.proofs.Noting.{changes-still, changes-unseen}
+use Rattle.capsteps.proofs.Capnotes.Noting.{changes-still, changes-unseen}
 use Rattle.capcore.proofs.world.World.act.Goals as goal
 
 pub returns-in-Unblock-clause-changes : goal.returns-in-Unblock-clause-changes

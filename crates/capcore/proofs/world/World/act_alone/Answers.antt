@@ -5,9 +5,9 @@ use Rattle.capsteps.specs.State.{State}
 use Rattle.capsteps.specs.Direct.{IsDirect}
 use Rattle.capsteps.specs.Sound.{IsSound}
 use Rattle.capcore.proofs.Steps.{alone-answered, no_list-direct}
-use Rattle.capview.specs.Changes.{AreChanges}
+use Rattle.capsteps.specs.Capview.Changes.{AreChanges}
 use Rattle.capsteps.specs.Noted.{view_of}
-use Rattle.capnotes.specs.Noted.{Noted}
+use Rattle.capsteps.specs.Capnotes.Noted.{Noted}
 use Rattle.capcore.proofs.world.World.act_alone.Goals as goal
 
 pub with_changes-requires : goal.with_changes-requires

@@ -2,9 +2,9 @@ use Rattle.std.proofs.Common.{◌≡◌, ◌+◌, None, refl, sym, subst, arith}
 use Rattle.capbits.specs.Refusal.{first_failing}
 use Rattle.inotree.specs.Tests.{create_tests}
 use Rattle.inotree.proofs.Passing.{passed-create}
-use Rattle.lockmachine.specs.Locks.{LockMap}
-use Rattle.capacts.specs.Known.{AreKnown}
-use Rattle.capnotes.specs.Untold.{HasRoom}
+use Rattle.capsteps.specs.Lockmachine.Locks.{LockMap}
+use Rattle.capsteps.specs.Capacts.Known.{AreKnown}
+use Rattle.capsteps.specs.Capnotes.Untold.{HasRoom}
 use Rattle.capsteps.specs.State.{State}
 use Rattle.capcore.proofs.Undone.{added-dropped, not_given}
 use Rattle.capcore.proofs.Untouched.{birth-sound, birth-known}

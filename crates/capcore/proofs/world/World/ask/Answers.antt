@@ -5,7 +5,7 @@ use Rattle.capsteps.specs.Sound.{IsSound}
 use Rattle.capcore.proofs.Asked.{asking-stop}
 use Rattle.capcore.proofs.Stops.{stopped-answered}
 use Rattle.capsteps.specs.Noted.{view_of}
-use Rattle.capnotes.proofs.Noting.{changes-still}
+use Rattle.capsteps.proofs.Capnotes.Noting.{changes-still}
 use Rattle.capcore.proofs.world.World.ask.Goals as goal
 
 pub returns-in-Some-clause-answered : goal.returns-in-Some-clause-answered

@@ -1,15 +1,15 @@
 use Rattle.std.proofs.Common.{Option, sym, subst, ◌∙◌}
 use Rattle.captable.specs.Table.{IsTable, holder}
-use Rattle.lockmachine.specs.declared.request.Ask.TheVariants.{Alter}
-use Rattle.capacts.specs.declared.stopped.Stopped.{Stopped}
+use Rattle.capsteps.specs.Lockmachine.declared.request.Ask.TheVariants.{Alter}
+use Rattle.capsteps.specs.Capacts.declared.stopped.Stopped.{Stopped}
 use Rattle.capsteps.specs.State.{State}
-use Rattle.capacts.specs.Asks.{ask_needs}
-use Rattle.capacts.specs.Judge.{asking_tests, waiting_tests, stop}
+use Rattle.capsteps.specs.Capacts.Asks.{ask_needs}
+use Rattle.capsteps.specs.Capacts.Judge.{asking_tests, waiting_tests, stop}
 use Rattle.capsteps.specs.Sound.{IsSound}
 use Rattle.capcore.proofs.Asked.{asking-stop}
 use Rattle.capcore.proofs.Stops.{stopped-answered}
 use Rattle.capsteps.specs.Noted.{view_of}
-use Rattle.capnotes.proofs.Noting.{changes-still}
+use Rattle.capsteps.proofs.Capnotes.Noting.{changes-still}
 use Rattle.capcore.proofs.world.World.ask_change.Goals as goal
 
 pub returns-in-Some-clause-answered : goal.returns-in-Some-clause-answered

@@ -4,14 +4,14 @@ use Rattle.capbits.specs.Refusal.{first_failing}
 use Rattle.capbits.proofs.Tests.{failing-front}
 use Rattle.capgrant.specs.declared.access.Access.{Access}
 use Rattle.captable.specs.Table.{holder}
-use Rattle.lockmachine.specs.declared.request.Ask.TheVariants.{Alter}
-use Rattle.lockmachine.specs.Locks.{queue_tests}
-use Rattle.lockmachine.specs.Scene.{Scene}
-use Rattle.capacts.specs.declared.stopped.Stopped.TheVariants.{ByTest}
+use Rattle.capsteps.specs.Lockmachine.declared.request.Ask.TheVariants.{Alter}
+use Rattle.capsteps.specs.Lockmachine.Locks.{queue_tests}
+use Rattle.capsteps.specs.Lockmachine.Scene.{Scene}
+use Rattle.capsteps.specs.Capacts.declared.stopped.Stopped.TheVariants.{ByTest}
 use Rattle.capsteps.specs.State.{State}
-use Rattle.capacts.specs.Asks.{ask_needs, change_access, change_tests}
-use Rattle.capacts.specs.Judge.{stop, denial_of, asking_tests, waiting_tests}
-use Rattle.capacts.proofs.Again.{denial-stop, stopped-policy, stopped-after}
+use Rattle.capsteps.specs.Capacts.Asks.{ask_needs, change_access, change_tests}
+use Rattle.capsteps.specs.Capacts.Judge.{stop, denial_of, asking_tests, waiting_tests}
+use Rattle.capsteps.proofs.Capacts.Again.{denial-stop, stopped-policy, stopped-after}
 use Rattle.capsteps.proofs.Revoking.{passed-front}
 use Rattle.capcore.proofs.world.World.change_stop.Goals as goal
 use Rattle.capcore.proofs.world.World.change_stop.Goals.{in-Some-change_refusal, in-None}

@@ -1,8 +1,8 @@
 use Rattle.std.proofs.Common.{ap, ◌∙◌}
 use Rattle.captable.specs.Table.{holder}
 use Rattle.capsteps.specs.State.{State}
-use Rattle.capacts.specs.Judge.{denial_of}
-use Rattle.capacts.proofs.Again.{denial-stop}
+use Rattle.capsteps.specs.Capacts.Judge.{denial_of}
+use Rattle.capsteps.proofs.Capacts.Again.{denial-stop}
 use Rattle.capcore.proofs.world.World.denial.Goals as goal
 
 pub returns : goal.returns

@@ -6,10 +6,10 @@ use Rattle.capbits.specs.declared.cap.Cap.{Cap}
 use Rattle.capbits.proofs.Tests.{failing-front}
 use Rattle.captable.specs.Table.{holder}
 use Rattle.captable.specs.Tests.{release_tests}
-use Rattle.lockmachine.specs.Scene.{Scene}
+use Rattle.capsteps.specs.Lockmachine.Scene.{Scene}
 use Rattle.capsteps.specs.State.{State}
-use Rattle.capacts.specs.Asks.{change_tests, exclusive}
-use Rattle.capacts.specs.Judge.{flush_tests}
+use Rattle.capsteps.specs.Capacts.Asks.{change_tests, exclusive}
+use Rattle.capsteps.specs.Capacts.Judge.{flush_tests}
 use Rattle.capsteps.proofs.Revoking.{passed-front}
 use Rattle.capcore.proofs.world.World.flush_refusal.Goals as goal
 

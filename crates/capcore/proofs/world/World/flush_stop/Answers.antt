@@ -1,13 +1,13 @@
 use Rattle.std.proofs.Common.{◌≡◌, [], sym, ap, ◌∙◌}
 use Rattle.capgrant.specs.declared.access.Access.{Access}
 use Rattle.captable.specs.Table.{holder}
-use Rattle.lockmachine.specs.Scene.{Scene}
-use Rattle.capevents.specs.declared.event.Event.{Event}
-use Rattle.capevents.specs.declared.event.Event.TheVariants.{Flush}
+use Rattle.capsteps.specs.Lockmachine.Scene.{Scene}
+use Rattle.capsteps.specs.Capevents.declared.event.Event.{Event}
+use Rattle.capsteps.specs.Capevents.declared.event.Event.TheVariants.{Flush}
 use Rattle.capsteps.specs.State.{State}
-use Rattle.capacts.specs.Asks.{change_access}
-use Rattle.capacts.specs.Judge.{stop, denial_of, before, needs, after}
-use Rattle.capacts.proofs.Again.{denial-stop, stopped-policy}
+use Rattle.capsteps.specs.Capacts.Asks.{change_access}
+use Rattle.capsteps.specs.Capacts.Judge.{stop, denial_of, before, needs, after}
+use Rattle.capsteps.proofs.Capacts.Again.{denial-stop, stopped-policy}
 use Rattle.capcore.proofs.world.World.flush_stop.Goals as goal
 
 pub returns-in-Some-denial : goal.returns-in-Some-denial

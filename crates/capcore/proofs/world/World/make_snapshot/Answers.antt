@@ -4,11 +4,11 @@ use Rattle.inotree.specs.Inodes.{with_snapshot}
 use Rattle.inotree.specs.Tests.{new_snapshot_tests}
 use Rattle.capcore.proofs.Effects.{making-stopped, snapshot-refused}
 use Rattle.capcore.proofs.Untouched.{changed-sound, changed-known}
-use Rattle.capview.specs.Sight.{IsLike, Shows}
-use Rattle.capview.proofs.Likeness.{like-unseen, shows-tree}
+use Rattle.capsteps.specs.Capview.Sight.{IsLike, Shows}
+use Rattle.capsteps.proofs.Capview.Likeness.{like-unseen, shows-tree}
 use Rattle.capsteps.specs.State.{State}
 use Rattle.capsteps.specs.Noted.{view_of}
-use Rattle.capnotes.specs.Noted.{view}
+use Rattle.capsteps.specs.Capnotes.Noted.{view}
 use Rattle.capcore.proofs.world.World.make_snapshot.Goals as goal
 
 pub returns-in-Some-clause-direct : goal.returns-in-Some-clause-direct

@@ -3,7 +3,7 @@ use Rattle.captable.specs.declared.entry.Holder.{Holder}
 use Rattle.captable.specs.Table.{Table, entry_at}
 use Rattle.capsteps.specs.State.{State}
 use Rattle.capsteps.specs.History.{IsOpening}
-use Rattle.capnotes.specs.Untold.{HasRoom}
+use Rattle.capsteps.specs.Capnotes.Untold.{HasRoom}
 use Rattle.capcore.proofs.Sounding.{opening-sound}
 use Rattle.capcore.proofs.world.World.new.Goals as goal
 

@@ -1,9 +1,9 @@
 use Rattle.std.proofs.Common.{◌++◌, ◌∷◌, [], sym, ap, subst, ◌∙◌}
-use Rattle.capview.specs.declared.change.ViewChange.TheVariants as change
-use Rattle.capview.specs.Changes.{AreChanges}
+use Rattle.capsteps.specs.Capview.declared.change.ViewChange.TheVariants as change
+use Rattle.capsteps.specs.Capview.Changes.{AreChanges}
 use Rattle.capsteps.specs.State.{State}
 use Rattle.capsteps.specs.Noted.{view_of}
-use Rattle.capnotes.proofs.Noting.{changes-one}
+use Rattle.capsteps.proofs.Capnotes.Noting.{changes-one}
 use Rattle.capcore.proofs.world.World.open_session.Goals as goal
 
 pub returns-clause-changes : goal.returns-clause-changes

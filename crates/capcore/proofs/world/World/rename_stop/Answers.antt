@@ -1,11 +1,11 @@
 use Rattle.std.proofs.Common.{◌≡◌, [], sym, ap, ◌∙◌}
 use Rattle.std.specs.Option.{option_map}
-use Rattle.lockmachine.specs.declared.request.Ask.TheVariants.{Rename}
-use Rattle.capacts.specs.declared.stopped.Stopped.TheVariants.{ByTest}
+use Rattle.capsteps.specs.Lockmachine.declared.request.Ask.TheVariants.{Rename}
+use Rattle.capsteps.specs.Capacts.declared.stopped.Stopped.TheVariants.{ByTest}
 use Rattle.capsteps.specs.State.{State}
-use Rattle.capacts.specs.Asks.{ask_needs}
-use Rattle.capacts.specs.Judge.{stop, asking_tests, waiting_tests}
-use Rattle.capacts.proofs.Again.{stopped-before, stopped-policy, stopped-after}
+use Rattle.capsteps.specs.Capacts.Asks.{ask_needs}
+use Rattle.capsteps.specs.Capacts.Judge.{stop, asking_tests, waiting_tests}
+use Rattle.capsteps.proofs.Capacts.Again.{stopped-before, stopped-policy, stopped-after}
 use Rattle.capcore.proofs.world.World.rename_stop.Goals as goal
 
 pub returns-in-Some : goal.returns-in-Some

@@ -5,15 +5,15 @@ use Rattle.capbits.specs.Sets.{IsSubset}
 use Rattle.captable.specs.declared.entry.Entry.{Entry}
 use Rattle.captable.specs.declared.entry.Holder.{Holder}
 use Rattle.captable.specs.Table.{Table, IsTable, holder, entry_at}
-use Rattle.lockmachine.specs.Scene.{Scene}
-use Rattle.capevents.specs.declared.event.Event.{Event}
-use Rattle.capevents.specs.declared.outcome.Ended.{Ended}
+use Rattle.capsteps.specs.Lockmachine.Scene.{Scene}
+use Rattle.capsteps.specs.Capevents.declared.event.Event.{Event}
+use Rattle.capsteps.specs.Capevents.declared.outcome.Ended.{Ended}
 use Rattle.capsteps.specs.State.{State}
 use Rattle.capsteps.specs.Answered.{IsAnswered}
-use Rattle.capevents.specs.Replies.{has_list}
+use Rattle.capsteps.specs.Capevents.Replies.{has_list}
 use Rattle.capsteps.specs.Direct.{Answer, direct, reply_of, shown}
-use Rattle.capacts.specs.Judge.{judged}
-use Rattle.capacts.specs.Known.{known_in, AreKnown, StillKept}
+use Rattle.capsteps.specs.Capacts.Judge.{judged}
+use Rattle.capsteps.specs.Capacts.Known.{known_in, AreKnown, StillKept}
 use Rattle.capsteps.specs.Touching.{Knows}
 use Rattle.capsteps.specs.Serves.{EndsWith}
 use Rattle.capsteps.specs.Sound.{IsSound, NumbersLeft}
@@ -26,9 +26,9 @@ use Rattle.capcore.proofs.Stops.{stopped-answered}
 use Rattle.capsteps.proofs.TouchKept.{touch-less, others-have_all}
 use Rattle.capcore.proofs.TouchWhole.{passed-of, table-of, first-is, touch-answered, touched-by, touch-reply, no_list-touch, tell-alike}
 use Rattle.capsteps.proofs.Touched.{touched-tests}
-use Rattle.capview.specs.Changes.{AreChanges}
+use Rattle.capsteps.specs.Capview.Changes.{AreChanges}
 use Rattle.capsteps.specs.Noted.{view_of}
-use Rattle.capnotes.proofs.Noting.{changes-all, changes-still}
+use Rattle.capsteps.proofs.Capnotes.Noting.{changes-all, changes-still}
 use Rattle.capcore.proofs.world.World.touch.Goals as goal
 use Rattle.capcore.proofs.world.World.touch.Goals.{In_ok-touch_entry, After-close}
 

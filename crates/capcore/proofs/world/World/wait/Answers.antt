@@ -2,21 +2,21 @@ use Rattle.std.proofs.Common.{is_some, ◌≡◌, ◌+◌, ◌++◌, ◌∷◌, 
 use Rattle.std.proofs.lemmas.List.{length-append}
 use Rattle.captable.specs.declared.entry.Holder.{Holder}
 use Rattle.captable.specs.Table.{holder}
-use Rattle.lockmachine.specs.Locks.{LockMap, next_request}
-use Rattle.lockmachine.specs.Scene.{Scene}
-use Rattle.capevents.specs.declared.event.Event.{Event}
-use Rattle.capevents.specs.declared.outcome.Ended.{Ended}
+use Rattle.capsteps.specs.Lockmachine.Locks.{LockMap, next_request}
+use Rattle.capsteps.specs.Lockmachine.Scene.{Scene}
+use Rattle.capsteps.specs.Capevents.declared.event.Event.{Event}
+use Rattle.capsteps.specs.Capevents.declared.outcome.Ended.{Ended}
 use Rattle.capsteps.specs.State.{State}
 use Rattle.capsteps.specs.Answered.{IsAnswered}
-use Rattle.capacts.specs.Asks.{ask_needs}
-use Rattle.capacts.specs.Judge.{stop, asking_tests, waiting_tests}
+use Rattle.capsteps.specs.Capacts.Asks.{ask_needs}
+use Rattle.capsteps.specs.Capacts.Judge.{stop, asking_tests, waiting_tests}
 use Rattle.capsteps.specs.Touching.{asks_for}
-use Rattle.capnotes.specs.Untold.{but_for}
+use Rattle.capsteps.specs.Capnotes.Untold.{but_for}
 use Rattle.capcore.proofs.Asked.{asking-room}
 use Rattle.capcore.proofs.Waits.{some-asking, room-left, few-others, wait-quiet, wait-differ, wait-known, wait-answered}
-use Rattle.capview.specs.Changes.{AreChanges}
+use Rattle.capsteps.specs.Capview.Changes.{AreChanges}
 use Rattle.capsteps.specs.Noted.{view_of}
-use Rattle.capnotes.proofs.Noting.{changes-all}
+use Rattle.capsteps.proofs.Capnotes.Noting.{changes-all}
 use Rattle.capcore.proofs.world.World.wait.Goals as goal
 use Rattle.capcore.proofs.world.World.wait.Goals.{After-oldest-oldest, After-close_with}
 

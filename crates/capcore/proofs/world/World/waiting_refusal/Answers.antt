@@ -1,11 +1,11 @@
 use Rattle.std.proofs.Common.{refl, sym, ap, ◌∙◌}
 use Rattle.capbits.specs.Refusal.{first_failing}
 use Rattle.capbits.proofs.Tests.{failing-front}
-use Rattle.lockmachine.specs.Locks.{queue_tests}
-use Rattle.lockmachine.specs.Scene.{Scene}
+use Rattle.capsteps.specs.Lockmachine.Locks.{queue_tests}
+use Rattle.capsteps.specs.Lockmachine.Scene.{Scene}
 use Rattle.capsteps.specs.State.{State}
-use Rattle.capacts.specs.Asks.{ask_after}
-use Rattle.capacts.specs.Judge.{waiting_tests}
+use Rattle.capsteps.specs.Capacts.Asks.{ask_after}
+use Rattle.capsteps.specs.Capacts.Judge.{waiting_tests}
 use Rattle.capsteps.proofs.Revoking.{passed-front}
 use Rattle.capcore.proofs.world.World.waiting_refusal.Goals as goal
 

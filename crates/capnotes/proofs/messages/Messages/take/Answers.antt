@@ -1,6 +1,6 @@
 use Rattle.std.proofs.Common.{◌≡◌, Some, sym, ap, subst, ◌∙◌}
 use Rattle.std.specs.List.{find, position, remove}
-use Rattle.lockmachine.proofs.Positions.{no_position}
+use Rattle.capevents.proofs.Lockmachine.Positions.{no_position}
 use Rattle.capnotes.specs.Untold.{is_of_ticket, Untold, HaveOwnNumbers, but_for}
 use Rattle.capnotes.proofs.Taking.{taken, none_taken}
 use Rattle.capnotes.proofs.messages.Messages.take.Goals as goal

@@ -1,5 +1,5 @@
 use Rattle.std.proofs.Common.{◌≡◌, List, get_or, ap, rules}
-use Rattle.capevents.specs.declared.event.Event.{Event}
+use Rattle.capacts.specs.Capevents.declared.event.Event.{Event}
 use Rattle.capplan.specs.declared.plan.Job.{Job}
 use Rattle.capplan.specs.Jobs.{Work, Calls, calls_by}
 use Rattle.capplan.proofs.JobLists.{known_gets_event}

@@ -1,13 +1,13 @@
 use Rattle.std.proofs.Common.{◌∙◌, ◌≤◌, ℕ, List, Option, MatchOption, ap, sym, subst}
 use Rattle.std.specs.Option.{option_copied_mut}
 use mathlib.Core.List.{IsPrefix}
-use Rattle.capview.specs.declared.change.ViewChange.{ViewChange}
-use Rattle.capview.specs.Changes.{AreChanges}
+use Rattle.capcore.specs.Capview.declared.change.ViewChange.{ViewChange}
+use Rattle.capcore.specs.Capview.Changes.{AreChanges}
 use Rattle.capbits.specs.declared.ids.PassId.{PassId}
-use Rattle.capsteps.specs.History.{Told}
-use Rattle.capsteps.specs.Noted.{view_of}
+use Rattle.capcore.specs.Capsteps.History.{Told}
+use Rattle.capcore.specs.Capsteps.Noted.{view_of}
 use Rattle.capcore.specs.Promised.{IsPromised}
-use Rattle.published.specs.Publishing.{Publishing}
+use Rattle.cappass.specs.Published.Publishing.{Publishing}
 use Rattle.capserver.specs.Held.{IsHeld}
 use Rattle.cappass.specs.Passes.{pass_id}
 use Rattle.capserver.proofs.Holding.{begins_next, held_next, legal_of, room_of}

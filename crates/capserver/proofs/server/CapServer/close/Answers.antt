@@ -1,7 +1,7 @@
 use Rattle.std.proofs.Common.{◌≡◌, List, ap, sym, subst, arith, length}
 use mathlib.Core.List.{IsPrefix}
-use Rattle.capevents.specs.declared.row.Row.{Row}
-use Rattle.capsteps.specs.History.{Told}
+use Rattle.capcore.specs.Capevents.declared.row.Row.{Row}
+use Rattle.capcore.specs.Capsteps.History.{Told}
 use Rattle.cappass.specs.Passes.{AllBegin}
 use Rattle.cappass.proofs.Numbering.{begin_longer}
 use Rattle.capserver.proofs.server.CapServer.close.Goals as goal

@@ -1,8 +1,8 @@
 use Rattle.std.proofs.Common.{subst}
-use Rattle.capview.specs.declared.view.View.{View}
-use Rattle.capview.specs.Answers.{IsAnswer}
-use Rattle.capview.specs.Sight.{Shows}
-use Rattle.capview.proofs.Likeness.{shows-refl}
+use Rattle.rowbook.specs.Capview.declared.view.View.{View}
+use Rattle.rowbook.specs.Capview.Answers.{IsAnswer}
+use Rattle.rowbook.specs.Capview.Sight.{Shows}
+use Rattle.rowbook.proofs.Capview.Likeness.{shows-refl}
 use Rattle.published.specs.declared.value.Published.{Published}
 use Rattle.published.proofs.Asking.{answered, never_unseen}
 use Rattle.published.proofs.witness.Witness.explain.Goals as goal

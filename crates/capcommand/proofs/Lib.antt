@@ -1,0 +1,1 @@
+pub use Rattle.capanswers.proofs.Capquestion
