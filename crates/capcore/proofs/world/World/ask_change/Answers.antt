@@ -21,7 +21,7 @@ returns-in-Some-clause-answered c = λ e asked.
     let stops : Option Stopped = stop s.scene (asking_tests s.scene k.client k.ino.0 ask) (ask_needs s.scene k.client k.ino.0 ask) (waiting_tests s.scene k.ino.0 ask) in
     stopped-answered s e c.in-Some.stopped c.alone.result known.0 known.1
     (asking-stop e k ask s.scene asked ∙ sym {b = stops} c.change_stop.ensures ∙ c.in-Some.is)
-    (c.alone.ensures.reply ∙ c.into.ensures) (c.alone.ensures.kept ∙ sym c.alone.ensures.reply) c.alone.ensures.ended
+    (c.alone.ensures.reply ∙ c.into_reply.ensures.reply) (c.alone.ensures.kept ∙ sym c.alone.ensures.reply) c.alone.ensures.ended
 
 pub returns-in-Some-clause-changes : goal.returns-in-Some-clause-changes
 returns-in-Some-clause-changes c = changes-still c.alone.result.changes.items (view_of c.args.self.now) c.alone.ensures.changes

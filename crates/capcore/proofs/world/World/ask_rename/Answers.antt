@@ -21,7 +21,7 @@ returns-in-Some-clause-answered c = λ e asked.
     stop s.scene (asking_tests s.scene k.client k.ino.0 (Rename c.args.dir name)) (ask_needs s.scene k.client k.ino.0 (Rename c.args.dir name)) (waiting_tests s.scene k.ino.0 (Rename c.args.dir name)) in
     stopped-answered s e c.in-Some.stopped c.alone.result known.0 known.1
     (asking-stop e k (Rename c.args.dir c.args.name.now) s.scene asked ∙ ap stops (sym c.as_slice.ensures) ∙ sym {b = stops c.as_slice.result.now} c.rename_stop.ensures ∙ c.in-Some.is)
-    (c.alone.ensures.reply ∙ c.into.ensures) (c.alone.ensures.kept ∙ sym c.alone.ensures.reply) c.alone.ensures.ended
+    (c.alone.ensures.reply ∙ c.into_reply.ensures.reply) (c.alone.ensures.kept ∙ sym c.alone.ensures.reply) c.alone.ensures.ended
 
 pub returns-in-Some-clause-changes : goal.returns-in-Some-clause-changes
 returns-in-Some-clause-changes c = changes-still c.alone.result.changes.items (view_of c.args.self.now) c.alone.ensures.changes

@@ -35,7 +35,7 @@ returns-in-Some-clause-answered c =
     let known : IsSound s × IsTable s.scene.table = subst (λ (w : State). IsSound w × IsTable w.scene.table) c.self.view_is (c.self.invariant.0, c.oldest-oldest.ensures.sound) in
     stopped-answered s (event.Flush c.args.client c.args.ino c.args.change.now) c.in-Some.stopped c.alone.result known.0 known.1
     (sym c.flush_stop.ensures ∙ c.in-Some.is)
-    (c.alone.ensures.reply ∙ c.into.ensures) (c.alone.ensures.kept ∙ sym c.alone.ensures.reply) c.alone.ensures.ended
+    (c.alone.ensures.reply ∙ c.into_reply.ensures.reply) (c.alone.ensures.kept ∙ sym c.alone.ensures.reply) c.alone.ensures.ended
 
 pub alter-requires : goal.alter-requires
 alter-requires c =

@@ -5,7 +5,7 @@ use Rattle.capcore.proofs.Effects.{birth-stopped, birth-refused, birth-done}
 use Rattle.capcore.proofs.world.World.make.Goals as goal
 
 pub returns-in-Some-clause-direct : goal.returns-in-Some-clause-direct
-returns-in-Some-clause-direct c = rw c.into.ensures (birth-stopped c.args.self.now c.args.kind c.args.client c.args.dir c.args.name.now c.args.mode c.in-Some.stopped (sym c.stop.ensures ∙ c.in-Some.is))
+returns-in-Some-clause-direct c = rw c.into_reply.ensures.reply (birth-stopped c.args.self.now c.args.kind c.args.client c.args.dir c.args.name.now c.args.mode c.in-Some.stopped (sym c.stop.ensures ∙ c.in-Some.is))
 
 pub returns-in-Some-new_inode_refusal-clause-direct : goal.returns-in-Some-new_inode_refusal-clause-direct
 returns-in-Some-new_inode_refusal-clause-direct c =

@@ -12,7 +12,7 @@ use Rattle.capsteps.specs.Capnotes.Noted.{view}
 use Rattle.capcore.proofs.world.World.make_snapshot.Goals as goal
 
 pub returns-in-Some-clause-direct : goal.returns-in-Some-clause-direct
-returns-in-Some-clause-direct c = rw c.into.ensures (making-stopped c.args.self.now c.args.client c.args.ino c.args.name.now c.in-Some.stopped (sym c.stop.ensures ∙ c.in-Some.is))
+returns-in-Some-clause-direct c = rw c.into_reply.ensures.reply (making-stopped c.args.self.now c.args.client c.args.ino c.args.name.now c.in-Some.stopped (sym c.stop.ensures ∙ c.in-Some.is))
 
 pub returns-in-Some-new_snapshot_refusal-clause-direct : goal.returns-in-Some-new_snapshot_refusal-clause-direct
 returns-in-Some-new_snapshot_refusal-clause-direct c =

@@ -12,7 +12,7 @@ use Rattle.capsteps.specs.Capnotes.Noted.{view}
 use Rattle.capcore.proofs.world.World.remove_snapshot.Goals as goal
 
 pub returns-in-Some-clause-direct : goal.returns-in-Some-clause-direct
-returns-in-Some-clause-direct c = rw c.into.ensures (removing-stopped c.args.self.now c.args.client c.args.ino c.args.name.now c.in-Some.stopped (sym c.stop.ensures ∙ c.in-Some.is))
+returns-in-Some-clause-direct c = rw c.into_reply.ensures.reply (removing-stopped c.args.self.now c.args.client c.args.ino c.args.name.now c.in-Some.stopped (sym c.stop.ensures ∙ c.in-Some.is))
 
 pub returns-in-Some-old_snapshot_refusal-clause-direct : goal.returns-in-Some-old_snapshot_refusal-clause-direct
 returns-in-Some-old_snapshot_refusal-clause-direct c =

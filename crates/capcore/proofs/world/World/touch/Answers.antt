@@ -40,7 +40,7 @@ returns-in-Some-clause-answered c =
     let known : IsSound s × IsTable s.scene.table = subst (λ (w : State). IsSound w × IsTable w.scene.table) c.self.view_is (c.self.invariant.0, c.oldest-oldest.ensures.sound) in
     stopped-answered s (touch_event c.args.client c.args.ino c.args.touch) c.in-Some.stopped c.alone.result known.0 known.1
     (sym c.touch_stop.ensures ∙ c.in-Some.is)
-    (c.alone.ensures.reply ∙ c.into.ensures) (c.alone.ensures.kept ∙ sym c.alone.ensures.reply) c.alone.ensures.ended
+    (c.alone.ensures.reply ∙ c.into_reply.ensures.reply) (c.alone.ensures.kept ∙ sym c.alone.ensures.reply) c.alone.ensures.ended
 
 pub touch_entry-requires-clause-passed : goal.touch_entry-requires-clause-passed
 touch_entry-requires-clause-passed c =
