@@ -2,7 +2,7 @@
 
 use crate::fault::{BookFault, Place};
 use crate::line::Line;
-use crate::run::Run;
+use crate::run::{Program, Run};
 use crate::text::read_words;
 use std::alloc::Global;
 
@@ -34,8 +34,10 @@ impl Talk<'_> {
     // One line more. A command begins a run, and so does a line that is asked before any command: that of a script.
     fn take(&mut self, alloc: Global, line: Line<'_>) -> Result<(), BookFault> {
         match line {
-            Line::Command(words) => self.begin_run(alloc, words)?,
-            Line::Asked(_) if self.runs.is_empty() => self.begin_run(alloc, b"run")?,
+            Line::Command(program, words) => self.begin_run(alloc, program, words)?,
+            Line::Asked(_) if self.runs.is_empty() => {
+                self.begin_run(alloc, Program::Capd, b"run")?
+            }
             Line::Asked(_) => self.asks = true,
             _ => {}
         }
@@ -45,9 +47,14 @@ impl Talk<'_> {
         }
     }
 
-    fn begin_run(&mut self, alloc: Global, words: &[u8]) -> Result<(), BookFault> {
+    fn begin_run(
+        &mut self,
+        alloc: Global,
+        program: Program,
+        words: &[u8],
+    ) -> Result<(), BookFault> {
         let words = read_words(alloc, words)?;
-        self.runs.push(Run::new(alloc, words))?;
+        self.runs.push(Run::new(alloc, program, words))?;
         self.asks = true;
         Ok(())
     }

@@ -1,6 +1,7 @@
 //! The lines of a file of talks.
 
 use crate::fault::BookFault;
+use crate::run::Program;
 
 /// What a line is, by its first byte, with the text behind that.
 #[derive(Clone, Copy)]
@@ -11,8 +12,10 @@ pub enum Line<'a> {
     Talk(&'a [u8]),
     /// The talk begins with all lines of the earlier talk of this name.
     Begins(&'a [u8]),
-    /// The words of a command line.
-    Command(&'a [u8]),
+    /// The words of a command line of a program.
+    Command(Program, &'a [u8]),
+    /// What a stream takes before it fails.
+    Limit(&'a [u8]),
     /// A line that the command reads.
     Asked(&'a [u8]),
     /// A line that the command writes.
@@ -36,7 +39,9 @@ impl<'a> Line<'a> {
             b'#' => Ok(Line::Remark),
             b'*' => Ok(Line::Talk(name(behind)?)),
             b'+' => Ok(Line::Begins(name(behind)?)),
-            b'$' => Ok(Line::Command(marked(behind)?)),
+            b'$' => Ok(Line::Command(Program::Capd, marked(behind)?)),
+            b'%' => Ok(Line::Command(Program::Capbench, marked(behind)?)),
+            b'@' => Ok(Line::Limit(marked(behind)?)),
             b'>' => Ok(Line::Asked(marked(behind)?)),
             b'!' => Ok(Line::Complaint(marked(behind)?)),
             b'=' => Ok(Line::Status(marked(behind)?)),

@@ -1,4 +1,5 @@
 //! What is said of files of talks.
+ghost use Rattle.std.specs.Prelude.{◌≤◌};
 
 use crate::fault::Stop;
 use std::io::Write;
@@ -13,14 +14,16 @@ pub fn topic(name: &str) -> &str {
 }
 
 /// Says that talks differ, or why no more was played, and returns the status: 0 where all talks agree, else 1.
-pub fn report(played: Result<usize, Stop>, faults: &mut impl Write) -> u8 {
+pub fn report(played: Result<usize, Stop>, faults: &mut impl Write) -> u8
+    ensures { result ≤ 1 }
+{
     match played {
         Ok(0) => return 0,
         Ok(differing) => {
-            let _ = writeln!(faults, "casebook: {differing} talks differ");
+            let _ = writeln!(faults, "capbench: {differing} talks differ");
         }
         Err(stop) => {
-            let _ = writeln!(faults, "casebook: {stop}");
+            let _ = writeln!(faults, "capbench: {stop}");
         }
     }
     1
