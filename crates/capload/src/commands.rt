@@ -4,52 +4,53 @@ ghost use Rattle.std.specs.Prelude.{◌≤◌};
 use crate::fault::Fault;
 use crate::playing::{Play, play_rounds};
 use crate::questions::ask_all;
-use crate::scripts::{run_script, serve_script};
+use crate::scripts::run_script;
 use capbits::read_u32;
 use std::alloc::Global;
 use std::io::Write;
-use std::sync::Wait;
-use std::thread::Threads;
 
-/// Does a task, which is a kind of work, how much of it, and the seed that it is made from, and writes the digest of its answers as a line.
-/// The status is 0; or 2 where the words
-/// name no work, and 1 where memory, an answer or the output failed, which a line on `faults` says.
-pub fn dispatch<T: Threads + Wait + Sync>(
-    rt: &T,
-    alloc: Global,
-    task: [&str; 3],
-    writer: &mut impl Write,
-    faults: &mut impl Write,
-) -> u8
+/// How much work is done, and the seed that it is made from.
+#[derive(Clone, Copy)]
+pub struct Amount {
+    /// How often: each kind of work says of what.
+    pub count: u32,
+    /// The seed.
+    pub seed: u32,
+}
+
+impl Amount {
+    /// Reads both numbers.
+    pub fn read(count: &[u8], seed: &[u8]) -> Result<Amount, Fault> {
+        match (read_u32(count), read_u32(seed)) {
+            (Some(count), Some(seed)) => Ok(Amount { count, seed }),
+            _ => Err(Fault::Usage),
+        }
+    }
+}
+
+/// Does the work of this name, which takes no server, and returns the digest of all that was answered.
+pub fn digest_of(alloc: Global, work: &[u8], amount: Amount) -> Result<u64, Fault> {
+    let Amount { count, seed } = amount;
+    match work {
+        b"tenants" => play_rounds(alloc, Play::Tenants, count, seed),
+        b"shared" => play_rounds(alloc, Play::Shared, count, seed),
+        b"moves" => play_rounds(alloc, Play::Moves, count, seed),
+        b"script" => run_script(alloc, count, seed),
+        b"questions" => ask_all(alloc, count, seed),
+        _ => Err(Fault::Usage),
+    }
+}
+
+/// Writes the digest as a line, or why there is none, and returns the status: 0; or 2 where the words name no work, and 1 where memory, an
+/// answer or the output failed.
+pub fn tell(digest: Result<u64, Fault>, writer: &mut impl Write, faults: &mut impl Write) -> u8
     ensures { result ≤ 2 }
 {
-    let [work, count, seed] = task;
-    let fault = match digest_of(rt, alloc, work, count, seed) {
+    let fault = match digest {
         Ok(digest) if writeln!(writer, "digest {digest:016x}").is_ok() => return 0,
         Ok(_) => Fault::WriteFailed,
         Err(fault) => fault,
     };
-    let _ = writeln!(faults, "capbench: {fault}");
+    let _ = faults.write_all(fault.line().as_bytes());
     fault.status()
-}
-
-fn digest_of<T: Threads + Wait + Sync>(
-    rt: &T,
-    alloc: Global,
-    work: &str,
-    count: &str,
-    seed: &str,
-) -> Result<u64, Fault> {
-    let (Some(count), Some(seed)) = (read_u32(count.as_bytes()), read_u32(seed.as_bytes())) else {
-        return Err(Fault::Usage);
-    };
-    match work {
-        "tenants" => play_rounds(alloc, Play::Tenants, count, seed),
-        "shared" => play_rounds(alloc, Play::Shared, count, seed),
-        "moves" => play_rounds(alloc, Play::Moves, count, seed),
-        "script" => run_script(alloc, count, seed),
-        "questions" => ask_all(alloc, count, seed),
-        "serve" => serve_script(rt, alloc, count, seed),
-        _ => Err(Fault::Usage),
-    }
 }

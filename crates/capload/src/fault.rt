@@ -1,26 +1,19 @@
 //! Why there is no digest.
 
-use capjobs::ServeFault;
-use capjobs::capcore::Stop;
-use capjobs::capscript::ScriptFault;
 use capquestion::QuestionFault;
+use capscript::ScriptFault;
+use capscript::capcore::Stop;
 use std::alloc::{AllocError, AllocFailed};
-use std::fmt;
-use std::fmt::Display;
 
 /// Why a piece of work gave no digest.
 #[derive(Clone, Copy)]
-pub(crate) enum Fault {
+pub enum Fault {
     /// The words name no work.
     Usage,
-    /// A line of the work is none.
-    Script(ScriptFault),
-    /// A script was not served.
-    Serve(ServeFault),
-    /// A question of the work is none.
-    Question(QuestionFault),
+    /// A line, a script or a question of the work is none, or was not answered.
+    Work,
     /// The core took no event.
-    Stopped(Stop),
+    Stopped,
     /// A line was answered otherwise than the work needs.
     Unexpected,
     /// No memory was left.
@@ -29,23 +22,20 @@ pub(crate) enum Fault {
     WriteFailed,
 }
 
-impl Display for Fault {
-    fn fmt<W: fmt::Write>(&self, f: &mut fmt::Formatter<W>) -> fmt::Result {
-        f.write_str(match self {
-            Fault::Usage => "WORK, COUNT and SEED are wanted: --help names them",
-            Fault::Script(fault) => return write!(f, "script: {fault}"),
-            Fault::Serve(fault) => return write!(f, "serve: {fault}"),
-            Fault::Question(fault) => return write!(f, "question: {fault}"),
-            Fault::Stopped(stop) => return write!(f, "{stop}"),
-            Fault::Unexpected => "another answer was needed",
-            Fault::NoMemory => "no memory",
-            Fault::WriteFailed => "write failed",
-        })
-    }
-}
-
 impl Fault {
     ghost use Rattle.std.specs.Prelude.{◌≤◌};
+
+    /// The line that says it.
+    pub(crate) fn line(self) -> &'static str {
+        match self {
+            Fault::Usage => "capbench: WORKLOAD, COUNT and SEED are wanted\n",
+            Fault::Work => "capbench: a part of the work has a fault\n",
+            Fault::Stopped => "capbench: an event was not taken\n",
+            Fault::Unexpected => "capbench: another answer was needed\n",
+            Fault::NoMemory => "capbench: no memory\n",
+            Fault::WriteFailed => "capbench: write failed\n",
+        }
+    }
 
     /// The status with which the program ends.
     pub(crate) fn status(self) -> u8
@@ -71,25 +61,19 @@ impl<T: Drop> From<AllocFailed<T>> for Fault {
 }
 
 impl From<ScriptFault> for Fault {
-    fn from(fault: ScriptFault) -> Self {
-        Fault::Script(fault)
-    }
-}
-
-impl From<ServeFault> for Fault {
-    fn from(fault: ServeFault) -> Self {
-        Fault::Serve(fault)
+    fn from(_: ScriptFault) -> Self {
+        Fault::Work
     }
 }
 
 impl From<QuestionFault> for Fault {
-    fn from(fault: QuestionFault) -> Self {
-        Fault::Question(fault)
+    fn from(_: QuestionFault) -> Self {
+        Fault::Work
     }
 }
 
 impl From<Stop> for Fault {
-    fn from(stop: Stop) -> Self {
-        Fault::Stopped(stop)
+    fn from(_: Stop) -> Self {
+        Fault::Stopped
     }
 }

@@ -12,4 +12,6 @@ mod shared_files;
 mod talk;
 mod tenants;
 
-pub use commands::dispatch;
+pub use commands::{Amount, digest_of, tell};
+pub use fault::Fault;
+pub use scripts::{history_digest, served_script};

@@ -5,8 +5,8 @@ use crate::fault::Fault;
 use crate::shared_files::share;
 use crate::talk::Talk;
 use crate::tenants::serve_tenants;
-use capjobs::capcore::Core;
-use capjobs::capscript::file_system;
+use capscript::capcore::Core;
+use capscript::file_system;
 use std::alloc::Global;
 
 /// What the clients do.

@@ -1,13 +1,11 @@
-//! Whole scripts, run and served as `capd` does it.
+//! Whole scripts: those that are run as `capd run` does it, and those that a program with a server serves as `capd serve` does.
 
+use crate::commands::Amount;
 use crate::fault::Fault;
 use crate::talk::Talk;
-use capjobs::capscript::{Watched, run};
-use capjobs::serve;
+use capscript::{Watched, run};
 use std::alloc::Global;
 use std::hash::{DefaultHasher, Hasher};
-use std::sync::Wait;
-use std::thread::Threads;
 
 /// How many directories stand in each other.
 const DEPTH: u64 = 28;
@@ -49,38 +47,23 @@ fn transcript(alloc: Global, script: &[u8]) -> Result<Vec<u8>, Fault> {
     Ok(written)
 }
 
-/// Serves a script of so many rounds, and returns a digest of the rows of its history that is the same in whatever order the threads
-/// were served.
-pub(crate) fn serve_script<T: Threads + Wait + Sync>(
-    rt: &T,
-    alloc: Global,
-    count: u32,
-    seed: u32,
-) -> Result<u64, Fault> {
-    let script = jobs(Talk::new(alloc, seed), count)?;
-    let written = served(rt, alloc, script.as_slice())?;
-    Ok(sum_of_lines(written.as_slice()))
+/// The script of so many rounds that is to be served: clients that each work on files of their own, from threads of their own. Nothing that
+/// they ask for waits, since the number of a request that waits depends on when its thread was served.
+pub fn served_script(alloc: Global, amount: Amount) -> Result<Vec<u8>, Fault> {
+    let Amount { count, seed } = amount;
+    let mut talk = Talk::new(alloc, seed);
+    let mut script = Vec::new(alloc);
+    add_clients(&mut talk, &mut script);
+    talk.write(&mut script, "threads\n", &[]);
+    for round in 0..u64::from(count) {
+        add_round(&mut talk, &mut script, round);
+    }
+    talk.made(script)
 }
 
-// What is written of a script that is served. What is promised of it stays behind here.
-fn served<T: Threads + Wait + Sync>(
-    rt: &T,
-    alloc: Global,
-    script: &[u8],
-) -> Result<Vec<u8>, Fault> {
-    let mut written = Vec::new(alloc);
-    let mut reader = script;
-    serve(
-        rt,
-        alloc,
-        &mut Watched::new(&mut reader),
-        &mut Watched::new(&mut written),
-    )?;
-    Ok(written)
-}
-
-// The sum of the digests of the lines.
-fn sum_of_lines(text: &[u8]) -> u64 {
+/// The digest of the history of a script that is served. It is the same in whatever order the threads were served: the sum of the digests of
+/// the lines, of which each has the pass of its client, and its number among that client's.
+pub fn history_digest(text: &[u8]) -> u64 {
     let mut sum: u64 = 0;
     for line in text.split(|byte| *byte == b'\n') {
         sum = sum.wrapping_add(digest_of(line));
@@ -88,7 +71,7 @@ fn sum_of_lines(text: &[u8]) -> u64 {
     sum
 }
 
-// The digest of a text. A line that is served has the pass of its client, and its number among that client's.
+// The digest of a text.
 fn digest_of(text: &[u8]) -> u64 {
     let mut digest = DefaultHasher::new();
     digest.write(text);
@@ -123,18 +106,6 @@ fn add_file(talk: &mut Talk, script: &mut Vec<u8>, round: u64) {
         &[folder, round, made, made, round, folder, round, made],
     );
     talk.write(script, CHANGE, &[any, any, any]);
-}
-
-// Clients that each work on files of their own, from threads of their own. Nothing that they ask for waits, since the number of a
-// request that waits depends on when its thread was served.
-fn jobs(mut talk: Talk, count: u32) -> Result<Vec<u8>, Fault> {
-    let mut script = Vec::new(talk.alloc());
-    add_clients(&mut talk, &mut script);
-    talk.write(&mut script, "threads\n", &[]);
-    for round in 0..u64::from(count) {
-        add_round(&mut talk, &mut script, round);
-    }
-    talk.made(script)
 }
 
 fn add_clients(talk: &mut Talk, script: &mut Vec<u8>) {

@@ -3,7 +3,7 @@
 
 use crate::fault::Fault;
 use crate::talk::Talk;
-use capjobs::capcore::Core;
+use capscript::capcore::Core;
 
 /// How many clients there are.
 const CLIENTS: u64 = 40;

@@ -2,9 +2,9 @@
 
 use crate::fault::Fault;
 use capbits::PassId;
-use capjobs::capcore::{Core, Event, Message, Reply};
-use capjobs::capexplain::reply_lines;
-use capjobs::capscript::read_line;
+use capscript::capcore::{Core, Event, Message, Reply};
+use capscript::capexplain::reply_lines;
+use capscript::read_line;
 use rand_core::Rng;
 use rand_pcg::Pcg32;
 use std::alloc::{AllocError, Global};

@@ -2,7 +2,7 @@
 //! is not its own.
 
 use crate::talk::{Heard, Talk};
-use capjobs::capcore::Core;
+use capscript::capcore::Core;
 
 /// How many tenants there are.
 const TENANTS: u64 = 48;

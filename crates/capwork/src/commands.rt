@@ -23,11 +23,11 @@ pub const FAILED: u8 = 1;
 /// The words are not understood.
 pub const USAGE: u8 = 2;
 
-/// Does what the words ask for, of which the first is the program's own name, with the text that is read, and returns the status.
+/// Does what the words behind the program's name ask for, with the text that is read, and returns the status.
 pub fn dispatch<T: Threads + Wait + Sync, R: Read, W: Write>(
     rt: &T,
     alloc: Global,
-    words: &[String],
+    words: &[Vec<u8>],
     reader: &mut R,
     writer: &mut W,
     faults: &mut impl Write,

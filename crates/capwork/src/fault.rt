@@ -31,7 +31,7 @@ impl Fault {
     pub(crate) fn line(self) -> &'static str {
         match self {
             Fault::Usage =>
-                "capbench: wanted is one of: verdict N, parse N, explain READERS INODES N, locked READERS INODES N, retry, publish, or a WORKLOAD with COUNT and SEED\n",
+                "capbench: wanted is one of: verdict N, parse N, explain READERS INODES N, locked READERS INODES N, retry, publish, a WORKLOAD with COUNT and SEED, or play FILE..\n",
             Fault::Text => "capbench: the text can't be used\n",
             Fault::Changed => "capbench: the core changed, where it found no memory\n",
             Fault::InVain => "capbench: an event was asked for in vain\n",

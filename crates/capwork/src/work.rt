@@ -46,45 +46,45 @@ pub(crate) enum Way {
     Locked,
 }
 
-/// What a command line asks for, of which the first word is the program's own name; nothing where its words are not understood.
-pub(crate) fn work_of(words: &[String]) -> Option<Work> {
+/// What the words of a command line ask for; nothing where they are not understood.
+pub(crate) fn work_of(words: &[Vec<u8>]) -> Option<Work> {
     match words {
-        [_, work] => alone(work.as_str()),
-        [_, work, times] => by_grants(work.as_str(), number(times)?),
-        [_, way, readers, inodes, times] => Some(Work::Serve(ServerWork::Explain(Asking {
+        [work] => alone(work.as_slice()),
+        [work, times] => by_grants(work.as_slice(), number(times)?),
+        [way, readers, inodes, times] => Some(Work::Serve(ServerWork::Explain(Asking {
             readers: number(readers)?,
             inodes: number(inodes)?,
             times: number(times)?,
-            way: way_of(way.as_str())?,
+            way: way_of(way.as_slice())?,
         }))),
         _ => None,
     }
 }
 
-fn number(word: &String) -> Option<u32> {
-    read_u32(word.as_bytes())
+fn number(word: &Vec<u8>) -> Option<u32> {
+    read_u32(word.as_slice())
 }
 
-fn alone(work: &str) -> Option<Work> {
+fn alone(work: &[u8]) -> Option<Work> {
     match work {
-        "retry" => Some(Work::Retry),
-        "publish" => Some(Work::Serve(ServerWork::Publish)),
+        b"retry" => Some(Work::Retry),
+        b"publish" => Some(Work::Serve(ServerWork::Publish)),
         _ => None,
     }
 }
 
-fn by_grants(work: &str, times: u32) -> Option<Work> {
+fn by_grants(work: &[u8], times: u32) -> Option<Work> {
     match work {
-        "verdict" => Some(Work::Verdict(times)),
-        "parse" => Some(Work::Parse(times)),
+        b"verdict" => Some(Work::Verdict(times)),
+        b"parse" => Some(Work::Parse(times)),
         _ => None,
     }
 }
 
-fn way_of(word: &str) -> Option<Way> {
+fn way_of(word: &[u8]) -> Option<Way> {
     match word {
-        "explain" => Some(Way::Beside),
-        "locked" => Some(Way::Locked),
+        b"explain" => Some(Way::Beside),
+        b"locked" => Some(Way::Locked),
         _ => None,
     }
 }
