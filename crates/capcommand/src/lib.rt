@@ -11,5 +11,6 @@ pub use capanswers::{
     AnswerFault, Ask, DENIED, DONE, FAILED, FOUND, Form, Inquiry, Source, USAGE, capquestion,
     report, words,
 };
+pub use capjobs;
 pub use commands::{carry_out, dispatch};
 pub use fault::Fault;

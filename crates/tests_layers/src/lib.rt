@@ -1,7 +1,7 @@
 //! Tests of the public calls of the crates below the core: capabilities, grants, what these permit, and the lock table, and the crates
 //! that keep state, which are the tree, the table of capabilities, sessions and locks.
 //!
-//! They show what no answer of a command shows; all else is asked in the talks of `casebook`. They stand in a crate of their own,
+//! They show what no answer of a command shows; all else is asked in the talks of `capbench`. They stand in a crate of their own,
 //! since a crate with tests is proved twice.
 #![tactic(auto)]
 

@@ -1,4 +1,4 @@
-//! What grants permit to hold, and the list of rules in a denial. Which access they allow is asked in the talks of `casebook`.
+//! What grants permit to hold, and the list of rules in a denial. Which access they allow is asked in the talks of `capbench`.
 
 use crate::asserting::{made, present, same};
 use crate::texts::grants_of;

@@ -1,12 +1,12 @@
-//! Talks, played to the commands of `capd`.
+//! Talks, played to the commands of `capd` and to those of this program.
 
-use capcommand::dispatch;
+use crate::work;
 use std::fs;
 use std::fs::Files;
 use std::io::Write;
 use std::sync::Wait;
 use std::thread::Threads;
-use talks::{BookFault, Outcome, Page, Place, Run, Stop, Talk, read_talks, topic};
+use talks::{BookFault, Outcome, Output, Page, Place, Program, Run, Stop, Talk, read_talks, topic};
 
 /// Plays the files of these names, and counts the talks that differ. A line is written for each talk, and for one that differs what was
 /// wanted and what came.
@@ -86,13 +86,13 @@ fn agrees<W: Write>(
 // What comes when a run of a talk is done.
 fn outcome(rt: &(impl AllocGlobal + Files + Threads + Wait + Sync), run: &Run) -> Outcome {
     let mut came = Outcome::new(rt.alloc());
-    let mut reader = run.input.as_slice();
-    came.status = dispatch(
-        rt,
-        run.words.as_slice(),
-        &mut reader,
-        &mut came.written,
-        &mut came.complaints,
-    );
+    let mut reader = run.reader();
+    let mut writer = Output::new(&mut came.written, run.limits.room);
+    let mut faults = Output::new(&mut came.complaints, run.limits.fault_room);
+    let words = run.words.as_slice();
+    came.status = match run.program {
+        Program::Capd => { capcommand::dispatch(rt, words, &mut reader, &mut writer, &mut faults) }
+        Program::Capbench => work::dispatch(rt, words, &mut reader, &mut writer, &mut faults),
+    };
     came
 }
