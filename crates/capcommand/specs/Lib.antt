@@ -1,2 +1,1 @@
 pub mod Commands
-pub use Rattle.capanswers.specs.Capquestion

@@ -8,8 +8,7 @@ mod commands;
 mod fault;
 
 pub use capanswers::{
-    AnswerFault, Ask, DENIED, DONE, FAILED, FOUND, Form, Inquiry, Source, USAGE, capquestion,
-    report, words,
+    AnswerFault, Ask, DENIED, DONE, FAILED, FOUND, Form, Inquiry, Source, USAGE, report, words,
 };
 pub use capjobs;
 pub use commands::{carry_out, dispatch};

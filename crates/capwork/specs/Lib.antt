@@ -1,3 +1,2 @@
 pub mod Status
 pub mod Score
-pub use Rattle.capscript.specs.Capexplain

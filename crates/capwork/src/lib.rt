@@ -15,6 +15,5 @@ mod retry;
 mod serving;
 mod work;
 
-pub use capscript::capexplain;
 pub use commands::{DONE, FAILED, USAGE, dispatch, report};
 pub use fault::Fault;

@@ -1,1 +1,0 @@
-pub use Rattle.capanswers.proofs.Capquestion

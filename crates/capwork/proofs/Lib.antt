@@ -1,1 +1,0 @@
-pub use Rattle.capscript.proofs.Capexplain
