@@ -91,7 +91,7 @@ fn outcome(rt: &(impl AllocGlobal + Files + Threads + Wait + Sync), run: &Run) -
     let mut faults = Output::new(&mut came.complaints, run.limits.fault_room);
     let words = run.words.as_slice();
     came.status = match run.program {
-        Program::Capd => { capcommand::dispatch(rt, words, &mut reader, &mut writer, &mut faults) }
+        Program::Capd => capcommand::dispatch(rt, words, &mut reader, &mut writer, &mut faults),
         Program::Capbench => work::dispatch(rt, words, &mut reader, &mut writer, &mut faults),
     };
     came
