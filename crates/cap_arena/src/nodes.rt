@@ -18,7 +18,7 @@ pub struct Node<T> {
 }
 
 // A list in which a node stands has one of these orders: those of an inode or of a client are in the order of making.
-#[derive(Clone, Copy, PartialEq, Eq, Debug)]
+#[derive(Clone, Copy)]
 pub(crate) enum Order {
     Inode,
     Client,

@@ -1,7 +1,7 @@
 //! The classes of callers that a mode tells apart.
 
 /// Which third of a mode's permission bits speaks of a caller.
-#[derive(Clone, Copy, PartialEq, Eq, Debug)]
+#[derive(Clone, Copy)]
 pub enum Class {
     /// The owner of the inode.
     Owner,

@@ -16,7 +16,7 @@ use numbered::Numbered;
 use std::alloc::AllocError;
 
 // What is kept of one client.
-#[derive(Clone, Copy, Debug)]
+#[derive(Clone, Copy)]
 pub(crate) struct Poll {
     // A place in the list of its nodes, before which no entry is due.
     pub(crate) place: Option<usize>,

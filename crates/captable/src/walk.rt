@@ -12,14 +12,14 @@ use capbits::{ClientId, Ino};
 use std::marker::Model;
 
 // Whose entries are sought.
-#[derive(Clone, Copy, Debug)]
+#[derive(Clone, Copy)]
 pub(crate) enum Sought {
     Client(ClientId),
     Inode(Ino),
 }
 
 /// The entries that are left of a walk, with their holders, in the order of making.
-#[derive(Debug, Drop)]
+#[derive(Drop)]
 pub struct Walk<'a> {
     lists: &'a TripleLists<Slot>,
     sought: Sought,
