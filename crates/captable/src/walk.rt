@@ -19,7 +19,7 @@ pub(crate) enum Sought {
 }
 
 /// The entries that are left of a walk, with their holders, in the order of making.
-#[derive(Debug, Drop)]
+#[derive(Drop)]
 pub struct Walk<'a> {
     lists: &'a TripleLists<Slot>,
     sought: Sought,
