@@ -7,7 +7,7 @@ use capgrant::{Access, Rules};
 use capnotes::capevents::Reply;
 
 /// What stops a request, whether it has just come or was waiting for a lock.
-#[derive(Debug, Drop)]
+#[derive(Drop)]
 pub enum Stopped {
     /// No grant of the client allows an access that the request needs.
     ByPolicy {

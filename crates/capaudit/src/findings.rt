@@ -17,7 +17,6 @@ use capgrant::{Access, Rule, Rules, Verdict, verdict};
 use capspec::{Grant, Grants};
 
 /// What a client holds of an inode and no caller of it is permitted.
-#[derive(Debug)]
 pub struct Finding {
     /// The capabilities, at least one.
     pub caps: CapSet,

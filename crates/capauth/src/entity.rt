@@ -4,7 +4,6 @@ use std::alloc::{AllocError, Global};
 use std::marker::Model;
 
 /// An entity of an auth list: a client, or a daemon.
-#[derive(Debug)]
 pub struct Entity {
     name: Vec<u8>,
     caps: Option<Vec<u8>>,

@@ -5,7 +5,6 @@ use crate::fault::AuthFault;
 use std::marker::Model;
 
 /// The entities of an auth list, in their order.
-#[derive(Debug)]
 pub struct AuthList {
     entities: Vec<Entity>,
 }

@@ -13,7 +13,6 @@ use capspec::{Grant, Grants};
 use std::alloc::{AllocError, Global};
 
 /// What is found of one grant of a list.
-#[derive(Debug)]
 pub struct Finding<'a> {
     /// The number of the grant, from 1.
     pub grant: u32,

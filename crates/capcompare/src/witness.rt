@@ -5,7 +5,6 @@ use capgrant::{Access, Attr};
 use capspec::{FsName, TreePath};
 
 /// A question that one list of grants allows and another denies.
-#[derive(Debug)]
 pub struct Witness<'a> {
     /// The name of the file system.
     pub fs: FsName,

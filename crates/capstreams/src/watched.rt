@@ -9,7 +9,7 @@ use std::io::{Read, Write};
 /// A reader or a writer that reads and writes as the inner one does, with two flags, which are clear at first and stay once they are
 /// set. `failed` is set once a read, a write or a flush failed, or a write of one byte or more took none; `ended`, once a read of one
 /// byte or more gave none.
-#[derive(Debug, Drop)]
+#[derive(Drop)]
 pub struct Watched<T> {
     inner: T,
     failed: bool,

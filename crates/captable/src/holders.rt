@@ -5,7 +5,6 @@ use crate::entry::Holder;
 use std::marker::Model;
 
 /// A list of holders.
-#[derive(Debug)]
 pub struct Holders {
     list: Vec<Holder>,
 }
