@@ -9,10 +9,6 @@ mod asserting;
 #[cfg(test)]
 mod failing_streams;
 #[cfg(test)]
-mod lines;
-#[cfg(test)]
 mod measured_work;
 #[cfg(test)]
 mod runs;
-#[cfg(test)]
-mod words;

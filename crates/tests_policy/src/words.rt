@@ -1,7 +1,7 @@
 //! The words of command lines of all lengths, over an environment of the tests' own.
 
 use crate::asserting::{made, same};
-use capcommand::words;
+use capanswers::words;
 use std::alloc::{AllocError, Global};
 use std::env::{Env, FillError};
 use std::process::Abort;

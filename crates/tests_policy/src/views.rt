@@ -7,8 +7,8 @@ use crate::trees::Ask::{Make, Snapshot};
 use crate::trees::{attr_of, change as change_tree, new_tree};
 use capbits::{ClientId, Ino};
 use capgrant::{Access, Verdict};
+use capscript::capcore::capview::{Question, Unknown, View, ViewChange};
 use capspec::FsName;
-use capview::{Question, Unknown, View, ViewChange};
 use inotree::{Kind, Name, Tree};
 use std::process::Abort;
 

@@ -2,10 +2,10 @@
 
 use crate::asserting::{made, same};
 use arrayvec::ArrayVec;
-use capcommand::capquestion::spelled;
-use capcommand::{AnswerFault, report};
+use capanswers::capquestion::spelled;
+use capanswers::{AnswerFault, report};
 use capgrant::{Access, Rules, Verdict};
-use capwork::capexplain::explain_line;
+use capscript::capexplain::explain_line;
 use std::alloc::{AllocError, Global};
 
 /// A text, and the bytes that it spells: a character above 255 stands for its bytes in UTF-8.
