@@ -36,6 +36,6 @@ fn a_server_has_one_to_thirty_two_passes(rt: HostRuntime) {
     // A history takes as many rows as its bound, however many call.
     for (count, all) in [(1, 201), (32, 1000)] {
         let found = rows_by(&rt, MANY_ROWS, count, Work::Files);
-        holds(&rt, found.is_ok_and(|rows| rows.len() == all), count);
+        same(&rt, made(&rt, found, count).len(), all, count);
     }
 }

@@ -4,20 +4,6 @@ use crate::asserting::holds;
 use crate::calls::Turn;
 use crate::calls::Turn::{Call, Make, Read};
 use crate::servers::{MANY_ROWS, Work, rows_by};
-use std::process::Abort;
-use std::sync::Wait;
-use std::thread::Threads;
-
-// Sees that each turn comes out as it is to.
-fn comes_out<R: AllocGlobal + Abort + Threads + Wait + Sync>(
-    rt: &R,
-    max_rows: u32,
-    title: &'static str,
-    turns: &'static [(Turn, &'static str)],
-) {
-    let told = rows_by(rt, max_rows, 2, Work::Turns((title, turns)));
-    holds(rt, told.is_ok(), title);
-}
 
 // Three clients, the third of which may go below /a alone, and the file /a/x.
 const MOVED: &[(Turn, &str)] = &[
@@ -97,23 +83,30 @@ const SNAPSHOT: &[(Turn, &str)] = &[
     (Read(1, 2), "no inode"),
 ];
 
+// What it shows, how many rows the history takes, and what is done.
+const CASES: &[(&str, u32, &[(Turn, &str)])] = &[
+    ("a file is moved", MANY_ROWS, MOVED),
+    ("a client is evicted", MANY_ROWS, EVICTED),
+    ("a file that is open is unlinked", MANY_ROWS, UNLINKED),
+    ("grants are taken", MANY_ROWS, REGRANTED),
+    ("a mode is set", MANY_ROWS, SETTLED),
+    ("a full history leaves what is published", 2, FULL),
+];
+
 #[test]
 fn questions_see_what_is_fresh(rt: HostRuntime) {
-    comes_out(&rt, MANY_ROWS, "a file is moved", MOVED);
-    comes_out(&rt, MANY_ROWS, "a client is evicted", EVICTED);
-    comes_out(&rt, MANY_ROWS, "a file that is open is unlinked", UNLINKED);
-    comes_out(&rt, MANY_ROWS, "grants are taken", REGRANTED);
-    comes_out(&rt, MANY_ROWS, "a mode is set", SETTLED);
+    for (title, max_rows, turns) in CASES {
+        let told = rows_by(&rt, *max_rows, 2, Work::Turns((*title, *turns)));
+        holds(&rt, told.is_ok(), *title);
+    }
 }
 
-#[test]
-fn a_full_history_leaves_what_is_published(rt: HostRuntime) {
-    comes_out(&rt, 2, "a history of two rows", FULL);
-}
-
+// By itself, so that each of its allocations can be refused in turn.
 #[test]
 fn what_was_refused_comes_with_the_next(rt: HostRuntime) {
-    comes_out(&rt, MANY_ROWS, "a directory had a snapshot", SNAPSHOT);
+    let work = Work::Turns(("a directory had a snapshot", SNAPSHOT));
+    let told = rows_by(&rt, MANY_ROWS, 2, work);
+    holds(&rt, told.is_ok(), "a snapshot");
 }
 
 #[test]

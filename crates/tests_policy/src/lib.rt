@@ -1,0 +1,66 @@
+//! Tests of the public calls of all that needs no server: capabilities, grants, the tree, the table of capabilities, sessions and locks;
+//! the core and its scripts; and the calls behind the commands that answer questions about grants.
+//!
+//! They show what no answer of a command shows; all else is asked in the talks of `capbench`. They stand in a crate of their own,
+//! since a crate with tests is proved twice. The asserts stand in helpers without a contract, and so do the reads of values, since
+//! the proof of a test goes through each fact that its body is told.
+#![tactic(auto)]
+
+#[cfg(test)]
+mod asking;
+#[cfg(test)]
+mod asserting;
+#[cfg(test)]
+mod auditing;
+#[cfg(test)]
+mod auth_lists;
+#[cfg(test)]
+mod caps;
+#[cfg(test)]
+mod entries;
+#[cfg(test)]
+mod failing_streams;
+#[cfg(test)]
+mod gathers;
+#[cfg(test)]
+mod histories;
+#[cfg(test)]
+mod lines;
+#[cfg(test)]
+mod lock_moves;
+#[cfg(test)]
+mod lock_table;
+#[cfg(test)]
+mod long_scripts;
+#[cfg(test)]
+mod looking;
+#[cfg(test)]
+mod moved_entries;
+#[cfg(test)]
+mod numbered_maps;
+#[cfg(test)]
+mod permitted;
+#[cfg(test)]
+mod recalls;
+#[cfg(test)]
+mod replies;
+#[cfg(test)]
+mod runs;
+#[cfg(test)]
+mod sessions;
+#[cfg(test)]
+mod sessions_end;
+#[cfg(test)]
+mod steps;
+#[cfg(test)]
+mod texts;
+#[cfg(test)]
+mod trees;
+#[cfg(test)]
+mod viewing;
+#[cfg(test)]
+mod views;
+#[cfg(test)]
+mod waits;
+#[cfg(test)]
+mod words;
