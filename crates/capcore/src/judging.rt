@@ -1,7 +1,7 @@
 //! What stops an event: its tests and policy, over the parts of the state that they look at.
 ghost use Rattle.std.specs.Prelude.{◌≡◌, ◌++◌, ◌∷◌, [], ℕ, List};
 ghost use Rattle.capbits.specs.Refusal.{first_failing};
-ghost use Rattle.captable.specs.Table.{Table, holder};
+ghost use Rattle.captable.specs.Table.{Table};
 ghost use Rattle.captable.specs.Tests.{entry_test, release_tests};
 ghost use Rattle.inotree.specs.Tests.{inode_tests, known_test};
 ghost use Rattle.sessiontab.specs.Tests.{connected_test, session_tests};
@@ -17,7 +17,7 @@ ghost use Rattle.capsteps.specs.Touch.{touch_event};
 ghost use Rattle.capcore.specs.Asks.{ask_of};
 
 use crate::asks::Asked;
-use capbits::{Cap, CapSet, ClientId, Ino, Part, Refusal};
+use capbits::{Cap, CapSet, Ino, Part, Refusal};
 use capgrant::Access;
 use capspec::FsName;
 use capsteps::capacts::judge::{by_test, denial};
