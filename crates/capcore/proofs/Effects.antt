@@ -1,5 +1,5 @@
 -- What each event by itself comes to, from what the calls below answered.
-use Rattle.std.proofs.Common.{◌≡◌, ℕ, ◌+◌, List, [], ◌∷◌, Some, None, refl, ap, ◌∙◌}
+use Rattle.std.proofs.Common.{◌≡◌, ℕ, ◌+◌, List, [], ◌∷◌, Option, Some, None, refl, ap, ◌∙◌}
 use Rattle.std.specs.Option.{option_map}
 use Rattle.std.specs.FinMap as map
 use Rattle.capbits.specs.declared.ids.ClientId.{ClientId}
@@ -8,18 +8,20 @@ use Rattle.capbits.specs.declared.mode.Mode.{Mode}
 use Rattle.capbits.specs.declared.refusal.Refusal.{Refusal}
 use Rattle.capbits.specs.Refusal.{Test, first_failing}
 use Rattle.capgrant.specs.declared.access.Access.TheVariants.{Write, Snapshot}
+use Rattle.inotree.specs.Tree.{child}
 use Rattle.inotree.specs.declared.node.Kind.{Kind}
 use Rattle.inotree.specs.declared.node.Kind.TheVariants.{Directory, File}
 use Rattle.inotree.specs.Tests.{new_inode_tests, new_snapshot_tests, old_snapshot_tests}
 use Rattle.capsteps.specs.Capevents.declared.event.Event.{Event}
 use Rattle.capsteps.specs.Capevents.declared.event.Event.TheVariants as event
+use Rattle.capsteps.specs.Capevents.declared.reply.Reply.{Reply}
 use Rattle.capsteps.specs.Capevents.declared.reply.Reply.TheVariants as reply
 use Rattle.capsteps.specs.Capacts.declared.stopped.Stopped.{Stopped}
 use Rattle.capsteps.specs.Capacts.declared.stopped.Stopped.TheVariants.{ByTest}
 use Rattle.capsteps.specs.State.{State}
 use Rattle.capsteps.specs.Capacts.Judge.{stop, stop_reply, judged, asked_tests}
 use Rattle.capsteps.specs.Capacts.Needs.{Need, need}
-use Rattle.capsteps.specs.Direct.{Says, IsDirect, with_birth, owned_by, made_event}
+use Rattle.capsteps.specs.Direct.{Says, IsDirect, direct, effect_unless, found, with_birth, owned_by, made_event}
 use Rattle.capsteps.proofs.Judging.{stopped, passed, direct-stopped, direct-passed}
 
 -- the tests behind policy, where what stands before them stops nothing
@@ -53,6 +55,19 @@ module _ (old : State) (client : ClientId) (dir : Ino) (name : List ℕ) (mode :
   birth-done Directory ino none is =
       let d = direct-passed old (event.Mkdir client dir name mode) (reply.Ino (record { 0 = old.scene.tree.last + 1 })) refl (nothing old (event.Mkdir client dir name mode) (asked_tests old.scene client dir.0) (new_inode_tests old.scene.tree dir.0 name) (need client dir.0 Write ∷ []) refl free none) in
       record { answer_is = (λ i. Says (reply.Ino (record { 0 = is i }))) ∙ d.answer_is; state_is = d.state_is }
+
+-- a lookup changes nothing, whatever it answers
+found-still : (s : State) (ino : Option ℕ) → s ≡ (found s ino).state
+found-still s None = refl
+found-still s (Some ino) = refl
+
+lookup-still : (s : State) (client : ClientId) (dir : Ino) (name : List ℕ) (o : Option Stopped) → s ≡ (effect_unless s (event.Lookup client dir name) o).state
+lookup-still s client dir name None = found-still s (child s.scene.tree.nodes dir.0 name)
+lookup-still s client dir name (Some stopped) = refl
+
+pub looked-up : (old : State) (client : ClientId) (dir : Ino) (name : List ℕ) (answer : Reply) → Says answer ≡ (direct old (event.Lookup client dir name)).answer
+    → IsDirect old (event.Lookup client dir name) answer old
+looked-up old client dir name answer says = record { answer_is = says; state_is = lookup-still old client dir name (judged old.scene (event.Lookup client dir name)) }
 
 -- what stops a request at the inode that it names stops the event
 pub birth-stopped : (old : State) (kind : Kind) (client : ClientId) (dir : Ino) (name : List ℕ) (mode : Mode) (r : Stopped) → stop old.scene (asked_tests old.scene client dir.0) (need client dir.0 Write ∷ []) [] ≡ Some r → IsDirect old (made_event kind client dir name mode) (stop_reply r) old

@@ -1,5 +1,13 @@
 -- An event that is stopped is answered so; and which inode an event touches that waits for a lock.
-use Rattle.std.proofs.Common.{◌≡◌, List, Some, [], sym, ap, subst}
+use Rattle.std.proofs.Common.{◌≡◌, ℕ, List, Option, Some, None, [], ◌∷◌, sym, ap, subst, ◌∙◌}
+use Rattle.capbits.specs.declared.ids.ClientId.{ClientId}
+use Rattle.capgrant.specs.declared.access.Access.{Access}
+use Rattle.capbits.specs.Refusal.{first_failing}
+use Rattle.capbits.proofs.Tests.{passed-both}
+use Rattle.inotree.specs.Tests.{inode_tests}
+use Rattle.sessiontab.specs.Tests.{session_tests}
+use Rattle.capsteps.specs.Lockmachine.Scene.{Scene}
+use Rattle.capsteps.proofs.Judging.{no_test}
 use Rattle.captable.specs.declared.entry.Holder.{Holder}
 use Rattle.captable.specs.Table.{IsTable}
 use Rattle.capsteps.specs.Lockmachine.declared.request.Ask.{Ask}
@@ -13,7 +21,9 @@ use Rattle.capsteps.specs.State.{State}
 use Rattle.capsteps.specs.Answered.{IsAnswered}
 use Rattle.capsteps.specs.Direct.{Direct, direct, effect_unless, says}
 use Rattle.capsteps.specs.Headline.{IssuesExactly}
-use Rattle.capsteps.specs.Capacts.Judge.{judged, stop_reply}
+use Rattle.capsteps.specs.Capacts.Asks.{ask_needs}
+use Rattle.capsteps.specs.Capacts.Judge.{judged, stop, stop_reply, asked_tests, asking_tests, waiting_tests}
+use Rattle.capsteps.specs.Capacts.Needs.{need}
 use Rattle.capsteps.specs.Sound.{IsSound}
 use Rattle.capsteps.specs.Step.{Step}
 use Rattle.capsteps.specs.Touching.{asks_for, touched_by}
@@ -36,6 +46,25 @@ stopped-answered old e stopped said sound table is answers kept none = record {
   where
     by_itself : direct old e ≡ says old (stop_reply stopped)
     by_itself = ap (effect_unless old e) is
+
+-- what stops an event by its parts, read before it was known which state they make up
+pub judged-at : (old now : State) (e : Event) (o : Option Stopped) → old ≡ now → o ≡ judged old.scene e → judged now.scene e ≡ o
+judged-at old now e o view is = ap (λ (s : State). judged s.scene e) (sym view) ∙ sym is
+
+pub access-at : (old now : State) (client : ClientId) (ino : ℕ) (access : Access) (o : Option Stopped) → old ≡ now
+    → o ≡ stop old.scene (asked_tests old.scene client ino) (need client ino access ∷ []) [] → stop now.scene (asked_tests now.scene client ino) (need client ino access ∷ []) [] ≡ o
+access-at old now client ino access o view is = ap (λ (s : State). stop s.scene (asked_tests s.scene client ino) (need client ino access ∷ []) []) (sym view) ∙ sym is
+
+-- the tests of an inode passed where nothing stops a request at it
+pub inode-passed : (s : Scene) (client : ClientId) (ino : ℕ) (access : Access) → stop s (asked_tests s client ino) (need client ino access ∷ []) [] ≡ None → first_failing (inode_tests s.tree ino) ≡ None
+inode-passed s client ino access free =
+    (passed-both (session_tests s.sessions client.0) (inode_tests s.tree ino) (no_test s (asked_tests s client ino) (need client ino access ∷ []) [] free)).1
+
+pub asking-at : (old now : State) (client : ClientId) (ino : ℕ) (ask : Ask) (o : Option Stopped) → old ≡ now
+    → o ≡ stop old.scene (asking_tests old.scene client ino ask) (ask_needs old.scene client ino ask) (waiting_tests old.scene ino ask)
+    → stop now.scene (asking_tests now.scene client ino ask) (ask_needs now.scene client ino ask) (waiting_tests now.scene ino ask) ≡ o
+asking-at old now client ino ask o view is =
+    ap (λ (s : State). stop s.scene (asking_tests s.scene client ino ask) (ask_needs s.scene client ino ask) (waiting_tests s.scene ino ask)) (sym view) ∙ sym is
 
 -- ---- what waits for a lock
 

@@ -1,3 +1,4 @@
+pub mod Asks
 pub mod Codes
 pub mod SameEvents
 pub mod Promised

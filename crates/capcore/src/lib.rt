@@ -4,8 +4,10 @@
 #![tactic(auto)]
 
 mod asking;
+mod asks;
 mod flushing;
 mod giving;
+mod judging;
 mod laws;
 mod own_laws;
 mod recalling;

@@ -1,25 +1,24 @@
 //! The step of a recall: clients are asked to give back what they have not used for longest.
-ghost use Rattle.std.specs.Prelude.{◌≡◌, IfOk, IfErr, OnErr};
+ghost use Rattle.std.specs.Prelude.{◌≡◌, IfOk, OnErr};
 ghost use Rattle.capsteps.specs.Capevents.declared.event.Event.TheVariants as event;
 ghost use Rattle.capsteps.specs.Answered.{IsAnswered};
 ghost use Rattle.capsteps.specs.Noted.{view_of};
 ghost use Rattle.capsteps.specs.Capview.Changes.{AreChanges};
 
 use crate::world::World;
-use capsteps::capacts::stop::Stop;
 use capsteps::capevents::{EndedList, Reply};
 use capsteps::capnotes::ChangeList;
 use capsteps::said::Said;
+use std::alloc::AllocError;
 
 impl World {
     // A step that marks the first entries in the order of recall as asked for, and names them. It moves none.
-    pub(crate) fn recall(&mut self, count: u32) -> Result<Said, Stop>
+    pub(crate) fn recall(&mut self, count: u32) -> Result<Said, AllocError>
         ensures answered { IfOk result (λ said. IsAnswered self.old (event.Recall count) said self.new) }
         ensures changes { IfOk result (λ said. AreChanges said.changes.items (view_of self.old) (view_of self.new)) }
         ensures err { OnErr result (self.new ≡ self.old) }
-        ensures memory { IfErr result (λ stop. stop ≡ Stop.NoMemory) }
     {
-        let alloc = self.alloc();
+        let alloc = self.messages.alloc();
         // The list once for the history and once for the reply, both before an entry is marked.
         let kept = self.table.first_to_recall(count)?;
         let named = self.table.recall(count)?;

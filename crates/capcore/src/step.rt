@@ -107,35 +107,35 @@ impl Core {
     pub fn entry(&self, client: ClientId, ino: Ino) -> Option<Entry>
         ensures { result ≡ entry_at self.now.state.scene.table (holder client ino) }
     {
-        self.world.entry(client, ino)
+        self.world.table.find(client, ino)
     }
 
     /// The lock of an inode's part, where the inode is there.
     pub fn lock_state(&self, ino: Ino, part: Part) -> Option<LockState>
         ensures { result ≡ lock_at self.now.state.scene.locks ino.0 part }
     {
-        self.world.lock_state(ino, part)
+        self.world.locks.state(ino, part)
     }
 
     /// The tree of today.
     pub fn tree(&self) -> &Tree
         ensures { result.now ≡ self.now.state.scene.tree }
     {
-        self.world.tree()
+        &self.world.tree
     }
 
     /// The sessions of today.
     pub fn sessions(&self) -> &Sessions
         ensures { result.now ≡ self.now.state.scene.sessions }
     {
-        self.world.sessions()
+        &self.world.sessions
     }
 
     /// A client's session, open or stale, where it has one.
     pub fn session(&self, client: ClientId) -> Option<Status>
         ensures { result ≡ status_of self.now.state.scene.sessions client.0 }
     {
-        self.world.session(client)
+        self.world.sessions.status(client)
     }
 
     /// The history: a row for each event that was answered, the first first.

@@ -1,5 +1,5 @@
 //! Steps by which a client's session ends, becomes stale, is open again or has other grants.
-ghost use Rattle.std.specs.Prelude.{◌≡◌, IfOk, IfErr, OnErr};
+ghost use Rattle.std.specs.Prelude.{◌≡◌, IfOk, OnErr};
 ghost use Rattle.capsteps.specs.Capview.Changes.{AreChanges};
 ghost use Rattle.capsteps.specs.Answered.{IsAnswered};
 ghost use Rattle.capsteps.specs.Noted.{view_of};
@@ -9,35 +9,34 @@ ghost use Rattle.capsteps.specs.Turn.{turn_event};
 use crate::world::World;
 use capbits::ClientId;
 use capsteps::capacts::leaving::{Turn, leave};
-use capsteps::capacts::stop::Stop;
 use capsteps::capevents::Reply;
 use capsteps::client::{Room, turn_refusal, turn_session};
 use capsteps::ended::close_dropped;
 use capsteps::said::Said;
 use capsteps::settle::end_at;
 use inotree::ROOT;
+use std::alloc::AllocError;
 
 impl World {
     // A step of a client's session. Where it ends, the client's requests are dropped, its entries go, and nobody is told what it
     // was still to be told of. Then the locks settle of all inodes that the client had an entry on or waited for, and it ends
     // there.
-    pub(crate) fn turn(&mut self, client: ClientId, turn: Turn) -> Result<Said, Stop>
+    pub(crate) fn turn(&mut self, client: ClientId, turn: Turn) -> Result<Said, AllocError>
         requires numbers { NumbersLeft self.old }
         ensures answered { IfOk result (λ said. IsAnswered self.old (turn_event client turn.entry) said self.new) }
         ensures changes { IfOk result (λ said. AreChanges said.changes.items (view_of self.old) (view_of self.new)) }
         ensures err { OnErr result (self.new ≡ self.old) }
-        ensures memory { IfErr result (λ stop. stop ≡ Stop.NoMemory) }
     {
         // A look at the entries and at the locks, by which the proof knows what they keep.
         let (_oldest, _waiting) = (self.table.oldest(), self.locks.waiting());
         if let Some(refusal) = turn_refusal(&self.sessions, client, turn) {
-            return Ok(Said::alone(self.alloc(), Reply::Refused(refusal)));
+            return Ok(Said::alone(self.messages.alloc(), Reply::Refused(refusal)));
         }
-        let (alloc, endings) = (self.alloc(), &mut self.endings);
+        let (alloc, endings) = (self.messages.alloc(), &mut self.endings);
         let mut room = Room::new(alloc, &self.table, &self.locks, client, turn, endings)?;
         if let Err(refused) = turn_session(&mut self.sessions, client, turn) {
             drop(room);
-            return Err(refused.into());
+            return Err(refused);
         }
         let (table, locks, messages) = (&mut self.table, &mut self.locks, &mut self.messages);
         let known = &mut self.known;

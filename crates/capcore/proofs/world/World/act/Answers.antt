@@ -1,10 +1,27 @@
+use Rattle.std.proofs.Common.{sym, ap, subst, ◌∙◌}
 use Rattle.std.proofs.lemmas.Result.{on_ok_weaker}
+use Rattle.capsteps.specs.Capevents.declared.event.Event.{Event}
+use Rattle.capsteps.specs.Capevents.declared.event.Event.TheVariants as event
+use Rattle.capsteps.specs.State.{State}
+use Rattle.capsteps.specs.Direct.{IsDirect, direct}
+use Rattle.capcore.proofs.Effects.{looked-up}
 use Rattle.capsteps.specs.Noted.{view_of}
 use Rattle.capsteps.proofs.Capnotes.Noting.{changes-still, changes-unseen}
 use Rattle.capcore.proofs.world.World.act.Goals as goal
 
 pub returns-in-Unblock-clause-changes : goal.returns-in-Unblock-clause-changes
 returns-in-Unblock-clause-changes c = changes-unseen c.args.changes.now.items (view_of c.args.self.now) (view_of c.unblock.new.self) c.requires.none c.unblock.ensures.seen
+
+pub returns-in-Lookup-clause-direct : goal.returns-in-Lookup-clause-direct
+returns-in-Lookup-clause-direct c =
+    let s : State = c.args.self.now in
+    let client = c.in-Lookup.client in
+    let dir = c.in-Lookup.dir in
+    subst (λ (e : Event). IsDirect s e c.lookup.result s) (sym c.in-Lookup.is)
+    (looked-up s client dir c.in-Lookup.name c.lookup.result
+    (c.lookup.ensures c.self.inside.table c.self.inside.locks c.self.inside.messages.items
+    ∙ ap (λ (w : State). (direct w (event.Lookup client dir c.as_slice.result.now)).answer) c.self.view_is
+    ∙ ap (λ name. (direct s (event.Lookup client dir name)).answer) c.as_slice.ensures))
 
 pub returns-in-Lookup-clause-changes : goal.returns-in-Lookup-clause-changes
 returns-in-Lookup-clause-changes c = changes-still c.args.changes.now.items (view_of c.args.self.now) c.requires.none

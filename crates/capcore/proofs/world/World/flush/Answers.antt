@@ -20,7 +20,7 @@ use Rattle.capcore.proofs.Closing.{first-quiet, told-all, closed-known, closed}
 use Rattle.capsteps.proofs.Knowing.{HoldAlike, alike-less, still-there, still-room, still-knows}
 use Rattle.capcore.proofs.OfInode.{event-table}
 use Rattle.capcore.proofs.Flushed.{flush-calls, flush-direct}
-use Rattle.capcore.proofs.Stops.{stopped-answered}
+use Rattle.capcore.proofs.Stops.{judged-at, stopped-answered}
 use Rattle.capsteps.specs.Capview.Changes.{AreChanges}
 use Rattle.capsteps.specs.Noted.{view_of}
 use Rattle.capsteps.proofs.Capnotes.Noting.{changes-all, changes-still, leads-then}
@@ -34,14 +34,18 @@ returns-in-Some-clause-answered c =
     let s = c.args.self.now in
     let known : IsSound s × IsTable s.scene.table = subst (λ (w : State). IsSound w × IsTable w.scene.table) c.self.view_is (c.self.invariant.0, c.oldest-oldest.ensures.sound) in
     stopped-answered s (event.Flush c.args.client c.args.ino c.args.change.now) c.in-Some.stopped c.alone.result known.0 known.1
+<<<<<<< HEAD
     (sym c.flush_stop.ensures ∙ c.in-Some.is)
+=======
+    (judged-at _ s (event.Flush c.args.client c.args.ino c.args.change.now) c.flush_stop.result c.self.view_is (c.flush_stop.ensures c.self.inside.locks) ∙ c.in-Some.is)
+>>>>>>> 8d80c921c11f6197b5809b90ee457c2ace385416
     (c.alone.ensures.reply ∙ c.into_reply.ensures.reply) (c.alone.ensures.kept ∙ sym c.alone.ensures.reply) c.alone.ensures.ended
 
 pub alter-requires : goal.alter-requires
 alter-requires c =
     let old : State = record { scene = record { fs = c.self.inside.fs; tree = c.self.inside.tree; sessions = c.self.inside.sessions; table = c.self.inside.table; locks = c.self.inside.locks }; messages = c.self.inside.messages.items } in
     let e : Event = event.Flush c.args.client c.args.ino c.args.change.now in
-    let passed : judged old.scene e ≡ None = ap (λ (w : State). judged w.scene e) c.self.view_is ∙ sym c.flush_stop.ensures ∙ c.in_default.is in
+    let passed : judged old.scene e ≡ None = sym (c.flush_stop.ensures c.self.inside.locks) ∙ c.in_default.is in
     record { passed = flush-calls old.scene (holder c.args.client c.args.ino) c.args.change.now passed }
 
 -- ---- one that nothing stops, by itself
@@ -60,7 +64,7 @@ module _ (c : After-touch) where
   first = record old.scene { tree = c.alter.new.tree; table = c.touch.new.self }
 
   passed : judged old.scene e ≡ None
-  passed = ap (λ (w : State). judged w.scene e) c.self.view_is ∙ sym c.flush_stop.ensures ∙ c.in_default.is
+  passed = sym (c.flush_stop.ensures c.self.inside.locks) ∙ c.in_default.is
 
   by_itself : direct old e ≡ says (with_flush old k c.args.change.now) reply.Done
   by_itself = flush-direct old k c.args.change.now passed

@@ -1,7 +1,11 @@
 use Rattle.std.proofs.Common.{ap, sym, subst, ◌∙◌, refl}
 use Rattle.capbits.specs.Refusal.{first_failing}
 use Rattle.inotree.specs.Inodes.{with_snapshot}
-use Rattle.inotree.specs.Tests.{new_snapshot_tests}
+use Rattle.capbits.proofs.Tests.{pass-both}
+use Rattle.capsteps.specs.Lockmachine.Scene.{scene}
+use Rattle.inotree.specs.Tests.{inode_tests, new_snapshot_tests}
+use Rattle.capgrant.specs.declared.access.Access.TheVariants.{Snapshot}
+use Rattle.capcore.proofs.Stops.{access-at, inode-passed}
 use Rattle.capcore.proofs.Effects.{making-stopped, snapshot-refused}
 use Rattle.capcore.proofs.Untouched.{changed-sound, changed-known}
 use Rattle.capsteps.specs.Capview.Sight.{IsLike, Shows}
@@ -12,12 +16,24 @@ use Rattle.capsteps.specs.Capnotes.Noted.{view}
 use Rattle.capcore.proofs.world.World.make_snapshot.Goals as goal
 
 pub returns-in-Some-clause-direct : goal.returns-in-Some-clause-direct
+<<<<<<< HEAD
 returns-in-Some-clause-direct c = rw c.into_reply.ensures.reply (making-stopped c.args.self.now c.args.client c.args.ino c.args.name.now c.in-Some.stopped (sym c.stop.ensures ∙ c.in-Some.is))
+=======
+returns-in-Some-clause-direct c = rw c.into_reply.ensures.reply (making-stopped c.args.self.now c.args.client c.args.ino c.args.name.now c.in-Some.stopped (access-at _ c.args.self.now c.args.client c.args.ino.0 Snapshot c.access_stop.result c.self.view_is (c.access_stop.ensures c.self.inside.table c.self.inside.locks) ∙ c.in-Some.is))
+>>>>>>> 8d80c921c11f6197b5809b90ee457c2ace385416
 
 pub returns-in-Some-new_snapshot_refusal-clause-direct : goal.returns-in-Some-new_snapshot_refusal-clause-direct
 returns-in-Some-new_snapshot_refusal-clause-direct c =
-    snapshot-refused c.args.self.now c.args.client c.args.ino c.args.name.now (sym c.stop.ensures ∙ c.in_default.is) c.in-Some-new_snapshot_refusal.refusal
+    snapshot-refused c.args.self.now c.args.client c.args.ino c.args.name.now (access-at _ c.args.self.now c.args.client c.args.ino.0 Snapshot c.access_stop.result c.self.view_is (c.access_stop.ensures c.self.inside.table c.self.inside.locks) ∙ c.in_default.is) c.in-Some-new_snapshot_refusal.refusal
     (ap (λ s. first_failing (new_snapshot_tests s.scene.tree c.args.ino.0 c.args.name.now)) (sym c.self.view_is) ∙ sym c.new_snapshot_refusal.ensures ∙ c.in-Some-new_snapshot_refusal.is)
+
+pub snap_add-requires : goal.snap_add-requires
+snap_add-requires c = record {
+  passed = pass-both (inode_tests c.self.inside.tree c.args.ino.0) (new_snapshot_tests c.self.inside.tree c.args.ino.0 c.args.name.now)
+      (inode-passed (scene c.self.inside.fs c.self.inside.tree c.self.inside.sessions c.self.inside.table c.self.inside.locks) c.args.client c.args.ino.0 Snapshot
+      (sym (c.access_stop.ensures c.self.inside.table c.self.inside.locks) ∙ c.in_default.is))
+      (sym c.new_snapshot_refusal.ensures ∙ c.in_default-new_snapshot_refusal.is);
+}
 
 pub invariant_of-self-2 : goal.invariant_of-self-2
 invariant_of-self-2 c =

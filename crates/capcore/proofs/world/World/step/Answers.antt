@@ -24,8 +24,8 @@ returns-in-Get-clause-answered c =
 pub returns-in-Alter-clause-answered : goal.returns-in-Alter-clause-answered
 returns-in-Alter-clause-answered c =
     let k : Holder = holder c.in-Alter.client c.in-Alter.ino in
-    IfOk-weaker c.ask_change.result (Each c.args.self.now k (ask_kind.Alter c.in-Alter.change) c.ask_change.new.self) (λ said. IsAnswered c.args.self.now c.args.event.now said c.ask_change.new.self)
-    (λ said each. each c.args.event.now (ap asks_for c.in-Alter.is)) c.ask_change.ensures.answered
+    IfOk-weaker c.ask-in-Alter.result (Each c.args.self.now k (ask_kind.Alter c.in-Alter.change) c.ask-in-Alter.new.self) (λ said. IsAnswered c.args.self.now c.args.event.now said c.ask-in-Alter.new.self)
+    (λ said each. each c.args.event.now (ap asks_for c.in-Alter.is)) c.ask-in-Alter.ensures.answered
 
 pub returns-in-Unlink-clause-answered : goal.returns-in-Unlink-clause-answered
 returns-in-Unlink-clause-answered c =
@@ -42,5 +42,5 @@ returns-in-Rmdir-clause-answered c =
 pub returns-in-Rename-clause-answered : goal.returns-in-Rename-clause-answered
 returns-in-Rename-clause-answered c =
     let k : Holder = holder c.in-Rename.client c.in-Rename.ino in
-    IfOk-weaker c.ask_rename.result (Each c.args.self.now k (ask_kind.Rename c.in-Rename.dir c.in-Rename.name) c.ask_rename.new.self) (λ said. IsAnswered c.args.self.now c.args.event.now said c.ask_rename.new.self)
-    (λ said each. each c.args.event.now (ap asks_for c.in-Rename.is)) c.ask_rename.ensures.answered
+    IfOk-weaker c.ask-in-Rename.result (Each c.args.self.now k (ask_kind.Rename c.in-Rename.dir c.in-Rename.name) c.ask-in-Rename.new.self) (λ said. IsAnswered c.args.self.now c.args.event.now said c.ask-in-Rename.new.self)
+    (λ said each. each c.args.event.now (ap asks_for c.in-Rename.is)) c.ask-in-Rename.ensures.answered

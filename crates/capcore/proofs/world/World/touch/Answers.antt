@@ -22,9 +22,9 @@ use Rattle.capsteps.specs.Touch.{touch_event, touch_tests, touch_answer}
 use Rattle.capcore.proofs.Closing.{first-quiet, first-numbers, first-clients, told-all, closed-known, closed}
 use Rattle.capsteps.proofs.Knowing.{held_at, HoldAlike, known-alike, still-room, still-knows, still-all}
 use Rattle.capcore.proofs.OfInode.{event-table}
-use Rattle.capcore.proofs.Stops.{stopped-answered}
+use Rattle.capcore.proofs.Stops.{judged-at, stopped-answered}
 use Rattle.capsteps.proofs.TouchKept.{touch-less, others-have_all}
-use Rattle.capcore.proofs.TouchWhole.{passed-of, table-of, first-is, touch-answered, touched-by, touch-reply, no_list-touch, tell-alike}
+use Rattle.capcore.proofs.TouchWhole.{table-of, first-is, touch-answered, touched-by, touch-reply, no_list-touch, tell-alike}
 use Rattle.capsteps.proofs.Touched.{touched-tests}
 use Rattle.capsteps.specs.Capview.Changes.{AreChanges}
 use Rattle.capsteps.specs.Noted.{view_of}
@@ -39,7 +39,11 @@ returns-in-Some-clause-answered c =
     let s = c.args.self.now in
     let known : IsSound s × IsTable s.scene.table = subst (λ (w : State). IsSound w × IsTable w.scene.table) c.self.view_is (c.self.invariant.0, c.oldest-oldest.ensures.sound) in
     stopped-answered s (touch_event c.args.client c.args.ino c.args.touch) c.in-Some.stopped c.alone.result known.0 known.1
+<<<<<<< HEAD
     (sym c.touch_stop.ensures ∙ c.in-Some.is)
+=======
+    (judged-at _ s (touch_event c.args.client c.args.ino c.args.touch) c.touch_stop.result c.self.view_is (c.touch_stop.ensures c.self.inside.locks c.self.invariant.2) ∙ c.in-Some.is)
+>>>>>>> 8d80c921c11f6197b5809b90ee457c2ace385416
     (c.alone.ensures.reply ∙ c.into_reply.ensures.reply) (c.alone.ensures.kept ∙ sym c.alone.ensures.reply) c.alone.ensures.ended
 
 pub touch_entry-requires-clause-passed : goal.touch_entry-requires-clause-passed
@@ -47,7 +51,7 @@ touch_entry-requires-clause-passed c =
     let old : State = record { scene = record { fs = c.self.inside.fs; tree = c.self.inside.tree; sessions = c.self.inside.sessions; table = c.self.inside.table; locks = c.self.inside.locks }; messages = c.self.inside.messages.items } in
     let k : Holder = holder c.args.client c.args.ino in
     subst (λ revoked. first_failing (touch_tests c.self.inside.table k revoked c.args.touch) ≡ None) (sym (c.revoked_of-revoked.ensures old.scene refl c.self.invariant.2))
-    (touched-tests old.scene c.args.client c.args.ino c.args.touch (passed-of old c.args.self.now c.args.client c.args.ino c.args.touch c.touch_stop.result c.self.view_is c.touch_stop.ensures c.in_default.is))
+    (touched-tests old.scene c.args.client c.args.ino c.args.touch (sym (c.touch_stop.ensures c.self.inside.locks c.self.invariant.2) ∙ c.in_default.is))
 
 -- for want of memory the entries are as they were, and all is still known
 pub invariant_of-self-in_err-touch_entry : goal.invariant_of-self-in_err-touch_entry
@@ -73,7 +77,7 @@ module _ (c : In_ok-touch_entry) where
   first = record old.scene { table = c.touch_entry.new.table }
 
   passed : judged old.scene e ≡ None
-  passed = passed-of old c.args.self.now c.args.client c.args.ino c.args.touch c.touch_stop.result c.self.view_is c.touch_stop.ensures c.in_default.is
+  passed = sym (c.touch_stop.ensures c.self.inside.locks c.self.invariant.2) ∙ c.in_default.is
 
   is : first ≡ (direct old e).state.scene
   is =

@@ -1,0 +1,19 @@
+use Rattle.std.proofs.Common.{[], ap, sym, ◌∙◌}
+use Rattle.capgrant.specs.declared.access.Access.{Access}
+use Rattle.capsteps.specs.Lockmachine.Scene.{Scene, scene}
+use Rattle.capsteps.specs.Capacts.Judge.{stop, denial_of}
+use Rattle.capsteps.specs.Capacts.Asks.{ask_needs, change_access}
+use Rattle.capsteps.proofs.Capacts.Again.{denial-stop}
+use Rattle.capcore.specs.declared.asks.Asked.{Asked}
+use Rattle.capcore.specs.Asks.{ask_of}
+use Rattle.capcore.proofs.judging.asking_denial.Goals as goal
+
+pub returns-in-Alter : goal.returns-in-Alter
+returns-in-Alter c = λ table locks.
+    let s : Scene = scene c.args.fs.now c.args.tree.now c.args.sessions.now table locks in
+    let client = c.args.holder.client in
+    let ino = c.args.holder.ino.0 in
+    c.denial-in-Alter.ensures
+    ∙ ap (λ (access : Access). denial_of s.fs s.tree s.sessions c.args.holder access) c.change_access.ensures
+    ∙ denial-stop s client ino (change_access c.in-Alter.change.now)
+    ∙ ap (λ (asked : Asked). stop s [] (ask_needs s client ino (ask_of asked)) []) (sym c.in-Alter.is)

@@ -1,0 +1,29 @@
+use Rattle.std.proofs.Common.{sym, ap, ◌∙◌, [], ◌∷◌, ◌++◌}
+use Rattle.capbits.specs.Caps.{Caps}
+use Rattle.capbits.specs.Refusal.{first_failing}
+use Rattle.capbits.specs.Sets.{caps_in}
+use Rattle.capbits.specs.declared.cap.Cap.{Cap}
+use Rattle.capbits.proofs.Tests.{failing-front}
+use Rattle.captable.specs.Tests.{release_tests}
+use Rattle.captable.specs.Table.{Table}
+use Rattle.capsteps.specs.Lockmachine.Requests.{part_of_change}
+use Rattle.capsteps.specs.Capacts.Asks.{change_tests, exclusive}
+use Rattle.capsteps.proofs.Revoking.{passed-front}
+use Rattle.capcore.proofs.judging.flush_refusal.Goals as goal
+
+pub returns-in-Some : goal.returns-in-Some
+returns-in-Some c = λ s tree table.
+    let k = c.args.holder in
+    let change = c.args.change.now in
+    sym (failing-front (release_tests c.args.table.now k c.of-held.result) (change_tests s k.ino.0 change) c.in-Some.refusal (sym c.release_refusal.ensures ∙ c.in-Some.is))
+    ∙ ap (λ (caps : Caps). first_failing (release_tests c.args.table.now k caps ++ change_tests s k.ino.0 change)) (c.of-held.ensures ∙ ap (λ (cap : Cap). caps_in (cap ∷ [])) (c.exclusive.ensures ∙ ap exclusive c.part.ensures))
+    ∙ ap (λ (t : Table). first_failing (release_tests t k (caps_in (exclusive (part_of_change change) ∷ [])) ++ change_tests s k.ino.0 change)) (sym table)
+
+pub returns-in-None : goal.returns-in-None
+returns-in-None c = λ s tree table.
+    let k = c.args.holder in
+    let change = c.args.change.now in
+    c.change_refusal.ensures s tree
+    ∙ sym (passed-front (release_tests c.args.table.now k c.of-held.result) (change_tests s k.ino.0 change) (sym c.release_refusal.ensures ∙ c.in-None.is))
+    ∙ ap (λ (caps : Caps). first_failing (release_tests c.args.table.now k caps ++ change_tests s k.ino.0 change)) (c.of-held.ensures ∙ ap (λ (cap : Cap). caps_in (cap ∷ [])) (c.exclusive.ensures ∙ ap exclusive c.part.ensures))
+    ∙ ap (λ (t : Table). first_failing (release_tests t k (caps_in (exclusive (part_of_change change) ∷ [])) ++ change_tests s k.ino.0 change)) (sym table)
