@@ -6,5 +6,5 @@ mod passes;
 
 pub use pass::Pass;
 pub use passes::{StartFault, audit_all, make_passes, merge_all};
-pub use published;
-pub use published::rowbook;
+pub use witness::published;
+pub use witness::published::rowbook;

@@ -4,7 +4,7 @@ ghost use Rattle.std.specs.List.{sum_by};
 ghost use mathlib.Core.List.{IsPrefix};
 ghost use Rattle.capcore.specs.Capsteps.History.{IsLegal};
 ghost use Rattle.capcore.specs.Capview.declared.answer.Unknown.TheVariants as unknown;
-ghost use Rattle.cappass.specs.Published.Answers.{IsAnswered};
+ghost use Rattle.cappass.specs.Witness.Answers.{IsAnswered};
 ghost use Rattle.cappass.specs.Rowbook.Rows.{Legal};
 ghost use Rattle.capserver.specs.Called.{IsStep};
 ghost use Rattle.capserver.specs.Fresh.{IsFresh};

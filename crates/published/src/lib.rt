@@ -6,7 +6,6 @@ mod place;
 mod publisher;
 mod staging;
 mod value;
-mod witness;
 
 pub use place::{Place, PlacesRule, PublishedReader, PublishedReading, PublishedWriter, Sees};
 pub use publisher::Publisher;
@@ -15,4 +14,3 @@ pub use rowbook::{
     Beginning, Counted, Head, MAX_PASSES, NewRows, Recorder, Rows, Server, capevents, capview,
 };
 pub use value::{Published, Stage};
-pub use witness::Witness;

@@ -2,18 +2,18 @@
 use Rattle.std.proofs.Common.{◌≡◌, ℕ, List, Result, Ok, Err, sym, subst}
 use Rattle.logbook.specs.Pages.{Book}
 use Rattle.capgrant.specs.declared.answer.Verdict.{Verdict}
-use Rattle.rowbook.specs.Capevents.declared.row.Row.{Row}
-use Rattle.rowbook.specs.Capsteps.State.{State}
-use Rattle.rowbook.specs.Capview.declared.answer.Question.{Question}
-use Rattle.rowbook.specs.Capview.declared.answer.Unknown.{Unknown}
-use Rattle.rowbook.specs.Capview.declared.answer.Unknown.TheVariants as unknown
-use Rattle.rowbook.specs.Capview.declared.view.View.{View}
-use Rattle.rowbook.specs.Capview.Answers.{IsAnswer}
-use Rattle.rowbook.specs.Capview.Sight.{Shows}
+use Rattle.published.specs.Capevents.declared.row.Row.{Row}
+use Rattle.published.specs.Rowbook.Capsteps.State.{State}
+use Rattle.published.specs.Capview.declared.answer.Question.{Question}
+use Rattle.published.specs.Capview.declared.answer.Unknown.{Unknown}
+use Rattle.published.specs.Capview.declared.answer.Unknown.TheVariants as unknown
+use Rattle.published.specs.Capview.declared.view.View.{View}
+use Rattle.published.specs.Capview.Answers.{IsAnswer}
+use Rattle.published.specs.Capview.Sight.{Shows}
 use Rattle.published.specs.declared.value.Published.{Published}
-use Rattle.rowbook.specs.Capsteps.Noted.{view_of}
+use Rattle.published.specs.Rowbook.Capsteps.Noted.{view_of}
 use Rattle.published.specs.Places.{IsPublished}
-use Rattle.published.specs.Answers.{IsAnswered}
+use Rattle.witness.specs.Answers.{IsAnswered}
 
 pub answered : (opening : State) (book : Book) (value : Published) (fs : List ℕ) (asked : Question) (known : List Row) (answer : Result Verdict Unknown)
     → IsPublished opening book value → fs ≡ opening.scene.fs → known ≡ value.rows.seen.log → ((real : View) → Shows value.view real → IsAnswer fs real asked answer) → IsAnswered opening known asked answer

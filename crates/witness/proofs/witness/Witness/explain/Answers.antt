@@ -1,11 +1,11 @@
 use Rattle.std.proofs.Common.{subst}
-use Rattle.rowbook.specs.Capview.declared.view.View.{View}
-use Rattle.rowbook.specs.Capview.Answers.{IsAnswer}
-use Rattle.rowbook.specs.Capview.Sight.{Shows}
-use Rattle.rowbook.proofs.Capview.Likeness.{shows-refl}
+use Rattle.published.specs.Capview.declared.view.View.{View}
+use Rattle.published.specs.Capview.Answers.{IsAnswer}
+use Rattle.published.specs.Capview.Sight.{Shows}
+use Rattle.published.proofs.Capview.Likeness.{shows-refl}
 use Rattle.published.specs.declared.value.Published.{Published}
-use Rattle.published.proofs.Asking.{answered, never_unseen}
-use Rattle.published.proofs.witness.Witness.explain.Goals as goal
+use Rattle.witness.proofs.Asking.{answered, never_unseen}
+use Rattle.witness.proofs.witness.Witness.explain.Goals as goal
 
 pub returns-clause-answer : goal.returns-clause-answer
 returns-clause-answer g c seen =

@@ -1,17 +1,17 @@
 //! Who knows a beginning of the history, and reads what is published.
-ghost use Rattle.std.specs.Prelude.{◌≡◌, ◌≢◌, ◌<◌, Err, None, length, IfSome, IsTrue, MatchOption};
+ghost use Rattle.std.specs.Prelude.{◌≡◌, ◌≢◌, ◌<◌, Err, None, [], length, IfOk, IfSome, IsTrue, MatchOption};
 ghost use mathlib.Core.List.{IsPrefix};
 ghost use Rattle.left_right.specs.Sides.{view as place_view};
-ghost use Rattle.rowbook.specs.Capview.declared.answer.Unknown.TheVariants as unknown;
+ghost use Rattle.published.specs.Capview.declared.answer.Unknown.TheVariants as unknown;
 ghost use Rattle.published.specs.Places.{IsPublished, Saw};
-ghost use Rattle.rowbook.specs.Rows.{Legal};
-ghost use Rattle.published.specs.Answers.{IsAnswered};
+ghost use Rattle.published.specs.Rowbook.Rows.{Legal};
+ghost use Rattle.witness.specs.Answers.{IsAnswered};
 
-use crate::place::{PublishedReader, PublishedReading, Sees};
 use capgrant::Verdict;
 use capspec::FsName;
-use rowbook::capview::{Question, Unknown};
-use rowbook::{Beginning, Recorder, Server};
+use published::capview::{Question, Unknown};
+use published::{Beginning, PublishedReader, PublishedReading, Publisher, Recorder, Sees, Server};
+use std::alloc::AllocError;
 use std::marker::Model;
 
 /// Who has a reader's place, and knows what it saw there. To contracts it is the rows that it knows.
@@ -31,8 +31,8 @@ impl<L: Server> Drop for Witness<L> {
 impl<L: Server> Model for Witness<L> {
     ghost use Rattle.std.specs.Prelude.{◌≡◌, List, MatchOption};
     ghost use Rattle.left_right.specs.Sides.{view as place_view};
-    ghost use Rattle.rowbook.specs.Capevents.declared.row.Row.{Row};
-    ghost use Rattle.rowbook.specs.Rows.{Legal, rows_code};
+    ghost use Rattle.published.specs.Capevents.declared.row.Row.{Row};
+    ghost use Rattle.published.specs.Rowbook.Rows.{Legal, rows_code};
 
     ghost Value = { List Row };
 
@@ -44,16 +44,19 @@ impl<L: Server> Model for Witness<L> {
 }
 
 impl<L: Server> Witness<L> {
-    /// Who has this place, and knows what the place knows.
-    pub fn new(known: Beginning<L>, place: PublishedReader<L>) -> Witness<L>
-        requires { (place_view place.place).known ≡ known }
-        ensures { result ≡ known }
+    /// Who knows no row yet, and can read what is published.
+    pub fn of(publisher: &Publisher<L>) -> Result<Witness<L>, AllocError>
+        requires { publisher.now.rows ≡ [] }
+        ensures { IfOk result (λ witness. witness ≡ []) }
     {
+        let place = publisher.reader()?;
+        let known = publisher.rows().again();
+        // What it knows is legal.
         let _count = known.len();
-        Witness {
+        Ok(Witness {
             known,
             place: Some(place),
-        }
+        })
     }
 
     /// Answers a question on the file system of the server by what is published, and knows it from then on. It waits for nobody. Where nothing can be read, it

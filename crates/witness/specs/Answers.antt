@@ -1,13 +1,13 @@
 -- What a question is answered by what is published.
 use Rattle.std.specs.Prelude.{List, Result}
 use Rattle.capgrant.specs.declared.answer.Verdict.{Verdict}
-use Rattle.rowbook.specs.Capevents.declared.row.Row.{Row}
-use Rattle.rowbook.specs.Capsteps.State.{State}
-use Rattle.rowbook.specs.Capview.declared.answer.Question.{Question}
-use Rattle.rowbook.specs.Capview.declared.answer.Unknown.{Unknown}
-use Rattle.rowbook.specs.Capview.Answers.{IsAnswer}
-use Rattle.rowbook.specs.Capsteps.Noted.{view_of}
-use Rattle.rowbook.specs.Rows.{Legal}
+use Rattle.published.specs.Capevents.declared.row.Row.{Row}
+use Rattle.published.specs.Rowbook.Capsteps.State.{State}
+use Rattle.published.specs.Capview.declared.answer.Question.{Question}
+use Rattle.published.specs.Capview.declared.answer.Unknown.{Unknown}
+use Rattle.published.specs.Capview.Answers.{IsAnswer}
+use Rattle.published.specs.Rowbook.Capsteps.Noted.{view_of}
+use Rattle.published.specs.Rowbook.Rows.{Legal}
 
 -- the rows that are known are legal, and the answer is that of the state to which they lead
 pub record IsAnswered (opening : State) (known : List Row) (asked : Question) (answer : Result Verdict Unknown) : Type 0 where

@@ -1,0 +1,8 @@
+//! Who reads what a server has published, each from a place of its own, and knows afterwards that the history begins so.
+#![tactic(auto)]
+
+mod witness;
+
+pub use published;
+pub use published::{capevents, capview, rowbook};
+pub use witness::Witness;
