@@ -11,9 +11,7 @@ use capgrant::Verdict;
 use capspec::FsName;
 use std::marker::Model;
 use std::sync::ledger::{Book, Share};
-use witness::Witness;
-use witness::capview::{Question, Unknown};
-use witness::published::{Beginning, Recorder, Server};
+use witness::{Beginning, Question, Recorder, Server, Unknown, Witness};
 
 /// Lets its holder call the server. To contracts it is its number, how many of its calls were answered, and the rows that it knows.
 pub struct Pass<L: Server> {

@@ -9,8 +9,7 @@ use capbits::PassId;
 use std::alloc::Global;
 use std::sync::ledger::Share;
 use thiserror::Error;
-use witness::Witness;
-use witness::published::{Publisher, Recorder, Server};
+use witness::{Publisher, Recorder, Server, Witness};
 
 /// Why there is no server.
 #[derive(Clone, Copy, Debug, PartialEq, Eq, Error)]

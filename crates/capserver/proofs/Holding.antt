@@ -2,18 +2,18 @@
 use Rattle.std.proofs.Common.{◌≡◌, ◌∙◌, ℕ, ◌+◌, ◌<◌, ◌≤◌, ◌∷◌, [], Bool, true, false, List, Option, Some, None, IfSome, MatchOption, length, fold, refl, ap, sym, subst, arith, length-append}
 use mathlib.Core.List.{IsPrefix}
 use Rattle.capbits.specs.declared.ids.PassId.{PassId}
-use Rattle.onecall.specs.Capview.declared.change.ViewChange.{ViewChange}
-use Rattle.onecall.specs.Capview.declared.view.View.{View}
-use Rattle.onecall.specs.Capview.Changes.{AreChanges, view_by}
-use Rattle.onecall.specs.Capview.Sight.{Shows}
-use Rattle.onecall.proofs.Capview.Likeness.{shows-refl}
-use Rattle.onecall.specs.Capevents.declared.event.Event.{Event}
-use Rattle.onecall.specs.Capevents.declared.reply.Reply.{Reply}
-use Rattle.onecall.specs.Capevents.declared.row.Row.{Row}
-use Rattle.onecall.specs.Capacts.Numbers.{AreNumbered, rows_of}
-use Rattle.onecall.specs.Capsteps.History.{IsLegal, IsTold, Told, IsNext, Replays, made_row}
-use Rattle.onecall.specs.Capsteps.State.{State}
-use Rattle.onecall.specs.Capsteps.Noted.{view_of}
+use Rattle.capcore.specs.Capview.declared.change.ViewChange.{ViewChange}
+use Rattle.capcore.specs.Capview.declared.view.View.{View}
+use Rattle.capcore.specs.Capview.Changes.{AreChanges, view_by}
+use Rattle.capcore.specs.Capview.Sight.{Shows}
+use Rattle.capcore.proofs.Capview.Likeness.{shows-refl}
+use Rattle.capcore.specs.Capevents.declared.event.Event.{Event}
+use Rattle.capcore.specs.Capevents.declared.reply.Reply.{Reply}
+use Rattle.capcore.specs.Capevents.declared.row.Row.{Row}
+use Rattle.capcore.specs.Capacts.Numbers.{AreNumbered, rows_of}
+use Rattle.capcore.specs.Capsteps.History.{IsLegal, IsTold, Told, IsNext, Replays, made_row}
+use Rattle.capcore.specs.Capsteps.State.{State}
+use Rattle.capcore.specs.Capsteps.Noted.{view_of}
 use Rattle.onecall.specs.Cappass.Published.Publishing.{Publishing, IsReady}
 use Rattle.onecall.specs.Cappass.Rowbook.Rows.{Legal}
 use Rattle.onecall.proofs.Cappass.Rowbook.Beginnings.{prefix_more, prefix_trans, prefix_length}

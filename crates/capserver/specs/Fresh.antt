@@ -1,11 +1,11 @@
 -- What a fresh call leaves.
 use Rattle.std.specs.Prelude.{◌≡◌, ℕ, ◌<◌, List, [], ◌∷◌, ◌++◌, length}
 use mathlib.Core.List.{IsPrefix}
-use Rattle.onecall.specs.Capsteps.History.{made_row}
-use Rattle.onecall.specs.Capevents.declared.event.Event.{Event}
-use Rattle.onecall.specs.Capevents.declared.row.Row.{Row}
-use Rattle.onecall.specs.Capevents.declared.outcome.Ended.{Ended}
-use Rattle.onecall.specs.Capevents.declared.reply.Reply.{Reply}
+use Rattle.capcore.specs.Capsteps.History.{made_row}
+use Rattle.capcore.specs.Capevents.declared.event.Event.{Event}
+use Rattle.capcore.specs.Capevents.declared.row.Row.{Row}
+use Rattle.capcore.specs.Capevents.declared.outcome.Ended.{Ended}
+use Rattle.capcore.specs.Capevents.declared.reply.Reply.{Reply}
 use Rattle.onecall.specs.Cappass.Passes.{PassState, pass_id}
 
 -- what the pass knew is a proper beginning of what it knows, and that ends with a row of the pass, of this event and this reply

@@ -2,8 +2,8 @@
 use Rattle.std.specs.Prelude.{ℕ, refl}
 use Rattle.std.specs.Coded.{Coded, code_by, coded×, coded_ℕ}
 use Rattle.logbook.specs.Pages.{Book, book_coded}
-use Rattle.onecall.specs.Capsteps.State.{State}
-use Rattle.onecall.specs.Capcore.Codes.{state_code}
+use Rattle.capcore.specs.Capsteps.State.{State}
+use Rattle.capcore.specs.Codes.{state_code}
 
 -- the state that the core opens with, how many rows its history takes at most, and the book for them
 pub record Opened : Type 0 where

@@ -7,11 +7,11 @@ mod locked;
 mod opening;
 mod server;
 
+pub use capcore;
+pub use capcore::capview::{Question, Unknown};
+pub use capcore::{capacts, capevents, capsteps, capview, lockmachine};
 pub use gate::{Gate, NoGate};
 pub use locked::Locked;
-pub use onecall::capcore::capview::{Question, Unknown};
-pub use onecall::cappass::published::{MAX_PASSES, Server};
-pub use onecall::cappass::{Pass, StartFault};
-pub use onecall::{Answer, capacts, capcore, capevents, cappass, capsteps, capview, lockmachine};
+pub use onecall::{Answer, MAX_PASSES, Pass, Server, StartFault};
 pub use opening::Opening;
 pub use server::{CapServer, Closed};

@@ -1,20 +1,18 @@
 //! What stands under the lock.
 ghost use Rattle.std.specs.Prelude.{◌≡◌, ◌≤◌, ◌+◌, ◌↔◌, [], false, Err, Some, length, IsTrue, IfOk, IfSome, OnOk, OnErr};
 ghost use mathlib.Core.List.{IsPrefix};
-ghost use Rattle.onecall.specs.Capsteps.History.{IsLegal};
-ghost use Rattle.onecall.specs.Capcore.Promised.{IsPromised};
-ghost use Rattle.onecall.specs.Capacts.declared.stop.Stop.TheVariants as stop_kind;
-ghost use Rattle.onecall.specs.Capsteps.Noted.{view_of};
+ghost use Rattle.capcore.specs.Capsteps.History.{IsLegal};
+ghost use Rattle.capcore.specs.Promised.{IsPromised};
+ghost use Rattle.capcore.specs.Capacts.declared.stop.Stop.TheVariants as stop_kind;
+ghost use Rattle.capcore.specs.Capsteps.Noted.{view_of};
 ghost use Rattle.onecall.specs.Cappass.Rowbook.Rows.{Legal};
 ghost use Rattle.capserver.specs.Fresh.{IsFresh};
 ghost use Rattle.capserver.specs.Held.{IsLed};
 ghost use Rattle.onecall.specs.Cappass.Passes.{pass_id};
 
 use crate::gate::Gate;
-use onecall::Answer;
-use onecall::capcore::{Core, Event, Reply, Stop};
-use onecall::cappass::Pass;
-use onecall::cappass::published::{Beginning, Publisher, Recorder, Server};
+use capcore::{Core, Event, Reply, Stop};
+use onecall::{Answer, Beginning, Pass, Publisher, Recorder, Server, make};
 use std::marker::Model;
 use std::mem::replace;
 use std::sync::Wait;
@@ -34,8 +32,8 @@ pub struct Locked<L: Server> {
 
 impl<L: Server> Model for Locked<L> {
     ghost use Rattle.std.specs.Prelude.{◌≡◌, ◌+◌, MatchOption};
-    ghost use Rattle.onecall.specs.Capsteps.History.{Told};
-    ghost use Rattle.onecall.specs.Capcore.Codes.{told_code};
+    ghost use Rattle.capcore.specs.Capsteps.History.{Told};
+    ghost use Rattle.capcore.specs.Codes.{told_code};
     ghost use Rattle.capserver.specs.Held.{IsHeld, IsLed};
 
     ghost Value = { Told };
@@ -90,7 +88,7 @@ impl<L: Server> Locked<L> {
         let Some(publisher) = publisher.as_mut() else {
             unreachable!()
         };
-        let reply = onecall::make(core, calls, pass, event)?;
+        let reply = make(core, calls, pass, event)?;
         publisher.follow(core.history(), core.last_changes());
         Ok(reply)
     }

@@ -1,11 +1,11 @@
 //! A core before its server starts.
 ghost use Rattle.std.specs.Prelude.{◌≡◌, ◌≤◌, [], IfOk};
-ghost use Rattle.onecall.specs.Capsteps.History.{HasNoStray, IsOpening};
+ghost use Rattle.capcore.specs.Capsteps.History.{HasNoStray, IsOpening};
 
+use capcore::Core;
 use capspec::FsName;
 use inotree::Tree;
-use onecall::capcore::Core;
-use onecall::cappass::published::NewRows;
+use onecall::NewRows;
 use std::alloc::{AllocError, Global};
 use std::marker::Model;
 

@@ -2,8 +2,8 @@
 ghost use Rattle.std.specs.Prelude.{◌≡◌, ◌≢◌, ◌≤◌, ◌<◌, ◌+◌, Err, length, IsTrue, IfOk, IfErr, OnOk, OnErr, vec_len};
 ghost use Rattle.std.specs.List.{sum_by};
 ghost use mathlib.Core.List.{IsPrefix};
-ghost use Rattle.onecall.specs.Capsteps.History.{IsLegal};
-ghost use Rattle.onecall.specs.Capview.declared.answer.Unknown.TheVariants as unknown;
+ghost use Rattle.capcore.specs.Capsteps.History.{IsLegal};
+ghost use Rattle.capcore.specs.Capview.declared.answer.Unknown.TheVariants as unknown;
 ghost use Rattle.onecall.specs.Cappass.Witness.Answers.{IsAnswered};
 ghost use Rattle.onecall.specs.Cappass.Rowbook.Rows.{Legal};
 ghost use Rattle.capserver.specs.Called.{IsStep};
@@ -14,13 +14,13 @@ ghost use Rattle.onecall.specs.Cappass.Passes.{AllNew, AllBegin, IsStartFault, p
 use crate::gate::Gate;
 use crate::locked::Locked;
 use crate::opening::{Opening, Parts};
+use capcore::capview::{Question, Unknown};
+use capcore::{Core, Event, Stop};
 use capgrant::Verdict;
 use capspec::FsName;
-use onecall::Answer;
-use onecall::capcore::capview::{Question, Unknown};
-use onecall::capcore::{Core, Event, Stop};
-use onecall::cappass::published::{MAX_PASSES, Publisher, Server};
-use onecall::cappass::{Pass, StartFault, audit_all, make_passes, merge_all};
+use onecall::{
+    Answer, MAX_PASSES, Pass, Publisher, Server, StartFault, audit_all, make_passes, merge_all,
+};
 use std::marker::Model;
 use std::sync::ledger::Blank;
 use std::sync::{Mutex, MutexGuard, Wait};

@@ -4,8 +4,7 @@ ghost use mathlib.Core.List.{IsPrefix};
 ghost use Rattle.cappass.specs.Rowbook.Rows.{Legal};
 
 use capcore::Reply;
-use cappass::Pass;
-use cappass::published::{Beginning, Server};
+use cappass::{Beginning, Pass, Server};
 
 /// What a call answers.
 pub struct Answer {

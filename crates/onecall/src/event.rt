@@ -5,8 +5,7 @@ ghost use Rattle.capcore.specs.Capacts.declared.stop.Stop.TheVariants as stop_ki
 ghost use Rattle.cappass.specs.Passes.{pass_id};
 
 use capcore::{Core, Event, Reply, Stop};
-use cappass::Pass;
-use cappass::published::Server;
+use cappass::{Pass, Server};
 use std::sync::ledger::Book;
 
 /// Makes an event, called by a pass, and counts the call in the pass and in the book. It promises what the core promises of an event,

@@ -5,7 +5,8 @@ mod answer;
 mod event;
 
 pub use answer::Answer;
-pub use capcore;
-pub use capcore::{capacts, capevents, capsteps, capview, lockmachine};
-pub use cappass;
+pub use cappass::{
+    Beginning, MAX_PASSES, NewRows, Pass, Publisher, Recorder, Server, StartFault, audit_all,
+    make_passes, merge_all,
+};
 pub use event::make;

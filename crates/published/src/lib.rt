@@ -9,8 +9,7 @@ mod value;
 
 pub use place::{Place, PlacesRule, PublishedReader, PublishedReading, PublishedWriter, Sees};
 pub use publisher::Publisher;
-pub use rowbook;
 pub use rowbook::{
-    Beginning, Counted, Head, MAX_PASSES, NewRows, Recorder, Rows, Server, capevents, capview,
+    Beginning, Counted, Head, MAX_PASSES, NewRows, Question, Recorder, Rows, Server, Unknown,
 };
 pub use value::{Published, Stage};

@@ -3,6 +3,7 @@
 
 mod witness;
 
-pub use published;
-pub use published::{capevents, capview, rowbook};
+pub use published::{
+    Beginning, MAX_PASSES, NewRows, Publisher, Question, Recorder, Server, Unknown,
+};
 pub use witness::Witness;

@@ -9,8 +9,10 @@ ghost use Rattle.witness.specs.Answers.{IsAnswered};
 
 use capgrant::Verdict;
 use capspec::FsName;
-use published::capview::{Question, Unknown};
-use published::{Beginning, PublishedReader, PublishedReading, Publisher, Recorder, Sees, Server};
+use published::{
+    Beginning, PublishedReader, PublishedReading, Publisher, Question, Recorder, Sees, Server,
+    Unknown,
+};
 use std::alloc::AllocError;
 use std::marker::Model;
 

@@ -1,11 +1,11 @@
 use Rattle.std.proofs.Common.{◌∙◌, ◌≤◌, ℕ, List, Option, MatchOption, ap, sym, subst}
 use Rattle.std.specs.Option.{option_copied_mut}
 use mathlib.Core.List.{IsPrefix}
-use Rattle.onecall.specs.Capview.declared.change.ViewChange.{ViewChange}
-use Rattle.onecall.specs.Capview.Changes.{AreChanges}
-use Rattle.onecall.specs.Capsteps.History.{Told}
-use Rattle.onecall.specs.Capsteps.Noted.{view_of}
-use Rattle.onecall.specs.Capcore.Promised.{IsPromised}
+use Rattle.capcore.specs.Capview.declared.change.ViewChange.{ViewChange}
+use Rattle.capcore.specs.Capview.Changes.{AreChanges}
+use Rattle.capcore.specs.Capsteps.History.{Told}
+use Rattle.capcore.specs.Capsteps.Noted.{view_of}
+use Rattle.capcore.specs.Promised.{IsPromised}
 use Rattle.onecall.specs.Cappass.Published.Publishing.{Publishing}
 use Rattle.capserver.specs.Held.{IsHeld}
 use Rattle.onecall.specs.Cappass.Passes.{pass_id}
