@@ -1,8 +1,8 @@
 -- Passes one by one.
 use Rattle.std.proofs.Common.{◌≡◌, ℕ, zero, suc, ◌+◌, ◌<◌, ◌≤◌, List, [], ◌∷◌, ◌++◌, length, take, get_or, ap, subst, ◌∙◌, arith}
 use mathlib.Core.List.{IsPrefix}
-use Rattle.published.specs.Capevents.declared.row.Row.{Row}
-use Rattle.published.proofs.Rowbook.Beginnings.{prefix_trans}
+use Rattle.witness.specs.Capevents.declared.row.Row.{Row}
+use Rattle.witness.proofs.Rowbook.Beginnings.{prefix_trans}
 use Rattle.cappass.specs.Passes.{PassState, pass_state, AllNew, AllBegin}
 
 -- one more new pass

@@ -1,3 +1,4 @@
 pub mod Passes
-pub use Rattle.published.specs as Published
-pub use Rattle.published.specs.Rowbook
+pub use Rattle.witness.specs.Published
+pub use Rattle.witness.specs.Rowbook
+pub use Rattle.witness.specs as Witness

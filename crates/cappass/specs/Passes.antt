@@ -3,10 +3,10 @@ use Rattle.std.specs.Prelude.{◌≡◌, ◌<◌, ◌≤◌, ◌⊎◌, ℕ, ◌
 use Rattle.std.specs.Coded.{Coded, code_by, coded×, coded_ℕ}
 use mathlib.Core.List.{IsPrefix}
 use Rattle.capbits.specs.declared.ids.PassId.{PassId}
-use Rattle.published.specs.Capevents.declared.row.Row.{Row}
+use Rattle.witness.specs.Capevents.declared.row.Row.{Row}
 use Rattle.cappass.specs.declared.passes.StartFault.{StartFault}
 use Rattle.cappass.specs.declared.passes.StartFault.TheVariants.{BadCount, NoMemory, NoReader}
-use Rattle.published.specs.Rowbook.Rows.{rows_code}
+use Rattle.witness.specs.Rowbook.Rows.{rows_code}
 
 -- a pass's number, how many of its calls were answered, and the rows of the history that it knows
 pub record PassState : Type 0 where

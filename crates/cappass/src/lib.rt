@@ -6,5 +6,4 @@ mod passes;
 
 pub use pass::Pass;
 pub use passes::{StartFault, audit_all, make_passes, merge_all};
-pub use published;
-pub use published::rowbook;
+pub use witness::{Beginning, MAX_PASSES, NewRows, Publisher, Recorder, Server};

@@ -1,18 +1,17 @@
 //! A caller's pass.
 ghost use Rattle.std.specs.Prelude.{◌≡◌, ◌≢◌, ◌<◌, ◌+◌, Err, length, IsTrue};
 ghost use mathlib.Core.List.{IsPrefix};
-ghost use Rattle.published.specs.Capview.declared.answer.Unknown.TheVariants as unknown;
-ghost use Rattle.published.specs.Answers.{IsAnswered};
-ghost use Rattle.published.specs.Rowbook.Rows.{Legal};
+ghost use Rattle.witness.specs.Capview.declared.answer.Unknown.TheVariants as unknown;
+ghost use Rattle.witness.specs.Answers.{IsAnswered};
+ghost use Rattle.witness.specs.Rowbook.Rows.{Legal};
 ghost use Rattle.cappass.specs.Passes.{pass_state};
 
 use capbits::PassId;
 use capgrant::Verdict;
 use capspec::FsName;
-use published::capview::{Question, Unknown};
-use published::{Beginning, Recorder, Server, Witness};
 use std::marker::Model;
 use std::sync::ledger::{Book, Share};
+use witness::{Beginning, Question, Recorder, Server, Unknown, Witness};
 
 /// Lets its holder call the server. To contracts it is its number, how many of its calls were answered, and the rows that it knows.
 pub struct Pass<L: Server> {

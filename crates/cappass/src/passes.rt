@@ -6,10 +6,10 @@ ghost use Rattle.cappass.specs.Passes.{AllNew, AllBegin};
 
 use crate::pass::Pass;
 use capbits::PassId;
-use published::{Publisher, Recorder, Server};
 use std::alloc::Global;
 use std::sync::ledger::Share;
 use thiserror::Error;
+use witness::{Publisher, Recorder, Server, Witness};
 
 /// Why there is no server.
 #[derive(Clone, Copy, Debug, PartialEq, Eq, Error)]
@@ -43,7 +43,7 @@ pub fn make_passes<L: Server>(
         if passes.reserve(1).is_err() {
             return Err(StartFault::NoMemory);
         }
-        let Ok(witness) = publisher.witness() else {
+        let Ok(witness) = Witness::of(publisher) else {
             return Err(StartFault::NoReader);
         };
         let share = rest.split_off(1, 0);

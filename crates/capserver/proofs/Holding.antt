@@ -14,12 +14,12 @@ use Rattle.capcore.specs.Capacts.Numbers.{AreNumbered, rows_of}
 use Rattle.capcore.specs.Capsteps.History.{IsLegal, IsTold, Told, IsNext, Replays, made_row}
 use Rattle.capcore.specs.Capsteps.State.{State}
 use Rattle.capcore.specs.Capsteps.Noted.{view_of}
-use Rattle.cappass.specs.Published.Publishing.{Publishing, IsReady}
-use Rattle.cappass.specs.Rowbook.Rows.{Legal}
-use Rattle.cappass.proofs.Rowbook.Beginnings.{prefix_more, prefix_trans, prefix_length}
+use Rattle.onecall.specs.Cappass.Published.Publishing.{Publishing, IsReady}
+use Rattle.onecall.specs.Cappass.Rowbook.Rows.{Legal}
+use Rattle.onecall.proofs.Cappass.Rowbook.Beginnings.{prefix_more, prefix_trans, prefix_length}
 use Rattle.capserver.specs.Fresh.{IsFresh}
 use Rattle.capserver.specs.Held.{IsHeld, IsLed}
-use Rattle.cappass.specs.Passes.{PassState, pass_id}
+use Rattle.onecall.specs.Cappass.Passes.{PassState, pass_id}
 
 -- at the opening there are no rows
 pub led_first : (opening : State) (max_rows : ℕ) (core : Told) → core.state ≡ opening → core.rows ≡ [] → core.max_rows ≡ max_rows → IsLed opening max_rows core
@@ -101,17 +101,22 @@ pub all_of : (next : Publishing) (rows all : List Row) (seen : Option (List Row)
 all_of next rows all (Some shown) whole same is = is.0 ∙ (whole is.1 ∙ same)
 all_of next rows all None whole same is = tt
 
+-- a pass that knows what was published knows all rows
+pub known_of : (rows : Option (List Row)) (all known : List Row) (More : Type 0) → MatchOption rows ⊥ (λ shown. (known ≡ shown) × More) → IfSome rows (λ shown. shown ≡ all) → (known ≡ all) × More
+known_of (Some shown) all known More is same = (is.0 ∙ same, is.1)
+known_of None all known More is same = absurd is
+
 -- a pass that knows all rows, and more than before, knows the row of its event last
-pub fresh_of : (old core : Told) (before counted looked after : PassState) (rows : List Row) (event : Event) (reply : Reply) → IsNext old (pass_id before) event reply core
+pub fresh_of : (old core : Told) (before counted looked after : PassState) (event : Event) (reply : Reply) → IsNext old (pass_id before) event reply core
     → counted ≡ record before { calls = before.calls + 1 } → IsPrefix counted.known looked.known → IsPrefix looked.known after.known
-    → rows ≡ core.rows → after.known ≡ rows → length looked.known < length after.known → IsFresh before after event reply
-fresh_of old core before counted looked after rows event reply next one up more all is less =
+    → after.known ≡ core.rows → length looked.known < length after.known → IsFresh before after event reply
+fresh_of old core before counted looked after event reply next one up more all less =
     let first : IsPrefix before.known looked.known = subst (λ (p : PassState). IsPrefix p.known looked.known) one up in
     let short = prefix_length before.known looked.known first in record {
       before = old.rows;
       nth = rows_of (pass_id before) old.rows + 1;
       ended = next.ended;
-      ends = is ∙ (all ∙ next.rows);
+      ends = all ∙ next.rows;
       begins = prefix_trans before.known looked.known after.known first more;
       proper = omega (arith, short, less);
     }

@@ -6,7 +6,7 @@ use Rattle.capcore.specs.Capevents.declared.event.Event.{Event}
 use Rattle.capcore.specs.Capevents.declared.row.Row.{Row}
 use Rattle.capcore.specs.Capevents.declared.outcome.Ended.{Ended}
 use Rattle.capcore.specs.Capevents.declared.reply.Reply.{Reply}
-use Rattle.cappass.specs.Passes.{PassState, pass_id}
+use Rattle.onecall.specs.Cappass.Passes.{PassState, pass_id}
 
 -- what the pass knew is a proper beginning of what it knows, and that ends with a row of the pass, of this event and this reply
 pub record IsFresh (old new : PassState) (event : Event) (reply : Reply) : Type 0 where

@@ -5,7 +5,7 @@ use Rattle.capcore.specs.Capsteps.State.{State}
 use Rattle.capcore.specs.Capsteps.History.{Told, Replays}
 use Rattle.capcore.specs.Capview.Sight.{Shows}
 use Rattle.capcore.specs.Capsteps.Noted.{view_of}
-use Rattle.cappass.specs.Published.Publishing.{Publishing}
+use Rattle.onecall.specs.Cappass.Published.Publishing.{Publishing}
 
 -- the history leads from the opening state to that of the core, and takes as many rows as the opening said
 pub record IsLed (opening : State) (max_rows : ℕ) (core : Told) : Type 0 where

@@ -5,15 +5,14 @@ ghost use Rattle.capcore.specs.Capsteps.History.{IsLegal};
 ghost use Rattle.capcore.specs.Promised.{IsPromised};
 ghost use Rattle.capcore.specs.Capacts.declared.stop.Stop.TheVariants as stop_kind;
 ghost use Rattle.capcore.specs.Capsteps.Noted.{view_of};
-ghost use Rattle.cappass.specs.Rowbook.Rows.{Legal};
+ghost use Rattle.onecall.specs.Cappass.Rowbook.Rows.{Legal};
 ghost use Rattle.capserver.specs.Fresh.{IsFresh};
 ghost use Rattle.capserver.specs.Held.{IsLed};
-ghost use Rattle.cappass.specs.Passes.{pass_id};
+ghost use Rattle.onecall.specs.Cappass.Passes.{pass_id};
 
-use crate::gate::{Answer, Gate};
+use crate::gate::Gate;
 use capcore::{Core, Event, Reply, Stop};
-use cappass::Pass;
-use cappass::published::{Beginning, Publisher, Recorder, Server};
+use onecall::{Answer, Beginning, Pass, Publisher, Recorder, Server, make};
 use std::marker::Model;
 use std::mem::replace;
 use std::sync::Wait;
@@ -89,8 +88,7 @@ impl<L: Server> Locked<L> {
         let Some(publisher) = publisher.as_mut() else {
             unreachable!()
         };
-        let reply = core.apply(pass.number(), event)?;
-        pass.count(calls);
+        let reply = make(core, calls, pass, event)?;
         publisher.follow(core.history(), core.last_changes());
         Ok(reply)
     }
@@ -116,12 +114,8 @@ impl<L: Server> Locked<L> {
         let reply = self.step(pass, event)?;
         pass.look();
         gate.pause(rt);
-        let Some(rows) = self.publish(rt) else {
-            let fresh = false;
-            return Ok(Answer { reply, fresh });
-        };
-        let fresh = pass.catch_up(&rows);
-        Ok(Answer { reply, fresh })
+        let rows = self.publish(rt);
+        Ok(Answer::of(reply, rows, pass))
     }
 
     // Publishes the whole history, and gives its rows. At None memory was refused, and it is published the next time.

@@ -3,9 +3,9 @@ ghost use Rattle.std.specs.Prelude.{◌≡◌, ◌≤◌, [], IfOk};
 ghost use Rattle.capcore.specs.Capsteps.History.{HasNoStray, IsOpening};
 
 use capcore::Core;
-use cappass::published::NewRows;
 use capspec::FsName;
 use inotree::Tree;
+use onecall::NewRows;
 use std::alloc::{AllocError, Global};
 use std::marker::Model;
 

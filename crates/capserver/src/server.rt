@@ -4,22 +4,23 @@ ghost use Rattle.std.specs.List.{sum_by};
 ghost use mathlib.Core.List.{IsPrefix};
 ghost use Rattle.capcore.specs.Capsteps.History.{IsLegal};
 ghost use Rattle.capcore.specs.Capview.declared.answer.Unknown.TheVariants as unknown;
-ghost use Rattle.cappass.specs.Published.Answers.{IsAnswered};
-ghost use Rattle.cappass.specs.Rowbook.Rows.{Legal};
+ghost use Rattle.onecall.specs.Cappass.Witness.Answers.{IsAnswered};
+ghost use Rattle.onecall.specs.Cappass.Rowbook.Rows.{Legal};
 ghost use Rattle.capserver.specs.Called.{IsStep};
 ghost use Rattle.capserver.specs.Fresh.{IsFresh};
 ghost use Rattle.capserver.specs.Opened.{opened};
-ghost use Rattle.cappass.specs.Passes.{AllNew, AllBegin, IsStartFault, pass_id};
+ghost use Rattle.onecall.specs.Cappass.Passes.{AllNew, AllBegin, IsStartFault, pass_id};
 
-use crate::gate::{Answer, Gate};
+use crate::gate::Gate;
 use crate::locked::Locked;
 use crate::opening::{Opening, Parts};
 use capcore::capview::{Question, Unknown};
 use capcore::{Core, Event, Stop};
 use capgrant::Verdict;
-use cappass::published::{MAX_PASSES, Publisher, Server};
-use cappass::{Pass, StartFault, audit_all, make_passes, merge_all};
 use capspec::FsName;
+use onecall::{
+    Answer, MAX_PASSES, Pass, Publisher, Server, StartFault, audit_all, make_passes, merge_all,
+};
 use std::marker::Model;
 use std::sync::ledger::Blank;
 use std::sync::{Mutex, MutexGuard, Wait};

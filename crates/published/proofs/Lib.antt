@@ -1,4 +1,3 @@
-pub mod Asking
 pub mod Publishing
 pub mod Seeing
 pub use Rattle.rowbook.proofs.Capevents

@@ -1,6 +1,5 @@
 pub mod Value
 pub mod Places
-pub mod Answers
 pub mod Publishing
 pub use Rattle.rowbook.specs.Capevents
 pub use Rattle.rowbook.specs.Capview

@@ -6,13 +6,10 @@ mod place;
 mod publisher;
 mod staging;
 mod value;
-mod witness;
 
 pub use place::{Place, PlacesRule, PublishedReader, PublishedReading, PublishedWriter, Sees};
 pub use publisher::Publisher;
-pub use rowbook;
 pub use rowbook::{
-    Beginning, Counted, Head, MAX_PASSES, NewRows, Recorder, Rows, Server, capevents, capview,
+    Beginning, Counted, Head, MAX_PASSES, NewRows, Question, Recorder, Rows, Server, Unknown,
 };
 pub use value::{Published, Stage};
-pub use witness::Witness;

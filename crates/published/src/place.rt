@@ -3,8 +3,7 @@ use crate::value::{Published, Stage};
 use crossbeam_utils::rule::{Outcome, Protocol};
 use left_right::reader::{Reader, Reading};
 use left_right::writer::Writer;
-use rowbook::Server;
-use rowbook::capevents::Row;
+use rowbook::{Row, Server};
 use std::collections::LinkedList;
 use std::marker::PhantomData;
 

@@ -1,19 +1,17 @@
 //! Who publishes: the rows of the history, and the view to which they lead.
 ghost use Rattle.std.specs.Prelude.{◌≡◌, ◌<◌, ◌≤◌, true, false, [], length, fold, IfOk, IfSome};
 ghost use mathlib.Core.List.{IsPrefix};
+ghost use Rattle.left_right.specs.Sides.{view as place_view};
 ghost use Rattle.rowbook.specs.Capview.Changes.{view_by};
 ghost use Rattle.rowbook.specs.Capsteps.Noted.{view_of};
 ghost use Rattle.published.specs.Publishing.{IsReady};
 ghost use Rattle.rowbook.specs.Rows.{Legal};
 
-use crate::place::{PublishedWriter, Sees};
+use crate::place::{PublishedReader, PublishedWriter, Sees};
 use crate::staging::{stage_changes, stage_history, stage_view};
 use crate::value::Published;
-use crate::witness::Witness;
 use inotree::Tree;
-use rowbook::capevents::Row;
-use rowbook::capview::{View, ViewChange};
-use rowbook::{Beginning, NewRows, Recorder, Server};
+use rowbook::{Beginning, NewRows, Recorder, Row, Server, View, ViewChange};
 use sessiontab::Sessions;
 use std::alloc::{AllocError, Global};
 use std::marker::Model;
@@ -71,13 +69,18 @@ impl<L: Server> Publisher<L> {
         })
     }
 
-    /// Who knows no row yet, and can read what is published.
-    pub fn witness(&self) -> Result<Witness<L>, AllocError>
-        requires { self.now.rows ≡ [] }
-        ensures { IfOk result (λ witness. witness ≡ []) }
+    /// The rows that are in the book.
+    pub fn rows(&self) -> &Beginning<L>
+        ensures { result.now ≡ self.now.rows }
     {
-        let place = self.writer.factory().reader()?;
-        Ok(Witness::new(self.recorder.rows().again(), place))
+        self.recorder.rows()
+    }
+
+    /// A reader's place, which knows no row yet.
+    pub fn reader(&self) -> Result<PublishedReader<L>, AllocError>
+        ensures { IfOk result (λ place. (place_view place.place).known ≡ []) }
+    {
+        self.writer.factory().reader()
     }
 
     /// Takes the rows of the history into the book, and stages the changes that the last ones made.

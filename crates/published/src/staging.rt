@@ -8,9 +8,7 @@ ghost use Rattle.published.specs.Value.{staged, staged_all};
 use crate::place::PublishedWriter;
 use crate::value::Stage;
 use inotree::Tree;
-use rowbook::capevents::Row;
-use rowbook::capview::{View, ViewChange};
-use rowbook::{Recorder, Server, gather};
+use rowbook::{Recorder, Row, Server, View, ViewChange, gather};
 use sessiontab::Sessions;
 use std::alloc::{AllocError, Global};
 

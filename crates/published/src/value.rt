@@ -2,8 +2,7 @@
 ghost use Rattle.std.specs.Prelude.{◌≡◌, IfOk};
 
 use left_right::Absorb;
-use rowbook::Counted;
-use rowbook::capview::{View, ViewChange};
+use rowbook::{Counted, View, ViewChange};
 use std::alloc::AllocError;
 
 /// What readers see: a beginning of the history, and the view to which it leads.

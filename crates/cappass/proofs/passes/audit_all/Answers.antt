@@ -1,6 +1,6 @@
 use Rattle.std.proofs.Common.{◌≡◌, ◌∙◌, ℕ, suc, ◌+◌, List, take, subst, arith}
 use mathlib.Core.List.{IsPrefix}
-use Rattle.published.specs.Capevents.declared.row.Row.{Row}
+use Rattle.witness.specs.Capevents.declared.row.Row.{Row}
 use Rattle.cappass.specs.Passes.{AllBegin}
 use Rattle.cappass.proofs.Numbering.{begin_more, begin_all}
 use Rattle.cappass.proofs.passes.audit_all.Goals as goal

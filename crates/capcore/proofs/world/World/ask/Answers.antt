@@ -31,11 +31,7 @@ returns-in-Some-clause-answered c = λ e asked.
     let s = c.args.self.now in
     let known : IsSound s × IsTable s.scene.table = subst (λ (w : State). IsSound w × IsTable w.scene.table) c.self.view_is (c.self.invariant.0, c.oldest-oldest.ensures.sound) in
     stopped-answered s e c.in-Some.stopped c.alone.result known.0 known.1
-<<<<<<< HEAD
-    (asking-stop e (holder c.args.client c.args.ino) c.args.ask s.scene asked ∙ sym c.ask_stop.ensures ∙ c.in-Some.is)
-=======
     (asking-stop e (holder c.args.client c.args.ino) (ask_of c.args.asked) s.scene asked ∙ asking-at _ s c.args.client c.args.ino.0 (ask_of c.args.asked) c.ask_stop.result c.self.view_is (c.ask_stop.ensures c.self.inside.table) ∙ c.in-Some.is)
->>>>>>> 8d80c921c11f6197b5809b90ee457c2ace385416
     (c.alone.ensures.reply ∙ c.into_reply.ensures.reply) (c.alone.ensures.kept ∙ sym c.alone.ensures.reply) c.alone.ensures.ended
 
 pub returns-in-Some-clause-changes : goal.returns-in-Some-clause-changes

@@ -34,11 +34,7 @@ returns-in-Some-clause-answered c =
     let s = c.args.self.now in
     let known : IsSound s × IsTable s.scene.table = subst (λ (w : State). IsSound w × IsTable w.scene.table) c.self.view_is (c.self.invariant.0, c.oldest-oldest.ensures.sound) in
     stopped-answered s (event.Flush c.args.client c.args.ino c.args.change.now) c.in-Some.stopped c.alone.result known.0 known.1
-<<<<<<< HEAD
-    (sym c.flush_stop.ensures ∙ c.in-Some.is)
-=======
     (judged-at _ s (event.Flush c.args.client c.args.ino c.args.change.now) c.flush_stop.result c.self.view_is (c.flush_stop.ensures c.self.inside.locks) ∙ c.in-Some.is)
->>>>>>> 8d80c921c11f6197b5809b90ee457c2ace385416
     (c.alone.ensures.reply ∙ c.into_reply.ensures.reply) (c.alone.ensures.kept ∙ sym c.alone.ensures.reply) c.alone.ensures.ended
 
 pub alter-requires : goal.alter-requires

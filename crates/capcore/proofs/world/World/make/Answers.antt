@@ -12,11 +12,7 @@ use Rattle.capcore.proofs.Effects.{birth-stopped, birth-refused, birth-done}
 use Rattle.capcore.proofs.world.World.make.Goals as goal
 
 pub returns-in-Some-clause-direct : goal.returns-in-Some-clause-direct
-<<<<<<< HEAD
-returns-in-Some-clause-direct c = rw c.into_reply.ensures.reply (birth-stopped c.args.self.now c.args.kind c.args.client c.args.dir c.args.name.now c.args.mode c.in-Some.stopped (sym c.stop.ensures ∙ c.in-Some.is))
-=======
 returns-in-Some-clause-direct c = rw c.into_reply.ensures.reply (birth-stopped c.args.self.now c.args.kind c.args.client c.args.dir c.args.name.now c.args.mode c.in-Some.stopped (access-at _ c.args.self.now c.args.client c.args.dir.0 Write c.access_stop.result c.self.view_is (c.access_stop.ensures c.self.inside.table c.self.inside.locks) ∙ c.in-Some.is))
->>>>>>> 8d80c921c11f6197b5809b90ee457c2ace385416
 
 pub returns-in-Some-new_inode_refusal-clause-direct : goal.returns-in-Some-new_inode_refusal-clause-direct
 returns-in-Some-new_inode_refusal-clause-direct c =

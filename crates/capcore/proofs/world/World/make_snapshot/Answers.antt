@@ -16,11 +16,7 @@ use Rattle.capsteps.specs.Capnotes.Noted.{view}
 use Rattle.capcore.proofs.world.World.make_snapshot.Goals as goal
 
 pub returns-in-Some-clause-direct : goal.returns-in-Some-clause-direct
-<<<<<<< HEAD
-returns-in-Some-clause-direct c = rw c.into_reply.ensures.reply (making-stopped c.args.self.now c.args.client c.args.ino c.args.name.now c.in-Some.stopped (sym c.stop.ensures ∙ c.in-Some.is))
-=======
 returns-in-Some-clause-direct c = rw c.into_reply.ensures.reply (making-stopped c.args.self.now c.args.client c.args.ino c.args.name.now c.in-Some.stopped (access-at _ c.args.self.now c.args.client c.args.ino.0 Snapshot c.access_stop.result c.self.view_is (c.access_stop.ensures c.self.inside.table c.self.inside.locks) ∙ c.in-Some.is))
->>>>>>> 8d80c921c11f6197b5809b90ee457c2ace385416
 
 pub returns-in-Some-new_snapshot_refusal-clause-direct : goal.returns-in-Some-new_snapshot_refusal-clause-direct
 returns-in-Some-new_snapshot_refusal-clause-direct c =

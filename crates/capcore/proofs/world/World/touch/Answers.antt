@@ -39,11 +39,7 @@ returns-in-Some-clause-answered c =
     let s = c.args.self.now in
     let known : IsSound s × IsTable s.scene.table = subst (λ (w : State). IsSound w × IsTable w.scene.table) c.self.view_is (c.self.invariant.0, c.oldest-oldest.ensures.sound) in
     stopped-answered s (touch_event c.args.client c.args.ino c.args.touch) c.in-Some.stopped c.alone.result known.0 known.1
-<<<<<<< HEAD
-    (sym c.touch_stop.ensures ∙ c.in-Some.is)
-=======
     (judged-at _ s (touch_event c.args.client c.args.ino c.args.touch) c.touch_stop.result c.self.view_is (c.touch_stop.ensures c.self.inside.locks c.self.invariant.2) ∙ c.in-Some.is)
->>>>>>> 8d80c921c11f6197b5809b90ee457c2ace385416
     (c.alone.ensures.reply ∙ c.into_reply.ensures.reply) (c.alone.ensures.kept ∙ sym c.alone.ensures.reply) c.alone.ensures.ended
 
 pub touch_entry-requires-clause-passed : goal.touch_entry-requires-clause-passed

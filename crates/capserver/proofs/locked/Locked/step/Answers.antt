@@ -3,41 +3,37 @@ use Rattle.std.specs.Option.{option_copied_mut}
 use mathlib.Core.List.{IsPrefix}
 use Rattle.capcore.specs.Capview.declared.change.ViewChange.{ViewChange}
 use Rattle.capcore.specs.Capview.Changes.{AreChanges}
-use Rattle.capbits.specs.declared.ids.PassId.{PassId}
 use Rattle.capcore.specs.Capsteps.History.{Told}
 use Rattle.capcore.specs.Capsteps.Noted.{view_of}
 use Rattle.capcore.specs.Promised.{IsPromised}
-use Rattle.cappass.specs.Published.Publishing.{Publishing}
+use Rattle.onecall.specs.Cappass.Published.Publishing.{Publishing}
 use Rattle.capserver.specs.Held.{IsHeld}
-use Rattle.cappass.specs.Passes.{pass_id}
+use Rattle.onecall.specs.Cappass.Passes.{pass_id}
 use Rattle.capserver.proofs.Holding.{begins_next, held_next, legal_of, room_of}
 use Rattle.capserver.proofs.locked.Locked.step.Goals as goal
 
--- the core promises it of itself, by the number of the pass. Under the lock the same is said of the value that contracts see
+-- it is promised of the core. Under the lock the same is said of the value that contracts see
 pub returns-clause-promised : goal.returns-clause-promised
 returns-clause-promised g c =
-    let core = c.apply.new.self in
-    let reply = c.in_ok-reply.reply in
-    subst (λ (t : Told). IsPromised t (pass_id c.args.pass.now) c.args.event reply core) c.self.view_is
-    (subst (λ (pass : PassId). IsPromised c.self.inside.core pass c.args.event reply core) (λ i. record { 0 = c.number.ensures i }) c.in_ok-reply.ensures.promised)
+    subst (λ (t : Told). IsPromised t (pass_id c.args.pass.now) c.args.event c.in_ok-reply.reply c.make.new.core) c.self.view_is c.in_ok-reply.ensures.promised
 
 -- ---- what is published next
 
 pub follow-requires-clause-legal : goal.follow-requires-clause-legal
 follow-requires-clause-legal g c =
     let o = g.L.Server.opening in
-    legal_of o c.apply.new.self c.history.result.now (c.in_ok-reply.ensures.promised.legal o c.self.invariant.2.replays) c.history.ensures.told c.history.ensures.rows
+    legal_of o c.make.new.core c.history.result.now (c.in_ok-reply.ensures.promised.legal o c.self.invariant.2.replays) c.history.ensures.told c.history.ensures.rows
 
 pub follow-requires-clause-begins : goal.follow-requires-clause-begins
 follow-requires-clause-begins g c =
     let held = subst (λ (q : Option Publishing). MatchOption q ⊥ (IsHeld c.self.inside.core c.self.inside.calls.total)) (sym c.as_mut.ensures.value ∙ ap option_copied_mut c.in-Some.is) c.self.invariant.3 in
     let before = c.in-Some.publisher.now.rows in
-    subst (IsPrefix before) (sym c.history.ensures.rows) (begins_next c.self.inside.core c.apply.new.self c.number.result c.args.event c.in_ok-reply.reply before held.begins c.in_ok-reply.ensures.promised.next)
+    subst (IsPrefix before) (sym c.history.ensures.rows) (begins_next c.self.inside.core c.make.new.core (pass_id c.args.pass.now) c.args.event c.in_ok-reply.reply before held.begins c.in_ok-reply.ensures.promised.next)
 
 pub follow-requires-clause-room : goal.follow-requires-clause-room
 follow-requires-clause-room g c =
     let held = subst (λ (q : Option Publishing). MatchOption q ⊥ (IsHeld c.self.inside.core c.self.inside.calls.total)) (sym c.as_mut.ensures.value ∙ ap option_copied_mut c.in-Some.is) c.self.invariant.3 in
-    room_of c.apply.new.self c.history.result.now (subst (λ (n : ℕ). n ≤ 4294967295) (sym c.in_ok-reply.ensures.promised.next.max_rows) held.room) c.history.ensures.told c.history.ensures.rows
+    room_of c.make.new.core c.history.result.now (subst (λ (n : ℕ). n ≤ 4294967295) (sym c.in_ok-reply.ensures.promised.next.max_rows) held.room) c.history.ensures.told c.history.ensures.rows
 
 pub invariant_of-self-2 : goal.invariant_of-self-2
 invariant_of-self-2 g c =
@@ -49,7 +45,7 @@ invariant_of-self-2 g c =
       c.self.invariant.0,
       c.self.invariant.1,
       record { replays = made.legal g.L.Server.opening led.replays; max_rows_is = made.next.max_rows ∙ led.max_rows_is },
-      held_next c.self.inside.core c.apply.new.self c.number.result c.args.event c.in_ok-reply.reply c.self.inside.calls.total c.count.new.calls.total c.in-Some.publisher.now after c.last_changes.result.now held made.next c.count.ensures.book
-          (subst (λ (changes : List ViewChange). AreChanges changes (view_of c.self.inside.core.state) (view_of c.apply.new.self.state)) (sym c.last_changes.ensures) made.changes)
+      held_next c.self.inside.core c.make.new.core (pass_id c.args.pass.now) c.args.event c.in_ok-reply.reply c.self.inside.calls.total c.make.new.calls.total c.in-Some.publisher.now after c.last_changes.result.now held made.next c.in_ok-reply.ensures.book
+          (subst (λ (changes : List ViewChange). AreChanges changes (view_of c.self.inside.core.state) (view_of c.make.new.core.state)) (sym c.last_changes.ensures) made.changes)
           (subst (IsPrefix after.rows) history.rows c.follow.ensures.begins) c.follow.ensures.kept (λ there. c.follow.ensures.rows there ∙ history.rows) c.follow.ensures.view,
     )

@@ -1,0 +1,1 @@
+pub use Rattle.cappass.proofs as Cappass

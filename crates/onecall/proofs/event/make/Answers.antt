@@ -1,0 +1,9 @@
+use Rattle.std.proofs.Common.{subst}
+use Rattle.capbits.specs.declared.ids.PassId.{PassId}
+use Rattle.capcore.specs.Promised.{IsPromised}
+use Rattle.onecall.proofs.event.make.Goals as goal
+
+-- the core promises it by the number of the pass
+pub returns-clause-promised : goal.returns-clause-promised
+returns-clause-promised g c =
+    subst (λ (pass : PassId). IsPromised c.args.core.now pass c.args.event c.in_ok-reply.reply c.apply.new.self) (λ i. record { 0 = c.number.ensures i }) c.in_ok-reply.ensures.promised

@@ -1,0 +1,1 @@
+pub use Rattle.cappass.specs as Cappass

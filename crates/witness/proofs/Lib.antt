@@ -1,0 +1,3 @@
+pub mod Asking
+pub use Rattle.published.proofs as Published
+pub use Rattle.published.proofs.Rowbook

@@ -1,0 +1,20 @@
+use Rattle.std.proofs.Common.{subst}
+use Rattle.published.specs.Capview.declared.view.View.{View}
+use Rattle.published.specs.Capview.Answers.{IsAnswer}
+use Rattle.published.specs.Capview.Sight.{Shows}
+use Rattle.published.proofs.Capview.Likeness.{shows-refl}
+use Rattle.published.specs.declared.value.Published.{Published}
+use Rattle.witness.proofs.Asking.{answered, never_unseen}
+use Rattle.witness.proofs.witness.Witness.explain.Goals as goal
+
+pub returns-clause-answer : goal.returns-clause-answer
+returns-clause-answer g c seen =
+    let o = g.L.Server.opening in
+    let value : Published = c.in-Some.reading.part.value in
+    let by_all = subst (λ (v : Published). (real : View) → Shows v.view real → IsAnswer c.args.fs.now real c.args.question.now c.explain-answer.result) c.get.ensures c.explain-answer.ensures in
+    answered o g.L.Server.history value c.args.fs.now c.args.question.now c.leave.result c.explain-answer.result c.in-Some.ensures.saw.value_is c.requires c.leave.ensures.known by_all
+
+pub returns-clause-no_view : goal.returns-clause-no_view
+returns-clause-no_view g c none =
+    let view = c.get.result.now.view in
+    absurd (never_unseen c.args.fs.now view c.args.question.now c.explain-answer.result (c.explain-answer.ensures view (shows-refl view)) none)
