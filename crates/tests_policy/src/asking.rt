@@ -3,7 +3,9 @@
 use crate::asserting::{made, same};
 use crate::looking::{Look, row_text};
 use crate::steps::locks_text;
+use crate::texts::text_of;
 use crate::viewing::changes_text;
+use crate::{gathers, histories, moved_entries, recalls, sessions_end, viewing, waits};
 use capbits::PassId;
 use capscript::capcore::{Core, Event, Reply, Stop};
 use capscript::capexplain::reply_lines;
@@ -21,11 +23,17 @@ pub enum Beside {
     Changes,
 }
 
+/// A line, and the lines that are answered or why none are.
+pub type Ask = (&'static str, &'static str);
+
 /// A line, the lines that are answered or why none are, and what is seen then.
 pub type Step = (&'static str, &'static str, &'static str);
 
 /// The pass that takes the steps, and what is seen beside them.
 pub type Part = (u32, Beside, &'static [Step]);
+
+/// What it shows, how many rows the history takes, the parts, and what its rows tell behind them.
+pub type Case = (&'static str, u32, &'static [Part], &'static [Look]);
 
 fn event(rt: &impl Abort, alloc: Global, line: &str) -> Event {
     match read_line(alloc, 1, line.as_bytes()) {
@@ -35,47 +43,76 @@ fn event(rt: &impl Abort, alloc: Global, line: &str) -> Event {
 }
 
 // The lines of an answer without the last line feed, or why there is none.
-fn answer_text(alloc: Global, answer: Result<Reply, Stop>) -> Result<String, AllocError> {
-    let mut text = match answer {
-        Ok(reply) => reply_lines(alloc, &reply)?,
-        Err(stop) => return format!(in alloc; "stop {stop}"),
-    };
-    text.pop();
-    String::from_utf8_lossy(alloc, text.as_slice())
+fn answer_text(rt: &impl Abort, alloc: Global, answer: Result<Reply, Stop>) -> String {
+    match answer {
+        Ok(reply) => {
+            let mut text = made(rt, reply_lines(alloc, &reply), "an answer");
+            text.pop();
+            text_of(rt, alloc, text.as_slice())
+        }
+        Err(stop) => made(rt, format!(in alloc; "stop {stop}"), "a stop"),
+    }
 }
 
-fn asked(rt: &impl Abort, alloc: Global, core: &mut Core, pass: u32, line: &str) -> String {
+// Asks by a pass, and compares the answer.
+fn answers(
+    rt: &impl Abort,
+    alloc: Global,
+    core: &mut Core,
+    pass: u32,
+    (line, wanted): Ask,
+    title: &'static str,
+) {
     let answer = core.apply(PassId(pass), event(rt, alloc, line));
-    made(rt, answer_text(alloc, answer), line)
+    let text = answer_text(rt, alloc, answer);
+    same(rt, text.as_str(), wanted, (title, line));
 }
 
-fn beside_text(alloc: Global, core: &Core, beside: Beside) -> Result<String, AllocError> {
+/// Asks one by one, by pass 1, and compares what is answered.
+pub fn ask(rt: &impl Abort, alloc: Global, core: &mut Core, asks: &[Ask]) {
+    for line in asks {
+        answers(rt, alloc, core, 1, *line, "asked");
+    }
+}
+
+fn beside_text(rt: &impl Abort, alloc: Global, core: &Core, beside: Beside) -> String {
     match beside {
-        Beside::Locks => locks_text(alloc, core),
-        Beside::Changes => changes_text(alloc, core),
+        Beside::Locks => locks_text(rt, alloc, core),
+        Beside::Changes => changes_text(rt, alloc, core),
     }
 }
 
 // Takes the steps one by one, and compares what is answered and seen.
-fn take_steps(rt: &impl Abort, alloc: Global, core: &mut Core, (pass, beside, steps): Part) {
+fn take_steps(
+    rt: &impl Abort,
+    alloc: Global,
+    core: &mut Core,
+    (pass, beside, steps): Part,
+    title: &'static str,
+) {
     for (line, wanted, shown) in steps {
-        let text = asked(rt, alloc, core, pass, line);
-        same(rt, text.as_str(), *wanted, *line);
-        let text = made(rt, beside_text(alloc, core, beside), *line);
-        same(rt, text.as_str(), *shown, *line);
+        answers(rt, alloc, core, pass, (line, wanted), title);
+        let text = beside_text(rt, alloc, core, beside);
+        same(rt, text.as_str(), *shown, (title, *line));
     }
 }
 
-fn take_parts(rt: &impl Abort, alloc: Global, core: &mut Core, parts: &[Part]) {
+fn take_parts(
+    rt: &impl Abort,
+    alloc: Global,
+    core: &mut Core,
+    parts: &[Part],
+    title: &'static str,
+) {
     for part in parts {
-        take_steps(rt, alloc, core, *part);
+        take_steps(rt, alloc, core, *part, title);
     }
 }
 
-fn look_at(rt: &impl Abort, alloc: Global, core: &Core, shown: &[Look]) {
+fn look_at(rt: &impl Abort, alloc: Global, core: &Core, shown: &[Look], title: &'static str) {
     for (place, wanted) in shown {
-        let text = made(rt, row_text(alloc, core, *place), *wanted);
-        same(rt, text.as_str(), *wanted, "the end");
+        let text = row_text(rt, alloc, core, *place);
+        same(rt, text.as_str(), *wanted, (title, "the end"));
     }
 }
 
@@ -85,11 +122,35 @@ fn fresh(alloc: Global, max_rows: u32) -> Result<Core, AllocError> {
     Core::new(alloc, fs, tree, max_rows)
 }
 
-/// Takes the parts on a fresh core whose history takes so many rows, and looks at rows of its history. No other function of the
-/// tests owns a core: each statement of one that does is dear to prove.
-pub fn plays(rt: &(impl AllocGlobal + Abort), max_rows: u32, parts: &[Part], shown: &[Look]) {
-    let mut core = made(rt, fresh(rt.alloc(), max_rows), "a core");
-    take_parts(rt, rt.alloc(), &mut core, parts);
-    look_at(rt, rt.alloc(), &core, shown);
+/// A core that was asked this by pass 1, and answered so.
+pub fn core_of(rt: &(impl AllocGlobal + Abort), asks: &[Ask]) -> Core {
+    let mut core = made(rt, fresh(rt.alloc(), 100), "a core");
+    ask(rt, rt.alloc(), &mut core, asks);
+    core
+}
+
+// Takes the parts of a case on a fresh core, and looks at rows of its history. A core is owned by few functions of the tests: each
+// statement of one that does is dear to prove.
+fn plays(rt: &(impl AllocGlobal + Abort), (title, max_rows, parts, shown): Case) {
+    let mut core = made(rt, fresh(rt.alloc(), max_rows), title);
+    take_parts(rt, rt.alloc(), &mut core, parts, title);
+    look_at(rt, rt.alloc(), &core, shown, title);
     drop(core);
+}
+
+#[test]
+fn each_step_is_answered_by_the_rules(rt: HostRuntime) {
+    for cases in [
+        gathers::CASES,
+        histories::CASES,
+        moved_entries::CASES,
+        recalls::CASES,
+        sessions_end::CASES,
+        viewing::CASES,
+        waits::CASES,
+    ] {
+        for case in cases {
+            plays(&rt, *case);
+        }
+    }
 }

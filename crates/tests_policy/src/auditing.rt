@@ -1,11 +1,10 @@
 //! What clients hold that nobody behind their key is permitted, and what two of them hold in conflict.
 
-use crate::asserting::{made, present, same};
-use crate::texts::grants_of;
+use crate::asserting::{made, same};
+use crate::texts::{Owner, attr_of, caps, cephfs, grants_of};
 use capaudit::{Conflict, Finding, Holding, Inode, beyond, conflicts};
-use capbits::{CapSet, Mode, read_caps};
+use capbits::CapSet;
 use capgrant::{Access, Attr, Rule};
-use capspec::FsName;
 use std::process::Abort;
 
 // The names of an inode.
@@ -23,7 +22,7 @@ type Found = (&'static str, Option<Access>, &'static [Rule]);
 const NOTHING: Found = ("-", None, &[]);
 
 // The grants of a client, an inode with its owner, its group and its mode, what the client holds of it, and what is found.
-const HELD: &[(&str, Names, (u32, u32, u16), &str, Found)] = &[
+const HELD: &[(&str, Names, Owner, &str, Found)] = &[
     // Three findings in the texts of a running cluster.
     (
         "allow r",
@@ -96,15 +95,6 @@ const HELD: &[(&str, Names, (u32, u32, u16), &str, Found)] = &[
     ("allow rw", A_Y, (7, 50, 0o604), "pFra", ("Fa", None, &[])),
 ];
 
-fn caps_of(rt: &impl Abort, text: &str) -> CapSet {
-    made(rt, read_caps(text.as_bytes()), "caps")
-}
-
-fn attr_of(rt: &impl Abort, (uid, gid, bits): (u32, u32, u16)) -> Attr {
-    let mode = Mode::new(bits).expect(rt, "a mode");
-    Attr { uid, gid, mode }
-}
-
 fn audited(
     rt: &(impl Abort + AllocGlobal),
     grants: &str,
@@ -112,7 +102,7 @@ fn audited(
     attr: Attr,
     held: CapSet,
 ) -> Option<Finding> {
-    let fs = present(rt, FsName::read(b"cephfs"), "a name");
+    let fs = cephfs(rt);
     let inode = Inode {
         fs: &fs,
         path,
@@ -122,14 +112,14 @@ fn audited(
 }
 
 // Sees what was found.
-fn see(rt: &impl Abort, found: Option<Finding>, (caps, missing, rules): Found, place: &str) {
+fn see(rt: &impl Abort, found: Option<Finding>, (text, missing, rules): Found, place: &str) {
     match found {
         Some(found) => {
             let held = (found.caps, found.missing);
-            same(rt, held, (caps_of(rt, caps), missing), place);
+            same(rt, held, (caps(text), missing), place);
             same(rt, found.rules.as_slice(), rules, place);
         }
-        None => same(rt, "-", caps, place),
+        None => same(rt, "-", text, place),
     }
 }
 
@@ -137,7 +127,7 @@ fn see(rt: &impl Abort, found: Option<Finding>, (caps, missing, rules): Found, p
 fn what_is_held_beyond_is_found(rt: HostRuntime) {
     for row in HELD {
         let (grants, path, attr, held, wanted) = *row;
-        let found = audited(&rt, grants, path, attr_of(&rt, attr), caps_of(&rt, held));
+        let found = audited(&rt, grants, path, attr_of(&rt, attr), caps(held));
         see(&rt, found, wanted, grants);
     }
 }
@@ -159,15 +149,15 @@ const CONFLICTS: &[(u64, &str, u64, &str)] = &[
     (4135, "As", 4160, "Ax"),
 ];
 
-fn holding(rt: &impl Abort, client: u64, caps: &str) -> Holding {
-    let caps = caps_of(rt, caps);
+fn holding(client: u64, text: &str) -> Holding {
+    let caps = caps(text);
     Holding { client, caps }
 }
 
 fn holdings(rt: &(impl Abort + AllocGlobal)) -> Vec<Holding> {
     let mut all = Vec::new(rt.alloc());
     for row in HOLDINGS {
-        made(rt, all.push(holding(rt, row.0, row.1)), row.1);
+        made(rt, all.push(holding(row.0, row.1)), row.1);
     }
     all
 }
@@ -176,7 +166,7 @@ fn holdings(rt: &(impl Abort + AllocGlobal)) -> Vec<Holding> {
 fn meet(rt: &impl Abort, found: &[Conflict]) {
     same(rt, found.len(), CONFLICTS.len(), "how many");
     for (place, row) in CONFLICTS.iter().enumerate() {
-        let (one, other) = (holding(rt, row.0, row.1), holding(rt, row.2, row.3));
+        let (one, other) = (holding(row.0, row.1), holding(row.2, row.3));
         let conflict = found.get(place).copied();
         same(rt, conflict, Some(Conflict { one, other }), place);
     }

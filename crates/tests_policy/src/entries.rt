@@ -1,7 +1,8 @@
 //! The table of capabilities: the orders in which its entries stand, and what each keeps.
 
 use crate::asserting::{made, same};
-use capbits::{CapSet, ClientId, Ino, Refusal, read_caps};
+use crate::texts::caps;
+use capbits::{CapSet, ClientId, Ino, Refusal};
 use captable::{CapTable, Entry, Holder, Holders, Walk};
 use std::alloc::AllocError;
 use std::process::Abort;
@@ -17,11 +18,10 @@ type Kept = (&'static str, &'static str, (u64, u64, u64), bool);
 
 // What is done with a table, or seen in it. A text names capabilities.
 enum Step {
-    // An entry of a client is opened on an inode.
-    Open(Holder),
-    // As many as there may be are opened, of 64 clients on 1024 inodes. No further one is.
+    // An entry of a client is opened on an inode, or refused.
+    Open(Holder, Option<Refusal>),
+    // As many as there may be are opened, of 64 clients on 1024 inodes.
     Fill,
-    Full(Holder),
     // The client wants these.
     Want(Holder, &'static str),
     // It holds these too.
@@ -54,14 +54,6 @@ use Step::*;
 
 // Where a test fails: the case, and the number of the step.
 type At = (&'static str, usize);
-
-/// The set that a text names; no set for a text that names none.
-pub fn caps(text: &str) -> CapSet {
-    match read_caps(text.as_bytes()) {
-        Ok(set) => set,
-        Err(_fault) => CapSet::empty(),
-    }
-}
 
 // ---- what is done
 
@@ -159,9 +151,8 @@ fn is_order(rt: &impl Abort, table: &CapTable, want: Places, at: At) {
 
 fn take(rt: &impl Abort, table: &mut CapTable, step: &Step, at: At) {
     match step {
-        Open(h) => same(rt, open(rt, table, *h), None, at),
+        Open(h, want) => same(rt, open(rt, table, *h), *want, at),
         Fill => fill(rt, table),
-        Full(h) => same(rt, open(rt, table, *h), Some(Refusal::Limit), at),
         Want(h, text) => table.set_want(h.client, h.ino, caps(text)),
         Give(h, text) => table.issue(h.client, h.ino, caps(text)),
         Renumber(h, before, after) => renumber(table, *h, caps(before), caps(after)),
@@ -222,7 +213,7 @@ const EMPTY: Option<Kept> = Some(("-", "-", (0, 0, 0), false));
 // the first gives back more, and holds more anew.
 const SHARED_FILE: &[Step] = &[
     Keeps(ONE_2, None),
-    Open(ONE_2),
+    Open(ONE_2, None),
     Keeps(ONE_2, EMPTY),
     // Client and inode exchanged.
     Keeps(
@@ -236,7 +227,7 @@ const SHARED_FILE: &[Step] = &[
     Give(ONE_2, "pFsxcrwb"),
     Renumber(ONE_2, "-", "pFsxcrwb"),
     Tell(ONE_2),
-    Open(TWO_2),
+    Open(TWO_2, None),
     Want(TWO_2, "pFscr"),
     Give(TWO_2, "p"),
     Renumber(TWO_2, "-", "p"),
@@ -263,16 +254,11 @@ const SHARED_FILE: &[Step] = &[
     HoldersOf(2, &[(TWO_2, false)]),
 ];
 
-#[test]
-fn an_entry_keeps_what_is_held_wanted_and_told(rt: HostRuntime) {
-    runs(&rt, "a shared file", SHARED_FILE);
-}
-
 const ORDERS: &[Step] = &[
     Order(&[]),
-    Open(ONE_2),
-    Open(ONE_3),
-    Open(TWO_2),
+    Open(ONE_2, None),
+    Open(ONE_3, None),
+    Open(TWO_2, None),
     Touch(ONE_2),
     // A client without an entry.
     Touch(TWO_3),
@@ -287,16 +273,11 @@ const ORDERS: &[Step] = &[
     EntriesOf(1, &[]),
 ];
 
-#[test]
-fn the_orders_are_kept_apart(rt: HostRuntime) {
-    runs(&rt, "three entries", ORDERS);
-}
-
 // The entries of one client, the first of which was touched last.
 const RECALLS: &[Step] = &[
-    Open(ONE_2),
-    Open(ONE_3),
-    Open(ONE_4),
+    Open(ONE_2, None),
+    Open(ONE_3, None),
+    Open(ONE_4, None),
     Touch(ONE_2),
     Recall(0, &[]),
     EntriesOf(1, &[(ONE_2, false), (ONE_3, false), (ONE_4, false)]),
@@ -311,16 +292,11 @@ const RECALLS: &[Step] = &[
     Recall(1, &[ONE_3]),
 ];
 
-#[test]
-fn recall_names_the_oldest(rt: HostRuntime) {
-    runs(&rt, "recalls", RECALLS);
-}
-
 // A walk over what is due begins behind what is not.
 const DUE: &[Step] = &[
-    Open(ONE_2),
-    Open(ONE_3),
-    Open(ONE_4),
+    Open(ONE_2, None),
+    Open(ONE_3, None),
+    Open(ONE_4, None),
     // A new entry is not due.
     DueOf(1, &[]),
     SkipQuiet(1),
@@ -341,23 +317,18 @@ const DUE: &[Step] = &[
     Tell(ONE_2),
     Release(ONE_2, "p", Ok(())),
     DueOf(1, &[(ONE_3, true), (ONE_4, true)]),
-    Open(ONE_2),
-    Open(TWO_3),
+    Open(ONE_2, None),
+    Open(TWO_3, None),
     DropClient(2),
     DueOf(1, &[(ONE_3, true), (ONE_4, true), (ONE_2, false)]),
     DueOf(2, &[]),
     DropClient(1),
-    Open(ONE_4),
-    Open(ONE_2),
+    Open(ONE_4, None),
+    Open(ONE_2, None),
     DueOf(1, &[]),
     Mark(ONE_2, true),
     DueOf(1, &[(ONE_2, true)]),
 ];
-
-#[test]
-fn a_walk_over_what_is_due_begins_behind_what_is_not(rt: HostRuntime) {
-    runs(&rt, "what is due", DUE);
-}
 
 const ONE_MORE: Holder = Holder {
     client: ClientId(64),
@@ -366,14 +337,24 @@ const ONE_MORE: Holder = Holder {
 
 const ALL_ENTRIES: &[Step] = &[
     Fill,
-    Full(ONE_MORE),
+    Open(ONE_MORE, Some(Refusal::Limit)),
     Give(ONE_2, "p"),
     Release(ONE_2, "p", Ok(())),
-    Open(ONE_MORE),
-    Full(ONE_2),
+    Open(ONE_MORE, None),
+    Open(ONE_2, Some(Refusal::Limit)),
+];
+
+const CASES: &[(&str, &[Step])] = &[
+    ("an entry keeps what is held, wanted and told", SHARED_FILE),
+    ("the orders are kept apart", ORDERS),
+    ("recall names the oldest", RECALLS),
+    ("a walk over what is due begins behind what is not", DUE),
+    ("no more than 65,536 entries", ALL_ENTRIES),
 ];
 
 #[test]
-fn no_more_than_65536_entries(rt: HostRuntime) {
-    runs(&rt, "all entries", ALL_ENTRIES);
+fn a_table_keeps_entries_in_their_orders(rt: HostRuntime) {
+    for (title, steps) in CASES {
+        runs(&rt, title, steps);
+    }
 }

@@ -1,7 +1,7 @@
 //! The life of a gather, step by step.
 
 use crate::asking::Beside::Locks;
-use crate::asking::{Step, plays};
+use crate::asking::{Case, Step};
 
 // A lock gathers until all is told back.
 const A_GATHER: &[Step] = &[
@@ -59,16 +59,13 @@ const A_GATHER_OF_THE_OTHER: &[Step] = &[
     ),
 ];
 
-#[test]
-fn a_lock_goes_from_gather_to_gather(rt: HostRuntime) {
-    plays(
-        &rt,
-        100,
-        &[
-            (1, Locks, A_GATHER),
-            (1, Locks, A_GATHER_OF_NOBODY),
-            (1, Locks, A_GATHER_OF_THE_OTHER),
-        ],
-        &[],
-    );
-}
+pub const CASES: &[Case] = &[(
+    "a lock goes from gather to gather",
+    100,
+    &[
+        (1, Locks, A_GATHER),
+        (1, Locks, A_GATHER_OF_NOBODY),
+        (1, Locks, A_GATHER_OF_THE_OTHER),
+    ],
+    &[],
+)];

@@ -1,7 +1,7 @@
 //! What a core keeps of its events: the rows of its history, and whose they are.
 
 use crate::asking::Beside::Changes;
-use crate::asking::{Part, Step, plays};
+use crate::asking::{Case, Part, Step};
 use crate::looking::Look;
 
 const MORE_THAN_TWO_ROWS: &[Step] = &[
@@ -24,12 +24,6 @@ const TWO_ROWS: &[Look] = &[
 const MORE_THAN_NO_ROW: &[Step] = &[("session 1 10 10 - allow rw", "stop Full", "")];
 
 const NO_ROW: &[Look] = &[(0, "no row")];
-
-#[test]
-fn a_full_history_takes_no_more(rt: HostRuntime) {
-    plays(&rt, 2, &[(7, Changes, MORE_THAN_TWO_ROWS)], TWO_ROWS);
-    plays(&rt, 0, &[(7, Changes, MORE_THAN_NO_ROW)], NO_ROW);
-}
 
 const A_LOOKUP: &[Step] = &[("lookup 1 1 f", "refused NoSession", "")];
 
@@ -54,7 +48,18 @@ const NUMBERED: &[Look] = &[
     (7, "no row"),
 ];
 
-#[test]
-fn each_pass_is_numbered_on_its_own(rt: HostRuntime) {
-    plays(&rt, 100, PASSES, NUMBERED);
-}
+pub const CASES: &[Case] = &[
+    (
+        "a full history takes no more",
+        2,
+        &[(7, Changes, MORE_THAN_TWO_ROWS)],
+        TWO_ROWS,
+    ),
+    (
+        "a full history takes no more",
+        0,
+        &[(7, Changes, MORE_THAN_NO_ROW)],
+        NO_ROW,
+    ),
+    ("each pass is numbered on its own", 100, PASSES, NUMBERED),
+];

@@ -15,8 +15,6 @@ mod auditing;
 #[cfg(test)]
 mod auth_lists;
 #[cfg(test)]
-mod caller;
-#[cfg(test)]
 mod caps;
 #[cfg(test)]
 mod entries;

@@ -1,60 +1,33 @@
 //! Locks: the inodes that have them, the requests that wait for them, and the moves that they make for what is wanted and held.
 
-use crate::asserting::{made, present, same};
-use crate::entries::{ONE_2, ONE_3, TWO_2, caps, open, release};
-use crate::sessions::Ask::{Open, Stale};
-use crate::sessions::{change as change_sessions, no_sessions};
-use crate::trees::Ask::{Make, Unlink};
-use crate::trees::{change as change_tree, new_tree};
+use crate::asking::{Ask as Asked, core_of};
+use crate::asserting::{made, same};
+use crate::entries::{ONE_2, ONE_3, TWO_2, open, release};
+use crate::texts::{caps, cephfs};
 use capbits::{CapSet, ClientId, Ino, Part, Ticket};
+use capscript::capcore::Core;
 use capscript::capcore::lockmachine::{Ask, Locks, Move, Wants, wants_on};
 use capspec::FsName;
 use captable::{CapTable, Holder};
-use inotree::{Kind, Tree};
 use locktable::{LockState, State};
-use sessiontab::Sessions;
 use std::process::Abort;
 
-// What there is, and who is connected.
-#[derive(Drop)]
-struct Known {
-    fs: FsName,
-    tree: Tree,
-    sessions: Sessions,
-}
-
-fn some_files(rt: &(impl Abort + AllocGlobal)) -> Tree {
-    let mut tree = new_tree(rt);
-    let asks = &[
-        Make(Kind::File, 1, b"f"),
-        Make(Kind::File, 1, b"g"),
-        Make(Kind::File, 1, b"h"),
-        Unlink(4),
-    ];
-    change_tree(rt, &mut tree, asks);
-    tree
-}
-
-fn some_clients(rt: &(impl Abort + AllocGlobal)) -> Sessions {
-    let mut sessions = no_sessions(rt);
-    let asks = &[
-        (Open(1, "allow rw"), None),
-        (Open(2, "allow rw"), None),
-        (Open(3, "allow r"), None),
-        (Open(4, "allow rw"), None),
-        (Stale(4), None),
-    ];
-    change_sessions(rt, &mut sessions, asks);
-    sessions
-}
-
 // The files 2 and 3, and 4, which was unlinked. The clients 1 and 2 may do all, and 3 may read; 4 is stale, and 5 has no session.
-fn files_and_clients(rt: &(impl Abort + AllocGlobal)) -> Known {
-    let tree = some_files(rt);
-    let sessions = some_clients(rt);
-    let fs = present(rt, FsName::read(b"cephfs"), "a file system");
-    Known { fs, tree, sessions }
-}
+const FILES_AND_CLIENTS: &[Asked] = &[
+    ("session 1 1 1 - allow rw", "done"),
+    ("session 2 2 2 - allow rw", "done"),
+    ("session 3 3 3 - allow r", "done"),
+    ("session 4 4 4 - allow rw", "done"),
+    ("create 1 1 f 0755", "ino 2"),
+    ("create 1 1 g 0755", "ino 3"),
+    ("create 1 1 h 0755", "ino 4"),
+    ("open 1 4 r", "caps 1 pFscr"),
+    ("unlink 1 4", "done"),
+    ("stale 4", "done"),
+];
+
+// What there is, who is connected, and the file system.
+type Known<'a> = (&'a Core, &'a FsName);
 
 // What happens, or is seen.
 enum Step {
@@ -91,8 +64,8 @@ fn enqueue(locks: &mut Locks, holder: Holder, part: Part) -> Option<Ticket> {
 }
 
 // Makes the next move. A request that is served is the one that the move names.
-fn make_next(rt: &impl Abort, known: &Known, table: &CapTable, locks: &mut Locks) -> Move {
-    let next = locks.next_move(table, &known.sessions, &known.tree, &known.fs);
+fn make_next(rt: &impl Abort, (core, fs): Known, table: &CapTable, locks: &mut Locks) -> Move {
+    let next = locks.next_move(table, core.sessions(), core.tree(), fs);
     if let Some(request) = locks.apply_move(next) {
         same(rt, Move::Serve(request.ticket), next, "a request");
     }
@@ -102,7 +75,7 @@ fn make_next(rt: &impl Abort, known: &Known, table: &CapTable, locks: &mut Locks
 // Sees that the locks make these moves, and no more.
 fn make(
     rt: &impl Abort,
-    (known, table): (&Known, &CapTable),
+    (known, table): (Known, &CapTable),
     locks: &mut Locks,
     want: &[Move],
     (title, step): (&'static str, usize),
@@ -120,8 +93,8 @@ fn make(
 }
 
 // What is wanted of inode 2.
-fn wants(known: &Known, table: &CapTable) -> Wants {
-    wants_on(&known.fs, &known.tree, &known.sessions, table, Ino(2))
+fn wants((core, fs): Known, table: &CapTable) -> Wants {
+    wants_on(fs, core.tree(), core.sessions(), table, Ino(2))
 }
 
 fn wants_of(wanted: &str, loner: Option<(u32, &str)>) -> Wants {
@@ -143,7 +116,7 @@ fn want(rt: &impl Abort, table: &mut CapTable, holder: Holder, wanted: CapSet) {
 
 fn take(
     rt: &impl Abort,
-    known: &Known,
+    known: Known,
     (table, locks): (&mut CapTable, &mut Locks),
     step: &Step,
     at: (&'static str, usize),
@@ -164,18 +137,13 @@ fn take(
 }
 
 // Takes the steps with a new table and new locks, those of inode 2. No other function owns them.
-fn plays(rt: &(impl Abort + AllocGlobal), known: &Known, title: &'static str, steps: &[Step]) {
+fn plays(rt: &(impl Abort + AllocGlobal), known: Known, title: &'static str, steps: &[Step]) {
     let mut table = made(rt, CapTable::new(rt.alloc()), title);
     let mut locks = made(rt, Locks::new(rt.alloc()), title);
     made(rt, locks.add_ino(Ino(2)), title);
     for (nth, step) in steps.iter().enumerate() {
         take(rt, known, (&mut table, &mut locks), step, (title, nth));
     }
-}
-
-fn runs(rt: &(impl Abort + AllocGlobal), title: &'static str, steps: &[Step]) {
-    let known = files_and_clients(rt);
-    plays(rt, &known, title, steps);
 }
 
 const THREE_2: Holder = Holder {
@@ -248,11 +216,6 @@ const NOTHING_MOVES: &[Step] = &[
     Want(TWO_2, "pAsxFscr"),
     Moves(&[]),
 ];
-
-#[test]
-fn what_does_not_count_moves_no_lock(rt: HostRuntime) {
-    runs(&rt, "nothing moves", NOTHING_MOVES);
-}
 
 const END_F: Move = Move::End {
     ino: Ino(2),
@@ -333,11 +296,6 @@ const GOALS: &[Step] = &[
     Moves(THREE_PARTS),
 ];
 
-#[test]
-fn a_lock_goes_to_what_is_wanted(rt: HostRuntime) {
-    runs(&rt, "goals", GOALS);
-}
-
 const TO_MIX: Option<LockState> = Some(LockState::Gather {
     from: FIRST,
     to: State::Mix,
@@ -362,11 +320,6 @@ const WAITING: &[Step] = &[
     Moves(&[F_BEGINS_SYNC, END_F]),
 ];
 
-#[test]
-fn a_gather_waits_for_what_is_held(rt: HostRuntime) {
-    runs(&rt, "a gather", WAITING);
-}
-
 // A gather ends where it was to end, though its goal is another by then; the next gather goes there.
 const A_GOAL_CHANGES: &[Step] = &[
     Want(ONE_2, WRITER),
@@ -388,11 +341,6 @@ const A_GOAL_CHANGES: &[Step] = &[
     Release(FOUR_2, "Fsr"),
     Moves(&[END_F]),
 ];
-
-#[test]
-fn a_goal_that_changes_in_a_gather_comes_after_it(rt: HostRuntime) {
-    runs(&rt, "a goal changes", A_GOAL_CHANGES);
-}
 
 const F3_BEGINS_FIRST: Move = Move::Begin {
     ino: Ino(3),
@@ -449,11 +397,6 @@ const IN_ORDER: &[Step] = &[
     Moves(&[END_F3, L_BEGINS_SECOND, END_L]),
 ];
 
-#[test]
-fn moves_come_in_their_order(rt: HostRuntime) {
-    runs(&rt, "an order", IN_ORDER);
-}
-
 const REQUESTS: &[Step] = &[
     // SYNC serves who reads.
     Queue(0, 0),
@@ -481,11 +424,6 @@ const REQUESTS: &[Step] = &[
     Queue(0, 4),
 ];
 
-#[test]
-fn requests_wait_under_numbers(rt: HostRuntime) {
-    runs(&rt, "requests", REQUESTS);
-}
-
 const COMING_AND_GOING: &[Step] = &[
     Lock(1, Part::F, None),
     Lock(2, Part::A, SYNC),
@@ -507,11 +445,6 @@ const COMING_AND_GOING: &[Step] = &[
     Lock(2, Part::A, SYNC),
     Lock(3, Part::A, None),
 ];
-
-#[test]
-fn an_inode_has_locks_from_its_making_to_its_end(rt: HostRuntime) {
-    runs(&rt, "inodes come and go", COMING_AND_GOING);
-}
 
 const WANTED: &[Step] = &[
     Wanted("-", None),
@@ -536,7 +469,29 @@ const WANTED: &[Step] = &[
     Wanted("pFscr", Some((3, "pFscr"))),
 ];
 
+const CASES: &[(&str, &[Step])] = &[
+    ("what does not count moves no lock", NOTHING_MOVES),
+    ("a lock goes to what is wanted", GOALS),
+    ("a gather waits for what is held", WAITING),
+    (
+        "a goal that changes in a gather comes after it",
+        A_GOAL_CHANGES,
+    ),
+    ("moves come in their order", IN_ORDER),
+    ("requests wait under numbers", REQUESTS),
+    (
+        "an inode has locks from its making to its end",
+        COMING_AND_GOING,
+    ),
+    ("wants count as far as they are permitted", WANTED),
+];
+
 #[test]
-fn wants_count_as_far_as_they_are_permitted(rt: HostRuntime) {
-    runs(&rt, "wants", WANTED);
+fn locks_move_for_what_is_wanted_and_held(rt: HostRuntime) {
+    let core = core_of(&rt, FILES_AND_CLIENTS);
+    let fs = cephfs(&rt);
+    for (title, steps) in CASES {
+        plays(&rt, (&core, &fs), title, steps);
+    }
+    drop(core);
 }

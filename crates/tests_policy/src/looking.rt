@@ -1,8 +1,11 @@
 //! The rows of the history of a core that was asked.
 
+use crate::asserting::made;
+use crate::texts::text_of;
 use capscript::capcore::{Core, Row};
 use capscript::capexplain::audit_line;
-use std::alloc::{AllocError, Global};
+use std::alloc::Global;
+use std::process::Abort;
 
 /// The place of a row in the history, from 0, and what it tells.
 pub type Look = (usize, &'static str);
@@ -13,14 +16,16 @@ fn row(core: &Core, place: usize) -> Option<&Row> {
 }
 
 /// The line of a row, and behind it whose each request was that it ended.
-pub fn row_text(alloc: Global, core: &Core, place: usize) -> Result<String, AllocError> {
+pub fn row_text(rt: &impl Abort, alloc: Global, core: &Core, place: usize) -> String {
     let Some(row) = row(core, place) else {
-        return String::from_str(alloc, "no row");
+        return text_of(rt, alloc, b"no row");
     };
-    let mut text = String::from_utf8_lossy(alloc, audit_line(alloc, row)?.as_slice())?;
+    let line = made(rt, audit_line(alloc, row), place);
+    let mut text = text_of(rt, alloc, line.as_slice());
     for ended in row.ended.as_slice() {
         let client = ended.client;
-        text.push_str(format!(in alloc; "; of {client}")?.as_str())?;
+        let more = made(rt, format!(in alloc; "; of {client}"), place);
+        made(rt, text.push_str(more.as_str()), place);
     }
-    Ok(text)
+    text
 }

@@ -2,7 +2,7 @@
 //! back, in the step in which the rename is served.
 
 use crate::asking::Beside::Locks;
-use crate::asking::{Step, plays};
+use crate::asking::{Case, Step};
 use crate::looking::Look;
 
 // The row of the step has the ends in their order. The file lock of inode 2 stands beside each step.
@@ -64,12 +64,9 @@ const THE_ENDS_IN_THE_ROW: &[Look] = &[
     ),
 ];
 
-#[test]
-fn the_row_that_serves_renames_keeps_their_ends(rt: HostRuntime) {
-    plays(
-        &rt,
-        100,
-        &[(1, Locks, A_DIRECTORY_IS_MOVED)],
-        THE_ENDS_IN_THE_ROW,
-    );
-}
+pub const CASES: &[Case] = &[(
+    "the row that serves renames keeps their ends",
+    100,
+    &[(1, Locks, A_DIRECTORY_IS_MOVED)],
+    THE_ENDS_IN_THE_ROW,
+)];

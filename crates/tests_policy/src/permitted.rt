@@ -1,15 +1,11 @@
 //! What grants permit to hold, and the list of rules in a denial. Which access they allow is asked in the talks of `casebook`.
 
-use crate::asserting::{made, present, same};
-use crate::texts::grants_of;
+use crate::asserting::{present, same};
+use crate::texts::{Who, attr_of, caller_of, cephfs, grants_of};
 use arrayvec::ArrayVec;
-use capbits::{Caller, Groups, Mode, write_caps};
-use capgrant::{Attr, Rule, Rules, permitted};
-use capspec::FsName;
+use capbits::write_caps;
+use capgrant::{Rule, Rules, permitted};
 use std::process::Abort;
-
-// A caller's uid, gid and further groups.
-type Who = (u32, u32, &'static [u32]);
 
 // The names of the inode's path.
 const B_X: &[&[u8]] = &[b"b", b"x"];
@@ -17,18 +13,6 @@ const B_X: &[&[u8]] = &[b"b", b"x"];
 const ANA: Who = (9, 50, &[60]);
 
 const ROOT: Who = (0, 50, &[]);
-
-fn caller(rt: &impl Abort, (uid, gid, groups): Who) -> Caller {
-    let mut further = Groups::new();
-    for group in groups {
-        made(rt, further.try_push(*group), "a group");
-    }
-    Caller {
-        uid,
-        gid,
-        groups: further,
-    }
-}
 
 // Two rules in a list.
 fn two_rules() -> Rules {
@@ -42,9 +26,9 @@ fn two_rules() -> Rules {
 fn a_list_of_rules_gives_its_vector_back(rt: HostRuntime) {
     let rules = two_rules();
     let wanted: &[Rule] = &[Rule::Path, Rule::NoWrite];
-    let greatest = rules.iter().copied().map(Rule::number).max();
-    let found = (rules.len(), rules.is_empty(), greatest);
-    same(&rt, found, (2, false, Some(5)), "sizes");
+    let last = present(&rt, rules.iter().last(), "a rule").number();
+    let found = (rules.len(), rules.is_empty(), last);
+    same(&rt, found, (2, false, 5), "sizes");
     same(&rt, rules.as_slice(), wanted, "as_slice");
     let given = rules.into_inner();
     same(&rt, given.as_slice(), wanted, "into_inner");
@@ -82,11 +66,8 @@ const PERMITTED: &[Row] = &[
 // Sees what the grants permit to hold on the file system `cephfs`, of an inode of group 50.
 fn permit(rt: &(impl Abort + AllocGlobal), row: &Row) {
     let (grants, who, uid, bits, wanted) = *row;
-    let fs = present(rt, FsName::read(b"cephfs"), "a name");
-    let mode = present(rt, Mode::new(bits), "a mode");
-    let caller = caller(rt, who);
-    let given = grants_of(rt, grants);
-    let attr = Attr { uid, gid: 50, mode };
+    let (given, fs) = (grants_of(rt, grants), cephfs(rt));
+    let (caller, attr) = (caller_of(rt, who), attr_of(rt, (uid, 50, bits)));
     let found = write_caps(permitted(&given, &fs, &caller, B_X, &attr));
     same(rt, found.as_slice(), wanted.as_bytes(), (grants, who));
 }

@@ -1,7 +1,7 @@
 //! Who is asked to give back, and who hears of it; and who comes off the blocklist.
 
 use crate::asking::Beside::Locks;
-use crate::asking::{Step, plays};
+use crate::asking::{Case, Step};
 use crate::looking::Look;
 
 // Two clients share a file, and a change waits for both.
@@ -34,12 +34,9 @@ const A_RECALL_MEANWHILE: &[Step] = &[
 
 const ITS_ROW: &[Look] = &[(6, "1.7 recall 2 => recalled 1:2 2:2"), (8, "no row")];
 
-#[test]
-fn a_recall_moves_nothing(rt: HostRuntime) {
-    plays(
-        &rt,
-        100,
-        &[(1, Locks, A_CHANGE_WAITS), (1, Locks, A_RECALL_MEANWHILE)],
-        ITS_ROW,
-    );
-}
+pub const CASES: &[Case] = &[(
+    "a recall moves nothing",
+    100,
+    &[(1, Locks, A_CHANGE_WAITS), (1, Locks, A_RECALL_MEANWHILE)],
+    ITS_ROW,
+)];

@@ -1,20 +1,22 @@
 //! Scripts with what they write.
 
-use crate::asserting::same;
+use crate::asserting::{made, same};
 use capscript::{ScriptFault, Watched, run};
-use std::alloc::{AllocError, Global};
+use std::alloc::Global;
 use std::io;
+use std::process::Abort;
 
 /// What a run over a script writes, and how it ends, in words behind an equals sign.
-pub fn transcript(alloc: Global, script: &[u8]) -> Result<Vec<u8>, AllocError> {
+pub fn transcript(rt: &impl Abort, alloc: Global, script: &[u8]) -> Vec<u8> {
     let mut text = Vec::new(alloc);
     let mut reader = Watched::new(script);
     let mut writer = Watched::new(&mut text);
     let ended = run(alloc, &mut reader, &mut writer);
     if let Err(fault) = ended {
-        text.extend_from_slice(format!(in alloc; "={fault}")?.as_bytes())?;
+        let word = made(rt, format!(in alloc; "={fault}"), "a fault");
+        made(rt, text.extend_from_slice(word.as_bytes()), "a fault");
     }
-    Ok(text)
+    text
 }
 
 /// Snapshots, and a client without grants. The last line has no line feed.

@@ -1,7 +1,7 @@
 //! Sessions that end, and what ends with them.
 
 use crate::asking::Beside::Locks;
-use crate::asking::{Step, plays};
+use crate::asking::{Case, Step};
 use crate::looking::Look;
 
 // Four requests wait, two of each client, the change of the second first.
@@ -47,12 +47,9 @@ const WHAT_ENDED: &[Look] = &[(
     "1.9 close 1 => done; ended 2 dropped; ended 4 dropped; ended 1 done; ended 3 attr F 5 0; of 1; of 1; of 2; of 2",
 )];
 
-#[test]
-fn what_is_dropped_is_kept_before_what_is_served(rt: HostRuntime) {
-    plays(
-        &rt,
-        100,
-        &[(1, Locks, FOUR_WAIT), (1, Locks, THE_FIRST_CLOSES)],
-        WHAT_ENDED,
-    );
-}
+pub const CASES: &[Case] = &[(
+    "what is dropped is kept before what is served",
+    100,
+    &[(1, Locks, FOUR_WAIT), (1, Locks, THE_FIRST_CLOSES)],
+    WHAT_ENDED,
+)];

@@ -1,46 +1,49 @@
 //! What stands beside the answers of steps: a lock, and what clients hold.
 
+use crate::asserting::made;
+use crate::texts::text_of;
 use capbits::{ClientId, Ino, Part, write_caps};
 use capscript::capcore::Core;
 use captable::Entry;
 use locktable::{LockState, State};
-use std::alloc::{AllocError, Global};
+use std::alloc::Global;
+use std::process::Abort;
 
-fn state_text(alloc: Global, state: State) -> Result<String, AllocError> {
+fn state_text(rt: &impl Abort, alloc: Global, state: State) -> String {
     let word = match state {
         State::Sync => "SYNC",
         State::Lock => "LOCK",
         State::Mix => "MIX",
-        State::Excl(client) => return format!(in alloc; "EXCL({client})"),
+        State::Excl(client) => return made(rt, format!(in alloc; "EXCL({client})"), "a state"),
     };
-    String::from_str(alloc, word)
+    text_of(rt, alloc, word.as_bytes())
 }
 
-/// A lock by its state, or by the two of a gather; a dash where there is none.
-pub fn lock_text(alloc: Global, lock: Option<LockState>) -> Result<String, AllocError> {
+// A lock by its state, or by the two of a gather; a dash where there is none.
+fn lock_text(rt: &impl Abort, alloc: Global, lock: Option<LockState>) -> String {
     match lock {
-        None => String::from_str(alloc, "-"),
-        Some(LockState::Stable(state)) => state_text(alloc, state),
+        None => text_of(rt, alloc, b"-"),
+        Some(LockState::Stable(state)) => state_text(rt, alloc, state),
         Some(LockState::Gather { from, to }) => {
-            let from = state_text(alloc, from)?;
-            let to = state_text(alloc, to)?;
-            format!(in alloc; "{from} to {to}")
+            let from = state_text(rt, alloc, from);
+            let to = state_text(rt, alloc, to);
+            made(rt, format!(in alloc; "{from} to {to}"), "a gather")
         }
     }
 }
 
-fn entry_text(alloc: Global, entry: Option<Entry>) -> Result<String, AllocError> {
+fn entry_text(rt: &impl Abort, alloc: Global, entry: Option<Entry>) -> String {
     let Some(entry) = entry else {
-        return String::from_str(alloc, "-");
+        return text_of(rt, alloc, b"-");
     };
-    let caps = String::from_utf8_lossy(alloc, write_caps(entry.held).as_slice())?;
+    let caps = text_of(rt, alloc, write_caps(entry.held).as_slice());
     let due = if entry.told_seq < entry.seq {
         " due"
     } else {
         ""
     };
     let number = entry.seq;
-    format!(in alloc; "{caps} {number}{due}")
+    made(rt, format!(in alloc; "{caps} {number}{due}"), "an entry")
 }
 
 // Without what the core promises of it.
@@ -54,9 +57,9 @@ fn entry(core: &Core, client: u32) -> Option<Entry> {
 
 /// The file lock of inode 2, and what the clients 1 and 2 hold of it with the number of the last change, and `due` where
 /// they are not told of it yet.
-pub fn locks_text(alloc: Global, core: &Core) -> Result<String, AllocError> {
-    let lock = lock_text(alloc, file_lock(core))?;
-    let one = entry_text(alloc, entry(core, 1))?;
-    let two = entry_text(alloc, entry(core, 2))?;
-    format!(in alloc; "{lock}; {one}; {two}")
+pub fn locks_text(rt: &impl Abort, alloc: Global, core: &Core) -> String {
+    let lock = lock_text(rt, alloc, file_lock(core));
+    let one = entry_text(rt, alloc, entry(core, 1));
+    let two = entry_text(rt, alloc, entry(core, 2));
+    made(rt, format!(in alloc; "{lock}; {one}; {two}"), "locks")
 }

@@ -1,11 +1,14 @@
 //! What a step changes of what readers see.
 
 use crate::asking::Beside::Changes;
-use crate::asking::{Step, plays};
+use crate::asking::{Case, Step};
+use crate::asserting::made;
+use crate::texts::text_of;
 use capgrant::Attr;
 use capscript::capcore::{Core, ViewChange};
 use capspec::write_grants;
-use std::alloc::{AllocError, Global};
+use std::alloc::Global;
+use std::process::Abort;
 
 // The word of a change, and its numbers: the inode or the client, the directory, and the owner, the group and the mode.
 fn numbers_of(change: &ViewChange) -> (&'static str, (u64, u64), (u32, u32, u16)) {
@@ -37,35 +40,41 @@ fn owner(attr: &Attr) -> (u32, u32, u16) {
 }
 
 // The name or the grants of a change, if it has any.
-fn tail_of(alloc: Global, change: &ViewChange) -> Result<Vec<u8>, AllocError> {
+fn tail_of(rt: &impl Abort, alloc: Global, change: &ViewChange) -> String {
     match change {
         ViewChange::Born { name, .. } | ViewChange::Moved { name, .. } => {
-            Vec::from_slice(alloc, name.as_bytes())
+            text_of(rt, alloc, name.as_bytes())
         }
         ViewChange::Opened { grants, .. } | ViewChange::Regranted { grants, .. } => {
-            write_grants(alloc, grants)
+            let text = made(rt, write_grants(alloc, grants), "grants");
+            text_of(rt, alloc, text.as_slice())
         }
-        _ => Ok(Vec::new(alloc)),
+        _ => String::new(alloc),
     }
 }
 
 // A change as `file 2 1 10:10 644 f`: its word, its numbers, of which those that it has not are 0, and its name or its grants.
-fn change_text(alloc: Global, change: &ViewChange) -> Result<String, AllocError> {
+fn change_text(rt: &impl Abort, alloc: Global, change: &ViewChange) -> String {
     let (word, (number, dir), (uid, gid, mode)) = numbers_of(change);
-    let tail = String::from_utf8_lossy(alloc, tail_of(alloc, change)?.as_slice())?;
-    format!(in alloc; "{word} {number} {dir} {uid}:{gid} {mode:o} {tail}")
+    let tail = tail_of(rt, alloc, change);
+    made(
+        rt,
+        format!(in alloc; "{word} {number} {dir} {uid}:{gid} {mode:o} {tail}"),
+        word,
+    )
 }
 
 /// What the last step says that it changed, the first change first.
-pub fn changes_text(alloc: Global, core: &Core) -> Result<String, AllocError> {
+pub fn changes_text(rt: &impl Abort, alloc: Global, core: &Core) -> String {
     let mut text = String::new(alloc);
     for change in core.last_changes() {
         if !text.is_empty() {
-            text.push_str("; ")?;
+            made(rt, text.push_str("; "), "a change");
         }
-        text.push_str(change_text(alloc, change)?.as_str())?;
+        let more = change_text(rt, alloc, change);
+        made(rt, text.push_str(more.as_str()), "a change");
     }
-    Ok(text)
+    text
 }
 
 // A file, to which its maker alone has a lock; then it is unlinked, and goes once it is given back.
@@ -136,21 +145,6 @@ const SESSIONS_TURN: &[Step] = &[
     ("unblock 2", "done", ""),
 ];
 
-#[test]
-fn each_step_tells_readers_what_it_changes(rt: HostRuntime) {
-    plays(
-        &rt,
-        100,
-        &[
-            (1, Changes, A_FILE_GOES),
-            (1, Changes, ALL_IS_MOVED),
-            (1, Changes, WHAT_WAITS_IS_TOLD_LATER),
-            (1, Changes, SESSIONS_TURN),
-        ],
-        &[],
-    );
-}
-
 // A client keeps files that were unlinked. With its session each of them goes, and nobody waits.
 const STRAYS_GO: &[Step] = &[
     (
@@ -179,11 +173,6 @@ const STRAYS_GO: &[Step] = &[
     ),
 ];
 
-#[test]
-fn a_client_that_goes_takes_its_strays_along(rt: HostRuntime) {
-    plays(&rt, 100, &[(1, Changes, STRAYS_GO)], &[]);
-}
-
 // The third step finds the history full. What the one before it changed is still told.
 const TWO_ROWS: &[Step] = &[
     (
@@ -195,7 +184,28 @@ const TWO_ROWS: &[Step] = &[
     ("lookup 1 1 f", "stop Full", "file 2 1 0:0 644 f"),
 ];
 
-#[test]
-fn a_step_that_is_not_answered_tells_nothing(rt: HostRuntime) {
-    plays(&rt, 2, &[(1, Changes, TWO_ROWS)], &[]);
-}
+pub const CASES: &[Case] = &[
+    (
+        "each step tells readers what it changes",
+        100,
+        &[
+            (1, Changes, A_FILE_GOES),
+            (1, Changes, ALL_IS_MOVED),
+            (1, Changes, WHAT_WAITS_IS_TOLD_LATER),
+            (1, Changes, SESSIONS_TURN),
+        ],
+        &[],
+    ),
+    (
+        "a client that goes takes its strays along",
+        100,
+        &[(1, Changes, STRAYS_GO)],
+        &[],
+    ),
+    (
+        "a step that is not answered tells nothing",
+        2,
+        &[(1, Changes, TWO_ROWS)],
+        &[],
+    ),
+];

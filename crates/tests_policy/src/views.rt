@@ -1,15 +1,12 @@
 //! Worked runs: a view that follows a server by the changes that it is told, and what it answers.
 
+use crate::asking::{Ask, core_of};
 use crate::asserting::{made, present, same};
-use crate::sessions::{caller, no_sessions};
-use crate::texts::grants_of;
-use crate::trees::Ask::{Make, Snapshot};
-use crate::trees::{attr_of, change as change_tree, new_tree};
+use crate::texts::{Owner, attr_of, caller_of, cephfs, grants_of};
 use capbits::{ClientId, Ino};
 use capgrant::{Access, Verdict};
 use capscript::capcore::capview::{Question, Unknown, View, ViewChange};
-use capspec::FsName;
-use inotree::{Kind, Name, Tree};
+use inotree::Name;
 use std::process::Abort;
 
 // What a view is told. The first number is that of an inode or a client.
@@ -21,7 +18,7 @@ enum Told {
     Removed(u64),
     Forgotten(u64),
     // The owner, the group and the bits of the mode.
-    Settled(u64, (u32, u32, u16)),
+    Settled(u64, Owner),
     // The user, and the text of the grants.
     Opened(u32, u32, &'static str),
     Ended(u32),
@@ -36,6 +33,9 @@ type Look = (u32, u64, Access, &'static str);
 
 // What is told, whether the view can follow, and what is answered then.
 type Round = (&'static [(Told, bool)], &'static [Look]);
+
+// What it shows, what a core was asked whose view it is, and the rounds.
+type Case = (&'static str, &'static [Ask], &'static [Round]);
 
 // Where a test fails: the case, the number of the round, and of what is told or asked in it.
 type At = (&'static str, usize, usize);
@@ -69,7 +69,7 @@ fn change(rt: &(impl Abort + AllocGlobal), told: Told) -> ViewChange {
         },
         Opened(client, uid, text) => ViewChange::Opened {
             client: ClientId(client),
-            caller: caller(uid),
+            caller: caller_of(rt, (uid, uid, &[])),
             grants: grants_of(rt, text),
         },
         Ended(client) => ViewChange::Ended {
@@ -108,7 +108,7 @@ fn word_of(answer: Result<Verdict, Unknown>) -> &'static str {
 }
 
 fn ask(rt: &impl Abort, view: &View, (client, ino, access, want): Look, at: At) {
-    let fs = present(rt, FsName::read(b"cephfs"), "a name");
+    let fs = cephfs(rt);
     let question = Question {
         client: ClientId(client),
         ino: Ino(ino),
@@ -134,13 +134,14 @@ fn play(
     }
 }
 
-// Plays the rounds on a copy of a view of the tree, on which nobody has a session, and then on the view itself, which is still
-// as it was.
-fn runs(rt: &(impl Abort + AllocGlobal), tree: &Tree, rounds: (&'static str, &'static [Round])) {
-    let mut view = made(rt, View::of(tree, &no_sessions(rt)), rounds.0);
-    let mut copy = made(rt, view.copy(), rounds.0);
-    play(rt, &mut copy, rounds);
-    play(rt, &mut view, rounds);
+// Plays the rounds on a copy of a view of a core that was asked this, and then on the view itself, which is still as it was.
+fn runs(rt: &(impl Abort + AllocGlobal), (title, asks, rounds): Case) {
+    let core = core_of(rt, asks);
+    let mut view = made(rt, View::of(core.tree(), core.sessions()), title);
+    drop(core);
+    let mut copy = made(rt, view.copy(), title);
+    play(rt, &mut copy, (title, rounds));
+    play(rt, &mut view, (title, rounds));
 }
 
 const MOVED: &[Round] = &[
@@ -292,19 +293,26 @@ const WITH_A_SNAPSHOT: &[Round] = &[(
     ],
 )];
 
+// A directory with a snapshot, and nobody has a session.
+const A_SNAPSHOT: &[Ask] = &[
+    ("session 9 10 10 - allow rws", "done"),
+    ("mkdir 9 1 d 0755", "ino 2"),
+    ("mksnap 9 2 s", "done"),
+    ("close 9", "done"),
+];
+
+const CASES: &[Case] = &[
+    ("an inode is judged where it stands", &[], MOVED),
+    ("what is gone has no verdict", &[], GONE),
+    ("an inode is judged by whose it is", &[], SETTLED),
+    ("the last grants count", &[], REGRANTED),
+    ("what does not fit changes nothing", &[], OF_ANOTHER),
+    ("a directory had a snapshot", A_SNAPSHOT, WITH_A_SNAPSHOT),
+];
+
 #[test]
 fn a_view_follows_what_it_is_told(rt: HostRuntime) {
-    let mut tree = new_tree(&rt);
-    runs(&rt, &tree, ("an inode is judged where it stands", MOVED));
-    runs(&rt, &tree, ("what is gone has no verdict", GONE));
-    runs(&rt, &tree, ("an inode is judged by whose it is", SETTLED));
-    runs(&rt, &tree, ("the last grants count", REGRANTED));
-    runs(
-        &rt,
-        &tree,
-        ("what does not fit changes nothing", OF_ANOTHER),
-    );
-    let asks = &[Make(Kind::Directory, 1, b"d"), Snapshot(2, b"s")];
-    change_tree(&rt, &mut tree, asks);
-    runs(&rt, &tree, ("a directory had a snapshot", WITH_A_SNAPSHOT));
+    for case in CASES {
+        runs(&rt, *case);
+    }
 }

@@ -1,7 +1,7 @@
 //! Who waits for a file, step by step, and what is kept of it.
 
 use crate::asking::Beside::Locks;
-use crate::asking::{Step, plays};
+use crate::asking::{Case, Step};
 use crate::looking::Look;
 
 const ONE_HAS_A_FILE: &[Step] = &[
@@ -91,20 +91,6 @@ const THE_REQUESTS_KEPT: &[Look] = &[
     (19, "no row"),
 ];
 
-#[test]
-fn requests_wait_until_the_lock_serves_them_in_a_row(rt: HostRuntime) {
-    plays(
-        &rt,
-        100,
-        &[
-            (1, Locks, ONE_HAS_A_FILE),
-            (1, Locks, TWO_REQUESTS),
-            (1, Locks, A_REQUEST_FOR_VALUES),
-        ],
-        THE_REQUESTS_KEPT,
-    );
-}
-
 // A request that is served at once has its end in its reply alone.
 const SERVED_AT_ONCE: &[Step] = &[
     ("session 1 10 10 - allow rw", "done", "-; -; -"),
@@ -121,11 +107,6 @@ const SERVED_AT_ONCE_KEPT: &[Look] = &[
     (3, "1.4 get 1 2 F => attr F 5 0"),
 ];
 
-#[test]
-fn what_is_served_at_once_has_no_other_end(rt: HostRuntime) {
-    plays(&rt, 100, &[(1, Locks, SERVED_AT_ONCE)], SERVED_AT_ONCE_KEPT);
-}
-
 // A flush of the data moves no lock, and neither does a holder that asks for what it holds for itself.
 const A_FLUSH: &[Step] = &[
     ("flush 1 2 size 5", "done", "EXCL(1); pFsxcrwb 1; -"),
@@ -141,16 +122,6 @@ const A_FLUSH: &[Step] = &[
         "EXCL(1) to MIX; pFsxcrwb 2 due; p 1",
     ),
 ];
-
-#[test]
-fn a_flush_waits_for_no_lock(rt: HostRuntime) {
-    plays(
-        &rt,
-        100,
-        &[(1, Locks, ONE_HAS_A_FILE), (1, Locks, A_FLUSH)],
-        &[],
-    );
-}
 
 // An unlinked file keeps its locks until it is forgotten. Nobody is permitted more of it than the pin, so all else is called
 // back, and a gather ends in a state that nobody fills.
@@ -173,16 +144,6 @@ const AN_UNLINKED_FILE: &[Step] = &[
     ("get 2 2 F", "refused NoIno", "-; -; -"),
     ("lookup 1 1 f", "refused NoEnt", "-; -; -"),
 ];
-
-#[test]
-fn an_unlinked_file_keeps_its_locks_until_it_is_forgotten(rt: HostRuntime) {
-    plays(
-        &rt,
-        100,
-        &[(1, Locks, ONE_HAS_A_FILE), (1, Locks, AN_UNLINKED_FILE)],
-        &[],
-    );
-}
 
 // What is denied when it is served has moved the lock all the same, and the next request finds it where it is to be.
 const DENIED_WHEN_SERVED: &[Step] = &[
@@ -213,12 +174,39 @@ const DENIED_WHEN_SERVED_KEPT: &[Look] = &[(
     "1.8 ack 1 2 2 => done; ended 1 denied write 1:11; of 2",
 )];
 
-#[test]
-fn a_denial_when_served_is_in_the_row_that_serves(rt: HostRuntime) {
-    plays(
-        &rt,
+pub const CASES: &[Case] = &[
+    (
+        "requests wait until the lock serves them in a row",
+        100,
+        &[
+            (1, Locks, ONE_HAS_A_FILE),
+            (1, Locks, TWO_REQUESTS),
+            (1, Locks, A_REQUEST_FOR_VALUES),
+        ],
+        THE_REQUESTS_KEPT,
+    ),
+    (
+        "what is served at once has no other end",
+        100,
+        &[(1, Locks, SERVED_AT_ONCE)],
+        SERVED_AT_ONCE_KEPT,
+    ),
+    (
+        "a flush waits for no lock",
+        100,
+        &[(1, Locks, ONE_HAS_A_FILE), (1, Locks, A_FLUSH)],
+        &[],
+    ),
+    (
+        "an unlinked file keeps its locks until it is forgotten",
+        100,
+        &[(1, Locks, ONE_HAS_A_FILE), (1, Locks, AN_UNLINKED_FILE)],
+        &[],
+    ),
+    (
+        "a denial when served is in the row that serves",
         100,
         &[(1, Locks, DENIED_WHEN_SERVED)],
         DENIED_WHEN_SERVED_KEPT,
-    );
-}
+    ),
+];

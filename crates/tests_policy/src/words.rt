@@ -2,7 +2,7 @@
 
 use crate::asserting::{made, same};
 use capanswers::words;
-use std::alloc::{AllocError, Global};
+use std::alloc::Global;
 use std::env::{Env, FillError};
 use std::process::Abort;
 
@@ -32,26 +32,30 @@ impl Env for Line<'_> {
 }
 
 // The bytes of a word are its number and those that follow.
-fn word_of(alloc: Global, number: usize, length: usize) -> Result<Vec<u8>, AllocError> {
+fn word_of(rt: &impl Abort, alloc: Global, number: usize, length: usize) -> Vec<u8> {
     let mut word = Vec::new(alloc);
     for place in 0..length {
-        word.push((number.wrapping_add(place) % 251) as u8)?;
+        made(
+            rt,
+            word.push((number.wrapping_add(place) % 251) as u8),
+            number,
+        );
     }
-    Ok(word)
+    word
 }
 
 // A line whose words have these lengths.
-fn line_of(alloc: Global, lengths: &[usize]) -> Result<Vec<Vec<u8>>, AllocError> {
+fn line_of(rt: &impl Abort, alloc: Global, lengths: &[usize]) -> Vec<Vec<u8>> {
     let mut line = Vec::new(alloc);
     for (number, length) in lengths.iter().enumerate() {
-        line.push(word_of(alloc, number, *length)?)?;
+        made(rt, line.push(word_of(rt, alloc, number, *length)), number);
     }
-    Ok(line)
+    line
 }
 
 // Sees that all words behind the first are read from a line whose words have these lengths.
 fn are_read(rt: &(impl Abort + AllocGlobal), lengths: &[usize]) {
-    let line = made(rt, line_of(rt.alloc(), lengths), "a line");
+    let line = line_of(rt, rt.alloc(), lengths);
     let found = made(
         rt,
         words(
