@@ -6,7 +6,7 @@ use std::sync::ledger::{Blank, Book, Ledger, Share};
 
 /// How many links were made or changed. It takes no bytes: contracts alone see the number, so it has no last one. `L`
 /// names the ledger that carries it, and a caller that does not care takes `Brand`.
-#[derive(Drop)]
+#[derive(Debug, Drop)]
 pub struct LinkWrites<L: Ledger> {
     book: Book<L>,
     share: Share<L>,
@@ -44,7 +44,7 @@ impl<L: Ledger> LinkWrites<L> {
 
 /// Where a node or a list leads to: the key of a node, or none. Whoever makes or changes one hands in the count of
 /// writes, which rises by one.
-#[derive(Drop)]
+#[derive(Debug, Drop)]
 pub struct Link {
     key: Option<usize>,
 }
