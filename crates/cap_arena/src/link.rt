@@ -6,7 +6,7 @@ use std::sync::ledger::{Blank, Book, Ledger, Share};
 
 /// How many links were made or changed. It takes no bytes: contracts alone see the number, so it has no last one. `L`
 /// names the ledger that carries it, and a caller that does not care takes `Brand`.
-#[derive(Debug, Drop)]
+#[derive(Drop)]
 pub struct LinkWrites<L: Ledger> {
     book: Book<L>,
     share: Share<L>,
