@@ -20,7 +20,7 @@ use Rattle.capanswers.specs.declared.fault.AnswerFault.TheVariants.{WriteFailed,
 use Rattle.capanswers.specs.Answers.{StopsBefore}
 use Rattle.capanswers.specs.Fault.{fault_of, Tells}
 
-unchanged : (known : Option (List ℕ)) → Keeps known known
+pub unchanged : (known : Option (List ℕ)) → Keeps known known
 unchanged None = tt
 unchanged (Some bytes) = refl
 

@@ -6,10 +6,12 @@ use Rattle.capquestion.specs.declared.fault.QuestionFault.TheVariants as asked
 use Rattle.capquestion.specs.declared.comparing.CompareFault.{CompareFault}
 use Rattle.capquestion.specs.declared.comparing.CompareFault.TheVariants as compared
 use Rattle.capquestion.specs.Comparing.{IsFaultOfTexts}
+use Rattle.capquestion.specs.Capauth.declared.fault.AuthFault.{AuthFault}
+use Rattle.capquestion.specs.Capauth.declared.fault.AuthFault.TheVariants as auths
 use Rattle.capkeyring.specs.declared.fault.KeyringFault.{KeyringFault}
 use Rattle.capkeyring.specs.declared.fault.KeyringFault.TheVariants as keyrings
 use Rattle.capanswers.specs.declared.fault.AnswerFault.{AnswerFault}
-use Rattle.capanswers.specs.declared.fault.AnswerFault.TheVariants.{Question, Compare, Keyring, NoMemory}
+use Rattle.capanswers.specs.declared.fault.AnswerFault.TheVariants.{Question, Compare, Keyring, Auth, NoMemory}
 
 -- want of memory stays that; any other fault is passed on as it is
 abbrev pub fault_of : QuestionFault → AnswerFault
@@ -27,6 +29,15 @@ keyring_fault_of keyrings.NoEntity = Keyring keyrings.NoEntity
 keyring_fault_of keyrings.NoCaps = Keyring keyrings.NoCaps
 keyring_fault_of keyrings.NotQuoted = Keyring keyrings.NotQuoted
 keyring_fault_of keyrings.NoMemory = NoMemory
+
+-- the same of an auth list
+abbrev pub auth_fault_of : AuthFault → AnswerFault
+auth_fault_of (auths.NotJson line column) = Auth (auths.NotJson line column)
+auth_fault_of auths.NoList = Auth auths.NoList
+auth_fault_of (auths.NotAnEntity number) = Auth (auths.NotAnEntity number)
+auth_fault_of auths.NoEntity = Auth auths.NoEntity
+auth_fault_of auths.NoCaps = Auth auths.NoCaps
+auth_fault_of auths.NoMemory = NoMemory
 
 -- the same of two texts that are compared
 abbrev pub compare_fault_of : CompareFault → AnswerFault

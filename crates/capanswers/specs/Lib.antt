@@ -1,4 +1,5 @@
 pub mod Fault
 pub mod Inquiry
 pub mod Answers
+pub mod Survey
 pub use Rattle.capquestion.specs as Capquestion

@@ -6,6 +6,7 @@ use crate::fault::AnswerFault;
 use crate::inquiry::{Form, Inquiry};
 use crate::status::{FAILED, report};
 use capkeyring::KeyringFault;
+use capquestion::capauth::AuthFault;
 use capquestion::{Opt, QuestionFault, Values};
 use capstreams::capexplain::print_quoted;
 use std::alloc::{AllocError, Global};
@@ -101,6 +102,12 @@ fn advice(ask: &Ask, fault: AnswerFault) -> Option<&'static str> {
         AnswerFault::Unopened => Some(
             "--keyring takes the name of a file, or - for standard input",
         ),
+        AnswerFault::UnopenedAuth => Some(
+            "--auth takes the name of a file, or - for standard input",
+        ),
+        AnswerFault::Auth(AuthFault::NotJson { .. } | AuthFault::NoList) => {
+            Some("--auth takes what `ceph auth ls -f json` prints")
+        }
         _ => None,
     }
 }

@@ -2,6 +2,7 @@
 
 use crate::inquiry::Inquiry;
 use crate::matched::asked;
+use crate::survey::Survey;
 use capquestion::{Opt, spell};
 use clap::{Arg, ArgAction, Command, Error};
 use std::alloc::{AllocError, Global};
@@ -19,6 +20,8 @@ pub const COMPARE: &str = "compare";
 
 pub const LINT: &str = "lint";
 
+pub const WHO: &str = "who";
+
 pub const RUN: &str = "run";
 
 pub const SERVE: &str = "serve";
@@ -29,6 +32,8 @@ pub const OLD: &str = "old";
 
 pub const NEW: &str = "new";
 
+pub const AUTH: &str = "auth";
+
 pub const KEYRING: &str = "keyring";
 
 pub const CLIENT: &str = "client";
@@ -37,7 +42,7 @@ pub const QUIET: &str = "quiet";
 
 pub const MORE: &str = "more";
 
-/// The value of `--grants` or of `--keyring` that stands for standard input.
+/// The value of `--grants`, of `--keyring` or of `--auth` that stands for standard input.
 pub const INPUT: &[u8] = b"-";
 
 const STATUSES: &str = "Status:
@@ -71,6 +76,13 @@ prints
   grant 1: root_squash undone, write /a fs x uid 0 gid 0 groups - owner 0 group 0 mode 0600 grant 2
   grant 3: covered by the others";
 
+const WHO_EXAMPLE: &str = "Example:
+  ceph auth ls -f json | capd who write /projects --auth -
+prints a line for each client, such as
+  client.admin: allowed write /projects grant 1
+  client.lab: depends on owner, group and mode: write /projects grant 2
+  client.backup: denied write /projects grant 1 rule 5 no-write";
+
 const RUN_EXAMPLE: &str = "Example:
   printf 'session 1 10 10 - allow rw path=/a\\nmkdir 1 1 a 0755\\n' | capd run
 prints
@@ -99,6 +111,8 @@ pub enum Ask {
     },
     /// What is found in the grants of a text.
     Lint(Vec<u8>),
+    /// Which clients of a cluster may make an access.
+    Who(Survey),
     /// The transcript of a script.
     Run,
     /// The history of a script whose clients call at once.
@@ -113,6 +127,7 @@ impl Drop for Ask {
             Ask::Grants(_) => {}
             Ask::Compare { old: _, new: _ } => {}
             Ask::Lint(_) => {}
+            Ask::Who(_) => {}
             Ask::Run => {}
             Ask::Serve => {}
         }
@@ -158,6 +173,7 @@ fn capd<'a>(alloc: Global) -> Result<Command<'a>, AllocError> {
     let command = with(command, grants(alloc));
     let command = with(command, compare(alloc));
     let command = with(command, lint(alloc));
+    let command = with(command, who(alloc));
     let command = with(command, Ok(run(alloc)));
     with(command, Ok(serve(alloc)))
 }
@@ -274,6 +290,68 @@ fn lint<'a>(alloc: Global) -> Result<Command<'a>, AllocError> {
         )
         .after_help(LINT_EXAMPLE)
         .arg(text_argument(alloc, TEXT, "TEXT", "The grants, as for `grants`"))
+}
+
+fn who<'a>(alloc: Global) -> Result<Command<'a>, AllocError> {
+    let command = Command::new(alloc, WHO)
+        .about(
+            "Says of each client of a cluster whether somebody behind its key may make an access",
+        )
+        .after_help(WHO_EXAMPLE)
+        .arg(word_argument(alloc, Opt::Access))?
+        .arg(word_argument(alloc, Opt::Path))?
+        .arg(auth(alloc))?
+        .arg(file_system(alloc))?;
+    let command = with_arg(Ok(command), attr_argument(alloc, Opt::Owner, Opt::Group));
+    let command = with_arg(command, attr_argument(alloc, Opt::Group, Opt::Mode));
+    with_arg(command, attr_argument(alloc, Opt::Mode, Opt::Owner))
+}
+
+// A word that stands without the name of its option.
+fn word_argument<'a>(alloc: Global, option: Opt) -> Arg<'a> {
+    let name: &'a str = option.name();
+    let help: &'a str = option.help();
+    let value_name = if option == Opt::Path {
+        "PATH"
+    } else {
+        "ACCESS"
+    };
+    text_argument(alloc, name, value_name, help)
+}
+
+fn auth<'a>(alloc: Global) -> Arg<'a> {
+    Arg::new(alloc, AUTH)
+        .long(AUTH)
+        .value_name("FILE")
+        .help(
+            "The clients with their grants, as `ceph auth ls -f json` prints them; - for standard input",
+        )
+        .required(true)
+        .action(ArgAction::Set)
+}
+
+fn file_system<'a>(alloc: Global) -> Arg<'a> {
+    let name: &'a str = Opt::Fs.name();
+    let usual: &'a str = "cephfs";
+    Arg::new(alloc, name)
+        .long(name)
+        .value_name("NAME")
+        .help("The file system of the inode")
+        .action(ArgAction::Set)
+        .default_value(usual)
+}
+
+// The owner, the group or the mode, of which each asks for the next.
+fn attr_argument<'a>(alloc: Global, option: Opt, next: Opt) -> Result<Arg<'a>, AllocError> {
+    let name: &'a str = option.name();
+    let value_name: &'a str = option.value_name();
+    let help: &'a str = option.help();
+    Arg::new(alloc, name)
+        .long(name)
+        .value_name(value_name)
+        .help(help)
+        .action(ArgAction::Set)
+        .requires_arg(next.name())
 }
 
 fn text_argument<'a>(alloc: Global, name: &'a str, value_name: &'a str, help: &'a str) -> Arg<'a> {

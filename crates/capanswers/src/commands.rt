@@ -150,8 +150,12 @@ fn write_line<W: Write>(mut line: Vec<u8>, writer: &mut Watched<W>) -> Result<u8
     write_text(line.as_slice(), DONE, writer)
 }
 
-// Writes the text, and answers the status that goes with it.
-fn write_text<W: Write>(text: &[u8], status: u8, writer: &mut Watched<W>) -> Result<u8, AnswerFault>
+/// Writes the text, and answers the status that goes with it.
+pub(crate) fn write_text<W: Write>(
+    text: &[u8],
+    status: u8,
+    writer: &mut Watched<W>,
+) -> Result<u8, AnswerFault>
     requires { IsFalse (has_failed writer.old) }
     ensures status { IfOk result (λ told. told ≡ status) }
     ensures ok { OnOk result (IsFalse (has_failed writer.new)

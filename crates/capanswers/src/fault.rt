@@ -1,6 +1,7 @@
 //! Why a command that answers a question about grants gave no answer.
 
 use capkeyring::KeyringFault;
+use capquestion::capauth::AuthFault;
 use capquestion::{CompareFault, QuestionFault};
 use capspec::SpecFault;
 use capstreams::caplines::ScriptFault;
@@ -19,6 +20,10 @@ pub enum AnswerFault {
     Keyring(KeyringFault),
     /// The file of the keyring can't be opened.
     Unopened,
+    /// What should be an auth list is none.
+    Auth(AuthFault),
+    /// The file of the auth list can't be opened.
+    UnopenedAuth,
     /// What has the text of the grants can't be read, as a script can't.
     Unread(ScriptFault),
     /// The answer could not be written.
@@ -34,6 +39,8 @@ impl Display for AnswerFault {
             AnswerFault::Compare(fault) => Display::fmt(fault, f),
             AnswerFault::Keyring(fault) => write!(f, "keyring: {fault}"),
             AnswerFault::Unopened => f.write_str("keyring: Unopened"),
+            AnswerFault::Auth(fault) => write!(f, "auth: {fault}"),
+            AnswerFault::UnopenedAuth => f.write_str("auth: Unopened"),
             AnswerFault::Unread(fault) => Display::fmt(fault, f),
             AnswerFault::WriteFailed => f.write_str("write failed"),
             AnswerFault::NoMemory => f.write_str("no memory"),
@@ -79,6 +86,21 @@ impl From<KeyringFault> for AnswerFault {
         match found {
             KeyringFault::NoMemory => AnswerFault::NoMemory,
             _ => AnswerFault::Keyring(found),
+        }
+    }
+}
+
+// Where only memory was missing, the auth list is not to blame.
+impl From<AuthFault> for AnswerFault {
+    ghost use Rattle.std.specs.Prelude.{◌≡◌};
+    ghost use Rattle.capanswers.specs.Fault.{auth_fault_of};
+
+    ghost from_gives = { λ found fault. fault ≡ auth_fault_of found };
+
+    fn from(found: AuthFault) -> Self {
+        match found {
+            AuthFault::NoMemory => AnswerFault::NoMemory,
+            _ => AnswerFault::Auth(found),
         }
     }
 }

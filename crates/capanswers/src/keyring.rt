@@ -1,4 +1,4 @@
-//! The file of a keyring.
+//! The file of a keyring, or of an auth list.
 
 use crate::command_line::{Ask, INPUT};
 use crate::fault::AnswerFault;
@@ -7,23 +7,32 @@ use std::fs::{Files, open};
 
 /// The file that is to be read in the place of standard input, if one is.
 pub fn keyring_file<E: Files>(files: &E, ask: &Ask) -> Result<Option<E::File>, AnswerFault> {
-    let Ask::Explain(inquiry) = ask else {
-        return Ok(None);
-    };
-    match &inquiry.source {
-        Source::Keyring { file, .. } if file.as_slice() != INPUT => {
-            open_file(files, file.as_slice())
-        }
+    match ask {
+        Ask::Explain(inquiry) => match &inquiry.source {
+            Source::Keyring { file, .. } => {
+                open_file(files, file.as_slice(), AnswerFault::Unopened)
+            }
+            _ => Ok(None),
+        },
+        Ask::Who(survey) => open_file(files, survey.auth.as_slice(), AnswerFault::UnopenedAuth),
         _ => Ok(None),
     }
 }
 
-fn open_file<E: Files>(files: &E, name: &[u8]) -> Result<Option<E::File>, AnswerFault> {
+// The file of this name, unless the name stands for standard input.
+fn open_file<E: Files>(
+    files: &E,
+    name: &[u8],
+    fault: AnswerFault,
+) -> Result<Option<E::File>, AnswerFault> {
+    if name == INPUT {
+        return Ok(None);
+    }
     let Ok(name) = str::from_utf8(name) else {
-        return Err(AnswerFault::Unopened);
+        return Err(fault);
     };
     match open(files, name) {
         Ok(file) => Ok(Some(file)),
-        Err(_) => Err(AnswerFault::Unopened),
+        Err(_) => Err(fault),
     }
 }

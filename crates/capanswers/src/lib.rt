@@ -1,4 +1,5 @@
-//! The commands of `capd` that answer a question about grants, by their words and streams alone: `explain`, `grants`, `compare` and `lint`.
+//! The commands of `capd` that answer a question about grants, by their words and streams alone: `explain`, `grants`, `compare`,
+//! `lint` and `who`.
 //! And what all commands need before and behind that: what the words of the command line ask for, with which status a command ends, and
 //! what is said of a fault.
 //!
@@ -15,6 +16,7 @@ mod keyring;
 mod matched;
 mod reading;
 mod status;
+mod survey;
 
 pub use advice::refuse;
 pub use arguments::words;
@@ -26,3 +28,4 @@ pub use inquiry::{Form, Inquiry, Source};
 pub use keyring::keyring_file;
 pub use reading::{Said, read_words, show};
 pub use status::{DENIED, DONE, FAILED, FOUND, USAGE, report};
+pub use survey::{Survey, tell_who};

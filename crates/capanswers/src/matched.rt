@@ -1,11 +1,12 @@
 //! What the matched words of a command line ask for.
 
 use crate::command_line::{
-    Ask, CLIENT, COMPARE, EXPLAIN, GRANTS, INPUT, KEYRING, LINT, MORE, NEW, OLD, QUIET, RUN, SERVE,
-    TEXT,
+    AUTH, Ask, CLIENT, COMPARE, EXPLAIN, GRANTS, INPUT, KEYRING, LINT, MORE, NEW, OLD, QUIET, RUN,
+    SERVE, TEXT, WHO,
 };
 use crate::inquiry::{Form, Inquiry, Source};
-use capquestion::{Opt, Values, spelled};
+use crate::survey::Survey;
+use capquestion::{AttemptValues, AttrValues, Opt, Values, spelled};
 use clap::ArgMatches;
 use clap::error::ErrorKind;
 use std::alloc::Global;
@@ -28,6 +29,7 @@ pub fn asked(alloc: Global, matches: &ArgMatches<'_>) -> Result<Ask, ErrorKind> 
             new: matched.value(NEW),
         },
         LINT => Ask::Lint(matched.value(TEXT)),
+        WHO => Ask::Who(matched.survey()),
         RUN => Ask::Run,
         SERVE => Ask::Serve,
         _ => return Err(ErrorKind::MissingSubcommand),
@@ -94,6 +96,27 @@ impl Matched<'_, '_> {
         } else {
             Form::Line
         }
+    }
+
+    fn survey(&mut self) -> Survey {
+        Survey {
+            values: AttemptValues {
+                access: self.option(Opt::Access),
+                path: self.option(Opt::Path),
+                fs: self.option(Opt::Fs),
+                attr: self.attr(),
+            },
+            auth: self.value(AUTH),
+        }
+    }
+
+    fn attr(&mut self) -> Option<AttrValues> {
+        let owner = self.given(Opt::Owner.name())?;
+        Some(AttrValues {
+            owner,
+            group: self.option(Opt::Group),
+            mode: self.option(Opt::Mode),
+        })
     }
 
     fn option(&mut self, option: Opt) -> Vec<u8> {

@@ -1,7 +1,6 @@
-pub mod StandsIn
 pub mod Permitting
+pub mod Somebody
 pub mod Gathering
-pub mod Askers
 pub mod Missing
 pub mod Rivals
 pub mod Apart

@@ -1,11 +1,9 @@
 -- What is beyond, and why.
-use Rattle.std.proofs.Common.{◌≡◌, ℕ, ◌+◌, ◌<◌, take, zero, suc, Bool, true, false, not, Option, Some, None, is_none, List, [], ◌∷◌, ◌++◌, length, get_or, refl, sym, ap, ◌∙◌, arith}
-use Rattle.std.specs.Prelude.{◌↔◌, IfSome, IsTrue, All, slice_get, filter_map, position, if◌then◌else◌}
-use Rattle.std.specs.List.{list_all, cons_option}
-use Rattle.std.proofs.lemmas.Bool.{true≢false, or_parts, both_ways, and_parts, and_from, not-true, not_from_false}
-use Rattle.std.proofs.lemmas.List.{take_more}
-use Rattle.std.proofs.lemmas.List.Elements.{All-nil, All-cons, filter_map-append}
-use Rattle.std.proofs.lemmas.List.Folds.{list_any_at}
+use Rattle.std.proofs.Common.{◌≡◌, Bool, true, false, not, Option, Some, None, List, [], ◌∷◌, ◌++◌, refl, sym, ap, ◌∙◌}
+use Rattle.std.specs.Prelude.{◌↔◌, IfSome, IsTrue, All, if◌then◌else◌}
+use Rattle.std.specs.List.{list_all}
+use Rattle.std.proofs.lemmas.Bool.{both_ways, and_parts, and_from, not-true, not_from_false}
+use Rattle.std.proofs.lemmas.List.Elements.{All-nil, All-cons}
 use Rattle.capbits.specs.declared.caller.Caller.{Caller}
 use Rattle.capbits.specs.declared.cap.Cap.{Cap}
 use Rattle.capbits.specs.Caps.{Caps, has, caps_where}
@@ -13,18 +11,12 @@ use Rattle.capbits.specs.Sets.{minus, no_caps, union, caps_in, has-minus, has-no
 use Rattle.capspec.specs.declared.grant.Grant.{Grant}
 use Rattle.capgrant.specs.declared.access.Access.{Access}
 use Rattle.capgrant.specs.declared.access.Access.TheVariants.{Read, Write}
-use Rattle.capgrant.specs.declared.rule.Rule.{Rule}
-use Rattle.capgrant.specs.Question.{Question}
-use Rattle.capgrant.specs.Failing.{first_failing}
 use Rattle.capgrant.specs.Permitted.{for_either, for_readers, for_writers, caps_for, permitted_of}
-use Rattle.capgrant.specs.declared.answer.Verdict.{Verdict}
-use Rattle.capgrant.specs.declared.answer.Verdict.TheVariants.{Allowed, Denied}
-use Rattle.capgrant.specs.Verdict.{allows, granted, first_failures, verdict_of}
-use Rattle.capgrant.proofs.Verdicts.{allowed_nowhere, granted_somewhere}
+use Rattle.capgrant.specs.Verdict.{granted}
 use Rattle.locktable.specs.Targets.{has_any}
 use Rattle.capcompare.proofs.Lists.{found}
-use Rattle.capaudit.specs.Callers.{Inode, asked, asker, permitted_to}
-use Rattle.capaudit.specs.Findings.{least_access, reason}
+use Rattle.capaudit.specs.Callers.{Inode, asked, permitted_to}
+use Rattle.capaudit.specs.Findings.{least_access}
 use Rattle.capaudit.proofs.Permitting.{by_read, by_write}
 
 -- ---- what is beyond
@@ -118,59 +110,3 @@ nobody_may i grants caps missing is none = rw is (by_read_cap (has_any caps (for
         let one = found (λ cap. has (caps_for true false) cap ≡ true) (has caps) (for_either ++ for_readers) (of_list (has (caps_for true false)) (for_either ++ for_readers) readers) e in
         nobody_reads i grants one.0 one.1 (none one.0 one.2)
     by_read_cap false e = by_write_cap (has_any caps for_writers) refl
-
--- ---- why
-
-here : (found : Option Rule) (rest : List Rule) → is_none found ≡ false → slice_get (cons_option found rest) 0 ≡ found
-here None rest some = absurd (true≢false some)
-here (Some rule) rest some = refl
-
-later : (found : Option Rule) (rest : List Rule) (place : ℕ) → is_none found ≡ false → slice_get (cons_option found rest) (suc place) ≡ slice_get rest place
-later None rest place some = absurd (true≢false some)
-later (Some rule) rest place some = refl
-
--- where no grant allows, the rule at a place is the one by which the grant there fails first
-pub failure_at : (q : Question) (grants : List Grant) (place : ℕ) (g : Grant) → granted q grants ≡ false → place < length grants → g ≡ get_or grants place g → slice_get (first_failures q grants) place ≡ first_failing q g
-failure_at q [] place g none within at = absurd (omega arith)
-failure_at q (h ∷ grants) zero g none within at = here (first_failing q h) (first_failures q grants) (or_parts (allows q h) (granted q grants) none).0 ∙ ap (first_failing q) (sym at)
-failure_at q (h ∷ grants) (suc place) g none within at =
-    let parts = or_parts (allows q h) (granted q grants) none in
-    later (first_failing q h) (first_failures q grants) place parts.0 ∙ failure_at q grants place g parts.1 (omega arith) at
-
--- the rules of a denial
-abbrev rules_of : Verdict → List Rule
-rules_of (Allowed grant) = []
-rules_of (Denied rules) = rules
-
-denied : (q : Question) (grants : List Grant) → granted q grants ≡ false → verdict_of q grants ≡ Denied (first_failures q grants)
-denied q grants none = by_place (position (allows q) grants) refl
-  where
-    by_place : (place : Option ℕ) → position (allows q) grants ≡ place → verdict_of q grants ≡ Denied (first_failures q grants)
-    by_place None e = sym (allowed_nowhere q grants e)
-    by_place (Some place) e = absurd (both_ways (granted q grants) none (sym (granted_somewhere q grants place e)))
-
--- nobody is allowed the access: each grant has a reason, which is found at its place in the denial of its own user
-pub reason_at : (i : Inode) (grants : List Grant) (a : Access) (place : ℕ) (g : Grant) (seen : Inode) (who : Caller) (gids : List ℕ) (rules : List Rule)
-    → ((c : Caller) → granted (asked i c a) grants ≡ false) → place < length grants → g ≡ get_or grants place g
-    → seen ≡ i → gids ≡ g.gids → who ≡ asker seen.attr g gids → Denied rules ≡ verdict_of (asked seen who a) grants → slice_get rules place ≡ reason i a g
-reason_at i grants a place g seen who gids rules nobody within at same listed is exact =
-    let asks : asked seen who a ≡ asked i (asker i.attr g g.gids) a =
-    ap (λ (w : Caller). asked seen w a) (is ∙ ap (asker seen.attr g) listed)
-    ∙ ap (λ (s : Inode). asked s (asker s.attr g g.gids) a) same in
-    let none : granted (asked seen who a) grants ≡ false = ap (λ (p : Question). granted p grants) asks ∙ nobody (asker i.attr g g.gids) in
-    ap (λ (v : Verdict). slice_get (rules_of v) place) (exact ∙ denied (asked seen who a) grants none)
-    ∙ failure_at (asked seen who a) grants place g none within at
-    ∙ ap (λ (p : Question). first_failing p g) asks
-
-pub has_reason : (i : Inode) (grants : List Grant) (a : Access) (place : ℕ) (g : Grant) → ((c : Caller) → granted (asked i c a) grants ≡ false) → place < length grants → g ≡ get_or grants place g → reason i a g ≡ None → ⊥
-has_reason i grants a place g nobody within at none =
-    let who : Caller = asker i.attr g g.gids in
-    both_ways (granted (asked i who a) grants) (nobody who) (list_any_at (allows (asked i who a)) grants place g within (ap (allows (asked i who a)) (sym at) ∙ ap is_none none))
-
--- one grant more
-pub one_more : (i : Inode) (grants : List Grant) (a : Access) (rules : List Rule) (place : ℕ) (g : Grant) (rule : Rule) → place < length grants → g ≡ get_or grants place g → rules ≡ filter_map (reason i a) (take place grants) → reason i a g ≡ Some rule → rules ++ rule ∷ [] ≡ filter_map (reason i a) (take (place + 1) grants)
-one_more i grants a rules place g rule within at before is =
-    ap (λ (rs : List Rule). rs ++ rule ∷ []) before
-    ∙ ap (λ (o : Option Rule). filter_map (reason i a) (take place grants) ++ cons_option o []) (sym is)
-    ∙ sym (filter_map-append (reason i a) (take place grants) (g ∷ []))
-    ∙ sym (ap (filter_map (reason i a)) (take_more grants place g within ∙ ap (λ (x : Grant). take place grants ++ x ∷ []) (sym at)))

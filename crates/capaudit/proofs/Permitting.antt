@@ -8,7 +8,7 @@ use Rattle.capbits.specs.Caps.{has}
 use Rattle.capbits.specs.Sets.{same_cap, has-none, has-caps_in, has-union}
 use Rattle.capgrant.specs.Permitted.{for_either, for_readers, for_writers, caps_if, caps_for}
 
-if_has : (b : Bool) (cs : List Cap) (c : Cap) → has (caps_if b cs) c ≡ (b && list_any (same_cap c) cs)
+pub if_has : (b : Bool) (cs : List Cap) (c : Cap) → has (caps_if b cs) c ≡ (b && list_any (same_cap c) cs)
 if_has true cs c = has-caps_in cs c
 if_has false cs c = has-none c
 

@@ -7,11 +7,11 @@ use Rattle.capspec.specs.declared.grant.Grant.{Grant}
 use Rattle.capgrant.specs.declared.access.Access.{Access}
 use Rattle.capgrant.specs.declared.access.Access.TheVariants.{Read, Write}
 use Rattle.capgrant.specs.declared.rule.Rule.{Rule}
-use Rattle.capgrant.specs.Failing.{first_failing}
 use Rattle.capgrant.specs.Permitted.{for_either, for_readers, for_writers}
+use Rattle.capwho.specs.Standing.{reason as reason_of}
 use Rattle.locktable.specs.Targets.{has_any}
 use Rattle.capaudit.specs.declared.findings.Finding.{Finding}
-use Rattle.capaudit.specs.Callers.{Inode, asked, asker, IsPermittedToSome}
+use Rattle.capaudit.specs.Callers.{Inode, wanted_of, IsPermittedToSome}
 
 -- the least access that would permit some of these caps; None where no access does
 abbrev pub least_access : Caps → Option Access
@@ -19,7 +19,7 @@ least_access caps = if has_any caps (for_either ++ for_readers) then Some Read e
 
 -- the first rule by which a grant denies the access to its own user, who is in all of the groups that it lists
 abbrev pub reason : Inode → Access → Grant → Option Rule
-reason i access g = first_failing (asked i (asker i.attr g g.gids) access) g
+reason i access g = reason_of (wanted_of i access) i.attr g
 
 -- the same of each grant, in their order; none where no access is missing
 abbrev pub reasons : Inode → List Grant → Option Access → List Rule

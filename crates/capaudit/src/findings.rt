@@ -1,6 +1,6 @@
 //! What a client holds and nobody behind its key is permitted.
 
-ghost use Rattle.std.specs.Prelude.{◌≡◌, ◌<◌, false, length, filter_map, get_or, slice_get, IsTrue, IfSome, MatchOption};
+ghost use Rattle.std.specs.Prelude.{◌≡◌, false, length, filter_map, IsTrue, IfSome, MatchOption};
 ghost use Rattle.locktable.specs.Targets.{has_any};
 ghost use Rattle.capbits.specs.declared.caller.Caller.{Caller};
 ghost use Rattle.capbits.specs.declared.cap.Cap.{Cap};
@@ -9,12 +9,13 @@ ghost use Rattle.capgrant.specs.Verdict.{granted};
 ghost use Rattle.capaudit.specs.Callers.{asked, IsPermittedToSome};
 ghost use Rattle.capaudit.specs.Findings.{IsBeyond, least_access, reason, reasons};
 
-use crate::callers::{asker, listed, permitted_to_some};
+use crate::callers::permitted_to_some;
 use crate::inode::Inode;
 use arrayvec::ArrayVec;
 use capbits::{Cap, CapSet};
-use capgrant::{Access, Rule, Rules, Verdict, verdict};
-use capspec::{Grant, Grants};
+use capgrant::{Access, Rules};
+use capspec::Grants;
+use capwho::Standing;
 
 /// What a client holds of an inode and no caller of it is permitted.
 pub struct Finding {
@@ -69,8 +70,8 @@ fn least_access(caps: CapSet) -> Option<Access>
     }
 }
 
-// What leave to read permits; the pin, which leave to write permits too, is missing only where both are.
-const READERS: [Cap; 8] = [
+/// What leave to read permits; the pin, which leave to write permits too, is missing only where both are.
+pub(crate) const READERS: [Cap; 8] = [
     Cap::P,
     Cap::As,
     Cap::Ls,
@@ -81,8 +82,8 @@ const READERS: [Cap; 8] = [
     Cap::Fl,
 ];
 
-// What leave to write permits.
-const WRITERS: [Cap; 6] = [Cap::Ax, Cap::Lx, Cap::Xx, Cap::Fx, Cap::Fw, Cap::Fb];
+/// What leave to write permits, beside the pin.
+pub(crate) const WRITERS: [Cap; 6] = [Cap::Ax, Cap::Lx, Cap::Xx, Cap::Fx, Cap::Fw, Cap::Fb];
 
 fn has_any(caps: CapSet, of: &[Cap]) -> bool
     ensures { result ≡ has_any caps of.now }
@@ -109,33 +110,9 @@ impl Inode<'_> {
         ensures exact { result ≡ filter_map (reason self.now access) grants.now }
         ensures one_each { length result ≡ length grants.now }
     {
-        let mut rules = ArrayVec::new();
-        for (place, grant) in grants.as_slice().iter().enumerate() {
-            if let Some(rule) = self.reason(grants, place, grant, access) {
-                rules.push(rule);
-            }
-        }
-        Rules::from(rules)
-    }
-
-    // Why the grant at this place denies it.
-    fn reason(&self, grants: &Grants, place: usize, grant: &Grant, access: Access) -> Option<Rule>
-        requires within { place < length grants.now }
-        requires at { grant.now ≡ get_or grants.now place grant.now }
-        requires denied { (caller : Caller) → granted (asked self.now caller access) grants.now ≡ false }
-        ensures { result ≡ reason self.now access grant.now }
-    {
-        let caller = asker(self.attr, grant, listed(grant));
-        match verdict(grants, self.fs, &caller, self.path, self.attr, access) {
-            Verdict::Allowed { .. } => None,
-            Verdict::Denied { rules } => rule_at(&rules, place),
+        match self.standing(grants, access) {
+            Standing::Denied { rules } => rules,
+            _ => unreachable!(),
         }
     }
-}
-
-// The rule at a place, the first at 0.
-fn rule_at(rules: &Rules, place: usize) -> Option<Rule>
-    ensures { result ≡ slice_get rules.now place }
-{
-    rules.as_slice().get(place).copied()
 }

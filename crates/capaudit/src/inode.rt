@@ -1,7 +1,11 @@
 //! An inode as the rules see it.
 
-use capgrant::Attr;
-use capspec::FsName;
+ghost use Rattle.capwho.specs.Standing.{AnswersOf};
+ghost use Rattle.capaudit.specs.Callers.{wanted_of};
+
+use capgrant::{Access, Attr};
+use capspec::{FsName, Grants};
+use capwho::{Standing, Wanted};
 use std::marker::Model;
 
 /// An inode of which a client holds something, as the rules see it.
@@ -32,4 +36,18 @@ impl<'a> Model for Inode<'a> {
     ghost Value = { Seen };
 
     ghost view = { λ i. inode i.fs.now (map (λ name. name.now) i.path.now) i.attr.now };
+}
+
+impl Inode<'_> {
+    /// What the grants of a client say to an access to it.
+    pub(crate) fn standing(&self, grants: &Grants, access: Access) -> Standing
+        ensures { AnswersOf (wanted_of self.now access) self.now.attr grants.now result }
+    {
+        let wanted = Wanted {
+            fs: self.fs,
+            path: self.path,
+            access,
+        };
+        wanted.standing(grants, &Some(*self.attr))
+    }
 }

@@ -4,4 +4,5 @@ pub mod Numbered
 pub use Rattle.capremarks.proofs.Capcompare
 pub use Rattle.capevents.proofs as Capevents
 pub use Rattle.capremarks.proofs as Capremarks
+pub use Rattle.capwho.proofs as Capwho
 pub use Rattle.capevents.proofs.Lockmachine

@@ -9,7 +9,9 @@ pub mod Quoting
 pub mod Remarks
 pub mod Comparing
 pub mod Linting
+pub mod Standing
 pub use Rattle.capremarks.specs.Capcompare
 pub use Rattle.capevents.specs as Capevents
 pub use Rattle.capremarks.specs as Capremarks
+pub use Rattle.capwho.specs as Capwho
 pub use Rattle.capevents.specs.Lockmachine

@@ -75,7 +75,8 @@ fn print_names(line: &mut Vec<u8>, names: &[&[u8]]) -> Result<(), AllocError>
     Ok(())
 }
 
-fn print_failures(line: &mut Vec<u8>, rules: &[Rule]) -> Result<(), AllocError>
+// Appends the rules by which the grants fail.
+pub(crate) fn print_failures(line: &mut Vec<u8>, rules: &[Rule]) -> Result<(), AllocError>
     ensures { OnOk result (line.new.items ≡ line.old.items ++ failures_text rules.now) }
 {
     if rules.is_empty() {

@@ -2,3 +2,5 @@ pub mod Pieces
 pub mod FirstBad
 pub mod Spelling
 pub mod TextFault
+pub mod ClientLines
+pub use Rattle.capauth.proofs as Capauth

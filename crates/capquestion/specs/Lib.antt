@@ -5,3 +5,6 @@ pub mod Question
 pub mod Remarks
 pub mod Comparing
 pub mod Linting
+pub mod Attempts
+pub mod Clients
+pub use Rattle.capauth.specs as Capauth

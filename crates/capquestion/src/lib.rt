@@ -6,6 +6,8 @@
 //! What reads a command line takes text, so bytes are spelled as text here, and spelled back.
 #![tactic(auto)]
 
+mod attempt;
+mod clients;
 mod comparing;
 mod fault;
 mod linting;
@@ -17,6 +19,9 @@ mod remarks;
 mod texts;
 mod words;
 
+pub use attempt::{Attempt, AttemptValues, AttrValues};
+pub use capauth;
+pub use clients::who;
 pub use comparing::{CompareFault, compare};
 pub use fault::QuestionFault;
 pub use linting::lint_text;

@@ -194,8 +194,8 @@ fn read_given_grants(alloc: Global, text: &[u8]) -> Result<Option<Grants>, Quest
     read_text(alloc, text).map_err(QuestionFault::Grants)
 }
 
-// The path of the inode, or None where the text names one and no memory was left for it.
-fn read_path(alloc: Global, text: &[u8]) -> Result<Option<TreePath>, QuestionFault>
+/// The path of the inode, or None where the text names one and no memory was left for it.
+pub(crate) fn read_path(alloc: Global, text: &[u8]) -> Result<Option<TreePath>, QuestionFault>
     ensures good { OnOk result ((names : List (List ℕ)) × ArePathNames text.now names) }
     ensures kept { IfOk result (λ kept. IfSome kept (ArePathNames text.now)) }
     ensures err { IfErr result (λ fault. (fault ≡ QuestionFault.BadValue Opt.Path)
@@ -208,8 +208,8 @@ fn read_path(alloc: Global, text: &[u8]) -> Result<Option<TreePath>, QuestionFau
     }
 }
 
-// The number that the value of an option writes.
-fn read_number(option: Opt, text: &[u8]) -> Result<u32, QuestionFault>
+/// The number that the value of an option writes.
+pub(crate) fn read_number(option: Opt, text: &[u8]) -> Result<u32, QuestionFault>
     ensures { MatchResult result (IsNumber text.now) (λ fault.
         (fault ≡ QuestionFault.BadValue option) × ((n : ℕ) → ¬ IsNumber text.now n)) }
 {

@@ -1,8 +1,0 @@
-use Rattle.std.proofs.Common.{◌∙◌}
-use Rattle.capaudit.proofs.Missing.{reason_at}
-use Rattle.capaudit.proofs.inode.Inode.reason.Goals as goal
-
-pub returns-in-Denied : goal.returns-in-Denied
-returns-in-Denied c =
-    c.rule_at.ensures
-    ∙ reason_at c.args.self.now c.args.grants.now c.args.access c.args.place c.args.grant.now _ _ _ c.in-Denied.rules c.requires.denied c.requires.within c.requires.at c.self.view_is c.listed.ensures.value c.asker-caller.ensures c.in-Denied.ensures.exact

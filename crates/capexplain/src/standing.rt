@@ -1,0 +1,87 @@
+//! The line that says of one client whether somebody behind its key may make an access.
+ghost use Rattle.std.specs.Prelude.{◌≡◌, ◌++◌, OnOk, map};
+ghost use Rattle.capexplain.specs.Standing.{fault_word, standing_line, standing_reason, standing_word, unread_line};
+
+use crate::explaining::{print_failures, print_path};
+use crate::quoting::print_quoted;
+use capgrant::Access;
+use capspec::{SpecFault, SpecFaultKind};
+use captext::{print, print_numbered, print_str};
+use capwho::Standing;
+use std::alloc::AllocError;
+
+/// Appends the line for a client: whether somebody behind its key may make the access to the inode with these names from the root
+/// down, and by which grant or rules. `AllocError` where no memory is left for it; some of it may stand in the text then.
+pub fn print_standing(
+    text: &mut Vec<u8>,
+    client: &[u8],
+    access: Access,
+    path: &[&[u8]],
+    standing: &Standing,
+) -> Result<(), AllocError>
+    ensures { OnOk result (text.new.items ≡ text.old.items ++ standing_line client.now access (map (λ name. name.now) path.now) standing.now) }
+{
+    let mut names = Vec::new(*text.allocator());
+    print_path(&mut names, path)?;
+    let word = word(standing);
+    print_quoted(text, client)?;
+    print(text, format_args!("{word}{access} "))?;
+    print_quoted(text, names.as_slice())?;
+    print_by(text, standing)?;
+    Ok(text.push(b'\n')?)
+}
+
+// What stands before the access.
+fn word(standing: &Standing) -> &'static str
+    ensures { result.now ≡ standing_word standing.now }
+{
+    match standing {
+        Standing::Allowed { .. } => ": allowed ",
+        Standing::Depends { .. } => ": depends on owner, group and mode: ",
+        Standing::Denied { .. } => ": denied ",
+    }
+}
+
+// Appends by which grant or rules it is so.
+fn print_by(text: &mut Vec<u8>, standing: &Standing) -> Result<(), AllocError>
+    ensures { OnOk result (text.new.items ≡ text.old.items ++ standing_reason standing.now) }
+{
+    match standing {
+        Standing::Allowed { grant } | Standing::Depends { grant } => {
+            print_numbered(text, " grant ", *grant as u64)
+        }
+        Standing::Denied { rules } => {
+            print_str(text, " ")?;
+            print_failures(text, rules.as_slice())
+        }
+    }
+}
+
+/// Appends the line for a client whose grants can't be read: what is wrong with them, and how many bytes stand before that.
+/// `AllocError` where no memory is left for it; some of it may stand in the text then.
+pub fn print_unread(text: &mut Vec<u8>, client: &[u8], fault: &SpecFault) -> Result<(), AllocError>
+    ensures { OnOk result (text.new.items ≡ text.old.items ++ unread_line client.now fault.now) }
+{
+    let (word, at) = (fault_word(fault.kind), fault.at);
+    print_quoted(text, client)?;
+    print(text, format_args!(": grants: {word} at {at}\n"))
+}
+
+fn fault_word(kind: SpecFaultKind) -> &'static str
+    ensures { result.now ≡ fault_word kind }
+{
+    match kind {
+        SpecFaultKind::Empty => "Empty",
+        SpecFaultKind::NotAllow => "NotAllow",
+        SpecFaultKind::BadFlags => "BadFlags",
+        SpecFaultKind::BadItem => "BadItem",
+        SpecFaultKind::Twice => "Twice",
+        SpecFaultKind::BadNumber => "BadNumber",
+        SpecFaultKind::OpenQuote => "OpenQuote",
+        SpecFaultKind::GidsWithoutUid => "GidsWithoutUid",
+        SpecFaultKind::LeftOut => "LeftOut",
+        SpecFaultKind::TooMany => "TooMany",
+        SpecFaultKind::BadPath => "BadPath",
+        SpecFaultKind::NoMemory => "NoMemory",
+    }
+}

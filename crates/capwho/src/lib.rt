@@ -1,0 +1,9 @@
+//! What some caller behind a client's key may do, by its grants: whether anybody may, by which grant first, and else why nobody may.
+#![tactic(auto)]
+
+mod asking;
+mod callers;
+mod standing;
+
+pub use asking::Wanted;
+pub use standing::Standing;
