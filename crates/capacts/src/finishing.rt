@@ -14,7 +14,7 @@ ghost use Rattle.capacts.specs.Known.{KeptAnew, known_in};
 use crate::known::Known;
 use crate::told::{lock_under, told_under};
 use capbits::{Cap, CapSet, Part};
-use capnotes::lockmachine::{InodeLocks, permitted_and_wanted};
+use capnotes::{InodeLocks, permitted_and_wanted};
 use capspec::FsName;
 use captable::{CapTable, Entry, EntryRow};
 use inotree::{Names, Node, Tree};

@@ -5,7 +5,7 @@ ghost use Rattle.capacts.specs.declared.stop.Stop.TheVariants as stop_kind;
 
 use crate::stop::Stop;
 use capbits::PassId;
-use capnotes::capevents::Row;
+use capnotes::Row;
 
 /// Makes room for one row more, where there may be one, and answers which number it has among those of its pass.
 pub fn make_room(rows: &mut Vec<Row>, max_rows: u32, pass: PassId) -> Result<u64, Stop>

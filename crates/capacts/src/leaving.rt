@@ -10,9 +10,7 @@ ghost use Rattle.capacts.specs.Left as words;
 
 use crate::known::Known;
 use capbits::ClientId;
-use capnotes::Messages;
-use capnotes::capevents::{Ended, Outcome};
-use capnotes::lockmachine::Locks;
+use capnotes::{Ended, Locks, Messages, Outcome};
 use capspec::Grants;
 use captable::CapTable;
 

@@ -16,5 +16,9 @@ pub mod stopped;
 pub mod sweep;
 pub mod told;
 
-pub use capnotes;
-pub use capnotes::{capevents, capview, lockmachine};
+pub use capnotes::{
+    Ask, Bytes, Change, ChangeList, Ended, EndedList, Event, InoSet, InodeLocks, Locks, Message,
+    MessageList, Messages, Move, OpenMode, Outcome, PartValues, Question, Reply, Request, Row,
+    ToldNumbers, Unknown, View, ViewChange, Wants, copy_of_messages, copy_of_outcome,
+    copy_of_reply, wants_on,
+};

@@ -7,8 +7,7 @@ ghost use Rattle.capacts.specs.Served.{is_rename};
 ghost use Rattle.capacts.specs.Reach.{AreWalked, Covers, CoversBelow, Widens};
 
 use capbits::Ino;
-use capnotes::lockmachine::{Ask, Request};
-use capnotes::{ChangeList, InoSet};
+use capnotes::{Ask, ChangeList, InoSet, Request};
 use captable::CapTable;
 use inotree::Tree;
 use std::alloc::{AllocError, Global};

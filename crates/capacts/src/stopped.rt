@@ -4,7 +4,7 @@ ghost use Rattle.capacts.specs.Judge.{stop_reply};
 
 use capbits::Refusal;
 use capgrant::{Access, Rules};
-use capnotes::capevents::Reply;
+use capnotes::Reply;
 
 /// What stops a request, whether it has just come or was waiting for a lock.
 #[derive(Drop)]

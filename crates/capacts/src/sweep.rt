@@ -5,7 +5,7 @@ ghost use Rattle.capnotes.specs.Lockmachine.Runs.{MoveLittle, ChangesLocksOf};
 ghost use Rattle.capnotes.specs.Lockmachine.Turns.{IsTurnOf, IsDue, NobodyElsewhere};
 
 use capbits::{Ino, Ticket};
-use capnotes::lockmachine::Locks;
+use capnotes::Locks;
 use capspec::FsName;
 use captable::CapTable;
 use inotree::Tree;

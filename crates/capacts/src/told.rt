@@ -4,7 +4,7 @@ ghost use Rattle.capnotes.specs.Lockmachine.Scene.{against_lock};
 ghost use Rattle.capacts.specs.Finishing as words;
 
 use capbits::{CapSet, Part};
-use capnotes::lockmachine::InodeLocks;
+use capnotes::InodeLocks;
 use captable::EntryRow;
 use locktable::{LockState, row};
 

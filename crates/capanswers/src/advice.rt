@@ -6,9 +6,8 @@ use crate::fault::AnswerFault;
 use crate::inquiry::{Form, Inquiry};
 use crate::status::{FAILED, report};
 use capkeyring::KeyringFault;
-use capquestion::capauth::AuthFault;
-use capquestion::{Opt, QuestionFault, Values};
-use capstreams::capexplain::print_quoted;
+use capquestion::{AuthFault, Opt, QuestionFault, Values};
+use capstreams::print_quoted;
 use std::alloc::{AllocError, Global};
 use std::io::Write;
 

@@ -1,10 +1,9 @@
 //! Why a command that answers a question about grants gave no answer.
 
 use capkeyring::KeyringFault;
-use capquestion::capauth::AuthFault;
-use capquestion::{CompareFault, QuestionFault};
+use capquestion::{AuthFault, CompareFault, QuestionFault};
 use capspec::SpecFault;
-use capstreams::caplines::ScriptFault;
+use capstreams::ScriptFault;
 use std::alloc::{AllocError, AllocFailed};
 use std::fmt;
 use std::fmt::Display;

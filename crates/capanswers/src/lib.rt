@@ -20,7 +20,7 @@ mod survey;
 
 pub use advice::refuse;
 pub use arguments::words;
-pub use capquestion;
+pub use capquestion::spelled;
 pub use command_line::Ask;
 pub use commands::{compare_texts, grants, inquire, look_over};
 pub use fault::AnswerFault;

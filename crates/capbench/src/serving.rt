@@ -1,7 +1,6 @@
 //! The day's work that takes a server: a script whose clients call it from threads of their own.
 
-use capcommand::capjobs::capscript::Watched;
-use capcommand::capjobs::serve;
+use capcommand::{Watched, serve};
 use capload::{Amount, Fault, history_digest, served_script};
 use std::alloc::Global;
 use std::sync::Wait;

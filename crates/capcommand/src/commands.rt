@@ -16,8 +16,7 @@ use capanswers::{
     Ask, DENIED, DONE, FAILED, FOUND, USAGE, compare_texts, grants, inquire, keyring_file,
     look_over, read_words, report, show, tell_who,
 };
-use capjobs::capscript::{Watched, run};
-use capjobs::serve;
+use capjobs::{Watched, run, serve};
 use std::alloc::Global;
 use std::fs::Files;
 use std::io::{Read, Write};

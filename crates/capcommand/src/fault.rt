@@ -1,8 +1,7 @@
 //! Why a command stopped before its end.
 
 use capanswers::AnswerFault;
-use capjobs::ServeFault;
-use capjobs::capscript::ScriptFault;
+use capjobs::{ScriptFault, ServeFault};
 
 /// Why a command stopped before its end.
 #[derive(Clone, Copy)]

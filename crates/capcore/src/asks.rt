@@ -3,7 +3,7 @@ ghost use Rattle.std.specs.Prelude.{◌≡◌, IfOk};
 ghost use Rattle.capcore.specs.Asks.{ask_of};
 
 use capbits::{Ino, Part};
-use capsteps::lockmachine::{Ask, Bytes, Change};
+use capsteps::{Ask, Bytes, Change};
 use std::alloc::{AllocError, Global};
 
 // An ask as its event holds it: what stops it is looked for first, and it is copied only where it is to wait.

@@ -10,12 +10,11 @@ ghost use Rattle.capsteps.specs.Sound.{NumbersLeft};
 use crate::judging::flush_stop;
 use crate::world::World;
 use capbits::{ClientId, Ino};
-use capsteps::capacts::serving::alter;
-use capsteps::capevents::Reply;
 use capsteps::ended::close;
-use capsteps::lockmachine::Change;
 use capsteps::said::Said;
+use capsteps::serving::alter;
 use capsteps::settle::end_at_one;
+use capsteps::{Change, Reply};
 use captable::Holder;
 use std::alloc::AllocError;
 

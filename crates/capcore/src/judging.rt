@@ -20,15 +20,14 @@ use crate::asks::Asked;
 use capbits::{Cap, CapSet, Ino, Part, Refusal};
 use capgrant::Access;
 use capspec::FsName;
-use capsteps::capacts::judge::{by_test, denial};
-use capsteps::capacts::known::Known;
-use capsteps::capacts::serving::{
+use capsteps::judge::{by_test, denial};
+use capsteps::known::Known;
+use capsteps::serving::{
     ask_denial, before_refusal, change_access, change_refusal, places_refusal, rename_denial,
 };
-use capsteps::capacts::stopped::Stopped;
-use capsteps::capevents::OpenMode;
-use capsteps::lockmachine::{Ask, Change, Locks};
+use capsteps::stopped::Stopped;
 use capsteps::touch::{Touch, revoked_of};
+use capsteps::{Ask, Change, Locks, OpenMode};
 use captable::{CapTable, Holder};
 use inotree::Tree;
 use sessiontab::Sessions;

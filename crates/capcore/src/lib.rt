@@ -18,15 +18,13 @@ mod turning;
 mod world;
 
 pub use capbits::Refusal;
-pub use capsteps;
-pub use capsteps::capacts::stop::Stop;
-pub use capsteps::capacts::stopped::Stopped;
-pub use capsteps::capevents::{
-    Ended, EndedList, Event, Message, MessageList, OpenMode, Outcome, PartValues, Reply, Row,
-};
-pub use capsteps::capview::ViewChange;
 pub use capsteps::serving_laws::{a_serving_changes_what_it_moves, a_serving_keeps_what_is_known};
-pub use capsteps::{capacts, capevents, capview, lockmachine};
+pub use capsteps::stop::Stop;
+pub use capsteps::stopped::Stopped;
+pub use capsteps::{
+    Ask, Change, Ended, EndedList, Event, Locks, Message, MessageList, Move, OpenMode, Outcome,
+    PartValues, Question, Reply, Row, Unknown, View, ViewChange, Wants, wants_on,
+};
 pub use giving::{a_recall_leaves_all_but_the_marks, telling_leaves_all_but_what_was_told};
 pub use laws::{
     a_row_fixes_its_step, a_settling_serves_at_most_who_waits,

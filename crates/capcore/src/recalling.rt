@@ -6,9 +6,8 @@ ghost use Rattle.capsteps.specs.Noted.{view_of};
 ghost use Rattle.capsteps.specs.Capview.Changes.{AreChanges};
 
 use crate::world::World;
-use capsteps::capevents::{EndedList, Reply};
-use capsteps::capnotes::ChangeList;
 use capsteps::said::Said;
+use capsteps::{ChangeList, EndedList, Reply};
 use std::alloc::AllocError;
 
 impl World {

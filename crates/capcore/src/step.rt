@@ -10,12 +10,10 @@ ghost use Rattle.capsteps.specs.Capacts.declared.stop.Stop.TheVariants as stop_k
 use crate::world::World;
 use capbits::{ClientId, Ino, Part, PassId};
 use capspec::FsName;
-use capsteps::capacts::history::{add_row, make_room};
-use capsteps::capacts::stop::Stop;
-use capsteps::capevents::{Event, Reply, Row};
-use capsteps::capnotes::ChangeList;
-use capsteps::capview::ViewChange;
+use capsteps::history::{add_row, make_room};
 use capsteps::said::Said;
+use capsteps::stop::Stop;
+use capsteps::{ChangeList, Event, Reply, Row, ViewChange};
 use captable::Entry;
 use inotree::Tree;
 use locktable::LockState;

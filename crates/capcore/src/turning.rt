@@ -8,10 +8,10 @@ ghost use Rattle.capsteps.specs.Turn.{turn_event};
 
 use crate::world::World;
 use capbits::ClientId;
-use capsteps::capacts::leaving::{Turn, leave};
-use capsteps::capevents::Reply;
+use capsteps::Reply;
 use capsteps::client::{Room, turn_refusal, turn_session};
 use capsteps::ended::close_dropped;
+use capsteps::leaving::{Turn, leave};
 use capsteps::said::Said;
 use capsteps::settle::end_at;
 use inotree::ROOT;

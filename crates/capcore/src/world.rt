@@ -28,20 +28,19 @@ use crate::judging::{access_stop, asked_refusal, touch_stop};
 use capbits::{Caller, ClientId, Ino, Mode, Part, Refusal};
 use capgrant::{Access, Attr};
 use capspec::{FsName, Grants};
-use capsteps::capacts::judge::denial;
-use capsteps::capacts::known::Known;
-use capsteps::capacts::leaving::Turn;
-use capsteps::capevents::{EndedList, Event, Reply, copy_of_messages};
-use capsteps::capnotes::{ChangeList, Messages, ToldNumbers};
-use capsteps::capview::ViewChange;
 use capsteps::ended::close;
 use capsteps::endings::Endings;
-use capsteps::lockmachine::Locks;
+use capsteps::judge::denial;
+use capsteps::known::Known;
+use capsteps::leaving::Turn;
 use capsteps::poll::{due_messages, give};
 use capsteps::said::Said;
 use capsteps::settle::end_at_entry;
 use capsteps::start::first_locks;
 use capsteps::touch::{Touch, revoked_of, tell, touch_entry};
+use capsteps::{
+    ChangeList, EndedList, Event, Locks, Messages, Reply, ToldNumbers, ViewChange, copy_of_messages,
+};
 use captable::{CapTable, Holder};
 use inotree::{Kind, Tree};
 use sessiontab::Sessions;

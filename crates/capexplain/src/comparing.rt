@@ -8,7 +8,7 @@ use crate::part_text::print_mode;
 use crate::quoting::print_quoted;
 use capbits::Caller;
 use capgrant::Attr;
-use capremarks::capcompare::Witness;
+use capremarks::Witness;
 use captext::{print, print_str};
 use std::alloc::{AllocError, Global};
 

@@ -3,7 +3,7 @@ ghost use Rattle.std.specs.Prelude.{◌≡◌, ◌++◌, IfOk, OnOk};
 ghost use Rattle.capexplain.specs.Linting.{finding_lines, lint_lines, said_if};
 
 use crate::comparing::print_found;
-use capremarks::capcompare::Finding;
+use capremarks::Finding;
 use captext::{print_numbered, print_str};
 use std::alloc::{AllocError, Global};
 

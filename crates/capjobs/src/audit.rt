@@ -2,8 +2,8 @@
 ghost use Rattle.std.specs.Prelude.{◌≡◌, ◌++◌, IfOk, OnOk};
 ghost use Rattle.capjobs.specs.Served.{audit_lines, row_line};
 
-use capscript::capexplain::append_audit_line;
-use capserver::capevents::Row;
+use capscript::append_audit_line;
+use capserver::Row;
 use std::alloc::{AllocError, Global};
 
 // The line of each row, in order.

@@ -5,8 +5,7 @@ ghost use Rattle.capserver.specs.Cappass.Passes.{AllNew};
 ghost use Rattle.capplan.specs.Jobs.{work_of, event_count};
 
 use capplan::{Job, Plan};
-use capserver::capevents::Event;
-use capserver::{CapServer, Gate, Pass, Server};
+use capserver::{CapServer, Event, Gate, Pass, Server};
 use std::alloc::{AllocError, Global};
 use std::sync::Wait;
 use std::thread::{Promise, PromisedHandle, Scope, Threads, scope, scope_env};

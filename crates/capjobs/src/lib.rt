@@ -5,10 +5,9 @@ mod audit;
 mod calling;
 mod serving;
 
-pub use capplan;
 pub use capplan::{Job, MAX_CLIENTS, Plan, ServeFault, read_plan};
-pub use capscript;
-pub use capscript::{capexplain, caplines, capstreams};
-pub use capserver;
-pub use capserver::capcore;
+pub use capscript::{MAX_SCRIPT, ScriptFault, Watched, file_system, read_line, run};
+pub use capserver::{
+    Answer, CapServer, Gate, Opening, Pass, Question, Reply, Row, Server, StartFault, Stop, Unknown,
+};
 pub use serving::{serve, serve_plan};

@@ -10,8 +10,7 @@ ghost use Rattle.caplines.specs.Words as lines;
 use crate::fault::{LineFault, Refused};
 use crate::hex::read_bytes;
 use crate::values::{read_long_number, read_number, read_permissions};
-use capexplain::ChangeWord;
-use capexplain::lockmachine::{Bytes, Change};
+use capexplain::{Bytes, Change, ChangeWord};
 use inotree::Setting;
 use std::alloc::Global;
 

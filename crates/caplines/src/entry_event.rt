@@ -12,7 +12,7 @@ use crate::values::{
     read_cap_set, read_client, read_ino, read_long_number, read_number, read_open_mode,
 };
 use capbits::{CapSet, ClientId, Ino};
-use capexplain::capevents::Event;
+use capexplain::Event;
 
 // Capabilities on an inode, and whose they are.
 #[derive(Clone, Copy)]

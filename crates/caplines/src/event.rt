@@ -19,9 +19,7 @@ use crate::session_event::{read_only_client, read_recall};
 use crate::values::{read_client, read_groups, read_ino, read_number, read_permissions};
 use crate::words::{split_at_space, split_words};
 use capbits::{Caller, ClientId, Ino, Mode};
-use capexplain::Command;
-use capexplain::capevents::Event;
-use capexplain::lockmachine::Bytes;
+use capexplain::{Bytes, Command, Event};
 use capspec::{Grants, read_grants};
 use std::alloc::Global;
 

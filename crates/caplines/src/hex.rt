@@ -8,7 +8,7 @@ ghost use Rattle.caplines.specs.Faults.{IsRefused};
 ghost use Rattle.caplines.specs.Values.{hex_bytes, is_hex, is_hex_digit};
 
 use crate::fault::{LineFault, Refused};
-use capexplain::lockmachine::Bytes;
+use capexplain::Bytes;
 use std::alloc::{AllocError, Global};
 
 // The bytes that the word writes, whatever is said of them: two digits for each, or `-` for none.

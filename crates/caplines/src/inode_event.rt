@@ -11,8 +11,7 @@ use crate::change::{is_counted, read_change};
 use crate::fault::{LineFault, Refused};
 use crate::values::{read_client, read_ino, read_part};
 use capbits::{ClientId, Ino};
-use capexplain::capevents::Event;
-use capexplain::lockmachine::{Bytes, Change};
+use capexplain::{Bytes, Change, Event};
 use std::alloc::Global;
 
 // An inode, and who asks.

@@ -10,7 +10,7 @@ ghost use Rattle.caplines.specs.Lines.{is_skipped, lines};
 use crate::event::read_event;
 use crate::fault::{Refused, ScriptFault};
 use capbits::ClientId;
-use capexplain::capevents::Event;
+use capexplain::Event;
 use std::alloc::Global;
 
 /// How many bytes a line may have, without its line feed. A line that is skipped may have more.

@@ -8,7 +8,7 @@ ghost use Rattle.caplines.specs.Faults.{IsRefused};
 use crate::fault::{LineFault, Refused};
 use crate::values::{read_client, read_number};
 use capbits::ClientId;
-use capexplain::capevents::Event;
+use capexplain::Event;
 
 // How many entries are asked for.
 pub(crate) fn read_recall(arguments: &[&[u8]]) -> Result<Event, Refused>

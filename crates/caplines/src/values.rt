@@ -7,7 +7,7 @@ use crate::fault::LineFault;
 use capbits::{
     CapSet, ClientId, Groups, Ino, Mode, Part, read_caps, read_mode, read_u32, read_u64,
 };
-use capexplain::capevents::OpenMode;
+use capexplain::OpenMode;
 
 // The decimal number of 32 bits.
 pub(crate) fn read_number(word: &[u8]) -> Result<u32, LineFault>

@@ -2,7 +2,7 @@
 //! since each move is looked at for all that stands below.
 
 use crate::talk::Talk;
-use capscript::capcore::Core;
+use capscript::Core;
 
 /// How many clients have files open.
 const CLIENTS: u64 = 20;

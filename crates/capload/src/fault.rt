@@ -1,8 +1,7 @@
 //! Why there is no digest.
 
 use capquestion::QuestionFault;
-use capscript::ScriptFault;
-use capscript::capcore::Stop;
+use capscript::{ScriptFault, Stop};
 use std::alloc::{AllocError, AllocFailed};
 
 /// Why a piece of work gave no digest.

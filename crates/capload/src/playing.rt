@@ -5,8 +5,7 @@ use crate::fault::Fault;
 use crate::shared_files::share;
 use crate::talk::Talk;
 use crate::tenants::serve_tenants;
-use capscript::capcore::Core;
-use capscript::file_system;
+use capscript::{Core, file_system};
 use std::alloc::Global;
 
 /// What the clients do.

@@ -3,7 +3,7 @@
 
 use crate::fault::Fault;
 use crate::talk::Talk;
-use capscript::capcore::Core;
+use capscript::Core;
 
 /// How many clients there are.
 const CLIENTS: u64 = 40;

@@ -2,9 +2,7 @@
 
 use crate::fault::Fault;
 use capbits::PassId;
-use capscript::capcore::{Core, Event, Message, Reply};
-use capscript::capexplain::reply_lines;
-use capscript::read_line;
+use capscript::{Core, Event, Message, Reply, read_line, reply_lines};
 use rand_core::Rng;
 use rand_pcg::Pcg32;
 use std::alloc::{AllocError, Global};

@@ -2,7 +2,7 @@
 //! is not its own.
 
 use crate::talk::{Heard, Talk};
-use capscript::capcore::Core;
+use capscript::Core;
 
 /// How many tenants there are.
 const TENANTS: u64 = 48;

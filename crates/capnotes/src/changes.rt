@@ -10,8 +10,7 @@ ghost use Rattle.capnotes.specs.Changing.{tree_changed, tree_after};
 ghost use Rattle.capnotes.specs.Noted.{LeadOn, sets_attr};
 
 use capbits::Ino;
-use capevents::Outcome;
-use capevents::lockmachine::{Ask, Change, Request};
+use capevents::{Ask, Change, Outcome, Request};
 use capview::ViewChange;
 use inotree::{Kind, Node, Setting, Site, Tree};
 use std::alloc::{AllocError, Global};

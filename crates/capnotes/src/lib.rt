@@ -8,9 +8,12 @@ mod ino_set;
 mod messages;
 mod told_numbers;
 
-pub use capevents;
-pub use capevents::lockmachine;
-pub use capview;
+pub use capevents::{
+    Ask, Bytes, Change, Ended, EndedList, Event, InodeLocks, Locks, Message, MessageList, Move,
+    OpenMode, Outcome, PartValues, Reply, Request, Row, Wants, copy_of_messages, copy_of_outcome,
+    copy_of_reply, copy_of_rules, permitted_and_wanted, wants_on,
+};
+pub use capview::{Question, Unknown, View, ViewChange};
 pub use changes::ChangeList;
 pub use ino_set::InoSet;
 pub use messages::Messages;

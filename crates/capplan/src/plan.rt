@@ -7,7 +7,7 @@ ghost use Rattle.capplan.specs.declared.fault.ServeFault.TheVariants as faults;
 ghost use Rattle.capplan.specs.Jobs.{work_of, no_work, calls_of, calls_by, with_event, is_known, first_word, Takes, TakesEvent, TakesAll, IsFaultBy, IsFaultAt, StopsAt};
 
 use crate::fault::ServeFault;
-use capacts::capevents::Event;
+use capacts::Event;
 use capbits::ClientId;
 use caplines::{LineFault, read_line, split_at_space, split_line};
 use std::alloc::{AllocError, Global};

@@ -7,8 +7,7 @@ ghost use Rattle.capquestion.specs.Clients.{AnswersWho, AreLines, Says};
 use crate::attempt::Attempt;
 use crate::texts::read_text;
 use capauth::{AuthFault, Entity, read_auth};
-use capexplain::capwho::{Standing, Wanted};
-use capexplain::{print_standing, print_unread};
+use capexplain::{Standing, Wanted, print_standing, print_unread};
 use capgrant::Attr;
 use std::alloc::{AllocError, Global};
 

@@ -3,8 +3,7 @@ ghost use Rattle.std.specs.Prelude.{IfOk, IfErr};
 ghost use Rattle.capquestion.specs.Comparing.{Compares, IsComparison, IsFaultOfTexts};
 
 use crate::texts::read_text;
-use capexplain::capcompare::{gained, lost};
-use capexplain::comparison_lines;
+use capexplain::{comparison_lines, gained, lost};
 use capspec::{Grants, SpecFault};
 use std::alloc::{AllocError, Global};
 use std::fmt;

@@ -20,7 +20,7 @@ mod texts;
 mod words;
 
 pub use attempt::{Attempt, AttemptValues, AttrValues};
-pub use capauth;
+pub use capauth::AuthFault;
 pub use clients::who;
 pub use comparing::{CompareFault, compare};
 pub use fault::QuestionFault;

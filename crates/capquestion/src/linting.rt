@@ -4,8 +4,7 @@ ghost use Rattle.capquestion.specs.Fault.{IsFaultOfText};
 ghost use Rattle.capquestion.specs.Linting.{IsLintOf};
 
 use crate::fault::QuestionFault;
-use capexplain::capcompare::lint;
-use capexplain::lint_lines;
+use capexplain::{lint, lint_lines};
 use capspec::read_grants;
 use std::alloc::Global;
 

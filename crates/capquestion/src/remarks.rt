@@ -1,8 +1,7 @@
 //! What is said beside the answer to a question.
 
 use crate::question::Question;
-use capexplain::capremarks::{answered_otherwise, left_to_client};
-use capexplain::remarked_lines;
+use capexplain::{answered_otherwise, left_to_client, remarked_lines};
 use std::alloc::{AllocError, Global};
 
 impl Question {

@@ -3,10 +3,12 @@
 
 mod running;
 
-pub use capcore;
-pub use capstreams;
-pub use capstreams::caplines::{
-    LineFault, MAX_LINE, ScriptFault, read_line, split_at_space, split_line,
+pub use capcore::{
+    Ask, Core, Event, Locks, Message, MessageList, Move, Outcome, Question, Reply, Row, Stop,
+    Unknown, View, ViewChange, Wants, wants_on,
 };
-pub use capstreams::{MAX_SCRIPT, Watched, capexplain, caplines, read_script, write_text};
+pub use capstreams::{
+    LineFault, MAX_LINE, MAX_SCRIPT, ScriptFault, Watched, append_audit_line, audit_line,
+    explain_line, read_line, read_script, reply_lines, split_at_space, split_line, write_text,
+};
 pub use running::{file_system, run};

@@ -12,9 +12,9 @@ use capbits::{Mode, PassId};
 use capcore::{Core, Event, Stop};
 use capgrant::Attr;
 use capspec::FsName;
-use capstreams::capexplain::reply_lines;
-use capstreams::caplines::{ScriptFault, read_line, split_line};
-use capstreams::{Watched, read_script, write_text};
+use capstreams::{
+    ScriptFault, Watched, read_line, read_script, reply_lines, split_line, write_text,
+};
 use inotree::Tree;
 use std::alloc::{AllocError, Global};
 use std::io::{Read, Write};

@@ -7,9 +7,7 @@ mod locked;
 mod opening;
 mod server;
 
-pub use capcore;
-pub use capcore::capview::{Question, Unknown};
-pub use capcore::{capacts, capevents, capsteps, capview, lockmachine};
+pub use capcore::{Change, Core, Event, Question, Reply, Row, Stop, Unknown};
 pub use gate::{Gate, NoGate};
 pub use locked::Locked;
 pub use onecall::{Answer, MAX_PASSES, Pass, Server, StartFault};

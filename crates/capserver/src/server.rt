@@ -14,8 +14,7 @@ ghost use Rattle.onecall.specs.Cappass.Passes.{AllNew, AllBegin, IsStartFault, p
 use crate::gate::Gate;
 use crate::locked::Locked;
 use crate::opening::{Opening, Parts};
-use capcore::capview::{Question, Unknown};
-use capcore::{Core, Event, Stop};
+use capcore::{Core, Event, Question, Stop, Unknown};
 use capgrant::Verdict;
 use capspec::FsName;
 use onecall::{

@@ -12,10 +12,8 @@ ghost use Rattle.capacts.specs.Reach.{is_touched, Widens};
 ghost use Rattle.capsteps.specs.Turn.{Notes, ReachesClient, turn_tests, turned_sessions};
 
 use crate::endings::Endings;
-use capacts::capnotes::{ChangeList, InoSet, Messages};
-use capacts::capview::ViewChange;
 use capacts::leaving::Turn;
-use capacts::lockmachine::Locks;
+use capacts::{ChangeList, InoSet, Locks, Messages, ViewChange};
 use capbits::{ClientId, Ino, Refusal};
 use capspec::Grants;
 use captable::CapTable;

@@ -8,8 +8,7 @@ ghost use Rattle.capacts.specs.Capevents.declared.reply.Reply.TheVariants as rep
 
 use crate::endings::Endings;
 use crate::said::Said;
-use capacts::capevents::{Ended, Reply, copy_of_reply};
-use capacts::capnotes::Messages;
+use capacts::{Ended, Messages, Reply, copy_of_reply};
 use capbits::Ticket;
 
 /// A reply, which has no list, and the requests that the step ended: their clients are to be told of them, and the history keeps

@@ -2,9 +2,8 @@
 ghost use Rattle.std.specs.Prelude.{◌≡◌, ◌+◌, ◌≤◌, ◌<◌, ◌++◌, [], ◌∷◌, length, OnOk, vec_capacity};
 ghost use Rattle.std.specs.List.{filter_map};
 
-use capacts::capevents::Ended;
-use capacts::capnotes::{ChangeList, Messages};
 use capacts::serving::Served;
+use capacts::{ChangeList, Ended, Messages};
 use capbits::{ClientId, Ino, Ticket};
 use std::alloc::{AllocError, Global};
 use std::fmt;

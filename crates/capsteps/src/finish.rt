@@ -21,13 +21,10 @@ ghost use Rattle.capsteps.specs.Serves.{EndsAt};
 ghost use Rattle.capacts.specs.Capnotes.Noted.{LeadOn};
 
 use arrayvec::ArrayVec;
-use capacts::capevents::Reply;
-use capacts::capnotes::{ChangeList, InoSet};
-use capacts::capview::ViewChange;
 use capacts::finishing::finish_row;
 use capacts::known::Known;
-use capacts::lockmachine::{InodeLocks, Locks};
 use capacts::reach::is_held;
+use capacts::{ChangeList, InoSet, InodeLocks, Locks, Reply, ViewChange};
 use capbits::{ClientId, Ino};
 use capspec::FsName;
 use captable::{CapTable, EntryRow, Holder};

@@ -15,5 +15,9 @@ pub mod sizes;
 pub mod start;
 pub mod touch;
 
-pub use capacts;
-pub use capacts::{capevents, capnotes, capview, lockmachine};
+pub use capacts::{
+    Ask, Bytes, Change, ChangeList, Ended, EndedList, Event, InoSet, Locks, Message, MessageList,
+    Messages, Move, OpenMode, Outcome, PartValues, Question, Reply, Row, ToldNumbers, Unknown,
+    View, ViewChange, Wants, copy_of_messages, history, judge, known, leaving, serving, stop,
+    stopped, wants_on,
+};

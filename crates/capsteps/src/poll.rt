@@ -7,8 +7,8 @@ ghost use Rattle.capacts.specs.Known.{AreKnown, known_in};
 ghost use Rattle.capsteps.specs.Messages.{after_messages, caps_messages, end_messages, first_messages, row_messages, size_messages};
 ghost use Rattle.capsteps.specs.State.{State};
 
-use capacts::capevents::{Ended, Message, MessageList, copy_of_outcome};
 use capacts::known::Known;
+use capacts::{Ended, Message, MessageList, copy_of_outcome};
 use capbits::ClientId;
 use captable::{CapTable, EntryRow};
 use inotree::Tree;

@@ -2,8 +2,7 @@
 ghost use Rattle.std.specs.Prelude.{◌≡◌, false, []};
 ghost use Rattle.capacts.specs.Capevents.Replies.{has_list};
 
-use capacts::capevents::{EndedList, Reply, copy_of_reply};
-use capacts::capnotes::ChangeList;
+use capacts::{ChangeList, EndedList, Reply, copy_of_reply};
 use std::alloc::Global;
 
 /// What a step says: its reply, the same once more for the history, the requests of earlier steps that it ended, and what it

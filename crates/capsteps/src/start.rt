@@ -6,7 +6,7 @@ ghost use Rattle.inotree.specs.Tree.{IsTree};
 ghost use Rattle.capacts.specs.Lockmachine.Inodes.{in_sync};
 ghost use Rattle.capacts.specs.Lockmachine.Locks.{with_ino};
 
-use capacts::lockmachine::Locks;
+use capacts::Locks;
 use capbits::Ino;
 use inotree::Tree;
 use std::alloc::{AllocError, Global};

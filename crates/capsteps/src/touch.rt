@@ -13,8 +13,8 @@ ghost use Rattle.capsteps.specs.Direct as effects;
 ghost use Rattle.capsteps.specs.Touch as words;
 
 use crate::finish::show;
-use capacts::capevents::{OpenMode, Reply};
 use capacts::known::Known;
+use capacts::{OpenMode, Reply};
 use capbits::{Cap, CapSet};
 use captable::{CapTable, Holder};
 use std::alloc::AllocError;

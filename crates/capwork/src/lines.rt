@@ -1,9 +1,8 @@
 //! Lines of a script and what is answered to them, where memory may be refused.
 
 use crate::fault::Fault;
-use capscript::capexplain::reply_lines;
-use capscript::{ScriptFault, read_line};
-use capserver::capcore::{Event, Reply, Stop};
+use capscript::{ScriptFault, read_line, reply_lines};
+use capserver::{Event, Reply, Stop};
 use std::alloc::Global;
 use std::io::Write;
 

@@ -6,7 +6,7 @@ use crate::fault::Fault;
 use crate::lines::{Heard, TRIES, event_of, tell, tell_stop};
 use capbits::PassId;
 use capscript::file_system;
-use capserver::capcore::Core;
+use capserver::Core;
 use std::alloc::Global;
 use std::io::Write;
 

@@ -4,7 +4,7 @@ ghost use mathlib.Core.List.{IsPrefix};
 ghost use Rattle.rowbook.specs.Rows.{Legal};
 
 use crate::ledger::Server;
-use capsteps::capevents::Row;
+use capsteps::Row;
 use logbook::{Gain, Plain, Play, Rule, Seen, Word};
 use std::marker::{Model, PhantomData};
 

@@ -6,7 +6,6 @@ mod ledger;
 mod recorder;
 
 pub use beginning::{Beginning, Counted, Head, Rows};
-pub use capsteps::capevents::Row;
-pub use capsteps::capview::{Question, Unknown, View, ViewChange};
+pub use capsteps::{Question, Row, Unknown, View, ViewChange};
 pub use ledger::{MAX_PASSES, Server};
 pub use recorder::{NewRows, Recorder, gather};

@@ -6,7 +6,7 @@ ghost use Rattle.rowbook.specs.Rows.{Legal, head_of, next_of};
 
 use crate::beginning::{Add, Beginning, Counted, Head, Law, Look, Make, Nothing, Rows};
 use crate::ledger::Server;
-use capsteps::capevents::Row;
+use capsteps::Row;
 use logbook::{Offer, Pen, Seen, Start, Word};
 use std::alloc::AllocError;
 use std::marker::Model;

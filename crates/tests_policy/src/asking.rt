@@ -7,9 +7,7 @@ use crate::texts::text_of;
 use crate::viewing::changes_text;
 use crate::{gathers, histories, moved_entries, recalls, sessions_end, viewing, waits};
 use capbits::PassId;
-use capscript::capcore::{Core, Event, Reply, Stop};
-use capscript::capexplain::reply_lines;
-use capscript::{file_system, read_line};
+use capscript::{Core, Event, Reply, Stop, file_system, read_line, reply_lines};
 use std::alloc::{AllocError, Global};
 use std::process::Abort;
 

@@ -2,10 +2,9 @@
 
 use crate::asserting::{made, same};
 use arrayvec::ArrayVec;
-use capanswers::capquestion::spelled;
-use capanswers::{AnswerFault, report};
+use capanswers::{AnswerFault, report, spelled};
 use capgrant::{Access, Rules, Verdict};
-use capscript::capexplain::explain_line;
+use capscript::explain_line;
 use std::alloc::{AllocError, Global};
 
 /// A text, and the bytes that it spells: a character above 255 stands for its bytes in UTF-8.

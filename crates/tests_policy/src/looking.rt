@@ -2,8 +2,7 @@
 
 use crate::asserting::made;
 use crate::texts::text_of;
-use capscript::capcore::{Core, Row};
-use capscript::capexplain::audit_line;
+use capscript::{Core, Row, audit_line};
 use std::alloc::Global;
 use std::process::Abort;
 

@@ -2,8 +2,7 @@
 
 use crate::asserting::{made, same};
 use capbits::Ticket;
-use capscript::capcore::{Message, MessageList, Outcome, Reply, Stop};
-use capscript::capexplain::reply_lines;
+use capscript::{Message, MessageList, Outcome, Reply, Stop, reply_lines};
 use std::alloc::Global;
 use std::process::Abort;
 

@@ -3,7 +3,7 @@
 use crate::asserting::made;
 use crate::texts::text_of;
 use capbits::{ClientId, Ino, Part, write_caps};
-use capscript::capcore::Core;
+use capscript::Core;
 use captable::Entry;
 use locktable::{LockState, State};
 use std::alloc::Global;

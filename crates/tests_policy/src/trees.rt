@@ -4,7 +4,7 @@ use crate::asking::{Ask, ask, core_of};
 use crate::asserting::{made, present, same};
 use crate::texts::line_of;
 use capbits::Ino;
-use capscript::capcore::Core;
+use capscript::Core;
 use inotree::{Place, Tree};
 use std::alloc::Global;
 use std::process::Abort;

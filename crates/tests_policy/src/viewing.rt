@@ -5,7 +5,7 @@ use crate::asking::{Case, Step};
 use crate::asserting::made;
 use crate::texts::text_of;
 use capgrant::Attr;
-use capscript::capcore::{Core, ViewChange};
+use capscript::{Core, ViewChange};
 use capspec::write_grants;
 use std::alloc::Global;
 use std::process::Abort;

@@ -5,7 +5,7 @@ use crate::asserting::{made, present, same};
 use crate::texts::{Owner, attr_of, caller_of, cephfs, grants_of};
 use capbits::{ClientId, Ino};
 use capgrant::{Access, Verdict};
-use capscript::capcore::capview::{Question, Unknown, View, ViewChange};
+use capscript::{Question, Unknown, View, ViewChange};
 use inotree::Name;
 use std::process::Abort;
 

@@ -3,9 +3,7 @@
 use crate::asserting::{present, same};
 use capbits::{ClientId, Ino};
 use capgrant::{Access, Verdict};
-use capjobs::capcore::{Reply, Stop};
-use capjobs::capscript::read_line;
-use capjobs::capserver::{Answer, CapServer, Gate, Pass, Question, Server, Unknown};
+use capjobs::{Answer, CapServer, Gate, Pass, Question, Reply, Server, Stop, Unknown, read_line};
 use std::alloc::Global;
 use std::process::Abort;
 use std::sync::Wait;

@@ -2,9 +2,7 @@
 
 use crate::asserting::{holds, made, present, same};
 use crate::rows::{Numbers, count_numbered, numbers};
-use capjobs::capscript::MAX_SCRIPT;
-use capjobs::capserver::Gate;
-use capjobs::{read_plan, serve_plan};
+use capjobs::{Gate, MAX_SCRIPT, read_plan, serve_plan};
 use std::alloc::{AllocError, Global};
 use std::process::Abort;
 use std::sync::atomic::{AtomicU64, Ordering};

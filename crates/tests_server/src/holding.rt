@@ -3,7 +3,7 @@
 
 use crate::asserting::{present, same};
 use crate::calls::{ask_read, call_line};
-use capjobs::capserver::{CapServer, Gate, Pass, Server};
+use capjobs::{CapServer, Gate, Pass, Server};
 use std::alloc::{AllocError, Global};
 use std::process::Abort;
 use std::sync::atomic::{AtomicU64, Ordering};

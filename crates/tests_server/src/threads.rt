@@ -2,7 +2,7 @@
 
 use crate::asserting::present;
 use crate::calls::call_line;
-use capjobs::capserver::{CapServer, Gate, Pass, Server};
+use capjobs::{CapServer, Gate, Pass, Server};
 use std::alloc::Global;
 use std::process::Abort;
 use std::sync::Wait;
