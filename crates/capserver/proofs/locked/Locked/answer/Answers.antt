@@ -11,3 +11,6 @@ returns-clause-fresh g c there =
 -- what is published changes nothing of the core
 pub returns-clause-promised : goal.returns-clause-promised
 returns-clause-promised g c = rw c.publish-rows.ensures.same (rw c.of.ensures.reply c.in_ok-reply.ensures.promised)
+
+pub returns-clause-legal : goal.returns-clause-legal
+returns-clause-legal g c = c.of.ensures.legal c.look.ensures.legal
