@@ -38,7 +38,7 @@ use Rattle.capsteps.specs.Step.{Step, state_after}
 use Rattle.capsteps.proofs.Stopping.{stopped-only}
 use Rattle.capsteps.specs.Capacts.Finish.{due}
 use Rattle.capsteps.specs.Sound.{IsSoundEntry, IsSound}
-use Rattle.capsteps.proofs.Leaving.{found-contains}
+use Rattle.capsteps.proofs.LeftAlone.{found-contains}
 use Rattle.capsteps.specs.Headline.{DeniedExactly, DeniesByName, IssuesExactly, is_stop}
 
 -- ---- an event that nothing stops

@@ -33,7 +33,7 @@ use Rattle.capsteps.specs.Capevents.declared.row.Row.{Row}
 use Rattle.capsteps.specs.State.{State}
 use Rattle.capsteps.specs.Shown.{AreShown, ShowsWhatIsTold, ShowsOnlyPermitted, TakesUnshown, shown_of}
 use Rattle.capsteps.specs.Sound.{IsSound, IsSoundEntry}
-use Rattle.capsteps.proofs.Leaving.{found-contains}
+use Rattle.capsteps.proofs.LeftAlone.{found-contains}
 use Rattle.capsteps.proofs.Placed.{told-permitted}
 use Rattle.capsteps.proofs.Revoking.{revoked-found}
 use Rattle.capsteps.proofs.ShownSteps.{at, entry_found}

@@ -18,7 +18,7 @@ use Rattle.capsteps.proofs.Lockmachine.Rest.{at_rest}
 use Rattle.capsteps.specs.State.{State}
 use Rattle.capsteps.specs.History.{HasNoStray, IsOpening}
 use Rattle.capsteps.specs.Sound.{IsSoundEntry, IsSound, AreGiven}
-use Rattle.capsteps.proofs.Leaving.{some_same}
+use Rattle.capsteps.proofs.LeftAlone.{some_same}
 
 -- ---- numbers
 

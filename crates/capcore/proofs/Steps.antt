@@ -27,7 +27,7 @@ use Rattle.capsteps.specs.Step.{Step, state_after}
 use Rattle.capsteps.specs.Touching.{touched_by, turned_by, is_listing}
 use Rattle.capsteps.proofs.Finishing.{none-sized, sound-settles}
 use Rattle.capsteps.proofs.Judging.{no_test}
-use Rattle.capsteps.proofs.Leaving.{kept-sound, kept-finished}
+use Rattle.capsteps.proofs.LeftAlone.{kept-sound, kept-finished}
 use Rattle.capcore.proofs.Promised.{issues-exactly}
 use Rattle.capcore.proofs.Sounding.{later-given}
 use Rattle.capcore.proofs.Untouched.{nothing-leaves, session-leaves, unblocked-leaves, changed-leaves, birth-leaves}

@@ -9,7 +9,7 @@ use Rattle.capsteps.specs.Lockmachine.Inodes.{StateMap, in_sync}
 use Rattle.capsteps.specs.Lockmachine.Locks.{LockMap, with_ino, without_ino}
 use Rattle.capsteps.specs.State.{State}
 use Rattle.capsteps.specs.Sound.{IsSound}
-use Rattle.capsteps.proofs.Leaving.{no_locks}
+use Rattle.capsteps.proofs.LeftAlone.{no_locks}
 
 pub added-dropped : (locks : LockMap) (ino : ℕ) → map.get locks.states ino ≡ None → without_ino (with_ino locks ino) ino ≡ locks
 added-dropped locks ino none = ap (λ (states : StateMap). record locks { states = states }) (put_back nat_cmp_total map.nat_cmp-IsAntisymmetric locks.states ino in_sync none)

@@ -38,7 +38,7 @@ use Rattle.capsteps.specs.State.{State}
 use Rattle.capsteps.specs.Direct.{with_scene, with_tree, with_birth}
 use Rattle.capsteps.specs.Sound.{IsSoundEntry, IsSound}
 use Rattle.capsteps.specs.Leaving.{LeavesEntries}
-use Rattle.capsteps.proofs.Leaving.{kept-sound, none_if, some_same, no_locks, kept-known}
+use Rattle.capsteps.proofs.LeftAlone.{kept-sound, none_if, some_same, no_locks, kept-known}
 
 -- the locks that an inode begins with, where there is an inode
 abbrev first_of : Option Node → Option InodeLocks

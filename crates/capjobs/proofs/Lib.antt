@@ -5,5 +5,4 @@ pub use Rattle.capscript.proofs.Capexplain
 pub use Rattle.capscript.proofs.Caplines
 pub use Rattle.capplan.proofs as Capplan
 pub use Rattle.capscript.proofs as Capscript
-pub use Rattle.capserver.proofs as Capserver
 pub use Rattle.capscript.proofs.Capstreams

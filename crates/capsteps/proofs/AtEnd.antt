@@ -27,7 +27,7 @@ use Rattle.capacts.specs.Finishing.{due_under, told_at, numbered_as, entry_under
 use Rattle.capacts.specs.Capnotes.InoSets.{InoSet}
 use Rattle.capsteps.specs.Touching.{forget_at, forget_among}
 use Rattle.capacts.specs.Reach.{is_touched}
-use Rattle.capsteps.proofs.Leaving.{found-contains}
+use Rattle.capsteps.proofs.LeftAlone.{found-contains}
 use Rattle.capsteps.proofs.Strays.{forget-one, forget-twice, forget-same}
 
 -- ---- one entry

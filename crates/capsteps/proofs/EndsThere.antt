@@ -40,7 +40,7 @@ use Rattle.capacts.specs.Known.{AreKnown, kept_anew, KeptAnew}
 use Rattle.capacts.proofs.Held.{or_inside}
 use Rattle.capsteps.proofs.Finishing.{same-issue_row, same-renumbered, kept_by}
 use Rattle.capsteps.proofs.Forgotten.{due-left}
-use Rattle.capsteps.proofs.Leaving.{found-contains}
+use Rattle.capsteps.proofs.LeftAlone.{found-contains}
 use Rattle.capsteps.proofs.Moved.{moved-all}
 use Rattle.capsteps.proofs.SameOff.{row_elsewhere, any_elsewhere, IsSameFrom, from-first}
 use Rattle.capsteps.proofs.Strays.{retained-here, kept-held, goes, alike-retained}

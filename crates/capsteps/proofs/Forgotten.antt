@@ -31,7 +31,7 @@ use Rattle.capsteps.specs.Direct.{with_scene}
 use Rattle.capacts.specs.Finish.{allowed_by, due, is_kept}
 use Rattle.capsteps.specs.Sound.{IsSoundEntry, IsSound}
 use Rattle.capsteps.specs.Touching.{stays, forget_among}
-use Rattle.capsteps.proofs.Leaving.{found-contains}
+use Rattle.capsteps.proofs.LeftAlone.{found-contains}
 use Rattle.capsteps.proofs.Placed.{placed}
 use Rattle.capsteps.proofs.Strays.{retained, retained-here, retained-gone, kept-held, stays-kept, goes, stays-held, alike-retained}
 

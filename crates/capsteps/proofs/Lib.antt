@@ -7,7 +7,7 @@ pub mod Forgotten
 pub mod IssuedRest
 pub mod IssuedRows
 pub mod Judging
-pub mod Leaving
+pub mod LeftAlone
 pub mod ManyInodes
 pub mod Moved
 pub mod Noting

@@ -34,7 +34,7 @@ use Rattle.capacts.specs.Capevents.declared.outcome.Ended.{Ended}
 use Rattle.capacts.specs.Serving.{served}
 use Rattle.capacts.specs.Capnotes.Changing.{tree_with, tree_after}
 use Rattle.capsteps.specs.Settle.{Made, Began, Gathered, Served, Makes, MakesAll, ended_in}
-use Rattle.capsteps.proofs.Leaving.{found-contains}
+use Rattle.capsteps.proofs.LeftAlone.{found-contains}
 use Rattle.capsteps.proofs.OneChange.{by_ask}
 
 pub record IsMoved (first now : Scene) : Type 0 where

@@ -51,7 +51,7 @@ use Rattle.capsteps.specs.Shown.{AreShown, shown_by, shown_of, shown_opened, sho
 use Rattle.capsteps.specs.Sound.{IsSound, IsSoundEntry}
 use Rattle.capsteps.specs.Step.{Step, state_after}
 use Rattle.capsteps.proofs.Finishing.{sound-ends}
-use Rattle.capsteps.proofs.Leaving.{found-contains}
+use Rattle.capsteps.proofs.LeftAlone.{found-contains}
 use Rattle.capsteps.proofs.Moved.{moved-all}
 use Rattle.capsteps.proofs.Revoking.{revoked-found}
 use Rattle.capsteps.proofs.Stopping.{no_moves, stopped-only}

@@ -22,7 +22,7 @@ use Rattle.capsteps.specs.Sound.{IsSound, IsSoundEntry}
 use Rattle.capsteps.specs.State.{State}
 use Rattle.capsteps.specs.Touch.{touched_table}
 use Rattle.capsteps.proofs.Knowing.{held_at, HoldAlike, still-known}
-use Rattle.capsteps.proofs.Leaving.{found-contains}
+use Rattle.capsteps.proofs.LeftAlone.{found-contains}
 use Rattle.capsteps.proofs.ShownSteps.{apart-of}
 
 -- ---- a new entry
