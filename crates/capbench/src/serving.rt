@@ -1,6 +1,6 @@
 //! The day's work that takes a server: a script whose clients call it from threads of their own.
 
-use capcommand::{Watched, serve};
+use capcommand::{ServeFault, Watched, serve};
 use capload::{Amount, Fault, history_digest, served_script};
 use std::alloc::Global;
 use std::sync::Wait;
@@ -33,6 +33,8 @@ fn served<T: Threads + Wait + Sync>(
     );
     match ended {
         Ok(()) => Ok(written),
-        Err(_) => Err(Fault::Work),
+        Err(ServeFault::Script(fault)) => Err(Fault::from(fault)),
+        Err(ServeFault::HistoryFull) => Err(Fault::Full),
+        Err(ServeFault::Clients { .. }) => Err(Fault::Work),
     }
 }

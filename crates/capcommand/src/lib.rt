@@ -10,6 +10,6 @@ mod fault;
 pub use capanswers::{
     AnswerFault, Ask, DENIED, DONE, FAILED, FOUND, Form, Inquiry, Source, USAGE, report, words,
 };
-pub use capjobs::{Watched, serve};
+pub use capjobs::{ServeFault, Watched, serve};
 pub use commands::{carry_out, dispatch};
 pub use fault::Fault;

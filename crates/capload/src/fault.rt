@@ -2,6 +2,7 @@
 
 use capquestion::QuestionFault;
 use capscript::{ScriptFault, Stop};
+use capspec::{SpecFault, SpecFaultKind};
 use std::alloc::{AllocError, AllocFailed};
 
 /// Why a piece of work gave no digest.
@@ -11,8 +12,8 @@ pub enum Fault {
     Usage,
     /// A line, a script or a question of the work is none, or was not answered.
     Work,
-    /// The core took no event.
-    Stopped,
+    /// The history is full.
+    Full,
     /// A line was answered otherwise than the work needs.
     Unexpected,
     /// No memory was left.
@@ -29,7 +30,7 @@ impl Fault {
         match self {
             Fault::Usage => "capbench: WORKLOAD, COUNT and SEED are wanted\n",
             Fault::Work => "capbench: a part of the work has a fault\n",
-            Fault::Stopped => "capbench: an event was not taken\n",
+            Fault::Full => "capbench: the history is full\n",
             Fault::Unexpected => "capbench: another answer was needed\n",
             Fault::NoMemory => "capbench: no memory\n",
             Fault::WriteFailed => "capbench: write failed\n",
@@ -60,19 +61,36 @@ impl<T: Drop> From<AllocFailed<T>> for Fault {
 }
 
 impl From<ScriptFault> for Fault {
-    fn from(_: ScriptFault) -> Self {
-        Fault::Work
+    fn from(fault: ScriptFault) -> Self {
+        match fault {
+            ScriptFault::NoMemory => Fault::NoMemory,
+            ScriptFault::WriteFault => Fault::WriteFailed,
+            ScriptFault::ReadFault | ScriptFault::LineFault { .. } => Fault::Work,
+        }
     }
 }
 
+// Where only memory was missing, the grants are not to blame.
 impl From<QuestionFault> for Fault {
-    fn from(_: QuestionFault) -> Self {
-        Fault::Work
+    fn from(fault: QuestionFault) -> Self {
+        match fault {
+            QuestionFault::NoMemory
+            | QuestionFault::Grants(
+                SpecFault {
+                    kind: SpecFaultKind::NoMemory,
+                    ..
+                },
+            ) => Fault::NoMemory,
+            QuestionFault::Grants(_) | QuestionFault::BadValue(_) => Fault::Work,
+        }
     }
 }
 
 impl From<Stop> for Fault {
-    fn from(_: Stop) -> Self {
-        Fault::Stopped
+    fn from(stop: Stop) -> Self {
+        match stop {
+            Stop::NoMemory => Fault::NoMemory,
+            Stop::Full => Fault::Full,
+        }
     }
 }

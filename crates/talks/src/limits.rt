@@ -23,14 +23,14 @@ impl Limits {
         }
     }
 
-    /// Reads one more limit: which stream it is for, and a number.
+    /// Reads one more limit: which stream it is for, and a number. No stream has two.
     pub fn take(&mut self, text: &[u8]) -> Result<(), BookFault> {
         let (stream, number) = split_at_last_space(text);
         let number = read_number(number)?;
         match stream {
-            b"reads" => self.reads = Some(number),
-            b"room" => self.room = number,
-            b"fault room" => self.fault_room = number,
+            b"reads" if self.reads.is_none() => self.reads = Some(number),
+            b"room" if self.room == usize::MAX => self.room = number,
+            b"fault room" if self.fault_room == usize::MAX => self.fault_room = number,
             _ => return Err(BookFault::NotUnderstood),
         }
         Ok(())

@@ -1,9 +1,9 @@
 //! What clients hold that nobody behind their key is permitted, and what two of them hold in conflict.
 
 use crate::asserting::{made, same};
-use crate::texts::{Owner, attr_of, caps, cephfs, grants_of};
+use crate::texts::{Owner, attr_of, cephfs, grants_of};
 use capaudit::{Conflict, Finding, Holding, Inode, beyond, conflicts};
-use capbits::CapSet;
+use capbits::{CapSet, read_caps};
 use capgrant::{Access, Attr, Rule};
 use std::process::Abort;
 
@@ -111,12 +111,17 @@ fn audited(
     beyond(held, &grants_of(rt, grants), &inode)
 }
 
+// The set that a text names, which has to name one.
+fn caps_of(rt: &impl Abort, text: &str) -> CapSet {
+    made(rt, read_caps(text.as_bytes()), text)
+}
+
 // Sees what was found.
 fn see(rt: &impl Abort, found: Option<Finding>, (text, missing, rules): Found, place: &str) {
     match found {
         Some(found) => {
             let held = (found.caps, found.missing);
-            same(rt, held, (caps(text), missing), place);
+            same(rt, held, (caps_of(rt, text), missing), place);
             same(rt, found.rules.as_slice(), rules, place);
         }
         None => same(rt, "-", text, place),
@@ -127,7 +132,7 @@ fn see(rt: &impl Abort, found: Option<Finding>, (text, missing, rules): Found, p
 fn what_is_held_beyond_is_found(rt: HostRuntime) {
     for row in HELD {
         let (grants, path, attr, held, wanted) = *row;
-        let found = audited(&rt, grants, path, attr_of(&rt, attr), caps(held));
+        let found = audited(&rt, grants, path, attr_of(&rt, attr), caps_of(&rt, held));
         see(&rt, found, wanted, grants);
     }
 }
@@ -149,15 +154,15 @@ const CONFLICTS: &[(u64, &str, u64, &str)] = &[
     (4135, "As", 4160, "Ax"),
 ];
 
-fn holding(client: u64, text: &str) -> Holding {
-    let caps = caps(text);
+fn holding(rt: &impl Abort, client: u64, text: &str) -> Holding {
+    let caps = caps_of(rt, text);
     Holding { client, caps }
 }
 
 fn holdings(rt: &(impl Abort + AllocGlobal)) -> Vec<Holding> {
     let mut all = Vec::new(rt.alloc());
     for row in HOLDINGS {
-        made(rt, all.push(holding(row.0, row.1)), row.1);
+        made(rt, all.push(holding(rt, row.0, row.1)), row.1);
     }
     all
 }
@@ -166,7 +171,7 @@ fn holdings(rt: &(impl Abort + AllocGlobal)) -> Vec<Holding> {
 fn meet(rt: &impl Abort, found: &[Conflict]) {
     same(rt, found.len(), CONFLICTS.len(), "how many");
     for (place, row) in CONFLICTS.iter().enumerate() {
-        let (one, other) = (holding(row.0, row.1), holding(row.2, row.3));
+        let (one, other) = (holding(rt, row.0, row.1), holding(rt, row.2, row.3));
         let conflict = found.get(place).copied();
         same(rt, conflict, Some(Conflict { one, other }), place);
     }

@@ -56,7 +56,7 @@ pub const CASES: &[Case] = &[
         TWO_ROWS,
     ),
     (
-        "a full history takes no more",
+        "a history of no rows takes none",
         0,
         &[(7, Changes, MORE_THAN_NO_ROW)],
         NO_ROW,
