@@ -1,6 +1,5 @@
 -- The counts that are kept, after a change of the nodes.
 use Rattle.std.proofs.Common.{◌≡◌, ℕ, Bool, true, false, cond, Option, Some, is_some, slice_get, filter, sym, ap, subst, ◌∙◌}
-use Rattle.std.specs.HashMap.{HashMap, get}
 use Rattle.std.specs.Option.{option_map, option_map_or}
 use Rattle.std.proofs.lemmas.Bool.{eq-eqb}
 use Rattle.capbits.specs.declared.ids.ClientId.{ClientId}
@@ -11,9 +10,9 @@ use Rattle.captable.specs.declared.entry.Entry.{Entry}
 use Rattle.captable.specs.declared.entry.EntryRow.{EntryRow}
 use Rattle.captable.specs.declared.entry.Holder.{Holder}
 use Rattle.captable.specs.declared.entry.Slot.{Slot}
-use Rattle.captable.specs.Table.{Table, same, is_row_of}
+use Rattle.captable.specs.Table.{Table, is_row_of}
 use Rattle.captable.specs.Calls.{changed, without, is_of_client, is_due_entry}
-use Rattle.captable.specs.Nodes.{holder_of, table_of}
+use Rattle.captable.specs.Nodes.{holder_of, table_of, IsKeyOf}
 use Rattle.captable.specs.Kept.{Kept}
 use Rattle.captable.specs.Places.{same_client, is_due_at, ArePlaced}
 use Rattle.captable.specs.Polls.{AreCounted, recounted}
@@ -25,7 +24,7 @@ use Rattle.captable.proofs.Placed.{has-first}
 use Rattle.captable.proofs.Reading.{entry-found}
 use Rattle.std.specs.List.{find}
 
-module _ {S : Type 0} (t t' : Lists Slot) (hs : HashMap Holder ℕ S) (made : ℕ) (h : Holder) (key : ℕ) (is_kept : Kept t hs made) (found : get same hs h ≡ Some key)
+module _ (t t' : Lists Slot) (made : ℕ) (h : Holder) (key : ℕ) (is_kept : Kept t made) (found : IsKeyOf t h key)
     (n : Node Slot) (there : node_at t key ≡ Some n) (own : holder_of n ≡ h) (kept kept' : ClientId → Option ℕ) (was is : Bool) (was_is : was ≡ is_due_at t key)
     (placed : ArePlaced t kept)
     (updates : (q : ClientId) → kept' q ≡ cond (same_client h.client q) (option_map (recounted was is) (kept q)) (kept q))
@@ -34,7 +33,7 @@ module _ {S : Type 0} (t t' : Lists Slot) (hs : HashMap Holder ℕ S) (made : �
   row = record { holder = h; entry = n.value.entry }
 
   row-found : find (is_row_of h) (table_of t made).rows ≡ Some row
-  row-found = row_of-entry (table_of t made) h n.value.entry (entry-found t hs made is_kept h key n found there)
+  row-found = row_of-entry (table_of t made) h n.value.entry (entry-found t made is_kept h key n found there)
 
   was-due : is_due_entry n.value.entry ≡ was
   was-due = sym (was_is ∙ ap (λ o. option_map_or (λ (node : Node Slot). is_due_entry node.value.entry) o false) there)
@@ -51,11 +50,11 @@ module _ {S : Type 0} (t t' : Lists Slot) (hs : HashMap Holder ℕ S) (made : �
       (counted-set (table_of t made).rows h row row-found kept kept' was is was-due counted updates all x (sym is_is))
 
   -- the holder has none any more, and the count goes with the client's last
-  pub counted-gone : {S' : Type 0} (hs' : HashMap Holder ℕ S') → is ≡ false → table_of t' made ≡ without (table_of t made) h → Kept t' hs' made
+  pub counted-gone : is ≡ false → table_of t' made ≡ without (table_of t made) h → Kept t' made
       → (kept'' : ClientId → Option ℕ)
       → ((q : ClientId) → kept'' q ≡ cond (same_client h.client q) (left (slice_get (keys t' (OfClient h.client)) 0) (kept' q)) (kept' q))
       → AreCounted (table_of t' made).rows kept''
-  counted-gone hs' gone table is_kept' kept'' ends =
+  counted-gone gone table is_kept' kept'' ends =
       let again : AreCounted (table_of t' made).rows kept' =
       subst (λ (u : Table). AreCounted u.rows kept') (sym table)
       (counted-without (table_of t made).rows h row row-found kept kept' was is was-due counted updates all gone is_kept.table.one_row) in

@@ -1,17 +1,13 @@
 -- The parts of a table without entries.
-use Rattle.std.proofs.Common.{◌≡◌, ℕ, Option, Some, None, [], refl, sym, ap, subst, ◌∙◌, arith}
+use Rattle.std.proofs.Common.{◌≡◌, ℕ, Option, Some, None, refl, sym, ap, subst, ◌∙◌, arith}
 use Rattle.std.specs.List.{IsDistinct}
 use Rattle.std.specs.Ordering.{nat_cmp}
 use Rattle.std.specs.FinMap as map
-use Rattle.std.specs.HashMap.{HashMap}
-use Rattle.std.specs.Map.{lookup}
 use Rattle.capbits.specs.declared.ids.ClientId.{ClientId}
 use Rattle.cap_arena.specs.Heads.{ends_or_none}
 use Rattle.cap_arena.specs.declared.nodes.Ends.{Ends}
 use Rattle.cap_arena.specs.Lists.{Lists, ListName, OfInode, OfClient, OfRecall, IsList, IsLists, empty}
-use Rattle.captable.specs.declared.entry.Holder.{Holder}
 use Rattle.captable.specs.declared.entry.Slot.{Slot}
-use Rattle.captable.specs.Table.{same}
 use Rattle.captable.specs.Kept.{Kept}
 use Rattle.captable.specs.Places.{AreQuiet}
 use Rattle.captable.proofs.Tables.{IsTable-empty}
@@ -34,9 +30,9 @@ no_lists =
       room = omega arith;
     }
 
-pub Kept-empty : {S : Type 0} (t : Lists Slot) (hs : HashMap Holder ℕ S) → t ≡ empty → hs.entries ≡ [] → Kept t hs 0
-Kept-empty t hs nodes keys =
-    subst (λ (t : Lists Slot). Kept t hs 0) (sym nodes)
+pub Kept-empty : (t : Lists Slot) → t ≡ empty → Kept t 0
+Kept-empty t nodes =
+    subst (λ (t : Lists Slot). Kept t 0) (sym nodes)
     record {
       sound = no_lists;
       table = IsTable-empty;
@@ -45,10 +41,6 @@ Kept-empty t hs nodes keys =
       inodes = λ ino. refl;
       clients = λ client. refl;
       ordered = λ client. record { rises = λ i j there apart. absurd (cc) };
-      keyed = record {
-        to_node = λ k key e. absurd (let n : None ≡ Some key = sym (ap (lookup (same k)) keys) ∙ e in cc);
-        to_key = λ k key e. absurd (cc);
-      };
     }
 
 pub AreQuiet-empty : (t : Lists Slot) (places : ClientId → Option (Option ℕ)) → ((q : ClientId) → places q ≡ None) → AreQuiet t places

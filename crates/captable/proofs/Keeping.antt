@@ -1,7 +1,7 @@
 -- What is kept of a table's parts, after a change of one node.
 use Rattle.std.proofs.Common.{◌≡◌, ℕ, ◌+◌, ◌<◌, ◌≤◌, Bool, true, false, not, cond, ◌||◌, Option, Some, None, IsSome, List, [], ◌∷◌, ◌++◌, map, filter, length, refl, sym, ap, subst, ◌∙◌, arith, nat_eq, suc}
+use Rattle.std.specs.List.{AllByRecursion, IsDistinct}
 use Rattle.std.specs.Option.{option_map, option_map_or}
-use Rattle.std.specs.HashMap.{HashMap, get}
 use Rattle.std.proofs.lemmas.List.{map-append}
 use Rattle.std.proofs.lemmas.Bool.{eq-eqb, eqb-true}
 use Rattle.cap_arena.specs.declared.nodes.Node.{Node}
@@ -13,10 +13,10 @@ use Rattle.captable.specs.declared.entry.EntryRow.{EntryRow}
 use Rattle.captable.specs.declared.entry.Slot.{Slot}
 use Rattle.captable.specs.Table.{IsTable, same, is_row_of}
 use Rattle.captable.specs.Calls.{new_entry, opened, changed, change_rows, without, moved_last, touched}
-use Rattle.captable.specs.Nodes.{holder_of, row_of, with_entry, has_number, with_first, nodes_at, nodes_in, by_number, table_by}
-use Rattle.captable.specs.Kept.{AreBelow, AreKeys}
+use Rattle.captable.specs.Nodes.{holder_of, row_of, with_entry, has_number, with_first, nodes_at, nodes_in, by_number, table_by, IsKeyOf, is_key_of}
+use Rattle.captable.specs.Kept.{AreBelow, Kept}
 use Rattle.captable.specs.Places.{number_at}
-use Rattle.captable.proofs.Tables.{same_equiv, same-is}
+use Rattle.captable.proofs.Tables.{same_equiv}
 use Rattle.captable.proofs.OneByOne.{one_at_once, if_passing}
 use Rattle.captable.proofs.NodesAt.{is_held_by, IsHeld, IsFree, AllHave, set_in}
 use Rattle.captable.proofs.Numbers.{by_number-next, by_number-filter, by_number-map, by_number-same, number-moved}
@@ -99,43 +99,6 @@ table-touched ns h made once =
     map-append holder_of kept own ∙ (λ i. sym (filter-mapped (λ k. not (same h k)) holder_of ns) i ++ sym (filter-mapped (same h) holder_of ns) i) in
     λ i. record { rows = rows i; recall = recall i; made = made }
 
--- ---- the keys of holders
-
-module _ {S : Type 0} (t : Lists Slot) (hs : HashMap Holder ℕ S) (keyed : AreKeys t hs) where
-  node-of : (k : Holder) (key : ℕ) (o : Option (Node Slot)) → option_map holder_of o ≡ Some k → (n : Node Slot) × (o ≡ Some n) × (holder_of n ≡ k)
-  node-of k key None e = absurd (cc)
-  node-of k key (Some n) e = (n, refl, let is : holder_of n ≡ k = cc in is)
-
-  -- a holder's key has its node, and no other key has
-  pub held : (k : Holder) (key : ℕ) → get same hs k ≡ Some key → (n : Node Slot) × IsHeld (node_at t) k key n × (holder_of n ≡ k)
-  held k key found =
-      let o = node-of k key (node_at t key) (keyed.to_node k key found) in
-      (o.0, record { there = o.1; alone = λ q m e. alone q m e (is_held_by k m) refl (nat_eq key q) refl o.0 o.1 o.2 }, o.2)
-    where
-      alone : (q : ℕ) (m : Node Slot) → node_at t q ≡ Some m → (a : Bool) → is_held_by k m ≡ a → (b : Bool) → nat_eq key q ≡ b → (n : Node Slot) → node_at t key ≡ Some n → holder_of n ≡ k → a ≡ b
-      alone q m e true is true eq n there own = refl
-      alone q m e false is false eq n there own = refl
-      alone q m e true is false eq n there own =
-          let same_holder : k ≡ holder_of m = same-is k (holder_of m) is in
-          let other : get same hs k ≡ Some q = keyed.to_key k q (ap (option_map holder_of) e ∙ ap Some (sym same_holder)) in
-          let same_key : key ≡ q = cc in
-          absurd (let c : nat_eq key q ≡ true = eq-eqb key q same_key in cc)
-      alone q m e false is true eq n there own =
-          let same_key : key ≡ q = eqb-true key q eq in
-          let there_too : node_at t q ≡ Some n = ap (node_at t) (sym same_key) ∙ there in
-          let same_node : m ≡ n = cc in
-          absurd (let c : same k (holder_of m) ≡ true = ap (λ h. same k h) (ap holder_of same_node ∙ own) ∙ same_equiv.refl k in cc)
-
-  -- a holder without a key has no node
-  pub free : (k : Holder) → get same hs k ≡ None → IsFree (node_at t) k
-  free k none q m e = by_test (is_held_by k m) refl
-    where
-      by_test : (b : Bool) → is_held_by k m ≡ b → b ≡ false
-      by_test false is = refl
-      by_test true is =
-          let other : get same hs k ≡ Some q = keyed.to_key k q (ap (option_map holder_of) e ∙ ap Some (sym (same-is k (holder_of m) is))) in
-          absurd (cc)
-
 -- ---- which keys are in a list
 
 belongs-none : (name : ListName) (o : Option (Node Slot)) → o ≡ None → option_map_or (belongs name) o false ≡ false
@@ -153,6 +116,87 @@ all_have t is name key there = by_node (node_at t key) (sym ((is.lists name).nod
     by_node : (o : Option (Node Slot)) → option_map_or (belongs name) o false ≡ true → IsSome o
     by_node None e = absurd (cc)
     by_node (Some n) e = refl
+
+-- ---- the keys of holders
+
+-- what is true of the holders of some keys is true of that of each
+holder-among : (P : Holder → Type 0) (at : ℕ → Option (Node Slot)) (ks : List ℕ) (q : ℕ) (m : Node Slot) → at q ≡ Some m
+    → AllByRecursion P (map holder_of (nodes_at at ks)) → is_among ks q ≡ true → P (holder_of m)
+holder-among P at [] q m is all there = absurd (cc)
+holder-among P at (k ∷ ks) q m is all there = by_key (nat_eq q k) refl (at k) refl there (holder-among P at ks q m is)
+  where
+    first : (o : Option (Node Slot)) → at k ≡ o → AllByRecursion P (map holder_of (with_first o (nodes_at at ks)))
+    first o e = subst (λ o. AllByRecursion P (map holder_of (with_first o (nodes_at at ks)))) e all
+
+    by_key : (b : Bool) → nat_eq q k ≡ b → (o : Option (Node Slot)) → at k ≡ o → (b || is_among ks q) ≡ true
+        → (AllByRecursion P (map holder_of (nodes_at at ks)) → is_among ks q ≡ true → P (holder_of m)) → P (holder_of m)
+    by_key false apart None e there rest = rest (first None e) there
+    by_key false apart (Some n) e there rest = rest (first (Some n) e).1 there
+    by_key true same o e there rest = (first (Some m) (ap at (sym (eqb-true q k same)) ∙ is)).0
+
+-- behind a key there is no node of its holder
+distinct-first : (at : ℕ → Option (Node Slot)) (ks : List ℕ) (x : Node Slot) → IsDistinct same (map holder_of (x ∷ nodes_at at ks)) → AllByRecursion (λ h. same (holder_of x) h ≡ false) (map holder_of (nodes_at at ks))
+unfolding IsDistinct
+distinct-first at ks x once = once.0
+
+distinct-rest : (at : ℕ → Option (Node Slot)) (ks : List ℕ) (o : Option (Node Slot)) → IsDistinct same (map holder_of (with_first o (nodes_at at ks))) → IsDistinct same (map holder_of (nodes_at at ks))
+unfolding IsDistinct
+distinct-rest at ks None once = once
+distinct-rest at ks (Some x) once = once.1
+
+-- one holder has one of these keys
+one-key : (at : ℕ → Option (Node Slot)) (ks : List ℕ) → IsDistinct same (map holder_of (nodes_at at ks)) → (q r : ℕ) (m n : Node Slot) → at q ≡ Some m → at r ≡ Some n
+    → same (holder_of m) (holder_of n) ≡ true → is_among ks q ≡ true → is_among ks r ≡ true → q ≡ r
+one-key at [] once q r m n is_q is_r alike there_q there_r = absurd (cc)
+one-key at (k ∷ ks) once q r m n is_q is_r alike there_q there_r =
+    both (nat_eq q k) (nat_eq r k) refl refl there_q there_r (one-key at ks (distinct-rest at ks (at k) once) q r m n is_q is_r alike)
+  where
+    -- a key behind the first one has another holder
+    behind : (x y : ℕ) (v w : Node Slot) → nat_eq x k ≡ true → at x ≡ Some v → at y ≡ Some w → is_among ks y ≡ true → same (holder_of v) (holder_of w) ≡ false
+    behind x y v w is at_x at_y there =
+        let first : at k ≡ Some v = ap at (sym (eqb-true x k is)) ∙ at_x in
+        let apart = distinct-first at ks v (subst (λ o. IsDistinct same (map holder_of (with_first o (nodes_at at ks)))) first once) in
+        holder-among (λ h. same (holder_of v) h ≡ false) at ks y w at_y apart there
+
+    both : (a b : Bool) → nat_eq q k ≡ a → nat_eq r k ≡ b → (a || is_among ks q) ≡ true → (b || is_among ks r) ≡ true
+        → (is_among ks q ≡ true → is_among ks r ≡ true → q ≡ r) → q ≡ r
+    both true true e f in_q in_r found = eqb-true q k e ∙ sym (eqb-true r k f)
+    both true false e f in_q in_r found = absurd (let other : same (holder_of m) (holder_of n) ≡ false = behind q r m n e is_q is_r in_r in cc)
+    both false true e f in_q in_r found =
+        absurd (let other : same (holder_of n) (holder_of m) ≡ false = behind r q n m f is_r is_q in_q in
+        let turned : same (holder_of n) (holder_of m) ≡ true = same_equiv.symm (holder_of n) (holder_of m) ∙ alike in cc)
+    both false false e f in_q in_r found = found in_q in_r
+
+module _ (t : Lists Slot) (made : ℕ) (is : Kept t made) where
+  node-of : (k : Holder) (o : Option (Node Slot)) → option_map holder_of o ≡ Some k → (n : Node Slot) × (o ≡ Some n) × (holder_of n ≡ k)
+  node-of k None e = absurd (cc)
+  node-of k (Some n) e = (n, refl, let is : holder_of n ≡ k = cc in is)
+
+  listed : (q : ℕ) (m : Node Slot) → node_at t q ≡ Some m → is_among (keys t OfRecall) q ≡ true
+  listed q m there = is_in t is.sound OfRecall q m there refl
+
+  -- a holder's key has its node, and no other key has
+  pub held : (k : Holder) (key : ℕ) → IsKeyOf t k key → (n : Node Slot) × IsHeld (node_at t) k key n × (holder_of n ≡ k)
+  held k key found =
+      let o = node-of k (node_at t key) found in
+      (o.0, record { there = o.1; alone = λ q m e. alone q m e (is_held_by k m) refl (nat_eq key q) refl o.0 o.1 o.2 }, o.2)
+    where
+      alone : (q : ℕ) (m : Node Slot) → node_at t q ≡ Some m → (a : Bool) → is_held_by k m ≡ a → (b : Bool) → nat_eq key q ≡ b → (n : Node Slot) → node_at t key ≡ Some n → holder_of n ≡ k → a ≡ b
+      alone q m e true mine true eq n there own = refl
+      alone q m e false out false eq n there own = refl
+      alone q m e true mine false eq n there own =
+          let alike : same (holder_of n) (holder_of m) ≡ true = ap (λ h. same h (holder_of m)) own ∙ mine in
+          let same_key : key ≡ q = one-key (node_at t) (keys t OfRecall) is.table.one_recall key q n m there e alike (listed key n there) (listed q m e) in
+          absurd (let c : nat_eq key q ≡ true = eq-eqb key q same_key in cc)
+      alone q m e false out true eq n there own =
+          let same_key : key ≡ q = eqb-true key q eq in
+          let there_too : node_at t q ≡ Some n = ap (node_at t) (sym same_key) ∙ there in
+          let same_node : m ≡ n = cc in
+          absurd (let c : same k (holder_of m) ≡ true = ap (λ h. same k h) (ap holder_of same_node ∙ own) ∙ same_equiv.refl k in cc)
+
+-- a holder without a key has no node
+pub free : (t : Lists Slot) (k : Holder) → ((key : ℕ) → is_key_of t k key ≡ false) → IsFree (node_at t) k
+free t k none q m e = sym (ap (λ o. option_map_or (λ (node : Node Slot). same k (holder_of node)) o false) e) ∙ none q
 
 -- ---- numbers of nodes
 

@@ -6,6 +6,7 @@ pub mod Counting
 pub mod Counted
 pub mod Empty
 pub mod Keeping
+pub mod Keyed
 pub mod Moves
 pub mod NodesAt
 pub mod Numbers

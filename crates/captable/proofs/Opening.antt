@@ -1,7 +1,6 @@
 -- A table's parts, where a node was added.
 use Rattle.std.proofs.Common.{◌≡◌, ℕ, ◌+◌, ◌<◌, ◌≤◌, Bool, true, false, cond, Some, None, [], ◌∷◌, ◌++◌, map, filter, length, refl, sym, ap, subst, ◌∙◌, arith, nat_eq, suc, append-nil}
-use Rattle.std.specs.Option.{option_map, option_map_or}
-use Rattle.std.specs.HashMap.{HashMap, get}
+use Rattle.std.specs.Option.{option_map_or}
 use Rattle.std.proofs.lemmas.Bool.{eq-eqb, eqb-true}
 use Rattle.std.proofs.lemmas.List.{map-append}
 use Rattle.std.proofs.lemmas.List.Elements.{filter-append}
@@ -11,7 +10,6 @@ use Rattle.cap_arena.specs.declared.nodes.Node.{Node}
 use Rattle.cap_arena.specs.Walks.{is_among}
 use Rattle.cap_arena.specs.Calls.{Adds}
 use Rattle.cap_arena.specs.Lists.{Lists, ListName, OfInode, OfClient, OfRecall, belongs, node_at, keys, IsLists}
-use Rattle.captable.specs.declared.entry.Holder.{Holder}
 use Rattle.captable.specs.declared.entry.EntryRow.{EntryRow}
 use Rattle.captable.specs.declared.entry.Slot.{Slot}
 use Rattle.captable.specs.Table.{Table, IsTable, same, entry_at}
@@ -21,13 +19,12 @@ use Rattle.captable.specs.Nodes.{holder_of, row_of, has_number, with_first, node
 use Rattle.captable.specs.Kept.{AreBelow, Kept}
 use Rattle.captable.specs.Places.{number_at, AreInOrder}
 use Rattle.captable.proofs.Orders.{order-same, order-wider}
-use Rattle.captable.proofs.Tables.{same_equiv, same-is, IsTable-opened}
+use Rattle.captable.proofs.Tables.{IsTable-opened}
 use Rattle.captable.proofs.NodesAt.{nodes-append, nodes-same}
 use Rattle.captable.proofs.Numbers.{below-more, below-append, once-next}
-use Rattle.captable.proofs.Keeping.{held, not_in, number-below, table-added}
-use Rattle.captable.proofs.Reading.{entry-found}
+use Rattle.captable.proofs.Keeping.{not_in, number-below, table-added}
 
-module _ {S : Type 0} (t t' : Lists Slot) (hs hs' : HashMap Holder ℕ S) (made : ℕ) (key : ℕ) (x : Node Slot) (is : Kept t hs made) (adds : Adds t t' key x)
+module _ (t t' : Lists Slot) (made : ℕ) (key : ℕ) (x : Node Slot) (is : Kept t made) (adds : Adds t t' key x)
     (entry : x.value.entry ≡ new_entry) (number : x.value.number ≡ made) (new : entry_at (table_of t made) (holder_of x) ≡ None) where
   -- the nodes that were there
   node-before : (name : ListName) (k : ℕ) → is_among (keys t name) k ≡ true → node_at t' k ≡ node_at t k
@@ -84,51 +81,15 @@ module _ {S : Type 0} (t t' : Lists Slot) (hs hs' : HashMap Holder ℕ S) (made 
       by_test true = order-wider (number_at t') (keys t (OfClient client)) key less (order-same (number_at t) (number_at t') (keys t (OfClient client)) stays (is.ordered client))
       by_test false = order-same (number_at t) (number_at t') (keys t (OfClient client)) stays (is.ordered client)
 
-  no-key : (q : ℕ) → get same hs (holder_of x) ≡ Some q → ⊥
-  no-key q found = let o = held t hs is.keyed (holder_of x) q found in (let has = entry-found t hs made is (holder_of x) q o.0 found o.1.there in absurd (cc))
-
-  module _ (updates : (q : Holder) → get same hs' q ≡ cond (same (holder_of x) q) (Some key) (get same hs q)) where
-    to_node-more : (k : Holder) (q : ℕ) → get same hs' k ≡ Some q → option_map holder_of (node_at t' q) ≡ Some k
-    to_node-more k q e = by_holder (same (holder_of x) k) refl (sym (updates k) ∙ e)
-      where
-        by_key : get same hs k ≡ Some q → (b : Bool) → nat_eq q key ≡ b → option_map holder_of (cond b (Some x) (node_at t q)) ≡ Some k
-        by_key was false apart = is.keyed.to_node k q was
-        by_key was true eq =
-            let same_key : q ≡ key = eqb-true q key eq in
-            let of_k : option_map holder_of (node_at t key) ≡ Some k = ap (λ j. option_map holder_of (node_at t j)) (sym same_key) ∙ is.keyed.to_node k q was in
-            let none : option_map holder_of (node_at t key) ≡ None = ap (option_map holder_of) adds.was_free in
-            absurd (cc)
-
-        by_holder : (b : Bool) → same (holder_of x) k ≡ b → cond b (Some key) (get same hs k) ≡ Some q → option_map holder_of (node_at t' q) ≡ Some k
-        by_holder true own e =
-            let same_key : key ≡ q = cc in
-            ap (λ j. option_map holder_of (node_at t' j)) (sym same_key) ∙ ap (option_map holder_of) own-node ∙ ap Some (same-is (holder_of x) k own)
-        by_holder false other e = ap (option_map holder_of) (adds.nodes q) ∙ by_key e (nat_eq q key) refl
-
-    to_key-more : (k : Holder) (q : ℕ) → option_map holder_of (node_at t' q) ≡ Some k → get same hs' k ≡ Some q
-    to_key-more k q e = updates k ∙ by_key (nat_eq q key) refl (sym (ap (option_map holder_of) (adds.nodes q)) ∙ e)
-      where
-        by_holder : get same hs k ≡ Some q → (b : Bool) → same (holder_of x) k ≡ b → cond b (Some key) (get same hs k) ≡ Some q
-        by_holder was false other = was
-        by_holder was true own = absurd (no-key q (ap (get same hs) (same-is (holder_of x) k own) ∙ was))
-
-        by_key : (b : Bool) → nat_eq q key ≡ b → option_map holder_of (cond b (Some x) (node_at t q)) ≡ Some k → cond (same (holder_of x) k) (Some key) (get same hs k) ≡ Some q
-        by_key true eq e =
-            let own : holder_of x ≡ k = cc in
-            let same_key : q ≡ key = eqb-true q key eq in
-            ap (λ b. cond b (Some key) (get same hs k)) (ap (same (holder_of x)) (sym own) ∙ same_equiv.refl (holder_of x)) ∙ ap Some (sym same_key)
-        by_key false apart e = by_holder (is.keyed.to_key k q e) (same (holder_of x) k) refl
-
-    pub Kept-more : IsLists t' → first_failing (open_tests (table_of t made)) ≡ None → Kept t' hs' (made + 1)
-    Kept-more sound passed =
-        let next : made + 1 ≡ suc made = omega arith in
-        record {
-          sound = sound;
-          table = subst IsTable (sym table-more) (IsTable-opened (table_of t made) (holder_of x) new passed is.table);
-          below = subst (AreBelow (made + 1)) (sym (nodes-more OfRecall)) (rw next (below-append (nodes_in t OfRecall) (x ∷ []) (suc made) (below-more (nodes_in t OfRecall) made is.below) (omega (arith, number), tt)));
-          once = λ a. subst (λ ns. length (filter (has_number a) ns) ≤ 1) (sym (nodes-more OfRecall)) (once-next (nodes_in t OfRecall) x made number is.below is.once a);
-          inodes = λ ino. list-more (OfInode ino) (is_of_inode ino) refl (is.inodes ino);
-          clients = λ client. list-more (OfClient client) (is_of_client client) refl (is.clients client);
-          ordered = λ client. ordered-more client;
-          keyed = record { to_node = to_node-more; to_key = to_key-more };
-        }
+  pub Kept-more : IsLists t' → first_failing (open_tests (table_of t made)) ≡ None → Kept t' (made + 1)
+  Kept-more sound passed =
+      let next : made + 1 ≡ suc made = omega arith in
+      record {
+        sound = sound;
+        table = subst IsTable (sym table-more) (IsTable-opened (table_of t made) (holder_of x) new passed is.table);
+        below = subst (AreBelow (made + 1)) (sym (nodes-more OfRecall)) (rw next (below-append (nodes_in t OfRecall) (x ∷ []) (suc made) (below-more (nodes_in t OfRecall) made is.below) (omega (arith, number), tt)));
+        once = λ a. subst (λ ns. length (filter (has_number a) ns) ≤ 1) (sym (nodes-more OfRecall)) (once-next (nodes_in t OfRecall) x made number is.below is.once a);
+        inodes = λ ino. list-more (OfInode ino) (is_of_inode ino) refl (is.inodes ino);
+        clients = λ client. list-more (OfClient client) (is_of_client client) refl (is.clients client);
+        ordered = λ client. ordered-more client;
+      }

@@ -1,9 +1,8 @@
 -- What the parts of a table answer.
-use Rattle.std.proofs.Common.{◌≡◌, ℕ, true, Option, Some, None, IsSome, is_some, List, [], ◌∷◌, filter, map, length, slice_get, refl, sym, ap, ◌∙◌, nat_le, suc}
+use Rattle.std.proofs.Common.{◌≡◌, ℕ, true, false, Option, Some, None, IsSome, is_some, List, [], ◌∷◌, filter, map, length, slice_get, refl, sym, ap, ◌∙◌, nat_le, suc}
 use Rattle.std.specs.Prelude.{◌==◌}
 use Rattle.std.specs.List.{find}
 use Rattle.std.specs.Option.{option_map, option_and_then}
-use Rattle.std.specs.HashMap.{HashMap, get}
 use Rattle.std.proofs.lemmas.Bool.{eq-eqb}
 use Rattle.capbits.specs.declared.ids.ClientId.{ClientId}
 use Rattle.cap_arena.specs.declared.nodes.Node.{Node}
@@ -15,10 +14,10 @@ use Rattle.cap_arena.specs.Lists.{Lists, OfInode, OfClient, OfRecall, node_at, c
 use Rattle.cap_arena.proofs.Counts.{length-recall}
 use Rattle.captable.specs.declared.entry.Holder.{Holder}
 use Rattle.captable.specs.declared.entry.Slot.{Slot}
-use Rattle.captable.specs.Table.{same, is_row_of, entry_of, entry_at}
+use Rattle.captable.specs.Table.{is_row_of, entry_of, entry_at}
 use Rattle.captable.specs.Calls.{newer_in, is_of_client, is_of_inode}
 use Rattle.captable.specs.Tests.{open_tests}
-use Rattle.captable.specs.Nodes.{holder_of, row_of, nodes_in, by_number, table_of, AreLists}
+use Rattle.captable.specs.Nodes.{holder_of, row_of, nodes_in, by_number, table_of, AreLists, IsKeyOf, is_key_of}
 use Rattle.captable.specs.Walks.{first_holder}
 use Rattle.captable.specs.Kept.{Kept}
 use Rattle.captable.proofs.Tables.{same-is}
@@ -35,30 +34,30 @@ first-mapped : (ns : List (Node Slot)) → slice_get (map holder_of ns) 0 ≡ fi
 first-mapped [] = refl
 first-mapped (n ∷ ns) = refl
 
-module _ {S : Type 0} (t : Lists Slot) (hs : HashMap Holder ℕ S) (made : ℕ) (is : Kept t hs made) where
+module _ (t : Lists Slot) (made : ℕ) (is : Kept t made) where
   -- the row of a holder is found among those on its inode
   on_inode : (h : Holder) → find (is_row_of h) (table_of t made).rows ≡ find (is_row_of h) (map row_of (nodes_in t (OfInode h.ino)))
   on_inode h =
       sym (find-filter_kept (is_row_of h) (is_of_inode h.ino) (λ row own. ap (λ (k : Holder). k.ino.0 == h.ino.0) (sym (same-is h row.holder own)) ∙ eq-eqb h.ino.0 h.ino.0 refl) (table_of t made).rows)
       ∙ ap (find (is_row_of h)) (sym (is.inodes h.ino))
 
-  pub entry-found : (h : Holder) (key : ℕ) (n : Node Slot) → get same hs h ≡ Some key → node_at t key ≡ Some n → entry_at (table_of t made) h ≡ Some n.value.entry
+  pub entry-found : (h : Holder) (key : ℕ) (n : Node Slot) → IsKeyOf t h key → node_at t key ≡ Some n → entry_at (table_of t made) h ≡ Some n.value.entry
   entry-found h key n found there =
-      let o = held t hs is.keyed h key found in
+      let o = held t made is h key found in
       let same_node : o.0 ≡ n = (let own = o.1.there in cc) in
       let of : (n.ino.0 == h.ino.0) ≡ true = ap (λ (k : Holder). k.ino.0 == h.ino.0) (sym (ap holder_of same_node) ∙ o.2) ∙ eq-eqb h.ino.0 h.ino.0 refl in
       ap entry_of (on_inode h ∙ find-held (node_at t) h key o.0 o.1 (keys t (OfInode h.ino)) (is_in t is.sound (OfInode h.ino) key n there of) ∙ ap (λ m. Some (row_of m)) same_node)
 
-  pub entry-none : (h : Holder) → get same hs h ≡ None → entry_at (table_of t made) h ≡ None
-  entry-none h none = ap entry_of (on_inode h ∙ find-free (node_at t) h (free t hs is.keyed h none) (keys t (OfInode h.ino)))
+  pub entry-none : (h : Holder) → ((key : ℕ) → is_key_of t h key ≡ false) → entry_at (table_of t made) h ≡ None
+  entry-none h none = ap entry_of (on_inode h ∙ find-free (node_at t) h (free t h none) (keys t (OfInode h.ino)))
 
   -- a key that is kept has a node
-  pub no_hole : (h : Holder) (key : ℕ) → get same hs h ≡ Some key → node_at t key ≡ None → ⊥
-  no_hole h key found none = let o = held t hs is.keyed h key found in (let own = o.1.there in absurd (cc))
+  pub no_hole : (h : Holder) (key : ℕ) → IsKeyOf t h key → node_at t key ≡ None → ⊥
+  no_hole h key found none = let o = held t made is h key found in (let own = o.1.there in absurd (cc))
 
-  pub newer-found : (h : Holder) (key : ℕ) → get same hs h ≡ Some key → newer_in (table_of t made).recall h ≡ option_and_then (λ k. option_map holder_of (node_at t k)) (key_after (keys t OfRecall) key)
+  pub newer-found : (h : Holder) (key : ℕ) → IsKeyOf t h key → newer_in (table_of t made).recall h ≡ option_and_then (λ k. option_map holder_of (node_at t k)) (key_after (keys t OfRecall) key)
   newer-found h key found =
-      let o = held t hs is.keyed h key found in
+      let o = held t made is h key found in
       newer-held (node_at t) h key o.0 o.1 (keys t OfRecall) (all_have t is.sound OfRecall)
 
   -- the holder of a client's first node
@@ -68,14 +67,14 @@ module _ {S : Type 0} (t : Lists Slot) (hs : HashMap Holder ℕ S) (made : ℕ) 
       ap (λ o. option_and_then (λ k. option_map holder_of (node_at t k)) o) first ∙ sym (first-held (node_at t) (keys t (OfClient client)) (all_have t is.sound (OfClient client)))
       ∙ first-mapped (nodes_in t (OfClient client)) ∙ ap first_holder (is.clients client)
 
-  pub newer-none : (h : Holder) → get same hs h ≡ None → newer_in (table_of t made).recall h ≡ None
-  newer-none h none = newer-free (node_at t) h (free t hs is.keyed h none) (keys t OfRecall)
+  pub newer-none : (h : Holder) → ((key : ℕ) → is_key_of t h key ≡ false) → newer_in (table_of t made).recall h ≡ None
+  newer-none h none = newer-free (node_at t) h (free t h none) (keys t OfRecall)
 
   pub are_lists : AreLists (table_of t made) t
-  are_lists = record { recall = refl; inodes = is.inodes; clients = is.clients; nodes = λ key n there. entry-found (holder_of n) key n (is.keyed.to_key (holder_of n) key (ap (option_map holder_of) there)) there }
+  are_lists = record { recall = refl; inodes = is.inodes; clients = is.clients; nodes = λ key n there. entry-found (holder_of n) key n (ap (option_map holder_of) there) there }
 
-  pub node-there : (h : Holder) (key : ℕ) → get same hs h ≡ Some key → IsSome (node_at t key)
-  node-there h key found = let o = held t hs is.keyed h key found in ap is_some o.1.there
+  pub node-there : (h : Holder) (key : ℕ) → IsKeyOf t h key → IsSome (node_at t key)
+  node-there h key found = let o = held t made is h key found in ap is_some o.1.there
 
   -- as many entries as nodes
   length-rows : length (table_of t made).rows ≡ count t
@@ -86,17 +85,3 @@ module _ {S : Type 0} (t : Lists Slot) (hs : HashMap Holder ℕ S) (made : ℕ) 
   -- one more is refused alike
   pub refused-alike : first_failing (add_tests t) ≡ first_failing (open_tests (table_of t made))
   refused-alike = ap (λ n. first_failing (refused_if (nat_le 65536 n) Limit ∷ [])) (sym length-rows)
-
-  -- the same keys, kept in another map
-  pub Kept-keys : (hs' : HashMap Holder ℕ S) → ((q : Holder) → get same hs' q ≡ get same hs q) → Kept t hs' made
-  Kept-keys hs' alike =
-      record {
-        sound = is.sound;
-        table = is.table;
-        below = is.below;
-        once = is.once;
-        inodes = is.inodes;
-        clients = is.clients;
-        ordered = is.ordered;
-        keyed = record { to_node = λ k q e. is.keyed.to_node k q (sym (alike k) ∙ e); to_key = λ k q e. alike k ∙ is.keyed.to_key k q e };
-      }

@@ -1,16 +1,15 @@
 -- A table's parts, where an entry was changed.
 use Rattle.std.proofs.Common.{◌≡◌, ℕ, ◌≤◌, Bool, true, false, cond, Option, Some, None, map, filter, length, refl, sym, ap, subst, ◌∙◌, nat_eq}
 use Rattle.std.specs.Option.{option_map, option_map_or}
-use Rattle.std.specs.HashMap.{HashMap, get}
 use Rattle.cap_arena.specs.declared.nodes.Node.{Node}
 use Rattle.cap_arena.specs.Lists.{Lists, ListName, OfInode, OfClient, OfRecall, node_at, keys, IsLists}
 use Rattle.captable.specs.declared.entry.Holder.{Holder}
 use Rattle.captable.specs.declared.entry.Entry.{Entry}
 use Rattle.captable.specs.declared.entry.EntryRow.{EntryRow}
 use Rattle.captable.specs.declared.entry.Slot.{Slot}
-use Rattle.captable.specs.Table.{IsTable, same, is_row_of}
+use Rattle.captable.specs.Table.{IsTable, is_row_of}
 use Rattle.captable.specs.Calls.{changed, is_of_client, is_of_inode}
-use Rattle.captable.specs.Nodes.{holder_of, row_of, with_entry, has_number, nodes_at, nodes_in, table_by, table_of, SetsEntry}
+use Rattle.captable.specs.Nodes.{row_of, with_entry, has_number, nodes_at, nodes_in, table_by, table_of, SetsEntry, IsKeyOf}
 use Rattle.captable.specs.Kept.{AreBelow, Kept}
 use Rattle.captable.specs.Places.{number_at, AreInOrder}
 use Rattle.captable.proofs.Orders.{order-same}
@@ -21,11 +20,11 @@ use Rattle.captable.proofs.NodesAt.{set_in, nodes-set}
 use Rattle.captable.proofs.Numbers.{below-map, once-map}
 use Rattle.captable.proofs.Keeping.{held, keeps_number, row_in, rows-set, rows-changed, table-set}
 
-module _ {S : Type 0} (t t' : Lists Slot) (hs : HashMap Holder ℕ S) (made : ℕ) (h : Holder) (key : ℕ) (x : Entry) (is : Kept t hs made) (found : get same hs h ≡ Some key)
+module _ (t t' : Lists Slot) (made : ℕ) (h : Holder) (key : ℕ) (x : Entry) (is : Kept t made) (found : IsKeyOf t h key)
     (sets : SetsEntry t t' key x) where
   nodes-now : (name : ListName) → nodes_in t' name ≡ map (set_in h x) (nodes_in t name)
   nodes-now name =
-      let o = held t hs is.keyed h key found in
+      let o = held t made is h key found in
       ap (nodes_at (node_at t')) (sets.lists name) ∙ nodes-set (node_at t) (node_at t') h key o.0 x o.1 sets.nodes (keys t name)
 
   pub table-put : table_of t' made ≡ changed (table_of t made) h (λ _. x)
@@ -40,14 +39,6 @@ module _ {S : Type 0} (t t' : Lists Slot) (hs : HashMap Holder ℕ S) (made : �
   list-now name q keeps was =
       ap (map row_of) (nodes-now name) ∙ rows-set h x (nodes_in t name) ∙ ap (map (row_in h x)) was ∙ sym (filter-map q (row_in h x) keeps (table_of t made).rows) ∙ ap (filter q) (sym rows-now)
 
-  holders-stay : (q : ℕ) → option_map holder_of (node_at t' q) ≡ option_map holder_of (node_at t q)
-  holders-stay q = ap (option_map holder_of) (sets.nodes q) ∙ by_test (nat_eq q key) (node_at t q)
-    where
-      by_test : (b : Bool) (o : Option (Node Slot)) → option_map holder_of (cond b (option_map (with_entry x) o) o) ≡ option_map holder_of o
-      by_test true None = refl
-      by_test true (Some m) = refl
-      by_test false o = refl
-
   number-stays : (k : ℕ) → number_at t' k ≡ number_at t k
   number-stays k = ap (λ o. option_map_or (λ (node : Node Slot). node.value.number) o 0) (sets.nodes k) ∙ by_test (nat_eq k key) (node_at t k)
     where
@@ -56,7 +47,7 @@ module _ {S : Type 0} (t t' : Lists Slot) (hs : HashMap Holder ℕ S) (made : �
       by_test true (Some m) = refl
       by_test false o = refl
 
-  pub Kept-put : IsLists t' → Kept t' hs made
+  pub Kept-put : IsLists t' → Kept t' made
   Kept-put sound =
       record {
         sound = sound;
@@ -67,5 +58,4 @@ module _ {S : Type 0} (t t' : Lists Slot) (hs : HashMap Holder ℕ S) (made : �
         clients = λ client. list-now (OfClient client) (is_of_client client) (λ row. ap (λ (k : Holder). is_of_client client (record row { holder = k })) (same_holder (λ _. x) row (is_row_of h row))) (is.clients client);
         ordered = λ client.
             subst (AreInOrder (number_at t')) (sym (sets.lists (OfClient client))) (order-same (number_at t) (number_at t') (keys t (OfClient client)) (λ k there. number-stays k) (is.ordered client));
-        keyed = record { to_node = λ k q e. holders-stay q ∙ is.keyed.to_node k q e; to_key = λ k q e. is.keyed.to_key k q (sym (holders-stay q) ∙ e) };
       }

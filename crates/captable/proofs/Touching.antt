@@ -1,7 +1,6 @@
 -- A table's parts, where a node became the last one in the order of recall.
-use Rattle.std.proofs.Common.{◌≡◌, ℕ, ◌≤◌, not, Some, List, [], ◌∷◌, ◌++◌, map, filter, length, refl, sym, ap, subst, ◌∙◌}
-use Rattle.std.specs.Option.{option_map, option_map_or}
-use Rattle.std.specs.HashMap.{HashMap, get}
+use Rattle.std.proofs.Common.{◌≡◌, ℕ, ◌≤◌, not, List, [], ◌∷◌, ◌++◌, map, filter, length, refl, sym, ap, subst, ◌∙◌}
+use Rattle.std.specs.Option.{option_map_or}
 use Rattle.cap_arena.specs.declared.nodes.Node.{Node}
 use Rattle.cap_arena.specs.Calls.{keys_without, Touches}
 use Rattle.cap_arena.specs.Lists.{Lists, ListName, OfInode, OfClient, OfRecall, node_at, keys, IsLists}
@@ -9,7 +8,7 @@ use Rattle.captable.specs.declared.entry.Holder.{Holder}
 use Rattle.captable.specs.declared.entry.Slot.{Slot}
 use Rattle.captable.specs.Table.{Table, IsTable, same}
 use Rattle.captable.specs.Calls.{touched, is_of_client, is_of_inode}
-use Rattle.captable.specs.Nodes.{holder_of, row_of, has_number, with_first, nodes_at, nodes_in, table_by, table_of}
+use Rattle.captable.specs.Nodes.{row_of, has_number, with_first, nodes_at, nodes_in, table_by, table_of, IsKeyOf}
 use Rattle.captable.specs.Kept.{AreBelow, Kept}
 use Rattle.captable.specs.Places.{number_at, AreInOrder}
 use Rattle.captable.proofs.Orders.{order-same}
@@ -18,7 +17,7 @@ use Rattle.captable.proofs.NodesAt.{is_held_by, nodes-append, nodes-same, nodes-
 use Rattle.captable.proofs.Numbers.{number-moved, below-append, below-filter}
 use Rattle.captable.proofs.Keeping.{held, is_in, table-touched}
 
-module _ {S : Type 0} (t t' : Lists Slot) (hs : HashMap Holder ℕ S) (made : ℕ) (h : Holder) (key : ℕ) (is : Kept t hs made) (found : get same hs h ≡ Some key) (touches : Touches t t' key) where
+module _ (t t' : Lists Slot) (made : ℕ) (h : Holder) (key : ℕ) (is : Kept t made) (found : IsKeyOf t h key) (touches : Touches t t' key) where
   -- the nodes in the order of recall, this one last
   moved : List (Node Slot)
   moved = filter (λ m. not (is_held_by h m)) (nodes_in t OfRecall) ++ filter (is_held_by h) (nodes_in t OfRecall)
@@ -27,7 +26,7 @@ module _ {S : Type 0} (t t' : Lists Slot) (hs : HashMap Holder ℕ S) (made : �
   unfolding moved
   recall-now =
       let ks = keys t OfRecall in
-      let o = held t hs is.keyed h key found in
+      let o = held t made is h key found in
       let last : nodes_at (node_at t) (key ∷ []) ≡ filter (is_held_by h) (nodes_in t OfRecall) =
       ap (λ q. with_first q []) o.1.there ∙ sym (nodes-one (node_at t) h key o.0 o.1 ks (is.sound.lists OfRecall).once (is_in t is.sound OfRecall key o.0 o.1.there refl)) in
       let others : nodes_at (node_at t) (keys_without ks key) ≡ filter (λ m. not (is_held_by h m)) (nodes_in t OfRecall) = nodes-removed (node_at t) h key o.0 o.1 (node_at t) (λ k e. refl) ks in
@@ -51,7 +50,7 @@ module _ {S : Type 0} (t t' : Lists Slot) (hs : HashMap Holder ℕ S) (made : �
   unfolding moved
   once-now number = rw (number-moved (is_held_by h) (nodes_in t OfRecall) number (is.once number)) (is.once number)
 
-  pub Kept-touched : IsLists t' → Kept t' hs made
+  pub Kept-touched : IsLists t' → Kept t' made
   Kept-touched sound =
       record {
         sound = sound;
@@ -63,5 +62,4 @@ module _ {S : Type 0} (t t' : Lists Slot) (hs : HashMap Holder ℕ S) (made : �
         ordered = λ client.
             subst (AreInOrder (number_at t')) (sym (touches.clients client))
             (order-same (number_at t) (number_at t') (keys t (OfClient client)) (λ k there. ap (λ o. option_map_or (λ (node : Node Slot). node.value.number) o 0) (touches.nodes k)) (is.ordered client));
-        keyed = record { to_node = λ k q e. ap (option_map holder_of) (touches.nodes q) ∙ is.keyed.to_node k q e; to_key = λ k q e. is.keyed.to_key k q (sym (ap (option_map holder_of) (touches.nodes q)) ∙ e) };
       }

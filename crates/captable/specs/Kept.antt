@@ -1,31 +1,23 @@
 -- What the parts of a table keep.
-use Rattle.std.specs.Prelude.{◌≡◌, ◌<◌, ◌≤◌, ℕ, Some, List, map, filter, length}
+use Rattle.std.specs.Prelude.{◌≡◌, ◌<◌, ◌≤◌, ℕ, List, map, filter, length}
 use Rattle.std.specs.List.{AllByRecursion}
-use Rattle.std.specs.Option.{option_map}
-use Rattle.std.specs.HashMap.{HashMap, get}
 use Rattle.capbits.specs.declared.ids.ClientId.{ClientId}
 use Rattle.capbits.specs.declared.ids.Ino.{Ino}
 use Rattle.cap_arena.specs.declared.nodes.Node.{Node}
-use Rattle.cap_arena.specs.Lists.{Lists, OfInode, OfClient, OfRecall, node_at, keys, IsLists}
-use Rattle.captable.specs.declared.entry.Holder.{Holder}
+use Rattle.cap_arena.specs.Lists.{Lists, OfInode, OfClient, OfRecall, keys, IsLists}
 use Rattle.captable.specs.declared.entry.Slot.{Slot}
-use Rattle.captable.specs.Table.{IsTable, same}
+use Rattle.captable.specs.Table.{IsTable}
 use Rattle.captable.specs.Calls.{is_of_client, entries_on}
-use Rattle.captable.specs.Nodes.{holder_of, row_of, has_number, nodes_in, table_of}
+use Rattle.captable.specs.Nodes.{row_of, has_number, nodes_in, table_of}
 use Rattle.captable.specs.Places.{number_at, AreInOrder}
 
 -- each node's number is below `end`
 abbrev pub AreBelow : ℕ → List (Node Slot) → Type 0
 AreBelow end nodes = AllByRecursion (λ node. node.value.number < end) nodes
 
--- a holder has a key exactly where the key has its node
-pub record AreKeys {S : Type 0} (lists : Lists Slot) (keys : HashMap Holder ℕ S) : Type 0 where
-  pub to_node : (k : Holder) (key : ℕ) → get same keys k ≡ Some key → option_map holder_of (node_at lists key) ≡ Some k
-  pub to_key : (k : Holder) (key : ℕ) → option_map holder_of (node_at lists key) ≡ Some k → get same keys k ≡ Some key
-
 -- the nodes stand in their lists, and for a table; they have different numbers, all below that of the next one; the list of
--- an inode, and that of a client, are in the order of making; the numbers of a client's rise; and each holder's key is kept
-pub record Kept {S : Type 0} (lists : Lists Slot) (holders : HashMap Holder ℕ S) (made : ℕ) : Type 0 where
+-- an inode, and that of a client, are in the order of making; the numbers of a client's rise
+pub record Kept (lists : Lists Slot) (made : ℕ) : Type 0 where
   pub sound : IsLists lists
   pub table : IsTable (table_of lists made)
   pub below : AreBelow made (nodes_in lists OfRecall)
@@ -33,4 +25,3 @@ pub record Kept {S : Type 0} (lists : Lists Slot) (holders : HashMap Holder ℕ 
   pub inodes : (ino : Ino) → map row_of (nodes_in lists (OfInode ino)) ≡ entries_on (table_of lists made) ino
   pub clients : (client : ClientId) → map row_of (nodes_in lists (OfClient client)) ≡ filter (is_of_client client) (table_of lists made).rows
   pub ordered : (client : ClientId) → AreInOrder (number_at lists) (keys lists (OfClient client))
-  pub keyed : AreKeys lists holders

@@ -1,6 +1,6 @@
 -- The nodes in which the entries are kept, and the table that they stand for.
-use Rattle.std.specs.Prelude.{◌≡◌, ℕ, Bool, Option, Some, None, List, [], ◌∷◌, ◌++◌, map, filter, nat_eq, zero, suc, if◌then◌else◌}
-use Rattle.std.specs.Option.{option_map}
+use Rattle.std.specs.Prelude.{◌≡◌, ℕ, Bool, false, Option, Some, None, List, [], ◌∷◌, ◌++◌, map, filter, nat_eq, zero, suc, if◌then◌else◌}
+use Rattle.std.specs.Option.{option_map, option_map_or}
 use Rattle.capbits.specs.declared.ids.ClientId.{ClientId}
 use Rattle.capbits.specs.declared.ids.Ino.{Ino}
 use Rattle.cap_arena.specs.declared.nodes.Node.{Node}
@@ -9,7 +9,7 @@ use Rattle.captable.specs.declared.entry.Holder.{Holder}
 use Rattle.captable.specs.declared.entry.Entry.{Entry}
 use Rattle.captable.specs.declared.entry.EntryRow.{EntryRow}
 use Rattle.captable.specs.declared.entry.Slot.{Slot}
-use Rattle.captable.specs.Table.{Table, holder, entry_at}
+use Rattle.captable.specs.Table.{Table, holder, same, entry_at}
 use Rattle.captable.specs.Calls.{is_of_client, entries_on}
 
 -- ---- one node
@@ -41,6 +41,14 @@ nodes_at at (key ∷ keys) = with_first (at key) (nodes_at at keys)
 -- the nodes of a list, from its first one on
 abbrev pub nodes_in : Lists Slot → ListName → List (Node Slot)
 nodes_in lists name = nodes_at (node_at lists) (keys lists name)
+
+-- the key has the holder's node
+abbrev pub IsKeyOf : Lists Slot → Holder → ℕ → Type 0
+IsKeyOf lists k key = option_map holder_of (node_at lists key) ≡ Some k
+
+-- whether the key has the holder's node
+abbrev pub is_key_of : Lists Slot → Holder → ℕ → Bool
+is_key_of lists k key = option_map_or (λ node. same k (holder_of node)) (node_at lists key) false
 
 -- ---- the table that nodes stand for
 

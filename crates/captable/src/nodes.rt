@@ -1,14 +1,17 @@
 //! The nodes of the table: reads of one node, and changes of one, whose writes of links nobody counts.
-ghost use Rattle.std.specs.Prelude.{◌≡◌, ◌≤◌, None, IsSome, IfOk, OnErr};
+ghost use Rattle.std.specs.Prelude.{◌≡◌, ◌≤◌, ℕ, true, false, None, IsSome, IfOk, IfSome, IfNone, OnErr};
 ghost use Rattle.std.specs.Option.{option_map};
 ghost use Rattle.capbits.specs.Refusal.{first_failing};
-ghost use Rattle.cap_arena.specs.Lists.{IsLists, node_at};
+ghost use Rattle.cap_arena.specs.Lists.{IsLists, OfInode, belongs_at, keys, node_at};
+ghost use Rattle.cap_arena.specs.Walks.{is_among};
 ghost use Rattle.cap_arena.specs.Calls.{node, add_tests, Adds, Removes, Touches};
 ghost use Rattle.captable.specs.Nodes as words;
-ghost use Rattle.captable.specs.Nodes.{holder_of, SetsEntry};
+ghost use Rattle.captable.specs.Nodes.{holder_of, SetsEntry, IsKeyOf};
+ghost use Rattle.captable.specs.Walks.{IsPlaceOf, keys_from};
 
 use crate::entry::{Entry, EntryRow, Holder, Slot};
 use cap_arena::{LinkWrites, Node, TripleLists};
+use capbits::Ino;
 use std::alloc::AllocError;
 use std::sync::ledger::{Blank, Ledger};
 
@@ -30,6 +33,59 @@ pub(crate) fn holder_at(lists: &TripleLists<Slot>, key: usize) -> Option<Holder>
     let node = lists.get(key)?;
     let (client, ino) = (node.client, node.ino);
     Some(Holder { client, ino })
+}
+
+// Whether the node of this key is on the inode.
+fn is_on(lists: &TripleLists<Slot>, ino: Ino, key: usize) -> bool
+    ensures on { result ≡ belongs_at lists.now (OfInode ino) key }
+    ensures sound { IsLists lists.now }
+{
+    match lists.get(key) {
+        Some(node) => node.ino.0 == ino.0,
+        None => false,
+    }
+}
+
+// Whether the node of this key is the holder's.
+fn is_key_of(lists: &TripleLists<Slot>, holder: Holder, key: usize) -> bool
+    ensures { result ≡ words.is_key_of lists.now holder key }
+{
+    match lists.get(key) {
+        Some(node) => holder.client.0 == node.client.0 && holder.ino.0 == node.ino.0,
+        None => false,
+    }
+}
+
+// The key of the holder's node, if that comes from this place of the inode's list on.
+fn key_from(lists: &TripleLists<Slot>, holder: Holder, from: Option<usize>) -> Option<usize>
+    requires { IsPlaceOf lists.now (OfInode holder.ino) from }
+    ensures found { IfSome result (λ key. IsKeyOf lists.now holder key) }
+    ensures none { IfNone result ((key : ℕ) → is_among (keys_from (keys lists.now (OfInode holder.ino)) from) key ≡ true
+        → words.is_key_of lists.now holder key ≡ false) }
+{
+    let mut place = from;
+    'nodes: while let Some(key) = place {
+        if is_key_of(lists, holder, key) {
+            break;
+        }
+        place = lists.next_of_ino(key);
+    }
+    place
+}
+
+// The key of the holder's node. It is looked for along the list of the inode, which has no more nodes than there are
+// clients: from the node with the key `near` on, if that is one of them, and then from the first.
+pub(crate) fn key_of(lists: &TripleLists<Slot>, holder: Holder, near: usize) -> Option<usize>
+    ensures found { IfSome result (λ key. IsKeyOf lists.now holder key) }
+    ensures none { IfNone result ((key : ℕ) → words.is_key_of lists.now holder key ≡ false) }
+{
+    if is_on(lists, holder.ino, near) {
+        if let Some(key) = key_from(lists, holder, Some(near)) {
+            return Some(key);
+        }
+    }
+    let first = lists.first_of_ino(holder.ino);
+    key_from(lists, holder, first)
 }
 
 // Gives the node this entry in place of its own, where the key has one.

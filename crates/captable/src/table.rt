@@ -3,7 +3,7 @@ ghost use Rattle.std.specs.Prelude.{◌≡◌, ◌<◌, ◌^◌, ◌-◌, true, 
 
 use crate::entry::{Entry, Holder, Slot};
 use crate::holders::Holders;
-use crate::nodes::{add_node, holder_at, remove_node, set_entry, touch_node};
+use crate::nodes::{add_node, holder_at, key_of, remove_node, set_entry, touch_node};
 use crate::places::is_due_at;
 use crate::polls::{
     Poll, begin_poll, count_again, count_of, end_poll, lower_place, move_place, quiet_place,
@@ -14,7 +14,6 @@ use cap_arena::{MAX_NODES, TripleLists};
 use capbits::{Cap, CapSet, ClientId, Ino, Refusal};
 use numbered::Numbered;
 use std::alloc::{AllocError, Global};
-use std::collections::HashMap;
 use std::fmt;
 use std::marker::{Brand, Model};
 use std::sync::ledger::Blank;
@@ -28,12 +27,12 @@ pub const MAX_ENTRIES: usize = MAX_NODES;
 pub struct CapTable {
     alloc: Global,
     lists: TripleLists<Slot>,
-    // The key of each holder's node.
-    keys: HashMap<Holder, usize>,
     // Of each client with an entry, from where on entries are due, and how many.
     polls: Numbered<Poll>,
     // How many entries were made so far.
     made: u64,
+    // A guess at the key of the node that is asked for next.
+    near: usize,
 }
 
 impl Model for CapTable {
@@ -50,7 +49,7 @@ impl Model for CapTable {
 
     ghost view = { λ t. table_of t.lists t.made };
 
-    ghost invariant = { λ t. Kept t.lists t.keys t.made × AreQuiet t.lists (places_of t.polls) × ArePlaced t.lists (places_of t.polls)
+    ghost invariant = { λ t. Kept t.lists t.made × AreQuiet t.lists (places_of t.polls) × ArePlaced t.lists (places_of t.polls)
         × AreCounted (table_of t.lists t.made).rows (counts_of t.polls) };
 }
 
@@ -60,20 +59,20 @@ impl Drop for CapTable {
         let CapTable {
             alloc: _alloc,
             lists: _lists,
-            keys: _keys,
             polls: _polls,
             made: _made,
+            near: _near,
         } = self;
     }
 }
 
-// All but what is kept for polls: it is no part of the table, but tells how far polls have come.
+// All but what is kept for polls, and the guess: they are no part of the table, but tell how far polls have come, and who
+// was asked for last.
 impl fmt::Debug for CapTable {
     fn fmt<W: fmt::Write>(&self, f: &mut fmt::Formatter<W>) -> fmt::Result {
         f.debug_struct("CapTable")
             .field("alloc", &self.alloc)
             .field("lists", &self.lists)
-            .field("keys", &self.keys)
             .field("made", &self.made)
             .finish()
     }
@@ -96,14 +95,13 @@ impl CapTable {
         ensures { IfOk result (λ table. table ≡ words.empty) }
     {
         let lists = TripleLists::new(alloc)?;
-        let keys = HashMap::new(alloc);
         let polls = Numbered::new(alloc);
         Ok(CapTable {
             alloc,
             lists,
-            keys,
             polls,
             made: 0,
+            near: 0,
         })
     }
 
@@ -119,9 +117,20 @@ impl CapTable {
         ensures entry { result ≡ entry_at self.now (holder client ino) }
         ensures sound { IsTable self.now }
     {
-        let key = *self.keys.get(&Holder { client, ino })?;
+        let key = key_of(&self.lists, Holder { client, ino }, self.near)?;
         let node = self.lists.get(key)?;
         Some(node.value.entry)
+    }
+
+    // The same, and the entry is looked at first the next time.
+    fn found(&mut self, client: ClientId, ino: Ino) -> Option<Entry>
+        ensures entry { result ≡ entry_at self.old (holder client ino) }
+        ensures same { self.new ≡ self.old }
+    {
+        let key = key_of(&self.lists, Holder { client, ino }, self.near)?;
+        self.near = key;
+        let found = self.lists.get(key)?;
+        Some(found.value.entry)
     }
 
     /// The same, where the entry is guessed to stand at a place. If it does, it is not searched for.
@@ -217,8 +226,7 @@ impl CapTable {
         ensures err { OnErr result (self.new ≡ self.old) }
     {
         let holder = Holder { client, ino };
-        // Room for the key, and what is kept for polls, come first, since a node that was added stays.
-        self.keys.reserve(1)?;
+        // What is kept for polls comes first, since a node that was added stays.
         begin_poll(&mut self.polls, client)?;
         let entry = Entry::new();
         let number = self.made;
@@ -228,11 +236,8 @@ impl CapTable {
             end_poll(&mut self.polls, &self.lists, client);
             return Err(AllocError);
         };
-        match self.keys.insert(holder, key) {
-            Ok(_none) => {}
-            Err(_) => unreachable!(),
-        }
         self.made += 1;
+        self.near = key;
         Ok(())
     }
 
@@ -240,13 +245,13 @@ impl CapTable {
     fn put(&mut self, holder: Holder, entry: Entry)
         ensures { self.new ≡ changed self.old holder (λ _. entry) }
     {
-        if let Some(key) = self.keys.get(&holder) {
-            let was = is_due_at(&self.lists, *key);
+        if let Some(key) = key_of(&self.lists, holder, self.near) {
+            let was = is_due_at(&self.lists, key);
             let is = entry.is_due();
-            set_entry(&mut self.lists, *key, entry);
+            set_entry(&mut self.lists, key, entry);
             count_again(&mut self.polls, holder.client, was, is);
             if is {
-                lower_place(&mut self.polls, &self.lists, holder.client, *key);
+                lower_place(&mut self.polls, &self.lists, holder.client, key);
             }
         }
     }
@@ -255,7 +260,7 @@ impl CapTable {
     pub fn set_want(&mut self, client: ClientId, ino: Ino, want: CapSet)
         ensures { self.new ≡ changed self.old (holder client ino) (wanting want) }
     {
-        if let Some(entry) = self.find(client, ino) {
+        if let Some(entry) = self.found(client, ino) {
             self.put(Holder { client, ino }, Entry { want, ..entry });
         }
     }
@@ -264,7 +269,7 @@ impl CapTable {
     pub fn issue(&mut self, client: ClientId, ino: Ino, caps: CapSet)
         ensures { self.new ≡ changed self.old (holder client ino) (issued caps) }
     {
-        if let Some(entry) = self.find(client, ino) {
+        if let Some(entry) = self.found(client, ino) {
             self.put(Holder { client, ino }, entry.issued(caps));
         }
     }
@@ -279,7 +284,7 @@ impl CapTable {
         let holder = Holder { client, ino };
         if against.has(Cap::P) {
             self.remove(holder);
-        } else if let Some(entry) = self.find(client, ino) {
+        } else if let Some(entry) = self.found(client, ino) {
             self.put(holder, entry.taken(against));
         }
     }
@@ -291,7 +296,7 @@ impl CapTable {
         requires { IfSome (entry_at self.old (holder client ino)) (λ entry. entry.seq < 2 ^ 64 - 1) }
         ensures { self.new ≡ changed self.old (holder client ino) (renumbered before after) }
     {
-        if let Some(entry) = self.find(client, ino) {
+        if let Some(entry) = self.found(client, ino) {
             self.put(Holder { client, ino }, entry.renumbered(before, after));
         }
     }
@@ -309,7 +314,7 @@ impl CapTable {
         requires { IfSome (entry_at self.old (holder client ino)) (λ entry. entry.seq < 2 ^ 64 - 1) }
         ensures { self.new ≡ changed self.old (holder client ino) (λ entry. renumbered before after (issued caps entry)) }
     {
-        if let Some(entry) = self.find(client, ino) {
+        if let Some(entry) = self.found(client, ino) {
             let issued = entry.issued(caps);
             self.put(Holder { client, ino }, issued.renumbered(before, after));
         }
@@ -319,7 +324,7 @@ impl CapTable {
     pub fn tell(&mut self, client: ClientId, ino: Ino)
         ensures { self.new ≡ changed self.old (holder client ino) told }
     {
-        if let Some(entry) = self.find(client, ino) {
+        if let Some(entry) = self.found(client, ino) {
             let told_seq = entry.seq;
             self.put(Holder { client, ino }, Entry { told_seq, ..entry });
         }
@@ -329,7 +334,7 @@ impl CapTable {
     pub fn ask(&mut self, client: ClientId, ino: Ino, asked: bool)
         ensures { self.new ≡ changed self.old (holder client ino) (with_asked asked) }
     {
-        if let Some(entry) = self.find(client, ino) {
+        if let Some(entry) = self.found(client, ino) {
             self.put(Holder { client, ino }, Entry { asked, ..entry });
         }
     }
@@ -339,7 +344,7 @@ impl CapTable {
     pub fn owe_size(&mut self, client: ClientId, ino: Ino)
         ensures { self.new ≡ changed self.old (holder client ino) (with_size_due true) }
     {
-        if let Some(entry) = self.find(client, ino) {
+        if let Some(entry) = self.found(client, ino) {
             let size_due = true;
             self.put(Holder { client, ino }, Entry { size_due, ..entry });
         }
@@ -349,7 +354,7 @@ impl CapTable {
     pub fn tell_size(&mut self, client: ClientId, ino: Ino)
         ensures { self.new ≡ changed self.old (holder client ino) (with_size_due false) }
     {
-        if let Some(entry) = self.find(client, ino) {
+        if let Some(entry) = self.found(client, ino) {
             let size_due = false;
             self.put(Holder { client, ino }, Entry { size_due, ..entry });
         }
@@ -369,7 +374,7 @@ impl CapTable {
         ensures after { result ≡ newer_in self.now.recall (holder client ino) }
         ensures sound { IsTable self.now }
     {
-        let key = *self.keys.get(&Holder { client, ino })?;
+        let key = key_of(&self.lists, Holder { client, ino }, self.near)?;
         let next = self.lists.newer(key)?;
         holder_at(&self.lists, next)
     }
@@ -378,8 +383,9 @@ impl CapTable {
     pub fn touch(&mut self, client: ClientId, ino: Ino)
         ensures { self.new ≡ touched self.old (holder client ino) }
     {
-        if let Some(key) = self.keys.get(&Holder { client, ino }) {
-            touch_node::<Brand>(&mut self.lists, *key, Blank::new(1));
+        if let Some(key) = key_of(&self.lists, Holder { client, ino }, self.near) {
+            touch_node::<Brand>(&mut self.lists, key, Blank::new(1));
+            self.near = key;
         }
     }
 
@@ -392,7 +398,7 @@ impl CapTable {
         let holder = Holder { client, ino };
         if caps.has(Cap::P) {
             self.remove(holder);
-        } else if let Some(entry) = self.find(client, ino) {
+        } else if let Some(entry) = self.found(client, ino) {
             self.put(holder, entry.given_back(caps));
         }
     }
@@ -401,13 +407,15 @@ impl CapTable {
     fn remove(&mut self, holder: Holder)
         ensures { self.new ≡ without self.old holder }
     {
-        if let Some(key) = self.keys.remove(&holder) {
+        if let Some(key) = key_of(&self.lists, holder, self.near) {
             let next = self.lists.next_of_client(key);
             let was = is_due_at(&self.lists, key);
             remove_node::<Brand>(&mut self.lists, key, Blank::new(1));
             move_place(&mut self.polls, holder.client, key, next);
             count_again(&mut self.polls, holder.client, was, false);
             end_poll(&mut self.polls, &self.lists, holder.client);
+            // Where all entries of a client go, this is the one that goes next.
+            self.near = next.unwrap_or(0);
         }
     }
 

@@ -6,15 +6,15 @@ use Rattle.captable.proofs.table.CapTable.find.Goals as goal
 pub returns-in_err-key-clause-entry : goal.returns-in_err-key-clause-entry
 returns-in_err-key-clause-entry c =
     let h = holder c.args.client c.args.ino in
-    c.from_residual.ensures ∙ sym (entry-none c.self.inside.lists c.self.inside.keys c.self.inside.made c.self.invariant.0 h (sym c.in_err-key.ensures.value)) ∙ ap (λ t. entry_at t h) c.self.view_is
+    c.from_residual.ensures ∙ sym (entry-none c.self.inside.lists c.self.inside.made c.self.invariant.0 h c.in_err-key.ensures.none) ∙ ap (λ t. entry_at t h) c.self.view_is
 
 pub returns-in_err-node-clause-entry : goal.returns-in_err-node-clause-entry
 returns-in_err-node-clause-entry c =
     let h = holder c.args.client c.args.ino in
-    absurd (no_hole c.self.inside.lists c.self.inside.keys c.self.inside.made c.self.invariant.0 h c.in_ok-key.field-0.now (sym c.in_ok-key.ensures.value) (sym c.in_err-node.ensures.node))
+    absurd (no_hole c.self.inside.lists c.self.inside.made c.self.invariant.0 h c.in_ok-key.key c.in_ok-key.ensures.found (sym c.in_err-node.ensures.node))
 
 pub returns-clause-entry : goal.returns-clause-entry
 returns-clause-entry c =
     let h = holder c.args.client c.args.ino in
-    sym (entry-found c.self.inside.lists c.self.inside.keys c.self.inside.made c.self.invariant.0 h c.in_ok-key.field-0.now c.in_ok-node.node (sym c.in_ok-key.ensures.value) (sym c.in_ok-node.ensures.node))
+    sym (entry-found c.self.inside.lists c.self.inside.made c.self.invariant.0 h c.in_ok-key.key c.in_ok-node.node c.in_ok-key.ensures.found (sym c.in_ok-node.ensures.node))
     ∙ ap (λ t. entry_at t h) c.self.view_is

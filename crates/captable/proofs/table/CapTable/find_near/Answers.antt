@@ -13,6 +13,6 @@ returns-then-node-ino c =
     let h : Holder = holder c.args.client c.args.ino in
     let there : node_at c.self.inside.lists c.args.place ≡ Some c.in-Some.node = sym c.in-Some.ensures.node in
     let mine : holder_of c.in-Some.node ≡ h = λ i. holder (record { 0 = c.if-node-client.true i }) (record { 0 = c.if-node-ino.true i }) in
-    let key = c.self.invariant.0.keyed.to_key h c.args.place (ap (option_map holder_of) there ∙ ap Some mine) in
-    sym (entry-found c.self.inside.lists c.self.inside.keys c.self.inside.made c.self.invariant.0 h c.args.place c.in-Some.node key there)
+    let key = ap (option_map holder_of) there ∙ ap Some mine in
+    sym (entry-found c.self.inside.lists c.self.inside.made c.self.invariant.0 h c.args.place c.in-Some.node key there)
     ∙ ap (λ t. entry_at t h) c.self.view_is

@@ -13,5 +13,5 @@ returns-clause-first c =
     let t = c.self.inside.lists in
     c.holder_at.ensures
     ∙ ap (λ o. option_and_then (λ k. option_map holder_of (node_at t k)) o) (sym c.in_ok-key.was)
-    ∙ first-found t c.self.inside.keys c.self.inside.made c.self.invariant.0 c.args.client c.first_of_client.result c.first_of_client.ensures.first
+    ∙ first-found t c.self.inside.made c.self.invariant.0 c.args.client c.first_of_client.result c.first_of_client.ensures.first
     ∙ ap (λ (u : Table). first_holder (filter (is_of_client c.args.client) u.rows)) c.self.view_is

@@ -11,7 +11,7 @@ use Rattle.captable.proofs.table.CapTable.new.Goals as goal
 
 pub invariant_of-result : goal.invariant_of-result
 invariant_of-result c = (
-  Kept-empty c.in_ok-lists.lists c.new-keys.result c.in_ok-lists.ensures c.new-keys.ensures.empty,
+  Kept-empty c.in_ok-lists.lists c.in_ok-lists.ensures,
   AreQuiet-empty c.in_ok-lists.lists (places_of c.new-polls.result) (part-none (λ poll. poll.place) c.new-polls.result c.new-polls.ensures),
   ArePlaced-empty c.in_ok-lists.lists (places_of c.new-polls.result) c.in_ok-lists.ensures (part-none (λ poll. poll.place) c.new-polls.result c.new-polls.ensures),
   AreCounted-empty (table_of c.in_ok-lists.lists 0).rows (counts_of c.new-polls.result) (ap (λ (t : Lists Slot). (table_of t 0).rows) c.in_ok-lists.ensures)

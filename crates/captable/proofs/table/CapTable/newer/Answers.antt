@@ -10,7 +10,7 @@ use Rattle.captable.proofs.table.CapTable.newer.Goals as goal
 pub returns-in_err-key-clause-after : goal.returns-in_err-key-clause-after
 returns-in_err-key-clause-after c =
     let h = holder c.args.client c.args.ino in
-    c.from_residual.ensures ∙ sym (newer-none c.self.inside.lists c.self.inside.keys c.self.inside.made c.self.invariant.0 h (sym c.in_err-key.ensures.value))
+    c.from_residual.ensures ∙ sym (newer-none c.self.inside.lists c.self.inside.made c.self.invariant.0 h c.in_err-key.ensures.none)
     ∙ ap (λ (t : Table). newer_in t.recall h) c.self.view_is
 
 pub returns-in_err-next-clause-after : goal.returns-in_err-next-clause-after
@@ -19,7 +19,7 @@ returns-in_err-next-clause-after c =
     let t = c.self.inside.lists in
     c.from_residual-in_err-next.ensures
     ∙ ap (λ o. option_and_then (λ k. option_map holder_of (node_at t k)) o) c.in_err-next.ensures.next
-    ∙ sym (newer-found t c.self.inside.keys c.self.inside.made c.self.invariant.0 h c.in_ok-key.field-0.now (sym c.in_ok-key.ensures.value))
+    ∙ sym (newer-found t c.self.inside.made c.self.invariant.0 h c.in_ok-key.key c.in_ok-key.ensures.found)
     ∙ ap (λ (t : Table). newer_in t.recall h) c.self.view_is
 
 pub returns-clause-after : goal.returns-clause-after
@@ -28,5 +28,5 @@ returns-clause-after c =
     let t = c.self.inside.lists in
     c.holder_at.ensures
     ∙ ap (λ o. option_and_then (λ k. option_map holder_of (node_at t k)) o) c.in_ok-next.ensures.next
-    ∙ sym (newer-found t c.self.inside.keys c.self.inside.made c.self.invariant.0 h c.in_ok-key.field-0.now (sym c.in_ok-key.ensures.value))
+    ∙ sym (newer-found t c.self.inside.made c.self.invariant.0 h c.in_ok-key.key c.in_ok-key.ensures.found)
     ∙ ap (λ (t : Table). newer_in t.recall h) c.self.view_is

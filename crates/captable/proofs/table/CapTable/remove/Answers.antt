@@ -1,17 +1,16 @@
-use Rattle.std.proofs.Common.{◌≡◌, ◌<◌, true, false, cond, Some, None, ◌∙◌, sym, ap, subst, refl, slice_get}
+use Rattle.std.proofs.Common.{◌≡◌, ◌<◌, true, false, cond, ◌∙◌, sym, ap, subst, refl, slice_get}
 use Rattle.std.specs.Prelude.{IfSome}
 use Rattle.std.specs.FinMap as map
 use Rattle.std.specs.Option.{option_map}
-use Rattle.std.specs.HashMap.{get}
 use Rattle.std.proofs.lemmas.Bool.{eq-eqb}
 use Rattle.capbits.specs.declared.ids.ClientId.{ClientId}
 use Rattle.cap_arena.specs.Walks.{is_among}
 use Rattle.cap_arena.specs.Lists.{OfClient, keys}
 use Rattle.captable.specs.declared.entry.Holder.{Holder}
-use Rattle.captable.specs.Table.{IsTable, same, entry_at}
+use Rattle.captable.specs.Table.{IsTable, entry_at}
 use Rattle.captable.specs.Calls.{without}
 use Rattle.captable.specs.Kept.{Kept}
-use Rattle.captable.specs.Nodes.{table_of}
+use Rattle.captable.specs.Nodes.{IsKeyOf, table_of}
 use Rattle.captable.specs.Places.{same_client, AreQuiet, moved_on}
 use Rattle.captable.specs.Polls.{places_of, counts_of, recounted}
 use Rattle.captable.proofs.Counting.{count-fits}
@@ -27,7 +26,7 @@ use Rattle.captable.proofs.Removing.{Kept-left, table-left}
 use Rattle.captable.proofs.table.CapTable.remove.Goals as goal
 
 pub remove_node-requires-clause-there : goal.remove_node-requires-clause-there
-remove_node-requires-clause-there c = node-there c.self.inside.lists c.self.inside.keys c.self.inside.made c.self.invariant.0 c.args.holder c.in-Some.key (sym c.in-Some.ensures.value)
+remove_node-requires-clause-there c = node-there c.self.inside.lists c.self.inside.made c.self.invariant.0 c.args.holder c.in-Some.key c.in-Some.ensures.found
 
 pub count_again-requires : goal.count_again-requires
 count_again-requires c =
@@ -43,8 +42,8 @@ count_again-requires c =
 pub invariant_of-self : goal.invariant_of-self
 invariant_of-self c =
     let t = c.self.inside.lists in
-    let found : get same c.self.inside.keys c.args.holder ≡ Some c.in-Some.key = sym c.in-Some.ensures.value in
-    let o = held t c.self.inside.keys c.self.invariant.0.keyed c.args.holder c.in-Some.key found in
+    let found : IsKeyOf t c.args.holder c.in-Some.key = c.in-Some.ensures.found in
+    let o = held t c.self.inside.made c.self.invariant.0 c.args.holder c.in-Some.key found in
     let of : o.0.client ≡ c.args.holder.client = ap (λ (h : Holder). h.client) o.2 in
     let listed : is_among (keys t (OfClient c.args.holder.client)) c.in-Some.key ≡ true =
     is_in t c.self.invariant.0.sound (OfClient c.args.holder.client) c.in-Some.key o.0 o.1.there (eq-eqb o.0.client.0 c.args.holder.client.0 (ap (λ (q : ClientId). q.0) of)) in
@@ -66,28 +65,28 @@ invariant_of-self c =
     quiet-removed t left c.in-Some.key c.remove_node.ensures.removed c.self.invariant.0.sound client o.0 o.1.there of
     c.next_of_client-next.result (c.next_of_client-next.ensures.next ∙ next-of-client t c.self.invariant.0.sound client c.in-Some.key o.0 o.1.there listed)
     (places_of m) (places_of again) moves c.self.invariant.1 in
-    let kept : Kept left c.remove.new.self c.self.inside.made =
-    Kept-left t c.remove_node.new.lists c.self.inside.keys c.remove.new.self c.self.inside.made c.args.holder c.in-Some.key c.self.invariant.0
-    found c.remove_node.ensures.removed c.remove.ensures.updates.0 c.remove_node.ensures.sound in (
+    let kept : Kept left c.self.inside.made =
+    Kept-left t c.remove_node.new.lists c.self.inside.made c.args.holder c.in-Some.key c.self.invariant.0
+    found c.remove_node.ensures.removed c.remove_node.ensures.sound in (
       kept,
       quiet-ended left client first (places_of again) (places_of last) (part-ended (λ poll. poll.place) again client first last c.end_poll.ensures) moved,
       placed-removed left client first (places_of again) (places_of last) (part-ended (λ poll. poll.place) again client first last c.end_poll.ensures)
           t c.in-Some.key c.remove_node.ensures.removed c.self.invariant.0.sound o.0 o.1.there of refl next (places_of m) moves c.self.invariant.2,
-      counted-gone t left c.self.inside.keys c.self.inside.made c.args.holder c.in-Some.key c.self.invariant.0 found o.0 o.1.there o.2 (counts_of m) (counts_of again)
-          c.is_due_at-was.result false c.is_due_at-was.ensures (counts-placed t m c.self.invariant.2) recounts c.self.invariant.3 c.remove.new.self refl
-          (table-left t left c.self.inside.keys c.remove.new.self c.self.inside.made c.args.holder c.in-Some.key c.self.invariant.0 found c.remove_node.ensures.removed) kept
+      counted-gone t left c.self.inside.made c.args.holder c.in-Some.key c.self.invariant.0 found o.0 o.1.there o.2 (counts_of m) (counts_of again)
+          c.is_due_at-was.result false c.is_due_at-was.ensures (counts-placed t m c.self.invariant.2) recounts c.self.invariant.3 refl
+          (table-left t left c.self.inside.made c.args.holder c.in-Some.key c.self.invariant.0 found c.remove_node.ensures.removed) kept
           (counts_of last) (part-ended (λ poll. poll.due) again client first last c.end_poll.ensures),
     )
 
 pub returns-in-Some : goal.returns-in-Some
 returns-in-Some c =
     let h = c.args.holder in
-    table-left c.self.inside.lists c.remove_node.new.lists c.self.inside.keys c.remove.new.self c.self.inside.made h c.in-Some.key c.self.invariant.0
-    (sym c.in-Some.ensures.value) c.remove_node.ensures.removed ∙ ap (λ t. without t h) c.self.view_is
+    table-left c.self.inside.lists c.remove_node.new.lists c.self.inside.made h c.in-Some.key c.self.invariant.0
+    c.in-Some.ensures.found c.remove_node.ensures.removed ∙ ap (λ t. without t h) c.self.view_is
 
 pub returns-in_default : goal.returns-in_default
 returns-in_default c =
     let h = c.args.holder in
-    let none : get same c.self.inside.keys h ≡ None = sym c.in_default.ensures.value in
-    c.self.view_is ∙ without-none c.args.self.now h (subst IsTable c.self.view_is c.self.invariant.0.table)
-    (ap (λ t. entry_at t h) (sym c.self.view_is) ∙ entry-none c.self.inside.lists c.self.inside.keys c.self.inside.made c.self.invariant.0 h none)
+    let none = c.in_default.ensures.none in
+    without-none c.args.self.now h (subst IsTable c.self.view_is c.self.invariant.0.table)
+    (ap (λ t. entry_at t h) (sym c.self.view_is) ∙ entry-none c.self.inside.lists c.self.inside.made c.self.invariant.0 h none)

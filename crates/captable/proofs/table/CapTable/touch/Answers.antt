@@ -1,8 +1,7 @@
-use Rattle.std.proofs.Common.{◌≡◌, None, ◌∙◌, sym, ap, subst}
-use Rattle.std.specs.HashMap.{get}
+use Rattle.std.proofs.Common.{◌≡◌, ◌∙◌, sym, ap, subst}
 use Rattle.captable.specs.Polls.{AreCounted, places_of, counts_of}
 use Rattle.captable.specs.Nodes.{table_of}
-use Rattle.captable.specs.Table.{Table, IsTable, holder, same, entry_at}
+use Rattle.captable.specs.Table.{Table, IsTable, holder, entry_at}
 use Rattle.captable.specs.Calls.{touched}
 use Rattle.captable.proofs.Absent.{touched-none}
 use Rattle.captable.proofs.Reading.{entry-none, node-there}
@@ -13,30 +12,30 @@ use Rattle.captable.proofs.table.CapTable.touch.Goals as goal
 
 pub touch_node-requires-clause-there : goal.touch_node-requires-clause-there
 touch_node-requires-clause-there c =
-    node-there c.self.inside.lists c.self.inside.keys c.self.inside.made c.self.invariant.0 (holder c.args.client c.args.ino) c.in-Some.key.now (sym c.in-Some.ensures.value)
+    node-there c.self.inside.lists c.self.inside.made c.self.invariant.0 (holder c.args.client c.args.ino) c.in-Some.key c.in-Some.ensures.found
 
 pub invariant_of-self : goal.invariant_of-self
 invariant_of-self c =
     let h = holder c.args.client c.args.ino in
     let moved : table_of c.touch_node.new.lists c.self.inside.made ≡ touched (table_of c.self.inside.lists c.self.inside.made) h =
-    table-moved c.self.inside.lists c.touch_node.new.lists c.self.inside.keys c.self.inside.made h c.in-Some.key.now c.self.invariant.0
-    (sym c.in-Some.ensures.value) c.touch_node.ensures.touched in (
-      Kept-touched c.self.inside.lists c.touch_node.new.lists c.self.inside.keys c.self.inside.made (holder c.args.client c.args.ino) c.in-Some.key.now c.self.invariant.0
-          (sym c.in-Some.ensures.value) c.touch_node.ensures.touched c.touch_node.ensures.sound,
-      quiet-touched c.self.inside.lists c.touch_node.new.lists c.in-Some.key.now c.touch_node.ensures.touched (places_of c.self.inside.polls) c.self.invariant.1,
-      placed-touched c.self.inside.lists c.touch_node.new.lists c.in-Some.key.now c.touch_node.ensures.touched (places_of c.self.inside.polls) c.self.invariant.2,
+    table-moved c.self.inside.lists c.touch_node.new.lists c.self.inside.made h c.in-Some.key c.self.invariant.0
+    c.in-Some.ensures.found c.touch_node.ensures.touched in (
+      Kept-touched c.self.inside.lists c.touch_node.new.lists c.self.inside.made (holder c.args.client c.args.ino) c.in-Some.key c.self.invariant.0
+          c.in-Some.ensures.found c.touch_node.ensures.touched c.touch_node.ensures.sound,
+      quiet-touched c.self.inside.lists c.touch_node.new.lists c.in-Some.key c.touch_node.ensures.touched (places_of c.self.inside.polls) c.self.invariant.1,
+      placed-touched c.self.inside.lists c.touch_node.new.lists c.in-Some.key c.touch_node.ensures.touched (places_of c.self.inside.polls) c.self.invariant.2,
       subst (λ (u : Table). AreCounted u.rows (counts_of c.self.inside.polls)) (sym moved) c.self.invariant.3,
     )
 
 pub returns-in-Some : goal.returns-in-Some
 returns-in-Some c =
     let h = holder c.args.client c.args.ino in
-    table-moved c.self.inside.lists c.touch_node.new.lists c.self.inside.keys c.self.inside.made h c.in-Some.key.now c.self.invariant.0
-    (sym c.in-Some.ensures.value) c.touch_node.ensures.touched ∙ ap (λ t. touched t h) c.self.view_is
+    table-moved c.self.inside.lists c.touch_node.new.lists c.self.inside.made h c.in-Some.key c.self.invariant.0
+    c.in-Some.ensures.found c.touch_node.ensures.touched ∙ ap (λ t. touched t h) c.self.view_is
 
 pub returns-in_default : goal.returns-in_default
 returns-in_default c =
     let h = holder c.args.client c.args.ino in
-    let none : get same c.self.inside.keys h ≡ None = sym c.in_default.ensures.value in
+    let none = c.in_default.ensures.none in
     touched-none c.args.self.now h (subst IsTable c.self.view_is c.self.invariant.0.table)
-    (ap (λ t. entry_at t h) (sym c.self.view_is) ∙ entry-none c.self.inside.lists c.self.inside.keys c.self.inside.made c.self.invariant.0 h none)
+    (ap (λ t. entry_at t h) (sym c.self.view_is) ∙ entry-none c.self.inside.lists c.self.inside.made c.self.invariant.0 h none)
