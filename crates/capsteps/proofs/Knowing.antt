@@ -7,7 +7,7 @@ use Rattle.capbits.specs.Sets.{no_caps, minus, meet, IsSubset, same_caps, has-no
 use Rattle.captable.specs.declared.entry.Entry.{Entry}
 use Rattle.captable.specs.declared.entry.EntryRow.{EntryRow}
 use Rattle.captable.specs.declared.entry.Holder.{Holder}
-use Rattle.captable.specs.Table.{Table, IsTable, same, is_row_of, entry_of, entry_at}
+use Rattle.captable.specs.Table.{Table, IsTable, is_row_of, entry_of, entry_at}
 use Rattle.captable.specs.Many.{changed_where, remade}
 use Rattle.captable.proofs.ByHolder.{row_found}
 use Rattle.captable.proofs.Searches.{find-map}

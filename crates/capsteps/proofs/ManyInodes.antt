@@ -11,7 +11,7 @@ use Rattle.capbits.specs.declared.ids.Ino.{Ino}
 use Rattle.captable.specs.declared.entry.Entry.{Entry}
 use Rattle.captable.specs.declared.entry.EntryRow.{EntryRow}
 use Rattle.captable.specs.declared.entry.Holder.{Holder}
-use Rattle.captable.specs.Table.{Table, same, is_row_of}
+use Rattle.captable.specs.Table.{Table, is_row_of}
 use Rattle.capbits.specs.Caps.{Caps}
 use Rattle.std.proofs.lemmas.List.Folds.{list_any-append}
 use Rattle.captable.specs.Calls.{is_of_inode, entries_on}
