@@ -1,6 +1,5 @@
 -- The sets that are kept of entries, renewed of one holder after another, and so of one inode after another.
 use Rattle.std.proofs.Common.{◌≡◌, ◌≢◌, ℕ, zero, suc, ◌<◌, Bool, true, false, cond, ◌&&◌, ◌||◌, ◌==◌, Option, Some, None, IsSome, List, [], ◌∷◌, length, take, get_or, refl, sym, ap, subst, ◌∙◌, arith, true≢false}
-use Rattle.std.specs.HashMap.{HashMap, get}
 use Rattle.std.specs.List.{find, IsDistinct}
 use Rattle.std.specs.Option.{option_map}
 use Rattle.std.proofs.lemmas.Map.Keys.{apart_from_distinct}
@@ -16,52 +15,52 @@ use Rattle.captable.proofs.ByHolder.{row_of-entry}
 use Rattle.captable.proofs.Changes.{no_entry}
 use Rattle.captable.proofs.Searches.{find_passes, find-map}
 use Rattle.captable.proofs.Tables.{same_equiv, same-is, holders-filter, among-filter}
-use Rattle.capacts.specs.Known.{HaveRoom, kept_anew, KeptAnew}
+use Rattle.capacts.specs.Known.{KnownSets, kept_of, HaveRoom, kept_anew, KeptAnew}
 
 -- ---- one holder
 
-module _ {S : Type 0} (f : EntryRow → Caps) (t : Table) (was now : HashMap Holder Caps S) (h : Holder) where
+module _ (f : EntryRow → Caps) (t : Table) (was now : KnownSets) (h : Holder) where
   -- where it has an entry
-  pub kept-one : (e : Entry) → entry_at t h ≡ Some e → get same now h ≡ Some (f (record { holder = h; entry = e })) → ((k : Holder) → k ≢ h → get same now k ≡ get same was k) → KeptAnew (λ k. same k h) f t was now
+  pub kept-one : (e : Entry) → entry_at t h ≡ Some e → kept_of now h ≡ Some (f (record { holder = h; entry = e })) → ((k : Holder) → k ≢ h → kept_of now k ≡ kept_of was k) → KeptAnew (λ k. same k h) f t was now
   kept-one e there own others k = by_same (same k h) refl
     where
-      by_same : (b : Bool) → same k h ≡ b → get same now k ≡ kept_anew b f (find (is_row_of k) t.rows) (get same was k)
+      by_same : (b : Bool) → same k h ≡ b → kept_of now k ≡ kept_anew b f (find (is_row_of k) t.rows) (kept_of was k)
       by_same true on =
           let is : k ≡ h = same-is k h on in
-          ap (get same now) is ∙ own ∙ sym (ap (λ q. kept_anew true f (find (is_row_of q) t.rows) (get same was k)) is ∙ ap (λ o. kept_anew true f o (get same was k)) (row_of-entry t h e there))
+          ap (kept_of now) is ∙ own ∙ sym (ap (λ q. kept_anew true f (find (is_row_of q) t.rows) (kept_of was k)) is ∙ ap (λ o. kept_anew true f o (kept_of was k)) (row_of-entry t h e there))
       by_same false off = others k (λ is. true≢false (sym (same_equiv.refl k) ∙ ap (same k) is ∙ off))
 
   -- and where it has none
-  pub kept-none : entry_at t h ≡ None → ((k : Holder) → get same now k ≡ get same was k) → KeptAnew (λ k. same k h) f t was now
+  pub kept-none : entry_at t h ≡ None → ((k : Holder) → kept_of now k ≡ kept_of was k) → KeptAnew (λ k. same k h) f t was now
   kept-none none all k = all k ∙ by_same (same k h) refl
     where
-      by_same : (b : Bool) → same k h ≡ b → get same was k ≡ kept_anew b f (find (is_row_of k) t.rows) (get same was k)
+      by_same : (b : Bool) → same k h ≡ b → kept_of was k ≡ kept_anew b f (find (is_row_of k) t.rows) (kept_of was k)
       by_same true on =
-          sym (ap (λ q. kept_anew true f (find (is_row_of q) t.rows) (get same was k)) (same-is k h on) ∙ ap (λ o. kept_anew true f o (get same was k)) (no_entry (find (is_row_of h) t.rows) none))
+          sym (ap (λ q. kept_anew true f (find (is_row_of q) t.rows) (kept_of was k)) (same-is k h on) ∙ ap (λ o. kept_anew true f o (kept_of was k)) (no_entry (find (is_row_of h) t.rows) none))
       by_same false off = refl
 
 -- ---- some after others
 
 -- none
-pub kept-nobody : {S : Type 0} (f : EntryRow → Caps) (t : Table) (sets : HashMap Holder Caps S) → KeptAnew (λ k. false) f t sets sets
+pub kept-nobody : (f : EntryRow → Caps) (t : Table) (sets : KnownSets) → KeptAnew (λ k. false) f t sets sets
 kept-nobody f t sets k = refl
 
 -- the same
-pub kept-same : {S : Type 0} (p q : Holder → Bool) (f : EntryRow → Caps) (t : Table) (was now : HashMap Holder Caps S) → ((k : Holder) → p k ≡ q k) → KeptAnew p f t was now → KeptAnew q f t was now
-kept-same p q f t was now same_tests kept k = kept k ∙ ap (λ b. kept_anew b f (find (is_row_of k) t.rows) (get same was k)) (same_tests k)
+pub kept-same : (p q : Holder → Bool) (f : EntryRow → Caps) (t : Table) (was now : KnownSets) → ((k : Holder) → p k ≡ q k) → KeptAnew p f t was now → KeptAnew q f t was now
+kept-same p q f t was now same_tests kept k = kept k ∙ ap (λ b. kept_anew b f (find (is_row_of k) t.rows) (kept_of was k)) (same_tests k)
 
 -- by sets that are the same for those who are among them
-pub kept-as : {S : Type 0} (p : Holder → Bool) (f g : EntryRow → Caps) (t : Table) (was now : HashMap Holder Caps S) → ((row : EntryRow) → p row.holder ≡ true → f row ≡ g row)
+pub kept-as : (p : Holder → Bool) (f g : EntryRow → Caps) (t : Table) (was now : KnownSets) → ((row : EntryRow) → p row.holder ≡ true → f row ≡ g row)
     → KeptAnew p f t was now → KeptAnew p g t was now
 kept-as p f g t was now same_sets kept k = kept k ∙ by_row (p k) refl (find (is_row_of k) t.rows) refl
   where
-    by_row : (b : Bool) → p k ≡ b → (o : Option EntryRow) → find (is_row_of k) t.rows ≡ o → kept_anew b f o (get same was k) ≡ kept_anew b g o (get same was k)
+    by_row : (b : Bool) → p k ≡ b → (o : Option EntryRow) → find (is_row_of k) t.rows ≡ o → kept_anew b f o (kept_of was k) ≡ kept_anew b g o (kept_of was k)
     by_row true on None none = refl
     by_row true on (Some row) found = ap Some (same_sets row (ap p (sym (same-is k row.holder (find_passes (is_row_of k) t.rows row found))) ∙ on))
     by_row false off o found = refl
 
 -- those whose rows in a later table are as in the first
-pub kept-then : {S : Type 0} (p q : Holder → Bool) (f : EntryRow → Caps) (t later : Table) (was mid now : HashMap Holder Caps S) → KeptAnew p f t was mid → KeptAnew q f later mid now
+pub kept-then : (p q : Holder → Bool) (f : EntryRow → Caps) (t later : Table) (was mid now : KnownSets) → KeptAnew p f t was mid → KeptAnew q f later mid now
     → ((k : Holder) → q k ≡ true → find (is_row_of k) later.rows ≡ find (is_row_of k) t.rows) → KeptAnew (λ k. p k || q k) f t was now
 kept-then p q f t later was mid now first then alike k = then k ∙ by_second (q k) refl
   where
@@ -78,28 +77,28 @@ kept-then p q f t later was mid now first then alike k = then k ∙ by_second (q
     once true o s = refl
     once false o s = refl
 
-    by_second : (b : Bool) → q k ≡ b → kept_anew b f (find (is_row_of k) later.rows) (get same mid k) ≡ kept_anew (p k || b) f (find (is_row_of k) t.rows) (get same was k)
-    by_second true on = ap (λ o. kept_anew true f o (get same mid k)) (alike k on) ∙ twice (p k) row (get same was k) (get same mid k) (first k)
-    by_second false off = first k ∙ once (p k) row (get same was k)
+    by_second : (b : Bool) → q k ≡ b → kept_anew b f (find (is_row_of k) later.rows) (kept_of mid k) ≡ kept_anew (p k || b) f (find (is_row_of k) t.rows) (kept_of was k)
+    by_second true on = ap (λ o. kept_anew true f o (kept_of mid k)) (alike k on) ∙ twice (p k) row (kept_of was k) (kept_of mid k) (first k)
+    by_second false off = first k ∙ once (p k) row (kept_of was k)
 
 -- of who is not among them the same is kept
-pub kept-not : {S : Type 0} (p : Holder → Bool) (f : EntryRow → Caps) (t : Table) (was now : HashMap Holder Caps S) → KeptAnew p f t was now → (k : Holder) → p k ≡ false → get same now k ≡ get same was k
-kept-not p f t was now kept k off = kept k ∙ ap (λ b. kept_anew b f (find (is_row_of k) t.rows) (get same was k)) off
+pub kept-not : (p : Holder → Bool) (f : EntryRow → Caps) (t : Table) (was now : KnownSets) → KeptAnew p f t was now → (k : Holder) → p k ≡ false → kept_of now k ≡ kept_of was k
+kept-not p f t was now kept k off = kept k ∙ ap (λ b. kept_anew b f (find (is_row_of k) t.rows) (kept_of was k)) off
 
 -- where something was kept, something is
-pub kept-some : {S : Type 0} (p : Holder → Bool) (f : EntryRow → Caps) (t : Table) (was now : HashMap Holder Caps S) → KeptAnew p f t was now → (k : Holder) → IsSome (get same was k) → IsSome (get same now k)
+pub kept-some : (p : Holder → Bool) (f : EntryRow → Caps) (t : Table) (was now : KnownSets) → KeptAnew p f t was now → (k : Holder) → IsSome (kept_of was k) → IsSome (kept_of now k)
 kept-some p f t was now kept k some = subst IsSome (sym (kept k)) (by_case (p k) (find (is_row_of k) t.rows))
   where
-    by_case : (b : Bool) (o : Option EntryRow) → IsSome (kept_anew b f o (get same was k))
+    by_case : (b : Bool) (o : Option EntryRow) → IsSome (kept_anew b f o (kept_of was k))
     by_case true None = some
     by_case true (Some row) = refl
     by_case false o = some
 
 -- whoever has an entry, has room
-pub room-of : {S : Type 0} (sets : HashMap Holder Caps S) (t : Table) (k : Holder) → HaveRoom sets t → IsSome (entry_at t k) → IsSome (get same sets k)
+pub room-of : (sets : KnownSets) (t : Table) (k : Holder) → HaveRoom sets t → IsSome (entry_at t k) → IsSome (kept_of sets k)
 room-of sets t k room some = by_entry (entry_at t k) refl some
   where
-    by_entry : (o : Option Entry) → entry_at t k ≡ o → IsSome o → IsSome (get same sets k)
+    by_entry : (o : Option Entry) → entry_at t k ≡ o → IsSome o → IsSome (kept_of sets k)
     by_entry None none s = absurd (true≢false (sym s))
     by_entry (Some e) there s = room k e there
 
@@ -137,7 +136,7 @@ was-there passes g t k e there = by_row (find (is_row_of k) t.rows) refl
     by_row (Some row) found = (row.entry, ap entry_of found)
 
 -- so there is room still
-pub room-still : {S : Type 0} (p : Holder → Bool) (f : EntryRow → Caps) (t : Table) (was now : HashMap Holder Caps S) (passes : EntryRow → Bool) (g : EntryRow → Entry)
+pub room-still : (p : Holder → Bool) (f : EntryRow → Caps) (t : Table) (was now : KnownSets) (passes : EntryRow → Bool) (g : EntryRow → Entry)
     → KeptAnew p f t was now → HaveRoom was t → HaveRoom now (changed_where passes g t)
 room-still p f t was now passes g kept room k e there = let before = was-there passes g t k e there in kept-some p f t was now kept k (room k before.0 before.1)
 
@@ -161,7 +160,7 @@ among_rows k (r ∷ rows) row found =
     ] found
 
 -- they are all whose entries are on it
-pub kept-on : {S : Type 0} (ino : Ino) (f : EntryRow → Caps) (t : Table) (was now : HashMap Holder Caps S) → KeptAnew (is_among (holders_of_rows (entries_on t ino))) f t was now → KeptAnew (λ k. k.ino.0 == ino.0) f t was now
+pub kept-on : (ino : Ino) (f : EntryRow → Caps) (t : Table) (was now : KnownSets) → KeptAnew (is_among (holders_of_rows (entries_on t ino))) f t was now → KeptAnew (λ k. k.ino.0 == ino.0) f t was now
 kept-on ino f t was now kept k = kept k ∙ by_row (find (is_row_of k) t.rows) refl
   where
     on : Holder → Bool
@@ -178,12 +177,12 @@ kept-on ino f t was now kept k = kept k ∙ by_row (find (is_row_of k) t.rows) r
     always false = refl
 
     by_row : (o : Option EntryRow) → find (is_row_of k) t.rows ≡ o
-        → kept_anew (is_among (holders_of_rows (entries_on t ino)) k) f (find (is_row_of k) t.rows) (get same was k) ≡ kept_anew (k.ino.0 == ino.0) f (find (is_row_of k) t.rows) (get same was k)
+        → kept_anew (is_among (holders_of_rows (entries_on t ino)) k) f (find (is_row_of k) t.rows) (kept_of was k) ≡ kept_anew (k.ino.0 == ino.0) f (find (is_row_of k) t.rows) (kept_of was k)
     by_row None none =
-        ap (λ o. kept_anew (is_among (holders_of_rows (entries_on t ino)) k) f o (get same was k)) none
-        ∙ nobody (is_among (holders_of_rows (entries_on t ino)) k) (k.ino.0 == ino.0) (get same was k)
-        ∙ sym (ap (λ o. kept_anew (k.ino.0 == ino.0) f o (get same was k)) none)
+        ap (λ o. kept_anew (is_among (holders_of_rows (entries_on t ino)) k) f o (kept_of was k)) none
+        ∙ nobody (is_among (holders_of_rows (entries_on t ino)) k) (k.ino.0 == ino.0) (kept_of was k)
+        ∙ sym (ap (λ o. kept_anew (k.ino.0 == ino.0) f o (kept_of was k)) none)
     by_row (Some row) found =
         let its : is_among (holders_of_rows (entries_on t ino)) k ≡ (k.ino.0 == ino.0) =
         ap (λ (hs : List Holder). is_among hs k) (holders-filter on t.rows) ∙ among-filter on (holders_of_rows t.rows) k ∙ ap (λ b. on k && b) (among_rows k t.rows row found) ∙ always (on k) in
-        ap (λ b. kept_anew b f (find (is_row_of k) t.rows) (get same was k)) its
+        ap (λ b. kept_anew b f (find (is_row_of k) t.rows) (kept_of was k)) its

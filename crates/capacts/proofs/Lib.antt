@@ -6,6 +6,7 @@ pub mod Numbered
 pub mod Verdicts
 pub mod Dropped
 pub mod Walked
+pub mod KeptPlaces
 pub mod KeptSets
 pub mod Held
 pub use Rattle.capnotes.proofs.Capevents

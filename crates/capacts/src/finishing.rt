@@ -1,6 +1,5 @@
 //! The end of a step at one entry.
 ghost use Rattle.std.specs.Prelude.{◌≡◌, ◌<◌, ◌^◌, ◌-◌, Some, IsSome};
-ghost use Rattle.std.specs.HashMap.{get};
 ghost use Rattle.std.specs.FinMap as map;
 ghost use Rattle.std.specs.Option.{option_copied};
 ghost use Rattle.inotree.specs.Tree.{path_of};
@@ -9,7 +8,7 @@ ghost use Rattle.captable.specs.Calls.{changed};
 ghost use Rattle.captable.specs.Many.{changed_by};
 ghost use Rattle.capacts.specs.Finish.{allowed_by};
 ghost use Rattle.capacts.specs.Finishing as words;
-ghost use Rattle.capacts.specs.Known.{KeptAnew, known_in};
+ghost use Rattle.capacts.specs.Known.{KeptAnew, kept_of, known_in};
 
 use crate::known::Known;
 use crate::told::{lock_under, told_under};
@@ -38,7 +37,7 @@ pub fn finish_row(
     requires path { option_copied path ≡ path_of tree.now.nodes row.holder.ino.0 }
     requires node { option_copied node ≡ map.get tree.now.nodes row.holder.ino.0 }
     requires number { row.entry.seq < 2 ^ 64 - 1 }
-    requires room { IsSome (get same known.old.sets row.holder) }
+    requires room { IsSome (kept_of known.old.sets row.holder) }
     ensures table { table.new
         ≡ changed_by (words.entry_under (known_in known.old.sets) fs.now tree.now sessions.now locks.now) table.old row.holder }
     ensures known { KeptAnew (λ k. same k row.holder) (words.told_at fs.now tree.now sessions.now locks.now)

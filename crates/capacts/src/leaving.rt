@@ -1,10 +1,10 @@
 //! What goes with a client's session where it ends.
 ghost use Rattle.std.specs.Prelude.{Some, ◌≡◌, ◌+◌, ◌≤◌, ◌++◌, length, map as each};
-ghost use Rattle.std.specs.HashMap.{get};
 ghost use Rattle.captable.specs.declared.entry.Entry.{Entry};
 ghost use Rattle.captable.specs.declared.entry.Holder.{Holder};
-ghost use Rattle.captable.specs.Table.{same, entry_at};
+ghost use Rattle.captable.specs.Table.{entry_at};
 ghost use Rattle.capnotes.specs.Lockmachine.Locks.{requests_of, without_requests_of};
+ghost use Rattle.capacts.specs.Known.{kept_of};
 ghost use Rattle.capacts.specs.Left.{dropped_of, is_end};
 ghost use Rattle.capacts.specs.Left as words;
 
@@ -41,7 +41,7 @@ pub fn leave(
 )
     requires room { length dropped.old.items + length locks.old.queue ≤ dropped.old.room }
     ensures table { table.new ≡ words.table_left (is_end turn.entry) table.old client }
-    ensures known { (k : Holder) (e : Entry) → entry_at table.new k ≡ Some e → get same known.new.sets k ≡ get same known.old.sets k }
+    ensures known { (k : Holder) (e : Entry) → entry_at table.new k ≡ Some e → kept_of known.new.sets k ≡ kept_of known.old.sets k }
     ensures locks { locks.new ≡ words.locks_left (is_end turn.entry) locks.old client }
     ensures messages { messages.new.items ≡ words.messages_left (is_end turn.entry) messages.old.items client }
     ensures left { messages.new.room ≡ messages.old.room }

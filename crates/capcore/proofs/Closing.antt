@@ -1,8 +1,6 @@
 -- What the calls of the step of an event about one inode come to.
 use Rattle.std.proofs.Common.{◌≡◌, ◌≤◌, ◌<◌, ◌^◌, ◌-◌, ℕ, ◌+◌, ◌++◌, ◌==◌, Bool, true, false, Some, None, is_some, List, Contains, refl, sym, ap, subst, ◌∙◌, arith}
 use Rattle.std.specs.Prelude.{IsTrue, All}
-use Rattle.std.specs.HashMap.{HashMap}
-use Rattle.capbits.specs.Caps.{Caps}
 use Rattle.std.proofs.lemmas.Bool.{eqb-true}
 use Rattle.std.proofs.lemmas.List.Elements.{All-weaker, All-contains}
 use Rattle.sessiontab.specs.Table.{SessionTable}
@@ -32,7 +30,7 @@ use Rattle.capsteps.specs.Settle.{MakesAll, ended_in, sized_in}
 use Rattle.capsteps.specs.Sound.{IsSoundEntry, IsSound, NumbersLeft}
 use Rattle.capsteps.specs.Step.{earlier, all_ended, state_at_end}
 use Rattle.capsteps.specs.Touching.{touched_by, IsTouchedEntry, Touches, TouchesOne, SettlesAt, Knows, finished_at}
-use Rattle.capsteps.specs.Capacts.Known.{known_in, AreKnown, StillKept}
+use Rattle.capsteps.specs.Capacts.Known.{KnownSets, known_in, AreKnown, StillKept}
 use Rattle.capsteps.specs.Capnotes.Untold.{HaveOwnNumbers, but_for}
 use Rattle.capcore.proofs.Concluded.{IsConcluded, GivesOne, concluded}
 use Rattle.capcore.proofs.EndKnown.{ends-known}
@@ -130,7 +128,7 @@ module _ (old : State) (e : Event) (k : Holder) (about : touched_by e ≡ Some k
 
   -- ---- the end of the step
 
-  module _ {S : Type 0} (was now : HashMap Holder Caps S) (order : IsLockMap first.locks) (knows : Knows (known_in was) old.scene first.table)
+  module _ (was now : KnownSets) (order : IsLockMap first.locks) (knows : Knows (known_in was) old.scene first.table)
       (last : Scene) (told : List Ended) (ends : EndsWith from was now first last told) where
     abbrev settles : SettlesWith ends.at from first ends.settled told ends.sized
     settles = ends.settles
@@ -150,7 +148,7 @@ module _ (old : State) (e : Event) (k : Holder) (about : touched_by e ≡ Some k
         ∙ ap (λ (s : State). state_at_end old s settles.moves (finished_at ends.at (known_in was) (sizes_owed (sized_in settles.moves) ends.settled))) left
 
     -- what is known of each entry at the end
-    pub closed-known : (before : HashMap Holder Caps S) → AreKnown before old.scene → StillKept old.scene.table first.table before was → AreKnown now last
+    pub closed-known : (before : KnownSets) → AreKnown before old.scene → StillKept old.scene.table first.table before was → AreKnown now last
     closed-known before known still =
         ends-known before was now from old (with_scene old first) sound table (subst (λ (s : Scene). IsTable s.table) (sym is) (event-table old e k table about passed)) touches known still knows
         last told ends

@@ -1,17 +1,14 @@
 -- At the end of a step that touched some inodes it is known of each entry what its client is to know of.
 use Rattle.std.proofs.Common.{◌≡◌, ℕ, Bool, true, false, Some, List, Contains, refl, sym, ap, subst, ◌∙◌, true≢false}
-use Rattle.std.specs.HashMap.{HashMap, get}
 use Rattle.capbits.specs.declared.ids.Ino.{Ino}
-use Rattle.capbits.specs.Caps.{Caps}
 use Rattle.captable.specs.declared.entry.EntryRow.{EntryRow}
-use Rattle.captable.specs.declared.entry.Holder.{Holder}
 use Rattle.captable.specs.Table.{IsTable, same, entry_of}
 use Rattle.captable.proofs.ByHolder.{row_found}
 use Rattle.capsteps.specs.Lockmachine.Scene.{Scene, told_set}
 use Rattle.capsteps.specs.Capevents.declared.outcome.Ended.{Ended}
 use Rattle.capsteps.specs.State.{State}
 use Rattle.capsteps.specs.Capacts.Finish.{sizes_owed}
-use Rattle.capsteps.specs.Capacts.Known.{known_in, AreKnown, StillKept, KeptAnew}
+use Rattle.capsteps.specs.Capacts.Known.{KnownSets, kept_of, known_in, AreKnown, StillKept, KeptAnew}
 use Rattle.capsteps.specs.Serves.{SettlesWith, EndsWith}
 use Rattle.capsteps.specs.Sound.{IsSound}
 use Rattle.capsteps.specs.Touching.{Touches, Knows, told_then, finished_at}
@@ -19,14 +16,14 @@ use Rattle.capsteps.proofs.Knowing.{still-known}
 use Rattle.capsteps.proofs.SameOff.{row_elsewhere}
 use Rattle.capsteps.proofs.SizesOwed.{sizes-known}
 
-module _ {S : Type 0} (before was now : HashMap Holder Caps S) (from : ℕ → Bool) (old touched : State) (sound : IsSound old) (old_table : IsTable old.scene.table) (table : IsTable touched.scene.table)
+module _ (before was now : KnownSets) (from : ℕ → Bool) (old touched : State) (sound : IsSound old) (old_table : IsTable old.scene.table) (table : IsTable touched.scene.table)
     (touches : Touches from old touched) (known : AreKnown before old.scene) (still : StillKept old.scene.table touched.scene.table before was) (knows : Knows (known_in was) old.scene touched.scene.table)
     (last : Scene) (told : List Ended) (ends : EndsWith from was now touched.scene last told) where
   abbrev settles : SettlesWith ends.at from touched.scene ends.settled told ends.sized
   settles = ends.settles
 
   -- elsewhere entries are as they were
-  elsewhere : (row : EntryRow) → Contains touched.scene.table.rows row → from row.holder.ino.0 ≡ false → get same was row.holder ≡ Some (told_set old.scene row)
+  elsewhere : (row : EntryRow) → Contains touched.scene.table.rows row → from row.holder.ino.0 ≡ false → kept_of was row.holder ≡ Some (told_set old.scene row)
   elsewhere row inside off =
       let same_from = touches.same in
       let inside_old : Contains old.scene.table.rows row = row_elsewhere from old.scene.table touched.scene.table same_from.entries row inside off in

@@ -1,8 +1,6 @@
 -- A recall is a whole step: it marks entries as asked for, by which nothing is judged, moved or issued.
 use Rattle.std.proofs.Common.{◌≡◌, ◌≤◌, ℕ, ◌+◌, Bool, true, false, cond, ◌||◌, List, [], take, refl, sym, ap, subst}
-use Rattle.std.specs.HashMap.{HashMap}
 use Rattle.std.proofs.lemmas.List.Elements.{All-map}
-use Rattle.capbits.specs.Caps.{Caps}
 use Rattle.captable.specs.declared.entry.EntryRow.{EntryRow}
 use Rattle.captable.specs.declared.entry.Holder.{Holder}
 use Rattle.captable.specs.Table.{Table, IsTable, is_among}
@@ -12,7 +10,7 @@ use Rattle.capsteps.specs.Capevents.declared.event.Event.TheVariants as event
 use Rattle.capsteps.specs.Capevents.declared.reply.Reply.TheVariants as reply
 use Rattle.capsteps.specs.declared.said.Said.{Said}
 use Rattle.capsteps.specs.State.{State}
-use Rattle.capsteps.specs.Capacts.Known.{AreKnown}
+use Rattle.capsteps.specs.Capacts.Known.{KnownSets, AreKnown}
 use Rattle.capsteps.specs.Answered.{IsAnswered}
 use Rattle.capsteps.specs.Direct.{with_table}
 use Rattle.capsteps.specs.Capacts.Finish.{finished}
@@ -68,7 +66,7 @@ module _ (old : State) (sound : IsSound old) (count : ℕ) where
       recalled-sound (recalled-finished table) said recalled-given answers kept none
 
   -- each entry holds what it held
-  pub recalled-known : {S : Type 0} (sets : HashMap Holder Caps S) → AreKnown sets old.scene → AreKnown sets (with_table old (recalled old.scene.table count)).scene
+  pub recalled-known : (sets : KnownSets) → AreKnown sets old.scene → AreKnown sets (with_table old (recalled old.scene.table count)).scene
   recalled-known sets known =
       known-alike sets old.scene (recalled old.scene.table count)
       (subst (HoldAlike old.scene.table) (sym (recalled-retold old.scene.table count))

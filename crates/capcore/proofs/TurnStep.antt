@@ -2,8 +2,6 @@
 use Rattle.std.proofs.Common.{◌==◌, ◌≡◌, ◌≤◌, ◌<◌, ◌^◌, ◌-◌, ℕ, ◌+◌, ◌++◌, true, false, not, Bool, Option, Some, None, List, [], length, refl, sym, ap, subst, ◌∙◌, arith}
 use Rattle.std.specs.Prelude.{IsTrue, All}
 use Rattle.std.specs.Option.{option_map}
-use Rattle.std.specs.HashMap.{HashMap}
-use Rattle.capbits.specs.Caps.{Caps}
 use Rattle.captable.specs.declared.entry.Entry.{Entry}
 use Rattle.captable.specs.declared.entry.Holder.{Holder}
 use Rattle.std.proofs.lemmas.Bool.{eqb-true}
@@ -45,7 +43,7 @@ use Rattle.capsteps.specs.Settle.{ended_in, sized_in}
 use Rattle.capsteps.specs.Sound.{IsSound, NumbersLeft}
 use Rattle.capsteps.specs.Step.{earlier, all_ended, state_at_end}
 use Rattle.capsteps.specs.Touching.{Touches, SettlesAt, Knows, finished_at}
-use Rattle.capsteps.specs.Capacts.Known.{known_in, AreKnown, StillKept}
+use Rattle.capsteps.specs.Capacts.Known.{KnownSets, known_in, AreKnown, StillKept}
 use Rattle.capsteps.specs.Capacts.Left.{is_end, table_left, locks_left, messages_left, dropped_by}
 use Rattle.capsteps.specs.Turn.{ReachesClient, turn_event, turn_tests, turned}
 use Rattle.capcore.proofs.Closing.{told-all, touches-clients}
@@ -159,7 +157,7 @@ module _ (old : State) (client : ClientId) (turn : Turn) (passed : judged old.sc
   pub turn-alike : HoldAlike old.scene.table touched.scene.table
   turn-alike k f there = left-alike (is_end turn) old.scene.table client k f there
 
-  module _ {S : Type 0} (before was now : HashMap Holder Caps S) (order : IsLockMap old.scene.locks) (known : AreKnown before old.scene) (still : StillKept old.scene.table touched.scene.table before was)
+  module _ (before was now : KnownSets) (order : IsLockMap old.scene.locks) (known : AreKnown before old.scene) (still : StillKept old.scene.table touched.scene.table before was)
       (last : Scene) (told : List Ended) (ends : EndsWith from was now touched.scene last told) where
     knows : Knows (known_in was) old.scene touched.scene.table
     knows = still-knows before was old.scene touched.scene.table known still table-left (alike-less old.scene.table touched.scene.table turn-alike)

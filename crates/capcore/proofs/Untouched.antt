@@ -4,10 +4,7 @@ use Rattle.std.specs.Option.{option_map}
 use Rattle.std.specs.Cmp.{nat_cmp_total}
 use Rattle.std.specs.Ordering.{nat_cmp, eq_by_cmp}
 use Rattle.std.specs.FinMap as map
-use Rattle.std.specs.HashMap.{HashMap}
-use Rattle.capbits.specs.Caps.{Caps}
-use Rattle.captable.specs.declared.entry.Holder.{Holder}
-use Rattle.capsteps.specs.Capacts.Known.{AreKnown}
+use Rattle.capsteps.specs.Capacts.Known.{KnownSets, AreKnown}
 use Rattle.std.specs.FinSet as set
 use Rattle.std.specs.FinSet.{FinSet}
 use Rattle.std.proofs.lemmas.List.Elements.{All-weaker}
@@ -158,7 +155,7 @@ module _ {s : State} (sound : IsSound s) where
 
 -- ---- and what is known of entries
 
-module _ {s : State} (sound : IsSound s) {S : Type 0} (sets : HashMap Holder Caps S) (known : AreKnown sets s.scene) where
+module _ {s : State} (sound : IsSound s) (sets : KnownSets) (known : AreKnown sets s.scene) where
   pub session-known : (client : ℕ) (caller : Caller) (grants : List Grant) → first_failing (new_session_tests s.scene.sessions client) ≡ None
       → AreKnown sets (record s.scene { sessions = with_session s.scene.sessions client caller grants })
   session-known client caller grants passed =

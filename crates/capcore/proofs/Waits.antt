@@ -1,8 +1,6 @@
 -- The step of a request that waits, as its calls go.
 use Rattle.std.proofs.Common.{is_some, ◌≡◌, ◌<◌, ◌≤◌, ℕ, Bool, ◌+◌, ◌==◌, not, cond, Some, None, List, ◌++◌, length, refl, sym, ap, subst, ◌∙◌, arith}
 use Rattle.std.specs.List.{count_by, find}
-use Rattle.std.specs.HashMap.{HashMap}
-use Rattle.capbits.specs.Caps.{Caps}
 use Rattle.std.proofs.lemmas.Bool.{lt-leb}
 use Rattle.std.proofs.lemmas.List.Sums.{length-filter, count_by-le-length}
 use Rattle.capbits.specs.declared.ids.Ticket.{Ticket}
@@ -35,7 +33,7 @@ use Rattle.capsteps.specs.Capevents.declared.event.Event.{Event}
 use Rattle.capsteps.specs.Capevents.declared.event.Event.TheVariants as event
 use Rattle.capsteps.specs.Capevents.declared.outcome.Ended.{Ended}
 use Rattle.capsteps.specs.Touching.{asks_for, Touches, Knows}
-use Rattle.capsteps.specs.Capacts.Known.{known_in, AreKnown, StillKept}
+use Rattle.capsteps.specs.Capacts.Known.{KnownSets, known_in, AreKnown, StillKept}
 
 -- an event asks for it
 pub some-asking : (k : Holder) (ask : Ask) → (e : Event) × (asks_for e ≡ Some (k, ask))
@@ -83,7 +81,7 @@ module _ (old : State) (k : Holder) (ask : Ask) (sound : IsSound old) (table : I
   wait-alike : HoldAlike old.scene.table first.table
   wait-alike j e there = (e, there, refl)
 
-  module _ {S : Type 0} (was now : HashMap Holder Caps S) (known : AreKnown was old.scene) (last : Scene) (told : List Ended) (ends : EndsWith from was now first last told) where
+  module _ (was now : KnownSets) (known : AreKnown was old.scene) (last : Scene) (told : List Ended) (ends : EndsWith from was now first last told) where
     still : StillKept old.scene.table first.table was was
     still = still-there old.scene.table first.table was was (λ j e there. ap is_some there) (λ j e there. refl)
 

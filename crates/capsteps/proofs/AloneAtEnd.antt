@@ -1,6 +1,5 @@
 -- Where each other entry on the holder's inode has all, the end of a step at the inode is that of the holder's entry.
 use Rattle.std.proofs.Common.{◌≡◌, suc, ◌==◌, Bool, true, false, cond, ◌||◌, Option, Some, None, List, [], ◌∷◌, map as each, refl, sym, ap, subst, ◌∙◌, Contains, arith, eq-eqb, true≢false}
-use Rattle.std.specs.HashMap.{HashMap, get}
 use Rattle.std.specs.List.{find, IsDistinct}
 use Rattle.std.specs.Option.{unwrap_or}
 use Rattle.std.proofs.lemmas.Bool.{eqb-true}
@@ -18,13 +17,13 @@ use Rattle.captable.proofs.Searches.{find_passes}
 use Rattle.captable.proofs.Tables.{same-is}
 use Rattle.capacts.specs.Lockmachine.Scene.{Scene, told_set}
 use Rattle.capacts.proofs.Lockmachine.Told.{told-less}
-use Rattle.capacts.specs.Known.{known_in, HasAll, OthersHaveAll, kept_anew, KeptAnew}
+use Rattle.capacts.specs.Known.{KnownSets, kept_of, known_in, HasAll, OthersHaveAll, kept_anew, KeptAnew}
 use Rattle.capsteps.specs.Touching.{told_then, finished_entry}
 use Rattle.capsteps.proofs.Finishing.{same-issue_row, same-renumbered}
 
 -- ---- an entry that has all
 
-module _ {S : Type 0} (sets : HashMap Holder Caps S) (s : Scene) (row : EntryRow) (all : HasAll sets s row) where
+module _ (sets : KnownSets) (s : Scene) (row : EntryRow) (all : HasAll sets s row) where
   -- at the end its client is to know of what it is to know of already
   told-alike : told_then s row ≡ told_set s row
   told-alike = ap (told_set s) (same-issue_row s row all.0)
@@ -49,7 +48,7 @@ one-distinct : (k : Holder) → IsDistinct same (k ∷ [])
 unfolding IsDistinct
 one-distinct k = (tt, tt)
 
-module _ {S : Type 0} (sets : HashMap Holder Caps S) (s : Scene) (k : Holder) (others : OthersHaveAll sets s k) (table : IsTable s.table) where
+module _ (sets : KnownSets) (s : Scene) (k : Holder) (others : OthersHaveAll sets s k) (table : IsTable s.table) where
   -- what the end of the step makes of an entry
   abbrev last : EntryRow → Entry
   last = finished_entry (known_in sets) s
@@ -79,11 +78,11 @@ module _ {S : Type 0} (sets : HashMap Holder Caps S) (s : Scene) (k : Holder) (o
       (each-alike (λ row. cond (is_among (k ∷ []) row.holder) (remade last row) row) (λ row. cond (row.holder.ino.0 == k.ino.0) (remade last row) row) s.table.rows row-alike)
 
   -- and to keep anew what the holder's client is to know of, is to keep it of all
-  pub alone-kept : (now : HashMap Holder Caps S) → KeptAnew (λ j. same j k) (told_then s) s.table sets now → KeptAnew (λ j. j.ino.0 == k.ino.0) (told_then s) s.table sets now
+  pub alone-kept : (now : KnownSets) → KeptAnew (λ j. same j k) (told_then s) s.table sets now → KeptAnew (λ j. j.ino.0 == k.ino.0) (told_then s) s.table sets now
   alone-kept now kept j = kept j ∙ by_tests (same j k) refl (j.ino.0 == k.ino.0) refl (find (is_row_of j) s.table.rows) refl
     where
       by_tests : (a : Bool) → same j k ≡ a → (b : Bool) → (j.ino.0 == k.ino.0) ≡ b → (o : Option EntryRow) → find (is_row_of j) s.table.rows ≡ o
-          → kept_anew a (told_then s) o (get same sets j) ≡ kept_anew b (told_then s) o (get same sets j)
+          → kept_anew a (told_then s) o (kept_of sets j) ≡ kept_anew b (told_then s) o (kept_of sets j)
       by_tests true is true on o found = refl
       by_tests true is false off o found = absurd (true≢false (sym (on-inode j is) ∙ off))
       by_tests false apart false off o found = refl
@@ -92,4 +91,4 @@ module _ {S : Type 0} (sets : HashMap Holder Caps S) (s : Scene) (k : Holder) (o
           let mine : j ≡ row.holder = same-is j row.holder (find_passes (is_row_of j) s.table.rows row found) in
           let all : HasAll sets s row =
           subst (λ (h : Holder). HasAll sets s (record { holder = h; entry = row.entry })) mine (others j row.entry (eqb-true j.ino.0 k.ino.0 on) apart (ap entry_of found)) in
-          ap (get same sets) mine ∙ all.1 ∙ ap Some (sym (told-alike sets s row all))
+          ap (kept_of sets) mine ∙ all.1 ∙ ap Some (sym (told-alike sets s row all))

@@ -1,14 +1,12 @@
 -- Which inodes a step touches: that of its event, and the others.
 use Rattle.std.proofs.Common.{◌≡◌, ◌≢◌, ℕ, Bool, true, false, ◌||◌, ◌==◌, ◌⊎◌, inl, inr, List, refl, sym, ap, ◌∙◌, eq-eqb, true≢false}
 use Rattle.std.specs.FinSet as set
-use Rattle.std.specs.HashMap.{HashMap}
-use Rattle.capbits.specs.Caps.{Caps}
-use Rattle.captable.specs.declared.entry.Holder.{Holder}
 use Rattle.std.proofs.lemmas.Bool.{ne_eqb}
 use Rattle.capacts.specs.Lockmachine.Moves.{IsQuietOutside}
 use Rattle.capacts.specs.Lockmachine.Scene.{Scene}
 use Rattle.capacts.specs.Capevents.declared.outcome.Ended.{Ended}
 use Rattle.capacts.specs.Capnotes.InoSets.{InoSet}
+use Rattle.capacts.specs.Known.{KnownSets}
 use Rattle.capacts.specs.Reach.{is_touched}
 use Rattle.capsteps.specs.Serves.{EndsWith}
 
@@ -65,7 +63,7 @@ quiet-among ino touched s quiet = record {
 -- ---- at the inode alone
 
 -- what ends at more inodes, has ended at this one
-pub ends-one : {S : Type 0} (ino : ℕ) (touched : InoSet) (was now : HashMap Holder Caps S) (first last : Scene) (told : List Ended)
+pub ends-one : (ino : ℕ) (touched : InoSet) (was now : KnownSets) (first last : Scene) (told : List Ended)
     → EndsWith (is_touched ino touched) was now first last told → EndsWith (λ other. other == ino) was now first last told
 ends-one ino touched was now first last told ends = let all = ends.settles in let there = all.settles in record {
   at = ends.at;

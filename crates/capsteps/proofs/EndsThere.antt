@@ -4,7 +4,6 @@ use Rattle.std.specs.List.{find, list_any}
 use Rattle.std.specs.Option.{option_map, option_map_or}
 use Rattle.std.specs.Ordering.{nat_cmp}
 use Rattle.std.specs.FinMap as finite
-use Rattle.std.specs.HashMap.{HashMap, get}
 use Rattle.std.proofs.lemmas.List.Elements.{All-contains}
 use Rattle.capbits.specs.declared.cap.Cap.{Cap}
 use Rattle.capbits.specs.declared.cap.Cap.TheVariants.{P}
@@ -36,7 +35,7 @@ use Rattle.capsteps.specs.Headline.{holds, IssuesExactly}
 use Rattle.capsteps.specs.Sound.{IsSound, IsSoundEntry}
 use Rattle.capsteps.specs.Settle.{Made}
 use Rattle.capsteps.specs.Touching.{Touches, SettlesAt, Knows, stays, told_then, finished_entry, finished_at}
-use Rattle.capacts.specs.Known.{AreKnown, kept_anew, KeptAnew}
+use Rattle.capacts.specs.Known.{KnownSets, kept_of, AreKnown, kept_anew, KeptAnew}
 use Rattle.capacts.proofs.Held.{or_inside}
 use Rattle.capsteps.proofs.Finishing.{same-issue_row, same-renumbered, kept_by}
 use Rattle.capsteps.proofs.Forgotten.{due-left}
@@ -215,10 +214,10 @@ module _ (at : ℕ → Bool) (known : Holder → Caps) (old : State) (now : Scen
       sym (λ i. told_set (record now { tree = record now.tree { nodes = kept_map now.tree.nodes i }; locks = record now.locks { states = kept_map now.locks.states i } }) (record row { entry = e }))
       ∙ told_last row inside e
 
-  module _ {S : Type 0} (was sets : HashMap Holder Caps S) (off_known : (row : EntryRow) → Contains now.table.rows row → at row.holder.ino.0 ≡ false → get same was row.holder ≡ Some (told_set old.scene row))
+  module _ (was sets : KnownSets) (off_known : (row : EntryRow) → Contains now.table.rows row → at row.holder.ino.0 ≡ false → kept_of was row.holder ≡ Some (told_set old.scene row))
       (kept : KeptAnew (λ k. at k.ino.0) (told_then now) now.table was sets) where
     by_place : (row : EntryRow) → Contains now.table.rows row → (b : Bool) → at row.holder.ino.0 ≡ b
-        → kept_anew b (told_then now) (Some row) (get same was row.holder) ≡ Some (told_set (finished_at at known now) (record row { entry = (cond b (remade (finished_entry known now) row) row).entry }))
+        → kept_anew b (told_then now) (Some row) (kept_of was row.holder) ≡ Some (told_set (finished_at at known now) (record row { entry = (cond b (remade (finished_entry known now) row) row).entry }))
     by_place row inside true on =
         let e : Entry = finished_entry known now row in
         let held : (issue_row now row).entry.held ≡ e.held = sym (held-renumbered (meet (known row.holder) row.entry.held) (told_then now row) (issue_row now row).entry) in
@@ -231,14 +230,14 @@ module _ (at : ℕ → Bool) (known : Holder → Caps) (old : State) (now : Scen
         found : find (is_row_of k) (finished_at at known now).table.rows ≡ option_map ended (find (is_row_of k) now.table.rows)
         found = find-map (is_row_of k) ended (λ row. ap (same k) (holder_ended row)) now.table.rows
 
-        by_found : (o : Option EntryRow) → find (is_row_of k) now.table.rows ≡ o → get same sets k ≡ Some (told_set (finished_at at known now) (record { holder = k; entry = e }))
+        by_found : (o : Option EntryRow) → find (is_row_of k) now.table.rows ≡ o → kept_of sets k ≡ Some (told_set (finished_at at known now) (record { holder = k; entry = e }))
         by_found None none = let gone : entry_at (finished_at at known now).table k ≡ None = ap entry_of (found ∙ ap (option_map ended) none) in absurd (cc)
         by_found (Some row) is =
             let inside : Contains now.table.rows row = found-contains (is_row_of k) now.table.rows row is in
             let mine : k ≡ row.holder = same-is k row.holder (find_passes (is_row_of k) now.table.rows row is) in
             let then : entry_at (finished_at at known now).table k ≡ Some (ended row).entry = ap entry_of (found ∙ ap (option_map ended) is) in
             let e_is : e ≡ (ended row).entry = cc in
-            kept k ∙ (λ i. kept_anew (at (mine i).ino.0) (told_then now) (is i) (get same was (mine i))) ∙ by_place row inside (at row.holder.ino.0) refl
+            kept k ∙ (λ i. kept_anew (at (mine i).ino.0) (told_then now) (is i) (kept_of was (mine i))) ∙ by_place row inside (at row.holder.ino.0) refl
             ∙ (λ i. Some (told_set (finished_at at known now) (record { holder = sym mine i; entry = sym e_is i })))
 
   -- ---- what is newly held
@@ -303,8 +302,8 @@ module _ (at from : ℕ → Bool) (known : Holder → Caps) (old touched : State
       ∙ ends_there at known old settled sound settled-table off-these tree knows_settled
 
   -- of each entry elsewhere what was known is known; and of each on these inodes what its client is to know
-  pub touched-known : {S : Type 0} (was sets : HashMap Holder Caps S)
-      → ((row : EntryRow) → Contains touched.scene.table.rows row → at row.holder.ino.0 ≡ false → get same was row.holder ≡ Some (told_set old.scene row))
+  pub touched-known : (was sets : KnownSets)
+      → ((row : EntryRow) → Contains touched.scene.table.rows row → at row.holder.ino.0 ≡ false → kept_of was row.holder ≡ Some (told_set old.scene row))
       → KeptAnew (λ k. at k.ino.0) (told_then settled) settled.table was sets → AreKnown sets (finished_at at known settled)
   touched-known was sets off_known kept =
       known-there at known old settled sound settled-table off-these tree knows_settled was sets

@@ -1,6 +1,5 @@
 -- What is kept of each entry from the end of the last step, as events leave it.
 use Rattle.std.proofs.Common.{◌≡◌, Bool, true, false, cond, not, ◌&&◌, Option, Some, None, is_some, IsSome, refl, sym, ap, subst, ◌∙◌, true≢false}
-use Rattle.std.specs.HashMap.{HashMap, get}
 use Rattle.std.specs.List.{find}
 use Rattle.std.specs.Option.{option_map, option_map_or, unwrap_or}
 use Rattle.capbits.specs.Caps.{Caps, has}
@@ -8,7 +7,7 @@ use Rattle.capbits.specs.Sets.{no_caps, minus, meet, IsSubset, same_caps, has-no
 use Rattle.captable.specs.declared.entry.Entry.{Entry}
 use Rattle.captable.specs.declared.entry.EntryRow.{EntryRow}
 use Rattle.captable.specs.declared.entry.Holder.{Holder}
-use Rattle.captable.specs.Table.{Table, IsTable, same, is_row_of, entry_of, entry_at}
+use Rattle.captable.specs.Table.{Table, IsTable, is_row_of, entry_of, entry_at}
 use Rattle.captable.specs.Many.{changed_where, remade}
 use Rattle.captable.proofs.ByHolder.{row_found}
 use Rattle.captable.proofs.Searches.{find-map}
@@ -16,7 +15,7 @@ use Rattle.capacts.specs.Lockmachine.Scene.{Scene, told_set}
 use Rattle.capacts.specs.Lockmachine.Told.{is_taken}
 use Rattle.capacts.proofs.Lockmachine.Told.{has-against, has-told, told-less}
 use Rattle.capacts.specs.Judge.{revoked_of}
-use Rattle.capacts.specs.Known.{known_in, AreKnown, HaveRoom, is_still_kept, StillKept}
+use Rattle.capacts.specs.Known.{KnownSets, kept_of, known_in, AreKnown, HaveRoom, is_still_kept, StillKept}
 use Rattle.capsteps.specs.Touching.{Knows}
 use Rattle.capsteps.proofs.Revoking.{revoked-found}
 use Rattle.capsteps.proofs.ShownSteps.{told-held}
@@ -38,7 +37,7 @@ alike-less old new alike k e there c held =
     ap (λ (o : Option Entry). has (option_map_or (λ (x : Entry). x.held) o no_caps) c) was.1 ∙ ap (λ caps. has caps c) (sym was.2) ∙ held
 
 -- entries that hold alike keep what is kept of them
-pub known-alike : {S : Type 0} (sets : HashMap Holder Caps S) (s : Scene) (new : Table) → HoldAlike s.table new → AreKnown sets s → AreKnown sets (record s { table = new })
+pub known-alike : (sets : KnownSets) (s : Scene) (new : Table) → HoldAlike s.table new → AreKnown sets s → AreKnown sets (record s { table = new })
 known-alike sets s new alike known k e there =
     let was = alike k e there in
     known k was.0 was.1 ∙ ap Some (sym (told-held s k was.0 e was.2))
@@ -72,7 +71,7 @@ rest_of true false = refl
 rest_of false t = refl
 
 -- it is what is held and is not known
-pub revoked-known : {S : Type 0} (sets : HashMap Holder Caps S) (s : Scene) (k : Holder) (e : Entry) → AreKnown sets s → entry_at s.table k ≡ Some e → minus e.held (known_in sets k) ≡ revoked_of s k
+pub revoked-known : (sets : KnownSets) (s : Scene) (k : Holder) (e : Entry) → AreKnown sets s → entry_at s.table k ≡ Some e → minus e.held (known_in sets k) ≡ revoked_of s k
 revoked-known sets s k e known there =
     ap (λ (o : Option Caps). minus e.held (unwrap_or o no_caps)) (known k e there)
     ∙ same_caps _ _ (λ c.
@@ -93,29 +92,29 @@ and_none true b e = e
 and_none false b e = refl
 
 -- entries of a table of which each was there, where of each the same is kept
-pub still-there : {S : Type 0} (old new : Table) (was now : HashMap Holder Caps S) → ((k : Holder) (e : Entry) → entry_at new k ≡ Some e → IsSome (entry_at old k))
-    → ((k : Holder) (e : Entry) → entry_at new k ≡ Some e → get same now k ≡ get same was k) → StillKept old new was now
+pub still-there : (old new : Table) (was now : KnownSets) → ((k : Holder) (e : Entry) → entry_at new k ≡ Some e → IsSome (entry_at old k))
+    → ((k : Holder) (e : Entry) → entry_at new k ≡ Some e → kept_of now k ≡ kept_of was k) → StillKept old new was now
 still-there old new was now there same_kept k e here =
-    elim (entry_at old k) as (λ o. IsSome o → is_still_kept o (get same was k) (get same now k)) [
+    elim (entry_at old k) as (λ o. IsSome o → is_still_kept o (kept_of was k) (kept_of now k)) [
       | None ↦ λ some. absurd (true≢false (sym some))
       | Some f ↦ λ some. same_kept k e here
     ] (there k e here)
 
 -- a further change that makes no entry
-pub still-then : {S : Type 0} (old mid new : Table) (was now : HashMap Holder Caps S) → StillKept old mid was now
+pub still-then : (old mid new : Table) (was now : KnownSets) → StillKept old mid was now
     → ((k : Holder) (e : Entry) → entry_at new k ≡ Some e → (f : Entry) × (entry_at mid k ≡ Some f)) → StillKept old new was now
 still-then old mid new was now still there k e here = let f = there k e here in still k f.0 f.1
 
-module _ {S : Type 0} (was now : HashMap Holder Caps S) (old : Scene) (table : Table) (known : AreKnown was old) (still : StillKept old.table table was now) where
+module _ (was now : KnownSets) (old : Scene) (table : Table) (known : AreKnown was old) (still : StillKept old.table table was now) where
   -- of an entry that was there, what was kept is kept
-  pub still-known : (k : Holder) (e f : Entry) → entry_at table k ≡ Some e → entry_at old.table k ≡ Some f → get same now k ≡ Some (told_set old (record { holder = k; entry = f }))
-  still-known k e f here there = subst (λ o. is_still_kept o (get same was k) (get same now k)) there (still k e here) ∙ known k f there
+  pub still-known : (k : Holder) (e f : Entry) → entry_at table k ≡ Some e → entry_at old.table k ≡ Some f → kept_of now k ≡ Some (told_set old (record { holder = k; entry = f }))
+  still-known k e f here there = subst (λ o. is_still_kept o (kept_of was k) (kept_of now k)) there (still k e here) ∙ known k f there
 
   pub still-room : HaveRoom now table
   still-room k e here = by_old (entry_at old.table k) refl
     where
-      by_old : (o : Option Entry) → entry_at old.table k ≡ o → is_some (get same now k) ≡ true
-      by_old None none = subst (λ o. is_still_kept o (get same was k) (get same now k)) none (still k e here)
+      by_old : (o : Option Entry) → entry_at old.table k ≡ o → is_some (kept_of now k) ≡ true
+      by_old None none = subst (λ o. is_still_kept o (kept_of was k) (kept_of now k)) none (still k e here)
       by_old (Some f) there = ap is_some (still-known k e f here there)
 
   -- where nobody holds more, it is known of what is left
@@ -137,5 +136,5 @@ module _ {S : Type 0} (was now : HashMap Holder Caps S) (old : Scene) (table : T
           ∙ sym (has-told old row c ∙ ap (λ b. b && not (is_taken old row.holder c)) out))
 
 -- where the table stays, all is still known
-pub still-all : {S : Type 0} (was now : HashMap Holder Caps S) (s : Scene) → AreKnown was s → StillKept s.table s.table was now → AreKnown now s
+pub still-all : (was now : KnownSets) (s : Scene) → AreKnown was s → StillKept s.table s.table was now → AreKnown now s
 still-all was now s known still k e there = still-known was now s s.table known still k e e there there

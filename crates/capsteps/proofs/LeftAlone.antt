@@ -4,12 +4,11 @@ use Rattle.std.specs.Prelude.{IsTrue}
 use Rattle.std.specs.List.{find}
 use Rattle.std.specs.Option.{option_map}
 use Rattle.std.specs.FinMap as map
-use Rattle.std.specs.HashMap.{HashMap, get}
 use Rattle.std.proofs.lemmas.Bool.{eqb-true}
 use Rattle.std.proofs.lemmas.List.Elements.{All-contains, All-contains_itself, All-weaker}
 use Rattle.capbits.specs.declared.cap.Part.{Part}
 use Rattle.capbits.specs.declared.cap.Part.TheVariants.{A, L, X, F}
-use Rattle.capbits.specs.Caps.{Caps, has, caps_where}
+use Rattle.capbits.specs.Caps.{has, caps_where}
 use Rattle.capbits.specs.Sets.{no_caps, union, minus, meet, IsSubset}
 use Rattle.locktable.specs.declared.states.State.TheVariants.{Sync}
 use Rattle.locktable.specs.declared.states.LockState.{LockState}
@@ -21,7 +20,6 @@ use Rattle.inotree.specs.Tree.{Nodes}
 use Rattle.sessiontab.specs.Table.{SessionTable}
 use Rattle.sessiontab.specs.Calls.{has_session}
 use Rattle.captable.specs.declared.entry.EntryRow.{EntryRow}
-use Rattle.captable.specs.declared.entry.Holder.{Holder}
 use Rattle.captable.specs.Table.{IsTable, same, is_row_of, entry_of}
 use Rattle.captable.proofs.Searches.{find_passes}
 use Rattle.captable.proofs.Tables.{same-is}
@@ -35,7 +33,7 @@ use Rattle.capacts.specs.Lockmachine.Scene.{Scene, rows_on, loner, wanted, again
 use Rattle.capacts.specs.Lockmachine.Moves.{IsQuiet}
 use Rattle.capacts.proofs.Lockmachine.PolicyElsewhere.{wants-kept}
 use Rattle.capsteps.specs.State.{State}
-use Rattle.capacts.specs.Known.{AreKnown}
+use Rattle.capacts.specs.Known.{KnownSets, kept_of, AreKnown}
 use Rattle.capsteps.specs.Direct.{with_scene}
 use Rattle.capacts.specs.Finish.{due, finished}
 use Rattle.capacts.specs.Finishing.{against_under, allowed_under}
@@ -188,10 +186,10 @@ module _ (s : State) (sound : IsSound s) (tree : Nodes) (sessions : SessionTable
       same-finished (with_scene s (with_parts s.scene tree sessions states)) kept-sound table s.scene (λ row inside. ap (minus row.entry.held) (sym (same_against row inside)))
 
   -- what is known of each entry is known
-  pub kept-known : {S : Type 0} (sets : HashMap Holder Caps S) → AreKnown sets s.scene → AreKnown sets (with_parts s.scene tree sessions states)
+  pub kept-known : (sets : KnownSets) → AreKnown sets s.scene → AreKnown sets (with_parts s.scene tree sessions states)
   kept-known sets known k e there = by_row (find (is_row_of k) s.scene.table.rows) refl there
     where
-      by_row : (o : Option EntryRow) → find (is_row_of k) s.scene.table.rows ≡ o → entry_of o ≡ Some e → get same sets k ≡ Some (told_set new (record { holder = k; entry = e }))
+      by_row : (o : Option EntryRow) → find (is_row_of k) s.scene.table.rows ≡ o → entry_of o ≡ Some e → kept_of sets k ≡ Some (told_set new (record { holder = k; entry = e }))
       by_row None none is = absurd (cc)
       by_row (Some row) found is =
           let mine : k ≡ row.holder = same-is k row.holder (find_passes (is_row_of k) s.scene.table.rows row found) in

@@ -11,15 +11,14 @@ use Rattle.capbits.specs.declared.ids.Ino.{Ino}
 use Rattle.captable.specs.declared.entry.Entry.{Entry}
 use Rattle.captable.specs.declared.entry.EntryRow.{EntryRow}
 use Rattle.captable.specs.declared.entry.Holder.{Holder}
-use Rattle.captable.specs.Table.{Table, same, is_row_of}
+use Rattle.captable.specs.Table.{Table, is_row_of}
 use Rattle.capbits.specs.Caps.{Caps}
-use Rattle.std.specs.HashMap.{HashMap, get}
 use Rattle.std.proofs.lemmas.List.Folds.{list_any-append}
 use Rattle.captable.specs.Calls.{is_of_inode, entries_on}
 use Rattle.captable.specs.Many.{changed_where, remade}
 use Rattle.captable.proofs.OneByOne.{same_holder}
 use Rattle.capacts.specs.Capnotes.InoSets.{InoSet, IsListOf}
-use Rattle.capacts.specs.Known.{KeptAnew}
+use Rattle.capacts.specs.Known.{KnownSets, kept_of, KeptAnew}
 use Rattle.capacts.proofs.KeptSets.{kept-nobody, kept-same, kept-then, kept-not, found-stays}
 
 -- the same number
@@ -114,14 +113,14 @@ same_tests p q is g (row ∷ rows) = λ i. cond (is row.holder.ino.0 i) (remade 
 -- ---- so far
 
 -- some inodes are done, of those that are named: their entries are finished, and what their clients are to know is kept
-pub record IsFinishing {S : Type 0} (g : EntryRow → Entry) (f : EntryRow → Caps) (t : Table) (was : HashMap Holder Caps S) (all : List ℕ) (left : List ℕ) (now : Table) (sets : HashMap Holder Caps S) : Type 0 where
+pub record IsFinishing (g : EntryRow → Entry) (f : EntryRow → Caps) (t : Table) (was : KnownSets) (all : List ℕ) (left : List ℕ) (now : Table) (sets : KnownSets) : Type 0 where
   pub done : List ℕ
   pub named : done ++ left ≡ all
   pub finished : now ≡ changed_where (on (λ n. list_any (same_number n) done)) g t
   pub kept : KeptAnew (λ k. list_any (same_number k.ino.0) done) f t was sets
 
 -- at first none is
-pub none-finished : {S : Type 0} (g : EntryRow → Entry) (f : EntryRow → Caps) (t : Table) (was : HashMap Holder Caps S) (all : List ℕ) → IsFinishing g f t was all all t was
+pub none-finished : (g : EntryRow → Entry) (f : EntryRow → Caps) (t : Table) (was : KnownSets) (all : List ℕ) → IsFinishing g f t was all all t was
 none-finished g f t was all = record {
   done = [];
   named = refl;
@@ -148,10 +147,10 @@ next-apart (d ∷ done) k left apart n is =
         sym (unsigned_tied k k ∙ eq-eqb k k refl) ∙ ap (λ q. same_number q k) (sym equal) ∙ behind done apart.0
 
 -- it is finished in its turn, as it would have been at first
-pub next-finished : {S : Type 0} (g : EntryRow → Entry) (f : EntryRow → Caps) (t : Table) (was : HashMap Holder Caps S) (all : List ℕ) (k : ℕ) (left : List ℕ) (mid : Table) (sets : HashMap Holder Caps S)
-    (h : EntryRow → Entry) (now : Table) (then : HashMap Holder Caps S)
+pub next-finished : (g : EntryRow → Entry) (f : EntryRow → Caps) (t : Table) (was : KnownSets) (all : List ℕ) (k : ℕ) (left : List ℕ) (mid : Table) (sets : KnownSets)
+    (h : EntryRow → Entry) (now : Table) (then : KnownSets)
     → IsDistinct same_number all → IsFinishing g f t was all (k ∷ left) mid sets → now ≡ changed_where (is_of_inode (record { 0 = k })) h mid
-    → ((row : EntryRow) → is_of_inode (record { 0 = k }) row ≡ true → get same sets row.holder ≡ get same was row.holder → h row ≡ g row)
+    → ((row : EntryRow) → is_of_inode (record { 0 = k }) row ≡ true → kept_of sets row.holder ≡ kept_of was row.holder → h row ≡ g row)
     → KeptAnew (λ q. q.ino.0 == k) f mid sets then → IsFinishing g f t was all left now then
 next-finished g f t was all k left mid sets h now then once so_far step alike kept = record {
   done = so_far.done ++ k ∷ [];
@@ -190,7 +189,7 @@ next-finished g f t was all k left mid sets h now then once so_far step alike ke
         ∙ sym (list_any-append (same_number n) so_far.done (k ∷ []))
 
 -- at the end all inodes of a set are
-pub all-finished : {S : Type 0} (g : EntryRow → Entry) (f : EntryRow → Caps) (t : Table) (was : HashMap Holder Caps S) (inos : InoSet) (all : List ℕ) (now : Table) (sets : HashMap Holder Caps S)
+pub all-finished : (g : EntryRow → Entry) (f : EntryRow → Caps) (t : Table) (was : KnownSets) (inos : InoSet) (all : List ℕ) (now : Table) (sets : KnownSets)
     → IsListOf inos all → IsFinishing g f t was all [] now sets
     → (now ≡ changed_where (on (set.contains inos)) g t) × KeptAnew (λ k. set.contains inos k.ino.0) f t was sets
 all-finished g f t was inos all now sets lists so_far = (

@@ -2,7 +2,6 @@
 use Rattle.std.proofs.Common.{◌≡◌, ℕ, ◌==◌, Bool, false, ◌||◌, None, Some, List, [], ◌∷◌, refl, sym, ap, subst, ◌∙◌, arith}
 use Rattle.std.specs.FinMap as map
 use Rattle.std.specs.FinSet as set
-use Rattle.std.specs.HashMap.{HashMap}
 use Rattle.capbits.specs.declared.ids.Ino.{Ino}
 use Rattle.capbits.specs.Caps.{Caps}
 use Rattle.capbits.specs.Sets.{IsSubset}
@@ -17,7 +16,7 @@ use Rattle.capacts.specs.Lockmachine.Scene.{Scene, scene}
 use Rattle.capacts.specs.Capevents.declared.outcome.Ended.{Ended}
 use Rattle.capacts.specs.Finishing.{due_under, told_under}
 use Rattle.capacts.specs.Capnotes.InoSets.{InoSet, IsNext}
-use Rattle.capacts.specs.Known.{OthersHaveAll}
+use Rattle.capacts.specs.Known.{KnownSets, OthersHaveAll}
 use Rattle.capacts.specs.Reach.{is_touched}
 use Rattle.capsteps.specs.Serves.{SettlesWith, EndsAt, EndsWith}
 use Rattle.capsteps.specs.Settle.{Made, Began, Gathered, Served, MakesAll, ended_in, sized_in}
@@ -55,7 +54,7 @@ module _ (ino : ℕ) (from : ℕ → Bool) (touched : InoSet) (first settled : S
   }
 
 -- whoever has all by the tree and the locks of the inode, has it by others that are the same
-pub still-all_there : {S : Type 0} (sets : HashMap Holder Caps S) (fs : List ℕ) (tree after : Nodes) (sessions : SessionTable) (table : Table) (locks then : LockMap) (k : Holder)
+pub still-all_there : (sets : KnownSets) (fs : List ℕ) (tree after : Nodes) (sessions : SessionTable) (table : Table) (locks then : LockMap) (k : Holder)
     → after ≡ tree → map.get then.states k.ino.0 ≡ map.get locks.states k.ino.0 → OthersHaveAll sets (scene fs tree sessions table locks) k → OthersHaveAll sets (scene fs after sessions table then) k
 still-all_there sets fs tree after sessions table locks then k same_tree same_locks others j e on apart there =
     let row : EntryRow = record { holder = j; entry = e } in
@@ -69,7 +68,7 @@ still-all_there sets fs tree after sessions table locks then k same_tree same_lo
 -- ---- the step
 
 -- the locks settle and then the step ends
-pub settled-ends : {S : Type 0} (at from : ℕ → Bool) (was now : HashMap Holder Caps S) (first settled last : Scene) (ended : List Ended) (sized : List Ino)
+pub settled-ends : (at from : ℕ → Bool) (was now : KnownSets) (first settled last : Scene) (ended : List Ended) (sized : List Ino)
     → SettlesWith at from first settled ended sized → EndsAt at sized was now settled last → EndsWith from was now first last ended
 settled-ends at from was now first settled last ended sized settles ends = record {
   at = at;

@@ -4,10 +4,9 @@ use Rattle.std.specs.Prelude.{◌==◌, nat_lt}
 use Rattle.std.specs.List.{list_any, flat_map, IsDistinct}
 use Rattle.std.specs.Cmp.{nat_eq_equiv}
 use Rattle.std.specs.FinMap as finite
-use Rattle.std.specs.HashMap.{HashMap}
 use Rattle.std.specs.Option.{unwrap_or}
 use Rattle.capbits.specs.Sets.{no_caps}
-use Rattle.capacts.specs.Known.{known_in, AreKnown}
+use Rattle.capacts.specs.Known.{KnownSets, known_in, AreKnown}
 use Rattle.std.proofs.lemmas.Bool.{or_parts}
 use Rattle.std.proofs.lemmas.List.{take-append-le, take_all}
 use Rattle.std.proofs.lemmas.List.Folds.{list_any-append}
@@ -16,7 +15,6 @@ use Rattle.capbits.specs.declared.ids.Ino.{Ino}
 use Rattle.capbits.specs.Caps.{Caps}
 use Rattle.captable.specs.declared.entry.Entry.{Entry}
 use Rattle.captable.specs.declared.entry.EntryRow.{EntryRow}
-use Rattle.captable.specs.declared.entry.Holder.{Holder}
 use Rattle.captable.specs.Table.{Table, IsTable, holder, same, is_among, entry_of, entry_at}
 use Rattle.captable.proofs.ByHolder.{row_found}
 use Rattle.captable.specs.Calls.{is_of_client, is_due, changed, told, with_asked, with_size_due}
@@ -118,7 +116,7 @@ listed-first s client max t ended rows listed of table messages is =
     is ∙ ap (λ ms. take max (end_messages client ended ++ ms)) (sym (due-rows s.scene rows) ∙ ap (due_of s.scene) of ∙ due-rows s.scene (filter (is_of_client client) t.rows)) ∙ sym (first-due s client max t ended table messages)
 
 -- of an entry of the table it is known what its client is to know
-pub known-row : {S : Type 0} (sets : HashMap Holder Caps S) (s : Scene) (t : Table) → s.table ≡ t → IsTable t → AreKnown sets s → (row : EntryRow) → Contains t.rows row → known_in sets row.holder ≡ told_set s row
+pub known-row : (sets : KnownSets) (s : Scene) (t : Table) → s.table ≡ t → IsTable t → AreKnown sets s → (row : EntryRow) → Contains t.rows row → known_in sets row.holder ≡ told_set s row
 known-row sets s t same_table is known row inside =
     ap (λ (o : Option Caps). unwrap_or o no_caps) (known row.holder row.entry (ap (λ (u : Table). entry_at u row.holder) same_table ∙ ap entry_of (row_found t row is inside)))
 

@@ -2,7 +2,6 @@
 use Rattle.std.proofs.Common.{◌≡◌, ◌≤◌, ℕ, suc, ◌+◌, Bool, true, false, not, cond, ◌&&◌, ◌||◌, Option, Some, None, List, [], ◌∷◌, map, refl, sym, ap, subst, ◌∙◌, Contains, arith}
 use Rattle.std.specs.Prelude.{All}
 use Rattle.std.specs.FinMap as finite
-use Rattle.std.specs.HashMap.{HashMap, get}
 use Rattle.std.specs.List.{find, list_any}
 use Rattle.std.specs.Option.{option_map, option_map_or}
 use Rattle.std.proofs.lemmas.List.Elements.{All-map, All-weaker}
@@ -15,7 +14,7 @@ use Rattle.inotree.specs.Tests.{is_gone}
 use Rattle.captable.specs.declared.entry.Entry.{Entry}
 use Rattle.captable.specs.declared.entry.EntryRow.{EntryRow}
 use Rattle.captable.specs.declared.entry.Holder.{Holder}
-use Rattle.captable.specs.Table.{Table, IsTable, same as same_holders, is_row_of}
+use Rattle.captable.specs.Table.{Table, IsTable, is_row_of}
 use Rattle.captable.specs.Calls.{is_of_inode, renumbered, with_size_due}
 use Rattle.captable.specs.Many.{changed_where, remade}
 use Rattle.captable.proofs.ByHolder.{row_found}
@@ -29,7 +28,7 @@ use Rattle.capsteps.specs.Sound.{IsSound, AreGiven}
 use Rattle.capsteps.specs.State.{State}
 use Rattle.capsteps.specs.Step.{state_at_end}
 use Rattle.capsteps.specs.Touching.{Touches, SettlesAt, Knows, stays, forget_among, told_then, finished_entry, finished_at}
-use Rattle.capacts.specs.Known.{AreKnown, kept_anew, KeptAnew}
+use Rattle.capacts.specs.Known.{KnownSets, kept_of, AreKnown, kept_anew, KeptAnew}
 use Rattle.capsteps.proofs.EndsThere.{any-map, two_changes, field-renumbered, settled-table, touched-ends, touched-issues, touched-known}
 use Rattle.capsteps.proofs.Knowing.{known-alike, alike-where}
 use Rattle.capsteps.proofs.StayingSound.{sound-touched}
@@ -173,9 +172,9 @@ module _ (sized : List Ino) (t : Table) where
     told_owed row true false = refl
 
     -- it is the same, whether sizes are to be told or not
-    pub sizes-kept : {S : Type 0} (among : Holder → Bool) (was now : HashMap Holder Caps S) → KeptAnew among (told_then (sizes_owed sized s)) (sizes_owed sized s).table was now
+    pub sizes-kept : (among : Holder → Bool) (was now : KnownSets) → KeptAnew among (told_then (sizes_owed sized s)) (sizes_owed sized s).table was now
         → KeptAnew among (told_then s) s.table was now
-    sizes-kept among was now kept k = kept k ∙ ap (λ o. kept_anew (among k) (told_then s) o (get same_holders was k)) found ∙ by_row (among k) (find (is_row_of k) s.table.rows)
+    sizes-kept among was now kept k = kept k ∙ ap (λ o. kept_anew (among k) (told_then s) o (kept_of was k)) found ∙ by_row (among k) (find (is_row_of k) s.table.rows)
       where
         one : EntryRow → EntryRow
         one row = cond (is_sized sized row) (remade owed row) row
@@ -183,7 +182,7 @@ module _ (sized : List Ino) (t : Table) where
         found : find (is_row_of k) (sizes_owed sized s).table.rows ≡ option_map one (find (is_row_of k) s.table.rows)
         found = find-map (is_row_of k) one (λ row. elim (is_sized sized row) as (λ b. is_row_of k (cond b (remade owed row) row) ≡ is_row_of k row) [ true ↦ refl | false ↦ refl ]) s.table.rows
 
-        by_row : (b : Bool) (o : Option EntryRow) → kept_anew b (told_then s) (option_map one o) (get same_holders was k) ≡ kept_anew b (told_then s) o (get same_holders was k)
+        by_row : (b : Bool) (o : Option EntryRow) → kept_anew b (told_then s) (option_map one o) (kept_of was k) ≡ kept_anew b (told_then s) o (kept_of was k)
         by_row true None = refl
         by_row true (Some row) = ap Some (told_owed row (is_sized sized row) (has row.entry.held Fc))
         by_row false None = refl
@@ -228,8 +227,8 @@ module _ (at from : ℕ → Bool) (known : Holder → Caps) (old touched : State
         made = given.made;
       })
 
-  pub sizes-known : {S : Type 0} (was sets : HashMap Holder Caps S)
-      → ((row : EntryRow) → Contains touched.scene.table.rows row → at row.holder.ino.0 ≡ false → get same_holders was row.holder ≡ Some (told_set old.scene row))
+  pub sizes-known : (was sets : KnownSets)
+      → ((row : EntryRow) → Contains touched.scene.table.rows row → at row.holder.ino.0 ≡ false → kept_of was row.holder ≡ Some (told_set old.scene row))
       → KeptAnew (λ k. at k.ino.0) (told_then (sizes_owed (sized_in moves) settled)) (sizes_owed (sized_in moves) settled).table was sets
       → AreKnown sets (finished_at at known (sizes_owed (sized_in moves) settled))
   sizes-known was sets off_known kept =

@@ -1,6 +1,5 @@
 -- What an event about one entry leaves of what is kept of entries.
 use Rattle.std.proofs.Common.{◌≡◌, ◌≢◌, Bool, true, false, cond, not, ◌&&◌, Option, Some, None, is_some, IsSome, [], ◌∷◌, refl, sym, ap, subst, ◌∙◌, true≢false}
-use Rattle.std.specs.HashMap.{HashMap, get}
 use Rattle.std.specs.Option.{option_map, option_map_or}
 use Rattle.std.proofs.lemmas.List.Elements.{All-contains}
 use Rattle.capbits.specs.declared.cap.Cap.{Cap}
@@ -17,7 +16,7 @@ use Rattle.captable.proofs.Tables.{same-is}
 use Rattle.capsteps.specs.declared.touch.Touch.{Touch}
 use Rattle.capsteps.specs.declared.touch.Touch.TheVariants.{Open, Want, Ack, Release}
 use Rattle.capsteps.specs.Direct.{opening_wants, with_entry, with_opening}
-use Rattle.capacts.specs.Known.{is_still_kept, AreKnown, StillKept, OthersHaveAll}
+use Rattle.capacts.specs.Known.{KnownSets, kept_of, is_still_kept, AreKnown, StillKept, OthersHaveAll}
 use Rattle.capsteps.specs.Sound.{IsSound, IsSoundEntry}
 use Rattle.capsteps.specs.State.{State}
 use Rattle.capsteps.specs.Touch.{touched_table}
@@ -28,27 +27,27 @@ use Rattle.capsteps.proofs.ShownSteps.{apart-of}
 -- ---- a new entry
 
 -- where the holder has no entry, all that is kept of others is kept
-pub still-but : {S : Type 0} (t : Table) (h : Holder) (was now : HashMap Holder Caps S) → entry_at t h ≡ None → ((k : Holder) → k ≢ h → get same now k ≡ get same was k) → StillKept t t was now
+pub still-but : (t : Table) (h : Holder) (was now : KnownSets) → entry_at t h ≡ None → ((k : Holder) → k ≢ h → kept_of now k ≡ kept_of was k) → StillKept t t was now
 still-but t h was now none others k e there =
-    subst (λ o. is_still_kept o (get same was k) (get same now k)) (sym there)
+    subst (λ o. is_still_kept o (kept_of was k) (kept_of now k)) (sym there)
     (others k (λ is. let gone : entry_at t k ≡ None = ap (entry_at t) is ∙ none in absurd (cc)))
 
 -- of the new one something is kept
-pub still-opened : {S : Type 0} (t : Table) (h : Holder) (was now : HashMap Holder Caps S) → entry_at t h ≡ None → IsSome (get same now h) → ((k : Holder) → k ≢ h → get same now k ≡ get same was k)
+pub still-opened : (t : Table) (h : Holder) (was now : KnownSets) → entry_at t h ≡ None → IsSome (kept_of now h) → ((k : Holder) → k ≢ h → kept_of now k ≡ kept_of was k)
     → StillKept t (opened t h) was now
 still-opened t h was now none some others k e there = by_same (same k h) refl
   where
-    by_same : (b : Bool) → same k h ≡ b → is_still_kept (entry_at t k) (get same was k) (get same now k)
+    by_same : (b : Bool) → same k h ≡ b → is_still_kept (entry_at t k) (kept_of was k) (kept_of now k)
     by_same true on =
         let is : k ≡ h = same-is k h on in
-        subst (λ o. is_still_kept o (get same was k) (get same now k)) (sym (ap (entry_at t) is ∙ none)) (subst (λ q. IsSome (get same now q)) (sym is) some)
+        subst (λ o. is_still_kept o (kept_of was k) (kept_of now k)) (sym (ap (entry_at t) is ∙ none)) (subst (λ q. IsSome (kept_of now q)) (sym is) some)
     by_same false off =
         let apart = apart-of k h off in
-        subst (λ o. is_still_kept o (get same was k) (get same now k)) (sym (sym (entry_at-opened_other t h k apart) ∙ there)) (others k apart)
+        subst (λ o. is_still_kept o (kept_of was k) (kept_of now k)) (sym (sym (entry_at-opened_other t h k apart) ∙ there)) (others k apart)
 
 -- where nothing changes, all is
-pub still-itself : {S : Type 0} (t : Table) (sets : HashMap Holder Caps S) → StillKept t t sets sets
-still-itself t sets k e there = subst (λ o. is_still_kept o (get same sets k) (get same sets k)) (sym there) refl
+pub still-itself : (t : Table) (sets : KnownSets) → StillKept t t sets sets
+still-itself t sets k e there = subst (λ o. is_still_kept o (kept_of sets k) (kept_of sets k)) (sym there) refl
 
 -- ---- entries that were there
 
@@ -171,7 +170,7 @@ touch-others t k revoked (Ack seq) j apart = entry_at-acked_other t k j revoked 
 touch-others t k revoked (Release caps) j apart = entry_at-released_other t k j caps apart
 
 -- and where the old state was sound, each has all still
-pub others-have_all : {S : Type 0} (was now : HashMap Holder Caps S) (old : State) (new : Table) (k : Holder) (revoked : Caps) (touch : Touch) → IsSound old → AreKnown was old.scene
+pub others-have_all : (was now : KnownSets) (old : State) (new : Table) (k : Holder) (revoked : Caps) (touch : Touch) → IsSound old → AreKnown was old.scene
     → new ≡ touched_table old.scene.table k revoked touch → StillKept old.scene.table new was now → OthersHaveAll now (record old.scene { table = new }) k
 others-have_all was now old new k revoked touch sound known is still j e on apart there =
     let before : entry_at old.scene.table j ≡ Some e =

@@ -1,10 +1,7 @@
 -- One serving by its number, and a settling with all that it served.
 use Rattle.std.specs.Prelude.{◌≡◌, ℕ, Bool, List, Some}
-use Rattle.std.specs.HashMap.{HashMap}
 use Rattle.capbits.specs.declared.ids.Ino.{Ino}
 use Rattle.capbits.specs.declared.ids.Ticket.{Ticket}
-use Rattle.capbits.specs.Caps.{Caps}
-use Rattle.captable.specs.declared.entry.Holder.{Holder}
 use Rattle.inotree.specs.Tree.{IsTree}
 use Rattle.capacts.specs.Lockmachine.declared.request.Request.{Request}
 use Rattle.capacts.specs.Lockmachine.Locks.{request_at, without_request}
@@ -15,7 +12,7 @@ use Rattle.capacts.specs.Capnotes.Changing.{tree_after}
 use Rattle.capacts.specs.Finish.{sizes_owed}
 use Rattle.capsteps.specs.Settle.{Made, ended_in, sized_in}
 use Rattle.capsteps.specs.Touching.{SettlesAt, told_then, finished_at}
-use Rattle.capacts.specs.Known.{known_in, KeptAnew}
+use Rattle.capacts.specs.Known.{KnownSets, known_in, KeptAnew}
 
 -- the request with this number is served, ends so and waits no more
 pub record Serves (old : Scene) (ticket : Ticket) (ended : Ended) (new : Scene) : Type 0 where
@@ -34,14 +31,14 @@ pub record SettlesWith (at from : ℕ → Bool) (first settled : Scene) (ended :
   pub sized_is : sized ≡ sized_in moves
 
 -- the locks have settled and the sizes of these inodes changed: the step ends at those that it touched
-pub record EndsAt {S : Type 0} (at : ℕ → Bool) (sized : List Ino) (was now : HashMap Holder Caps S) (settled last : Scene) : Type 0 where
+pub record EndsAt (at : ℕ → Bool) (sized : List Ino) (was now : KnownSets) (settled last : Scene) : Type 0 where
   pub tree : IsTree settled.tree
   pub finished : last ≡ finished_at at (known_in was) (sizes_owed sized settled)
   pub kept : KeptAnew (λ k. at k.ino.0) (told_then (sizes_owed sized settled)) (sizes_owed sized settled).table was now
 
 -- the event was about these inodes: the locks settle, these requests end, and the step ends at the inodes that it touched. What
 -- was known of entries is kept in `was`, and what is known of them at the end in `now`
-pub record EndsWith {S : Type 0} (from : ℕ → Bool) (was now : HashMap Holder Caps S) (first last : Scene) (ended : List Ended) : Type 0 where
+pub record EndsWith (from : ℕ → Bool) (was now : KnownSets) (first last : Scene) (ended : List Ended) : Type 0 where
   pub at : ℕ → Bool
   pub settled : Scene
   pub sized : List Ino

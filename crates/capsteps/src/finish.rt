@@ -1,6 +1,5 @@
 //! The end of a step at the inodes that it touched.
 ghost use Rattle.std.specs.Prelude.{◌≡◌, ◌==◌, ◌≤◌, ◌<◌, ◌^◌, ◌-◌, ◌+◌, length, ℕ, List, [], false, Some, IsTrue, All, IsSome, IfSome};
-ghost use Rattle.std.specs.HashMap.{get};
 ghost use Rattle.std.specs.List.{find};
 ghost use Rattle.std.specs.FinSet as set;
 ghost use Rattle.std.specs.FinMap as map;
@@ -14,7 +13,7 @@ ghost use Rattle.captable.specs.Many.{changed_by, changed_where};
 ghost use Rattle.capacts.specs.Lockmachine.Scene.{Scene, scene};
 ghost use Rattle.capacts.specs.Finishing as words;
 ghost use Rattle.capsteps.specs.Direct.{opened_as};
-ghost use Rattle.capacts.specs.Known.{AreKnown, HaveRoom, KeptAnew, OthersHaveAll, known_in};
+ghost use Rattle.capacts.specs.Known.{AreKnown, HaveRoom, KeptAnew, OthersHaveAll, kept_of, known_in};
 ghost use Rattle.capsteps.specs.Touching.{forget_at, forget_among, finished_at, told_then};
 ghost use Rattle.capacts.specs.Reach.{is_touched};
 ghost use Rattle.capsteps.specs.Serves.{EndsAt};
@@ -241,7 +240,7 @@ fn finish_holder(
     locks: &Option<InodeLocks>,
 )
     requires number { IfSome (entry_at table.old holder) (λ entry. entry.seq < 2 ^ 64 - 1) }
-    requires room { IsSome (entry_at table.old holder) → IsSome (get same known.old.sets holder) }
+    requires room { IsSome (entry_at table.old holder) → IsSome (kept_of known.old.sets holder) }
     ensures sound { IsTable table.old }
     ensures table { table.new
         ≡ changed_by (words.entry_under (known_in known.old.sets) fs.now tree.now sessions.now locks.now) table.old holder }
@@ -272,7 +271,7 @@ fn finish_entry(
     requires path { option_copied path ≡ path_of tree.now.nodes holder.ino.0 }
     requires node { option_copied node ≡ map.get tree.now.nodes holder.ino.0 }
     requires number { IfSome (entry_at table.old holder) (λ entry. entry.seq < 2 ^ 64 - 1) }
-    requires room { IsSome (entry_at table.old holder) → IsSome (get same known.old.sets holder) }
+    requires room { IsSome (entry_at table.old holder) → IsSome (kept_of known.old.sets holder) }
     ensures table { table.new
         ≡ changed_by (words.entry_under (known_in known.old.sets) fs.now tree.now sessions.now locks.now) table.old holder }
     ensures known { KeptAnew (λ k. same k holder) (words.told_at fs.now tree.now sessions.now locks.now) table.old known.old.sets known.new.sets }

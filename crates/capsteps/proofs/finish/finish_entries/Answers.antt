@@ -1,6 +1,5 @@
 use Rattle.std.proofs.Common.{◌≡◌, ◌<◌, ◌≤◌, ℕ, ◌+◌, false, ◌||◌, Option, is_some, List, [], ◌∷◌, ◌++◌, length, take, get_or, refl, sym, ap, subst, ◌∙◌, arith}
 use Rattle.std.specs.Prelude.{IfSome}
-use Rattle.std.specs.HashMap.{get}
 use Rattle.std.specs.List.{fold, IsDistinct}
 use Rattle.std.specs.Option.{unwrap_or, option_copied}
 use Rattle.std.proofs.lemmas.List.{length-map, nil_from_length, get_or-map, take_more, take_all}
@@ -19,7 +18,7 @@ use Rattle.captable.specs.Many.{changed_by}
 use Rattle.captable.proofs.OneByOne.{fold-on_inode}
 use Rattle.captable.proofs.Tables.{same-is}
 use Rattle.capacts.specs.Finishing.{told_at, due_under, numbered_as, entry_under}
-use Rattle.capacts.specs.Known.{known_in}
+use Rattle.capacts.specs.Known.{kept_of, known_in}
 use Rattle.capsteps.proofs.AtEnd.{entry-on, yet-unchanged}
 use Rattle.capsteps.proofs.Counting.{named, named-clients, distinct-on}
 use Rattle.capacts.proofs.KeptSets.{kept-same, kept-then, kept-not, kept-on, kept-nobody, found-as, not-yet, room-of}
@@ -72,7 +71,7 @@ finish_entry-requires c =
     ∙ yet-unchanged g t ks i k apart inside
     ∙ ap (entry_at t) here in
     let not_among : is_among (take i ks) k ≡ false = ap (is_among (take i ks)) (sym here) ∙ not-yet ks i k apart inside in
-    let kept : get same c.loop-number.known.sets k ≡ get same c.args.known.now.sets k = kept-not (is_among (take i ks)) f t c.args.known.now.sets c.loop-number.known.sets c.loop-number.invariant.known k not_among in
+    let kept : kept_of c.loop-number.known.sets k ≡ kept_of c.args.known.now.sets k = kept-not (is_among (take i ks)) f t c.args.known.now.sets c.loop-number.known.sets c.loop-number.invariant.known k not_among in
     record {
       path = ap option_copied c.then_some-path.ensures ∙ lent-where c.read_path.result _ ∙ sym c.read_path.ensures;
       node = c.node-node.ensures.node;
@@ -101,7 +100,7 @@ loop-number-preserved c =
     ∙ yet-unchanged g t ks i k apart inside
     ∙ ap (entry_at t) here in
     let not_among : is_among (take i ks) k ≡ false = ap (is_among (take i ks)) (sym here) ∙ not-yet ks i k apart inside in
-    let kept : get same c.loop-number.known.sets k ≡ get same c.args.known.now.sets k = kept-not (is_among (take i ks)) f t c.args.known.now.sets c.loop-number.known.sets c.loop-number.invariant.known k not_among in
+    let kept : kept_of c.loop-number.known.sets k ≡ kept_of c.args.known.now.sets k = kept-not (is_among (take i ks)) f t c.args.known.now.sets c.loop-number.known.sets c.loop-number.invariant.known k not_among in
     record {
       table =
           c.finish_entry.ensures.table

@@ -1,11 +1,10 @@
 use Rattle.std.proofs.Common.{◌≡◌, ◌≢◌, length}
-use Rattle.std.specs.HashMap.{get}
+use Rattle.capacts.specs.Known.{kept_of}
 use Rattle.captable.specs.declared.entry.Holder.{Holder}
-use Rattle.captable.specs.Table.{same}
 use Rattle.capacts.proofs.known.Known.remove_client.Given as goal
 
 abbrev pub decreases-rows : goal.decreases-rows
 decreases-rows l = length l.walk
 
 abbrev pub invariant-rows : goal.invariant-rows
-invariant-rows l = (k : Holder) → k.client ≢ l.client → get same l.self.sets k ≡ get same l.fn.self.sets k
+invariant-rows l = (k : Holder) → k.client ≢ l.client → kept_of l.self.sets k ≡ kept_of l.fn.self.sets k
