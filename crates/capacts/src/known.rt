@@ -63,10 +63,8 @@ impl Known {
         ensures own { OnOk result (IsSome (kept_of self.new.sets holder)) }
         ensures others { (k : Holder) → k ≢ holder → kept_of self.new.sets k ≡ kept_of self.old.sets k }
     {
-        match self
-            .sets
-            .insert((holder.ino, holder.client), CapSet::empty())
-        {
+        let place = (holder.ino, holder.client);
+        match self.sets.insert(place, CapSet::empty()) {
             Ok(_old) => Ok(()),
             Err(_pair) => Err(AllocError),
         }

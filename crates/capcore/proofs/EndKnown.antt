@@ -2,7 +2,7 @@
 use Rattle.std.proofs.Common.{◌≡◌, ℕ, Bool, true, false, Some, List, Contains, refl, sym, ap, subst, ◌∙◌, true≢false}
 use Rattle.capbits.specs.declared.ids.Ino.{Ino}
 use Rattle.captable.specs.declared.entry.EntryRow.{EntryRow}
-use Rattle.captable.specs.Table.{IsTable, same, entry_of}
+use Rattle.captable.specs.Table.{IsTable, entry_of}
 use Rattle.captable.proofs.ByHolder.{row_found}
 use Rattle.capsteps.specs.Lockmachine.Scene.{Scene, told_set}
 use Rattle.capsteps.specs.Capevents.declared.outcome.Ended.{Ended}
