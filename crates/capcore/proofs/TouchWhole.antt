@@ -1,7 +1,6 @@
 -- What the calls of the step of an event about one entry come to.
 use Rattle.std.proofs.Common.{◌≡◌, false, [], List, Option, Some, None, refl, sym, ap, ◌∙◌}
 use Rattle.std.specs.List.{find}
-use Rattle.capbits.specs.Caps.{Caps}
 use Rattle.capbits.specs.declared.ids.ClientId.{ClientId}
 use Rattle.capbits.specs.declared.ids.Ino.{Ino}
 use Rattle.captable.specs.declared.entry.EntryRow.{EntryRow}
@@ -66,9 +65,6 @@ tell-alike s k (Release caps) = λ j e there. (e, there, refl)
 pub passed-of : (s handed : State) (client : ClientId) (ino : Ino) (touch : Touch) (o : Option Stopped) → s ≡ handed → o ≡ judged handed.scene (touch_event client ino touch) → o ≡ None
     → judged s.scene (touch_event client ino touch) ≡ None
 passed-of s handed client ino touch o view asked none = ap (λ (w : State). judged w.scene (touch_event client ino touch)) view ∙ sym asked ∙ none
-
-pub table-of : (s : Scene) (k : Holder) (touch : Touch) (new : Table) (revoked : Caps) → new ≡ touched_table s.table k revoked touch → revoked ≡ revoked_of s k → new ≡ touched_table s.table k (revoked_of s k) touch
-table-of s k touch new revoked is same = is ∙ ap (λ r. touched_table s.table k r touch) same
 
 -- ---- an event that nothing stops, and the table that it leads to
 module _ (old : State) (client : ClientId) (ino : Ino) (touch : Touch) (passed : judged old.scene (touch_event client ino touch) ≡ None) (sound : IsSound old) (table : IsTable old.scene.table)

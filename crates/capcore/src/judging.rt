@@ -157,9 +157,11 @@ fn opening_refusal(tree: &Tree, table: &CapTable, holder: Holder, mode: OpenMode
 fn room_refusal(table: &CapTable, holder: Holder) -> Option<Refusal>
     ensures { result ≡ first_failing (room_for table.now holder) }
 {
+    // Looked at first, since where there is room nobody needs to search for the entry.
+    let refusal = table.open_refusal()?;
     match table.find(holder.client, holder.ino) {
         Some(_entry) => None,
-        None => table.open_refusal(),
+        None => Some(refusal),
     }
 }
 

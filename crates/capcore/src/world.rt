@@ -37,7 +37,7 @@ use capsteps::poll::{due_messages, give};
 use capsteps::said::Said;
 use capsteps::settle::end_at_entry;
 use capsteps::start::first_locks;
-use capsteps::touch::{Touch, revoked_of, tell, touch_entry};
+use capsteps::touch::{Touch, revoked_by, tell, touch_entry};
 use capsteps::{
     ChangeList, EndedList, Event, Locks, Messages, Reply, ToldNumbers, ViewChange, copy_of_messages,
 };
@@ -223,7 +223,7 @@ impl World {
         ) {
             return Ok(Said::alone(self.messages.alloc(), stopped.into_reply()));
         }
-        let revoked = revoked_of(&self.table, &self.known, holder);
+        let revoked = revoked_by(&self.table, &self.known, holder, &touch);
         let waiting = self.locks.waiting();
         self.endings.begin(waiting, waiting + 1)?;
         let (table, known) = (&mut self.table, &mut self.known);

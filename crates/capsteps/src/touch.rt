@@ -42,6 +42,19 @@ pub fn revoked_of(table: &CapTable, known: &Known, holder: Holder) -> CapSet
     }
 }
 
+/// The same, where what is asked takes what is being revoked, as an acknowledgement does. Of all else it is not looked for.
+pub fn revoked_by(table: &CapTable, known: &Known, holder: Holder, touch: &Touch) -> CapSet
+    ensures tests { (s : Scene) → s.table ≡ table.now → AreKnown known.now.sets s
+        → words.touch_tests table.now holder result touch.now ≡ words.touch_tests table.now holder (revoked_of s holder) touch.now }
+    ensures takes { (s : Scene) → s.table ≡ table.now → AreKnown known.now.sets s
+        → words.touched_table table.now holder result touch.now ≡ words.touched_table table.now holder (revoked_of s holder) touch.now }
+{
+    match touch {
+        Touch::Ack(_) => revoked_of(table, known, holder),
+        Touch::Open(_) | Touch::Want(_) | Touch::Release(_) => CapSet::empty(),
+    }
+}
+
 /// Does to the holder's entry what is asked, where what is being revoked of it is this. An opening alone takes memory: for
 /// want of it nothing changes.
 pub fn touch_entry(

@@ -24,7 +24,7 @@ use Rattle.capsteps.proofs.Knowing.{held_at, HoldAlike, known-alike, still-room,
 use Rattle.capcore.proofs.OfInode.{event-table}
 use Rattle.capcore.proofs.Stops.{judged-at, stopped-answered}
 use Rattle.capsteps.proofs.TouchKept.{touch-less, others-have_all}
-use Rattle.capcore.proofs.TouchWhole.{table-of, first-is, touch-answered, touched-by, touch-reply, no_list-touch, tell-alike}
+use Rattle.capcore.proofs.TouchWhole.{first-is, touch-answered, touched-by, touch-reply, no_list-touch, tell-alike}
 use Rattle.capsteps.proofs.Touched.{touched-tests}
 use Rattle.capsteps.specs.Capview.Changes.{AreChanges}
 use Rattle.capsteps.specs.Noted.{view_of}
@@ -46,7 +46,7 @@ pub touch_entry-requires-clause-passed : goal.touch_entry-requires-clause-passed
 touch_entry-requires-clause-passed c =
     let old : State = record { scene = record { fs = c.self.inside.fs; tree = c.self.inside.tree; sessions = c.self.inside.sessions; table = c.self.inside.table; locks = c.self.inside.locks }; messages = c.self.inside.messages.items } in
     let k : Holder = holder c.args.client c.args.ino in
-    subst (λ revoked. first_failing (touch_tests c.self.inside.table k revoked c.args.touch) ≡ None) (sym (c.revoked_of-revoked.ensures old.scene refl c.self.invariant.2))
+    ap first_failing (c.revoked_by-revoked.ensures.tests old.scene refl c.self.invariant.2) ∙
     (touched-tests old.scene c.args.client c.args.ino c.args.touch (sym (c.touch_stop.ensures c.self.inside.locks c.self.invariant.2) ∙ c.in_default.is))
 
 -- for want of memory the entries are as they were, and all is still known
@@ -78,7 +78,7 @@ module _ (c : In_ok-touch_entry) where
   is : first ≡ (direct old e).state.scene
   is =
       first-is old c.args.client c.args.ino c.args.touch passed c.self.invariant.0 c.oldest-oldest.ensures.sound c.touch_entry.new.table
-      (table-of old.scene k c.args.touch c.touch_entry.new.table c.revoked_of-revoked.result c.in_ok-touch_entry.ensures.ok (c.revoked_of-revoked.ensures old.scene refl c.self.invariant.2))
+      (c.in_ok-touch_entry.ensures.ok ∙ c.revoked_by-revoked.ensures.takes old.scene refl c.self.invariant.2)
 
 -- what is known then
 module _ (c : In_ok-touch_entry) where
@@ -91,7 +91,7 @@ module _ (c : In_ok-touch_entry) where
   knows =
       still-knows c.self.inside.known.sets c.touch_entry.new.known.sets (old c).scene c.touch_entry.new.table c.self.invariant.2 c.touch_entry.ensures.known first-table
       (subst (λ (t : Table). (j : Holder) (f : Entry) → entry_at t j ≡ Some f → IsSubset f.held (held_at c.self.inside.table j)) (sym c.in_ok-touch_entry.ensures.ok)
-      (touch-less c.self.inside.table (k c) c.revoked_of-revoked.result c.args.touch))
+      (touch-less c.self.inside.table (k c) c.revoked_by-revoked.result c.args.touch))
 
 pub end_at_entry-requires-clause-room : goal.end_at_entry-requires-clause-room
 end_at_entry-requires-clause-room g =
@@ -117,7 +117,7 @@ end_at_entry-requires-clause-clients g =
 pub end_at_entry-requires-clause-others : goal.end_at_entry-requires-clause-others
 end_at_entry-requires-clause-others g =
     let c = (goal.at.end_at_entry-requires-clause-others g).In_ok-touch_entry in
-    others-have_all c.self.inside.known.sets c.touch_entry.new.known.sets (old c) c.touch_entry.new.table (k c) c.revoked_of-revoked.result c.args.touch c.self.invariant.0 c.self.invariant.2
+    others-have_all c.self.inside.known.sets c.touch_entry.new.known.sets (old c) c.touch_entry.new.table (k c) c.revoked_by-revoked.result c.args.touch c.self.invariant.0 c.self.invariant.2
     c.in_ok-touch_entry.ensures.ok c.touch_entry.ensures.known
 
 -- ---- the end of the step
@@ -167,7 +167,7 @@ module _ (c : After-close) where
   answer =
       sym
       (touch-answered (old before) c.args.client c.args.ino c.args.touch (passed before) c.self.invariant.0 c.oldest-oldest.ensures.sound c.touch_entry.new.table
-      (table-of (old before).scene (k before) c.args.touch c.touch_entry.new.table c.revoked_of-revoked.result c.in_ok-touch_entry.ensures.ok (c.revoked_of-revoked.ensures (old before).scene refl c.self.invariant.2)))
+      (c.in_ok-touch_entry.ensures.ok ∙ c.revoked_by-revoked.ensures.takes (old before).scene refl c.self.invariant.2))
 
   new_is : new ≡ shown (direct (old before) (e before)).answer closed_as
   new_is =
