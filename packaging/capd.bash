@@ -14,7 +14,7 @@ _capd() {
     elif [[ ${COMP_WORDS[1]} == who ]]; then
         mapfile -t COMPREPLY < <(compgen -W '--auth --fs --owner --group --mode --help' -- "$word")
     else
-        mapfile -t COMPREPLY < <(compgen -W '--grants --keyring --client --fs --uid --gid --groups --path --owner --group --mode --access --more --quiet --help' -- "$word")
+        mapfile -t COMPREPLY < <(compgen -W '--grants --keyring --auth --client --fs --uid --gid --groups --path --owner --group --mode --access --more --quiet --help' -- "$word")
     fi
 }
 complete -F _capd capd

@@ -3,8 +3,8 @@ use Rattle.std.proofs.Common.{◌≡◌, ℕ, Bool, List, ◌++◌, Option, None
 use Rattle.std.specs.Io.KnownBytes.{Consumes, IsAtEnd}
 use Rattle.std.specs.Prelude.{Result, Ok, Err, IfErr, IfSome, IsErrAnd}
 use Rattle.std.proofs.lemmas.List.{append-nil}
-use Rattle.capquestion.specs.Capauth.declared.fault.AuthFault.{AuthFault}
-use Rattle.capquestion.specs.Capauth.Auth.{IsFaultOf, auth_of}
+use Rattle.capauth.specs.declared.fault.AuthFault.{AuthFault}
+use Rattle.capauth.specs.Auth.{IsFaultOf, auth_of}
 use Rattle.capanswers.specs.declared.fault.AnswerFault.{AnswerFault}
 use Rattle.capanswers.specs.declared.survey.Survey.{Survey}
 use Rattle.capanswers.specs.Fault.{auth_fault_of}

@@ -200,6 +200,7 @@ fn explain<'a>(alloc: Global) -> Result<Command<'a>, AllocError> {
         .after_help(EXAMPLE);
     let command = with_options(alloc, command);
     let command = with_arg(command, keyring(alloc));
+    let command = with_arg(command, auth_list(alloc));
     let command = with_arg(command, client(alloc));
     let command = with_arg(command, Ok(more(alloc)));
     with_arg(command, quiet(alloc))
@@ -222,7 +223,7 @@ fn option_argument<'a>(alloc: Global, option: Opt) -> Result<Arg<'a>, AllocError
         .help(help)
         .action(ArgAction::Set);
     match option {
-        Opt::Grants => argument.required_unless_present(KEYRING),
+        Opt::Grants => argument.required_unless_present_any(&[KEYRING, AUTH]),
         _ => Ok(argument.required(!option.is_optional())),
     }
 }
@@ -239,13 +240,25 @@ fn keyring<'a>(alloc: Global) -> Result<Arg<'a>, AllocError> {
         .conflicts_with(Opt::Grants.name())
 }
 
+fn auth_list<'a>(alloc: Global) -> Result<Arg<'a>, AllocError> {
+    Arg::new(alloc, AUTH)
+        .long(AUTH)
+        .value_name("FILE")
+        .help(
+            "In the place of --grants: the auth list that has them, as `ceph auth ls -f json` prints it; - for standard input",
+        )
+        .action(ArgAction::Set)
+        .requires_arg(CLIENT)?
+        .conflicts_with_all(&[Opt::Grants.name(), KEYRING])
+}
+
 fn client<'a>(alloc: Global) -> Result<Arg<'a>, AllocError> {
     Arg::new(alloc, CLIENT)
         .long(CLIENT)
         .value_name("NAME")
-        .help("Whose grants the keyring is asked for, as client.tenant")
+        .help("Whose grants the keyring or the auth list is asked for, as client.tenant")
         .action(ArgAction::Set)
-        .requires_arg(KEYRING)
+        .conflicts_with(Opt::Grants.name())
 }
 
 fn more<'a>(alloc: Global) -> Arg<'a> {

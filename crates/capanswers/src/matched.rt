@@ -78,13 +78,18 @@ impl Matched<'_, '_> {
     }
 
     fn source(&mut self, values: &Values) -> Source {
-        match self.given(KEYRING) {
-            Some(file) => Source::Keyring {
-                file,
-                client: self.value(CLIENT),
-            },
-            None if values.grants.as_slice() == INPUT => Source::Input,
-            None => Source::Word,
+        if let Some(file) = self.given(KEYRING) {
+            let client = self.value(CLIENT);
+            return Source::Keyring { file, client };
+        }
+        if let Some(file) = self.given(AUTH) {
+            let client = self.value(CLIENT);
+            return Source::Auth { file, client };
+        }
+        if values.grants.as_slice() == INPUT {
+            Source::Input
+        } else {
+            Source::Word
         }
     }
 
