@@ -2,9 +2,11 @@
 _capd() {
     local word=${COMP_WORDS[COMP_CWORD]} before=${COMP_WORDS[COMP_CWORD-1]}
     if ((COMP_CWORD == 1)); then
-        mapfile -t COMPREPLY < <(compgen -W 'explain grants compare lint who run serve help --help --version' -- "$word")
+        mapfile -t COMPREPLY < <(compgen -W 'explain grants compare lint who log run serve help --help --version' -- "$word")
     elif [[ ${COMP_WORDS[1]} == help ]]; then
-        mapfile -t COMPREPLY < <(compgen -W 'explain grants compare lint who run serve' -- "$word")
+        mapfile -t COMPREPLY < <(compgen -W 'explain grants compare lint who log run serve' -- "$word")
+    elif [[ ${COMP_WORDS[1]} == log ]]; then
+        mapfile -t COMPREPLY < <(compgen -W '--fs --help' -- "$word")
     elif [[ ${COMP_WORDS[1]} != explain && ${COMP_WORDS[1]} != who ]]; then
         mapfile -t COMPREPLY < <(compgen -W '--help' -- "$word")
     elif [[ $before == --keyring || $before == --auth ]]; then

@@ -21,6 +21,7 @@ pub const COMPARE: &str = "compare";
 pub const LINT: &str = "lint";
 
 pub const WHO: &str = "who";
+pub const LOG: &str = "log";
 
 pub const RUN: &str = "run";
 
@@ -83,6 +84,11 @@ prints a line for each client, such as
   client.lab: depends on owner, group and mode: write /projects grant 2
   client.backup: denied write /projects grant 1 rule 5 no-write";
 
+const LOG_EXAMPLE: &str = "Example:
+  capd log --fs cephfs < /var/log/ceph/ceph-mds.a.log
+prints for each check of policy in it, behind the number of its line, such as
+  812: denied write /a/x grant 1 rule 5 no-write";
+
 const RUN_EXAMPLE: &str = "Example:
   printf 'session 1 10 10 - allow rw path=/a\\nmkdir 1 1 a 0755\\n' | capd run
 prints
@@ -113,6 +119,8 @@ pub enum Ask {
     Lint(Vec<u8>),
     /// Which clients of a cluster may make an access.
     Who(Survey),
+    /// What the checks of policy in a log are answered, on the file system of this name.
+    Log(Vec<u8>),
     /// The transcript of a script.
     Run,
     /// The history of a script whose clients call at once.
@@ -128,6 +136,7 @@ impl Drop for Ask {
             Ask::Compare { old: _, new: _ } => {}
             Ask::Lint(_) => {}
             Ask::Who(_) => {}
+            Ask::Log(_) => {}
             Ask::Run => {}
             Ask::Serve => {}
         }
@@ -174,6 +183,7 @@ fn capd<'a>(alloc: Global) -> Result<Command<'a>, AllocError> {
     let command = with(command, compare(alloc));
     let command = with(command, lint(alloc));
     let command = with(command, who(alloc));
+    let command = with(command, log(alloc));
     let command = with(command, Ok(run(alloc)));
     with(command, Ok(serve(alloc)))
 }
@@ -318,6 +328,15 @@ fn who<'a>(alloc: Global) -> Result<Command<'a>, AllocError> {
     let command = with_arg(Ok(command), attr_argument(alloc, Opt::Owner, Opt::Group));
     let command = with_arg(command, attr_argument(alloc, Opt::Group, Opt::Mode));
     with_arg(command, attr_argument(alloc, Opt::Mode, Opt::Owner))
+}
+
+fn log<'a>(alloc: Global) -> Result<Command<'a>, AllocError> {
+    Command::new(alloc, LOG)
+        .about(
+            "Reads the log of an MDS from standard input and says what the grants in each check of policy allow, or why not",
+        )
+        .after_help(LOG_EXAMPLE)
+        .arg(file_system(alloc))
 }
 
 // A word that stands without the name of its option.

@@ -1,7 +1,7 @@
 //! What the matched words of a command line ask for.
 
 use crate::command_line::{
-    AUTH, Ask, CLIENT, COMPARE, EXPLAIN, GRANTS, INPUT, KEYRING, LINT, MORE, NEW, OLD, QUIET, RUN,
+    AUTH, Ask, CLIENT, COMPARE, EXPLAIN, GRANTS, INPUT, KEYRING, LINT, LOG, MORE, NEW, OLD, QUIET, RUN,
     SERVE, TEXT, WHO,
 };
 use crate::inquiry::{Form, Inquiry, Source};
@@ -30,6 +30,7 @@ pub fn asked(alloc: Global, matches: &ArgMatches<'_>) -> Result<Ask, ErrorKind> 
         },
         LINT => Ask::Lint(matched.value(TEXT)),
         WHO => Ask::Who(matched.survey()),
+        LOG => Ask::Log(matched.option(Opt::Fs)),
         RUN => Ask::Run,
         SERVE => Ask::Serve,
         _ => return Err(ErrorKind::MissingSubcommand),
