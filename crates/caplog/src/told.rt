@@ -3,7 +3,7 @@ ghost use Rattle.std.specs.Prelude.{◌≡◌, ◌++◌, ◌≤◌, ℕ, List, l
 ghost use Rattle.std.specs.List.{flat_map};
 ghost use Rattle.caplines.specs.Lines.{longest_script};
 ghost use Rattle.caplog.specs.Checks.{texts_of};
-ghost use Rattle.caplog.specs.Told.{IsTold, IsToldOf, Says, SaysFault, answer_lines, formless_line, passed_line, passed_over, unknown_line};
+ghost use Rattle.caplog.specs.Told.{IsTold, IsToldOf, Says, SaysFault, answer_lines, passed_line, passed_over, unknown_line};
 
 use crate::check::{Check, check_text, read_check};
 use crate::mask::{accesses, read_mask};
