@@ -14,7 +14,7 @@ pub record SoFar (fs log rest told : List ℕ) (number passed : ℕ) : Type 0 wh
 pub nothing_yet : (fs log told : List ℕ) → told ≡ [] → SoFar fs log log told 1 0
 nothing_yet fs log told none = record {
   begun = λ more all. subst (λ (t : List ℕ). AreTold fs 1 (lines log) (t ++ more)) (sym none) all;
-  counted = refl;
+  counted = omega arith;
   left = omega arith;
   few = omega arith;
 }

@@ -18,9 +18,9 @@ use Rattle.caplog.specs.Checks.{CheckTexts, check_text, check_of}
 use Rattle.caplog.specs.Masks.{IsMaskOf, accesses_of}
 
 -- the values of a question by the parts of a check: to read, for a caller without further groups
-pub record AreValues (fs : List ℕ) (check : CheckTexts) (v : Values) : Type 0 where
+pub record AreValues (name : List ℕ) (check : CheckTexts) (v : Values) : Type 0 where
   pub grants : v.grants.items ≡ check.grants
-  pub fs : v.fs.items ≡ fs
+  pub fs : v.fs.items ≡ name
   pub uid : v.uid.items ≡ check.uid
   pub gid : v.gid.items ≡ check.gid
   pub groups : v.groups ≡ None

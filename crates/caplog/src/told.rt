@@ -12,7 +12,7 @@ use capexplain::{print_quoted, print_unread};
 use capgrant::Access;
 use caplines::split_line;
 use capquestion::{Question, QuestionFault};
-use captext::{print, print_number, print_str};
+use captext::{print, print_number};
 use std::alloc::{AllocError, Global};
 
 /// Lines that tell of each check of policy in a log what its grants say to what it asks, on this file system: for each access that its
@@ -90,7 +90,7 @@ fn print_unknown(told: &mut Vec<u8>, number: u64, mask: &[u8]) -> Result<(), All
 {
     print(told, format_args!("{number}: unknown mask "))?;
     print_quoted(told, mask)?;
-    print_str(told, "\n")
+    Ok(told.push(b'\n')?)
 }
 
 // The answers to the question, by each of these accesses in the place of its own.
