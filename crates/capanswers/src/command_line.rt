@@ -21,6 +21,7 @@ pub const COMPARE: &str = "compare";
 pub const LINT: &str = "lint";
 
 pub const WHO: &str = "who";
+
 pub const LOG: &str = "log";
 
 pub const RUN: &str = "run";

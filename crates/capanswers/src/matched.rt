@@ -1,8 +1,8 @@
 //! What the matched words of a command line ask for.
 
 use crate::command_line::{
-    AUTH, Ask, CLIENT, COMPARE, EXPLAIN, GRANTS, INPUT, KEYRING, LINT, LOG, MORE, NEW, OLD, QUIET, RUN,
-    SERVE, TEXT, WHO,
+    AUTH, Ask, CLIENT, COMPARE, EXPLAIN, GRANTS, INPUT, KEYRING, LINT, LOG, MORE, NEW, OLD, QUIET,
+    RUN, SERVE, TEXT, WHO,
 };
 use crate::inquiry::{Form, Inquiry, Source};
 use crate::survey::Survey;

@@ -1,5 +1,5 @@
 -- A text cut at the last place of a mark, place by place from its end.
-use Rattle.std.proofs.Common.{◌≡◌, ℕ, zero, suc, ◌+◌, true, false, Some, List, length, take, drop, refl, sym, ap, ◌∙◌, arith}
+use Rattle.std.proofs.Common.{◌≡◌, ℕ, zero, suc, ◌+◌, false, List, drop, refl, arith}
 use Rattle.std.specs.Prelude.{nat_eq}
 use Rattle.std.specs.List.{starts_with}
 use Rattle.caplog.specs.Checks.{cut_below}
@@ -7,8 +7,3 @@ use Rattle.caplog.specs.Checks.{cut_below}
 pub misses : (mark text : List ℕ) (n at : ℕ) → n ≡ at + 1 → starts_with nat_eq (drop at text) mark ≡ false → cut_below mark text n ≡ cut_below mark text at
 misses mark text zero at one miss = absurd (omega arith)
 misses mark text (suc n) at one miss = let same : n ≡ at = omega arith in rw (same, miss) refl
-
-pub hits : (mark text : List ℕ) (n at : ℕ) → n ≡ at + 1 → starts_with nat_eq (drop at text) mark ≡ true
-    → cut_below mark text n ≡ Some (take at text, drop (length mark) (drop at text))
-hits mark text zero at one hit = absurd (omega arith)
-hits mark text (suc n) at one hit = let same : n ≡ at = omega arith in rw (same, hit) refl

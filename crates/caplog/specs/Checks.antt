@@ -1,5 +1,5 @@
 -- A check of policy, as a line of the MDS's log has it.
-use Rattle.std.specs.Prelude.{ℕ, zero, suc, Bool, nat_eq, ◌==◌, List, [], ◌∷◌, length, take, drop, codes, Option, Some, None, option_map, option_and_then, if◌then◌else◌}
+use Rattle.std.specs.Prelude.{ℕ, zero, suc, nat_eq, ◌==◌, List, [], ◌∷◌, length, take, drop, codes, Option, Some, None, option_map, option_and_then, if◌then◌else◌}
 use Rattle.std.specs.List.{starts_with}
 use Rattle.caplog.specs.declared.check.Check.{Check}
 use Rattle.caplog.specs.declared.check.Inode.{Inode}

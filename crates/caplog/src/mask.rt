@@ -53,12 +53,7 @@ pub fn accesses(alloc: Global, mask: Mask) -> Result<Vec<Access>, AllocError>
 }
 
 // Asks for the access, where the bit is set.
-fn ask_if(
-    asked: &mut Vec<Access>,
-    bits: u32,
-    bit: u32,
-    access: Access,
-) -> Result<(), AllocError>
+fn ask_if(asked: &mut Vec<Access>, bits: u32, bit: u32, access: Access) -> Result<(), AllocError>
     requires { 0 < bit }
     ensures { OnOk result (asked.new.items ≡ asked.old.items ++ asked_if bits bit access) }
 {

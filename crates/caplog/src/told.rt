@@ -40,7 +40,10 @@ pub fn log_lines(alloc: Global, fs: &[u8], log: &[u8]) -> Result<Vec<u8>, AllocE
 fn print_passed(told: &mut Vec<u8>, passed: u64) -> Result<(), AllocError>
     ensures { OnOk result (told.new.items ≡ told.old.items ++ passed_line passed) }
 {
-    print(told, format_args!("lines that are no check of policy: {passed}\n"))
+    print(
+        told,
+        format_args!("lines that are no check of policy: {passed}\n"),
+    )
 }
 
 // Appends what is told of a line, and answers 1 for one that is passed over, and else 0.

@@ -1,5 +1,5 @@
 use Rattle.std.proofs.Common.{sym, ◌∙◌, arith, rules}
-use Rattle.caplog.proofs.Cuts.{misses, hits}
+use Rattle.caplog.proofs.Cuts.{misses}
 use Rattle.caplog.proofs.check.cut.Goals as goal
 
 pub loop-end-preserved : goal.loop-end-preserved

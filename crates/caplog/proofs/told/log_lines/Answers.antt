@@ -1,4 +1,4 @@
-use Rattle.std.proofs.Common.{◌≡◌, ℕ, ◌++◌, ap, ◌∙◌, arith}
+use Rattle.std.proofs.Common.{ℕ, ◌++◌, ap, ◌∙◌, arith}
 use Rattle.caplog.specs.Told.{passed_line}
 use Rattle.caplog.proofs.Telling.{one_more, all_told, all_counted}
 use Rattle.caplog.proofs.told.log_lines.Goals as goal
@@ -16,7 +16,8 @@ loop-line-preserved c =
 
 pub returns : goal.returns
 returns c =
-    let so = c.loop-line.invariant in
-    (c.print_line-2.new.told.items,
-    all_told c.args.fs.now c.args.log.now c.loop-line.rest.now c.loop-line.told.items c.print_line-2.new.told.items c.loop-line.number c.loop-line.passed c.in_ok-passed-2.field-0 so c.in_default.ensures.lines c.in_ok-passed-2.ensures.told,
-    c.in_ok-print_passed.ensures ∙ ap (λ (n : ℕ). c.print_line-2.new.told.items ++ passed_line n) (all_counted c.args.fs.now c.args.log.now c.loop-line.rest.now c.loop-line.told.items c.loop-line.number c.loop-line.passed c.in_ok-passed-2.field-0 so c.in_default.ensures.lines c.in_ok-passed-2.ensures.passed))
+    let so = c.loop-line.invariant in (
+      c.print_line-2.new.told.items,
+      all_told c.args.fs.now c.args.log.now c.loop-line.rest.now c.loop-line.told.items c.print_line-2.new.told.items c.loop-line.number c.loop-line.passed c.in_ok-passed-2.field-0 so c.in_default.ensures.lines c.in_ok-passed-2.ensures.told,
+      c.in_ok-print_passed.ensures ∙ ap (λ (n : ℕ). c.print_line-2.new.told.items ++ passed_line n) (all_counted c.args.fs.now c.args.log.now c.loop-line.rest.now c.loop-line.told.items c.loop-line.number c.loop-line.passed c.in_ok-passed-2.field-0 so c.in_default.ensures.lines c.in_ok-passed-2.ensures.passed),
+    )
