@@ -12,7 +12,7 @@ use Rattle.capanswers.specs.Survey.{StopsSurvey}
 use Rattle.capanswers.proofs.Unwritten.{unchanged}
 
 -- what holds of all that was read holds of the input
-all_of : (P : List ℕ → Type 0) (input left : Option (List ℕ)) (all : List ℕ) → Consumes input left all → IsAtEnd left → P all → IfSome input P
+pub all_of : (P : List ℕ → Type 0) (input left : Option (List ℕ)) (all : List ℕ) → Consumes input left all → IsAtEnd left → P all → IfSome input P
 all_of P None left all taken end holds = tt
 all_of P (Some xs) None all taken end holds = absurd taken
 all_of P (Some xs) (Some ys) all taken end holds = subst P (sym (taken ∙ ap (λ l. all ++ l) end ∙ append-nil all)) holds
