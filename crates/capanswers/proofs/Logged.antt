@@ -13,6 +13,6 @@ pub log_told : {T E : Type 0} (fs log read lines text : List ℕ) (input left ol
 log_told fs log read lines text input left old new failed (Ok x) named taken end short same told written wrote = record {
   named = named;
   told = all_of (λ (all : List ℕ). (length all ≤ longest_script) × ((lines : List ℕ) × IsToldOf fs all lines × Appends old new lines)) input left log taken end
-    (short, (lines, subst (λ (all : List ℕ). IsToldOf fs all lines) same told, subst (λ (bytes : List ℕ). Appends old new bytes) written wrote.1));
+      (short, (lines, subst (λ (all : List ℕ). IsToldOf fs all lines) same told, subst (λ (bytes : List ℕ). Appends old new bytes) written wrote.1));
 }
 log_told fs log read lines text input left old new failed (Err e) named taken end short same told written wrote = tt
