@@ -2,9 +2,11 @@
 _capd() {
     local word=${COMP_WORDS[COMP_CWORD]} before=${COMP_WORDS[COMP_CWORD-1]}
     if ((COMP_CWORD == 1)); then
-        mapfile -t COMPREPLY < <(compgen -W 'explain grants compare lint who run serve help --help --version' -- "$word")
+        mapfile -t COMPREPLY < <(compgen -W 'explain grants compare lint who log run serve help --help --version' -- "$word")
     elif [[ ${COMP_WORDS[1]} == help ]]; then
-        mapfile -t COMPREPLY < <(compgen -W 'explain grants compare lint who run serve' -- "$word")
+        mapfile -t COMPREPLY < <(compgen -W 'explain grants compare lint who log run serve' -- "$word")
+    elif [[ ${COMP_WORDS[1]} == log ]]; then
+        mapfile -t COMPREPLY < <(compgen -W '--fs --help' -- "$word")
     elif [[ ${COMP_WORDS[1]} != explain && ${COMP_WORDS[1]} != who ]]; then
         mapfile -t COMPREPLY < <(compgen -W '--help' -- "$word")
     elif [[ $before == --keyring || $before == --auth ]]; then
@@ -14,7 +16,7 @@ _capd() {
     elif [[ ${COMP_WORDS[1]} == who ]]; then
         mapfile -t COMPREPLY < <(compgen -W '--auth --fs --owner --group --mode --help' -- "$word")
     else
-        mapfile -t COMPREPLY < <(compgen -W '--grants --keyring --client --fs --uid --gid --groups --path --owner --group --mode --access --more --quiet --help' -- "$word")
+        mapfile -t COMPREPLY < <(compgen -W '--grants --keyring --auth --client --fs --uid --gid --groups --path --owner --group --mode --access --more --quiet --help' -- "$word")
     fi
 }
 complete -F _capd capd

@@ -3,8 +3,8 @@ use Rattle.std.proofs.Common.{◌≡◌, ℕ, Bool, List, ◌++◌, Option, None
 use Rattle.std.specs.Io.KnownBytes.{Consumes, IsAtEnd}
 use Rattle.std.specs.Prelude.{Result, Ok, Err, IfErr, IfSome, IsErrAnd}
 use Rattle.std.proofs.lemmas.List.{append-nil}
-use Rattle.capquestion.specs.Capauth.declared.fault.AuthFault.{AuthFault}
-use Rattle.capquestion.specs.Capauth.Auth.{IsFaultOf, auth_of}
+use Rattle.capauth.specs.declared.fault.AuthFault.{AuthFault}
+use Rattle.capauth.specs.Auth.{IsFaultOf, auth_of}
 use Rattle.capanswers.specs.declared.fault.AnswerFault.{AnswerFault}
 use Rattle.capanswers.specs.declared.survey.Survey.{Survey}
 use Rattle.capanswers.specs.Fault.{auth_fault_of}
@@ -12,7 +12,7 @@ use Rattle.capanswers.specs.Survey.{StopsSurvey}
 use Rattle.capanswers.proofs.Unwritten.{unchanged}
 
 -- what holds of all that was read holds of the input
-all_of : (P : List ℕ → Type 0) (input left : Option (List ℕ)) (all : List ℕ) → Consumes input left all → IsAtEnd left → P all → IfSome input P
+pub all_of : (P : List ℕ → Type 0) (input left : Option (List ℕ)) (all : List ℕ) → Consumes input left all → IsAtEnd left → P all → IfSome input P
 all_of P None left all taken end holds = tt
 all_of P (Some xs) None all taken end holds = absurd taken
 all_of P (Some xs) (Some ys) all taken end holds = subst P (sym (taken ∙ ap (λ l. all ++ l) end ∙ append-nil all)) holds

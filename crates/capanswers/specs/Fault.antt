@@ -6,8 +6,8 @@ use Rattle.capquestion.specs.declared.fault.QuestionFault.TheVariants as asked
 use Rattle.capquestion.specs.declared.comparing.CompareFault.{CompareFault}
 use Rattle.capquestion.specs.declared.comparing.CompareFault.TheVariants as compared
 use Rattle.capquestion.specs.Comparing.{IsFaultOfTexts}
-use Rattle.capquestion.specs.Capauth.declared.fault.AuthFault.{AuthFault}
-use Rattle.capquestion.specs.Capauth.declared.fault.AuthFault.TheVariants as auths
+use Rattle.capauth.specs.declared.fault.AuthFault.{AuthFault}
+use Rattle.capauth.specs.declared.fault.AuthFault.TheVariants as auths
 use Rattle.capkeyring.specs.declared.fault.KeyringFault.{KeyringFault}
 use Rattle.capkeyring.specs.declared.fault.KeyringFault.TheVariants as keyrings
 use Rattle.capanswers.specs.declared.fault.AnswerFault.{AnswerFault}

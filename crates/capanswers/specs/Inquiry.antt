@@ -1,5 +1,5 @@
 -- What `explain` is asked, and how it answers.
-use Rattle.std.specs.Prelude.{◌≡◌, ◌≢◌, ◌⊎◌, ◌<◌, ◌≤◌, ℕ, Bool, List, length, ◌++◌, Option, IfSome, Ok, Err, IsTrue, codes, if◌then◌else◌}
+use Rattle.std.specs.Prelude.{◌≡◌, ◌≢◌, ◌⊎◌, ◌<◌, ◌≤◌, ℕ, Bool, List, length, ◌++◌, Option, Some, IfSome, Ok, Err, IsTrue, codes, if◌then◌else◌}
 use Rattle.std.specs.Global.{Vec}
 use Rattle.std.specs.Io.KnownBytes.{Appends, Keeps}
 use Rattle.capgrant.specs.Verdict.{is_allowed}
@@ -12,9 +12,12 @@ use Rattle.capstreams.specs.Caplines.Lines.{longest_script}
 use Rattle.capkeyring.specs.declared.fault.KeyringFault.{KeyringFault}
 use Rattle.capkeyring.specs.declared.fault.KeyringFault.TheVariants.{NoMemory}
 use Rattle.capkeyring.specs.Keyring.{caps_in}
+use Rattle.capauth.specs.declared.fault.AuthFault.{AuthFault}
+use Rattle.capauth.specs.Auth.{Named, IsFaultOf, auth_of}
+use Rattle.capauth.specs.Auth.{caps_in as caps_of}
 use Rattle.capanswers.specs.declared.fault.AnswerFault.{AnswerFault}
 use Rattle.capanswers.specs.declared.fault.AnswerFault.TheVariants.{Unread}
-use Rattle.capanswers.specs.Fault.{keyring_fault_of}
+use Rattle.capanswers.specs.Fault.{keyring_fault_of, auth_fault_of}
 use Rattle.capanswers.specs.declared.inquiry.Form.{Form}
 use Rattle.capanswers.specs.declared.inquiry.Form.TheVariants as forms
 use Rattle.capanswers.specs.declared.inquiry.Source.{Source}
@@ -24,11 +27,22 @@ use Rattle.capanswers.specs.declared.inquiry.Source.TheVariants as sources
 abbrev pub IsWithoutLineFeed : List ℕ → List ℕ → Type 0
 IsWithoutLineFeed all text = (all ≡ text ++ codes "\n") ⊎ ((all ≡ text) × ((front : List ℕ) → all ≢ front ++ codes "\n"))
 
--- the text of the grants, by the word on the command line and the input; that of a keyring's client is what its reader finds
+-- a text is an auth list, in which the client has these grants
+abbrev pub IsListed : List ℕ → List ℕ → List ℕ → Type 0
+IsListed auth client text = (list : List Named) × (auth_of auth ≡ Some (Ok list)) × (caps_of list client ≡ Ok text)
+
+-- why a text gives no grants of the client: it is no auth list, or one without them; or want of memory
+abbrev pub IsUnlisted : List ℕ → List ℕ → AnswerFault → Type 0
+IsUnlisted auth client fault = (found : AuthFault) × (fault ≡ auth_fault_of found)
+    × (IsFaultOf found (auth_of auth) ⊎ ((list : List Named) × (auth_of auth ≡ Some (Ok list)) × (caps_of list client ≡ Err found)))
+
+-- the text of the grants, by the word on the command line and the input; that of a client of a keyring, or of an auth list, is what is
+-- found there
 abbrev pub IsGrantsText : Source → List ℕ → Option (List ℕ) → List ℕ → Type 0
 IsGrantsText sources.Word word input text = text ≡ word
 IsGrantsText sources.Input word input text = IfSome input (λ all. (length all ≤ longest_script) × IsWithoutLineFeed all text)
 IsGrantsText (sources.Keyring file client) word input text = IfSome input (λ all. (length all ≤ longest_script) × (caps_in all client.items ≡ Ok text))
+IsGrantsText (sources.Auth file client) word input text = IfSome input (λ all. (length all ≤ longest_script) × IsListed all client.items text)
 
 -- a read failed, or the input is too long; or memory was missing
 abbrev pub IsUnreadInput : AnswerFault → Option (List ℕ) → Bool → Type 0
@@ -43,6 +57,7 @@ abbrev pub IsUnread : Source → AnswerFault → Option (List ℕ) → Bool → 
 IsUnread sources.Word fault input unread = ⊥
 IsUnread sources.Input fault input unread = (IsTrue unread → fault ≡ Unread stops.ReadFault) × IsUnreadInput fault input unread
 IsUnread (sources.Keyring file client) fault input unread = (IsTrue unread → fault ≡ Unread stops.ReadFault) × (IsUnreadInput fault input unread ⊎ IsFaultOfKeyring client.items fault input)
+IsUnread (sources.Auth file client) fault input unread = (IsTrue unread → fault ≡ Unread stops.ReadFault) × (IsUnreadInput fault input unread ⊎ IfSome input (λ all. IsUnlisted all client.items fault))
 
 -- the values, with this text of grants
 abbrev pub with_grants : Values → Vec ℕ → Values

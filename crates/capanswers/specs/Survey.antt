@@ -2,8 +2,8 @@
 use Rattle.std.specs.Prelude.{◌≡◌, ◌⊎◌, ◌≤◌, ℕ, Bool, List, length, Option, IfSome, IsTrue}
 use Rattle.std.specs.Io.KnownBytes.{Appends, Keeps}
 use Rattle.capstreams.specs.Caplines.Lines.{longest_script}
-use Rattle.capquestion.specs.Capauth.declared.fault.AuthFault.{AuthFault}
-use Rattle.capquestion.specs.Capauth.Auth.{IsFaultOf, auth_of}
+use Rattle.capauth.specs.declared.fault.AuthFault.{AuthFault}
+use Rattle.capauth.specs.Auth.{IsFaultOf, auth_of}
 use Rattle.capquestion.specs.declared.attempt.Attempt.{Attempt}
 use Rattle.capquestion.specs.declared.fault.QuestionFault.{QuestionFault}
 use Rattle.capquestion.specs.Attempts.{IsAttempt, IsFaultOfAttempt, wanted_by}

@@ -5,8 +5,9 @@ use crate::command_line::Ask;
 use crate::fault::AnswerFault;
 use crate::inquiry::{Form, Inquiry};
 use crate::status::{FAILED, report};
+use capauth::AuthFault;
 use capkeyring::KeyringFault;
-use capquestion::{AuthFault, Opt, QuestionFault, Values};
+use capquestion::{Opt, QuestionFault, Values};
 use capstreams::print_quoted;
 use std::alloc::{AllocError, Global};
 use std::io::Write;
@@ -107,6 +108,10 @@ fn advice(ask: &Ask, fault: AnswerFault) -> Option<&'static str> {
         AnswerFault::Auth(AuthFault::NotJson { .. } | AuthFault::NoList) => {
             Some("--auth takes what `ceph auth ls -f json` prints")
         }
+        AnswerFault::Auth(AuthFault::NoEntity) => Some(
+            "--client takes a name that the list has at entity, as client.tenant",
+        ),
+        AnswerFault::Auth(AuthFault::NoCaps) => Some("the client has no caps for the MDS"),
         _ => None,
     }
 }

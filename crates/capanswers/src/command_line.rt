@@ -22,6 +22,8 @@ pub const LINT: &str = "lint";
 
 pub const WHO: &str = "who";
 
+pub const LOG: &str = "log";
+
 pub const RUN: &str = "run";
 
 pub const SERVE: &str = "serve";
@@ -83,6 +85,11 @@ prints a line for each client, such as
   client.lab: depends on owner, group and mode: write /projects grant 2
   client.backup: denied write /projects grant 1 rule 5 no-write";
 
+const LOG_EXAMPLE: &str = "Example:
+  capd log --fs cephfs < /var/log/ceph/ceph-mds.a.log
+prints for each check of policy in it, behind the number of its line, such as
+  812: denied write /a/x grant 1 rule 5 no-write";
+
 const RUN_EXAMPLE: &str = "Example:
   printf 'session 1 10 10 - allow rw path=/a\\nmkdir 1 1 a 0755\\n' | capd run
 prints
@@ -113,6 +120,8 @@ pub enum Ask {
     Lint(Vec<u8>),
     /// Which clients of a cluster may make an access.
     Who(Survey),
+    /// What the checks of policy in a log are answered, on the file system of this name.
+    Log(Vec<u8>),
     /// The transcript of a script.
     Run,
     /// The history of a script whose clients call at once.
@@ -128,6 +137,7 @@ impl Drop for Ask {
             Ask::Compare { old: _, new: _ } => {}
             Ask::Lint(_) => {}
             Ask::Who(_) => {}
+            Ask::Log(_) => {}
             Ask::Run => {}
             Ask::Serve => {}
         }
@@ -174,6 +184,7 @@ fn capd<'a>(alloc: Global) -> Result<Command<'a>, AllocError> {
     let command = with(command, compare(alloc));
     let command = with(command, lint(alloc));
     let command = with(command, who(alloc));
+    let command = with(command, log(alloc));
     let command = with(command, Ok(run(alloc)));
     with(command, Ok(serve(alloc)))
 }
@@ -200,6 +211,7 @@ fn explain<'a>(alloc: Global) -> Result<Command<'a>, AllocError> {
         .after_help(EXAMPLE);
     let command = with_options(alloc, command);
     let command = with_arg(command, keyring(alloc));
+    let command = with_arg(command, auth_list(alloc));
     let command = with_arg(command, client(alloc));
     let command = with_arg(command, Ok(more(alloc)));
     with_arg(command, quiet(alloc))
@@ -222,7 +234,7 @@ fn option_argument<'a>(alloc: Global, option: Opt) -> Result<Arg<'a>, AllocError
         .help(help)
         .action(ArgAction::Set);
     match option {
-        Opt::Grants => argument.required_unless_present(KEYRING),
+        Opt::Grants => argument.required_unless_present_any(&[KEYRING, AUTH]),
         _ => Ok(argument.required(!option.is_optional())),
     }
 }
@@ -239,13 +251,25 @@ fn keyring<'a>(alloc: Global) -> Result<Arg<'a>, AllocError> {
         .conflicts_with(Opt::Grants.name())
 }
 
+fn auth_list<'a>(alloc: Global) -> Result<Arg<'a>, AllocError> {
+    Arg::new(alloc, AUTH)
+        .long(AUTH)
+        .value_name("FILE")
+        .help(
+            "In the place of --grants: the auth list that has them, as `ceph auth ls -f json` prints it; - for standard input",
+        )
+        .action(ArgAction::Set)
+        .requires_arg(CLIENT)?
+        .conflicts_with_all(&[Opt::Grants.name(), KEYRING])
+}
+
 fn client<'a>(alloc: Global) -> Result<Arg<'a>, AllocError> {
     Arg::new(alloc, CLIENT)
         .long(CLIENT)
         .value_name("NAME")
-        .help("Whose grants the keyring is asked for, as client.tenant")
+        .help("Whose grants the keyring or the auth list is asked for, as client.tenant")
         .action(ArgAction::Set)
-        .requires_arg(KEYRING)
+        .conflicts_with(Opt::Grants.name())
 }
 
 fn more<'a>(alloc: Global) -> Arg<'a> {
@@ -305,6 +329,15 @@ fn who<'a>(alloc: Global) -> Result<Command<'a>, AllocError> {
     let command = with_arg(Ok(command), attr_argument(alloc, Opt::Owner, Opt::Group));
     let command = with_arg(command, attr_argument(alloc, Opt::Group, Opt::Mode));
     with_arg(command, attr_argument(alloc, Opt::Mode, Opt::Owner))
+}
+
+fn log<'a>(alloc: Global) -> Result<Command<'a>, AllocError> {
+    Command::new(alloc, LOG)
+        .about(
+            "Reads the log of an MDS from standard input and says what the grants in each check of policy allow, or why not",
+        )
+        .after_help(LOG_EXAMPLE)
+        .arg(file_system(alloc))
 }
 
 // A word that stands without the name of its option.

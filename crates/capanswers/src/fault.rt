@@ -1,7 +1,8 @@
 //! Why a command that answers a question about grants gave no answer.
 
+use capauth::AuthFault;
 use capkeyring::KeyringFault;
-use capquestion::{AuthFault, CompareFault, QuestionFault};
+use capquestion::{CompareFault, QuestionFault};
 use capspec::SpecFault;
 use capstreams::ScriptFault;
 use std::alloc::{AllocError, AllocFailed};
@@ -19,7 +20,7 @@ pub enum AnswerFault {
     Keyring(KeyringFault),
     /// The file of the keyring can't be opened.
     Unopened,
-    /// What should be an auth list is none.
+    /// What should be an auth list is none, or has no grants of the client.
     Auth(AuthFault),
     /// The file of the auth list can't be opened.
     UnopenedAuth,

@@ -1,10 +1,11 @@
 //! What `explain` is asked, where the text of its grants is, and how it answers.
-ghost use Rattle.std.specs.Prelude.{◌≡◌, ◌⊎◌, ℕ, List, length, OnOk, IfErr, IfSome, IsTrue, IsFalse};
+ghost use Rattle.std.specs.Prelude.{◌≡◌, ◌⊎◌, ℕ, List, length, OnOk, IfErr, IfSome, IsTrue, IsFalse, MatchResult};
 ghost use Rattle.capstreams.specs.Caplines.Lines.{longest_script};
 ghost use Rattle.capstreams.specs.Watched.{inner_of, has_failed, has_ended};
-ghost use Rattle.capanswers.specs.Inquiry.{IsWithoutLineFeed, IsGrantsText, IsUnread};
+ghost use Rattle.capanswers.specs.Inquiry.{IsWithoutLineFeed, IsGrantsText, IsUnread, IsListed, IsUnlisted};
 
 use crate::fault::AnswerFault;
+use capauth::read_auth;
 use capkeyring::mds_caps;
 use capquestion::Values;
 use capstreams::{Watched, read_script};
@@ -24,6 +25,13 @@ pub enum Source {
         /// Whose section it is.
         client: Vec<u8>,
     },
+    /// An auth list.
+    Auth {
+        /// The name of its file, or `-` for standard input.
+        file: Vec<u8>,
+        /// Who of the list the client is.
+        client: Vec<u8>,
+    },
 }
 
 // By hand, so that whoever lets one go has one call to prove.
@@ -33,6 +41,7 @@ impl Drop for Source {
             Source::Word => {}
             Source::Input => {}
             Source::Keyring { file: _, client: _ } => {}
+            Source::Auth { file: _, client: _ } => {}
         }
     }
 }
@@ -93,8 +102,24 @@ pub fn fill<R: Read>(
             let keyring = read_script(alloc, reader)?;
             *grants = mds_caps(alloc, keyring.as_slice(), client.as_slice())?;
         }
+        Source::Auth { client, .. } => {
+            let auth = read_script(alloc, reader)?;
+            *grants = listed(alloc, auth.as_slice(), client.as_slice())?;
+        }
     }
     Ok(())
+}
+
+// The text of the grants of a client of an auth list.
+fn listed(alloc: Global, auth: &[u8], client: &[u8]) -> Result<Vec<u8>, AnswerFault>
+    ensures { MatchResult result
+        (λ caps. IsListed auth.now client.now caps.items)
+        (λ fault. IsUnlisted auth.now client.now fault) }
+{
+    let list = read_auth(alloc, auth)?;
+    let mut caps = Vec::new(alloc);
+    caps.extend_from_slice(list.mds_caps(client)?)?;
+    Ok(caps)
 }
 
 // Takes a line feed off the end, if one is there.

@@ -12,7 +12,10 @@ pub fn keyring_file<E: Files>(files: &E, ask: &Ask) -> Result<Option<E::File>, A
             Source::Keyring { file, .. } => {
                 open_file(files, file.as_slice(), AnswerFault::Unopened)
             }
-            _ => Ok(None),
+            Source::Auth { file, .. } => {
+                open_file(files, file.as_slice(), AnswerFault::UnopenedAuth)
+            }
+            Source::Word | Source::Input => Ok(None),
         },
         Ask::Who(survey) => open_file(files, survey.auth.as_slice(), AnswerFault::UnopenedAuth),
         _ => Ok(None),

@@ -1,5 +1,5 @@
 //! The commands of `capd` that answer a question about grants, by their words and streams alone: `explain`, `grants`, `compare`,
-//! `lint` and `who`.
+//! `lint`, `who` and `log`.
 //! And what all commands need before and behind that: what the words of the command line ask for, with which status a command ends, and
 //! what is said of a fault.
 //!
@@ -13,6 +13,7 @@ mod commands;
 mod fault;
 mod inquiry;
 mod keyring;
+mod logging;
 mod matched;
 mod reading;
 mod status;
@@ -26,6 +27,7 @@ pub use commands::{compare_texts, grants, inquire, look_over};
 pub use fault::AnswerFault;
 pub use inquiry::{Form, Inquiry, Source};
 pub use keyring::keyring_file;
+pub use logging::tell_log;
 pub use reading::{Said, read_words, show};
 pub use status::{DENIED, DONE, FAILED, FOUND, USAGE, report};
 pub use survey::{Survey, tell_who};

@@ -1,8 +1,8 @@
 //! What the matched words of a command line ask for.
 
 use crate::command_line::{
-    AUTH, Ask, CLIENT, COMPARE, EXPLAIN, GRANTS, INPUT, KEYRING, LINT, MORE, NEW, OLD, QUIET, RUN,
-    SERVE, TEXT, WHO,
+    AUTH, Ask, CLIENT, COMPARE, EXPLAIN, GRANTS, INPUT, KEYRING, LINT, LOG, MORE, NEW, OLD, QUIET,
+    RUN, SERVE, TEXT, WHO,
 };
 use crate::inquiry::{Form, Inquiry, Source};
 use crate::survey::Survey;
@@ -30,6 +30,7 @@ pub fn asked(alloc: Global, matches: &ArgMatches<'_>) -> Result<Ask, ErrorKind> 
         },
         LINT => Ask::Lint(matched.value(TEXT)),
         WHO => Ask::Who(matched.survey()),
+        LOG => Ask::Log(matched.option(Opt::Fs)),
         RUN => Ask::Run,
         SERVE => Ask::Serve,
         _ => return Err(ErrorKind::MissingSubcommand),
@@ -78,13 +79,18 @@ impl Matched<'_, '_> {
     }
 
     fn source(&mut self, values: &Values) -> Source {
-        match self.given(KEYRING) {
-            Some(file) => Source::Keyring {
-                file,
-                client: self.value(CLIENT),
-            },
-            None if values.grants.as_slice() == INPUT => Source::Input,
-            None => Source::Word,
+        if let Some(file) = self.given(KEYRING) {
+            let client = self.value(CLIENT);
+            return Source::Keyring { file, client };
+        }
+        if let Some(file) = self.given(AUTH) {
+            let client = self.value(CLIENT);
+            return Source::Auth { file, client };
+        }
+        if values.grants.as_slice() == INPUT {
+            Source::Input
+        } else {
+            Source::Word
         }
     }
 

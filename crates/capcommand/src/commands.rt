@@ -14,7 +14,7 @@ ghost use Rattle.capcommand.specs.Commands.{Answers, Stops, RunStops, ServeStops
 use crate::fault::Fault;
 use capanswers::{
     Ask, DENIED, DONE, FAILED, FOUND, USAGE, compare_texts, grants, inquire, keyring_file,
-    look_over, read_words, report, show, tell_who,
+    look_over, read_words, report, show, tell_log, tell_who,
 };
 use capjobs::{Watched, run, serve};
 use std::alloc::Global;
@@ -108,6 +108,7 @@ fn answer<T: Threads + Wait + Sync, R: Read, W: Write>(
         Ask::Compare { old, new } => compare_texts(alloc, old.as_slice(), new.as_slice(), writer),
         Ask::Lint(text) => look_over(alloc, text.as_slice(), writer),
         Ask::Who(survey) => tell_who(alloc, survey, reader, writer),
+        Ask::Log(fs) => tell_log(alloc, fs.as_slice(), reader, writer),
         Ask::Run => return run_script(alloc, reader, writer),
         Ask::Serve => return serve_script(rt, alloc, reader, writer),
     };

@@ -1,5 +1,5 @@
 use Rattle.std.proofs.Common.{ℕ, List, subst}
-use Rattle.capquestion.specs.Capauth.Auth.{IsFaultOf, auth_of}
+use Rattle.capauth.specs.Auth.{IsFaultOf, auth_of}
 use Rattle.capstreams.specs.Watched.{inner_of, has_failed}
 use Rattle.capanswers.proofs.Surveyed.{list_refused}
 use Rattle.capanswers.proofs.survey.tell_who.Goals as goal

@@ -1,0 +1,3 @@
+pub mod Checks
+pub mod Masks
+pub mod Told
