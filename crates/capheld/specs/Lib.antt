@@ -1,0 +1,4 @@
+pub mod Lines
+pub mod Audited
+pub use Rattle.capcluster.specs as Capcluster
+pub use Rattle.capaudit.specs as Capaudit
