@@ -19,6 +19,7 @@ use Rattle.capexplain.specs.Standing.{unread_line}
 use Rattle.capheld.specs.declared.fault.HeldFault.{HeldFault}
 use Rattle.capheld.specs.declared.fault.HeldFault.TheVariants.{Auth, Sessions, Tree, NoMemory}
 use Rattle.capheld.specs.declared.notes.Notes.{Notes}
+use Rattle.capheld.specs.Order.{AreInOrder}
 use Rattle.capheld.specs.Lines.{held_line, unnamed_line, unlisted_line, strange_line, pathless_line}
 
 -- ---- who it is
@@ -93,7 +94,7 @@ SaysAt fs known it (Some path) found unknown = AreSaid (SaysOf known (inode fs p
 abbrev pub SaysOfInode : List ℕ → Clients → PathMap → Listed → List ℕ → List ℕ → Type 0
 SaysOfInode fs known paths it found unknown = SaysAt fs known it (map.get paths it.number) found unknown
 
--- the three texts mean an auth list, sessions and a tree, and this is said of the inodes of the tree
+-- the three texts mean an auth list, sessions and a tree, and what is said of the inodes of the tree stands here in order
 pub record IsAudit (fs auth sessions tree found unknown : List ℕ) : Type 0 where
   pub entities : List Named
   pub connected : List Connected
@@ -101,7 +102,11 @@ pub record IsAudit (fs auth sessions tree found unknown : List ℕ) : Type 0 whe
   pub is_auth : auth_of auth ≡ Some (Ok entities)
   pub are_sessions : sessions_of sessions ≡ Some (Ok connected)
   pub is_tree : tree_of tree ≡ Some (Ok seen)
-  pub said : AreSaid (SaysOfInode fs (clients entities connected) seen.paths) seen.inodes found unknown
+  pub found_first : List ℕ
+  pub unknown_first : List ℕ
+  pub said : AreSaid (SaysOfInode fs (clients entities connected) seen.paths) seen.inodes found_first unknown_first
+  pub found_ordered : AreInOrder found_first found
+  pub unknown_ordered : AreInOrder unknown_first unknown
 
 -- the fault is that of the first of the texts that means nothing; want of memory is in none
 abbrev pub IsFaultOfCluster : List ℕ → List ℕ → List ℕ → HeldFault → Type 0

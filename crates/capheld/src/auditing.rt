@@ -6,6 +6,7 @@ use crate::fault::HeldFault;
 use crate::holders::note_holder;
 use crate::lines::print_pathless;
 use crate::notes::Notes;
+use crate::order::in_order;
 use capaudit::Inode;
 use capauth::{AuthList, read_auth};
 use capcluster::{Holder, Session, TreeInode, read_sessions, read_tree};
@@ -35,7 +36,7 @@ impl Drop for ClusterTexts<'_> {
 }
 
 /// What the clients of a cluster hold of the inodes of this file system, and nobody behind their keys is permitted; and what could
-/// not be judged. The fault is that of the first text that is none.
+/// not be judged; each in the order of the lines' bytes, which is first that of paths. The fault is that of the first text that is none.
 pub fn audit(alloc: Global, fs: &FsName, texts: &ClusterTexts) -> Result<Notes, HeldFault>
     ensures ok { IfOk result (λ notes. IsAudit fs.now texts.now.auth.now texts.now.sessions.now texts.now.tree.now notes.found.items notes.unknown.items) }
     ensures err { IfErr result (IsFaultOfCluster texts.now.auth.now texts.now.sessions.now texts.now.tree.now) }
@@ -51,7 +52,10 @@ pub fn audit(alloc: Global, fs: &FsName, texts: &ClusterTexts) -> Result<Notes, 
         tree.inodes.as_slice(),
         &tree.paths,
     )?;
-    Ok(notes)
+    Ok(Notes {
+        found: in_order(alloc, notes.found.as_slice())?,
+        unknown: in_order(alloc, notes.unknown.as_slice())?,
+    })
 }
 
 // What is said of these inodes.

@@ -9,6 +9,7 @@ mod fault;
 mod holders;
 mod lines;
 mod notes;
+mod order;
 
 pub use auditing::{ClusterTexts, audit};
 pub use fault::HeldFault;
