@@ -107,6 +107,9 @@ fn advice(ask: &Ask, fault: AnswerFault) -> Option<&'static str> {
         AnswerFault::Auth(AuthFault::NotJson { .. } | AuthFault::NoList) => {
             Some("--auth takes what `ceph auth ls -f json` prints")
         }
+        AnswerFault::UnopenedText => Some(
+            "--auth and --sessions take the names of files, and --tree that of one, or - for standard input",
+        ),
         _ => None,
     }
 }

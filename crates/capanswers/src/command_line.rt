@@ -1,5 +1,6 @@
 //! The words of the command line.
 
+use crate::checkup::Checkup;
 use crate::inquiry::Inquiry;
 use crate::matched::asked;
 use crate::survey::Survey;
@@ -22,6 +23,8 @@ pub const LINT: &str = "lint";
 
 pub const WHO: &str = "who";
 
+pub const AUDIT: &str = "audit";
+
 pub const RUN: &str = "run";
 
 pub const SERVE: &str = "serve";
@@ -33,6 +36,10 @@ pub const OLD: &str = "old";
 pub const NEW: &str = "new";
 
 pub const AUTH: &str = "auth";
+
+pub const SESSIONS: &str = "sessions";
+
+pub const TREE: &str = "tree";
 
 pub const KEYRING: &str = "keyring";
 
@@ -49,7 +56,7 @@ const STATUSES: &str = "Status:
   0  the whole answer was written; of `explain --quiet`: allowed
   1  a value, a text or a script has a fault, a read or a write failed, or memory was missing
   2  the command line is wrong
-  3  of `explain --quiet`: denied; of `lint`: something was found";
+  3  of `explain --quiet`: denied; of `lint` and `audit`: something was found";
 
 const EXAMPLE: &str = "Example:
   capd explain \\
@@ -83,6 +90,13 @@ prints a line for each client, such as
   client.lab: depends on owner, group and mode: write /projects grant 2
   client.backup: denied write /projects grant 1 rule 5 no-write";
 
+const AUDIT_EXAMPLE: &str = "Example:
+  ceph auth ls -f json > auth.json
+  ceph tell mds.0 session ls > sessions.json
+  ceph tell mds.0 dump tree / | capd audit --auth auth.json --sessions sessions.json --tree -
+prints for each client and inode of which it holds what nobody behind its key is permitted, such as
+  /a/y client.reader holds pAsLsXsFrw, may not Fw: grant 1 rule 5 no-write";
+
 const RUN_EXAMPLE: &str = "Example:
   printf 'session 1 10 10 - allow rw path=/a\\nmkdir 1 1 a 0755\\n' | capd run
 prints
@@ -113,6 +127,8 @@ pub enum Ask {
     Lint(Vec<u8>),
     /// Which clients of a cluster may make an access.
     Who(Survey),
+    /// What clients of a cluster hold and may not.
+    Audit(Checkup),
     /// The transcript of a script.
     Run,
     /// The history of a script whose clients call at once.
@@ -128,6 +144,7 @@ impl Drop for Ask {
             Ask::Compare { old: _, new: _ } => {}
             Ask::Lint(_) => {}
             Ask::Who(_) => {}
+            Ask::Audit(_) => {}
             Ask::Run => {}
             Ask::Serve => {}
         }
@@ -174,6 +191,7 @@ fn capd<'a>(alloc: Global) -> Result<Command<'a>, AllocError> {
     let command = with(command, compare(alloc));
     let command = with(command, lint(alloc));
     let command = with(command, who(alloc));
+    let command = with(command, audit(alloc));
     let command = with(command, Ok(run(alloc)));
     with(command, Ok(serve(alloc)))
 }
@@ -307,6 +325,40 @@ fn who<'a>(alloc: Global) -> Result<Command<'a>, AllocError> {
     with_arg(command, attr_argument(alloc, Opt::Mode, Opt::Owner))
 }
 
+fn audit<'a>(alloc: Global) -> Result<Command<'a>, AllocError> {
+    Command::new(alloc, AUDIT)
+        .about(
+            "Says what clients of a running cluster hold and nobody behind their keys is permitted",
+        )
+        .after_help(AUDIT_EXAMPLE)
+        .arg(file(
+            alloc,
+            AUTH,
+            "The clients with their grants, as `ceph auth ls -f json` prints them",
+        ))?
+        .arg(file(
+            alloc,
+            SESSIONS,
+            "The sessions, as `ceph tell mds.N session ls` prints them",
+        ))?
+        .arg(file(
+            alloc,
+            TREE,
+            "The tree, as `ceph tell mds.N dump tree /` prints it; - for standard input",
+        ))?
+        .arg(file_system(alloc))
+}
+
+// An option that has to be given and names a file.
+fn file<'a>(alloc: Global, name: &'a str, help: &'a str) -> Arg<'a> {
+    Arg::new(alloc, name)
+        .long(name)
+        .value_name("FILE")
+        .help(help)
+        .required(true)
+        .action(ArgAction::Set)
+}
+
 // A word that stands without the name of its option.
 fn word_argument<'a>(alloc: Global, option: Opt) -> Arg<'a> {
     let name: &'a str = option.name();
@@ -320,14 +372,11 @@ fn word_argument<'a>(alloc: Global, option: Opt) -> Arg<'a> {
 }
 
 fn auth<'a>(alloc: Global) -> Arg<'a> {
-    Arg::new(alloc, AUTH)
-        .long(AUTH)
-        .value_name("FILE")
-        .help(
-            "The clients with their grants, as `ceph auth ls -f json` prints them; - for standard input",
-        )
-        .required(true)
-        .action(ArgAction::Set)
+    file(
+        alloc,
+        AUTH,
+        "The clients with their grants, as `ceph auth ls -f json` prints them; - for standard input",
+    )
 }
 
 fn file_system<'a>(alloc: Global) -> Arg<'a> {
