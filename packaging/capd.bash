@@ -2,17 +2,19 @@
 _capd() {
     local word=${COMP_WORDS[COMP_CWORD]} before=${COMP_WORDS[COMP_CWORD-1]}
     if ((COMP_CWORD == 1)); then
-        mapfile -t COMPREPLY < <(compgen -W 'explain grants compare lint who log run serve help --help --version' -- "$word")
+        mapfile -t COMPREPLY < <(compgen -W 'explain grants compare lint who audit log run serve help --help --version' -- "$word")
     elif [[ ${COMP_WORDS[1]} == help ]]; then
-        mapfile -t COMPREPLY < <(compgen -W 'explain grants compare lint who log run serve' -- "$word")
+        mapfile -t COMPREPLY < <(compgen -W 'explain grants compare lint who audit log run serve' -- "$word")
     elif [[ ${COMP_WORDS[1]} == log ]]; then
         mapfile -t COMPREPLY < <(compgen -W '--fs --help' -- "$word")
-    elif [[ ${COMP_WORDS[1]} != explain && ${COMP_WORDS[1]} != who ]]; then
+    elif [[ ${COMP_WORDS[1]} != explain && ${COMP_WORDS[1]} != who && ${COMP_WORDS[1]} != audit ]]; then
         mapfile -t COMPREPLY < <(compgen -W '--help' -- "$word")
-    elif [[ $before == --keyring || $before == --auth ]]; then
+    elif [[ $before == --keyring || $before == --auth || $before == --sessions || $before == --tree ]]; then
         mapfile -t COMPREPLY < <(compgen -f -- "$word")
     elif [[ $before == --access || $before == who ]]; then
         mapfile -t COMPREPLY < <(compgen -W 'read write vxattr snapshot chmod' -- "$word")
+    elif [[ ${COMP_WORDS[1]} == audit ]]; then
+        mapfile -t COMPREPLY < <(compgen -W '--auth --sessions --tree --fs --help' -- "$word")
     elif [[ ${COMP_WORDS[1]} == who ]]; then
         mapfile -t COMPREPLY < <(compgen -W '--auth --fs --owner --group --mode --help' -- "$word")
     else

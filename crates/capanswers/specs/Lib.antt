@@ -2,5 +2,6 @@ pub mod Fault
 pub mod Inquiry
 pub mod Answers
 pub mod Survey
+pub mod Checkup
 pub mod Logging
 pub use Rattle.capquestion.specs as Capquestion

@@ -112,6 +112,9 @@ fn advice(ask: &Ask, fault: AnswerFault) -> Option<&'static str> {
             "--client takes a name that the list has at entity, as client.tenant",
         ),
         AnswerFault::Auth(AuthFault::NoCaps) => Some("the client has no caps for the MDS"),
+        AnswerFault::UnopenedText => Some(
+            "--auth and --sessions take the names of files, and --tree that of one, or - for standard input",
+        ),
         _ => None,
     }
 }

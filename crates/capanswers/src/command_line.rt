@@ -1,5 +1,6 @@
 //! The words of the command line.
 
+use crate::checkup::Checkup;
 use crate::inquiry::Inquiry;
 use crate::matched::asked;
 use crate::survey::Survey;
@@ -22,6 +23,7 @@ pub const LINT: &str = "lint";
 
 pub const WHO: &str = "who";
 
+pub const AUDIT: &str = "audit";
 pub const LOG: &str = "log";
 
 pub const RUN: &str = "run";
@@ -35,6 +37,10 @@ pub const OLD: &str = "old";
 pub const NEW: &str = "new";
 
 pub const AUTH: &str = "auth";
+
+pub const SESSIONS: &str = "sessions";
+
+pub const TREE: &str = "tree";
 
 pub const KEYRING: &str = "keyring";
 
@@ -51,7 +57,7 @@ const STATUSES: &str = "Status:
   0  the whole answer was written; of `explain --quiet`: allowed
   1  a value, a text or a script has a fault, a read or a write failed, or memory was missing
   2  the command line is wrong
-  3  of `explain --quiet`: denied; of `lint`: something was found";
+  3  of `explain --quiet`: denied; of `lint` and `audit`: something was found";
 
 const EXAMPLE: &str = "Example:
   capd explain \\
@@ -85,6 +91,12 @@ prints a line for each client, such as
   client.lab: depends on owner, group and mode: write /projects grant 2
   client.backup: denied write /projects grant 1 rule 5 no-write";
 
+const AUDIT_EXAMPLE: &str = "Example:
+  ceph auth ls -f json > auth.json
+  ceph tell mds.0 session ls > sessions.json
+  ceph tell mds.0 dump tree / | capd audit --auth auth.json --sessions sessions.json --tree -
+prints for each client and inode of which it holds what nobody behind its key is permitted, such as
+  /a/y client.reader holds pAsLsXsFrw, may not Fw: grant 1 rule 5 no-write";
 const LOG_EXAMPLE: &str = "Example:
   capd log --fs cephfs < /var/log/ceph/ceph-mds.a.log
 prints for each check of policy in it, behind the number of its line, such as
@@ -120,6 +132,8 @@ pub enum Ask {
     Lint(Vec<u8>),
     /// Which clients of a cluster may make an access.
     Who(Survey),
+    /// What clients of a cluster hold and may not.
+    Audit(Checkup),
     /// What the checks of policy in a log are answered, on the file system of this name.
     Log(Vec<u8>),
     /// The transcript of a script.
@@ -137,6 +151,7 @@ impl Drop for Ask {
             Ask::Compare { old: _, new: _ } => {}
             Ask::Lint(_) => {}
             Ask::Who(_) => {}
+            Ask::Audit(_) => {}
             Ask::Log(_) => {}
             Ask::Run => {}
             Ask::Serve => {}
@@ -184,6 +199,7 @@ fn capd<'a>(alloc: Global) -> Result<Command<'a>, AllocError> {
     let command = with(command, compare(alloc));
     let command = with(command, lint(alloc));
     let command = with(command, who(alloc));
+    let command = with(command, audit(alloc));
     let command = with(command, log(alloc));
     let command = with(command, Ok(run(alloc)));
     with(command, Ok(serve(alloc)))
@@ -331,6 +347,40 @@ fn who<'a>(alloc: Global) -> Result<Command<'a>, AllocError> {
     with_arg(command, attr_argument(alloc, Opt::Mode, Opt::Owner))
 }
 
+fn audit<'a>(alloc: Global) -> Result<Command<'a>, AllocError> {
+    Command::new(alloc, AUDIT)
+        .about(
+            "Says what clients of a running cluster hold and nobody behind their keys is permitted",
+        )
+        .after_help(AUDIT_EXAMPLE)
+        .arg(file(
+            alloc,
+            AUTH,
+            "The clients with their grants, as `ceph auth ls -f json` prints them",
+        ))?
+        .arg(file(
+            alloc,
+            SESSIONS,
+            "The sessions, as `ceph tell mds.N session ls` prints them",
+        ))?
+        .arg(file(
+            alloc,
+            TREE,
+            "The tree, as `ceph tell mds.N dump tree /` prints it; - for standard input",
+        ))?
+        .arg(file_system(alloc))
+}
+
+// An option that has to be given and names a file.
+fn file<'a>(alloc: Global, name: &'a str, help: &'a str) -> Arg<'a> {
+    Arg::new(alloc, name)
+        .long(name)
+        .value_name("FILE")
+        .help(help)
+        .required(true)
+        .action(ArgAction::Set)
+}
+
 fn log<'a>(alloc: Global) -> Result<Command<'a>, AllocError> {
     Command::new(alloc, LOG)
         .about(
@@ -353,14 +403,11 @@ fn word_argument<'a>(alloc: Global, option: Opt) -> Arg<'a> {
 }
 
 fn auth<'a>(alloc: Global) -> Arg<'a> {
-    Arg::new(alloc, AUTH)
-        .long(AUTH)
-        .value_name("FILE")
-        .help(
-            "The clients with their grants, as `ceph auth ls -f json` prints them; - for standard input",
-        )
-        .required(true)
-        .action(ArgAction::Set)
+    file(
+        alloc,
+        AUTH,
+        "The clients with their grants, as `ceph auth ls -f json` prints them; - for standard input",
+    )
 }
 
 fn file_system<'a>(alloc: Global) -> Arg<'a> {

@@ -1,6 +1,7 @@
 //! Why a command that answers a question about grants gave no answer.
 
 use capauth::AuthFault;
+use capheld::HeldFault;
 use capkeyring::KeyringFault;
 use capquestion::{CompareFault, QuestionFault};
 use capspec::SpecFault;
@@ -24,6 +25,10 @@ pub enum AnswerFault {
     Auth(AuthFault),
     /// The file of the auth list can't be opened.
     UnopenedAuth,
+    /// One of the texts of a cluster is none.
+    Cluster(HeldFault),
+    /// The file of one of them can't be opened.
+    UnopenedText,
     /// What has the text of the grants can't be read, as a script can't.
     Unread(ScriptFault),
     /// The answer could not be written.
@@ -41,6 +46,8 @@ impl Display for AnswerFault {
             AnswerFault::Unopened => f.write_str("keyring: Unopened"),
             AnswerFault::Auth(fault) => write!(f, "auth: {fault}"),
             AnswerFault::UnopenedAuth => f.write_str("auth: Unopened"),
+            AnswerFault::Cluster(fault) => Display::fmt(fault, f),
+            AnswerFault::UnopenedText => f.write_str("cluster: Unopened"),
             AnswerFault::Unread(fault) => Display::fmt(fault, f),
             AnswerFault::WriteFailed => f.write_str("write failed"),
             AnswerFault::NoMemory => f.write_str("no memory"),
@@ -102,6 +109,17 @@ impl From<AuthFault> for AnswerFault {
             AuthFault::NoMemory => AnswerFault::NoMemory,
             _ => AnswerFault::Auth(found),
         }
+    }
+}
+
+impl From<HeldFault> for AnswerFault {
+    ghost use Rattle.std.specs.Prelude.{◌≡◌};
+    ghost use Rattle.capanswers.specs.declared.fault.AnswerFault.TheVariants as faults;
+
+    ghost from_gives = { λ found fault. fault ≡ faults.Cluster found };
+
+    fn from(found: HeldFault) -> Self {
+        AnswerFault::Cluster(found)
     }
 }
 

@@ -1,4 +1,4 @@
-//! The file of a keyring, or of an auth list.
+//! The file of a keyring, of an auth list, or of a tree.
 
 use crate::command_line::{Ask, INPUT};
 use crate::fault::AnswerFault;
@@ -18,12 +18,17 @@ pub fn keyring_file<E: Files>(files: &E, ask: &Ask) -> Result<Option<E::File>, A
             Source::Word | Source::Input => Ok(None),
         },
         Ask::Who(survey) => open_file(files, survey.auth.as_slice(), AnswerFault::UnopenedAuth),
+        Ask::Audit(checkup) => open_file(
+            files,
+            checkup.files.tree.as_slice(),
+            AnswerFault::UnopenedText,
+        ),
         _ => Ok(None),
     }
 }
 
 // The file of this name, unless the name stands for standard input.
-fn open_file<E: Files>(
+pub(crate) fn open_file<E: Files>(
     files: &E,
     name: &[u8],
     fault: AnswerFault,

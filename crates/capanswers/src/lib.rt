@@ -1,5 +1,5 @@
 //! The commands of `capd` that answer a question about grants, by their words and streams alone: `explain`, `grants`, `compare`,
-//! `lint`, `who` and `log`.
+//! `lint`, `who`, `audit` and `log`.
 //! And what all commands need before and behind that: what the words of the command line ask for, with which status a command ends, and
 //! what is said of a fault.
 //!
@@ -8,9 +8,11 @@
 
 mod advice;
 mod arguments;
+mod checkup;
 mod command_line;
 mod commands;
 mod fault;
+mod gathering;
 mod inquiry;
 mod keyring;
 mod logging;
@@ -22,9 +24,11 @@ mod survey;
 pub use advice::refuse;
 pub use arguments::words;
 pub use capquestion::spelled;
+pub use checkup::{Checkup, ClusterFiles, check_cluster};
 pub use command_line::Ask;
 pub use commands::{compare_texts, grants, inquire, look_over};
 pub use fault::AnswerFault;
+pub use gathering::gather;
 pub use inquiry::{Form, Inquiry, Source};
 pub use keyring::keyring_file;
 pub use logging::tell_log;

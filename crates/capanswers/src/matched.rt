@@ -1,8 +1,9 @@
 //! What the matched words of a command line ask for.
 
+use crate::checkup::{Checkup, ClusterFiles};
 use crate::command_line::{
-    AUTH, Ask, CLIENT, COMPARE, EXPLAIN, GRANTS, INPUT, KEYRING, LINT, LOG, MORE, NEW, OLD, QUIET,
-    RUN, SERVE, TEXT, WHO,
+    AUDIT, AUTH, Ask, CLIENT, COMPARE, EXPLAIN, GRANTS, INPUT, KEYRING, LINT, LOG, MORE, NEW, OLD,
+    QUIET, RUN, SERVE, SESSIONS, TEXT, TREE, WHO,
 };
 use crate::inquiry::{Form, Inquiry, Source};
 use crate::survey::Survey;
@@ -30,6 +31,7 @@ pub fn asked(alloc: Global, matches: &ArgMatches<'_>) -> Result<Ask, ErrorKind> 
         },
         LINT => Ask::Lint(matched.value(TEXT)),
         WHO => Ask::Who(matched.survey()),
+        AUDIT => Ask::Audit(matched.checkup()),
         LOG => Ask::Log(matched.option(Opt::Fs)),
         RUN => Ask::Run,
         SERVE => Ask::Serve,
@@ -113,6 +115,19 @@ impl Matched<'_, '_> {
                 attr: self.attr(),
             },
             auth: self.value(AUTH),
+        }
+    }
+
+    fn checkup(&mut self) -> Checkup {
+        Checkup {
+            fs: self.option(Opt::Fs),
+            files: ClusterFiles {
+                auth: self.value(AUTH),
+                sessions: self.value(SESSIONS),
+                tree: self.value(TREE),
+            },
+            auth: Vec::new(self.alloc),
+            sessions: Vec::new(self.alloc),
         }
     }
 

@@ -17,13 +17,14 @@ use Rattle.capanswers.specs.declared.command_line.Ask.{Ask}
 use Rattle.capanswers.specs.declared.command_line.Ask.TheVariants as asks
 use Rattle.capanswers.specs.declared.fault.AnswerFault.{AnswerFault}
 use Rattle.capanswers.specs.Answers.{AnswersInquiry, AnswersLint, StopsBefore, StopsComparing, StopsInquiry}
+use Rattle.capanswers.specs.Checkup.{AnswersCheckup, StopsCheckup}
 use Rattle.capanswers.specs.Survey.{AnswersSurvey, StopsSurvey}
 use Rattle.capanswers.specs.Logging.{AnswersLog, StopsLog}
 use Rattle.capcommand.specs.declared.fault.Fault.{Fault}
 use Rattle.capcommand.specs.declared.fault.Fault.TheVariants.{Answer, Script, Serve}
 
 -- the whole answer was written: the answer to a question, the written form of grants, the lines that compare two texts, what is found in one,
--- the lines for the clients of a cluster, those that tell of a log, the transcript of the script that was to be read, or the history; with the status 0, but for a question that is answered by the status alone,
+-- the lines for the clients of a cluster, what they hold and may not, those that tell of a log, the transcript of the script that was to be read, or the history; with the status 0, but for a question that is answered by the status alone,
 -- and for what is found
 abbrev pub Answers : Ask → Option (List ℕ) → ℕ → Option (List ℕ) → Option (List ℕ) → Type 0
 Answers (asks.Explain inquiry) input status old new = AnswersInquiry inquiry input status old new
@@ -31,6 +32,7 @@ Answers (asks.Grants text) input status old new = (status ≡ 0) × ((grants : L
 Answers (asks.Compare before after) input status old new = (status ≡ 0) × ((lines : List ℕ) × IsComparison before.items after.items lines × Appends old new lines)
 Answers (asks.Lint text) input status old new = AnswersLint text.items status old new
 Answers (asks.Who survey) input status old new = (status ≡ 0) × AnswersSurvey survey input old new
+Answers (asks.Audit checkup) input status old new = AnswersCheckup checkup input status old new
 Answers (asks.Log fs) input status old new = (status ≡ 0) × AnswersLog fs.items input old new
 Answers asks.Run input status old new = (status ≡ 0) × IfSome input (λ script. (length script ≤ longest_script) × ((text : List ℕ) × IsTranscript (lines script) text × Appends old new text))
 Answers asks.Serve input status old new = (status ≡ 0) × IfSome input (λ script. (length script ≤ longest_script) × ((text : List ℕ) × IsServed (lines script) text × Appends old new text))
@@ -66,6 +68,7 @@ Stops (asks.Grants text) fault input ended unread unwritten old new = TellsOfAns
 Stops (asks.Compare before after) fault input ended unread unwritten old new = TellsOfAnswer (λ told. StopsComparing before.items after.items told unwritten old new) fault
 Stops (asks.Lint text) fault input ended unread unwritten old new = TellsOfAnswer (λ told. StopsBefore (IsFaultOfText text.items) told unwritten old new) fault
 Stops (asks.Who survey) fault input ended unread unwritten old new = TellsOfAnswer (λ told. StopsSurvey survey told input unread unwritten old new) fault
+Stops (asks.Audit checkup) fault input ended unread unwritten old new = TellsOfAnswer (λ told. StopsCheckup checkup told input unread unwritten old new) fault
 Stops (asks.Log fs) fault input ended unread unwritten old new = TellsOfAnswer (λ told. StopsLog fs.items told input unread unwritten old new) fault
 Stops asks.Run fault input ended unread unwritten old new = (stop : ScriptFault) × (fault ≡ Script stop) × RunStops stop input ended unread unwritten old new
 Stops asks.Serve fault input ended unread unwritten old new = (stop : ServeFault) × (fault ≡ Serve stop) × ServeStops stop input unread unwritten old new

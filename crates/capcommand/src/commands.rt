@@ -13,8 +13,8 @@ ghost use Rattle.capcommand.specs.Commands.{Answers, Stops, RunStops, ServeStops
 
 use crate::fault::Fault;
 use capanswers::{
-    Ask, DENIED, DONE, FAILED, FOUND, USAGE, compare_texts, grants, inquire, keyring_file,
-    look_over, read_words, report, show, tell_log, tell_who,
+    Ask, DENIED, DONE, FAILED, FOUND, USAGE, check_cluster, compare_texts, gather, grants, inquire,
+    keyring_file, look_over, read_words, report, show, tell_log, tell_who,
 };
 use capjobs::{Watched, run, serve};
 use std::alloc::Global;
@@ -41,6 +41,9 @@ pub fn dispatch<E: AllocGlobal + Files + Threads + Wait + Sync, R: Read, W: Writ
         Ok(ask) => ask,
         Err(said) => return show(&said, writer, faults),
     };
+    if let Err(fault) = gather(rt, rt.alloc(), &mut ask) {
+        return capanswers::refuse(rt.alloc(), &ask, fault, faults);
+    }
     let mut writer = Watched::new(writer);
     match keyring_file(rt, &ask) {
         Ok(None) => {
@@ -108,6 +111,7 @@ fn answer<T: Threads + Wait + Sync, R: Read, W: Write>(
         Ask::Compare { old, new } => compare_texts(alloc, old.as_slice(), new.as_slice(), writer),
         Ask::Lint(text) => look_over(alloc, text.as_slice(), writer),
         Ask::Who(survey) => tell_who(alloc, survey, reader, writer),
+        Ask::Audit(checkup) => check_cluster(alloc, checkup, reader, writer),
         Ask::Log(fs) => tell_log(alloc, fs.as_slice(), reader, writer),
         Ask::Run => return run_script(alloc, reader, writer),
         Ask::Serve => return serve_script(rt, alloc, reader, writer),

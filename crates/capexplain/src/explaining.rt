@@ -54,8 +54,8 @@ pub(crate) fn print_reason(line: &mut Vec<u8>, verdict: &Verdict) -> Result<(), 
     }
 }
 
-// Appends a path: `/` before each name, and alone for the root.
-pub(crate) fn print_path(line: &mut Vec<u8>, path: &[&[u8]]) -> Result<(), AllocError>
+/// Appends a path: `/` before each name, and alone for the root. `AllocError` where no memory is left for it.
+pub fn print_path(line: &mut Vec<u8>, path: &[&[u8]]) -> Result<(), AllocError>
     ensures { OnOk result (line.new.items ≡ line.old.items ++ path_text (map (λ name. name.now) path.now)) }
 {
     if path.is_empty() {
@@ -75,8 +75,8 @@ fn print_names(line: &mut Vec<u8>, names: &[&[u8]]) -> Result<(), AllocError>
     Ok(())
 }
 
-// Appends the rules by which the grants fail.
-pub(crate) fn print_failures(line: &mut Vec<u8>, rules: &[Rule]) -> Result<(), AllocError>
+/// Appends the rules by which the grants fail, the number of each grant from 1. `AllocError` where no memory is left for them.
+pub fn print_failures(line: &mut Vec<u8>, rules: &[Rule]) -> Result<(), AllocError>
     ensures { OnOk result (line.new.items ≡ line.old.items ++ failures_text rules.now) }
 {
     if rules.is_empty() {

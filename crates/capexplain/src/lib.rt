@@ -28,7 +28,7 @@ pub use change_word::ChangeWord;
 pub use command::Command;
 pub use comparing::comparison_lines;
 pub use event_text::event_line;
-pub use explaining::explain_line;
+pub use explaining::{explain_line, print_failures, print_path};
 pub use linting::lint_lines;
 pub use quoting::print_quoted;
 pub use remarking::remarked_lines;

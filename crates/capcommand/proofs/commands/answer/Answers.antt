@@ -3,11 +3,12 @@ use Rattle.std.specs.Prelude.{IfErr}
 use Rattle.std.proofs.lemmas.Result.{IfErr-at_err}
 use Rattle.capjobs.specs.Capstreams.Watched.{inner_of, has_failed}
 use Rattle.capanswers.specs.Answers.{StopsInquiry}
+use Rattle.capanswers.specs.Checkup.{StopsCheckup}
 use Rattle.capanswers.specs.Survey.{StopsSurvey}
 use Rattle.capanswers.specs.Logging.{StopsLog}
 use Rattle.capanswers.specs.declared.fault.AnswerFault.{AnswerFault}
 use Rattle.capcommand.proofs.commands.answer.Goals as goal
-use Rattle.capcommand.proofs.commands.answer.Goals.{in-Explain, in-Grants, in-Compare, in-Lint, in-Who, in-Log}
+use Rattle.capcommand.proofs.commands.answer.Goals.{in-Explain, in-Grants, in-Compare, in-Lint, in-Who, in-Audit, in-Log}
 
 pub returns-in-Err-clause-err : goal.returns-in-Err-clause-err
 returns-in-Err-clause-err g c = elim c.match-ask.branch [
@@ -20,6 +21,9 @@ returns-in-Err-clause-err g c = elim c.match-ask.branch [
   | in-Who w ↦
       let stops = λ (fault : AnswerFault). StopsSurvey w.in-Who.survey fault (g.R.Read.remaining (inner_of c.args.reader.now)) (has_failed w.tell_who-answered.new.reader) (has_failed w.tell_who-answered.new.writer) (g.W.Write.contents (inner_of c.args.writer.now)) (g.W.Write.contents (inner_of w.tell_who-answered.new.writer)) in
       rw (w.in-Who.is, w.reader-is, w.writer-is) (IfErr-at_err stops (sym w.answered-is ∙ c.in-Err.is) w.tell_who-answered.ensures.err)
+  | in-Audit w ↦
+      let stops = λ (fault : AnswerFault). StopsCheckup w.in-Audit.checkup fault (g.R.Read.remaining (inner_of c.args.reader.now)) (has_failed w.check_cluster-answered.new.reader) (has_failed w.check_cluster-answered.new.writer) (g.W.Write.contents (inner_of c.args.writer.now)) (g.W.Write.contents (inner_of w.check_cluster-answered.new.writer)) in
+      rw (w.in-Audit.is, w.reader-is, w.writer-is) (IfErr-at_err stops (sym w.answered-is ∙ c.in-Err.is) w.check_cluster-answered.ensures.err)
   | in-Log w ↦
       let stops = λ (fs : List ℕ) (fault : AnswerFault). StopsLog fs fault (g.R.Read.remaining (inner_of c.args.reader.now)) (has_failed w.tell_log-answered.new.reader) (has_failed w.tell_log-answered.new.writer) (g.W.Write.contents (inner_of c.args.writer.now)) (g.W.Write.contents (inner_of w.tell_log-answered.new.writer)) in
       let told = subst (λ (fs : List ℕ). IfErr w.tell_log-answered.result (stops fs)) w.as_slice-in-Log.ensures.value w.tell_log-answered.ensures.err in

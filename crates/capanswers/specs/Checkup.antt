@@ -1,0 +1,41 @@
+-- What `audit` writes, and why it stops before that.
+use Rattle.std.specs.Prelude.{◌≡◌, ◌⊎◌, ◌≤◌, ◌==◌, ℕ, Bool, List, ◌++◌, length, Option, IfSome, IsTrue, codes, if◌then◌else◌}
+use Rattle.std.specs.Io.KnownBytes.{Appends, Keeps}
+use Rattle.capspec.specs.Names.{IsFsName}
+use Rattle.capstreams.specs.Caplines.Lines.{longest_script}
+use Rattle.capheld.specs.declared.fault.HeldFault.{HeldFault}
+use Rattle.capheld.specs.Audited.{IsAudit, IsFaultOfCluster}
+use Rattle.capquestion.specs.declared.fault.QuestionFault.TheVariants.{BadValue}
+use Rattle.capquestion.specs.declared.options.Opt.TheVariants.{Fs}
+use Rattle.capanswers.specs.declared.checkup.Checkup.{Checkup}
+use Rattle.capanswers.specs.declared.fault.AnswerFault.{AnswerFault}
+use Rattle.capanswers.specs.declared.fault.AnswerFault.TheVariants.{Cluster, Question, WriteFailed, NoMemory}
+use Rattle.capanswers.specs.Inquiry.{IsUnreadInput}
+
+-- what is found, or that nothing is, and behind it what could not be judged
+abbrev pub report_text : List ℕ → List ℕ → List ℕ
+report_text found unknown = (if length found == 0 then codes "nothing found\n" else found) ++ unknown
+
+-- this was found on the cluster, and written; the status is 3 where it is anything, else 0
+abbrev pub IsCheckedBy : Checkup → List ℕ → ℕ → Option (List ℕ) → Option (List ℕ) → Type 0
+IsCheckedBy checkup tree status old new = (found : List ℕ) × (unknown : List ℕ) × IsAudit checkup.fs.items checkup.auth.items checkup.sessions.items tree found unknown
+    × (status ≡ (if length found == 0 then 0 else 3)) × Appends old new (report_text found unknown)
+
+-- the same on the tree that was to be read
+pub record AnswersCheckup (checkup : Checkup) (input : Option (List ℕ)) (status : ℕ) (old new : Option (List ℕ)) : Type 0 where
+  pub named : IsFsName checkup.fs.items
+  pub told : IfSome input (λ tree. (length tree ≤ longest_script) × IsCheckedBy checkup tree status old new)
+
+-- what is told is the fault of the cluster's texts, or memory was missing
+abbrev pub TellsOfCluster : Checkup → Option (List ℕ) → AnswerFault → Type 0
+TellsOfCluster checkup input fault = (fault ≡ NoMemory)
+    ⊎ ((found : HeldFault) × (fault ≡ Cluster found) × IfSome input (λ tree. IsFaultOfCluster checkup.auth.items checkup.sessions.items tree found))
+
+-- no file system has the name, the input can't be read, or the texts are none
+abbrev pub IsFaultOfCheckup : Checkup → AnswerFault → Option (List ℕ) → Bool → Type 0
+IsFaultOfCheckup checkup fault input unread =
+    ((fault ≡ Question (BadValue Fs)) × (¬ IsFsName checkup.fs.items)) ⊎ (IsUnreadInput fault input unread ⊎ TellsOfCluster checkup input fault)
+
+-- a write failed; or it is a fault of these, and nothing was written
+abbrev pub StopsCheckup : Checkup → AnswerFault → Option (List ℕ) → Bool → Bool → Option (List ℕ) → Option (List ℕ) → Type 0
+StopsCheckup checkup fault input unread unwritten old new = ((fault ≡ WriteFailed) × IsTrue unwritten) ⊎ (IsFaultOfCheckup checkup fault input unread × Keeps old new)

@@ -1,0 +1,106 @@
+//! The command that tells what clients of a running cluster hold and may not.
+ghost use Rattle.std.specs.Prelude.{◌≡◌, ◌⊎◌, ◌++◌, ◌==◌, OnOk, IfOk, IfErr, IsFalse, codes, if◌then◌else◌, length};
+ghost use Rattle.capstreams.specs.Watched.{inner_of, has_failed, has_ended};
+ghost use Rattle.capanswers.specs.Checkup.{AnswersCheckup, StopsCheckup, report_text};
+
+use crate::commands::write_text;
+use crate::fault::AnswerFault;
+use crate::status::{DONE, FOUND};
+use capheld::{ClusterTexts, Notes, audit};
+use capquestion::{Opt, QuestionFault};
+use capspec::FsName;
+use capstreams::{Watched, read_script};
+use std::alloc::{AllocError, Global};
+use std::io::{Read, Write};
+
+/// What `audit` is asked.
+pub struct Checkup {
+    /// The name of the file system.
+    pub fs: Vec<u8>,
+    /// The names of the files in which the texts of the cluster stand.
+    pub files: ClusterFiles,
+    /// The text of the auth list, of no byte until `gather` has read it.
+    pub auth: Vec<u8>,
+    /// The same of the sessions.
+    pub sessions: Vec<u8>,
+}
+
+// By hand, so that whoever lets one go has one call to prove.
+impl Drop for Checkup {
+    fn drop(self) {
+        let Checkup {
+            fs: _,
+            files: _,
+            auth: _,
+            sessions: _,
+        } = self;
+    }
+}
+
+/// The names of the files in which the texts of a cluster stand.
+pub struct ClusterFiles {
+    /// That of the auth list.
+    pub auth: Vec<u8>,
+    /// That of the sessions.
+    pub sessions: Vec<u8>,
+    /// That of the tree, or `-` for standard input.
+    pub tree: Vec<u8>,
+}
+
+// By hand, so that whoever lets one go has one call to prove.
+impl Drop for ClusterFiles {
+    fn drop(self) {
+        let ClusterFiles {
+            auth: _,
+            sessions: _,
+            tree: _,
+        } = self;
+    }
+}
+
+/// Writes what clients hold and may not by the tree that the reader has, and what could not be judged, and says by the status
+/// whether anything was found.
+pub fn check_cluster<R: Read, W: Write>(
+    alloc: Global,
+    checkup: &Checkup,
+    reader: &mut Watched<R>,
+    writer: &mut Watched<W>,
+) -> Result<u8, AnswerFault>
+    requires reader_clear { IsFalse (has_failed reader.old) }
+    requires reader_unended { IsFalse (has_ended reader.old) }
+    requires writer_clear { IsFalse (has_failed writer.old) }
+    ensures status { IfOk result (λ status. (status ≡ DONE) ⊎ (status ≡ FOUND)) }
+    ensures ok { OnOk result (IsFalse (has_failed reader.new) × IsFalse (has_failed writer.new)) }
+    ensures told { IfOk result (λ status. AnswersCheckup checkup.now (R.remaining (inner_of reader.old)) status
+        (W.contents (inner_of writer.old)) (W.contents (inner_of writer.new))) }
+    ensures err { IfErr result (λ fault. StopsCheckup checkup.now fault (R.remaining (inner_of reader.old))
+        (has_failed reader.new) (has_failed writer.new) (W.contents (inner_of writer.old)) (W.contents (inner_of writer.new))) }
+{
+    let Some(fs) = FsName::read(checkup.fs.as_slice()) else {
+        return Err(AnswerFault::Question(QuestionFault::BadValue(Opt::Fs)));
+    };
+    let tree = read_script(alloc, reader)?;
+    let texts = ClusterTexts {
+        auth: checkup.auth.as_slice(),
+        sessions: checkup.sessions.as_slice(),
+        tree: tree.as_slice(),
+    };
+    let notes = audit(alloc, &fs, &texts)?;
+    let report = report(alloc, &notes)?;
+    let status = if notes.found.is_empty() { DONE } else { FOUND };
+    write_text(report.as_slice(), status, writer)
+}
+
+// What is found, or that nothing is, and behind it what could not be judged.
+fn report(alloc: Global, notes: &Notes) -> Result<Vec<u8>, AllocError>
+    ensures { IfOk result (λ report. report.items ≡ report_text notes.now.found.items notes.now.unknown.items) }
+{
+    let mut report = Vec::new(alloc);
+    if notes.found.is_empty() {
+        report.extend_from_slice(b"nothing found\n")?;
+    } else {
+        report.extend_from_slice(notes.found.as_slice())?;
+    }
+    report.extend_from_slice(notes.unknown.as_slice())?;
+    Ok(report)
+}

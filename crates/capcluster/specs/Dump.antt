@@ -1,0 +1,116 @@
+-- The tree of a cluster, with what clients hold of each inode.
+use Rattle.std.specs.Prelude.{ℕ, ◌+◌, ◌%◌, Bool, false, if◌then◌else◌, List, [], ◌∷◌, ◌++◌, length, codes, Option, Some, unwrap_or, option_map, option_and_then, Result, Ok, Err}
+use Rattle.std.specs.Ordering.{nat_cmp}
+use Rattle.std.specs.FinMap as map
+use Rattle.std.specs.FinMap.{FinMap}
+use Rattle.serde_json.specs.Data.{Data, Items, no_items, item}
+use Rattle.serde_json.specs.Find.{get, as_array, as_bool}
+use Rattle.capwords.specs.Paths.{names_of}
+use Rattle.capgrant.specs.declared.access.Attr.{Attr}
+use Rattle.capauth.specs.Auth.{json_of}
+use Rattle.capcluster.specs.declared.fault.ClusterFault.{ClusterFault}
+use Rattle.capcluster.specs.declared.fault.ClusterFault.TheVariants.{NoList, BadItem}
+use Rattle.capcluster.specs.Values.{id_at, items_at, number_at, text_at}
+
+-- ---- what clients hold
+
+-- the number of a client's session, the caps that it may still hold, and those that it was last told, each in their text
+pub record Held : Type 0 where
+  pub client : ℕ
+  pub issued : List ℕ
+  pub pending : List ℕ
+
+abbrev pub held : ℕ → List ℕ → List ℕ → Held
+held client issued pending = record { client = client; issued = issued; pending = pending }
+
+abbrev pub holder_of : Data → Option Held
+holder_of d = option_and_then (λ client. option_and_then (λ issued. option_map (held client issued) (text_at (codes "pending") d)) (text_at (codes "issued") d)) (number_at (codes "client_id") d)
+
+-- those who hold something by these items, behind those before; None where an item doesn't say it
+abbrev pub holders_from : List Held → Items → Option (List Held)
+holders_from before no_items = Some before
+holders_from before (item d ds) = option_and_then (λ h. holders_from (before ++ h ∷ []) ds) (holder_of d)
+
+abbrev pub holders_in : Data → Option (List Held)
+holders_in d = option_and_then (holders_from []) (items_at (codes "client_caps") d)
+
+-- ---- inodes
+
+-- an inode: its number, its owner, group and mode, and who holds something of it
+pub record Listed : Type 0 where
+  pub number : ℕ
+  pub attr : Attr
+  pub holders : List Held
+
+abbrev pub listed : ℕ → Attr → List Held → Listed
+listed number attr holders = record { number = number; attr = attr; holders = holders }
+
+-- the twelve low bits of the mode are those that rules look at; above them stands the kind of the inode
+abbrev pub attr_with : ℕ → ℕ → ℕ → Attr
+attr_with uid gid mode = record { uid = uid; gid = gid; mode = mode % 0o10000 }
+
+abbrev pub attr_in : Data → Option Attr
+attr_in d = option_and_then (λ uid. option_and_then (λ gid. option_map (attr_with uid gid) (number_at (codes "mode") d)) (id_at (codes "gid") d)) (id_at (codes "uid") d)
+
+abbrev pub inode_of : Data → Option Listed
+inode_of d = option_and_then (λ number. option_and_then (λ attr. option_map (listed number attr) (holders_in d)) (attr_in d)) (number_at (codes "ino") d)
+
+-- ---- paths
+
+-- the names from the root down to each inode that has some
+abbrev pub PathMap : Type 0
+PathMap = FinMap nat_cmp (List (List ℕ))
+
+-- the root has no name
+abbrev pub root_alone : PathMap
+root_alone = map.insert map.empty 1 []
+
+abbrev pub is_primary : Data → Bool
+is_primary d = unwrap_or (option_and_then as_bool (get (codes "is_primary") d)) false
+
+-- with the path of the inode that is at home at this dentry; None where there is one, without its number or its path
+abbrev pub with_dentry : PathMap → Data → Option PathMap
+with_dentry paths d = if is_primary d then option_and_then (λ number. option_map (λ path. map.insert paths number (names_of path)) (text_at (codes "path") d)) (number_at (codes "inode") d) else Some paths
+
+abbrev pub with_dentries : PathMap → Items → Option PathMap
+with_dentries paths no_items = Some paths
+with_dentries paths (item d ds) = option_and_then (λ more. with_dentries more ds) (with_dentry paths d)
+
+-- with those of a fragment of a directory
+abbrev pub with_fragment : PathMap → Data → Option PathMap
+with_fragment paths d = option_and_then (with_dentries paths) (items_at (codes "dentries") d)
+
+abbrev pub with_fragments : PathMap → Items → Option PathMap
+with_fragments paths no_items = Some paths
+with_fragments paths (item d ds) = option_and_then (λ more. with_fragments more ds) (with_fragment paths d)
+
+-- with those of the directory that an inode is
+abbrev pub with_directory : PathMap → Data → Option PathMap
+with_directory paths d = option_and_then (with_fragments paths) (items_at (codes "dirfrags") d)
+
+-- ---- the tree
+
+-- the inodes in the order of the text, and their paths
+pub record Dump : Type 0 where
+  pub inodes : List Listed
+  pub paths : PathMap
+
+abbrev pub dump : List Listed → PathMap → Dump
+dump inodes paths = record { inodes = inodes; paths = paths }
+
+-- with the inode that an item is
+abbrev pub with_inode : Dump → Data → Option Dump
+with_inode tree d = option_and_then (λ i. option_map (dump (tree.inodes ++ i ∷ [])) (with_directory tree.paths d)) (inode_of d)
+
+-- with the inodes that the items are; or the number of the first that is none
+abbrev pub tree_from : Dump → Items → Result Dump ClusterFault
+tree_from tree no_items = Ok tree
+tree_from tree (item d ds) = unwrap_or (option_map (λ more. tree_from more ds) (with_inode tree d)) (Err (BadItem (length tree.inodes + 1)))
+
+-- the tree that a JSON value lists
+abbrev pub tree_in : Data → Result Dump ClusterFault
+tree_in d = unwrap_or (option_map (tree_from (dump [] root_alone)) (as_array d)) (Err NoList)
+
+-- the same of a text; None where it is no JSON
+abbrev pub tree_of : List ℕ → Option (Result Dump ClusterFault)
+tree_of text = option_map tree_in (json_of text)

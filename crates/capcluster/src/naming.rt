@@ -1,0 +1,89 @@
+//! Which path each inode has.
+
+ghost use Rattle.std.specs.Prelude.{◌≡◌, Some, None, IfOk, if◌then◌else◌};
+ghost use Rattle.serde_json.specs.View.{view, items_view};
+ghost use Rattle.capcluster.specs.Dump.{is_primary, root_alone, with_dentries, with_dentry, with_directory, with_fragment, with_fragments};
+
+use crate::values::{items_at, number_at, text_at};
+use capspec::TreePath;
+use numbered::Numbered;
+use serde_json::Value;
+use std::alloc::{AllocError, Global};
+
+// The path of the root, which no dentry leads to.
+pub(crate) fn root_alone(alloc: Global) -> Result<Numbered<TreePath>, AllocError>
+    ensures { IfOk result (λ paths. paths ≡ root_alone) }
+{
+    let mut paths = Numbered::new(alloc);
+    paths.insert(1, TreePath::from_text(alloc, b"")?)?;
+    Ok(paths)
+}
+
+// Adds the paths that the directory leads to which an inode is. False where something in it is none, and then some may be added.
+pub(crate) fn add_directory(
+    alloc: Global,
+    paths: &mut Numbered<TreePath>,
+    inode: &Value,
+) -> Result<bool, AllocError>
+    ensures { IfOk result (λ good. with_directory paths.old (view inode.now) ≡ (if good then Some paths.new else None)) }
+{
+    let Some(fragments) = items_at(inode, "dirfrags") else {
+        return Ok(false);
+    };
+    for fragment in fragments {
+        if !add_fragment(alloc, paths, fragment)? {
+            return Ok(false);
+        }
+    }
+    Ok(true)
+}
+
+// The same of a fragment of it.
+fn add_fragment(
+    alloc: Global,
+    paths: &mut Numbered<TreePath>,
+    fragment: &Value,
+) -> Result<bool, AllocError>
+    ensures { IfOk result (λ good. with_fragment paths.old (view fragment.now) ≡ (if good then Some paths.new else None)) }
+{
+    let Some(dentries) = items_at(fragment, "dentries") else {
+        return Ok(false);
+    };
+    for dentry in dentries {
+        if !add_dentry(alloc, paths, dentry)? {
+            return Ok(false);
+        }
+    }
+    Ok(true)
+}
+
+// The same of a dentry, if an inode is at home there.
+fn add_dentry(
+    alloc: Global,
+    paths: &mut Numbered<TreePath>,
+    dentry: &Value,
+) -> Result<bool, AllocError>
+    ensures { IfOk result (λ good. with_dentry paths.old (view dentry.now) ≡ (if good then Some paths.new else None)) }
+{
+    if !is_primary(dentry) {
+        return Ok(true);
+    }
+    let Some(number) = number_at(dentry, "inode") else {
+        return Ok(false);
+    };
+    let Some(path) = text_at(dentry, "path") else {
+        return Ok(false);
+    };
+    paths.insert(number, TreePath::from_text(alloc, path.as_bytes())?)?;
+    Ok(true)
+}
+
+// Whether an inode is at home at the dentry.
+fn is_primary(dentry: &Value) -> bool
+    ensures { result ≡ is_primary (view dentry.now) }
+{
+    dentry
+        .get("is_primary")
+        .and_then(Value::as_bool)
+        .unwrap_or(false)
+}

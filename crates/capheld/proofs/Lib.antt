@@ -1,0 +1,3 @@
+pub mod Said
+pub mod Saying
+pub mod Noting

@@ -1,0 +1,29 @@
+-- What is said where it is known who holds something, and where.
+use Rattle.std.proofs.Common.{◌≡◌, ℕ, Some, None, List, [], refl, subst}
+use Rattle.std.specs.FinMap as map
+use Rattle.std.specs.Prelude.{find, bytes_eq}
+use Rattle.capgrant.specs.declared.access.Attr.{Attr}
+use Rattle.capauth.specs.Auth.{Named}
+use Rattle.capcluster.specs.Dump.{Held, Listed, PathMap}
+use Rattle.capaudit.specs.Callers.{Inode, inode}
+use Rattle.capheld.specs.Audited.{Clients, name_of, IsJudged, AreSaid, SaysOf, SaysOfInode}
+use Rattle.capheld.specs.Lines.{unlisted_line, pathless_line}
+
+module _ (known : Clients) (i : Inode) (h : Held) (client : List ℕ) (is : name_of known.sessions h.client ≡ Some client) where
+  pub unlisted : find (λ e. bytes_eq e.name client) known.entities ≡ None → SaysOf known i h [] (unlisted_line client)
+  unlisted none = rw (is, none) (refl, refl)
+
+  pub without_caps : (e : Named) → find (λ e. bytes_eq e.name client) known.entities ≡ Some e → e.caps ≡ None → (found unknown : List ℕ) → IsJudged i client [] h found unknown → SaysOf known i h found unknown
+  without_caps e listed none found unknown judged = rw (is, listed, none) judged
+
+module _ (fs : List ℕ) (known : Clients) (paths : PathMap) (it : Listed) where
+  pub without_path : map.get paths it.number ≡ None → SaysOfInode fs known paths it [] (pathless_line it.number)
+  without_path none = rw none (refl, refl)
+
+  pub at_path : (path names : List (List ℕ)) (attr : Attr) (holders : List Held) → map.get paths it.number ≡ Some path → names ≡ path → attr ≡ it.attr → holders ≡ it.holders
+      → (found unknown : List ℕ) → AreSaid (SaysOf known (inode fs names attr)) holders found unknown → SaysOfInode fs known paths it found unknown
+  at_path path names attr holders leads are_names is_attr are_holders found unknown said =
+      rw leads (
+      subst (λ (p : List (List ℕ)). AreSaid (SaysOf known (inode fs p it.attr)) it.holders found unknown) are_names
+      (subst (λ (a : Attr). AreSaid (SaysOf known (inode fs names a)) it.holders found unknown) is_attr
+      (subst (λ (hs : List Held). AreSaid (SaysOf known (inode fs names attr)) hs found unknown) are_holders said)))

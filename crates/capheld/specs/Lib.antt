@@ -1,0 +1,5 @@
+pub mod Lines
+pub mod Order
+pub mod Audited
+pub use Rattle.capcluster.specs as Capcluster
+pub use Rattle.capaudit.specs as Capaudit

@@ -1,0 +1,99 @@
+//! What is said of one who holds something of an inode.
+ghost use Rattle.std.specs.Prelude.{◌≡◌, OnOk, option_map};
+ghost use Rattle.capheld.specs.Audited.{Adds, IsJudged, IsJudgedBy, SaysOf, clients, name_of, session_of};
+
+use crate::lines::{print_held, print_strange, print_unlisted, print_unnamed};
+use crate::notes::Notes;
+use capaudit::{Inode, beyond};
+use capauth::AuthList;
+use capbits::read_caps;
+use capcluster::{Holder, Session};
+use capexplain::print_unread;
+use capspec::{Grants, SpecFaultKind, read_grants};
+use std::alloc::{AllocError, Global};
+
+// Appends what is said of a client that holds something of the inode.
+pub(crate) fn note_holder(
+    alloc: Global,
+    notes: &mut Notes,
+    auth: &AuthList,
+    sessions: &[Session],
+    inode: &Inode,
+    holder: &Holder,
+) -> Result<(), AllocError>
+    ensures { OnOk result (Adds (SaysOf (clients auth.now sessions.now) inode.now holder.now) notes.old notes.new) }
+{
+    let Some(client) = name_of(sessions, holder.client()) else {
+        return print_unnamed(&mut notes.unknown, holder.client());
+    };
+    let Some(entity) = auth.find(client) else {
+        return print_unlisted(&mut notes.unknown, client);
+    };
+    match entity.caps() {
+        None => note_judged(notes, inode, client, &Grants::none(alloc)?, holder),
+        Some(text) => note_by_text(alloc, notes, inode, client, holder, text),
+    }
+}
+
+// The name that the session of this number tells.
+fn name_of(sessions: &[Session], number: u64) -> Option<&[u8]>
+    ensures { option_map (λ name. name.now) result ≡ name_of sessions.now number }
+{
+    session_of(sessions, number)?.client()
+}
+
+// The first session of this number.
+fn session_of(sessions: &[Session], number: u64) -> Option<&Session>
+    ensures { option_map (λ s. s.now) result ≡ session_of sessions.now number }
+{
+    sessions.iter().find(|session| session.number() == number)
+}
+
+// Appends what is said of a client by the text of its grants.
+fn note_by_text(
+    alloc: Global,
+    notes: &mut Notes,
+    inode: &Inode,
+    client: &[u8],
+    holder: &Holder,
+    text: &[u8],
+) -> Result<(), AllocError>
+    ensures { OnOk result (Adds (IsJudgedBy inode.now client.now holder.now text.now) notes.old notes.new) }
+{
+    match read_grants(alloc, text) {
+        Ok(grants) => note_judged(notes, inode, client, &grants, holder),
+        Err(fault) => match fault.kind {
+            SpecFaultKind::NoMemory => Err(AllocError),
+            _ => print_unread(&mut notes.unknown, client, &fault),
+        },
+    }
+}
+
+// Appends what is said of it by its grants.
+fn note_judged(
+    notes: &mut Notes,
+    inode: &Inode,
+    client: &[u8],
+    grants: &Grants,
+    holder: &Holder,
+) -> Result<(), AllocError>
+    ensures { OnOk result (Adds (IsJudged inode.now client.now grants.now holder.now) notes.old notes.new) }
+{
+    let Ok(issued) = read_caps(holder.issued()) else {
+        return print_strange(&mut notes.unknown, inode.path, client);
+    };
+    let Ok(pending) = read_caps(holder.pending()) else {
+        return print_strange(&mut notes.unknown, inode.path, client);
+    };
+    match beyond(issued, grants, inode) {
+        None => Ok(()),
+        Some(found) => print_held(
+            &mut notes.found,
+            inode.path,
+            client,
+            issued,
+            pending,
+            &found,
+        ),
+    }
+}

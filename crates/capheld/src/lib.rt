@@ -1,0 +1,16 @@
+//! What clients of a running cluster hold and may not: the tree that a metadata server has in memory, laid beside the sessions and
+//! the auth list of its cluster.
+//!
+//! Public source: "Capabilities in CephFS" and "CephFS client capabilities" in the Ceph documentation.
+#![tactic(auto)]
+
+mod auditing;
+mod fault;
+mod holders;
+mod lines;
+mod notes;
+mod order;
+
+pub use auditing::{ClusterTexts, audit};
+pub use fault::HeldFault;
+pub use notes::Notes;

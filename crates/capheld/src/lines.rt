@@ -1,0 +1,112 @@
+//! The lines of an audit.
+ghost use Rattle.std.specs.Prelude.{◌≡◌, ◌++◌, OnOk, map};
+ghost use Rattle.capheld.specs.Lines.{beyond_text, held_line, pathless_line, place_text, revoked_text, strange_line, unlisted_line, unnamed_line, why_text};
+
+use capaudit::Finding;
+use capbits::CapSet;
+use capexplain::{print_failures, print_path, print_quoted};
+use captext::{print_caps, print_numbered, print_str};
+use std::alloc::AllocError;
+
+// Appends the line for a client that holds of an inode what nobody behind its key is permitted.
+pub(crate) fn print_held(
+    text: &mut Vec<u8>,
+    path: &[&[u8]],
+    client: &[u8],
+    issued: CapSet,
+    pending: CapSet,
+    found: &Finding,
+) -> Result<(), AllocError>
+    ensures { OnOk result (text.new.items ≡ text.old.items ++ held_line (map (λ name. name.now) path.now) client.now issued pending found.now) }
+{
+    print_place(text, path, client)?;
+    print_beyond(text, issued, pending, found)?;
+    print_str(text, "\n")
+}
+
+// Appends where something is held and by whom.
+fn print_place(text: &mut Vec<u8>, path: &[&[u8]], client: &[u8]) -> Result<(), AllocError>
+    ensures { OnOk result (text.new.items ≡ text.old.items ++ place_text (map (λ name. name.now) path.now) client.now) }
+{
+    let mut names = Vec::new(*text.allocator());
+    print_path(&mut names, path)?;
+    print_quoted(text, names.as_slice())?;
+    print_str(text, " ")?;
+    print_quoted(text, client)
+}
+
+// Appends what is held, what of it nobody is permitted, and why.
+fn print_beyond(
+    text: &mut Vec<u8>,
+    issued: CapSet,
+    pending: CapSet,
+    found: &Finding,
+) -> Result<(), AllocError>
+    ensures { OnOk result (text.new.items ≡ text.old.items ++ beyond_text issued pending found.now) }
+{
+    print_str(text, " holds ")?;
+    print_caps(text, issued)?;
+    print_str(text, ", may not ")?;
+    print_caps(text, found.caps)?;
+    print_revoked(text, found.caps.minus(pending))?;
+    print_str(text, ": ")?;
+    print_why(text, found)
+}
+
+// Appends which of these are being taken back already.
+fn print_revoked(text: &mut Vec<u8>, revoked: CapSet) -> Result<(), AllocError>
+    ensures { OnOk result (text.new.items ≡ text.old.items ++ revoked_text revoked) }
+{
+    if revoked.is_empty() {
+        return Ok(());
+    }
+    print_str(text, " (being revoked: ")?;
+    print_caps(text, revoked)?;
+    print_str(text, ")")
+}
+
+// Appends by which rules the grants deny the access that is missing.
+fn print_why(text: &mut Vec<u8>, found: &Finding) -> Result<(), AllocError>
+    ensures { OnOk result (text.new.items ≡ text.old.items ++ why_text found.now.missing found.now.rules) }
+{
+    match found.missing {
+        None => print_str(text, "no access permits it"),
+        Some(_) => print_failures(text, found.rules.as_slice()),
+    }
+}
+
+// Appends that no session names a client.
+pub(crate) fn print_unnamed(text: &mut Vec<u8>, number: u64) -> Result<(), AllocError>
+    ensures { OnOk result (text.new.items ≡ text.old.items ++ unnamed_line number) }
+{
+    print_numbered(text, "client ", number)?;
+    print_str(text, ": no session names it\n")
+}
+
+// Appends that the auth list lacks a client.
+pub(crate) fn print_unlisted(text: &mut Vec<u8>, client: &[u8]) -> Result<(), AllocError>
+    ensures { OnOk result (text.new.items ≡ text.old.items ++ unlisted_line client.now) }
+{
+    print_quoted(text, client)?;
+    print_str(text, ": no entry in the auth list\n")
+}
+
+// Appends that what a client holds is spelled otherwise than capabilities are.
+pub(crate) fn print_strange(
+    text: &mut Vec<u8>,
+    path: &[&[u8]],
+    client: &[u8],
+) -> Result<(), AllocError>
+    ensures { OnOk result (text.new.items ≡ text.old.items ++ strange_line (map (λ name. name.now) path.now) client.now) }
+{
+    print_place(text, path, client)?;
+    print_str(text, " holds what is not known\n")
+}
+
+// Appends that no path leads to an inode.
+pub(crate) fn print_pathless(text: &mut Vec<u8>, number: u64) -> Result<(), AllocError>
+    ensures { OnOk result (text.new.items ≡ text.old.items ++ pathless_line number) }
+{
+    print_numbered(text, "inode ", number)?;
+    print_str(text, ": no path\n")
+}
