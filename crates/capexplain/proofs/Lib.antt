@@ -1,6 +1,8 @@
 pub mod Hex
 pub mod Texts
 pub mod Numbered
+pub mod Quoted
+pub mod Answered
 pub use Rattle.capremarks.proofs.Capcompare
 pub use Rattle.capevents.proofs as Capevents
 pub use Rattle.capremarks.proofs as Capremarks

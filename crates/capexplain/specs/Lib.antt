@@ -6,6 +6,7 @@ pub mod Audit
 pub mod Access
 pub mod Explaining
 pub mod Quoting
+pub mod Lines
 pub mod Remarks
 pub mod Comparing
 pub mod Linting
