@@ -24,6 +24,7 @@ pub const LINT: &str = "lint";
 pub const WHO: &str = "who";
 
 pub const AUDIT: &str = "audit";
+
 pub const LOG: &str = "log";
 
 pub const RUN: &str = "run";
@@ -97,6 +98,7 @@ const AUDIT_EXAMPLE: &str = "Example:
   ceph tell mds.0 dump tree / | capd audit --auth auth.json --sessions sessions.json --tree -
 prints for each client and inode of which it holds what nobody behind its key is permitted, such as
   /a/y client.reader holds pAsLsXsFrw, may not Fw: grant 1 rule 5 no-write";
+
 const LOG_EXAMPLE: &str = "Example:
   capd log --fs cephfs < /var/log/ceph/ceph-mds.a.log
 prints for each check of policy in it, behind the number of its line, such as
