@@ -6,6 +6,7 @@ pub mod Growing
 pub mod Inner
 pub mod Leading
 pub mod Lent
+pub mod Lowering
 pub mod Moving
 pub mod Named
 pub mod Naming

@@ -114,7 +114,7 @@ all-rise m heights k but own = record {
   ];
 }
 
-height_dir : (m : InodeMap) (heights : HeightMap) (d : ℕ) → is_directory m d ≡ true → height m heights d ≡ bound heights d
+pub height_dir : (m : InodeMap) (heights : HeightMap) (d : ℕ) → is_directory m d ≡ true → height m heights d ≡ bound heights d
 height_dir m heights d is = ap (λ b. if b then bound heights d else 0) is
 
 -- a directory is raised above one in it

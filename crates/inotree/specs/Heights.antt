@@ -49,6 +49,10 @@ AreOfTree nodes = (last : ℕ) × IsTree (record { nodes = nodes; last = last })
 abbrev pub SameBut : ℕ → HeightMap → HeightMap → Type 0
 SameBut dir old new = (other : ℕ) → (other ≡ dir → ⊥) → bound new other ≡ bound old other
 
+-- no height is greater than before
+abbrev pub AreNoHigher : InodeMap → HeightMap → HeightMap → Type 0
+AreNoHigher nodes old new = (ino : ℕ) → height nodes new ino ≤ height nodes old ino
+
 -- the index and the heights of these inodes
 abbrev pub AreKept : InodeMap → NameIndex → HeightMap → Type 0
 AreKept nodes index heights = IsIndexed nodes index × HeightsRise nodes heights

@@ -3,9 +3,11 @@ ghost use Rattle.std.specs.Prelude.{◌≡◌, IfOk, OnOk, OnErr};
 ghost use Rattle.std.specs.FinMap as map;
 ghost use Rattle.capbits.specs.Maps.{change_at};
 ghost use Rattle.inotree.specs.declared.node.Place.TheVariants.{Here};
-ghost use Rattle.inotree.specs.Tree.{place};
-ghost use Rattle.inotree.specs.Heights.{height, AreOfTree, HeightsRise, HeightsRiseBut, SameBut};
+ghost use Rattle.inotree.specs.Index.{AreInodes};
+ghost use Rattle.inotree.specs.Tree.{IsIndexed, place};
+ghost use Rattle.inotree.specs.Heights.{height, AreOfTree, AreNoHigher, HeightsRise, HeightsRiseBut, SameBut};
 
+use crate::index::Index;
 use crate::inodes::Inodes;
 use crate::names::MAX_NAMES;
 use crate::node::Kind;
@@ -103,6 +105,49 @@ impl Heights {
     {
         if let Some(kept) = self.heights.get_mut(dir) {
             *kept = height;
+        }
+    }
+
+    // Lowers a directory below which nothing lies so many steps, after those that stand in it, so that `of` rules that out again. It
+    // takes no memory; where nothing is known of a directory, those above it stay.
+    pub(crate) fn lower(&mut self, inodes: &Inodes, names: &Index, dir: u64, steps: usize)
+        requires inodes { AreInodes names.now }
+        requires indexed { IsIndexed inodes.now names.now }
+        requires rise { HeightsRise inodes.now self.old }
+        ensures rise { HeightsRise inodes.now self.new }
+        ensures lower { AreNoHigher inodes.now self.old self.new }
+    {
+        if steps == 0 {
+            return;
+        }
+        // It is low enough, or a file.
+        if self.of(inodes, dir) < steps {
+            return;
+        }
+        let mut most = 0;
+        for (_, child) in names.names_in(dir) {
+            self.lower(inodes, names, *child, steps - 1);
+            let below = self.of(inodes, *child);
+            if below >= MAX_NAMES {
+                return;
+            }
+            most = most.max(below + 1);
+        }
+        if most >= self.of(inodes, dir) {
+            return;
+        }
+        self.set(dir, most);
+    }
+
+    // Lowers a directory that fits into another, where by its height it might not.
+    pub(crate) fn lower_to_fit(&mut self, inodes: &Inodes, names: &Index, ino: u64, dir: u64)
+        requires inodes { AreInodes names.now }
+        requires indexed { IsIndexed inodes.now names.now }
+        requires rise { HeightsRise inodes.now self.old }
+        ensures { HeightsRise inodes.now self.new }
+    {
+        if inodes.is_directory(ino) {
+            self.lower(inodes, names, ino, MAX_NAMES - inodes.depth(dir));
         }
     }
 

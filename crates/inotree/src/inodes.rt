@@ -1,10 +1,10 @@
 //! The inodes, by number.
-ghost use Rattle.std.specs.Prelude.{◌≡◌, [], IfOk, OnOk, OnErr};
+ghost use Rattle.std.specs.Prelude.{◌≡◌, ◌≤◌, [], IfOk, OnOk, OnErr};
 ghost use Rattle.std.specs.Option.{option_copied, option_map};
 ghost use Rattle.std.specs.FinMap as map;
 ghost use Rattle.capbits.specs.Maps.{change_at};
 ghost use Rattle.inotree.specs.Inodes.{with_setting, with_attr, with_site, with_attribute, without_attribute, with_snapshot, without_snapshot};
-ghost use Rattle.inotree.specs.Tree.{site_of, slot_at, parent, is_directory, is_within, names_up};
+ghost use Rattle.inotree.specs.Tree.{site_of, slot_at, parent, is_directory, is_within, names_up, depth};
 
 use crate::attributes::Value;
 use crate::index::Slot;
@@ -151,6 +151,16 @@ impl Inodes {
             names.push(name.as_bytes());
             at = dir.0;
         }
+    }
+
+    // How many names the path of an inode has.
+    pub(crate) fn depth(&self, ino: u64) -> usize
+        ensures value { result ≡ depth self.now ino }
+        ensures fits { result ≤ MAX_NAMES }
+    {
+        let mut names = Names::new();
+        self.read_names_up(ino, &mut names);
+        names.len()
     }
 
     // Takes the inode of this number out.

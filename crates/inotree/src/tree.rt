@@ -240,9 +240,7 @@ impl Tree {
         ensures value { result ≡ depth self.now.nodes ino.0 }
         ensures fits { result ≤ MAX_NAMES }
     {
-        let mut names = Names::new();
-        self.inodes.read_names_up(ino.0, &mut names);
-        names.len()
+        self.inodes.depth(ino.0)
     }
 
     // Whether something lies so many steps below an inode.
@@ -547,9 +545,12 @@ impl Tree {
         ensures ok { OnOk result (self.new ≡ moved self.old ino.0 dir.0 name.now) }
         ensures err { OnErr result (self.new ≡ self.old) }
     {
+        let _last = self.last;
         let Some(old) = self.inodes.slot_of(ino.0) else {
             unreachable!()
         };
+        self.heights
+            .lower_to_fit(&self.inodes, &self.names, ino.0, dir.0);
         let slot = Slot {
             dir: dir.0,
             name: Name::of(name),
