@@ -545,6 +545,7 @@ impl Tree {
         ensures ok { OnOk result (self.new ≡ moved self.old ino.0 dir.0 name.now) }
         ensures err { OnErr result (self.new ≡ self.old) }
     {
+        // A look at the tree, by which the proof knows what it keeps.
         let _last = self.last;
         let Some(old) = self.inodes.slot_of(ino.0) else {
             unreachable!()
