@@ -12,14 +12,14 @@ use Rattle.capanswers.specs.declared.fault.AnswerFault.{AnswerFault}
 use Rattle.capanswers.specs.declared.fault.AnswerFault.TheVariants.{Cluster, Question, WriteFailed, NoMemory}
 use Rattle.capanswers.specs.Inquiry.{IsUnreadInput}
 
--- what is found, or that nothing is, and behind it what could not be judged
-abbrev pub report_text : List ℕ → List ℕ → List ℕ
-report_text found unknown = (if length found == 0 then codes "nothing found\n" else found) ++ unknown
+-- these lines, or that nothing is found where there are none
+abbrev pub report_text : List ℕ → List ℕ
+report_text lines = if length lines == 0 then codes "nothing found\n" else lines
 
--- this was found on the cluster, and written; the status is 3 where it is anything, else 0
+-- this was found on the cluster, this could not be judged, and both are written; the status is 3 where either is anything, else 0
 abbrev pub IsCheckedBy : Checkup → List ℕ → ℕ → Option (List ℕ) → Option (List ℕ) → Type 0
 IsCheckedBy checkup tree status old new = (found : List ℕ) × (unknown : List ℕ) × IsAudit checkup.fs.items checkup.auth.items checkup.sessions.items tree found unknown
-    × (status ≡ (if length found == 0 then 0 else 3)) × Appends old new (report_text found unknown)
+    × (status ≡ (if length (found ++ unknown) == 0 then 0 else 3)) × Appends old new (report_text (found ++ unknown))
 
 -- the same on the tree that was to be read
 pub record AnswersCheckup (checkup : Checkup) (input : Option (List ℕ)) (status : ℕ) (old new : Option (List ℕ)) : Type 0 where

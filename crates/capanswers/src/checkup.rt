@@ -1,7 +1,7 @@
 //! The command that tells what clients of a running cluster hold and may not.
 ghost use Rattle.std.specs.Prelude.{◌≡◌, ◌⊎◌, ◌++◌, ◌==◌, OnOk, IfOk, IfErr, IsFalse, codes, if◌then◌else◌, length};
 ghost use Rattle.capstreams.specs.Watched.{inner_of, has_failed, has_ended};
-ghost use Rattle.capanswers.specs.Checkup.{AnswersCheckup, StopsCheckup, report_text};
+ghost use Rattle.capanswers.specs.Checkup.{AnswersCheckup, StopsCheckup};
 
 use crate::commands::write_text;
 use crate::fault::AnswerFault;
@@ -59,7 +59,7 @@ impl Drop for ClusterFiles {
 }
 
 /// Writes what clients hold and may not by the tree that the reader has, and what could not be judged, and says by the status
-/// whether anything was found.
+/// whether there is any of either.
 pub fn check_cluster<R: Read, W: Write>(
     alloc: Global,
     checkup: &Checkup,
@@ -86,21 +86,21 @@ pub fn check_cluster<R: Read, W: Write>(
         tree: tree.as_slice(),
     };
     let notes = audit(alloc, &fs, &texts)?;
-    let report = report(alloc, &notes)?;
-    let status = if notes.found.is_empty() { DONE } else { FOUND };
-    write_text(report.as_slice(), status, writer)
+    let lines = all_lines(alloc, &notes)?;
+    let lines = lines.as_slice();
+    if lines.is_empty() {
+        write_text(b"nothing found\n", DONE, writer)
+    } else {
+        write_text(lines, FOUND, writer)
+    }
 }
 
-// What is found, or that nothing is, and behind it what could not be judged.
-fn report(alloc: Global, notes: &Notes) -> Result<Vec<u8>, AllocError>
-    ensures { IfOk result (λ report. report.items ≡ report_text notes.now.found.items notes.now.unknown.items) }
+// What is found, and behind it what could not be judged.
+fn all_lines(alloc: Global, notes: &Notes) -> Result<Vec<u8>, AllocError>
+    ensures { IfOk result (λ lines. lines.items ≡ notes.now.found.items ++ notes.now.unknown.items) }
 {
-    let mut report = Vec::new(alloc);
-    if notes.found.is_empty() {
-        report.extend_from_slice(b"nothing found\n")?;
-    } else {
-        report.extend_from_slice(notes.found.as_slice())?;
-    }
-    report.extend_from_slice(notes.unknown.as_slice())?;
-    Ok(report)
+    let mut lines = Vec::new(alloc);
+    lines.extend_from_slice(notes.found.as_slice())?;
+    lines.extend_from_slice(notes.unknown.as_slice())?;
+    Ok(lines)
 }

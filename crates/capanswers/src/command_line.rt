@@ -58,7 +58,7 @@ const STATUSES: &str = "Status:
   0  the whole answer was written; of `explain --quiet`: allowed
   1  a value, a text or a script has a fault, a read or a write failed, or memory was missing
   2  the command line is wrong
-  3  of `explain --quiet`: denied; of `lint` and `audit`: something was found";
+  3  of `explain --quiet`: denied; of `lint` and `audit`: something was found, or `audit` could not judge it";
 
 const EXAMPLE: &str = "Example:
   capd explain \\

@@ -59,8 +59,8 @@ pub fn dispatch<E: AllocGlobal + Files + Threads + Wait + Sync, R: Read, W: Writ
 }
 
 /// Does what is asked, and returns the status: `DONE` where all of the answer was written, no stream failed, and nothing was
-/// written to `faults`, or `DENIED` where the status is all of the answer, or `FOUND` where something was found and all of it
-/// written; else `FAILED`. Neither stream was read or written to yet. What is read of a question's grants is kept in `ask`.
+/// written to `faults`, or `DENIED` where the status is all of the answer, or `FOUND` where something was found, or could not be judged,
+/// and all of it written; else `FAILED`. Neither stream was read or written to yet. What is read of a question's grants is kept in `ask`.
 pub fn carry_out<T: Threads + Wait + Sync, R: Read, W: Write, F: Write>(
     rt: &T,
     alloc: Global,
