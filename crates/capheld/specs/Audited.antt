@@ -108,9 +108,17 @@ pub record IsAudit (fs auth sessions tree found unknown : List ℕ) : Type 0 whe
   pub found_ordered : AreInOrder found_first found
   pub unknown_ordered : AreInOrder unknown_first unknown
 
+-- the text means an auth list
+abbrev pub IsAuthList : List ℕ → Type 0
+IsAuthList auth = (entities : List Named) × (auth_of auth ≡ Some (Ok entities))
+
+-- sessions
+abbrev pub AreSessions : List ℕ → Type 0
+AreSessions sessions = (connected : List Connected) × (sessions_of sessions ≡ Some (Ok connected))
+
 -- the fault is that of the first of the texts that means nothing; want of memory is in none
 abbrev pub IsFaultOfCluster : List ℕ → List ℕ → List ℕ → HeldFault → Type 0
 IsFaultOfCluster auth sessions tree (Auth fault) = IsFaultOf fault (auth_of auth)
-IsFaultOfCluster auth sessions tree (Sessions fault) = IsFaultIn fault (sessions_of sessions)
-IsFaultOfCluster auth sessions tree (Tree fault) = IsFaultIn fault (tree_of tree)
+IsFaultOfCluster auth sessions tree (Sessions fault) = IsAuthList auth × IsFaultIn fault (sessions_of sessions)
+IsFaultOfCluster auth sessions tree (Tree fault) = IsAuthList auth × AreSessions sessions × IsFaultIn fault (tree_of tree)
 IsFaultOfCluster auth sessions tree NoMemory = Unit {0}
