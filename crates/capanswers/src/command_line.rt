@@ -97,7 +97,7 @@ const AUDIT_EXAMPLE: &str = "Example:
   ceph tell mds.0 session ls > sessions.json
   ceph tell mds.0 dump tree / | capd audit --auth auth.json --sessions sessions.json --tree -
 prints for each client and inode of which it holds what nobody behind its key is permitted, such as
-  /a/y client.reader holds pAsLsXsFrw, may not Fw: grant 1 rule 5 no-write";
+  /a/y client.reader session 4151 holds pAsLsXsFrw, may not Fw: grant 1 rule 5 no-write";
 
 const LOG_EXAMPLE: &str = "Example:
   capd log --fs cephfs < /var/log/ceph/ceph-mds.a.log

@@ -43,14 +43,14 @@ name_of sessions number = option_and_then (λ s. s.client) (session_of sessions 
 -- ---- what is said of one who holds something
 
 -- all of it is permitted to somebody, and nothing is said; else a line tells what is not
-abbrev pub IsToldBeyond : Inode → List ℕ → List Grant → Caps → Caps → List ℕ → Type 0
-IsToldBeyond i client grants issued pending found = (((cap : Cap) → IsTrue (has issued cap) → IsPermittedToSome i grants cap) × (found ≡ []))
-    ⊎ ((f : Finding) × IsBeyond issued grants i f × (found ≡ held_line i.path client issued pending f))
+abbrev pub IsToldBeyond : Inode → List ℕ → ℕ → List Grant → Caps → Caps → List ℕ → Type 0
+IsToldBeyond i client session grants issued pending found = (((cap : Cap) → IsTrue (has issued cap) → IsPermittedToSome i grants cap) × (found ≡ []))
+    ⊎ ((f : Finding) × IsBeyond issued grants i f × (found ≡ held_line i.path client session issued pending f))
 
 -- what is known to be held is judged by these grants; else a line says that it is not known
 abbrev pub IsJudged : Inode → List ℕ → List Grant → Held → List ℕ → List ℕ → Type 0
-IsJudged i client grants h found unknown = ((issued : Caps) × (pending : Caps) × (h.issued ≡ text_of issued) × (h.pending ≡ text_of pending) × IsToldBeyond i client grants issued pending found × (unknown ≡ []))
-    ⊎ (((issued pending : Caps) → h.issued ≡ text_of issued → h.pending ≡ text_of pending → ⊥) × (found ≡ []) × (unknown ≡ strange_line i.path client))
+IsJudged i client grants h found unknown = ((issued : Caps) × (pending : Caps) × (h.issued ≡ text_of issued) × (h.pending ≡ text_of pending) × IsToldBeyond i client h.client grants issued pending found × (unknown ≡ []))
+    ⊎ (((issued pending : Caps) → h.issued ≡ text_of issued → h.pending ≡ text_of pending → ⊥) × (found ≡ []) × (unknown ≡ strange_line i.path client h.client))
 
 -- the grants are those that the text means; else a line tells its first fault
 abbrev pub IsJudgedBy : Inode → List ℕ → Held → List ℕ → List ℕ → List ℕ → Type 0

@@ -79,11 +79,12 @@ fn note_judged(
 ) -> Result<(), AllocError>
     ensures { OnOk result (Adds (IsJudged inode.now client.now grants.now holder.now) notes.old notes.new) }
 {
+    let session = holder.client();
     let Ok(issued) = read_caps(holder.issued()) else {
-        return print_strange(&mut notes.unknown, inode.path, client);
+        return print_strange(&mut notes.unknown, inode.path, client, session);
     };
     let Ok(pending) = read_caps(holder.pending()) else {
-        return print_strange(&mut notes.unknown, inode.path, client);
+        return print_strange(&mut notes.unknown, inode.path, client, session);
     };
     match beyond(issued, grants, inode) {
         None => Ok(()),
@@ -91,6 +92,7 @@ fn note_judged(
             &mut notes.found,
             inode.path,
             client,
+            session,
             issued,
             pending,
             &found,

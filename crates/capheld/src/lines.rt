@@ -1,6 +1,6 @@
 //! The lines of an audit.
 ghost use Rattle.std.specs.Prelude.{◌≡◌, ◌++◌, OnOk, map};
-ghost use Rattle.capheld.specs.Lines.{beyond_text, held_line, pathless_line, place_text, revoked_text, strange_line, unlisted_line, unnamed_line, why_text};
+ghost use Rattle.capheld.specs.Lines.{beyond_text, held_line, pathless_line, place_text, revoked_text, strange_line, unlisted_line, unnamed_line, who_text, why_text};
 
 use capaudit::Finding;
 use capbits::CapSet;
@@ -13,26 +13,40 @@ pub(crate) fn print_held(
     text: &mut Vec<u8>,
     path: &[&[u8]],
     client: &[u8],
+    session: u64,
     issued: CapSet,
     pending: CapSet,
     found: &Finding,
 ) -> Result<(), AllocError>
-    ensures { OnOk result (text.new.items ≡ text.old.items ++ held_line (map (λ name. name.now) path.now) client.now issued pending found.now) }
+    ensures { OnOk result (text.new.items ≡ text.old.items ++ held_line (map (λ name. name.now) path.now) client.now session issued pending found.now) }
 {
-    print_place(text, path, client)?;
+    print_place(text, path, client, session)?;
     print_beyond(text, issued, pending, found)?;
     print_str(text, "\n")
 }
 
 // Appends where something is held and by whom.
-fn print_place(text: &mut Vec<u8>, path: &[&[u8]], client: &[u8]) -> Result<(), AllocError>
-    ensures { OnOk result (text.new.items ≡ text.old.items ++ place_text (map (λ name. name.now) path.now) client.now) }
+fn print_place(
+    text: &mut Vec<u8>,
+    path: &[&[u8]],
+    client: &[u8],
+    session: u64,
+) -> Result<(), AllocError>
+    ensures { OnOk result (text.new.items ≡ text.old.items ++ place_text (map (λ name. name.now) path.now) client.now session) }
 {
     let mut names = Vec::new(*text.allocator());
     print_path(&mut names, path)?;
     print_quoted(text, names.as_slice())?;
     print_str(text, " ")?;
-    print_quoted(text, client)
+    print_who(text, client, session)
+}
+
+// Appends a client and the number of its session.
+fn print_who(text: &mut Vec<u8>, client: &[u8], session: u64) -> Result<(), AllocError>
+    ensures { OnOk result (text.new.items ≡ text.old.items ++ who_text client.now session) }
+{
+    print_quoted(text, client)?;
+    print_numbered(text, " session ", session)
 }
 
 // Appends what is held, what of it nobody is permitted, and why.
@@ -96,10 +110,11 @@ pub(crate) fn print_strange(
     text: &mut Vec<u8>,
     path: &[&[u8]],
     client: &[u8],
+    session: u64,
 ) -> Result<(), AllocError>
-    ensures { OnOk result (text.new.items ≡ text.old.items ++ strange_line (map (λ name. name.now) path.now) client.now) }
+    ensures { OnOk result (text.new.items ≡ text.old.items ++ strange_line (map (λ name. name.now) path.now) client.now session) }
 {
-    print_place(text, path, client)?;
+    print_place(text, path, client, session)?;
     print_str(text, " holds what is not known\n")
 }
 

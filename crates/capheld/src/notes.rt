@@ -4,7 +4,7 @@ use std::alloc::Global;
 
 /// The lines of an audit, each with its line feed.
 pub struct Notes {
-    /// A line for each client and inode of which it holds what nobody behind its key is permitted.
+    /// A line for each session and inode of which it holds what nobody behind its key is permitted.
     pub found: Vec<u8>,
     /// Lines for what is held and could not be judged.
     pub unknown: Vec<u8>,

@@ -1,4 +1,4 @@
-use Rattle.std.proofs.Common.{◌++◌, refl, sym, ap, inl, inr, ◌∙◌}
+use Rattle.std.proofs.Common.{ℕ, ◌++◌, refl, sym, ap, inl, inr, ◌∙◌}
 use Rattle.std.proofs.lemmas.Result.{on_ok_weaker}
 use Rattle.capaudit.specs.Callers.{Inode}
 use Rattle.capheld.specs.Audited.{IsJudged}
@@ -11,8 +11,8 @@ returns-in_default c =
     let i = c.args.inode.now in
     let client = c.args.client.now in
     on_ok_weaker c.print_strange.result
-    (λ more. unknown_added (IsJudged i client c.args.grants.now c.args.holder.now) c.args.notes.now (record { found = c.args.notes.now.found; unknown = c.print_strange.new.text }) (strange_line i.path client) refl
-    (more ∙ ap (λ (at : Inode). c.args.notes.now.unknown.items ++ strange_line at.path client) c.inode.view_is)
+    (λ more. unknown_added (IsJudged i client c.args.grants.now c.args.holder.now) c.args.notes.now (record { found = c.args.notes.now.found; unknown = c.print_strange.new.text }) (strange_line i.path client c.args.holder.now.client) refl
+    (more ∙ ap (λ (at : Inode). c.args.notes.now.unknown.items ++ strange_line at.path client c.client-session.result) c.inode.view_is ∙ ap (λ (n : ℕ). c.args.notes.now.unknown.items ++ strange_line i.path client n) c.client-session.ensures)
     (inr ((λ issued pending is told. c.in_default.not-Ok issued (c.read_caps.ensures.each_text issued (c.issued.ensures ∙ is))), refl, refl)))
     c.print_strange.ensures
 
@@ -21,8 +21,8 @@ returns-in_default-read_caps c =
     let i = c.args.inode.now in
     let client = c.args.client.now in
     on_ok_weaker c.print_strange-in_default-read_caps.result
-    (λ more. unknown_added (IsJudged i client c.args.grants.now c.args.holder.now) c.args.notes.now (record { found = c.args.notes.now.found; unknown = c.print_strange-in_default-read_caps.new.text }) (strange_line i.path client) refl
-    (more ∙ ap (λ (at : Inode). c.args.notes.now.unknown.items ++ strange_line at.path client) c.inode.view_is)
+    (λ more. unknown_added (IsJudged i client c.args.grants.now c.args.holder.now) c.args.notes.now (record { found = c.args.notes.now.found; unknown = c.print_strange-in_default-read_caps.new.text }) (strange_line i.path client c.args.holder.now.client) refl
+    (more ∙ ap (λ (at : Inode). c.args.notes.now.unknown.items ++ strange_line at.path client c.client-session.result) c.inode.view_is ∙ ap (λ (n : ℕ). c.args.notes.now.unknown.items ++ strange_line i.path client n) c.client-session.ensures)
     (inr ((λ issued pending is told. c.in_default-read_caps.not-Ok pending (c.read_caps-2.ensures.each_text pending (c.pending.ensures ∙ told))), refl, refl)))
     c.print_strange-in_default-read_caps.ensures
 
@@ -38,7 +38,7 @@ returns-in-Some c =
     let issued = c.in-Ok.issued in
     let pending = c.in-Ok-read_caps.pending in
     on_ok_weaker c.print_held.result
-    (λ more. found_added (IsJudged i client c.args.grants.now c.args.holder.now) c.args.notes.now (record { found = c.print_held.new.text; unknown = c.args.notes.now.unknown }) (held_line i.path client issued pending c.in-Some.found)
-    (more ∙ ap (λ (at : Inode). c.args.notes.now.found.items ++ held_line at.path client issued pending c.in-Some.found) c.inode.view_is) refl
+    (λ more. found_added (IsJudged i client c.args.grants.now c.args.holder.now) c.args.notes.now (record { found = c.print_held.new.text; unknown = c.args.notes.now.unknown }) (held_line i.path client c.args.holder.now.client issued pending c.in-Some.found)
+    (more ∙ ap (λ (at : Inode). c.args.notes.now.found.items ++ held_line at.path client c.client-session.result issued pending c.in-Some.found) c.inode.view_is ∙ ap (λ (n : ℕ). c.args.notes.now.found.items ++ held_line i.path client n issued pending c.in-Some.found) c.client-session.ensures) refl
     (inl (issued, pending, sym c.issued.ensures ∙ c.in-Ok.ensures.ok, sym c.pending.ensures ∙ c.in-Ok-read_caps.ensures.ok, inr (c.in-Some.found, c.in-Some.ensures, refl), refl)))
     c.print_held.ensures
