@@ -1,13 +1,14 @@
 -- What is said where it is known who holds something, and where.
 use Rattle.std.proofs.Common.{◌≡◌, ℕ, Some, None, List, [], refl, subst}
 use Rattle.std.specs.FinMap as map
+use Rattle.std.specs.List.{flat_map}
 use Rattle.std.specs.Prelude.{find, bytes_eq}
 use Rattle.capgrant.specs.declared.access.Attr.{Attr}
 use Rattle.capauth.specs.Auth.{Named}
 use Rattle.capcluster.specs.Dump.{Held, Listed, PathMap}
 use Rattle.capaudit.specs.Callers.{Inode, inode}
-use Rattle.capheld.specs.Audited.{Clients, name_of, IsJudged, AreSaid, SaysOf, SaysOfInode}
-use Rattle.capheld.specs.Lines.{unlisted_line, pathless_line}
+use Rattle.capheld.specs.Audited.{Clients, name_of, IsJudged, AreSaid, SaysOf, SaysOfInode, pathless_of}
+use Rattle.capheld.specs.Lines.{unlisted_line}
 
 module _ (known : Clients) (i : Inode) (h : Held) (client : List ℕ) (is : name_of known.sessions h.client ≡ Some client) where
   pub unlisted : find (λ e. bytes_eq e.name client) known.entities ≡ None → SaysOf known i h [] (unlisted_line client)
@@ -17,7 +18,7 @@ module _ (known : Clients) (i : Inode) (h : Held) (client : List ℕ) (is : name
   without_caps e listed none found unknown judged = rw (is, listed, none) judged
 
 module _ (fs : List ℕ) (known : Clients) (paths : PathMap) (it : Listed) where
-  pub without_path : map.get paths it.number ≡ None → SaysOfInode fs known paths it [] (pathless_line it.number)
+  pub without_path : map.get paths it.number ≡ None → SaysOfInode fs known paths it [] (flat_map (pathless_of known.sessions it.number) it.holders)
   without_path none = rw none (refl, refl)
 
   pub at_path : (path names : List (List ℕ)) (attr : Attr) (holders : List Held) → map.get paths it.number ≡ Some path → names ≡ path → attr ≡ it.attr → holders ≡ it.holders

@@ -1,6 +1,7 @@
 -- What clients of a cluster hold and may not.
 use Rattle.std.specs.Prelude.{◌≡◌, ◌⊎◌, ◌==◌, ℕ, Option, Some, None, option_and_then, Ok, List, [], ◌∷◌, ◌++◌, find, bytes_eq, IsTrue}
 use Rattle.std.specs.FinMap as map
+use Rattle.std.specs.List.{flat_map}
 use Rattle.capbits.specs.declared.cap.Cap.{Cap}
 use Rattle.capbits.specs.Caps.{Caps, has}
 use Rattle.capbits.specs.Text.{text_of}
@@ -86,9 +87,17 @@ pub data AreSaid {X : Type 0} (Says : X → List ℕ → List ℕ → Type 0) : 
   no_more : AreSaid Says [] [] []
   one_more : {x : X} {xs : List X} (found unknown founds unknowns : List ℕ) → Says x found unknown → AreSaid Says xs founds unknowns → AreSaid Says (x ∷ xs) (found ++ founds) (unknown ++ unknowns)
 
--- of an inode: of each who holds something of it, where a path leads to it
+-- of one who holds something of the inode of this number, to which no path leads, and whose name may be known
+abbrev pub pathless_text : ℕ → Held → Option (List ℕ) → List ℕ
+pathless_text number h None = unnamed_line h.client
+pathless_text number h (Some client) = pathless_line number client h.client h.issued
+
+abbrev pub pathless_of : List Connected → ℕ → Held → List ℕ
+pathless_of sessions number h = pathless_text number h (name_of sessions h.client)
+
+-- of an inode: of each who holds something of it, on the path that leads to it; or that none does
 abbrev pub SaysAt : List ℕ → Clients → Listed → Option (List (List ℕ)) → List ℕ → List ℕ → Type 0
-SaysAt fs known it None found unknown = (found ≡ []) × (unknown ≡ pathless_line it.number)
+SaysAt fs known it None found unknown = (found ≡ []) × (unknown ≡ flat_map (pathless_of known.sessions it.number) it.holders)
 SaysAt fs known it (Some path) found unknown = AreSaid (SaysOf known (inode fs path it.attr)) it.holders found unknown
 
 abbrev pub SaysOfInode : List ℕ → Clients → PathMap → Listed → List ℕ → List ℕ → Type 0

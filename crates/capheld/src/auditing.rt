@@ -3,8 +3,7 @@ ghost use Rattle.std.specs.Prelude.{OnOk, IfOk, IfErr};
 ghost use Rattle.capheld.specs.Audited.{Adds, AreSaid, IsAudit, IsFaultOfCluster, SaysOf, SaysOfInode, clients};
 
 use crate::fault::HeldFault;
-use crate::holders::note_holder;
-use crate::lines::print_pathless;
+use crate::holders::{note_holder, print_pathless_holders};
 use crate::notes::Notes;
 use crate::order::in_order;
 use capaudit::Inode;
@@ -89,7 +88,12 @@ fn note_inode(
     ensures { OnOk result (Adds (SaysOfInode fs.now (clients auth.now sessions.now) paths.now inode.now) notes.old notes.new) }
 {
     let Some(path) = paths.get(inode.number()) else {
-        return print_pathless(&mut notes.unknown, inode.number());
+        return print_pathless_holders(
+            &mut notes.unknown,
+            sessions,
+            inode.number(),
+            inode.holders(),
+        );
     };
     let names = path.names(alloc)?;
     let place = Inode {

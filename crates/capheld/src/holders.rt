@@ -1,8 +1,9 @@
 //! What is said of one who holds something of an inode.
-ghost use Rattle.std.specs.Prelude.{◌≡◌, OnOk, option_map};
-ghost use Rattle.capheld.specs.Audited.{Adds, IsJudged, IsJudgedBy, SaysOf, clients, name_of, session_of};
+ghost use Rattle.std.specs.Prelude.{◌≡◌, ◌++◌, OnOk, option_map};
+ghost use Rattle.std.specs.List.{flat_map};
+ghost use Rattle.capheld.specs.Audited.{Adds, IsJudged, IsJudgedBy, SaysOf, clients, name_of, pathless_of, session_of};
 
-use crate::lines::{print_held, print_strange, print_unlisted, print_unnamed};
+use crate::lines::{print_held, print_pathless, print_strange, print_unlisted, print_unnamed};
 use crate::notes::Notes;
 use capaudit::{Inode, beyond};
 use capauth::AuthList;
@@ -32,6 +33,37 @@ pub(crate) fn note_holder(
     match entity.caps() {
         None => note_judged(notes, inode, client, &Grants::none(alloc)?, holder),
         Some(text) => note_by_text(alloc, notes, inode, client, holder, text),
+    }
+}
+
+// Appends a line for each of those who hold something of the inode of this number, to which no path leads.
+pub(crate) fn print_pathless_holders(
+    text: &mut Vec<u8>,
+    sessions: &[Session],
+    number: u64,
+    holders: &[Holder],
+) -> Result<(), AllocError>
+    ensures { OnOk result (text.new.items ≡ text.old.items ++ flat_map (pathless_of sessions.now number) holders.now) }
+{
+    for holder in holders {
+        print_pathless_holder(text, sessions, number, holder)?;
+    }
+    Ok(())
+}
+
+// The line for one of them, or that no session names it.
+fn print_pathless_holder(
+    text: &mut Vec<u8>,
+    sessions: &[Session],
+    number: u64,
+    holder: &Holder,
+) -> Result<(), AllocError>
+    ensures { OnOk result (text.new.items ≡ text.old.items ++ pathless_of sessions.now number holder.now) }
+{
+    let session = holder.client();
+    match name_of(sessions, session) {
+        None => print_unnamed(text, session),
+        Some(client) => print_pathless(text, number, client, session, holder.issued()),
     }
 }
 

@@ -118,10 +118,20 @@ pub(crate) fn print_strange(
     print_str(text, " holds what is not known\n")
 }
 
-// Appends that no path leads to an inode.
-pub(crate) fn print_pathless(text: &mut Vec<u8>, number: u64) -> Result<(), AllocError>
-    ensures { OnOk result (text.new.items ≡ text.old.items ++ pathless_line number) }
+// Appends that a client holds something of an inode to which no path leads.
+pub(crate) fn print_pathless(
+    text: &mut Vec<u8>,
+    number: u64,
+    client: &[u8],
+    session: u64,
+    issued: &[u8],
+) -> Result<(), AllocError>
+    ensures { OnOk result (text.new.items ≡ text.old.items ++ pathless_line number client.now session issued.now) }
 {
     print_numbered(text, "inode ", number)?;
-    print_str(text, ": no path\n")
+    print_str(text, ": no path: ")?;
+    print_who(text, client, session)?;
+    print_str(text, " holds ")?;
+    print_quoted(text, issued)?;
+    print_str(text, "\n")
 }

@@ -1,8 +1,9 @@
-use Rattle.std.proofs.Common.{rules, ℕ, ◌++◌, refl, sym, ap, ◌∙◌}
+use Rattle.std.proofs.Common.{rules, ℕ, List, ◌++◌, refl, sym, ap, ◌∙◌}
 use Rattle.std.proofs.lemmas.Result.{on_ok_weaker}
 use Rattle.std.specs.FinMap as map
-use Rattle.capheld.specs.Audited.{SaysOfInode, clients}
-use Rattle.capheld.specs.Lines.{pathless_line}
+use Rattle.std.specs.List.{flat_map}
+use Rattle.capcluster.specs.Dump.{Held}
+use Rattle.capheld.specs.Audited.{SaysOfInode, clients, pathless_of}
 use Rattle.capheld.proofs.Noting.{unknown_added, added_too}
 use Rattle.capheld.proofs.Saying.{without_path, at_path}
 use Rattle.capheld.proofs.auditing.note_inode.Goals as goal
@@ -11,11 +12,13 @@ pub returns-in_default : goal.returns-in_default
 returns-in_default c =
     let it = c.args.inode.now in
     let known = clients c.args.auth.now c.args.sessions.now in
-    on_ok_weaker c.print_pathless.result
-    (λ more. unknown_added (SaysOfInode c.args.fs.now known c.args.paths.now it) c.args.notes.now (record { found = c.args.notes.now.found; unknown = c.print_pathless.new.text }) (pathless_line it.number) refl
-    (more ∙ ap (λ (n : ℕ). c.args.notes.now.unknown.items ++ pathless_line n) c.number-in_default.ensures)
+    let begun = c.args.notes.now.unknown.items in
+    on_ok_weaker c.print_pathless_holders.result
+    (λ more. unknown_added (SaysOfInode c.args.fs.now known c.args.paths.now it) c.args.notes.now (record { found = c.args.notes.now.found; unknown = c.print_pathless_holders.new.text }) (flat_map (pathless_of c.args.sessions.now it.number) it.holders) refl
+    (more ∙ ap (λ (n : ℕ). begun ++ flat_map (pathless_of c.args.sessions.now n) c.holders.result.now) c.number-in_default.ensures
+        ∙ ap (λ (hs : List Held). begun ++ flat_map (pathless_of c.args.sessions.now it.number) hs) c.holders.ensures)
     (without_path c.args.fs.now known c.args.paths.now it (sym (c.in_default.ensures ∙ ap (λ (n : ℕ). map.get c.args.paths.now n) c.number.ensures))))
-    c.print_pathless.ensures
+    c.print_pathless_holders.ensures
 
 pub returns : goal.returns
 returns c =
@@ -23,5 +26,5 @@ returns c =
     let known = clients c.args.auth.now c.args.sessions.now in
     on_ok_weaker c.note_holders.result
     (added_too _ (SaysOfInode c.args.fs.now known c.args.paths.now it) c.args.notes.now c.note_holders.new.notes
-    (at_path c.args.fs.now known c.args.paths.now it _ _ _ _ (sym (c.in-Some.ensures ∙ ap (λ (n : ℕ). map.get c.args.paths.now n) c.number.ensures)) (search rules) c.attr.ensures c.holders.ensures))
+    (at_path c.args.fs.now known c.args.paths.now it _ _ _ _ (sym (c.in-Some.ensures ∙ ap (λ (n : ℕ). map.get c.args.paths.now n) c.number.ensures)) (search rules) c.attr.ensures c.holders-2.ensures))
     c.note_holders.ensures
