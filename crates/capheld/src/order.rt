@@ -7,12 +7,13 @@ ghost use Rattle.capheld.specs.Order.{AreInOrder};
 use caplines::split_line;
 use std::alloc::{AllocError, Global};
 
-// The lines of a text in the order of their bytes, which is first that of paths.
+// The lines of a text, each once, in the order of their bytes, which is first that of paths.
 pub(crate) fn in_order(alloc: Global, text: &[u8]) -> Result<Vec<u8>, AllocError>
     ensures { IfOk result (λ ordered. AreInOrder text.now ordered.items) }
 {
     let (mut lines, rest) = cut(alloc, text)?;
     lines.sort()?;
+    lines.dedup();
     joined(alloc, lines.as_slice(), rest)
 }
 
