@@ -1,5 +1,5 @@
 -- The tree of a cluster, with what clients hold of each inode.
-use Rattle.std.specs.Prelude.{ℕ, ◌+◌, ◌%◌, Bool, false, if◌then◌else◌, List, [], ◌∷◌, ◌++◌, length, codes, Option, Some, unwrap_or, option_map, option_and_then, Result, Ok, Err}
+use Rattle.std.specs.Prelude.{ℕ, ◌+◌, ◌%◌, ◌==◌, ◌&&◌, Bool, false, if◌then◌else◌, List, [], ◌∷◌, ◌++◌, length, codes, Option, Some, unwrap_or, option_map, option_and_then, Result, Ok, Err}
 use Rattle.std.specs.Ordering.{nat_cmp}
 use Rattle.std.specs.FinMap as map
 use Rattle.std.specs.FinMap.{FinMap}
@@ -68,9 +68,17 @@ root_alone = map.insert map.empty 1 []
 abbrev pub is_primary : Data → Bool
 is_primary d = unwrap_or (option_and_then as_bool (get (codes "is_primary") d)) false
 
+-- the path of a dentry begins at the inode that stands at `path_ino`: at the root, where that is not told
+abbrev pub is_below_root : Data → Bool
+is_below_root d = unwrap_or (number_at (codes "path_ino") d) 1 == 1
+
+-- the head of the tree, which is no snapshot, is where the last of a dentry's snapshots has the highest number that stands for none
+abbrev pub is_of_head : Data → Bool
+is_of_head d = unwrap_or (number_at (codes "snap_last") d) 0xFFFF_FFFF_FFFF_FFFE == 0xFFFF_FFFF_FFFF_FFFE
+
 -- with the path of the inode that is at home at this dentry; None where there is one, without its number or its path
 abbrev pub with_dentry : PathMap → Data → Option PathMap
-with_dentry paths d = if is_primary d then option_and_then (λ number. option_map (λ path. map.insert paths number (names_of path)) (text_at (codes "path") d)) (number_at (codes "inode") d) else Some paths
+with_dentry paths d = if is_primary d && (is_below_root d && is_of_head d) then option_and_then (λ number. option_map (λ path. map.insert paths number (names_of path)) (text_at (codes "path") d)) (number_at (codes "inode") d) else Some paths
 
 abbrev pub with_dentries : PathMap → Items → Option PathMap
 with_dentries paths no_items = Some paths

@@ -2,13 +2,16 @@
 
 ghost use Rattle.std.specs.Prelude.{◌≡◌, Some, None, IfOk, if◌then◌else◌};
 ghost use Rattle.serde_json.specs.View.{view, items_view};
-ghost use Rattle.capcluster.specs.Dump.{is_primary, root_alone, with_dentries, with_dentry, with_directory, with_fragment, with_fragments};
+ghost use Rattle.capcluster.specs.Dump.{is_below_root, is_of_head, is_primary, root_alone, with_dentries, with_dentry, with_directory, with_fragment, with_fragments};
 
 use crate::values::{items_at, number_at, text_at};
 use capspec::TreePath;
 use numbered::Numbered;
 use serde_json::Value;
 use std::alloc::{AllocError, Global};
+
+// What stands at `snap_last` of a dentry of today.
+const HEAD: u64 = 0xFFFF_FFFF_FFFF_FFFE;
 
 // The path of the root, which no dentry leads to.
 pub(crate) fn root_alone(alloc: Global) -> Result<Numbered<TreePath>, AllocError>
@@ -65,7 +68,7 @@ fn add_dentry(
 ) -> Result<bool, AllocError>
     ensures { IfOk result (λ good. with_dentry paths.old (view dentry.now) ≡ (if good then Some paths.new else None)) }
 {
-    if !is_primary(dentry) {
+    if !(is_primary(dentry) && is_below_root(dentry) && is_of_head(dentry)) {
         return Ok(true);
     }
     let Some(number) = number_at(dentry, "inode") else {
@@ -86,4 +89,18 @@ fn is_primary(dentry: &Value) -> bool
         .get("is_primary")
         .and_then(Value::as_bool)
         .unwrap_or(false)
+}
+
+// Whether its path begins at the root.
+fn is_below_root(dentry: &Value) -> bool
+    ensures { result ≡ is_below_root (view dentry.now) }
+{
+    number_at(dentry, "path_ino").unwrap_or(1) == 1
+}
+
+// Whether it stands in the tree of today, and not in a snapshot alone.
+fn is_of_head(dentry: &Value) -> bool
+    ensures { result ≡ is_of_head (view dentry.now) }
+{
+    number_at(dentry, "snap_last").unwrap_or(HEAD) == HEAD
 }

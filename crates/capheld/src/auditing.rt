@@ -35,8 +35,8 @@ impl Drop for ClusterTexts<'_> {
 }
 
 /// What the clients of a cluster hold of the inodes of this file system, and nobody behind their keys is permitted; and what could
-/// not be judged; each line once, in the order of their bytes, which is first
-/// that of paths. The fault is that of the first text that is none.
+/// not be judged; each line once, in the order of the lines' bytes, which is first that of paths. The fault is that of the first text
+/// that is none.
 pub fn audit(alloc: Global, fs: &FsName, texts: &ClusterTexts) -> Result<Notes, HeldFault>
     ensures ok { IfOk result (λ notes. IsAudit fs.now texts.now.auth.now texts.now.sessions.now texts.now.tree.now notes.found.items notes.unknown.items) }
     ensures err { IfErr result (IsFaultOfCluster texts.now.auth.now texts.now.sessions.now texts.now.tree.now) }

@@ -16,7 +16,7 @@ returns-in_default c =
     on_ok_weaker c.print_pathless_holders.result
     (λ more. unknown_added (SaysOfInode c.args.fs.now known c.args.paths.now it) c.args.notes.now (record { found = c.args.notes.now.found; unknown = c.print_pathless_holders.new.text }) (flat_map (pathless_of c.args.sessions.now it.number) it.holders) refl
     (more ∙ ap (λ (n : ℕ). begun ++ flat_map (pathless_of c.args.sessions.now n) c.holders.result.now) c.number-in_default.ensures
-        ∙ ap (λ (hs : List Held). begun ++ flat_map (pathless_of c.args.sessions.now it.number) hs) c.holders.ensures)
+    ∙ ap (λ (hs : List Held). begun ++ flat_map (pathless_of c.args.sessions.now it.number) hs) c.holders.ensures)
     (without_path c.args.fs.now known c.args.paths.now it (sym (c.in_default.ensures ∙ ap (λ (n : ℕ). map.get c.args.paths.now n) c.number.ensures))))
     c.print_pathless_holders.ensures
 
