@@ -1,11 +1,12 @@
 -- What is kept of each entry from the end of the last step: the set that its client is to know of.
-use Rattle.std.specs.Prelude.{◌≡◌, Bool, true, false, Option, Some, None, IsSome, unwrap_or}
-use Rattle.std.specs.BTreeMap.{BTreeMap, get}
+use Rattle.std.specs.Prelude.{◌≡◌, ◌==◌, Bool, List, true, false, Option, Some, None, IsSome, unwrap_or}
+use Rattle.std.specs.FinMap as map
+use Rattle.std.specs.FinMap.{FinMap}
+use Rattle.std.specs.Global.{Vec}
 use Rattle.std.specs.List.{find}
-use Rattle.std.specs.declared.cmp.Ordering.{Ordering}
-use Rattle.std.specs.Ordering.{nat_cmp, ordering_then}
+use Rattle.std.specs.Option.{option_and_then, option_map}
+use Rattle.std.specs.Ordering.{nat_cmp}
 use Rattle.capbits.specs.declared.ids.ClientId.{ClientId}
-use Rattle.capbits.specs.declared.ids.Ino.{Ino}
 use Rattle.capbits.specs.Caps.{Caps}
 use Rattle.capbits.specs.Sets.{no_caps, IsSubset}
 use Rattle.captable.specs.declared.entry.Entry.{Entry}
@@ -15,17 +16,21 @@ use Rattle.captable.specs.Table.{Table, same, is_row_of, entry_at}
 use Rattle.capnotes.specs.Lockmachine.Scene.{Scene, told_set}
 use Rattle.capacts.specs.Finish.{due}
 
--- by its inode, then by its client, a holder has its place among the others
-abbrev pub place_cmp : Ino × ClientId → Ino × ClientId → Ordering
-place_cmp a b = ordering_then (nat_cmp a.0.0 b.0.0) (nat_cmp a.1.0 b.1.0)
-
--- the sets that are kept, each at its holder's place
+-- the sets that are kept on each inode, each with its client
 abbrev pub KnownSets : Type 0
-KnownSets = BTreeMap (Ino × ClientId) Caps
+KnownSets = FinMap nat_cmp (Vec (ClientId × Caps))
+
+-- a set is this client's
+abbrev pub is_of : ClientId → ClientId × Caps → Bool
+is_of client kept = kept.0.0 == client.0
+
+-- what is kept of a client among those on one inode, where something is
+abbrev pub kept_among : List (ClientId × Caps) → ClientId → Option Caps
+kept_among sets client = option_map (λ (kept : ClientId × Caps). kept.1) (find (is_of client) sets)
 
 -- what is kept of a holder, where something is
 abbrev pub kept_of : KnownSets → Holder → Option Caps
-kept_of sets k = get place_cmp sets (k.ino, k.client)
+kept_of sets k = option_and_then (λ (on : Vec (ClientId × Caps)). kept_among on.items k.client) (map.get sets k.ino.0)
 
 -- the same, and nothing where nothing is
 abbrev pub known_in : KnownSets → Holder → Caps

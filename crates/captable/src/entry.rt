@@ -6,7 +6,7 @@ ghost use Rattle.captable.specs.Calls as words;
 use capbits::{CapSet, ClientId, Ino};
 
 /// A client on an inode, whose entry stands under both.
-#[derive(Clone, Copy, PartialEq, Eq, Hash, Debug)]
+#[derive(Clone, Copy, PartialEq, Eq, Debug)]
 pub struct Holder {
     /// The client.
     pub client: ClientId,

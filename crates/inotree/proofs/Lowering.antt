@@ -1,5 +1,5 @@
 -- A directory is lowered to what stands in it.
-use Rattle.std.proofs.Common.{◌≡◌, ℕ, ◌+◌, ◌<◌, ◌≤◌, Bool, true, false, ◌&&◌, ◌||◌, ◌==◌, nat_le, cond, List, [], ◌∷◌, ◌++◌, Option, Some, None, inl, inr, refl, sym, ap, subst, ◌∙◌, arith}
+use Rattle.std.proofs.Common.{◌≡◌, ℕ, ◌+◌, ◌<◌, ◌≤◌, Bool, true, false, ◌&&◌, ◌||◌, ◌==◌, nat_le, cond, List, [], ◌∷◌, ◌++◌, map as each, Bor, Option, Some, None, inl, inr, refl, sym, ap, subst, ◌∙◌, arith}
 use Rattle.std.specs.Prelude.{if◌then◌else◌, unwrap_or}
 use Rattle.std.specs.Ordering.{nat_cmp, ord_max, is_lt}
 use Rattle.std.proofs.lemmas.Map.Keys.{ge_from_not_lt}
@@ -7,6 +7,7 @@ use Rattle.std.proofs.lemmas.Bool.Decides.{nat_tests}
 use Rattle.std.proofs.lemmas.List.Folds.{list_any-append}
 use Rattle.std.specs.Cmp.{nat_cmp_total}
 use Rattle.std.specs.FinMap as map
+use Rattle.std.specs.Map.Iter.{deref_pair}
 use Rattle.std.specs.List.{list_any}
 use Rattle.capbits.specs.Maps.{change_at}
 use Rattle.inotree.specs.declared.index.Slot.{Slot}
@@ -14,7 +15,7 @@ use Rattle.inotree.specs.Inodes.{InodeMap}
 use Rattle.inotree.specs.Index.{NameIndex, names_in}
 use Rattle.inotree.specs.Heights.{HeightMap, bound, height, IsHigher, HeightsRise, AreNoHigher}
 use Rattle.inotree.specs.Tree.{IsIndexed, IsUnder, is_directory}
-use Rattle.numbered.proofs.Found.{and_true, any-filter, any_found}
+use Rattle.numbered.proofs.Found.{and_true, any-filter, any-map, any_found}
 use Rattle.numbered.proofs.Maps.{insert-here, change-is, change-none}
 use Rattle.inotree.proofs.Passing.{or_both}
 use Rattle.inotree.proofs.Rising.{inserted_same, height_dir}
@@ -63,6 +64,10 @@ none_higher f g n below k xs x is now lower e =
     let over : below < k = omega (arith, both.1) in
     list_any-append (λ x. nat_le k (g x)) xs (x ∷ []) ∙ ap (λ b. b || (nat_le k (g x) || false)) (none_high f g lower n k both.0 xs e)
     ∙ ap (λ b. b || false) (ap (nat_le k) (sym now) ∙ over_low below k over)
+
+-- behind the loop
+pub none_left : (f : ℕ → ℕ) (n : ℕ) (yielded : List (Bor Slot × Bor ℕ)) (items : List (Slot × ℕ)) → each deref_pair yielded ≡ items → list_any (λ p. nat_le n (f p.1.now)) yielded ≡ false → list_any (λ e. nat_le n (f e.1)) items ≡ false
+none_left f n yielded items whole none = ap (list_any (λ (e : Slot × ℕ). nat_le n (f e.1))) (sym whole) ∙ any-map (λ (e : Slot × ℕ). nat_le n (f e.1)) deref_pair yielded ∙ none
 
 -- ---- the directory
 

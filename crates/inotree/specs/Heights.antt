@@ -4,10 +4,9 @@ use Rattle.std.specs.Coded.{Coded, coded_ℕ}
 use Rattle.std.specs.FinMap as map
 use Rattle.std.specs.FinMap.{FinMap}
 use Rattle.std.specs.Ordering.{nat_cmp}
-use Rattle.inotree.specs.declared.node.Place.TheVariants.{Here}
 use Rattle.inotree.specs.Inodes.{InodeMap}
 use Rattle.inotree.specs.Index.{NameIndex, index_reaches}
-use Rattle.inotree.specs.Tree.{IsTree, IsIndexed, IsUnder, is_directory, place}
+use Rattle.inotree.specs.Tree.{IsTree, IsIndexed, IsUnder, is_directory}
 
 -- a number of steps for each directory
 abbrev pub HeightMap : Type 0

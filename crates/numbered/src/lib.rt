@@ -6,3 +6,4 @@ mod numbered;
 mod rows;
 
 pub use numbered::Numbered;
+pub use rows::trim;

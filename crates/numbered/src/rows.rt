@@ -118,13 +118,13 @@ fn move_place(places: &mut BTreeMap<u64, usize>, number: u64, place: usize)
     }
 }
 
-// Gives half of the memory back where less than a quarter of it is used, so that what is kept follows what is there. Half of it, so
-// that the room stays a power of two: rows that come double it up to what they fill, and no further.
-fn trim<T>(rows: &mut Vec<Row<T>>)
-    ensures { rows.new.items ≡ rows.old.items }
+/// Gives half of a list's room back where less than a quarter of it is used, so that what is kept follows what is there. Half of it,
+/// so that the room stays a power of two: what comes doubles it up to what it fills, and no further.
+pub fn trim<T>(list: &mut Vec<T>)
+    ensures { list.new.items ≡ list.old.items }
 {
-    let room = rows.capacity();
-    if rows.len() < room / 4 {
-        rows.shrink_to(room / 2);
+    let room = list.capacity();
+    if list.len() < room / 4 {
+        list.shrink_to(room / 2);
     }
 }

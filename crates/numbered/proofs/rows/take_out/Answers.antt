@@ -14,7 +14,7 @@ within g c = subst (λ m. c.args.place < m) c.args.rows.now.ok.0 c.requires.boun
 rest : (g : _) → After-trim g → List (Row g.row.T.Denot)
 rest g c = swap_remove c.args.rows.now.items c.args.place c.swap_remove.result
 
-items : (g : _) (c : After-trim g) → c.trim.new.rows.items ≡ rest g c
+items : (g : _) (c : After-trim g) → c.trim.new.list.items ≡ rest g c
 unfolding rest
 items g c = c.trim.ensures ∙ c.swap_remove.ensures.items
 

@@ -1,7 +1,11 @@
-use Rattle.std.proofs.Common.{Some}
-use Rattle.capacts.proofs.KeptPlaces.{kept-others}
+use Rattle.std.proofs.Common.{ap, ◌∙◌}
+use Rattle.capacts.proofs.KeptPlaces.{of_list, kept-own, kept-others}
 use Rattle.capacts.proofs.known.Known.put.Goals as goal
+
+pub returns-clause-own : goal.returns-clause-own
+returns-clause-own c = kept-own c.args.self.now.sets c.args.holder c.put_among.new.sets ∙ c.put_among.ensures.own
 
 pub returns-clause-others : goal.returns-clause-others
 returns-clause-others c =
-    kept-others (Some c.replace.new.dest) c.args.self.now.sets (c.get_mut.follows.lender c.replace.new.dest) c.args.holder ((c.get_mut.follows.holds c.replace.new.dest).3 c.requires.there).0
+    kept-others c.args.self.now.sets c.args.holder c.put_among.new.sets
+    (λ client apart. c.put_among.ensures.others client apart ∙ ap (λ o. of_list o client) c.in-Some.ensures.value)

@@ -1,13 +1,9 @@
-use Rattle.std.proofs.Common.{◌≡◌, ℕ, ◌<◌, false, nat_le, sym, ap, subst, ◌∙◌}
-use Rattle.std.specs.List.{list_any}
+use Rattle.std.proofs.Common.{◌<◌, subst, ◌∙◌}
 use Rattle.std.specs.Map.Iter.{deref_pair}
 use Rattle.std.proofs.lemmas.Map.Iter.{iter_end}
-use Rattle.numbered.proofs.Found.{any-map}
-use Rattle.inotree.specs.declared.index.Slot.{Slot}
 use Rattle.inotree.specs.Inodes.{InodeMap}
-use Rattle.inotree.specs.Index.{names_in}
 use Rattle.inotree.specs.Heights.{height}
-use Rattle.inotree.proofs.Lowering.{none_higher, still_lower, lowered}
+use Rattle.inotree.proofs.Lowering.{none_higher, none_left, still_lower, lowered}
 use Rattle.inotree.proofs.heights.Heights.+lower.Goals as goal
 
 pub loop-child-preserved : goal.loop-child-preserved
@@ -24,9 +20,7 @@ returns-clause-rise t c =
     let m : InodeMap = c.args.inodes.now in
     let start = c.into_iter-child-iterator.ensures.into_iter_gives ∙ c.names_in-child-items.ensures in
     let whole = (iter_end deref_pair _ c.loop-child.yielded _ _ _ _ start c.loop-child.yielded_by c.in-None.is c.next.ensures.steps).0 in
-    let low : list_any (λ (e : Slot × ℕ). nat_le c.loop-child.most (height m c.loop-child.self e.1)) (names_in c.args.dir c.args.names.now) ≡ false =
-    ap (list_any (λ (e : Slot × ℕ). nat_le c.loop-child.most (height m c.loop-child.self e.1))) (sym whole)
-    ∙ any-map (λ (e : Slot × ℕ). nat_le c.loop-child.most (height m c.loop-child.self e.1)) deref_pair c.loop-child.yielded ∙ c.loop-child.invariant.2 in
+    let low = none_left (height m c.loop-child.self) c.loop-child.most c.loop-child.yielded _ whole c.loop-child.invariant.2 in
     let less = subst (λ n. c.loop-child.most < n) c.of-2.ensures c.if-most-of.false in
     (lowered m c.args.names.now c.loop-child.self c.args.dir c.loop-child.most c.requires.indexed c.loop-child.invariant.0 low less c.set.new.self c.set.ensures).0
 
@@ -35,8 +29,6 @@ returns-clause-lower t c =
     let m : InodeMap = c.args.inodes.now in
     let start = c.into_iter-child-iterator.ensures.into_iter_gives ∙ c.names_in-child-items.ensures in
     let whole = (iter_end deref_pair _ c.loop-child.yielded _ _ _ _ start c.loop-child.yielded_by c.in-None.is c.next.ensures.steps).0 in
-    let low : list_any (λ (e : Slot × ℕ). nat_le c.loop-child.most (height m c.loop-child.self e.1)) (names_in c.args.dir c.args.names.now) ≡ false =
-    ap (list_any (λ (e : Slot × ℕ). nat_le c.loop-child.most (height m c.loop-child.self e.1))) (sym whole)
-    ∙ any-map (λ (e : Slot × ℕ). nat_le c.loop-child.most (height m c.loop-child.self e.1)) deref_pair c.loop-child.yielded ∙ c.loop-child.invariant.2 in
+    let low = none_left (height m c.loop-child.self) c.loop-child.most c.loop-child.yielded _ whole c.loop-child.invariant.2 in
     let less = subst (λ n. c.loop-child.most < n) c.of-2.ensures c.if-most-of.false in
     still_lower m c.args.self.now c.loop-child.self c.set.new.self c.loop-child.invariant.1 (lowered m c.args.names.now c.loop-child.self c.args.dir c.loop-child.most c.requires.indexed c.loop-child.invariant.0 low less c.set.new.self c.set.ensures).1

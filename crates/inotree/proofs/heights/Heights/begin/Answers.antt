@@ -1,5 +1,5 @@
 use Rattle.std.proofs.Common.{refl, ap}
-use Rattle.inotree.specs.Heights.{HeightMap, bound, SameBut}
+use Rattle.inotree.specs.Heights.{HeightMap, bound}
 use Rattle.inotree.proofs.Results.{either}
 use Rattle.inotree.proofs.Rising.{inserted_same}
 use Rattle.inotree.proofs.heights.Heights.begin.Goals as goal

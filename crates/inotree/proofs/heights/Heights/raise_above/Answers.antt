@@ -1,6 +1,6 @@
-use Rattle.std.proofs.Common.{◌≡◌, ℕ, ◌+◌, ◌<◌, ◌≤◌, true, Some, None, sym, subst, arith}
+use Rattle.std.proofs.Common.{◌≡◌, ℕ, ◌<◌, ◌≤◌, true, Some, None, sym, subst, arith}
 use Rattle.inotree.specs.Inodes.{InodeMap}
-use Rattle.inotree.specs.Tree.{Nodes, IsTree, parent, is_directory}
+use Rattle.inotree.specs.Tree.{parent, is_directory}
 use Rattle.inotree.specs.Heights.{HeightMap, height, IsHigher, HeightsRiseBut}
 use Rattle.inotree.proofs.Rising.{climb_next, climb_last, all-rise, raise-step, parent_under}
 use Rattle.inotree.proofs.heights.Heights.raise_above.Goals as goal
