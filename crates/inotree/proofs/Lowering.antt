@@ -1,5 +1,5 @@
 -- A directory is lowered to what stands in it.
-use Rattle.std.proofs.Common.{◌≡◌, ℕ, ◌+◌, ◌<◌, ◌≤◌, Bool, true, false, ◌&&◌, ◌||◌, ◌==◌, nat_le, cond, List, [], ◌∷◌, ◌++◌, map as each, Bor, Option, Some, None, inl, inr, refl, sym, ap, subst, ◌∙◌, arith}
+use Rattle.std.proofs.Common.{◌≡◌, ℕ, zero, suc, ◌+◌, ◌-◌, ◌<◌, ◌≤◌, Bool, true, false, ◌&&◌, ◌||◌, ◌==◌, nat_le, cond, List, [], ◌∷◌, ◌++◌, map as each, Bor, Option, Some, None, inl, inr, refl, sym, ap, subst, ◌∙◌, arith}
 use Rattle.std.specs.Prelude.{if◌then◌else◌, unwrap_or}
 use Rattle.std.specs.Ordering.{nat_cmp, ord_max, is_lt}
 use Rattle.std.proofs.lemmas.Map.Keys.{ge_from_not_lt}
@@ -12,12 +12,13 @@ use Rattle.std.specs.List.{list_any}
 use Rattle.capbits.specs.Maps.{change_at}
 use Rattle.inotree.specs.declared.index.Slot.{Slot}
 use Rattle.inotree.specs.Inodes.{InodeMap}
-use Rattle.inotree.specs.Index.{NameIndex, names_in}
-use Rattle.inotree.specs.Heights.{HeightMap, bound, height, IsHigher, HeightsRise, AreNoHigher}
+use Rattle.inotree.specs.Index.{NameIndex, names_in, index_reaches}
+use Rattle.inotree.specs.Heights.{HeightMap, bound, height, IsHigher, HeightsRise, AreNoHigher, AreAllKnown}
 use Rattle.inotree.specs.Tree.{IsIndexed, IsUnder, is_directory}
 use Rattle.numbered.proofs.Found.{and_true, any-filter, any-map, any_found}
 use Rattle.numbered.proofs.Maps.{insert-here, change-is, change-none}
 use Rattle.inotree.proofs.Passing.{or_both}
+use Rattle.inotree.proofs.Reaching.{reaches-zero, reaches-step, any_found as reached_one}
 use Rattle.inotree.proofs.Rising.{inserted_same, height_dir}
 use Rattle.inotree.proofs.Shape.{same_ino}
 use Rattle.inotree.proofs.Slots.{slot_total, slot_same}
@@ -146,3 +147,46 @@ module _ (m : InodeMap) (index : NameIndex) (heights : HeightMap) (dir most : �
     go (Some x) here =
         let new : next ≡ map.insert heights dir most = is ∙ change-is nat_cmp_total map.nat_cmp-IsAntisymmetric heights dir (λ _. most) x here in
         (rise-lowered next new, are-lower next new)
+
+-- ---- where all are known
+
+pub all_known : (m : InodeMap) (old new : HeightMap) → AreNoHigher m old new → AreAllKnown m old → AreAllKnown m new
+all_known m old new lower known i = not_above (height m new i) (height m old i) 32 (lower i) (known i)
+
+-- a turn of the loop: a child that is low enough raises the greatest no further
+pub turn_few : (most below k steps : ℕ) → k ≡ ord_max nat_cmp most (below + 1) → most < steps → below < steps - 1 → k < steps
+turn_few most below k steps is less few = go (is_lt (nat_cmp (below + 1) most)) refl where
+  go : (t : Bool) → is_lt (nat_cmp (below + 1) most) ≡ t → k < steps
+  go true e = let first : k ≡ most = is ∙ ap (λ t. cond t most (below + 1)) e in omega (arith, first, less)
+  go false e = let second : k ≡ below + 1 = is ∙ ap (λ t. cond t most (below + 1)) e in omega (arith, second, few)
+
+-- where nothing lies so many steps below a directory, nothing lies one less below what stands in it
+pub none_reached : (steps : ℕ) (index : NameIndex) (dir : ℕ) (before rest : List (Slot × ℕ)) (e : Slot × ℕ) → (steps ≡ 0 → ⊥) → names_in dir index ≡ before ++ e ∷ rest
+    → index_reaches steps index dir ≡ false → index_reaches (steps - 1) index e.1 ≡ false
+none_reached steps index dir before rest e some parts none = go (index_reaches (steps - 1) index e.1) refl where
+  go : (b : Bool) → index_reaches (steps - 1) index e.1 ≡ b → b ≡ false
+  go false is = refl
+  go true is =
+      let below : Slot × ℕ → Bool = λ e. index_reaches (steps - 1) index e.1 in
+      let reached : index_reaches steps index dir ≡ true = reaches-step steps index dir some ∙ ap (list_any below) parts ∙ reached_one below before rest e is in
+      sym reached ∙ none
+
+-- and with that it is set to less
+module _ (m : InodeMap) (heights : HeightMap) (dir most steps : ℕ) (known : AreAllKnown m heights) (less : most < height m heights dir) (few : most < steps) where
+  pub set_few : (next : HeightMap) → next ≡ change_at (λ _. most) heights dir → height m next dir < steps
+  set_few next is = go (is_directory m dir) refl (map.get heights dir) refl where
+    go : (b : Bool) → is_directory m dir ≡ b → (o : Option ℕ) → map.get heights dir ≡ o → height m next dir < steps
+    go false file o here = subst (λ b. (if b then bound next dir else 0) < steps) (sym file) (omega (arith, few))
+    go true directory None none =
+        let unknown : height m heights dir ≡ 32 = height_dir m heights dir directory ∙ ap (λ o. unwrap_or o 32) none in
+        absurd (omega (arith, unknown, known dir))
+    go true directory (Some x) here =
+        let new : next ≡ map.insert heights dir most = is ∙ change-is nat_cmp_total map.nat_cmp-IsAntisymmetric heights dir (λ _. most) x here in
+        let now : height m next dir ≡ most =
+        height_dir m next dir directory ∙ ap (λ h. bound h dir) new ∙ ap (λ o. unwrap_or o 32) (insert-here nat_cmp_total map.nat_cmp-IsAntisymmetric heights dir most) in
+        omega (arith, now, few)
+
+-- below a file lies nothing
+pub file_few : (m : InodeMap) (heights : HeightMap) (index : NameIndex) (ino steps : ℕ) → is_directory m ino ≡ false → index_reaches steps index ino ≡ false → height m heights ino < steps
+file_few m heights index ino zero file none = let reached : index_reaches 0 index ino ≡ true = reaches-zero 0 index ino refl in absurd (cc)
+file_few m heights index ino (suc n) file none = subst (λ b. (if b then bound heights ino else 0) < suc n) (sym file) (omega arith)

@@ -1,5 +1,5 @@
 -- How far down something may lie below each directory, as far as it is known.
-use Rattle.std.specs.Prelude.{◌≡◌, ℕ, ◌<◌, ◌⊎◌, ◌≤◌, List, true, if◌then◌else◌, unwrap_or}
+use Rattle.std.specs.Prelude.{◌≡◌, ℕ, ◌<◌, ◌⊎◌, ◌≤◌, List, true, false, if◌then◌else◌, unwrap_or}
 use Rattle.std.specs.Coded.{Coded, coded_ℕ}
 use Rattle.std.specs.FinMap as map
 use Rattle.std.specs.FinMap.{FinMap}
@@ -51,6 +51,14 @@ SameBut dir old new = (other : ℕ) → (other ≡ dir → ⊥) → bound new ot
 -- no height is greater than before
 abbrev pub AreNoHigher : InodeMap → HeightMap → HeightMap → Type 0
 AreNoHigher nodes old new = (ino : ℕ) → height nodes new ino ≤ height nodes old ino
+
+-- of each inode it is known
+abbrev pub AreAllKnown : InodeMap → HeightMap → Type 0
+AreAllKnown nodes heights = (ino : ℕ) → height nodes heights ino < 32
+
+-- where all are known, and nothing lies so many steps below an inode, its height says so
+abbrev pub IsLowered : InodeMap → NameIndex → ℕ → ℕ → HeightMap → HeightMap → Type 0
+IsLowered nodes index ino steps old new = AreAllKnown nodes old → index_reaches steps index ino ≡ false → height nodes new ino < steps
 
 -- the index and the heights of these inodes
 abbrev pub AreKept : InodeMap → NameIndex → HeightMap → Type 0

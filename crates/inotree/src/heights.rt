@@ -1,11 +1,11 @@
 //! How far down something may lie below each directory.
-ghost use Rattle.std.specs.Prelude.{◌≡◌, IfOk, OnOk, OnErr};
+ghost use Rattle.std.specs.Prelude.{◌≡◌, ◌-◌, IfOk, OnOk, OnErr};
 ghost use Rattle.std.specs.FinMap as map;
 ghost use Rattle.capbits.specs.Maps.{change_at};
 ghost use Rattle.inotree.specs.declared.node.Place.TheVariants.{Here};
 ghost use Rattle.inotree.specs.Index.{AreInodes};
-ghost use Rattle.inotree.specs.Tree.{IsIndexed, place};
-ghost use Rattle.inotree.specs.Heights.{height, AreOfTree, AreNoHigher, HeightsRise, HeightsRiseBut, SameBut};
+ghost use Rattle.inotree.specs.Tree.{IsIndexed, depth, place};
+ghost use Rattle.inotree.specs.Heights.{height, AreOfTree, AreNoHigher, IsLowered, HeightsRise, HeightsRiseBut, SameBut};
 
 use crate::index::Index;
 use crate::inodes::Inodes;
@@ -109,13 +109,14 @@ impl Heights {
     }
 
     // Lowers a directory below which nothing lies so many steps, after those that stand in it, so that `of` rules that out again. It
-    // takes no memory; where nothing is known of a directory, those above it stay.
+    // takes no memory; where nothing is known of a directory, those above it may stay.
     pub(crate) fn lower(&mut self, inodes: &Inodes, names: &Index, dir: u64, steps: usize)
         requires inodes { AreInodes names.now }
         requires indexed { IsIndexed inodes.now names.now }
         requires rise { HeightsRise inodes.now self.old }
         ensures rise { HeightsRise inodes.now self.new }
         ensures lower { AreNoHigher inodes.now self.old self.new }
+        ensures lowered { IsLowered inodes.now names.now dir steps self.old self.new }
     {
         if steps == 0 {
             return;
@@ -144,7 +145,8 @@ impl Heights {
         requires inodes { AreInodes names.now }
         requires indexed { IsIndexed inodes.now names.now }
         requires rise { HeightsRise inodes.now self.old }
-        ensures { HeightsRise inodes.now self.new }
+        ensures rise { HeightsRise inodes.now self.new }
+        ensures lowered { IsLowered inodes.now names.now ino (32 - depth inodes.now dir) self.old self.new }
     {
         if inodes.is_directory(ino) {
             self.lower(inodes, names, ino, MAX_NAMES - inodes.depth(dir));

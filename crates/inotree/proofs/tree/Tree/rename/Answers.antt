@@ -25,7 +25,7 @@ invariant_of-self c = (
   c.self.invariant.0,
   (
     subst (λ (i : NameIndex). IsIndexed c.self.inside.inodes i) (sym (at_err c.insert.result c.if-is_err.ensures.value c.insert.ensures.err)) c.self.invariant.1.0,
-    c.lower_to_fit.ensures,
+    c.lower_to_fit.ensures.rise,
   ),
 )
 
@@ -46,7 +46,7 @@ raise_above-requires c =
     let now = raisable_at _ _ c.self.inside.last k _ _ _
     (c.set_site.ensures ∙ ap (λ b. change_at (with_site (Under c.args.dir b)) m k) c.of-2.ensures)
     (c.remove.ensures ∙ ap (λ (x : NameIndex). map.remove x c.in-Some.old) added)
-    (kept-moved m c.self.inside.last k d c.in-Some.old.dir a c.in-Some.old.name index c.lower_to_fit.new.self c.self.invariant.0 (c.self.invariant.1.0, c.lower_to_fit.ensures) under
+    (kept-moved m c.self.inside.last k d c.in-Some.old.dir a c.in-Some.old.name index c.lower_to_fit.new.self c.self.invariant.0 (c.self.invariant.1.0, c.lower_to_fit.ensures.rise) under
     passed.1.kind passed.1.here passed.1.good free passed.2 passed.3) in
     record { tree = (c.self.inside.last, now.0); here = now.2; rise = now.3 }
 
@@ -67,6 +67,6 @@ invariant_of-self-2 c =
     let now = raisable_at _ _ c.self.inside.last k _ _ _
     (c.set_site.ensures ∙ ap (λ b. change_at (with_site (Under c.args.dir b)) m k) c.of-2.ensures)
     (c.remove.ensures ∙ ap (λ (x : NameIndex). map.remove x c.in-Some.old) added)
-    (kept-moved m c.self.inside.last k d c.in-Some.old.dir a c.in-Some.old.name index c.lower_to_fit.new.self c.self.invariant.0 (c.self.invariant.1.0, c.lower_to_fit.ensures) under
+    (kept-moved m c.self.inside.last k d c.in-Some.old.dir a c.in-Some.old.name index c.lower_to_fit.new.self c.self.invariant.0 (c.self.invariant.1.0, c.lower_to_fit.ensures.rise) under
     passed.1.kind passed.1.here passed.1.good free passed.2 passed.3) in
     (now.0, (now.1, c.raise_above.ensures))
