@@ -1,8 +1,8 @@
 use Rattle.std.proofs.Common.{◌≡◌, ◌≤◌, length, get_or, Ok, arith, subst, ap, sym, ◌∙◌}
 use Rattle.capbits.specs.Text.{IsLongestBeginning, text_of}
 use Rattle.capbits.proofs.Following.{text_some, text_of-injective}
-use Rattle.capbits.proofs.Reading.{no_bytes, one_byte, more_behind_dash, empty_text, text_of-empty, fault_inside}
-use Rattle.capbits.proofs.reader.read_caps.Goals as goal
+use Rattle.captext.proofs.Reading.{no_bytes, one_byte, more_behind_dash, empty_text, text_of-empty, fault_inside}
+use Rattle.captext.proofs.reader.read_caps.Goals as goal
 
 pub returns-in-empty-clause-err : goal.returns-in-empty-clause-err
 returns-in-empty-clause-err c = subst (λ text. IsLongestBeginning text 0) (sym (no_bytes c.args.text.now c.in-empty.len_below)) empty_text

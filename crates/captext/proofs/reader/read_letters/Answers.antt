@@ -3,9 +3,9 @@ use Rattle.std.proofs.lemmas.List.{take_all}
 use Rattle.capbits.specs.declared.cap.Cap.TheVariants.{P}
 use Rattle.capbits.specs.declared.cap.Part.TheVariants.{A, L, X, F}
 use Rattle.capbits.proofs.Following.{text_of-injective}
-use Rattle.capbits.proofs.Reading.{HasRead, read_nothing, wrong_byte, fault_inside, not_a_text, letter_missing, all_read, letter_step, capital_step}
-use Rattle.capbits.proofs.reader.read_letters.Goals as goal
-use Rattle.capbits.proofs.reader.read_letters.Goals.{in-Some, in_default+else-needs_letter+in-Some-find_capital}
+use Rattle.captext.proofs.Reading.{HasRead, read_nothing, wrong_byte, fault_inside, not_a_text, letter_missing, all_read, letter_step, capital_step}
+use Rattle.captext.proofs.reader.read_letters.Goals as goal
+use Rattle.captext.proofs.reader.read_letters.Goals.{in-Some, in_default+else-needs_letter+in-Some-find_capital}
 
 pub loop-at-init : goal.loop-at-init
 loop-at-init c = subst (λ s. HasRead [] s false (P ∷ []) (A ∷ L ∷ X ∷ F ∷ [])) (sym c.empty-set.ensures) read_nothing

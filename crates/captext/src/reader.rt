@@ -6,9 +6,7 @@ ghost use Rattle.capbits.specs.declared.cap.Part.{Part};
 ghost use Rattle.capbits.specs.Caps.{Caps};
 ghost use Rattle.capbits.specs.Text.{text_of, letter_of, capital_of, IsLongestBeginning};
 
-use crate::cap::{Cap, Part};
-use crate::set::CapSet;
-use crate::text::{capital, letter};
+use capbits::{Cap, CapSet, Part};
 use thiserror::Error;
 
 /// The answer where a text is the text of no set of capabilities.
@@ -75,7 +73,7 @@ fn find_letter(caps: &[Cap], byte: u8) -> Option<(Cap, &[Cap])>
     ensures none { IfNone result (IsFalse (list_any (λ c. letter_of c == byte) caps.now)) }
 {
     for (place, cap) in caps.iter().enumerate() {
-        if letter(*cap) == byte {
+        if cap.letter() == byte {
             return Some((*cap, &caps[place + 1..]));
         }
     }
@@ -89,7 +87,7 @@ fn find_capital(parts: &[Part], byte: u8) -> Option<(Part, &[Part])>
     ensures none { IfNone result (IsFalse (list_any (λ part. capital_of part == byte) parts.now)) }
 {
     for (place, part) in parts.iter().enumerate() {
-        if capital(*part) == byte {
+        if part.capital() == byte {
             return Some((*part, &parts[place + 1..]));
         }
     }
