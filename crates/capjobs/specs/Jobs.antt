@@ -2,18 +2,18 @@
 use Rattle.std.specs.Prelude.{◌≡◌, ◌≢◌, ◌⊎◌, ◌+◌, ◌≤◌, ◌==◌, ℕ, Bool, true, false, Some, None, List, [], ◌∷◌, ◌++◌, length, map, codes, bytes_eq, if◌then◌else◌, IsTrue, IsFalse}
 use Rattle.std.specs.List.{list_any, sum_by}
 use Rattle.capbits.specs.declared.ids.ClientId.{ClientId}
-use Rattle.capacts.specs.Capevents.declared.event.Event.{Event}
-use Rattle.caplines.specs.declared.fault.LineFault.{LineFault}
-use Rattle.caplines.specs.declared.fault.LineFault.TheVariants as kinds
-use Rattle.caplines.specs.declared.fault.ScriptFault.TheVariants as stops
-use Rattle.caplines.specs.Events.{Reads, client_of}
-use Rattle.caplines.specs.Faults.{HasFault}
-use Rattle.caplines.specs.Lines.{is_skipped}
-use Rattle.caplines.specs.Words.{words}
-use Rattle.capplan.specs.declared.fault.ServeFault.{ServeFault}
-use Rattle.capplan.specs.declared.fault.ServeFault.TheVariants.{Script, Clients, HistoryFull}
-use Rattle.capplan.specs.declared.plan.Job.{Job}
-use Rattle.capplan.specs.declared.plan.Plan.{Plan}
+use Rattle.capserver.specs.Capevents.declared.event.Event.{Event}
+use Rattle.capscript.specs.Caplines.declared.fault.LineFault.{LineFault}
+use Rattle.capscript.specs.Caplines.declared.fault.LineFault.TheVariants as kinds
+use Rattle.capscript.specs.Caplines.declared.fault.ScriptFault.TheVariants as stops
+use Rattle.capscript.specs.Caplines.Events.{Reads, client_of}
+use Rattle.capscript.specs.Caplines.Faults.{HasFault}
+use Rattle.capscript.specs.Caplines.Lines.{is_skipped}
+use Rattle.capscript.specs.Caplines.Words.{words}
+use Rattle.capjobs.specs.declared.fault.ServeFault.{ServeFault}
+use Rattle.capjobs.specs.declared.fault.ServeFault.TheVariants.{Script, Clients, HistoryFull}
+use Rattle.capjobs.specs.declared.plan.Job.{Job}
+use Rattle.capjobs.specs.declared.plan.Plan.{Plan}
 
 -- what a client calls, in order
 pub record Calls : Type 0 where

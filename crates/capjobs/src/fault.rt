@@ -1,10 +1,10 @@
 //! Why a script was not served.
 ghost use Rattle.std.specs.Prelude.{◌≡◌};
-ghost use Rattle.caplines.specs.declared.fault.ScriptFault.TheVariants as stops;
-ghost use Rattle.capplan.specs.declared.fault.ServeFault.TheVariants as faults;
+ghost use Rattle.capscript.specs.Caplines.declared.fault.ScriptFault.TheVariants as stops;
+ghost use Rattle.capjobs.specs.declared.fault.ServeFault.TheVariants as faults;
 
-use capacts::stop::Stop;
-use caplines::{LineFault, ScriptFault};
+use capscript::{LineFault, ScriptFault};
+use capserver::Stop;
 use std::alloc::{AllocError, AllocFailed};
 use thiserror::Error;
 
@@ -36,7 +36,7 @@ impl ServeFault {
 
 impl From<ScriptFault> for ServeFault {
     ghost use Rattle.std.specs.Prelude.{◌≡◌};
-    ghost use Rattle.capplan.specs.declared.fault.ServeFault.TheVariants as faults;
+    ghost use Rattle.capjobs.specs.declared.fault.ServeFault.TheVariants as faults;
 
     ghost from_gives = { λ stopped fault. fault ≡ faults.Script stopped };
 
@@ -47,7 +47,7 @@ impl From<ScriptFault> for ServeFault {
 
 impl From<Stop> for ServeFault {
     ghost use Rattle.std.specs.Prelude.{◌≡◌};
-    ghost use Rattle.capplan.specs.Faults.{fault_of};
+    ghost use Rattle.capjobs.specs.Faults.{fault_of};
 
     ghost from_gives = { λ stop fault. fault ≡ fault_of stop };
 
@@ -61,8 +61,8 @@ impl From<Stop> for ServeFault {
 
 impl From<AllocError> for ServeFault {
     ghost use Rattle.std.specs.Prelude.{◌≡◌};
-    ghost use Rattle.caplines.specs.declared.fault.ScriptFault.TheVariants as stops;
-    ghost use Rattle.capplan.specs.declared.fault.ServeFault.TheVariants as faults;
+    ghost use Rattle.capscript.specs.Caplines.declared.fault.ScriptFault.TheVariants as stops;
+    ghost use Rattle.capjobs.specs.declared.fault.ServeFault.TheVariants as faults;
 
     ghost from_gives = { λ _ fault. fault ≡ faults.Script stops.NoMemory };
 
@@ -73,8 +73,8 @@ impl From<AllocError> for ServeFault {
 
 impl<T: Drop> From<AllocFailed<T>> for ServeFault {
     ghost use Rattle.std.specs.Prelude.{◌≡◌};
-    ghost use Rattle.caplines.specs.declared.fault.ScriptFault.TheVariants as stops;
-    ghost use Rattle.capplan.specs.declared.fault.ServeFault.TheVariants as faults;
+    ghost use Rattle.capscript.specs.Caplines.declared.fault.ScriptFault.TheVariants as stops;
+    ghost use Rattle.capjobs.specs.declared.fault.ServeFault.TheVariants as faults;
 
     ghost from_gives = { λ _ fault. fault ≡ faults.Script stops.NoMemory };
 

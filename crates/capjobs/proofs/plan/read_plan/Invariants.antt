@@ -1,7 +1,7 @@
 use Rattle.std.proofs.Common.{◌≤◌, length, vec_len}
-use Rattle.capplan.specs.Jobs.{work_of}
-use Rattle.capplan.proofs.Plans.{SoFar}
-use Rattle.capplan.proofs.plan.read_plan.Given as goal
+use Rattle.capjobs.specs.Jobs.{work_of}
+use Rattle.capjobs.proofs.Plans.{SoFar}
+use Rattle.capjobs.proofs.plan.read_plan.Given as goal
 
 abbrev pub invariant-loop-text : goal.invariant-loop-text
 invariant-loop-text l = record {

@@ -1,8 +1,8 @@
 use Rattle.std.proofs.Common.{List, map, inr, refl, ap, ◌∙◌, arith}
-use Rattle.capplan.specs.declared.plan.Job.{Job}
-use Rattle.capplan.specs.Jobs.{Work, Calls, calls_of}
-use Rattle.capplan.proofs.JobLists.{new_gets_job, is_unknown}
-use Rattle.capplan.proofs.plan.Plan.add_job.Goals as goal
+use Rattle.capjobs.specs.declared.plan.Job.{Job}
+use Rattle.capjobs.specs.Jobs.{Work, Calls, calls_of}
+use Rattle.capjobs.proofs.JobLists.{new_gets_job, is_unknown}
+use Rattle.capjobs.proofs.plan.Plan.add_job.Goals as goal
 
 pub returns-then-len-eq-MAX_CLIENTS-clause-err : goal.returns-then-len-eq-MAX_CLIENTS-clause-err
 returns-then-len-eq-MAX_CLIENTS-clause-err c =

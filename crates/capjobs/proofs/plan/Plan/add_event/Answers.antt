@@ -1,9 +1,9 @@
 use Rattle.std.proofs.Common.{◌≡◌, List, get_or, ap, rules}
-use Rattle.capacts.specs.Capevents.declared.event.Event.{Event}
-use Rattle.capplan.specs.declared.plan.Job.{Job}
-use Rattle.capplan.specs.Jobs.{Work, Calls, calls_by}
-use Rattle.capplan.proofs.JobLists.{known_gets_event}
-use Rattle.capplan.proofs.plan.Plan.add_event.Goals as goal
+use Rattle.capserver.specs.Capevents.declared.event.Event.{Event}
+use Rattle.capjobs.specs.declared.plan.Job.{Job}
+use Rattle.capjobs.specs.Jobs.{Work, Calls, calls_by}
+use Rattle.capjobs.proofs.JobLists.{known_gets_event}
+use Rattle.capjobs.proofs.plan.Plan.add_event.Goals as goal
 
 pub returns-clause-ok : goal.returns-clause-ok
 returns-clause-ok c =

@@ -1,9 +1,9 @@
 -- Plans that grow line by line.
 use Rattle.std.proofs.Common.{◌≡◌, ℕ, ◌+◌, ◌≤◌, ◌<◌, List, [], ◌∷◌, length, refl, sym, subst, arith, inl, inr}
 use Rattle.std.specs.Prelude.{Result, Ok, Err, IfErr, IsErrAnd}
-use Rattle.caplines.specs.Lines.{lines}
-use Rattle.capplan.specs.declared.fault.ServeFault.{ServeFault}
-use Rattle.capplan.specs.Jobs.{Work, no_work, Takes, TakesAll, IsFaultAt, StopsAt}
+use Rattle.capscript.specs.Caplines.Lines.{lines}
+use Rattle.capjobs.specs.declared.fault.ServeFault.{ServeFault}
+use Rattle.capjobs.specs.Jobs.{Work, no_work, Takes, TakesAll, IsFaultAt, StopsAt}
 
 -- what is known when so many lines were taken: what the lines that are left give, all lines give
 pub record SoFar (now : Work) (script rest : List ℕ) (number : ℕ) : Type 0 where
