@@ -1,7 +1,7 @@
 use Rattle.std.proofs.Common.{sym, subst}
-use Rattle.rowbook.specs.Rows.{Legal}
-use Rattle.rowbook.proofs.Gathering.{legal_none}
-use Rattle.rowbook.proofs.recorder.NewRows.named.Goals as goal
+use Rattle.published.specs.Rows.{Legal}
+use Rattle.published.proofs.Gathering.{legal_none}
+use Rattle.published.proofs.recorder.NewRows.named.Goals as goal
 
 pub of-rows-requires-clause-legal : goal.of-rows-requires-clause-legal
 of-rows-requires-clause-legal g c =

@@ -1,7 +1,7 @@
 use Rattle.std.proofs.Common.{◌≡◌, ◌+◌, ◌*◌, ◌++◌, ◌∷◌, [], sym, ◌∙◌, ap, subst, arith}
-use Rattle.rowbook.specs.Rows.{Legal}
-use Rattle.rowbook.proofs.Adding.{adds_moves, adds_done}
-use Rattle.rowbook.proofs.recorder.Recorder.add.Goals as goal
+use Rattle.published.specs.Rows.{Legal}
+use Rattle.published.proofs.Adding.{adds_moves, adds_done}
+use Rattle.published.proofs.recorder.Recorder.add.Goals as goal
 
 pub compare_exchange-found-requires : goal.compare_exchange-found-requires
 compare_exchange-found-requires g c =

@@ -6,9 +6,9 @@ use mathlib.Core.List.{IsPrefix}
 use prog.Atomic.{either}
 use Rattle.logbook.specs.Pages.{Cell, cell, keeps, gives, adds, no_nib, step, Away, Moves, Goes}
 use Rattle.capsteps.specs.Capevents.declared.row.Row.{Row}
-use Rattle.rowbook.specs.Rows.{IsKept, cells_of, words_of, next_of, Makes, Adds, Looks}
-use Rattle.rowbook.proofs.Beginnings.{prefix_whole, prefix_length}
-use Rattle.rowbook.proofs.Words.{words_more, words_home, words-length, cells_away, cells_set}
+use Rattle.published.specs.Rows.{IsKept, cells_of, words_of, next_of, Makes, Adds, Looks}
+use Rattle.published.proofs.Beginnings.{prefix_whole, prefix_length}
+use Rattle.published.proofs.Words.{words_more, words_home, words-length, cells_away, cells_set}
 
 abbrev pub shown : List Row → List Row
 shown log = []

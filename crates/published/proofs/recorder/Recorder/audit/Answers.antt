@@ -1,6 +1,6 @@
 use Rattle.std.proofs.Common.{sym, ◌∙◌, ap}
-use Rattle.rowbook.proofs.Adding.{looks_moves}
-use Rattle.rowbook.proofs.recorder.Recorder.audit.Goals as goal
+use Rattle.published.proofs.Adding.{looks_moves}
+use Rattle.published.proofs.recorder.Recorder.audit.Goals as goal
 
 pub compare_exchange-found-requires : goal.compare_exchange-found-requires
 compare_exchange-found-requires g c =

@@ -1,6 +1,6 @@
 use Rattle.std.proofs.Common.{length, sym, ◌∙◌, ap, arith}
-use Rattle.rowbook.proofs.Adding.{makes_moves}
-use Rattle.rowbook.proofs.recorder.make.Goals as goal
+use Rattle.published.proofs.Adding.{makes_moves}
+use Rattle.published.proofs.recorder.make.Goals as goal
 
 pub compare_exchange-found-requires : goal.compare_exchange-found-requires
 compare_exchange-found-requires c =

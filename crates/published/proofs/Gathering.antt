@@ -5,7 +5,7 @@ use Rattle.capsteps.specs.Capevents.declared.row.Row.{Row}
 use Rattle.capsteps.specs.Capacts.Numbers.{AreNumbered}
 use Rattle.capsteps.specs.History.{IsLegal, Replays}
 use Rattle.capsteps.specs.State.{State}
-use Rattle.rowbook.specs.Rows.{Legal}
+use Rattle.published.specs.Rows.{Legal}
 
 no_row : (earlier later : List Row) (row : Row) → [] ≡ earlier ++ row ∷ later → ⊥
 no_row [] later row is = cc

@@ -1,6 +1,6 @@
 use Rattle.std.proofs.Common.{rules}
-use Rattle.rowbook.proofs.Beginnings.{prefix_whole, prefix_length}
-use Rattle.rowbook.proofs.beginning.Beginning.is.Goals as goal
+use Rattle.published.proofs.Beginnings.{prefix_whole, prefix_length}
+use Rattle.published.proofs.beginning.Beginning.is.Goals as goal
 
 pub returns-then-one : goal.returns-then-one
 returns-then-one g c t =

@@ -1,7 +1,7 @@
 //! The rows that were published, as each holder knows them.
 ghost use Rattle.std.specs.Prelude.{◌≡◌, length, IsTrue};
 ghost use mathlib.Core.List.{IsPrefix};
-ghost use Rattle.rowbook.specs.Rows.{Legal};
+ghost use Rattle.published.specs.Rows.{Legal};
 
 use crate::ledger::Server;
 use capsteps::Row;
@@ -14,7 +14,7 @@ pub struct Law;
 impl Rule<Row, u64> for Law {
     ghost use Rattle.std.specs.Prelude.{[]};
     ghost use base.Fml.{ftrue};
-    ghost use Rattle.rowbook.specs.Rows.{IsKept};
+    ghost use Rattle.published.specs.Rows.{IsKept};
 
     ghost holds = { λ cells log. IsKept cells log };
 
@@ -42,7 +42,7 @@ impl Gain<Row, u64> for Nothing {
 pub struct Make;
 
 impl Play<Row, u64> for Make {
-    ghost use Rattle.rowbook.specs.Rows.{Makes};
+    ghost use Rattle.published.specs.Rows.{Makes};
 
     ghost then = { Makes };
 }
@@ -51,7 +51,7 @@ impl Play<Row, u64> for Make {
 pub struct Add;
 
 impl Play<Row, u64> for Add {
-    ghost use Rattle.rowbook.specs.Rows.{Adds};
+    ghost use Rattle.published.specs.Rows.{Adds};
 
     ghost then = { Adds };
 }
@@ -69,7 +69,7 @@ impl Plain<Row, Row, u64> for Add {
 pub struct Look;
 
 impl Play<Row, u64> for Look {
-    ghost use Rattle.rowbook.specs.Rows.{Looks};
+    ghost use Rattle.published.specs.Rows.{Looks};
 
     ghost then = { Looks };
 }
@@ -77,7 +77,7 @@ impl Play<Row, u64> for Look {
 /// What a step asks for that adds no row.
 impl Plain<u64, Row, u64> for Look {
     ghost use Rattle.std.specs.Prelude.{None};
-    ghost use Rattle.rowbook.specs.Rows.{no_row};
+    ghost use Rattle.published.specs.Rows.{no_row};
 
     ghost ask = { λ n. no_row };
 
@@ -132,7 +132,7 @@ impl<L: Server> Drop for Beginning<L> {
 impl<L: Server> Model for Beginning<L> {
     ghost use Rattle.std.specs.Prelude.{◌≡◌, List, length};
     ghost use Rattle.capsteps.specs.Capevents.declared.row.Row.{Row};
-    ghost use Rattle.rowbook.specs.Rows.{Legal, rows_code};
+    ghost use Rattle.published.specs.Rows.{Legal, rows_code};
 
     ghost Value = { List Row };
 

@@ -2,7 +2,7 @@
 ghost use Rattle.std.specs.Prelude.{◌≡◌, ◌<◌, ◌≤◌, ◌+◌, ◌^◌, ◌++◌, ◌∷◌, [], length, IfSome, IsTrue, MatchBool};
 ghost use mathlib.Core.List.{IsPrefix};
 ghost use Rattle.logbook.specs.Pages.{nib, may_write};
-ghost use Rattle.rowbook.specs.Rows.{Legal, head_of, next_of};
+ghost use Rattle.published.specs.Rows.{Legal, head_of, next_of};
 
 use crate::beginning::{Add, Beginning, Counted, Head, Law, Look, Make, Nothing, Rows};
 use crate::ledger::Server;
@@ -79,7 +79,7 @@ impl<L: Server> Drop for Recorder<L> {
 impl<L: Server> Model for Recorder<L> {
     ghost use Rattle.std.specs.Prelude.{◌≡◌, List};
     ghost use Rattle.capsteps.specs.Capevents.declared.row.Row.{Row};
-    ghost use Rattle.rowbook.specs.Rows.{head_of, next_of, rows_code};
+    ghost use Rattle.published.specs.Rows.{head_of, next_of, rows_code};
 
     ghost Value = { List Row };
 

@@ -2,7 +2,7 @@
 use Rattle.std.proofs.Common.{◌≡◌, ℕ, zero, suc, ◌+◌, ◌<◌, ◌≤◌, true, false, List, [], ◌∷◌, ◌++◌, length, replicate, set, ap, sym, ◌∙◌, arith, append_assoc, length-append}
 use Rattle.std.proofs.lemmas.List.{length-replicate, replicate_more}
 use Rattle.logbook.specs.Pages.{Cell, cell}
-use Rattle.rowbook.specs.Rows.{words_of, cells_of}
+use Rattle.published.specs.Rows.{words_of, cells_of}
 
 pub words-length : (rows away : ℕ) → length (words_of rows away) ≡ rows + away
 words-length rows away =

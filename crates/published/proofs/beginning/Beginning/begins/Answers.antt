@@ -2,8 +2,8 @@ use Rattle.std.proofs.Common.{◌≤◌, ap, subst, arith, length, List}
 use Rattle.std.proofs.lemmas.Bool.Decides.{nat_tests}
 use mathlib.Core.List.{IsPrefix}
 use Rattle.capsteps.specs.Capevents.declared.row.Row.{Row}
-use Rattle.rowbook.proofs.Beginnings.{prefix_shorter}
-use Rattle.rowbook.proofs.beginning.Beginning.begins.Goals as goal
+use Rattle.published.proofs.Beginnings.{prefix_shorter}
+use Rattle.published.proofs.beginning.Beginning.begins.Goals as goal
 
 pub returns-clause-begins : goal.returns-clause-begins
 returns-clause-begins g c t =

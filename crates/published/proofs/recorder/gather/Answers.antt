@@ -2,9 +2,9 @@ use Rattle.std.proofs.Common.{◌≡◌, ◌∷◌, [], ◌++◌, List, sym, sub
 use mathlib.Core.List.{IsPrefix}
 use Rattle.capsteps.specs.Capevents.declared.row.Row.{Row}
 use Rattle.capsteps.specs.State.{State}
-use Rattle.rowbook.specs.Rows.{Legal}
-use Rattle.rowbook.proofs.Gathering.{legal_more, take_begins}
-use Rattle.rowbook.proofs.recorder.gather.Goals as goal
+use Rattle.published.specs.Rows.{Legal}
+use Rattle.published.proofs.Gathering.{legal_more, take_begins}
+use Rattle.published.proofs.recorder.gather.Goals as goal
 
 pub add-requires-clause-legal : goal.add-requires-clause-legal
 add-requires-clause-legal g c =
