@@ -52,13 +52,9 @@ pub(crate) struct Linked<T> {
 // The node, and the keys of those before it and behind it: in the list of its inode, in that of its client, and in the order of recall.
 impl<T: fmt::Debug> fmt::Debug for Linked<T> {
     fn fmt<W: fmt::Write>(&self, f: &mut fmt::Formatter<W>) -> fmt::Result {
-        f.debug_list()
-            .entry(&(self.node.client, self.node.ino))
-            .entry(&self.node.value)
-            .entry(&self.of_ino.keys())
-            .entry(&self.of_client.keys())
-            .entry(&self.recall.keys())
-            .finish()
+        let Node { client, ino, value } = &self.node;
+        let of_both = (self.of_ino.keys(), self.of_client.keys());
+        fmt::Debug::fmt(&(client, ino, value, of_both, self.recall.keys()), f)
     }
 }
 
