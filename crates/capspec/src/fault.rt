@@ -3,7 +3,7 @@
 use thiserror::Error;
 
 /// The test that a grant text failed first.
-#[derive(Clone, Copy, Debug, Error)]
+#[derive(Clone, Copy, Debug, PartialEq, Eq, Error)]
 pub enum SpecFaultKind {
     /// The text has nothing but white space.
     #[error("Empty")]
@@ -44,7 +44,7 @@ pub enum SpecFaultKind {
 }
 
 /// A refused grant text: what is wrong with it, and the byte at which the refused word begins.
-#[derive(Clone, Copy, Debug, Error)]
+#[derive(Clone, Copy, Debug, PartialEq, Eq, Error)]
 #[error("{kind} at {at}")]
 pub struct SpecFault {
     /// How many bytes of the text stand before the fault.

@@ -13,7 +13,7 @@ use std::collections::btree_map::Keys;
 use std::marker::Model;
 
 /// The four locks of an inode, one for each part.
-#[derive(Clone, Copy, Debug)]
+#[derive(Clone, Copy, Debug, PartialEq, Eq)]
 pub struct InodeLocks {
     /// Of its owner, group and mode.
     pub auth: LockState,

@@ -14,7 +14,7 @@ use onelock::wanted_while;
 use sessiontab::{Session, Sessions};
 
 /// What the clients with an entry on an inode effectively want of it.
-#[derive(Clone, Copy)]
+#[derive(Clone, Copy, Debug, PartialEq, Eq)]
 pub struct Wants {
     /// What somebody wants.
     pub wanted: CapSet,
