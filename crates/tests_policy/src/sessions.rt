@@ -23,7 +23,12 @@ fn see(rt: &impl Abort, sessions: &Sessions, (number, status, blocked, uid, flag
         None => None,
     };
     let stands = (sessions.status(client), sessions.is_blocked(client));
-    same(rt, (stands, caller, first), ((status, blocked), uid, flags), number);
+    same(
+        rt,
+        (stands, caller, first),
+        ((status, blocked), uid, flags),
+        number,
+    );
 }
 
 // Sees that a copy has the same clients, each with the same in each field of its session.

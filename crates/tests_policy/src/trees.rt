@@ -52,7 +52,12 @@ fn see(rt: &impl Abort, tree: &Tree) {
     let file = [tree.resolve(names), tree.child(Ino(2), b"f")];
     let beside = (tree.parent(Ino(3)), tree.place(Ino(4)), tree.last());
     let wanted = ([Some(Ino(3)); 2], (Some(Ino(2)), Place::Gone, Ino(4)));
-    same(rt, (file, beside), wanted, "the file, its directory, a stray");
+    same(
+        rt,
+        (file, beside),
+        wanted,
+        "the file, its directory, a stray",
+    );
     let path = present(rt, tree.path_of(Ino(3)), "a path");
     same(rt, path.as_slice(), names, "its names");
 }
