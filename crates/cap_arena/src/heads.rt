@@ -16,7 +16,7 @@ use std::marker::Model;
 use std::sync::ledger::Ledger;
 
 // The ends of a list. Their links are made with its first node: before, there is room for them alone.
-#[derive(Debug, Drop)]
+#[derive(Drop)]
 pub(crate) struct Head {
     ends: Option<Ends>,
 }

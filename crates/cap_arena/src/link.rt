@@ -44,7 +44,7 @@ impl<L: Ledger> LinkWrites<L> {
 
 /// Where a node or a list leads to: the key of a node, or none. Whoever makes or changes one hands in the count of
 /// writes, which rises by one.
-#[derive(Debug, Drop)]
+#[derive(Drop)]
 pub struct Link {
     key: Option<usize>,
 }

@@ -10,6 +10,7 @@ use capbits::{ClientId, Ino, Refusal};
 use numbered::Numbered;
 use slab::Slab;
 use std::alloc::{AllocError, Global};
+use std::fmt;
 use std::marker::{Brand, Model};
 use std::sync::ledger::{Blank, Ledger};
 
@@ -19,7 +20,6 @@ pub const MAX_NODES: usize = 65_536;
 /// Nodes, at most `MAX_NODES`, each under a key that is its own until it is removed. Each stands at once in three lists:
 /// that of its inode and that of its client, both in the order of making, and the order of recall, in which the node
 /// that was left alone longest is the oldest, and comes first.
-#[derive(Debug)]
 pub struct TripleLists<T> {
     nodes: Slab<Linked<T>>,
     recall: Ends,
@@ -38,6 +38,13 @@ impl<T: Drop> Drop for TripleLists<T> {
             inodes: _,
             clients: _,
         } = self;
+    }
+}
+
+// The nodes by their keys, each with those beside it: where lists begin and end is told by them.
+impl<T: fmt::Debug> fmt::Debug for TripleLists<T> {
+    fn fmt<W: fmt::Write>(&self, f: &mut fmt::Formatter<W>) -> fmt::Result {
+        fmt::Debug::fmt(&self.nodes, f)
     }
 }
 

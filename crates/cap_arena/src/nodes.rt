@@ -4,10 +4,11 @@ ghost use Rattle.cap_arena.specs.Nodes.{joint_of, with_next, with_previous};
 
 use crate::link::{Link, LinkWrites};
 use capbits::{ClientId, Ino};
+use std::fmt;
 use std::sync::ledger::Ledger;
 
 /// A client on an inode, with a value.
-#[derive(Clone, Copy, PartialEq, Eq, Debug)]
+#[derive(Clone, Copy)]
 pub struct Node<T> {
     /// The client.
     pub client: ClientId,
@@ -26,21 +27,21 @@ pub(crate) enum Order {
 }
 
 // A node's place in one list.
-#[derive(Debug, Drop)]
+#[derive(Drop)]
 pub(crate) struct Joint {
     pub(crate) next: Link,
     pub(crate) previous: Link,
 }
 
 // Where a list begins and where it ends.
-#[derive(Debug, Drop)]
+#[derive(Drop)]
 pub(crate) struct Ends {
     pub(crate) first: Link,
     pub(crate) last: Link,
 }
 
 // A node in its three lists.
-#[derive(Debug, Drop)]
+#[derive(Drop)]
 pub(crate) struct Linked<T> {
     pub(crate) node: Node<T>,
     pub(crate) of_ino: Joint,
@@ -48,7 +49,21 @@ pub(crate) struct Linked<T> {
     pub(crate) recall: Joint,
 }
 
+// The node, and the keys of those before it and behind it: in the list of its inode, in that of its client, and in the order of recall.
+impl<T: fmt::Debug> fmt::Debug for Linked<T> {
+    fn fmt<W: fmt::Write>(&self, f: &mut fmt::Formatter<W>) -> fmt::Result {
+        let Node { client, ino, value } = &self.node;
+        let of_both = (self.of_ino.keys(), self.of_client.keys());
+        fmt::Debug::fmt(&(client, ino, value, of_both, self.recall.keys()), f)
+    }
+}
+
 impl Joint {
+    // The keys of the node before this one and of the one behind it.
+    fn keys(&self) -> (Option<usize>, Option<usize>) {
+        (self.previous.key(), self.next.key())
+    }
+
     // Behind the last one of a list.
     pub(crate) fn behind<L: Ledger>(last: Option<usize>, writes: &mut LinkWrites<L>) -> Joint
         ensures joint { result ≡ record { next = None; previous = last } }

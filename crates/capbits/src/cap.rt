@@ -1,6 +1,7 @@
 //! One capability, and the part of an inode that it covers.
 ghost use Rattle.std.specs.Prelude.{◌≡◌};
 ghost use Rattle.capbits.specs.Sets.{caps_of_part};
+ghost use Rattle.capbits.specs.Text.{capital_of, letter_of};
 
 /// A part of an inode's metadata, with a lock of its own ("Capabilities in CephFS" in the Ceph documentation).
 #[derive(Clone, Copy, PartialEq, Eq, PartialOrd, Ord, Hash, Debug)]
@@ -34,6 +35,18 @@ impl Part {
                 Cap::Fa,
                 Cap::Fl,
             ],
+        }
+    }
+
+    /// The capital that stands before its letters in a text.
+    pub fn capital(self) -> u8
+        ensures { result ≡ capital_of self }
+    {
+        match self {
+            Part::A => b'A',
+            Part::L => b'L',
+            Part::X => b'X',
+            Part::F => b'F',
         }
     }
 }
@@ -72,4 +85,23 @@ pub enum Cap {
     Fa,
     /// The client may do lazy io.
     Fl,
+}
+
+impl Cap {
+    /// Its letter in a text, which stands behind the capital of its part; that of the pin stands alone.
+    pub fn letter(self) -> u8
+        ensures { result ≡ letter_of self }
+    {
+        match self {
+            Cap::P => b'p',
+            Cap::As | Cap::Ls | Cap::Xs | Cap::Fs => b's',
+            Cap::Ax | Cap::Lx | Cap::Xx | Cap::Fx => b'x',
+            Cap::Fc => b'c',
+            Cap::Fr => b'r',
+            Cap::Fw => b'w',
+            Cap::Fb => b'b',
+            Cap::Fa => b'a',
+            Cap::Fl => b'l',
+        }
+    }
 }

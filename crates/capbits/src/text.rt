@@ -2,7 +2,7 @@
 ghost use Rattle.std.specs.Prelude.{◌≡◌, ◌+◌, ◌≤◌, ◌++◌, ℕ, List, length};
 ghost use Rattle.arrayvec.specs.ArrayVec.{array_vec_len};
 ghost use Rattle.capbits.specs.Sets.{caps_of_part};
-ghost use Rattle.capbits.specs.Text.{text_of, letter_of, letters_in, capital_of, group_of};
+ghost use Rattle.capbits.specs.Text.{text_of, letters_in, group_of};
 
 use crate::cap::{Cap, Part};
 use crate::set::CapSet;
@@ -77,7 +77,7 @@ fn write_part(out: &mut ArrayVec<u8, MAX_CAP_BYTES>, set: CapSet, part: Part)
     if set.part(part).is_empty() {
         return;
     }
-    out.push(capital(part));
+    out.push(part.capital());
     write_letters(out, set, part.caps());
 }
 
@@ -90,36 +90,7 @@ fn write_letters(out: &mut ArrayVec<u8, MAX_CAP_BYTES>, set: CapSet, caps: &[Cap
 {
     for cap in caps {
         if set.has(*cap) {
-            out.push(letter(*cap));
+            out.push(cap.letter());
         }
-    }
-}
-
-// The capital of a part.
-pub(crate) fn capital(part: Part) -> u8
-    ensures { result ≡ capital_of part }
-{
-    match part {
-        Part::A => b'A',
-        Part::L => b'L',
-        Part::X => b'X',
-        Part::F => b'F',
-    }
-}
-
-// The letter of a capability.
-pub(crate) fn letter(cap: Cap) -> u8
-    ensures { result ≡ letter_of cap }
-{
-    match cap {
-        Cap::P => b'p',
-        Cap::As | Cap::Ls | Cap::Xs | Cap::Fs => b's',
-        Cap::Ax | Cap::Lx | Cap::Xx | Cap::Fx => b'x',
-        Cap::Fc => b'c',
-        Cap::Fr => b'r',
-        Cap::Fw => b'w',
-        Cap::Fb => b'b',
-        Cap::Fa => b'a',
-        Cap::Fl => b'l',
     }
 }

@@ -10,8 +10,8 @@ use Rattle.capjobs.specs.Caplines.declared.fault.ScriptFault.{ScriptFault}
 use Rattle.capjobs.specs.Caplines.declared.fault.ScriptFault.TheVariants as stops
 use Rattle.capjobs.specs.Caplines.Lines.{lines, longest_script}
 use Rattle.capjobs.specs.Capscript.Transcript.{Ran, IsTranscript}
-use Rattle.capjobs.specs.Capplan.declared.fault.ServeFault.{ServeFault}
-use Rattle.capjobs.specs.Capplan.declared.fault.ServeFault.TheVariants.{Script as ServeScript}
+use Rattle.capjobs.specs.declared.fault.ServeFault.{ServeFault}
+use Rattle.capjobs.specs.declared.fault.ServeFault.TheVariants.{Script as ServeScript}
 use Rattle.capjobs.specs.Served.{IsServed, IsWritten}
 use Rattle.capanswers.specs.declared.command_line.Ask.{Ask}
 use Rattle.capanswers.specs.declared.command_line.Ask.TheVariants as asks

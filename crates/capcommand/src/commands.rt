@@ -5,7 +5,7 @@ ghost use Rattle.capjobs.specs.Caplines.declared.fault.ScriptFault.{ScriptFault 
 ghost use Rattle.capjobs.specs.Caplines.Lines.{lines, longest_script};
 ghost use Rattle.capjobs.specs.Capscript.Transcript.{IsTranscript};
 ghost use Rattle.capjobs.specs.Capstreams.Watched.{inner_of, has_failed, has_ended};
-ghost use Rattle.capjobs.specs.Capplan.declared.fault.ServeFault.{ServeFault as AServeFault};
+ghost use Rattle.capjobs.specs.declared.fault.ServeFault.{ServeFault as AServeFault};
 ghost use Rattle.capjobs.specs.Served.{IsServed};
 ghost use Rattle.capcommand.specs.declared.fault.Fault.{Fault as AFault};
 ghost use Rattle.capcommand.specs.declared.fault.Fault.TheVariants as faults;

@@ -6,7 +6,7 @@ use lockmachine::{Bytes, Change};
 use std::fmt;
 
 /// What a client opens an inode for.
-#[derive(Clone, Copy, Debug, PartialEq, Eq)]
+#[derive(Clone, Copy)]
 pub enum OpenMode {
     /// To read it.
     Read,

@@ -43,7 +43,7 @@ impl fmt::Display for Access {
 }
 
 /// The owner, the group and the mode of an inode.
-#[derive(Clone, Copy, PartialEq, Eq, Debug)]
+#[derive(Clone, Copy, Debug)]
 pub struct Attr {
     /// The uid of the owner.
     pub uid: u32,

@@ -3,7 +3,7 @@
 use crate::rules::Rules;
 
 /// The answer to an access.
-#[derive(Clone, Debug, PartialEq, Eq, Drop)]
+#[derive(Drop)]
 pub enum Verdict {
     /// A grant allows the access.
     Allowed {

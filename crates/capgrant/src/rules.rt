@@ -12,7 +12,7 @@ use std::slice;
 pub const MAX_RULES: usize = 16;
 
 /// A list of rules, one for each grant that failed.
-#[derive(Clone, Debug, PartialEq, Eq)]
+#[derive(Clone, Debug)]
 pub struct Rules {
     rules: ArrayVec<Rule, MAX_RULES>,
 }

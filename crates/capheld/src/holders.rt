@@ -7,10 +7,10 @@ use crate::lines::{print_held, print_pathless, print_strange, print_unlisted, pr
 use crate::notes::Notes;
 use capaudit::{Inode, beyond};
 use capauth::AuthList;
-use capbits::read_caps;
 use capcluster::{Holder, Session};
 use capexplain::print_unread;
 use capspec::{Grants, SpecFaultKind, read_grants};
+use captext::read_caps;
 use std::alloc::{AllocError, Global};
 
 // Appends what is said of a client that holds something of the inode.

@@ -1,8 +1,9 @@
+mod JobLists
 mod NewPasses
+mod Plans
 mod Writing
 pub use Rattle.capserver.proofs.Capcore
 pub use Rattle.capscript.proofs.Capexplain
 pub use Rattle.capscript.proofs.Caplines
-pub use Rattle.capplan.proofs as Capplan
 pub use Rattle.capscript.proofs as Capscript
 pub use Rattle.capscript.proofs.Capstreams

@@ -7,9 +7,9 @@ use Rattle.capscript.specs.Caplines.Lines.{lines}
 use Rattle.capscript.specs.Caplines.declared.fault.ScriptFault.{ScriptFault}
 use Rattle.capscript.specs.Caplines.declared.fault.ScriptFault.TheVariants as stops
 use Rattle.capscript.proofs.Capstreams.KnownBytes.{none_appended}
-use Rattle.capplan.specs.declared.fault.ServeFault.{ServeFault}
-use Rattle.capplan.specs.declared.fault.ServeFault.TheVariants.{Script, Clients, HistoryFull}
-use Rattle.capplan.specs.Jobs.{Work, no_work, IsFaultAt, StopsAt}
+use Rattle.capjobs.specs.declared.fault.ServeFault.{ServeFault}
+use Rattle.capjobs.specs.declared.fault.ServeFault.TheVariants.{Script, Clients, HistoryFull}
+use Rattle.capjobs.specs.Jobs.{Work, no_work, IsFaultAt, StopsAt}
 use Rattle.capjobs.specs.Served.{IsUnserved, IsWritten}
 
 -- no line has a fault of a kind that no line can have

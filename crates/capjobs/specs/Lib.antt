@@ -1,8 +1,9 @@
+pub mod Faults
+pub mod Jobs
 pub mod Served
 pub use Rattle.capserver.specs.Capcore
 pub use Rattle.capscript.specs.Capexplain
 pub use Rattle.capscript.specs.Caplines
-pub use Rattle.capplan.specs as Capplan
 pub use Rattle.capscript.specs as Capscript
 pub use Rattle.capserver.specs as Capserver
 pub use Rattle.capscript.specs.Capstreams

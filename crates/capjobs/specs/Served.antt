@@ -8,9 +8,9 @@ use Rattle.capserver.specs.Capsteps.State.{State}
 use Rattle.capscript.specs.Capexplain.Audit.{audit_text}
 use Rattle.capscript.specs.Transcript.{fs_name, root_attr}
 use Rattle.capscript.specs.Caplines.declared.fault.ScriptFault.TheVariants as stops
-use Rattle.capplan.specs.declared.fault.ServeFault.{ServeFault}
-use Rattle.capplan.specs.declared.fault.ServeFault.TheVariants.{Script, Clients, HistoryFull}
-use Rattle.capplan.specs.Jobs.{Work, no_work, event_count, TakesAll, StopsAt}
+use Rattle.capjobs.specs.declared.fault.ServeFault.{ServeFault}
+use Rattle.capjobs.specs.declared.fault.ServeFault.TheVariants.{Script, Clients, HistoryFull}
+use Rattle.capjobs.specs.Jobs.{Work, no_work, event_count, TakesAll, StopsAt}
 
 -- the line of a row, with its line feed
 abbrev pub row_line : Row → List ℕ

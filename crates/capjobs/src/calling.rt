@@ -2,9 +2,9 @@
 ghost use Rattle.std.specs.Prelude.{◌≡◌, ◌≤◌, ◌+◌, length, vec_len, IfOk, IsTrue};
 ghost use Rattle.std.specs.List.{sum_by};
 ghost use Rattle.capserver.specs.Cappass.Passes.{AllNew};
-ghost use Rattle.capplan.specs.Jobs.{work_of, event_count};
+ghost use Rattle.capjobs.specs.Jobs.{work_of, event_count};
 
-use capplan::{Job, Plan};
+use crate::plan::{Job, Plan};
 use capserver::{CapServer, Event, Gate, Pass, Server};
 use std::alloc::{AllocError, Global};
 use std::sync::Wait;

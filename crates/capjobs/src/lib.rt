@@ -3,11 +3,14 @@
 
 mod audit;
 mod calling;
+mod fault;
+mod plan;
 mod serving;
 
-pub use capplan::{Job, MAX_CLIENTS, Plan, ServeFault, read_plan};
 pub use capscript::{MAX_SCRIPT, ScriptFault, Watched, file_system, read_line, run};
 pub use capserver::{
     Answer, CapServer, Gate, Opening, Pass, Question, Reply, Row, Server, StartFault, Stop, Unknown,
 };
+pub use fault::ServeFault;
+pub use plan::{Job, MAX_CLIENTS, Plan, read_plan};
 pub use serving::{serve, serve_plan};

@@ -4,10 +4,9 @@ ghost use Rattle.caplines.specs.declared.fault.LineFault.TheVariants as faults;
 ghost use Rattle.caplines.specs.Values.{number_below, number_in, client_in, ino_in, mode_in, open_mode_in, part_in, groups_in, Spells, SpellsNone};
 
 use crate::fault::LineFault;
-use capbits::{
-    CapSet, ClientId, Groups, Ino, Mode, Part, read_caps, read_mode, read_u32, read_u64,
-};
+use capbits::{CapSet, ClientId, Groups, Ino, Mode, Part, read_mode, read_u32, read_u64};
 use capexplain::OpenMode;
+use captext::read_caps;
 
 // The decimal number of 32 bits.
 pub(crate) fn read_number(word: &[u8]) -> Result<u32, LineFault>

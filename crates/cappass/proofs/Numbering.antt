@@ -2,7 +2,7 @@
 use Rattle.std.proofs.Common.{◌≡◌, ℕ, zero, suc, ◌+◌, ◌<◌, ◌≤◌, List, [], ◌∷◌, ◌++◌, length, take, get_or, ap, subst, ◌∙◌, arith}
 use mathlib.Core.List.{IsPrefix}
 use Rattle.witness.specs.Capevents.declared.row.Row.{Row}
-use Rattle.witness.proofs.Rowbook.Beginnings.{prefix_trans}
+use Rattle.witness.proofs.Published.Beginnings.{prefix_trans}
 use Rattle.cappass.specs.Passes.{PassState, pass_state, AllNew, AllBegin}
 
 -- one more new pass

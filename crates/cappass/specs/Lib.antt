@@ -1,4 +1,3 @@
 pub mod Passes
 pub use Rattle.witness.specs.Published
-pub use Rattle.witness.specs.Rowbook
 pub use Rattle.witness.specs as Witness

@@ -6,7 +6,7 @@ use Rattle.capbits.specs.declared.ids.PassId.{PassId}
 use Rattle.witness.specs.Capevents.declared.row.Row.{Row}
 use Rattle.cappass.specs.declared.passes.StartFault.{StartFault}
 use Rattle.cappass.specs.declared.passes.StartFault.TheVariants.{BadCount, NoMemory, NoReader}
-use Rattle.witness.specs.Rowbook.Rows.{rows_code}
+use Rattle.witness.specs.Published.Rows.{rows_code}
 
 -- a pass's number, how many of its calls were answered, and the rows of the history that it knows
 pub record PassState : Type 0 where

@@ -3,7 +3,7 @@ ghost use Rattle.std.specs.Prelude.{◌≡◌, ◌≢◌, ◌<◌, ◌+◌, Err,
 ghost use mathlib.Core.List.{IsPrefix};
 ghost use Rattle.witness.specs.Capview.declared.answer.Unknown.TheVariants as unknown;
 ghost use Rattle.witness.specs.Answers.{IsAnswered};
-ghost use Rattle.witness.specs.Rowbook.Rows.{Legal};
+ghost use Rattle.witness.specs.Published.Rows.{Legal};
 ghost use Rattle.cappass.specs.Passes.{pass_state};
 
 use capbits::PassId;

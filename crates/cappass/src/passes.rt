@@ -12,7 +12,7 @@ use thiserror::Error;
 use witness::{Publisher, Recorder, Server, Witness};
 
 /// Why there is no server.
-#[derive(Clone, Copy, Debug, PartialEq, Eq, Error)]
+#[derive(Clone, Copy, Debug, Error)]
 pub enum StartFault {
     /// A server has at least one pass, and at most 32.
     #[error("bad count")]

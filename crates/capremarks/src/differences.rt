@@ -10,7 +10,7 @@ use capspec::{FsName, Grant, Grants};
 use std::slice::from_ref;
 
 /// A way in which the MDS of Ceph 16 is known to decide otherwise, one of those that a question and grants tell.
-#[derive(Clone, Copy, Debug, PartialEq, Eq)]
+#[derive(Clone, Copy)]
 pub enum Difference {
     /// A grant for another file system counts there, once the client has mounted.
     OtherFileSystem,
@@ -23,7 +23,7 @@ pub enum Difference {
 }
 
 /// What the MDS of Ceph 16 answers, where it answers otherwise, and why: by one difference, or by both.
-#[derive(Clone, Copy, Debug, PartialEq, Eq)]
+#[derive(Clone, Copy)]
 pub struct Otherwise {
     /// Whether it allows, by the grant, what is denied here; or else it denies what the grant allows here.
     pub allows: bool,

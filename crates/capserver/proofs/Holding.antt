@@ -15,8 +15,8 @@ use Rattle.capcore.specs.Capsteps.History.{IsLegal, IsTold, Told, IsNext, Replay
 use Rattle.capcore.specs.Capsteps.State.{State}
 use Rattle.capcore.specs.Capsteps.Noted.{view_of}
 use Rattle.onecall.specs.Cappass.Published.Publishing.{Publishing, IsReady}
-use Rattle.onecall.specs.Cappass.Rowbook.Rows.{Legal}
-use Rattle.onecall.proofs.Cappass.Rowbook.Beginnings.{prefix_more, prefix_trans, prefix_length}
+use Rattle.onecall.specs.Cappass.Published.Rows.{Legal}
+use Rattle.onecall.proofs.Cappass.Published.Beginnings.{prefix_more, prefix_trans, prefix_length}
 use Rattle.capserver.specs.Fresh.{IsFresh}
 use Rattle.capserver.specs.Held.{IsHeld, IsLed}
 use Rattle.onecall.specs.Cappass.Passes.{PassState, pass_id}

@@ -5,7 +5,7 @@ ghost use Rattle.capcore.specs.Capsteps.History.{IsLegal};
 ghost use Rattle.capcore.specs.Promised.{IsPromised};
 ghost use Rattle.capcore.specs.Capacts.declared.stop.Stop.TheVariants as stop_kind;
 ghost use Rattle.capcore.specs.Capsteps.Noted.{view_of};
-ghost use Rattle.onecall.specs.Cappass.Rowbook.Rows.{Legal};
+ghost use Rattle.onecall.specs.Cappass.Published.Rows.{Legal};
 ghost use Rattle.capserver.specs.Fresh.{IsFresh};
 ghost use Rattle.capserver.specs.Held.{IsLed};
 ghost use Rattle.onecall.specs.Cappass.Passes.{pass_id};

@@ -5,7 +5,7 @@ ghost use mathlib.Core.List.{IsPrefix};
 ghost use Rattle.capcore.specs.Capsteps.History.{IsLegal};
 ghost use Rattle.capcore.specs.Capview.declared.answer.Unknown.TheVariants as unknown;
 ghost use Rattle.onecall.specs.Cappass.Witness.Answers.{IsAnswered};
-ghost use Rattle.onecall.specs.Cappass.Rowbook.Rows.{Legal};
+ghost use Rattle.onecall.specs.Cappass.Published.Rows.{Legal};
 ghost use Rattle.capserver.specs.Called.{IsStep};
 ghost use Rattle.capserver.specs.Fresh.{IsFresh};
 ghost use Rattle.capserver.specs.Opened.{opened};

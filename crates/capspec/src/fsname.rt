@@ -8,7 +8,7 @@ use std::marker::Model;
 pub const MAX_FS_NAME: usize = 64;
 
 /// The name of a file system: 1 to 64 of A-Z, a-z, 0-9, `_`, `.` and `-`.
-#[derive(Clone, Debug, PartialEq, Eq)]
+#[derive(Clone, Debug)]
 pub struct FsName {
     bytes: ArrayVec<u8, MAX_FS_NAME>,
 }

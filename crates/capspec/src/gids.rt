@@ -7,7 +7,7 @@ use std::marker::Model;
 pub const MAX_GIDS: usize = 16;
 
 /// The group numbers that a grant lists, as they stand in its text: at most 16, and none where it lists none.
-#[derive(Clone, Debug, PartialEq, Eq)]
+#[derive(Clone, Debug)]
 pub struct Gids {
     gids: ArrayVec<u32, MAX_GIDS>,
 }

@@ -17,7 +17,7 @@ pub struct Holder {
 /// What the server knows of one client's capabilities on one inode. The three numbers count the changes of
 /// what the client is to know that it holds: a message that tells it has the number of the latest change, and the client
 /// names a number when it acknowledges.
-#[derive(Clone, Copy, PartialEq, Eq, Debug)]
+#[derive(Clone, Copy, Debug)]
 pub struct Entry {
     /// The capabilities that were issued to the client and not told back.
     pub held: CapSet,
@@ -36,7 +36,7 @@ pub struct Entry {
 }
 
 /// An entry with its holder.
-#[derive(Clone, Copy, PartialEq, Eq, Debug)]
+#[derive(Clone, Copy)]
 pub struct EntryRow {
     /// Whose entry it is.
     pub holder: Holder,
@@ -45,7 +45,7 @@ pub struct EntryRow {
 }
 
 /// What is kept with the node of a holder: its entry, and how many entries were made before it.
-#[derive(Clone, Copy, PartialEq, Eq, Debug)]
+#[derive(Clone, Copy, Debug)]
 pub struct Slot {
     /// The entry.
     pub entry: Entry,

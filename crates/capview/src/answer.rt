@@ -15,7 +15,7 @@ use inotree::Place;
 use sessiontab::Session;
 
 /// May a client make this access to an inode?
-#[derive(Clone, Copy, Debug, PartialEq, Eq)]
+#[derive(Clone, Copy)]
 pub struct Question {
     /// The client.
     pub client: ClientId,
@@ -26,7 +26,7 @@ pub struct Question {
 }
 
 /// Why a question has no verdict.
-#[derive(Clone, Copy, Debug, PartialEq, Eq)]
+#[derive(Clone, Copy, Debug)]
 pub enum Unknown {
     /// The client is not connected.
     NoSession,

@@ -16,7 +16,7 @@ use std::marker::Model;
 use std::ops::Bound;
 
 // A name in a directory, which is there or not.
-#[derive(Debug, PartialEq, Eq, PartialOrd, Ord)]
+#[derive(PartialEq, Eq, PartialOrd, Ord)]
 pub(crate) struct Slot {
     // The number of the directory. It comes first, so that a directory's names stand together.
     pub(crate) dir: u64,
@@ -43,7 +43,6 @@ impl Slot {
 }
 
 // Which inode stands at each name.
-#[derive(Debug)]
 pub(crate) struct Index {
     inodes: BTreeMap<Slot, u64>,
 }

@@ -10,7 +10,7 @@ use capgrant::Attr;
 use std::alloc::{AllocError, Global};
 
 /// What an inode is.
-#[derive(Clone, Copy, Debug, PartialEq, Eq)]
+#[derive(Clone, Copy, Debug)]
 pub enum Kind {
     /// It may have children and snapshots.
     Directory,
@@ -128,7 +128,7 @@ impl Node {
 }
 
 /// A new value of one field of an inode.
-#[derive(Clone, Copy, Debug, PartialEq, Eq)]
+#[derive(Clone, Copy, Debug)]
 pub enum Setting {
     /// The permission bits.
     Mode(Mode),

@@ -55,13 +55,12 @@ impl Model for Tree {
     ghost invariant = { λ t. IsTree (record { nodes = t.inodes; last = t.last }) × AreKept t.inodes t.names t.heights };
 }
 
-// All but the heights: they are no part of the tree, but tell how much of it was looked at, and a change that finds no memory may
-// leave higher ones.
+// The inodes tell all. The names are found by them once more, and the heights tell how much of the tree was looked at: a change that
+// finds no memory may leave higher ones.
 impl fmt::Debug for Tree {
     fn fmt<W: fmt::Write>(&self, f: &mut fmt::Formatter<W>) -> fmt::Result {
         f.debug_struct("Tree")
             .field("inodes", &self.inodes)
-            .field("names", &self.names)
             .field("last", &self.last)
             .field("alloc", &self.alloc)
             .finish()

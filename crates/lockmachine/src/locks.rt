@@ -31,13 +31,13 @@ use locktable::{Head, LockState, State, serves, target};
 use onelock::{is_off_target, may_end};
 use sessiontab::Sessions;
 use std::alloc::{AllocError, Global};
+use std::fmt;
 use std::marker::Model;
 
 // The parts, in their order.
 const PARTS: [Part; 4] = [Part::A, Part::L, Part::X, Part::F];
 
 /// The locks of all inodes, and the requests that wait for them.
-#[derive(Debug)]
 pub struct Locks {
     states: States,
     // The oldest first. It has room for as many as may wait, so that who is to wait needs no memory.
@@ -46,6 +46,17 @@ pub struct Locks {
     waiters: Waiters,
     // The last number that a request was given.
     last: u64,
+}
+
+// All but who waits by lock, which the queue tells.
+impl fmt::Debug for Locks {
+    fn fmt<W: fmt::Write>(&self, f: &mut fmt::Formatter<W>) -> fmt::Result {
+        f.debug_struct("Locks")
+            .field("states", &self.states)
+            .field("queue", &self.queue)
+            .field("last", &self.last)
+            .finish()
+    }
 }
 
 impl Model for Locks {

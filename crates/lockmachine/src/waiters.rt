@@ -15,7 +15,7 @@ use std::marker::Model;
 pub const MAX_WAITING: usize = 1024;
 
 /// A request that waits: for which lock, and what is to be known of it while it does.
-#[derive(Clone, Copy, Debug)]
+#[derive(Clone, Copy)]
 pub(crate) struct Waiter {
     // The inode, and the part, whose lock it waits for.
     pub(crate) ino: Ino,
@@ -68,7 +68,6 @@ fn place_in_order(part: Part) -> u8
 }
 
 /// All who wait, by the inode and then by the part, and at each lock the oldest first. It has room for as many as may wait.
-#[derive(Debug)]
 pub(crate) struct Waiters {
     list: Vec<Waiter>,
 }

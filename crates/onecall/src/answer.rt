@@ -1,7 +1,7 @@
 //! What a call answers.
 ghost use Rattle.std.specs.Prelude.{◌≡◌, ◌<◌, length, IsTrue, MatchOption};
 ghost use mathlib.Core.List.{IsPrefix};
-ghost use Rattle.cappass.specs.Rowbook.Rows.{Legal};
+ghost use Rattle.cappass.specs.Published.Rows.{Legal};
 
 use capcore::Reply;
 use cappass::{Beginning, Pass, Server};

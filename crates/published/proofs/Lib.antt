@@ -1,5 +1,9 @@
+pub mod Adding
+pub mod Beginnings
+pub mod Gathering
 pub mod Publishing
 pub mod Seeing
-pub use Rattle.rowbook.proofs.Capevents
-pub use Rattle.rowbook.proofs.Capview
-pub use Rattle.rowbook.proofs as Rowbook
+pub mod Words
+pub use Rattle.capsteps.proofs.Capevents
+pub use Rattle.capsteps.proofs as Capsteps
+pub use Rattle.capsteps.proofs.Capview

@@ -3,21 +3,21 @@ use Rattle.std.proofs.Common.{◌≡◌, ℕ, Bool, true, false, not, IsTrue, Re
 use mathlib.Core.List.{IsPrefix}
 use Rattle.logbook.specs.Pages.{Book}
 use Rattle.crossbeam_utils.specs.Register.{TurnsAt}
-use Rattle.rowbook.specs.Capevents.declared.row.Row.{Row}
-use Rattle.rowbook.specs.Capsteps.History.{IsLegal}
-use Rattle.rowbook.specs.Capsteps.State.{State}
-use Rattle.rowbook.specs.Capview.declared.view.View.{View}
-use Rattle.rowbook.specs.Capview.Sight.{Shows}
+use Rattle.capsteps.specs.Capevents.declared.row.Row.{Row}
+use Rattle.capsteps.specs.History.{IsLegal}
+use Rattle.capsteps.specs.State.{State}
+use Rattle.capsteps.specs.Capview.declared.view.View.{View}
+use Rattle.capsteps.specs.Capview.Sight.{Shows}
 use Rattle.published.specs.declared.place.Place.{Place}
 use Rattle.published.specs.declared.value.Published.{Published}
 use Rattle.published.specs.declared.value.Stage.{Stage}
-use Rattle.rowbook.specs.Capsteps.Noted.{view_of}
+use Rattle.capsteps.specs.Noted.{view_of}
 use Rattle.published.specs.Places.{IsPublished, Keeps, Saw}
 use Rattle.published.specs.Publishing.{IsReady, IsStaging, publishing}
 use Rattle.published.specs.Value.{staged_all}
-use Rattle.rowbook.proofs.Capview.Likeness.{shows-refl}
-use Rattle.rowbook.proofs.Beginnings.{prefix_self, prefix_trans}
-use Rattle.rowbook.proofs.Gathering.{legal_none}
+use Rattle.capsteps.proofs.Capview.Likeness.{shows-refl}
+use Rattle.published.proofs.Beginnings.{prefix_self, prefix_trans}
+use Rattle.published.proofs.Gathering.{legal_none}
 use Rattle.published.proofs.Seeing.{turns}
 
 pub publishes : (opening : State) (book : Book) (seat : ℕ) (place : Place) (value next : Published) (stages : List Stage) (rows : List Row) (lost : Bool)

@@ -6,11 +6,11 @@ use lib.ListN.{get_elem?}
 use Rattle.logbook.specs.Pages.{Book}
 use Rattle.crossbeam_utils.specs.Register.{Turns, TurnsAt, Admits}
 use Rattle.atomic_table.proofs.Lists.{at_set, at_snoc}
-use Rattle.rowbook.specs.Capsteps.State.{State}
+use Rattle.capsteps.specs.State.{State}
 use Rattle.published.specs.declared.value.Published.{Published}
 use Rattle.published.specs.declared.place.Place.{Place}
 use Rattle.published.specs.Places.{IsPublished, Keeps, Saw}
-use Rattle.rowbook.proofs.Beginnings.{prefix_self, prefix_trans}
+use Rattle.published.proofs.Beginnings.{prefix_self, prefix_trans}
 
 -- one place comes to know what is published next, if that is published rightly, and goes on from what is published now
 pub turns : (opening : State) (book : Book) (seat : ℕ) (place : Place) (value next : Published) → IsPublished opening book next → IsPrefix value.rows.seen.log next.rows.seen.log

@@ -1,6 +1,7 @@
+pub mod Rows
 pub mod Value
 pub mod Places
 pub mod Publishing
-pub use Rattle.rowbook.specs.Capevents
-pub use Rattle.rowbook.specs.Capview
-pub use Rattle.rowbook.specs as Rowbook
+pub use Rattle.capsteps.specs.Capevents
+pub use Rattle.capsteps.specs as Capsteps
+pub use Rattle.capsteps.specs.Capview

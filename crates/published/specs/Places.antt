@@ -4,12 +4,12 @@ use mathlib.Core.Option.{some}
 use mathlib.Core.List.{IsPrefix}
 use lib.ListN.{get_elem?}
 use Rattle.logbook.specs.Pages.{Book}
-use Rattle.rowbook.specs.Capsteps.Noted.{view_of}
-use Rattle.rowbook.specs.Capsteps.State.{State}
-use Rattle.rowbook.specs.Capview.Sight.{Shows}
+use Rattle.capsteps.specs.Noted.{view_of}
+use Rattle.capsteps.specs.State.{State}
+use Rattle.capsteps.specs.Capview.Sight.{Shows}
 use Rattle.published.specs.declared.value.Published.{Published}
 use Rattle.published.specs.declared.place.Place.{Place}
-use Rattle.rowbook.specs.Rows.{Legal}
+use Rattle.published.specs.Rows.{Legal}
 
 -- the rows are those of the book, legal from the opening state, and the view shows the state to which they lead
 pub record IsPublished (opening : State) (book : Book) (value : Published) : Type 0 where

@@ -3,15 +3,15 @@ use Rattle.std.specs.Prelude.{◌≡◌, Bool, false, List, refl}
 use Rattle.std.specs.Coded.{Coded, code_by, coded×, coded_bool}
 use mathlib.Core.List.{IsPrefix}
 use Rattle.logbook.specs.Pages.{Book}
-use Rattle.rowbook.specs.Capevents.declared.row.Row.{Row}
-use Rattle.rowbook.specs.Capsteps.State.{State}
-use Rattle.rowbook.specs.Capview.declared.view.View.{View}
-use Rattle.rowbook.specs.Capview.Codes.{view_code}
-use Rattle.rowbook.specs.Capview.Sight.{Shows}
+use Rattle.capsteps.specs.Capevents.declared.row.Row.{Row}
+use Rattle.capsteps.specs.State.{State}
+use Rattle.capsteps.specs.Capview.declared.view.View.{View}
+use Rattle.capsteps.specs.Capview.Codes.{view_code}
+use Rattle.capsteps.specs.Capview.Sight.{Shows}
 use Rattle.published.specs.declared.value.Published.{Published}
 use Rattle.published.specs.declared.value.Stage.{Stage}
-use Rattle.rowbook.specs.Capsteps.Noted.{view_of}
-use Rattle.rowbook.specs.Rows.{Legal, rows_code}
+use Rattle.capsteps.specs.Noted.{view_of}
+use Rattle.published.specs.Rows.{Legal, rows_code}
 use Rattle.published.specs.Value.{staged_all}
 
 -- the rows in the book, whether a stage was lost, and the view once the stages are there

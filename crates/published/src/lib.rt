@@ -1,15 +1,19 @@
 //! What a server has published beside its lock: a beginning of its history, and the view to which that leads. Readers take it
-//! from one of two copies, and know afterwards that the history begins so.
+//! from one of two copies, and know afterwards that the history begins so. Its rows stand in a book to which only one adds.
 #![tactic(auto)]
 
+mod beginning;
+mod ledger;
 mod place;
 mod publisher;
+mod recorder;
 mod staging;
 mod value;
 
+pub use beginning::{Beginning, Counted, Head, Rows};
+pub use capsteps::{Question, Unknown};
+pub use ledger::{MAX_PASSES, Server};
 pub use place::{Place, PlacesRule, PublishedReader, PublishedReading, PublishedWriter, Sees};
 pub use publisher::Publisher;
-pub use rowbook::{
-    Beginning, Counted, Head, MAX_PASSES, NewRows, Question, Recorder, Rows, Server, Unknown,
-};
+pub use recorder::{NewRows, Recorder};
 pub use value::{Published, Stage};

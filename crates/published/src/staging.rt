@@ -1,14 +1,16 @@
 //! The stages that bring what is published up to date.
 ghost use Rattle.std.specs.Prelude.{◌≡◌, ◌≤◌, length, drop, fold, Ok, IsTrue, IfSome};
 ghost use mathlib.Core.List.{IsPrefix};
-ghost use Rattle.rowbook.specs.Capview.Changes.{view_by};
-ghost use Rattle.rowbook.specs.Rows.{Legal};
+ghost use Rattle.capsteps.specs.Capview.Changes.{view_by};
+ghost use Rattle.published.specs.Rows.{Legal};
 ghost use Rattle.published.specs.Value.{staged, staged_all};
 
+use crate::ledger::Server;
 use crate::place::PublishedWriter;
+use crate::recorder::{Recorder, gather};
 use crate::value::Stage;
+use capsteps::{Row, View, ViewChange};
 use inotree::Tree;
-use rowbook::{Recorder, Row, Server, View, ViewChange, gather};
 use sessiontab::Sessions;
 use std::alloc::{AllocError, Global};
 

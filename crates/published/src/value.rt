@@ -1,8 +1,9 @@
 //! What is published, and what brings it up to date.
 ghost use Rattle.std.specs.Prelude.{◌≡◌, IfOk};
 
+use crate::beginning::Counted;
+use capsteps::{View, ViewChange};
 use left_right::Absorb;
-use rowbook::{Counted, View, ViewChange};
 use std::alloc::AllocError;
 
 /// What readers see: a beginning of the history, and the view to which it leads.

@@ -16,7 +16,7 @@ pub enum Status {
 }
 
 /// A client has no session that could be changed.
-#[derive(Clone, Copy, Debug, PartialEq, Eq)]
+#[derive(Clone, Copy, Debug)]
 pub struct NoSession;
 
 /// What the server keeps of a client while it is connected.

@@ -3,6 +3,9 @@
 use crate::fault::BookFault;
 use crate::run::Program;
 
+// The marks that a line begins with, but that of a remark.
+const MARKS: &[u8] = b"*+$%@>!=";
+
 /// What a line is, by its first byte, with the text behind that.
 #[derive(Clone, Copy)]
 pub enum Line<'a> {
@@ -37,15 +40,23 @@ impl<'a> Line<'a> {
         }
         match *first {
             b'#' => Ok(Line::Remark),
-            b'*' => Ok(Line::Talk(name(behind)?)),
-            b'+' => Ok(Line::Begins(name(behind)?)),
-            b'$' => Ok(Line::Command(Program::Capd, marked(behind)?)),
-            b'%' => Ok(Line::Command(Program::Capbench, marked(behind)?)),
-            b'@' => Ok(Line::Limit(marked(behind)?)),
-            b'>' => Ok(Line::Asked(marked(behind)?)),
-            b'!' => Ok(Line::Complaint(marked(behind)?)),
-            b'=' => Ok(Line::Status(marked(behind)?)),
+            mark if MARKS.contains(&mark) => Line::by_mark(mark, marked(behind)?),
             _ => Ok(Line::Written(text)),
+        }
+    }
+
+    // What one of the marks says of the text behind it. A talk has a name.
+    fn by_mark(mark: u8, text: &'a [u8]) -> Result<Line<'a>, BookFault> {
+        match mark {
+            b'*' | b'+' if text.is_empty() => Err(BookFault::NotUnderstood),
+            b'*' => Ok(Line::Talk(text)),
+            b'+' => Ok(Line::Begins(text)),
+            b'$' => Ok(Line::Command(Program::Capd, text)),
+            b'%' => Ok(Line::Command(Program::Capbench, text)),
+            b'@' => Ok(Line::Limit(text)),
+            b'>' => Ok(Line::Asked(text)),
+            b'!' => Ok(Line::Complaint(text)),
+            _ => Ok(Line::Status(text)),
         }
     }
 }
@@ -64,12 +75,4 @@ fn marked(behind: &[u8]) -> Result<&[u8], BookFault> {
         Some(_) => Err(BookFault::NotUnderstood),
         None => Ok(behind),
     }
-}
-
-fn name(behind: &[u8]) -> Result<&[u8], BookFault> {
-    let name = marked(behind)?;
-    if name.is_empty() {
-        return Err(BookFault::NotUnderstood);
-    }
-    Ok(name)
 }

@@ -3,8 +3,9 @@
 use crate::asserting::{made, same};
 use crate::texts::{Owner, attr_of, cephfs, grants_of};
 use capaudit::{Conflict, Finding, Holding, Inode, beyond, conflicts};
-use capbits::{CapSet, read_caps};
+use capbits::CapSet;
 use capgrant::{Access, Attr, Rule};
+use captext::read_caps;
 use std::process::Abort;
 
 // The names of an inode.

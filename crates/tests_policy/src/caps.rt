@@ -2,7 +2,8 @@
 
 use crate::asserting::{present, same};
 use crate::texts::shown;
-use capbits::{Cap, CapSet, CapText, Part, read_caps, write_caps};
+use capbits::{Cap, CapSet, Part, write_caps};
+use captext::{CapText, read_caps};
 use std::process::Abort;
 
 const BITS: &[(Cap, u32)] = &[

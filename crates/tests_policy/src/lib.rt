@@ -13,8 +13,6 @@ mod asserting;
 #[cfg(test)]
 mod auditing;
 #[cfg(test)]
-mod auth_lists;
-#[cfg(test)]
 mod caps;
 #[cfg(test)]
 mod entries;

@@ -14,18 +14,21 @@ type Look = (u32, Option<Status>, bool, Option<u32>, Option<Flags4>);
 
 fn see(rt: &impl Abort, sessions: &Sessions, (number, status, blocked, uid, flags): Look) {
     let client = ClientId(number);
-    let found = (sessions.status(client), sessions.is_blocked(client));
-    same(rt, found, (status, blocked), number);
-    let found = match sessions.caller_of(client) {
+    let caller = match sessions.caller_of(client) {
         Some(caller) => Some(caller.uid),
         None => None,
     };
-    same(rt, found, uid, number);
-    let found = match sessions.grants_of(client) {
+    let first = match sessions.grants_of(client) {
         Some(grants) => Some(present(rt, grants.get(0), "a grant").flags),
         None => None,
     };
-    same(rt, found, flags, number);
+    let stands = (sessions.status(client), sessions.is_blocked(client));
+    same(
+        rt,
+        (stands, caller, first),
+        ((status, blocked), uid, flags),
+        number,
+    );
 }
 
 // Sees that a copy has the same clients, each with the same in each field of its session.

@@ -1,9 +1,10 @@
 //! The texts that values print, and the values that texts and numbers say.
 
 use crate::asserting::{made, present};
-use capbits::{Caller, CapSet, Groups, Mode, read_caps};
+use capbits::{Caller, CapSet, Groups, Mode};
 use capgrant::Attr;
 use capspec::{FsName, Grants, read_grants};
+use captext::read_caps;
 use std::alloc::Global;
 use std::fmt::{Debug, Display};
 use std::process::Abort;

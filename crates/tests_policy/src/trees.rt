@@ -49,13 +49,17 @@ fn inodes_text(rt: &impl Abort, alloc: Global, tree: &Tree) -> String {
 // Sees where the inodes are before the change.
 fn see(rt: &impl Abort, tree: &Tree) {
     let names: &[&[u8]] = &[b"d", b"f"];
-    same(rt, tree.resolve(names), Some(Ino(3)), "resolve");
-    same(rt, tree.parent(Ino(3)), Some(Ino(2)), "parent");
-    same(rt, tree.child(Ino(2), b"f"), Some(Ino(3)), "child");
-    same(rt, tree.place(Ino(4)), Place::Gone, "a stray");
+    let file = [tree.resolve(names), tree.child(Ino(2), b"f")];
+    let beside = (tree.parent(Ino(3)), tree.place(Ino(4)), tree.last());
+    let wanted = ([Some(Ino(3)); 2], (Some(Ino(2)), Place::Gone, Ino(4)));
+    same(
+        rt,
+        (file, beside),
+        wanted,
+        "the file, its directory, a stray",
+    );
     let path = present(rt, tree.path_of(Ino(3)), "a path");
     same(rt, path.as_slice(), names, "its names");
-    same(rt, tree.last(), Ino(4), "last");
 }
 
 // Changes the tree behind a copy, which stays as it was.

@@ -1,9 +1,9 @@
 //! A gate at which each call gives way to the others: the calls of two clients alternate, and stand one behind the other.
 
-use crate::asserting::{holds, made, present, same};
+use crate::asserting::{holds, present, same};
 use crate::rows::{Numbers, count_numbered, numbers};
 use capjobs::{Gate, MAX_SCRIPT, read_plan, serve_plan};
-use std::alloc::{AllocError, Global};
+use std::alloc::Global;
 use std::process::Abort;
 use std::sync::atomic::{AtomicU64, Ordering};
 use std::sync::{Arc, Wait};
@@ -53,11 +53,12 @@ fn look_round(signs: &Signs) {
 }
 
 // Two clients, each with its lines behind the line `threads`: 20 and 19 of them, so that it is seen which pass calls which.
-fn two_clients(alloc: Global) -> Result<String, AllocError> {
-    let one = "poll 1 1\n".repeat(alloc, 20)?;
-    let two = "poll 2 1\n".repeat(alloc, 19)?;
-    format!(in alloc; "threads\n{one}{two}")
-}
+const TWO_CLIENTS: &[u8] = b"threads
+poll 1 1\npoll 1 1\npoll 1 1\npoll 1 1\npoll 1 1\npoll 1 1\npoll 1 1\npoll 1 1\npoll 1 1\npoll 1 1
+poll 1 1\npoll 1 1\npoll 1 1\npoll 1 1\npoll 1 1\npoll 1 1\npoll 1 1\npoll 1 1\npoll 1 1\npoll 1 1
+poll 2 1\npoll 2 1\npoll 2 1\npoll 2 1\npoll 2 1\npoll 2 1\npoll 2 1\npoll 2 1\npoll 2 1\npoll 2 1
+poll 2 1\npoll 2 1\npoll 2 1\npoll 2 1\npoll 2 1\npoll 2 1\npoll 2 1\npoll 2 1\npoll 2 1
+";
 
 // The rows of a script whose calls are slow.
 fn served_slowly<R: AllocGlobal + Threads + Wait + Sync>(
@@ -99,7 +100,6 @@ fn alternate(rt: &impl Abort, rows: &[Numbers]) {
 
 #[test]
 fn two_clients_of_a_script_call_at_once(rt: HostRuntime) {
-    let script = made(&rt, two_clients(rt.alloc()), "a script");
     let signs = Signs {
         taken: AtomicU64::new(0),
         met: AtomicU64::new(0),
@@ -107,7 +107,7 @@ fn two_clients_of_a_script_call_at_once(rt: HostRuntime) {
     let signs = present(&rt, Arc::new(rt.alloc(), signs).ok(), "signs");
     let theirs = present(&rt, Arc::try_clone(&signs).ok(), "signs");
     let slow = Slow { signs: theirs };
-    let rows = present(&rt, served_slowly(&rt, script.as_bytes(), slow), "serving");
+    let rows = present(&rt, served_slowly(&rt, TWO_CLIENTS, slow), "serving");
     let met = signs.met.load(Ordering::SeqCst);
     same(&rt, met, 0, "calls under the lock at once");
     alternate(&rt, rows.as_slice());

@@ -1,3 +1,2 @@
 pub mod Asking
 pub use Rattle.published.proofs as Published
-pub use Rattle.published.proofs.Rowbook

@@ -2,12 +2,12 @@
 use Rattle.std.specs.Prelude.{List, Result}
 use Rattle.capgrant.specs.declared.answer.Verdict.{Verdict}
 use Rattle.published.specs.Capevents.declared.row.Row.{Row}
-use Rattle.published.specs.Rowbook.Capsteps.State.{State}
+use Rattle.published.specs.Capsteps.State.{State}
 use Rattle.published.specs.Capview.declared.answer.Question.{Question}
 use Rattle.published.specs.Capview.declared.answer.Unknown.{Unknown}
 use Rattle.published.specs.Capview.Answers.{IsAnswer}
-use Rattle.published.specs.Rowbook.Capsteps.Noted.{view_of}
-use Rattle.published.specs.Rowbook.Rows.{Legal}
+use Rattle.published.specs.Capsteps.Noted.{view_of}
+use Rattle.published.specs.Rows.{Legal}
 
 -- the rows that are known are legal, and the answer is that of the state to which they lead
 pub record IsAnswered (opening : State) (known : List Row) (asked : Question) (answer : Result Verdict Unknown) : Type 0 where

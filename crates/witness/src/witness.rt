@@ -4,7 +4,7 @@ ghost use mathlib.Core.List.{IsPrefix};
 ghost use Rattle.left_right.specs.Sides.{view as place_view};
 ghost use Rattle.published.specs.Capview.declared.answer.Unknown.TheVariants as unknown;
 ghost use Rattle.published.specs.Places.{IsPublished, Saw};
-ghost use Rattle.published.specs.Rowbook.Rows.{Legal};
+ghost use Rattle.published.specs.Rows.{Legal};
 ghost use Rattle.witness.specs.Answers.{IsAnswered};
 
 use capgrant::Verdict;
@@ -34,7 +34,7 @@ impl<L: Server> Model for Witness<L> {
     ghost use Rattle.std.specs.Prelude.{◌≡◌, List, MatchOption};
     ghost use Rattle.left_right.specs.Sides.{view as place_view};
     ghost use Rattle.published.specs.Capevents.declared.row.Row.{Row};
-    ghost use Rattle.published.specs.Rowbook.Rows.{Legal, rows_code};
+    ghost use Rattle.published.specs.Rows.{Legal, rows_code};
 
     ghost Value = { List Row };
 

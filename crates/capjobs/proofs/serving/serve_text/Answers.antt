@@ -1,8 +1,8 @@
 use Rattle.std.proofs.Common.{ap, ◌∙◌}
 use Rattle.capscript.specs.Caplines.Lines.{lines}
-use Rattle.capplan.specs.Jobs.{work_of}
+use Rattle.capjobs.specs.Jobs.{work_of}
 use Rattle.capjobs.specs.Served.{IsUnserved, audit_lines}
-use Rattle.capplan.proofs.Plans.{handed_on}
+use Rattle.capjobs.proofs.Plans.{handed_on}
 use Rattle.capjobs.proofs.Writing.{stopped_unserved}
 use Rattle.capjobs.proofs.serving.serve_text.Goals as goal
 

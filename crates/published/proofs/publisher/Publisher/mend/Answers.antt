@@ -1,7 +1,7 @@
 use Rattle.std.proofs.Common.{drop, sym, subst, ◌∙◌}
 use mathlib.Core.List.{IsPrefix}
 use Rattle.published.specs.Publishing.{Publishing}
-use Rattle.rowbook.proofs.Beginnings.{prefix_self}
+use Rattle.published.proofs.Beginnings.{prefix_self}
 use Rattle.published.proofs.Publishing.{staging_more}
 use Rattle.published.proofs.publisher.Publisher.mend.Goals.{then-stage_view, else-stage_view}
 use Rattle.published.proofs.publisher.Publisher.mend.Goals as goal

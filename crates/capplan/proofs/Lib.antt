@@ -1,2 +1,0 @@
-pub mod JobLists
-pub mod Plans

@@ -1,7 +1,0 @@
-pub mod Adding
-pub mod Beginnings
-pub mod Gathering
-pub mod Words
-pub use Rattle.capsteps.proofs.Capevents
-pub use Rattle.capsteps.proofs as Capsteps
-pub use Rattle.capsteps.proofs.Capview
