@@ -7,6 +7,8 @@ _capd() {
         mapfile -t COMPREPLY < <(compgen -W 'explain grants compare lint who audit log run serve' -- "$word")
     elif [[ ${COMP_WORDS[1]} == log ]]; then
         mapfile -t COMPREPLY < <(compgen -W '--fs --help' -- "$word")
+    elif [[ ${COMP_WORDS[1]} == compare || ${COMP_WORDS[1]} == lint ]]; then
+        mapfile -t COMPREPLY < <(compgen -W '--json --help' -- "$word")
     elif [[ ${COMP_WORDS[1]} != explain && ${COMP_WORDS[1]} != who && ${COMP_WORDS[1]} != audit ]]; then
         mapfile -t COMPREPLY < <(compgen -W '--help' -- "$word")
     elif [[ $before == --keyring || $before == --auth || $before == --sessions || $before == --tree ]]; then
@@ -16,9 +18,9 @@ _capd() {
     elif [[ ${COMP_WORDS[1]} == audit ]]; then
         mapfile -t COMPREPLY < <(compgen -W '--auth --sessions --tree --fs --help' -- "$word")
     elif [[ ${COMP_WORDS[1]} == who ]]; then
-        mapfile -t COMPREPLY < <(compgen -W '--auth --fs --owner --group --mode --help' -- "$word")
+        mapfile -t COMPREPLY < <(compgen -W '--auth --fs --owner --group --mode --json --help' -- "$word")
     else
-        mapfile -t COMPREPLY < <(compgen -W '--grants --keyring --auth --client --fs --uid --gid --groups --path --owner --group --mode --access --more --quiet --help' -- "$word")
+        mapfile -t COMPREPLY < <(compgen -W '--grants --keyring --auth --client --fs --uid --gid --groups --path --owner --group --mode --access --more --quiet --json --help' -- "$word")
     fi
 }
 complete -F _capd capd

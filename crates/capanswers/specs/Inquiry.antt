@@ -6,7 +6,7 @@ use Rattle.capgrant.specs.Verdict.{is_allowed}
 use Rattle.capquestion.specs.declared.question.Question.{Question}
 use Rattle.capquestion.specs.declared.question.Values.{Values}
 use Rattle.capquestion.specs.Question.{verdict_on, answer_text}
-use Rattle.capquestion.specs.Remarks.{full_text}
+use Rattle.capquestion.specs.Remarks.{full_object, full_text}
 use Rattle.capstreams.specs.Caplines.declared.fault.ScriptFault.TheVariants as stops
 use Rattle.capstreams.specs.Caplines.Lines.{longest_script}
 use Rattle.capkeyring.specs.declared.fault.KeyringFault.{KeyringFault}
@@ -63,9 +63,10 @@ IsUnread (sources.Auth file client) fault input unread = (IsTrue unread → faul
 abbrev pub with_grants : Values → Vec ℕ → Values
 with_grants values grants = record values { grants = grants }
 
--- the question was answered, with this status: by its line, by this with all that is worth a word beside it, or by the status alone,
--- 0 where a grant allows and else 3
+-- the question was answered, with this status: by its line, by this with all that is worth a word beside it, by the object that says all
+-- of it, or by the status alone, 0 where a grant allows and else 3
 abbrev pub IsAnswered : Form → Question → ℕ → Option (List ℕ) → Option (List ℕ) → Type 0
 IsAnswered forms.Line q status old new = (status ≡ 0) × Appends old new (answer_text q ++ codes "\n")
 IsAnswered forms.More q status old new = (status ≡ 0) × Appends old new (full_text q)
+IsAnswered forms.Object q status old new = (status ≡ 0) × Appends old new (full_object q)
 IsAnswered forms.Status q status old new = (status ≡ (if is_allowed (verdict_on q) then 0 else 3)) × Keeps old new

@@ -4,7 +4,7 @@ use crate::checkup::Checkup;
 use crate::inquiry::Inquiry;
 use crate::matched::asked;
 use crate::survey::Survey;
-use capquestion::{Opt, spell};
+use capquestion::{Opt, Shape, spell};
 use clap::{Arg, ArgAction, Command, Error};
 use std::alloc::{AllocError, Global};
 
@@ -50,6 +50,8 @@ pub const CLIENT: &str = "client";
 pub const QUIET: &str = "quiet";
 
 pub const MORE: &str = "more";
+
+pub const JSON: &str = "json";
 
 /// The value of `--grants`, of `--keyring` or of `--auth` that stands for standard input.
 pub const INPUT: &[u8] = b"-";
@@ -129,9 +131,16 @@ pub enum Ask {
         old: Vec<u8>,
         /// The text of the new ones.
         new: Vec<u8>,
+        /// How the answer is written.
+        shape: Shape,
     },
     /// What is found in the grants of a text.
-    Lint(Vec<u8>),
+    Lint {
+        /// The text.
+        text: Vec<u8>,
+        /// How the answer is written.
+        shape: Shape,
+    },
     /// Which clients of a cluster may make an access.
     Who(Survey),
     /// What clients of a cluster hold and may not.
@@ -150,8 +159,12 @@ impl Drop for Ask {
         match self {
             Ask::Explain(_) => {}
             Ask::Grants(_) => {}
-            Ask::Compare { old: _, new: _ } => {}
-            Ask::Lint(_) => {}
+            Ask::Compare {
+                old: _,
+                new: _,
+                shape: _,
+            } => {}
+            Ask::Lint { text: _, shape: _ } => {}
             Ask::Who(_) => {}
             Ask::Audit(_) => {}
             Ask::Log(_) => {}
@@ -232,6 +245,7 @@ fn explain<'a>(alloc: Global) -> Result<Command<'a>, AllocError> {
     let command = with_arg(command, auth_list(alloc));
     let command = with_arg(command, client(alloc));
     let command = with_arg(command, Ok(more(alloc)));
+    let command = with_arg(command, json(alloc).conflicts_with(MORE));
     with_arg(command, quiet(alloc))
 }
 
@@ -304,7 +318,16 @@ fn quiet<'a>(alloc: Global) -> Result<Arg<'a>, AllocError> {
         .long(QUIET)
         .help("Prints nothing, and answers by the status alone: 0 allowed, 3 denied")
         .action(ArgAction::SetTrue)
-        .conflicts_with(MORE)
+        .conflicts_with(MORE)?
+        .conflicts_with(JSON)
+}
+
+// Objects in the place of lines.
+fn json<'a>(alloc: Global) -> Arg<'a> {
+    Arg::new(alloc, JSON)
+        .long(JSON)
+        .help("Prints the whole answer as JSON, an object a line")
+        .action(ArgAction::SetTrue)
 }
 
 fn grants<'a>(alloc: Global) -> Result<Command<'a>, AllocError> {
@@ -322,7 +345,8 @@ fn compare<'a>(alloc: Global) -> Result<Command<'a>, AllocError> {
         )
         .after_help(COMPARE_EXAMPLE)
         .arg(text_argument(alloc, OLD, "OLD", "The old grants, as for `grants`"))?
-        .arg(text_argument(alloc, NEW, "NEW", "The new grants"))
+        .arg(text_argument(alloc, NEW, "NEW", "The new grants"))?
+        .arg(json(alloc))
 }
 
 fn lint<'a>(alloc: Global) -> Result<Command<'a>, AllocError> {
@@ -331,7 +355,8 @@ fn lint<'a>(alloc: Global) -> Result<Command<'a>, AllocError> {
             "Says which grants are covered by the others, allow nothing, let root do what another keeps it from, or are not read by Ceph 16",
         )
         .after_help(LINT_EXAMPLE)
-        .arg(text_argument(alloc, TEXT, "TEXT", "The grants, as for `grants`"))
+        .arg(text_argument(alloc, TEXT, "TEXT", "The grants, as for `grants`"))?
+        .arg(json(alloc))
 }
 
 fn who<'a>(alloc: Global) -> Result<Command<'a>, AllocError> {
@@ -346,7 +371,8 @@ fn who<'a>(alloc: Global) -> Result<Command<'a>, AllocError> {
         .arg(file_system(alloc))?;
     let command = with_arg(Ok(command), attr_argument(alloc, Opt::Owner, Opt::Group));
     let command = with_arg(command, attr_argument(alloc, Opt::Group, Opt::Mode));
-    with_arg(command, attr_argument(alloc, Opt::Mode, Opt::Owner))
+    let command = with_arg(command, attr_argument(alloc, Opt::Mode, Opt::Owner));
+    with_arg(command, Ok(json(alloc)))
 }
 
 fn audit<'a>(alloc: Global) -> Result<Command<'a>, AllocError> {

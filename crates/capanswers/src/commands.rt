@@ -10,13 +10,13 @@ ghost use Rattle.capquestion.specs.Comparing.{IsComparison};
 ghost use Rattle.capquestion.specs.Question.{AsksFor, IsFaultIn};
 ghost use Rattle.capstreams.specs.Watched.{inner_of, has_failed, has_ended};
 ghost use Rattle.capanswers.specs.declared.fault.AnswerFault.TheVariants as faults;
-ghost use Rattle.capanswers.specs.Answers.{AnswersInquiry, AnswersLint, StopsBefore, StopsComparing, StopsInquiry};
+ghost use Rattle.capanswers.specs.Answers.{AnswersInquiry, AnswersLint, nothing_in, StopsBefore, StopsComparing, StopsInquiry};
 ghost use Rattle.capanswers.specs.Inquiry.{IsAnswered};
 
 use crate::fault::AnswerFault;
 use crate::inquiry::{Form, Inquiry, fill};
 use crate::status::{DENIED, DONE, FOUND};
-use capquestion::{Question, Values, compare, lint_text};
+use capquestion::{Question, Shape, Values, compare, lint_text};
 use capspec::{read_grants, write_grants};
 use capstreams::Watched;
 use std::alloc::Global;
@@ -43,7 +43,7 @@ pub fn inquire<R: Read, W: Write>(
     explain(alloc, &inquiry.values, inquiry.form, writer)
 }
 
-// Answers a question by a line, by that with more behind it, or by the status alone.
+// Answers a question by a line, by that with more behind it, by an object, or by the status alone.
 fn explain<W: Write>(
     alloc: Global,
     values: &Values,
@@ -68,6 +68,10 @@ fn explain<W: Write>(
         Form::More => {
             let lines = question.full_answer(alloc)?;
             write_text(lines.as_slice(), DONE, writer)
+        }
+        Form::Object => {
+            let object = question.full_object(alloc)?;
+            write_text(object.as_slice(), DONE, writer)
         }
         Form::Status => {
             let is_allowed = question.is_allowed(alloc)?;
@@ -95,45 +99,57 @@ pub fn grants<W: Write>(
     write_line(line, writer)
 }
 
-/// Writes what the grants of one text allow and those of another deny, and the other way round.
+/// Writes in this shape what the grants of one text allow and those of another deny, and the other way round.
 pub fn compare_texts<W: Write>(
     alloc: Global,
     before: &[u8],
     after: &[u8],
+    shape: Shape,
     writer: &mut Watched<W>,
 ) -> Result<u8, AnswerFault>
     requires { IsFalse (has_failed writer.old) }
     ensures ok { OnOk result (IsFalse (has_failed writer.new)) }
     ensures status { IfOk result (λ status. status ≡ DONE) }
-    ensures compared { OnOk result ((lines : List ℕ) × IsComparison before.now after.now lines
+    ensures compared { OnOk result ((lines : List ℕ) × IsComparison shape before.now after.now lines
         × Appends (W.contents (inner_of writer.old)) (W.contents (inner_of writer.new)) lines) }
     ensures fault { IfErr result (λ fault. StopsComparing before.now after.now fault (has_failed writer.new)
         (W.contents (inner_of writer.old)) (W.contents (inner_of writer.new))) }
 {
-    let lines = compare(alloc, before, after)?;
+    let lines = compare(alloc, before, after, shape)?;
     write_text(lines.as_slice(), DONE, writer)
 }
 
-/// Writes what is found in the grants of a text, and says by the status whether that is anything.
+/// Writes in this shape what is found in the grants of a text, and says by the status whether that is anything.
 pub fn look_over<W: Write>(
     alloc: Global,
     text: &[u8],
+    shape: Shape,
     writer: &mut Watched<W>,
 ) -> Result<u8, AnswerFault>
     requires { IsFalse (has_failed writer.old) }
     ensures status { IfOk result (λ status. (status ≡ DONE) ⊎ (status ≡ FOUND)) }
     ensures ok { OnOk result (IsFalse (has_failed writer.new)) }
-    ensures linted { IfOk result (λ status. AnswersLint text.now status
+    ensures linted { IfOk result (λ status. AnswersLint shape text.now status
         (W.contents (inner_of writer.old)) (W.contents (inner_of writer.new))) }
     ensures fault { IfErr result (λ fault. StopsBefore (IsFaultOfText text.now) fault (has_failed writer.new)
         (W.contents (inner_of writer.old)) (W.contents (inner_of writer.new))) }
 {
-    let lines = lint_text(alloc, text)?;
+    let lines = lint_text(alloc, text, shape)?;
     let lines = lines.as_slice();
     if lines.is_empty() {
-        write_text(b"nothing found\n", DONE, writer)
+        write_text(nothing(shape).as_bytes(), DONE, writer)
     } else {
         write_text(lines, FOUND, writer)
+    }
+}
+
+// What is written where nothing is found: a line that says so, or no object.
+fn nothing(shape: Shape) -> &'static str
+    ensures { result.now ≡ nothing_in shape }
+{
+    match shape {
+        Shape::Lines => "nothing found\n",
+        Shape::Objects => "",
     }
 }
 

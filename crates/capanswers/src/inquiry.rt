@@ -53,6 +53,8 @@ pub enum Form {
     Line,
     /// By that line, and by lines for what is worth a word beside it.
     More,
+    /// By an object of JSON that says all of it, as a line.
+    Object,
     /// By the status alone.
     Status,
 }

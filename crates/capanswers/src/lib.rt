@@ -23,7 +23,7 @@ mod survey;
 
 pub use advice::refuse;
 pub use arguments::words;
-pub use capquestion::spelled;
+pub use capquestion::{Shape, spelled};
 pub use checkup::{Checkup, ClusterFiles, check_cluster};
 pub use command_line::Ask;
 pub use commands::{compare_texts, grants, inquire, look_over};

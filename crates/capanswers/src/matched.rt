@@ -2,12 +2,12 @@
 
 use crate::checkup::{Checkup, ClusterFiles};
 use crate::command_line::{
-    AUDIT, AUTH, Ask, CLIENT, COMPARE, EXPLAIN, GRANTS, INPUT, KEYRING, LINT, LOG, MORE, NEW, OLD,
-    QUIET, RUN, SERVE, SESSIONS, TEXT, TREE, WHO,
+    AUDIT, AUTH, Ask, CLIENT, COMPARE, EXPLAIN, GRANTS, INPUT, JSON, KEYRING, LINT, LOG, MORE, NEW,
+    OLD, QUIET, RUN, SERVE, SESSIONS, TEXT, TREE, WHO,
 };
 use crate::inquiry::{Form, Inquiry, Source};
 use crate::survey::Survey;
-use capquestion::{AttemptValues, AttrValues, Opt, Values, spelled};
+use capquestion::{AttemptValues, AttrValues, Opt, Shape, Values, spelled};
 use clap::ArgMatches;
 use clap::error::ErrorKind;
 use std::alloc::Global;
@@ -28,8 +28,12 @@ pub fn asked(alloc: Global, matches: &ArgMatches<'_>) -> Result<Ask, ErrorKind> 
         COMPARE => Ask::Compare {
             old: matched.value(OLD),
             new: matched.value(NEW),
+            shape: matched.shape(),
         },
-        LINT => Ask::Lint(matched.value(TEXT)),
+        LINT => Ask::Lint {
+            text: matched.value(TEXT),
+            shape: matched.shape(),
+        },
         WHO => Ask::Who(matched.survey()),
         AUDIT => Ask::Audit(matched.checkup()),
         LOG => Ask::Log(matched.option(Opt::Fs)),
@@ -101,8 +105,18 @@ impl Matched<'_, '_> {
             Form::Status
         } else if self.matches.get_flag(MORE) {
             Form::More
+        } else if self.matches.get_flag(JSON) {
+            Form::Object
         } else {
             Form::Line
+        }
+    }
+
+    fn shape(&self) -> Shape {
+        if self.matches.get_flag(JSON) {
+            Shape::Objects
+        } else {
+            Shape::Lines
         }
     }
 
@@ -115,6 +129,7 @@ impl Matched<'_, '_> {
                 attr: self.attr(),
             },
             auth: self.value(AUTH),
+            shape: self.shape(),
         }
     }
 

@@ -29,8 +29,8 @@ use Rattle.capcommand.specs.declared.fault.Fault.TheVariants.{Answer, Script, Se
 abbrev pub Answers : Ask → Option (List ℕ) → ℕ → Option (List ℕ) → Option (List ℕ) → Type 0
 Answers (asks.Explain inquiry) input status old new = AnswersInquiry inquiry input status old new
 Answers (asks.Grants text) input status old new = (status ≡ 0) × ((grants : List Grant) × Reads text.items grants × Appends old new (written grants ++ codes "\n"))
-Answers (asks.Compare before after) input status old new = (status ≡ 0) × ((lines : List ℕ) × IsComparison before.items after.items lines × Appends old new lines)
-Answers (asks.Lint text) input status old new = AnswersLint text.items status old new
+Answers (asks.Compare before after shape) input status old new = (status ≡ 0) × ((lines : List ℕ) × IsComparison shape before.items after.items lines × Appends old new lines)
+Answers (asks.Lint text shape) input status old new = AnswersLint shape text.items status old new
 Answers (asks.Who survey) input status old new = (status ≡ 0) × AnswersSurvey survey input old new
 Answers (asks.Audit checkup) input status old new = AnswersCheckup checkup input status old new
 Answers (asks.Log fs) input status old new = (status ≡ 0) × AnswersLog fs.items input old new
@@ -65,8 +65,8 @@ TellsOfAnswer P (Serve stop) = ⊥
 abbrev pub Stops : Ask → Fault → Option (List ℕ) → Bool → Bool → Bool → Option (List ℕ) → Option (List ℕ) → Type 0
 Stops (asks.Explain inquiry) fault input ended unread unwritten old new = TellsOfAnswer (λ told. StopsInquiry inquiry told input unread unwritten old new) fault
 Stops (asks.Grants text) fault input ended unread unwritten old new = TellsOfAnswer (λ told. StopsBefore (IsFaultOfText text.items) told unwritten old new) fault
-Stops (asks.Compare before after) fault input ended unread unwritten old new = TellsOfAnswer (λ told. StopsComparing before.items after.items told unwritten old new) fault
-Stops (asks.Lint text) fault input ended unread unwritten old new = TellsOfAnswer (λ told. StopsBefore (IsFaultOfText text.items) told unwritten old new) fault
+Stops (asks.Compare before after shape) fault input ended unread unwritten old new = TellsOfAnswer (λ told. StopsComparing before.items after.items told unwritten old new) fault
+Stops (asks.Lint text shape) fault input ended unread unwritten old new = TellsOfAnswer (λ told. StopsBefore (IsFaultOfText text.items) told unwritten old new) fault
 Stops (asks.Who survey) fault input ended unread unwritten old new = TellsOfAnswer (λ told. StopsSurvey survey told input unread unwritten old new) fault
 Stops (asks.Audit checkup) fault input ended unread unwritten old new = TellsOfAnswer (λ told. StopsCheckup checkup told input unread unwritten old new) fault
 Stops (asks.Log fs) fault input ended unread unwritten old new = TellsOfAnswer (λ told. StopsLog fs.items told input unread unwritten old new) fault

@@ -108,8 +108,10 @@ fn answer<T: Threads + Wait + Sync, R: Read, W: Write>(
     let answered = match ask {
         Ask::Explain(inquiry) => inquire(alloc, inquiry, reader, writer),
         Ask::Grants(text) => grants(alloc, text.as_slice(), writer),
-        Ask::Compare { old, new } => compare_texts(alloc, old.as_slice(), new.as_slice(), writer),
-        Ask::Lint(text) => look_over(alloc, text.as_slice(), writer),
+        Ask::Compare { old, new, shape } => {
+            compare_texts(alloc, old.as_slice(), new.as_slice(), *shape, writer)
+        }
+        Ask::Lint { text, shape } => look_over(alloc, text.as_slice(), *shape, writer),
         Ask::Who(survey) => tell_who(alloc, survey, reader, writer),
         Ask::Audit(checkup) => check_cluster(alloc, checkup, reader, writer),
         Ask::Log(fs) => tell_log(alloc, fs.as_slice(), reader, writer),

@@ -6,24 +6,32 @@ use Rattle.capspec.specs.Grants.{Reads}
 use Rattle.capexplain.specs.Capcompare.declared.witness.Witness.{Witness}
 use Rattle.capexplain.specs.Capcompare.Comparing.{Covers, CoversBut, IsWitness, is_root}
 use Rattle.capexplain.specs.Comparing.{comparison}
+use Rattle.capjson.specs.Changes.{change_lines}
 use Rattle.capquestion.specs.declared.comparing.CompareFault.{CompareFault}
 use Rattle.capquestion.specs.declared.comparing.CompareFault.TheVariants.{Old, New, NoMemory}
+use Rattle.capquestion.specs.declared.shape.Shape.{Shape}
+use Rattle.capquestion.specs.declared.shape.Shape.TheVariants.{Lines, Objects}
 
 -- What is told of the new grants: nothing, where the old ones cover them, else a witness, which is of root only where no other shows it.
 abbrev pub IsGain : List Grant → List Grant → Option Witness → Type 0
 IsGain old new found = MatchOption found (Covers old new) (λ w. IsWitness old new w × (IsTrue (is_root w.caller) → CoversBut is_root old new))
 
--- the lines tell what the grants after allow and those before deny, and the other way round
-pub record Compares (before after : List Grant) (lines : List ℕ) : Type 0 where
+-- the changes in this shape
+abbrev pub comparison_in : Shape → Option Witness → Option Witness → List ℕ
+comparison_in Lines gain loss = comparison gain loss
+comparison_in Objects gain loss = change_lines gain loss
+
+-- the lines tell, in this shape, what the grants after allow and those before deny, and the other way round
+pub record Compares (shape : Shape) (before after : List Grant) (lines : List ℕ) : Type 0 where
   pub gain : Option Witness
   pub loss : Option Witness
   pub gained : IsGain before after gain
   pub lost : IsGain after before loss
-  pub lines_are : lines ≡ comparison gain loss
+  pub lines_are : lines ≡ comparison_in shape gain loss
 
 -- The lines compare the grants that the two texts mean.
-abbrev pub IsComparison : List ℕ → List ℕ → List ℕ → Type 0
-IsComparison old new lines = (before after : List Grant) × Reads old before × Reads new after × Compares before after lines
+abbrev pub IsComparison : Shape → List ℕ → List ℕ → List ℕ → Type 0
+IsComparison shape old new lines = (before after : List Grant) × Reads old before × Reads new after × Compares shape before after lines
 
 -- why they are not compared: the first fault of the old text, else that of the new one; want of memory only where both are good
 abbrev pub IsFaultOfTexts : List ℕ → List ℕ → CompareFault → Type 0

@@ -4,6 +4,7 @@ use Rattle.capgrant.specs.Question.{Question as Asked, question}
 use Rattle.capexplain.specs.Capremarks.Left.{left_to_client}
 use Rattle.capexplain.specs.Capremarks.Differences.{answered_otherwise}
 use Rattle.capexplain.specs.Remarks.{remarked_text}
+use Rattle.capjson.specs.Answers.{answer_object}
 use Rattle.capquestion.specs.declared.question.Question.{Question}
 use Rattle.capquestion.specs.Question.{verdict_on}
 
@@ -14,3 +15,7 @@ asked_of q = question q.fs q.caller q.path q.attr q.access
 -- the line that answers the question, and those for what is left to the client and for where the MDS answers otherwise
 abbrev pub full_text : Question → List ℕ
 full_text q = remarked_text (asked_of q) (verdict_on q) (left_to_client (asked_of q) q.grants) (answered_otherwise (asked_of q) q.grants)
+
+-- the object that says all of it
+abbrev pub full_object : Question → List ℕ
+full_object q = answer_object (asked_of q) (verdict_on q) (left_to_client (asked_of q) q.grants) (answered_otherwise (asked_of q) q.grants)

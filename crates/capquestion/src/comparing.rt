@@ -2,8 +2,10 @@
 ghost use Rattle.std.specs.Prelude.{IfOk, IfErr};
 ghost use Rattle.capquestion.specs.Comparing.{Compares, IsComparison, IsFaultOfTexts};
 
+use crate::shape::Shape;
 use crate::texts::read_text;
 use capexplain::{comparison_lines, gained, lost};
+use capjson::change_objects;
 use capspec::{Grants, SpecFault};
 use std::alloc::{AllocError, Global};
 use std::fmt;
@@ -41,25 +43,33 @@ impl From<AllocError> for CompareFault {
     }
 }
 
-/// Lines that tell, by a question each, what the new grants allow and the old ones deny, and the other way round; or that they
+/// Lines of this shape that tell, by a question each, what the new grants allow and the old ones deny, and the other way round; or that they
 /// allow the same. The fault is that of the old text, else that of the new one. `NoMemory` comes only where both are good.
-pub fn compare(alloc: Global, old: &[u8], new: &[u8]) -> Result<Vec<u8>, CompareFault>
-    ensures ok { IfOk result (λ lines. IsComparison old.now new.now lines.items) }
+pub fn compare(alloc: Global, old: &[u8], new: &[u8], shape: Shape) -> Result<Vec<u8>, CompareFault>
+    ensures ok { IfOk result (λ lines. IsComparison shape old.now new.now lines.items) }
     ensures err { IfErr result (IsFaultOfTexts old.now new.now) }
 {
     let before = read_text(alloc, old).map_err(CompareFault::Old)?;
     let after = read_text(alloc, new).map_err(CompareFault::New)?;
     match (before, after) {
-        (Some(before), Some(after)) => Ok(comparison(alloc, &before, &after)?),
+        (Some(before), Some(after)) => Ok(comparison(alloc, &before, &after, shape)?),
         _ => Err(CompareFault::NoMemory),
     }
 }
 
 // The lines for these grants. Only memory can be missing.
-fn comparison(alloc: Global, before: &Grants, after: &Grants) -> Result<Vec<u8>, AllocError>
-    ensures { IfOk result (λ lines. Compares before.now after.now lines.items) }
+fn comparison(
+    alloc: Global,
+    before: &Grants,
+    after: &Grants,
+    shape: Shape,
+) -> Result<Vec<u8>, AllocError>
+    ensures { IfOk result (λ lines. Compares shape before.now after.now lines.items) }
 {
     let gain = gained(alloc, before, after)?;
     let loss = lost(alloc, before, after)?;
-    comparison_lines(alloc, &gain, &loss)
+    match shape {
+        Shape::Lines => comparison_lines(alloc, &gain, &loss),
+        Shape::Objects => change_objects(alloc, &gain, &loss),
+    }
 }

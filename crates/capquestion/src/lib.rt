@@ -16,6 +16,7 @@ mod modes;
 mod options;
 mod question;
 mod remarks;
+mod shape;
 mod texts;
 mod words;
 
@@ -27,4 +28,5 @@ pub use fault::QuestionFault;
 pub use linting::lint_text;
 pub use options::Opt;
 pub use question::{Question, Values};
+pub use shape::Shape;
 pub use words::{spell, spelled};

@@ -21,3 +21,7 @@ returns-in_err-is_allowed-in-Status-clause-fault g c =
 pub returns-in_err-lines-in-More-clause-fault : goal.returns-in_err-lines-in-More-clause-fault
 returns-in_err-lines-in-More-clause-fault g c =
     missed_unwritten c.args.values.now c.in_ok-question.question (g.W.Write.contents (inner_of c.args.writer.now)) (has_failed c.args.writer.now) c.from_residual-in_err-lines-in-More.result c.in_ok-question.ensures.ok c.from_residual-in_err-lines-in-More.ensures.1
+
+pub returns-in_err-object-in-Object-clause-fault : goal.returns-in_err-object-in-Object-clause-fault
+returns-in_err-object-in-Object-clause-fault g c =
+    missed_unwritten c.args.values.now c.in_ok-question.question (g.W.Write.contents (inner_of c.args.writer.now)) (has_failed c.args.writer.now) c.from_residual-in_err-object-in-Object.result c.in_ok-question.ensures.ok c.from_residual-in_err-object-in-Object.ensures.1

@@ -1,0 +1,3 @@
+pub mod Tables
+pub mod Plain
+pub mod Spelling

@@ -1,0 +1,16 @@
+use Rattle.std.proofs.Common.{◌≡◌, ap, ◌∙◌}
+use Rattle.serde_json.specs.Data.{object, no_members}
+use Rattle.serde_json.specs.View.{members_view}
+use Rattle.capjson.specs.Standings.{standing_table, standing_value, with_client}
+use Rattle.capjson.specs.Values.{with_all}
+use Rattle.capjson.proofs.Plain.{plain-as, plain-standing}
+use Rattle.capjson.proofs.standings.print_standing_object.Goals as goal
+
+pub print_object-requires : goal.print_object-requires
+print_object-requires c =
+    let client = c.args.client.now in
+    let w = c.args.wanted.now in
+    let attr = c.args.attr.now in
+    let standing = c.args.standing.now in
+    let asked : members_view c.put_client.new.members.entries ≡ with_client client w attr no_members = c.in_ok-put_client.ensures ∙ ap (with_client client w attr) (ap members_view c.new-members.ensures.empty) in
+    plain-as (members_view c.put_standing.new.members.entries) (standing_value client w attr standing) (ap object (c.in_ok-put_standing.ensures ∙ ap (with_all (standing_table standing)) asked)) (plain-standing client w attr standing)

@@ -1,0 +1,27 @@
+-- The objects that say what one list of grants allows and another denies.
+use Rattle.std.specs.Prelude.{ℕ, Option, Some, None, List, [], ◌∷◌, ◌++◌, codes}
+use Rattle.serde_json.specs.Data.{Data, string, object, Members, no_members}
+use Rattle.capgrant.specs.Question.{question}
+use Rattle.capremarks.specs.Capcompare.declared.witness.Witness.{Witness}
+use Rattle.capjson.specs.Values.{Table, with_all, object_of, natural, json_line}
+use Rattle.capjson.specs.Answers.{with_question}
+
+-- the members, and those of a witness: its question, and at this key the grant that allows it
+abbrev pub with_witness : List ℕ → Witness → Members → Members
+with_witness key w ms = with_all ((key, natural w.grant) ∷ []) (with_question (question w.fs w.caller w.path.now w.attr w.access) ms)
+
+abbrev pub change_table : List ℕ → Table
+change_table change = (codes "change", string change) ∷ []
+
+abbrev pub change_value : List ℕ → Witness → Data
+change_value change w = object (with_witness (codes "grant") w (with_all (change_table change) no_members))
+
+-- a line of this change, where there is a witness
+abbrev pub change_line : List ℕ → Option Witness → List ℕ
+change_line change None = []
+change_line change (Some w) = json_line (change_value change w)
+
+-- what is gained and what is lost
+abbrev pub change_lines : Option Witness → Option Witness → List ℕ
+change_lines None None = json_line (object_of (change_table (codes "none")))
+change_lines gain loss = change_line (codes "gained") gain ++ change_line (codes "lost") loss

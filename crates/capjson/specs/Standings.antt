@@ -1,0 +1,45 @@
+-- The object that says of one client whether somebody behind its key may make an access.
+use Rattle.std.specs.Prelude.{ℕ, Option, Some, None, List, [], ◌∷◌, codes}
+use Rattle.serde_json.specs.Data.{Data, string, object, Members, no_members}
+use Rattle.capspec.specs.declared.fault.SpecFault.{SpecFault}
+use Rattle.capgrant.specs.declared.access.Attr.{Attr}
+use Rattle.capgrant.specs.declared.answer.Verdict.TheVariants as verdicts
+use Rattle.capexplain.specs.Capwho.declared.standing.Standing.{Standing}
+use Rattle.capexplain.specs.Capwho.declared.standing.Standing.TheVariants.{Allowed, Depends, Denied}
+use Rattle.capexplain.specs.Capwho.Callers.{Wanted}
+use Rattle.capexplain.specs.Standing.{fault_word}
+use Rattle.capjson.specs.Values.{Table, with_all, natural, bytes_value, json_line}
+use Rattle.capjson.specs.Answers.{place_table, attr_table, allowing_table, verdict_table}
+
+-- the owner, the group and the mode, where they are known
+abbrev pub known_table : Option Attr → Table
+known_table None = []
+known_table (Some attr) = attr_table attr
+
+-- the members, the client, and what is asked of it
+abbrev pub with_client : List ℕ → Wanted → Option Attr → Members → Members
+with_client client w attr ms = with_all (known_table attr) (with_all (place_table w.access w.path w.fs) (with_all ((codes "client", bytes_value client) ∷ []) ms))
+
+-- by which grant, or by which rules
+abbrev pub standing_table : Standing → Table
+standing_table (Allowed grant) = allowing_table (codes "allowed") grant
+standing_table (Depends grant) = allowing_table (codes "depends") grant
+standing_table (Denied rules) = verdict_table (verdicts.Denied rules)
+
+abbrev pub standing_value : List ℕ → Wanted → Option Attr → Standing → Data
+standing_value client w attr standing = object (with_all (standing_table standing) (with_client client w attr no_members))
+
+-- what is wrong with its grants, and how many bytes of their text stand before that
+abbrev pub fault_table : SpecFault → Table
+fault_table fault = (codes "verdict", string (codes "unread")) ∷ (codes "fault", string (fault_word fault.kind)) ∷ (codes "at", natural fault.at) ∷ []
+
+abbrev pub unread_value : List ℕ → Wanted → Option Attr → SpecFault → Data
+unread_value client w attr fault = object (with_all (fault_table fault) (with_client client w attr no_members))
+
+-- ---- as lines
+
+abbrev pub standing_object : List ℕ → Wanted → Option Attr → Standing → List ℕ
+standing_object client w attr standing = json_line (standing_value client w attr standing)
+
+abbrev pub unread_object : List ℕ → Wanted → Option Attr → SpecFault → List ℕ
+unread_object client w attr fault = json_line (unread_value client w attr fault)

@@ -1,0 +1,19 @@
+//! The answers of the administrators' commands in JSON: what is asked and what grants say to it, as objects of which each is a line.
+//!
+//! Public source: RFC 8259, "The JavaScript Object Notation (JSON) Data Interchange Format".
+#![tactic(auto)]
+
+mod answer;
+mod changes;
+mod findings;
+mod laws;
+mod question;
+mod standings;
+mod table;
+mod verdicts;
+
+pub use answer::answer_object;
+pub use changes::change_objects;
+pub use findings::lint_objects;
+pub use laws::{one_spelling_for_bytes, one_value_for_a_line};
+pub use standings::{print_standing_object, print_unread_object};
