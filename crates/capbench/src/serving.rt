@@ -1,7 +1,7 @@
 //! The day's work that takes a server: a script whose clients call it from threads of their own.
 
 use capcommand::{ServeFault, Watched, serve};
-use capload::{Amount, Fault, history_digest, served_script};
+use capwork::{Amount, DayFault, history_digest, served_script};
 use std::alloc::Global;
 use std::sync::Wait;
 use std::thread::Threads;
@@ -11,7 +11,7 @@ pub fn serve_script<T: Threads + Wait + Sync>(
     rt: &T,
     alloc: Global,
     amount: Amount,
-) -> Result<u64, Fault> {
+) -> Result<u64, DayFault> {
     let script = served_script(alloc, amount)?;
     let history = served(rt, alloc, script.as_slice())?;
     Ok(history_digest(history.as_slice()))
@@ -22,7 +22,7 @@ fn served<T: Threads + Wait + Sync>(
     rt: &T,
     alloc: Global,
     script: &[u8],
-) -> Result<Vec<u8>, Fault> {
+) -> Result<Vec<u8>, DayFault> {
     let mut written = Vec::new(alloc);
     let mut reader = script;
     let ended = serve(
@@ -33,8 +33,8 @@ fn served<T: Threads + Wait + Sync>(
     );
     match ended {
         Ok(()) => Ok(written),
-        Err(ServeFault::Script(fault)) => Err(Fault::from(fault)),
-        Err(ServeFault::HistoryFull) => Err(Fault::Full),
-        Err(ServeFault::Clients { .. }) => Err(Fault::Work),
+        Err(ServeFault::Script(fault)) => Err(DayFault::from(fault)),
+        Err(ServeFault::HistoryFull) => Err(DayFault::Full),
+        Err(ServeFault::Clients { .. }) => Err(DayFault::Work),
     }
 }

@@ -1,7 +1,7 @@
 //! The work that is counted and timed.
 
 use crate::serving::serve_script;
-use capload::{Amount, Fault, digest_of, tell};
+use capwork::{Amount, DayFault, digest_of, tell};
 use std::io::{Read, Write};
 use std::sync::Wait;
 use std::thread::Threads;
@@ -27,7 +27,7 @@ pub fn dispatch(
 fn days_work(
     rt: &(impl AllocGlobal + Threads + Wait + Sync),
     task: [&[u8]; 3],
-) -> Result<u64, Fault> {
+) -> Result<u64, DayFault> {
     let [work, count, seed] = task;
     let amount = Amount::read(count, seed)?;
     match work {

@@ -1,7 +1,7 @@
 //! The words that name the work, and what it comes to.
 ghost use Rattle.std.specs.Prelude.{◌≤◌};
 
-use crate::fault::Fault;
+use crate::day_fault::DayFault;
 use crate::playing::{Play, play_rounds};
 use crate::questions::ask_all;
 use crate::scripts::run_script;
@@ -20,16 +20,16 @@ pub struct Amount {
 
 impl Amount {
     /// Reads both numbers.
-    pub fn read(count: &[u8], seed: &[u8]) -> Result<Amount, Fault> {
+    pub fn read(count: &[u8], seed: &[u8]) -> Result<Amount, DayFault> {
         match (read_u32(count), read_u32(seed)) {
             (Some(count), Some(seed)) => Ok(Amount { count, seed }),
-            _ => Err(Fault::Usage),
+            _ => Err(DayFault::Usage),
         }
     }
 }
 
 /// Does the work of this name, which takes no server, and returns the digest of all that was answered.
-pub fn digest_of(alloc: Global, work: &[u8], amount: Amount) -> Result<u64, Fault> {
+pub fn digest_of(alloc: Global, work: &[u8], amount: Amount) -> Result<u64, DayFault> {
     let Amount { count, seed } = amount;
     match work {
         b"tenants" => play_rounds(alloc, Play::Tenants, count, seed),
@@ -37,18 +37,18 @@ pub fn digest_of(alloc: Global, work: &[u8], amount: Amount) -> Result<u64, Faul
         b"moves" => play_rounds(alloc, Play::Moves, count, seed),
         b"script" => run_script(alloc, count, seed),
         b"questions" => ask_all(alloc, count, seed),
-        _ => Err(Fault::Usage),
+        _ => Err(DayFault::Usage),
     }
 }
 
 /// Writes the digest as a line, or why there is none, and returns the status: 0; or 2 where the words name no work, and 1 where memory, an
 /// answer or the output failed.
-pub fn tell(digest: Result<u64, Fault>, writer: &mut impl Write, faults: &mut impl Write) -> u8
+pub fn tell(digest: Result<u64, DayFault>, writer: &mut impl Write, faults: &mut impl Write) -> u8
     ensures { result ≤ 2 }
 {
     let fault = match digest {
         Ok(digest) if writeln!(writer, "digest {digest:016x}").is_ok() => return 0,
-        Ok(_) => Fault::WriteFailed,
+        Ok(_) => DayFault::WriteFailed,
         Err(fault) => fault,
     };
     let _ = faults.write_all(fault.line().as_bytes());

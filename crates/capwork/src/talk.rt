@@ -1,6 +1,6 @@
 //! Clients that talk to a core in the lines of a script, and a digest of all that they are answered.
 
-use crate::fault::Fault;
+use crate::day_fault::DayFault;
 use capbits::PassId;
 use capscript::{Core, Event, Message, Reply, read_line, reply_lines};
 use rand_core::Rng;
@@ -43,7 +43,7 @@ pub(crate) struct Talk {
     digest: DefaultHasher,
     line: Vec<u8>,
     told: Vec<Told>,
-    fault: Option<Fault>,
+    fault: Option<DayFault>,
 }
 
 // By hand, so that whoever lets one go has one call to prove.
@@ -92,7 +92,7 @@ impl Talk {
     }
 
     /// The digest of all answers, or the first fault.
-    pub(crate) fn digest(&self) -> Result<u64, Fault> {
+    pub(crate) fn digest(&self) -> Result<u64, DayFault> {
         match self.fault {
             None => Ok(self.digest.finish()),
             Some(fault) => Err(fault),
@@ -100,7 +100,7 @@ impl Talk {
     }
 
     /// Takes in what was answered otherwise than by a core.
-    pub(crate) fn take(&mut self, answer: Result<Vec<u8>, Fault>) {
+    pub(crate) fn take(&mut self, answer: Result<Vec<u8>, DayFault>) {
         match answer {
             Ok(text) => self.digest.write(text.as_slice()),
             Err(fault) => self.fail(fault),
@@ -108,7 +108,7 @@ impl Talk {
     }
 
     /// A text, if nothing failed; the talk ends.
-    pub(crate) fn made(self, text: Vec<u8>) -> Result<Vec<u8>, Fault> {
+    pub(crate) fn made(self, text: Vec<u8>) -> Result<Vec<u8>, DayFault> {
         match self.fault {
             None => Ok(text),
             Some(fault) => Err(fault),
@@ -118,19 +118,19 @@ impl Talk {
     /// Puts a line behind a text. Each `#` of it stands for the next of the numbers; numbers that are left over do not count.
     pub(crate) fn write(&mut self, text: &mut Vec<u8>, line: &str, numbers: &[u64]) {
         if fill(text, line, numbers).is_err() {
-            self.fail(Fault::NoMemory);
+            self.fail(DayFault::NoMemory);
         }
     }
 
     /// Puts a value behind the others of a list.
     pub(crate) fn keep<T: Drop>(&mut self, list: &mut Vec<T>, value: T) {
         if list.push(value).is_err() {
-            self.fail(Fault::NoMemory);
+            self.fail(DayFault::NoMemory);
         }
     }
 
     /// Nothing more is said. The first fault counts.
-    pub(crate) fn fail(&mut self, fault: Fault) {
+    pub(crate) fn fail(&mut self, fault: DayFault) {
         if self.fault.is_none() {
             self.fault = Some(fault);
         }
@@ -155,7 +155,7 @@ impl Talk {
         match self.say(core, line, numbers) {
             Heard::Ino(ino) => ino,
             _ => {
-                self.fail(Fault::Unexpected);
+                self.fail(DayFault::Unexpected);
                 0
             }
         }
@@ -173,7 +173,7 @@ impl Talk {
     }
 
     // Asks the core what the line says.
-    fn ask(&mut self, core: &mut Core, line: &str, numbers: &[u64]) -> Result<Heard, Fault> {
+    fn ask(&mut self, core: &mut Core, line: &str, numbers: &[u64]) -> Result<Heard, DayFault> {
         self.line.clear();
         fill(&mut self.line, line, numbers)?;
         let event = self.event()?;
@@ -184,15 +184,15 @@ impl Talk {
     }
 
     // The event that the line says.
-    fn event(&self) -> Result<Event, Fault> {
+    fn event(&self) -> Result<Event, DayFault> {
         match read_line(self.alloc, 1, self.line.as_slice())? {
             Some((_, event)) => Ok(event),
-            None => Err(Fault::Unexpected),
+            None => Err(DayFault::Unexpected),
         }
     }
 
     // Takes an answer in.
-    fn hear(&mut self, reply: &Reply) -> Result<Heard, Fault> {
+    fn hear(&mut self, reply: &Reply) -> Result<Heard, DayFault> {
         let text = reply_lines(self.alloc, reply)?;
         self.digest.write(text.as_slice());
         match reply {
@@ -204,7 +204,7 @@ impl Talk {
     }
 
     // Keeps which changes were told.
-    fn note(&mut self, messages: &[Message]) -> Result<Heard, Fault> {
+    fn note(&mut self, messages: &[Message]) -> Result<Heard, DayFault> {
         for message in messages {
             if let Message::Caps { ino, seq, .. } = message {
                 self.told.push(Told {

@@ -1,6 +1,6 @@
 //! Questions of policy, each with grants, a caller and an inode of its own.
 
-use crate::fault::Fault;
+use crate::day_fault::DayFault;
 use crate::talk::Talk;
 use capquestion::{Question, Values};
 use std::alloc::Global;
@@ -43,7 +43,7 @@ impl Drop for Texts {
 }
 
 /// Answers so many questions, and returns the digest of the answers.
-pub(crate) fn ask_all(alloc: Global, count: u32, seed: u32) -> Result<u64, Fault> {
+pub(crate) fn ask_all(alloc: Global, count: u32, seed: u32) -> Result<u64, DayFault> {
     let mut talk = Talk::new(alloc, seed);
     let texts = make_texts(&mut talk);
     ask_often(&texts, &mut talk, count);
@@ -72,7 +72,7 @@ fn ask_often(texts: &Texts, talk: &mut Talk, count: u32) {
 }
 
 // The answer to a question. What is promised of it stays behind here.
-fn answer(alloc: Global, values: &Values) -> Result<Vec<u8>, Fault> {
+fn answer(alloc: Global, values: &Values) -> Result<Vec<u8>, DayFault> {
     Ok(Question::read(alloc, values)?.answer(alloc)?)
 }
 
@@ -132,7 +132,7 @@ fn take(talk: &mut Talk, texts: &Vec<Vec<u8>>, place: &mut Vec<u8>) {
 fn put(talk: &mut Talk, text: &[u8], place: &mut Vec<u8>) {
     place.clear();
     if place.extend_from_slice(text).is_err() {
-        talk.fail(Fault::NoMemory);
+        talk.fail(DayFault::NoMemory);
     }
 }
 

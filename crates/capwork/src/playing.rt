@@ -1,7 +1,7 @@
 //! The core that clients talk to, and its one owner.
 
+use crate::day_fault::DayFault;
 use crate::directory_moves::move_about;
-use crate::fault::Fault;
 use crate::shared_files::share;
 use crate::talk::Talk;
 use crate::tenants::serve_tenants;
@@ -21,7 +21,12 @@ pub(crate) enum Play {
 
 /// Has clients talk to a core in so many rounds, and returns the digest of what they are answered. No other function owns a core:
 /// what it keeps is carried through each way out of its owner.
-pub(crate) fn play_rounds(alloc: Global, what: Play, count: u32, seed: u32) -> Result<u64, Fault> {
+pub(crate) fn play_rounds(
+    alloc: Global,
+    what: Play,
+    count: u32,
+    seed: u32,
+) -> Result<u64, DayFault> {
     let (fs, tree) = file_system(alloc)?;
     let mut core = Core::new(alloc, fs, tree, u32::MAX)?;
     let digest = play_on(alloc, &mut core, what, count, seed);
@@ -35,7 +40,7 @@ fn play_on(
     what: Play,
     count: u32,
     seed: u32,
-) -> Result<u64, Fault> {
+) -> Result<u64, DayFault> {
     let mut talk = Talk::new(alloc, seed);
     match what {
         Play::Tenants => serve_tenants(core, &mut talk, count),

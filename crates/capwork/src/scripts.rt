@@ -1,7 +1,7 @@
 //! Whole scripts: those that are run as `capd run` does it, and those that a program with a server serves as `capd serve` does.
 
-use crate::commands::Amount;
-use crate::fault::Fault;
+use crate::day::Amount;
+use crate::day_fault::DayFault;
 use crate::talk::Talk;
 use capscript::{Watched, run};
 use std::alloc::Global;
@@ -29,14 +29,14 @@ const CHANGE: &str = "open 2 # r\nrelease 2 # p\nalter 1 # chmod 0640\n";
 const CLIENT: &str = "session # 10 10 - allow rw\nmkdir # 1 home# 0755\n";
 
 /// Runs a script of so many rounds, and returns the digest of its transcript.
-pub(crate) fn run_script(alloc: Global, count: u32, seed: u32) -> Result<u64, Fault> {
+pub(crate) fn run_script(alloc: Global, count: u32, seed: u32) -> Result<u64, DayFault> {
     let script = ingest(Talk::new(alloc, seed), count)?;
     let written = transcript(alloc, script.as_slice())?;
     Ok(digest_of(written.as_slice()))
 }
 
 // What is written of a script that is run. What is promised of it stays behind here.
-fn transcript(alloc: Global, script: &[u8]) -> Result<Vec<u8>, Fault> {
+fn transcript(alloc: Global, script: &[u8]) -> Result<Vec<u8>, DayFault> {
     let mut written = Vec::new(alloc);
     let mut reader = script;
     run(
@@ -49,7 +49,7 @@ fn transcript(alloc: Global, script: &[u8]) -> Result<Vec<u8>, Fault> {
 
 /// The script of so many rounds that is to be served: clients that each work on files of their own, from threads of their own. Nothing that
 /// they ask for waits, since the number of a request that waits depends on when its thread was served.
-pub fn served_script(alloc: Global, amount: Amount) -> Result<Vec<u8>, Fault> {
+pub fn served_script(alloc: Global, amount: Amount) -> Result<Vec<u8>, DayFault> {
     let Amount { count, seed } = amount;
     let mut talk = Talk::new(alloc, seed);
     let mut script = Vec::new(alloc);
@@ -79,7 +79,7 @@ fn digest_of(text: &[u8]) -> u64 {
 }
 
 // A client fills a deep chain of directories with files, and looks at them; another opens what it finds there.
-fn ingest(mut talk: Talk, count: u32) -> Result<Vec<u8>, Fault> {
+fn ingest(mut talk: Talk, count: u32) -> Result<Vec<u8>, DayFault> {
     let mut script = Vec::new(talk.alloc());
     talk.write(&mut script, INGEST, &[]);
     add_levels(&mut talk, &mut script);

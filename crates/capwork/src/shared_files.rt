@@ -1,7 +1,7 @@
 //! Clients that all work on the same files: what one writes is revoked from the others, sessions become stale, are thrown out and
 //! come back, and entries are asked back.
 
-use crate::fault::Fault;
+use crate::day_fault::DayFault;
 use crate::talk::Talk;
 use capscript::Core;
 
@@ -62,7 +62,7 @@ fn work(core: &mut Core, talk: &mut Talk, files: &[u64]) {
     let dice = talk.below(1000);
     let place = talk.below(files.len() as u64);
     let Some(ino) = files.get(place as usize).copied() else {
-        return talk.fail(Fault::Unexpected);
+        return talk.fail(DayFault::Unexpected);
     };
     if dice < 990 {
         use_file(core, talk, client, ino, dice);

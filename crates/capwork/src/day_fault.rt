@@ -7,7 +7,7 @@ use std::alloc::{AllocError, AllocFailed};
 
 /// Why a piece of work gave no digest.
 #[derive(Clone, Copy)]
-pub enum Fault {
+pub enum DayFault {
     /// The words name no work.
     Usage,
     /// A line, a script or a question of the work is none, or was not answered.
@@ -22,18 +22,18 @@ pub enum Fault {
     WriteFailed,
 }
 
-impl Fault {
+impl DayFault {
     ghost use Rattle.std.specs.Prelude.{◌≤◌};
 
     /// The line that says it.
     pub(crate) fn line(self) -> &'static str {
         match self {
-            Fault::Usage => "capbench: WORKLOAD, COUNT and SEED are wanted\n",
-            Fault::Work => "capbench: a part of the work has a fault\n",
-            Fault::Full => "capbench: the history is full\n",
-            Fault::Unexpected => "capbench: another answer was needed\n",
-            Fault::NoMemory => "capbench: no memory\n",
-            Fault::WriteFailed => "capbench: write failed\n",
+            DayFault::Usage => "capbench: WORKLOAD, COUNT and SEED are wanted\n",
+            DayFault::Work => "capbench: a part of the work has a fault\n",
+            DayFault::Full => "capbench: the history is full\n",
+            DayFault::Unexpected => "capbench: another answer was needed\n",
+            DayFault::NoMemory => "capbench: no memory\n",
+            DayFault::WriteFailed => "capbench: write failed\n",
         }
     }
 
@@ -42,36 +42,36 @@ impl Fault {
         ensures { result ≤ 2 }
     {
         match self {
-            Fault::Usage => 2,
+            DayFault::Usage => 2,
             _ => 1,
         }
     }
 }
 
-impl From<AllocError> for Fault {
+impl From<AllocError> for DayFault {
     fn from(_: AllocError) -> Self {
-        Fault::NoMemory
+        DayFault::NoMemory
     }
 }
 
-impl<T: Drop> From<AllocFailed<T>> for Fault {
+impl<T: Drop> From<AllocFailed<T>> for DayFault {
     fn from(_: AllocFailed<T>) -> Self {
-        Fault::NoMemory
+        DayFault::NoMemory
     }
 }
 
-impl From<ScriptFault> for Fault {
+impl From<ScriptFault> for DayFault {
     fn from(fault: ScriptFault) -> Self {
         match fault {
-            ScriptFault::NoMemory => Fault::NoMemory,
-            ScriptFault::WriteFault => Fault::WriteFailed,
-            ScriptFault::ReadFault | ScriptFault::LineFault { .. } => Fault::Work,
+            ScriptFault::NoMemory => DayFault::NoMemory,
+            ScriptFault::WriteFault => DayFault::WriteFailed,
+            ScriptFault::ReadFault | ScriptFault::LineFault { .. } => DayFault::Work,
         }
     }
 }
 
 // Where only memory was missing, the grants are not to blame.
-impl From<QuestionFault> for Fault {
+impl From<QuestionFault> for DayFault {
     fn from(fault: QuestionFault) -> Self {
         match fault {
             QuestionFault::NoMemory
@@ -80,17 +80,17 @@ impl From<QuestionFault> for Fault {
                     kind: SpecFaultKind::NoMemory,
                     ..
                 },
-            ) => Fault::NoMemory,
-            QuestionFault::Grants(_) | QuestionFault::BadValue(_) => Fault::Work,
+            ) => DayFault::NoMemory,
+            QuestionFault::Grants(_) | QuestionFault::BadValue(_) => DayFault::Work,
         }
     }
 }
 
-impl From<Stop> for Fault {
+impl From<Stop> for DayFault {
     fn from(stop: Stop) -> Self {
         match stop {
-            Stop::NoMemory => Fault::NoMemory,
-            Stop::Full => Fault::Full,
+            Stop::NoMemory => DayFault::NoMemory,
+            Stop::Full => DayFault::Full,
         }
     }
 }
