@@ -1,5 +1,5 @@
 -- What `audit` writes, and why it stops before that.
-use Rattle.std.specs.Prelude.{◌≡◌, ◌⊎◌, ◌≤◌, ◌==◌, ℕ, Bool, List, ◌++◌, length, Option, IfSome, IsTrue, codes, if◌then◌else◌}
+use Rattle.std.specs.Prelude.{◌≡◌, ◌⊎◌, ◌≤◌, ℕ, Bool, List, length, Option, IfSome, IsTrue, if◌then◌else◌}
 use Rattle.std.specs.Io.KnownBytes.{Appends, Keeps}
 use Rattle.capspec.specs.Names.{IsFsName}
 use Rattle.capstreams.specs.Caplines.Lines.{longest_script}
@@ -12,14 +12,10 @@ use Rattle.capanswers.specs.declared.fault.AnswerFault.{AnswerFault}
 use Rattle.capanswers.specs.declared.fault.AnswerFault.TheVariants.{Cluster, Question, WriteFailed, NoMemory}
 use Rattle.capanswers.specs.Inquiry.{IsUnreadInput}
 
--- these lines, or that nothing is found where there are none
-abbrev pub report_text : List ℕ → List ℕ
-report_text lines = if length lines == 0 then codes "nothing found\n" else lines
-
--- this was found on the cluster, this could not be judged, and both are written; the status is 3 where either is anything, else 0
+-- this is told of the cluster, and it is written; the status is 3 where anything was found or could not be judged, else 0
 abbrev pub IsCheckedBy : Checkup → List ℕ → ℕ → Option (List ℕ) → Option (List ℕ) → Type 0
-IsCheckedBy checkup tree status old new = (found : List ℕ) × (unknown : List ℕ) × IsAudit checkup.fs.items checkup.auth.items checkup.sessions.items tree found unknown
-    × (status ≡ (if length (found ++ unknown) == 0 then 0 else 3)) × Appends old new (report_text (found ++ unknown))
+IsCheckedBy checkup tree status old new = (text : List ℕ) × (found : Bool) × IsAudit checkup.detail checkup.fs.items checkup.auth.items checkup.sessions.items tree text found
+    × (status ≡ (if found then 3 else 0)) × Appends old new text
 
 -- the same on the tree that was to be read
 pub record AnswersCheckup (checkup : Checkup) (input : Option (List ℕ)) (status : ℕ) (old new : Option (List ℕ)) : Type 0 where

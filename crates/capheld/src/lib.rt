@@ -10,7 +10,9 @@ mod holders;
 mod lines;
 mod notes;
 mod order;
+mod pairs;
+mod summary;
 
 pub use auditing::{ClusterTexts, audit};
 pub use fault::HeldFault;
-pub use notes::Notes;
+pub use notes::{Detail, Report};

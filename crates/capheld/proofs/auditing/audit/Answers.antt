@@ -7,12 +7,8 @@ returns-clause-ok c = record {
   entities = c.in_ok-auth.auth;
   connected = c.in_ok-sessions.sessions.items;
   seen = dump c.in_ok-tree.tree.inodes.items c.in_ok-tree.tree.paths;
-  found_first = c.in_ok-notes.notes.found.items;
-  unknown_first = c.in_ok-notes.notes.unknown.items;
   is_auth = search rules;
   are_sessions = search rules;
   is_tree = search rules;
-  said = search rules;
-  found_ordered = search rules;
-  unknown_ordered = search rules;
+  told = search rules;
 }
