@@ -5,11 +5,12 @@ ghost use Rattle.capanswers.specs.Checkup.{AnswersCheckup, StopsCheckup};
 
 use crate::commands::write_text;
 use crate::fault::AnswerFault;
+use crate::growing::read_tree;
 use crate::status::{DONE, FOUND};
-use capheld::{ClusterTexts, Notes, audit};
+use capheld::{ClusterClients, Notes, audit};
 use capquestion::{Opt, QuestionFault};
 use capspec::FsName;
-use capstreams::{Watched, read_script};
+use capstreams::Watched;
 use std::alloc::{AllocError, Global};
 use std::io::{Read, Write};
 
@@ -79,13 +80,9 @@ pub fn check_cluster<R: Read, W: Write>(
     let Some(fs) = FsName::read(checkup.fs.as_slice()) else {
         return Err(AnswerFault::Question(QuestionFault::BadValue(Opt::Fs)));
     };
-    let tree = read_script(alloc, reader)?;
-    let texts = ClusterTexts {
-        auth: checkup.auth.as_slice(),
-        sessions: checkup.sessions.as_slice(),
-        tree: tree.as_slice(),
-    };
-    let notes = audit(alloc, &fs, &texts)?;
+    let clients = ClusterClients::read(alloc, checkup.auth.as_slice(), checkup.sessions.as_slice())?;
+    let tree = read_tree(alloc, reader)?;
+    let notes = audit(alloc, &fs, &clients, &tree)?;
     let lines = all_lines(alloc, &notes)?;
     let lines = lines.as_slice();
     if lines.is_empty() {

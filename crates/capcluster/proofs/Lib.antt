@@ -1,1 +1,2 @@
+pub mod Grown
 pub mod Reading

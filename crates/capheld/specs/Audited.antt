@@ -12,13 +12,13 @@ use Rattle.capspec.specs.Grants.{Reads}
 use Rattle.capauth.specs.Auth.{Named, IsFaultOf, auth_of}
 use Rattle.capcluster.specs.Values.{IsFaultIn}
 use Rattle.capcluster.specs.Sessions.{Connected, sessions_of}
-use Rattle.capcluster.specs.Dump.{Held, Listed, PathMap, Dump, tree_of}
+use Rattle.capcluster.specs.Dump.{Held, Listed, PathMap, Dump}
 use Rattle.capaudit.specs.declared.findings.Finding.{Finding}
 use Rattle.capaudit.specs.Callers.{Inode, inode, IsPermittedToSome}
 use Rattle.capaudit.specs.Findings.{IsBeyond}
 use Rattle.capexplain.specs.Standing.{unread_line}
 use Rattle.capheld.specs.declared.fault.HeldFault.{HeldFault}
-use Rattle.capheld.specs.declared.fault.HeldFault.TheVariants.{Auth, Sessions, Tree, NoMemory}
+use Rattle.capheld.specs.declared.fault.HeldFault.TheVariants.{Auth, Sessions}
 use Rattle.capheld.specs.declared.notes.Notes.{Notes}
 use Rattle.capheld.specs.Order.{AreInOrder}
 use Rattle.capheld.specs.Lines.{held_line, unnamed_line, unlisted_line, strange_line, pathless_line}
@@ -103,31 +103,25 @@ SaysAt fs known it (Some path) found unknown = AreSaid (SaysOf known (inode fs p
 abbrev pub SaysOfInode : List ℕ → Clients → PathMap → Listed → List ℕ → List ℕ → Type 0
 SaysOfInode fs known paths it found unknown = SaysAt fs known it (map.get paths it.number) found unknown
 
--- the three texts mean an auth list, sessions and a tree, and what is said of the inodes of the tree stands here in order
-pub record IsAudit (fs auth sessions tree found unknown : List ℕ) : Type 0 where
-  pub entities : List Named
-  pub connected : List Connected
-  pub seen : Dump
-  pub is_auth : auth_of auth ≡ Some (Ok entities)
-  pub are_sessions : sessions_of sessions ≡ Some (Ok connected)
-  pub is_tree : tree_of tree ≡ Some (Ok seen)
+-- what is said of the inodes of the tree stands here in order
+pub record IsAudit (fs : List ℕ) (known : Clients) (seen : Dump) (found unknown : List ℕ) : Type 0 where
   pub found_first : List ℕ
   pub unknown_first : List ℕ
-  pub said : AreSaid (SaysOfInode fs (clients entities connected) seen.paths) seen.inodes found_first unknown_first
+  pub said : AreSaid (SaysOfInode fs known seen.paths) seen.inodes found_first unknown_first
   pub found_ordered : AreInOrder found_first found
   pub unknown_ordered : AreInOrder unknown_first unknown
+
+-- ---- the texts
+
+-- two texts mean an auth list and sessions, and these are the clients of the cluster
+abbrev pub AreClients : List ℕ → List ℕ → Clients → Type 0
+AreClients auth sessions known = (auth_of auth ≡ Some (Ok known.entities)) × (sessions_of sessions ≡ Some (Ok known.sessions))
 
 -- the text means an auth list
 abbrev pub IsAuthList : List ℕ → Type 0
 IsAuthList auth = (entities : List Named) × (auth_of auth ≡ Some (Ok entities))
 
--- sessions
-abbrev pub AreSessions : List ℕ → Type 0
-AreSessions sessions = (connected : List Connected) × (sessions_of sessions ≡ Some (Ok connected))
-
--- the fault is that of the first of the texts that means nothing; want of memory is in none
-abbrev pub IsFaultOfCluster : List ℕ → List ℕ → List ℕ → HeldFault → Type 0
-IsFaultOfCluster auth sessions tree (Auth fault) = IsFaultOf fault (auth_of auth)
-IsFaultOfCluster auth sessions tree (Sessions fault) = IsAuthList auth × IsFaultIn fault (sessions_of sessions)
-IsFaultOfCluster auth sessions tree (Tree fault) = IsAuthList auth × AreSessions sessions × IsFaultIn fault (tree_of tree)
-IsFaultOfCluster auth sessions tree NoMemory = Unit {0}
+-- the fault is that of the first of the two that means nothing
+abbrev pub IsFaultOfClients : List ℕ → List ℕ → HeldFault → Type 0
+IsFaultOfClients auth sessions (Auth fault) = IsFaultOf fault (auth_of auth)
+IsFaultOfClients auth sessions (Sessions fault) = IsAuthList auth × IsFaultIn fault (sessions_of sessions)

@@ -1,54 +1,35 @@
-//! From three texts of a cluster to what its clients hold and may not.
-ghost use Rattle.std.specs.Prelude.{OnOk, IfOk, IfErr};
-ghost use Rattle.capheld.specs.Audited.{Adds, AreSaid, IsAudit, IsFaultOfCluster, SaysOf, SaysOfInode, clients};
+//! From the clients and the tree of a cluster to what is held and may not be.
+ghost use Rattle.std.specs.Prelude.{OnOk, IfOk};
+ghost use Rattle.capcluster.specs.Dump.{dump};
+ghost use Rattle.capheld.specs.Audited.{Adds, AreSaid, IsAudit, SaysOf, SaysOfInode, clients};
 
-use crate::fault::HeldFault;
+use crate::clients::ClusterClients;
 use crate::holders::{note_holder, print_pathless_holders};
 use crate::notes::Notes;
 use crate::order::in_order;
 use capaudit::Inode;
-use capauth::{AuthList, read_auth};
-use capcluster::{Holder, Session, TreeInode, read_sessions, read_tree};
+use capauth::AuthList;
+use capcluster::{Holder, Session, Tree, TreeInode};
 use capspec::{FsName, TreePath};
 use numbered::Numbered;
 use std::alloc::{AllocError, Global};
 
-/// What `ceph` prints of a cluster.
-pub struct ClusterTexts<'a> {
-    /// The auth list: `ceph auth ls -f json`.
-    pub auth: &'a [u8],
-    /// The sessions of a metadata server: `ceph tell mds.N session ls`.
-    pub sessions: &'a [u8],
-    /// The tree that it has in memory: `ceph tell mds.N dump tree /`.
-    pub tree: &'a [u8],
-}
-
-// By hand, so that whoever lets one go has one call to prove.
-impl Drop for ClusterTexts<'_> {
-    fn drop(self) {
-        let ClusterTexts {
-            auth: _,
-            sessions: _,
-            tree: _,
-        } = self;
-    }
-}
-
-/// What the clients of a cluster hold of the inodes of this file system, and nobody behind their keys is permitted; and what could
-/// not be judged; each line once, in the order of the lines' bytes, which is first that of paths. The fault is that of the first text
-/// that is none.
-pub fn audit(alloc: Global, fs: &FsName, texts: &ClusterTexts) -> Result<Notes, HeldFault>
-    ensures ok { IfOk result (λ notes. IsAudit fs.now texts.now.auth.now texts.now.sessions.now texts.now.tree.now notes.found.items notes.unknown.items) }
-    ensures err { IfErr result (IsFaultOfCluster texts.now.auth.now texts.now.sessions.now texts.now.tree.now) }
+/// What the clients of a cluster hold of the inodes of this file system, by the tree that a metadata server has in memory, and nobody
+/// behind their keys is permitted; and what could not be judged; each line once, in the order of the lines' bytes, which is first that
+/// of paths.
+pub fn audit(
+    alloc: Global,
+    fs: &FsName,
+    clients: &ClusterClients,
+    tree: &Tree,
+) -> Result<Notes, AllocError>
+    ensures { IfOk result (λ notes. IsAudit fs.now clients.now (dump tree.now.inodes.items tree.now.paths) notes.found.items notes.unknown.items) }
 {
-    let auth = read_auth(alloc, texts.auth).map_err(HeldFault::Auth)?;
-    let sessions = read_sessions(alloc, texts.sessions).map_err(HeldFault::Sessions)?;
-    let tree = read_tree(alloc, texts.tree).map_err(HeldFault::Tree)?;
     let notes = note_inodes(
         alloc,
         fs,
-        &auth,
-        sessions.as_slice(),
+        clients.auth(),
+        clients.sessions(),
         tree.inodes.as_slice(),
         &tree.paths,
     )?;

@@ -1,0 +1,17 @@
+use Rattle.std.proofs.Common.{◌≡◌, ◌+◌, ◌-◌, ℕ, List, ◌++◌, length}
+use Rattle.std.specs.Prelude.{IsFalse}
+use Rattle.std.specs.Io.KnownBytes.{Consumes}
+use Rattle.capheld.specs.Capcluster.Dump.{tree_left, tree_of}
+use Rattle.capstreams.specs.Watched.{inner_of, has_failed}
+use Rattle.capanswers.proofs.growing.read_tree.Given as goal
+
+-- what was read so far is what was taken from the reader, and no read failed
+abbrev pub invariant-loop-buffer : goal.invariant-loop-buffer
+invariant-loop-buffer g l = record {
+  taken : (taken : List ℕ) × Consumes (g.R.Read.remaining (inner_of l.fn.reader)) (g.R.Read.remaining (inner_of l.reader)) taken
+      × (length taken ≡ l.tree.rows.byte) × ((tail : List ℕ) → tree_of (taken ++ tail) ≡ tree_left l.tree tail);
+  clear : IsFalse (has_failed l.reader);
+}
+
+abbrev pub decreases-loop-buffer : goal.decreases-loop-buffer
+decreases-loop-buffer g l = 1099511627777 - l.tree.rows.byte
