@@ -1,66 +1,26 @@
 -- What is left of a text, a byte further on.
-use Rattle.std.proofs.Common.{◌≡◌, ℕ, ◌+◌, ◌-◌, ◌<◌, ◌≤◌, true, false, List, [], ◌∷◌, ◌++◌, length, take, drop, get_or, refl, sym, ap, ◌∙◌, arith, append_assoc, length-append}
-use Rattle.std.proofs.lemmas.List.{drop_more, take_more, length-take, length-take-le, append-nil, take-append-drop, take-append-le, drop-append-le}
-use Rattle.std.proofs.lemmas.Bool.{lt-leb}
+use Rattle.std.proofs.Common.{◌≡◌, ◌⊎◌, ℕ, ◌+◌, ◌-◌, ◌<◌, ◌≤◌, true, false, List, ◌∷◌, ◌++◌, length, take, drop, get_or, refl, sym, ap, ◌∙◌, inl, inr, arith, append_assoc}
+use Rattle.std.specs.Prelude.{IsTrue}
+use Rattle.std.proofs.lemmas.List.{drop_more, length-take, take-append-drop, take-append-le, drop-append-le, get_or-drop, get_or-take, length-drop}
+use Rattle.std.proofs.Math.Dec.{leb}
+use Rattle.std.proofs.lemmas.Bool.{cases_Bool, false≢true, ne_eqb, le-leb, leb-false, leb-true}
 use Rattle.jsonrows.specs.declared.place.Place.{Place}
+use Rattle.jsonrows.specs.declared.fault.Expected.TheVariants as wants
 use Rattle.jsonrows.specs.declared.stage.Stage.{Stage}
-use Rattle.jsonrows.specs.declared.fault.Expected.{Expected}
-use Rattle.jsonrows.specs.declared.outside.Pass.{Pass}
-use Rattle.jsonrows.specs.declared.outside.Pass.TheVariants as passes
-use Rattle.jsonrows.specs.Rows.{Rows, after, broken, ends, items_from, longest_item, passed, rows_at}
+use Rattle.jsonrows.specs.declared.stage.Stage.TheVariants.{Next, Closing}
+use Rattle.jsonrows.specs.Rows.{broken, ends, items_from, longest_item, passed, row, rows_at, unindented}
 
 -- a chunk from a byte of it on, and what follows the chunk
 pub goes_on : (chunk tail : List ℕ) (i d : ℕ) → i < length chunk → drop i chunk ++ tail ≡ get_or chunk i d ∷ (drop (i + 1) chunk ++ tail)
 goes_on chunk tail i d inside = ap (λ (l : List ℕ). l ++ tail) (drop_more chunk i d inside)
 
--- a byte that belongs to an item
-pub belongs : (byte b : ℕ) (item text : List ℕ) (here : Place) → ends here b ≡ false → length item < longest_item → items_from byte item here (b ∷ text) ≡ items_from (byte + 1) (item ++ b ∷ []) (after here b) text
-belongs byte b item text here goes few = rw (goes, lt-leb longest_item (length item) few) refl
-
 -- the rows from a place on, where so many bytes of a chunk that fits into the item are read
 abbrev pub AreScanned : Place → Place → List ℕ → ℕ → Type 0
 AreScanned place here bytes i = (byte : ℕ) (item tail : List ℕ) → length bytes ≤ longest_item - length item → items_from byte item place (bytes ++ tail) ≡ items_from (byte + i) (item ++ take i bytes) here (drop i bytes ++ tail)
 
-pub none_scanned : (place : Place) (bytes : List ℕ) → AreScanned place place bytes 0
-none_scanned place bytes byte item tail fits =
-    ap (λ (l : List ℕ). items_from byte l place (bytes ++ tail)) (sym (append-nil item)) ∙ ap (λ (n : ℕ). items_from n (item ++ []) place (bytes ++ tail)) (omega arith)
-
-pub scanned_more : (place here : Place) (bytes : List ℕ) (i d : ℕ) → i < length bytes → ends here (get_or bytes i d) ≡ false → AreScanned place here bytes i → AreScanned place (after here (get_or bytes i d)) bytes (i + 1)
-scanned_more place here bytes i d inside goes before byte item tail fits =
-    let b = get_or bytes i d in
-    let few : length (item ++ take i bytes) < longest_item = omega (arith, length-append item (take i bytes), length-take-le {A = ℕ} i bytes) in
-    let front : (item ++ take i bytes) ++ b ∷ [] ≡ item ++ take (i + 1) bytes = append_assoc item (take i bytes) (b ∷ []) ∙ ap (λ (l : List ℕ). item ++ l) (sym (take_more bytes i d inside)) in
-    before byte item tail fits
-    ∙ ap (items_from (byte + i) (item ++ take i bytes) here) (goes_on bytes tail i d inside)
-    ∙ belongs (byte + i) b (item ++ take i bytes) (drop (i + 1) bytes ++ tail) here goes few
-    ∙ ap (λ (l : List ℕ). items_from (byte + i + 1) l (after here b) (drop (i + 1) bytes ++ tail)) front
-    ∙ ap (λ (n : ℕ). items_from n (item ++ take (i + 1) bytes) (after here b) (drop (i + 1) bytes ++ tail)) (omega arith)
-
 -- the rows from a stage on, where so many bytes of a chunk are read
 abbrev pub AreEntered : Stage → Stage → ℕ → List ℕ → ℕ → Type 0
 AreEntered stage here byte chunk i = (item tail : List ℕ) → rows_at stage byte item (chunk ++ tail) ≡ rows_at here (byte + i) item (drop i chunk ++ tail)
-
-pub none_entered : (stage : Stage) (byte : ℕ) (chunk : List ℕ) → AreEntered stage stage byte chunk 0
-none_entered stage byte chunk item tail = ap (λ (n : ℕ). rows_at stage n item (chunk ++ tail)) (omega arith)
-
--- and then one that is this
-module _ (stage here : Stage) (byte : ℕ) (chunk : List ℕ) (i d : ℕ) (p : Pass) (inside : i < length chunk)
-    (is : (at : ℕ) (item text : List ℕ) → rows_at here at item (get_or chunk i d ∷ text) ≡ passed p at item (get_or chunk i d) text) (before : AreEntered stage here byte chunk i) where
-  pub one_passed : (item tail : List ℕ) → rows_at stage byte item (chunk ++ tail) ≡ passed p (byte + i) item (get_or chunk i d) (drop (i + 1) chunk ++ tail)
-  one_passed item tail = before item tail ∙ ap (rows_at here (byte + i) item) (goes_on chunk tail i d inside) ∙ is (byte + i) item (drop (i + 1) chunk ++ tail)
-
-  pub one_taken : (next : Stage) → p ≡ passes.Taken next → AreEntered stage next byte chunk (i + 1)
-  one_taken next taken item tail =
-      one_passed item tail ∙ ap (λ q. passed q (byte + i) item (get_or chunk i d) (drop (i + 1) chunk ++ tail)) taken
-      ∙ ap (λ (n : ℕ). rows_at next n item (drop (i + 1) chunk ++ tail)) (omega arith)
-
-  pub one_left : (next : Stage) → p ≡ passes.Item next → AreEntered stage next byte chunk i
-  one_left next left item tail =
-      one_passed item tail ∙ ap (λ q. passed q (byte + i) item (get_or chunk i d) (drop (i + 1) chunk ++ tail)) left
-      ∙ ap (rows_at next (byte + i) item) (sym (goes_on chunk tail i d inside))
-
-  pub one_wrong : (expected : Expected) → p ≡ passes.Wrong expected → (item tail : List ℕ) → rows_at stage byte item (chunk ++ tail) ≡ broken (byte + i) expected
-  one_wrong expected wrong item tail = one_passed item tail ∙ ap (λ q. passed q (byte + i) item (get_or chunk i d) (drop (i + 1) chunk ++ tail)) wrong
 
 -- a piece is read, in which so much room is
 pub piece_scanned : (place here : Place) (byte : ℕ) (item chunk : List ℕ) (room n : ℕ) → n ≤ length (take room chunk) → room ≤ longest_item - length item → AreScanned place here (take room chunk) n
@@ -77,3 +37,34 @@ piece_scanned place here byte item chunk room n inside fits scanned tail =
     ∙ scanned byte item (back ++ tail) few
     ∙ ap (λ (l : List ℕ). items_from (byte + n) (item ++ l) here (drop n front ++ (back ++ tail))) taken
     ∙ ap (items_from (byte + n) (item ++ take n chunk) here) left
+
+-- what comes of it, where something is left of the chunk
+module _ (place here : Place) (byte : ℕ) (item chunk got : List ℕ) (room n : ℕ) (inside : n ≤ length (take room chunk)) (fits : room ≤ longest_item - length item)
+    (scanned : AreScanned place here (take room chunk) n) (grown : got ≡ item ++ take n chunk) (rest : List ℕ) (left : rest ≡ drop n chunk) (some : 1 ≤ length rest) where
+  at_rest : (tail : List ℕ) → items_from byte item place (chunk ++ tail) ≡ items_from (byte + n) got here (get_or rest 0 0 ∷ (drop 1 rest ++ tail))
+  at_rest tail =
+      piece_scanned place here byte item chunk room n inside fits scanned tail
+      ∙ ap (λ (l : List ℕ). items_from (byte + n) l here (drop n chunk ++ tail)) (sym grown)
+      ∙ ap (λ (l : List ℕ). items_from (byte + n) got here (l ++ tail)) (sym left)
+      ∙ ap (items_from (byte + n) got here) (goes_on rest tail 0 0 (omega arith))
+
+  -- the item ends there, before a comma or else
+  pub item_ends : (tail : List ℕ) (stage : Stage) (begun : ℕ) (behind : List ℕ) → ends here (get_or rest 0 0) ≡ true → ((get_or rest 0 0 ≡ 44) × (stage ≡ Next)) ⊎ ((get_or rest 0 0 ≡ 44 → ⊥) × (stage ≡ Closing))
+      → begun ≡ byte + n - length (unindented got) → behind ≡ drop 1 rest → items_from byte item place (chunk ++ tail) ≡ row begun (unindented got) (rows_at stage (byte + n + 1) got (behind ++ tail))
+  item_ends tail stage begun behind over (inl (comma, next)) starts goes = rw (starts, goes, next) (at_rest tail ∙ rw (over, comma) refl)
+  item_ends tail stage begun behind over (inr (other, closing)) starts goes = rw (starts, goes, closing) (at_rest tail ∙ rw (over, ne_eqb (get_or rest 0 0) 44 other) refl)
+
+  -- or has no more room
+  pub item_full : (tail : List ℕ) → ends here (get_or rest 0 0) ≡ false → longest_item ≤ length got → items_from byte item place (chunk ++ tail) ≡ broken (byte + n) wants.ShorterItem
+  item_full tail goes full = at_rest tail ∙ rw (goes, le-leb longest_item (length got) full) refl
+
+-- what belongs to an item goes on behind all that has room
+pub no_room : (here : Place) (chunk rest : List ℕ) (room n : ℕ) → (n < length (take room chunk) → IsTrue (ends here (get_or (take room chunk) n 0))) → rest ≡ drop n chunk → 1 ≤ length rest → ends here (get_or rest 0 0) ≡ false → room ≤ n
+no_room here chunk rest room n ended left some goes = elim (cases_Bool (leb room n)) [
+  | inl passed ↦ leb-true room n passed
+  | inr before ↦
+      let below : n < room = leb-false room n before in
+      let inside : n < length (take room chunk) = omega (arith, length-take room chunk, ap length left, length-drop n chunk) in
+      let same : get_or (take room chunk) n 0 ≡ get_or rest 0 0 = get_or-take room chunk n 0 below ∙ ap (λ (k : ℕ). get_or chunk k 0) (omega arith) ∙ sym (ap (λ (l : List ℕ). get_or l 0 0) left ∙ get_or-drop n chunk 0 0) in
+      absurd (false≢true (sym goes ∙ ap (ends here) (sym same) ∙ ended inside))
+]

@@ -38,7 +38,7 @@ pub(crate) fn unindented(item: &[u8]) -> &[u8]
 }
 
 // What a byte is that stands behind what a reader has read, who stands here.
-fn pass(stage: Stage, byte: u8) -> Pass
+fn pass_at(stage: Stage, byte: u8) -> Pass
     ensures shallow { IsShallow result (depth_at stage) }
     ensures rows { (at : ℕ) (item text : List ℕ) → rows_at stage at item (byte ∷ text) ≡ passed result at item byte text }
 {
@@ -87,7 +87,7 @@ pub(crate) fn enter(stage: Stage, byte: u64, chunk: &[u8]) -> Result<(Stage, usi
 {
     let mut here = stage;
     for i in 0..chunk.len() {
-        match pass(here, chunk[i]) {
+        match pass_at(here, chunk[i]) {
             Pass::Taken(stage) => here = stage,
             Pass::Item(stage) => return Ok((stage, i)),
             Pass::Wrong(expected) => {

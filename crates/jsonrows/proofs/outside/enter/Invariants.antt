@@ -6,5 +6,5 @@ use Rattle.jsonrows.proofs.outside.enter.Given as goal
 abbrev pub invariant-loop-i : goal.invariant-loop-i
 invariant-loop-i l = record {
   depth : depth_at l.here ≤ l.byte;
-  rows : AreEntered l.stage l.here l.byte l.chunk l.i;
+  rows : AreEntered l.fn.stage l.here l.byte l.chunk l.i;
 }

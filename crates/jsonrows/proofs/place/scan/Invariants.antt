@@ -5,6 +5,6 @@ use Rattle.jsonrows.proofs.place.scan.Given as goal
 
 abbrev pub invariant-loop-i : goal.invariant-loop-i
 invariant-loop-i l = record {
-  depth : depth_of l.here ≤ depth_of l.place + l.i;
-  rows : AreScanned l.place l.here l.bytes l.i;
+  depth : depth_of l.here ≤ depth_of l.fn.place + l.i;
+  rows : AreScanned l.fn.place l.here l.bytes l.i;
 }
