@@ -9,7 +9,6 @@ use crate::tree_fault::TreeFault;
 use crate::values::read_json;
 use jsonrows::RowCutter;
 use std::alloc::{AllocError, Global};
-use std::marker::Model;
 
 /// Reads the tree that a text lists, of which it holds one item at a time. Each item is an inode, with numbers at `ino`, `uid`, `gid` and
 /// `mode`, with who holds something of it at `client_caps`, and with the names in it at `dirfrags`, if it is a directory. The fault is
@@ -26,21 +25,14 @@ impl Drop for TreeReader {
     }
 }
 
-impl Model for TreeReader {
-    ghost use Rattle.capcluster.specs.Dump.{Growing, dump, growing};
-
-    ghost Value = { Growing };
-
-    ghost view = { λ r. growing (dump r.tree.inodes.items r.tree.paths) r.rows };
-}
-
 impl TreeReader {
     ghost use Rattle.std.specs.Prelude.{◌≡◌, ◌+◌, ◌<◌, ◌^◌, ◌++◌, List, ℕ, [], IfOk, IfErr, OnOk, Ok, length};
     ghost use Rattle.capcluster.specs.Dump.{IsTreeFault, dump, tree_left, tree_of};
+    ghost use Rattle.capcluster.specs.Reader.{so_far};
 
     /// A reader that has read nothing.
     pub fn new(alloc: Global) -> Result<TreeReader, AllocError>
-        ensures text { IfOk result (λ reader. (text : List ℕ) → tree_left reader text ≡ tree_of text) }
+        ensures text { IfOk result (λ reader. (text : List ℕ) → tree_left (so_far reader) text ≡ tree_of text) }
         ensures byte { IfOk result (λ reader. reader.rows.byte ≡ 0) }
     {
         Ok(TreeReader {
@@ -60,9 +52,9 @@ impl TreeReader {
     pub fn take(&mut self, alloc: Global, chunk: &[u8]) -> Result<(), TreeFault>
         requires { self.old.rows.byte + length chunk.now < 2 ^ 64 }
         // Whatever follows that.
-        ensures read { OnOk result ((tail : List ℕ) → tree_left self.old (chunk.now ++ tail) ≡ tree_left self.new tail) }
+        ensures read { OnOk result ((tail : List ℕ) → tree_left (so_far self.old) (chunk.now ++ tail) ≡ tree_left (so_far self.new) tail) }
         ensures byte { OnOk result (self.new.rows.byte ≡ self.old.rows.byte + length chunk.now) }
-        ensures err { IfErr result (λ fault. (tail : List ℕ) → IsTreeFault fault (tree_left self.old (chunk.now ++ tail))) }
+        ensures err { IfErr result (λ fault. (tail : List ℕ) → IsTreeFault fault (tree_left (so_far self.old) (chunk.now ++ tail))) }
     {
         let mut rest = chunk;
         while let Some(cut) = self.rows.advance(rest)? {
@@ -74,8 +66,8 @@ impl TreeReader {
 
     /// The tree, where the text ends.
     pub fn finish(self) -> Result<Tree, TreeFault>
-        ensures ok { IfOk result (λ tree. tree_left self [] ≡ Ok (dump tree.inodes.items tree.paths)) }
-        ensures err { IfErr result (λ fault. IsTreeFault fault (tree_left self [])) }
+        ensures ok { IfOk result (λ tree. tree_left (so_far self) [] ≡ Ok (dump tree.inodes.items tree.paths)) }
+        ensures err { IfErr result (λ fault. IsTreeFault fault (tree_left (so_far self) [])) }
     {
         let TreeReader { rows, tree } = self;
         rows.finish()?;
