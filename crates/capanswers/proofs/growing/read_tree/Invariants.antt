@@ -2,6 +2,7 @@ use Rattle.std.proofs.Common.{◌≡◌, ◌+◌, ◌-◌, ℕ, List, ◌++◌, 
 use Rattle.std.specs.Prelude.{IsFalse}
 use Rattle.std.specs.Io.KnownBytes.{Consumes}
 use Rattle.capheld.specs.Capcluster.Dump.{tree_left, tree_of}
+use Rattle.capheld.specs.Capcluster.Reader.{so_far}
 use Rattle.capstreams.specs.Watched.{inner_of, has_failed}
 use Rattle.capanswers.proofs.growing.read_tree.Given as goal
 
@@ -9,7 +10,7 @@ use Rattle.capanswers.proofs.growing.read_tree.Given as goal
 abbrev pub invariant-loop-buffer : goal.invariant-loop-buffer
 invariant-loop-buffer g l = record {
   taken : (taken : List ℕ) × Consumes (g.R.Read.remaining (inner_of l.fn.reader)) (g.R.Read.remaining (inner_of l.reader)) taken
-      × (length taken ≡ l.tree.rows.byte) × ((tail : List ℕ) → tree_of (taken ++ tail) ≡ tree_left l.tree tail);
+      × (length taken ≡ l.tree.rows.byte) × ((tail : List ℕ) → tree_of (taken ++ tail) ≡ tree_left (so_far l.tree) tail);
   clear : IsFalse (has_failed l.reader);
 }
 
