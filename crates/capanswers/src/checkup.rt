@@ -80,7 +80,11 @@ pub fn check_cluster<R: Read, W: Write>(
     let Some(fs) = FsName::read(checkup.fs.as_slice()) else {
         return Err(AnswerFault::Question(QuestionFault::BadValue(Opt::Fs)));
     };
-    let clients = ClusterClients::read(alloc, checkup.auth.as_slice(), checkup.sessions.as_slice())?;
+    let clients = ClusterClients::read(
+        alloc,
+        checkup.auth.as_slice(),
+        checkup.sessions.as_slice(),
+    )?;
     let tree = read_tree(alloc, reader)?;
     let notes = audit(alloc, &fs, &clients, &tree)?;
     let lines = all_lines(alloc, &notes)?;

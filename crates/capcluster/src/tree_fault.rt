@@ -45,9 +45,7 @@ impl Display for TreeFault {
                 f,
                 "NotJson {number} at byte {byte}, in it at line {line} column {column}"
             ),
-            TreeFault::BadItem { number, byte } => {
-                write!(f, "BadItem {number} at byte {byte}")
-            }
+            TreeFault::BadItem { number, byte } => { write!(f, "BadItem {number} at byte {byte}") }
             TreeFault::NoMemory => f.write_str("no memory"),
         }
     }
