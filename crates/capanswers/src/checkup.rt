@@ -5,11 +5,12 @@ ghost use Rattle.capanswers.specs.Checkup.{AnswersCheckup, StopsCheckup};
 
 use crate::commands::write_text;
 use crate::fault::AnswerFault;
+use crate::growing::read_tree;
 use crate::status::{DONE, FOUND};
-use capheld::{ClusterTexts, Detail, audit};
+use capheld::{ClusterClients, Detail, audit};
 use capquestion::{Opt, QuestionFault};
 use capspec::FsName;
-use capstreams::{Watched, read_script};
+use capstreams::Watched;
 use std::alloc::Global;
 use std::io::{Read, Write};
 
@@ -82,13 +83,13 @@ pub fn check_cluster<R: Read, W: Write>(
     let Some(fs) = FsName::read(checkup.fs.as_slice()) else {
         return Err(AnswerFault::Question(QuestionFault::BadValue(Opt::Fs)));
     };
-    let tree = read_script(alloc, reader)?;
-    let texts = ClusterTexts {
-        auth: checkup.auth.as_slice(),
-        sessions: checkup.sessions.as_slice(),
-        tree: tree.as_slice(),
-    };
-    let report = audit(alloc, checkup.detail, &fs, &texts)?;
+    let clients = ClusterClients::read(
+        alloc,
+        checkup.auth.as_slice(),
+        checkup.sessions.as_slice(),
+    )?;
+    let tree = read_tree(alloc, reader)?;
+    let report = audit(alloc, checkup.detail, &fs, &clients, &tree)?;
     let text = report.text.as_slice();
     if report.found {
         write_text(text, FOUND, writer)

@@ -12,7 +12,7 @@ use Rattle.capspec.specs.Grants.{Reads}
 use Rattle.capauth.specs.Auth.{Named, IsFaultOf, auth_of}
 use Rattle.capcluster.specs.Values.{IsFaultIn}
 use Rattle.capcluster.specs.Sessions.{Connected, sessions_of}
-use Rattle.capcluster.specs.Dump.{Held, Listed, PathMap, Dump, tree_of}
+use Rattle.capcluster.specs.Dump.{Held, Listed, PathMap, Dump}
 use Rattle.capaudit.specs.declared.findings.Finding.{Finding}
 use Rattle.capaudit.specs.declared.pairs.Conflict.{Conflict}
 use Rattle.capaudit.specs.declared.pairs.Holding.{Holding}
@@ -21,7 +21,7 @@ use Rattle.capaudit.specs.Callers.{Inode, inode, IsPermittedToSome}
 use Rattle.capaudit.specs.Findings.{IsBeyond}
 use Rattle.capexplain.specs.Standing.{unread_line}
 use Rattle.capheld.specs.declared.fault.HeldFault.{HeldFault}
-use Rattle.capheld.specs.declared.fault.HeldFault.TheVariants.{Auth, Sessions, Tree, NoMemory}
+use Rattle.capheld.specs.declared.fault.HeldFault.TheVariants.{Auth, Sessions}
 use Rattle.capheld.specs.declared.notes.Detail.{Detail}
 use Rattle.capheld.specs.declared.notes.Detail.TheVariants.{Each, Groups}
 use Rattle.capheld.specs.declared.notes.Notes.{Notes}
@@ -31,7 +31,15 @@ use Rattle.capheld.specs.Lines.{held_line, group_line, inode_text, session_text,
 
 -- ---- who it is
 
--- the entities of the auth list, and the sessions, and in which detail is told what is found of them
+-- the entities of the auth list, and the sessions
+pub record Roster : Type 0 where
+  pub entities : List Named
+  pub sessions : List Connected
+
+abbrev pub roster : List Named → List Connected → Roster
+roster entities sessions = record { entities = entities; sessions = sessions }
+
+-- the same, and in which detail is told what is found of them
 pub record Clients : Type 0 where
   pub detail : Detail
   pub entities : List Named
@@ -39,6 +47,9 @@ pub record Clients : Type 0 where
 
 abbrev pub clients : Detail → List Named → List Connected → Clients
 clients detail entities sessions = record { detail = detail; entities = entities; sessions = sessions }
+
+abbrev pub clients_of : Detail → Roster → Clients
+clients_of detail known = clients detail known.entities known.sessions
 
 -- the first session of this number
 abbrev pub session_of : List Connected → ℕ → Option Connected
@@ -175,27 +186,17 @@ pub record IsReport (fs : List ℕ) (known : Clients) (seen : Dump) (text : List
   pub ordered : AreLines known.detail beyond conflicts unknown lines
   pub told : IsTold lines (summary_line known.sessions seen.inodes beyond conflicts unknown) text found
 
--- the three texts mean an auth list, sessions and a tree, and this is told of them
-pub record IsAudit (detail : Detail) (fs auth sessions tree text : List ℕ) (found : Bool) : Type 0 where
-  pub entities : List Named
-  pub connected : List Connected
-  pub seen : Dump
-  pub is_auth : auth_of auth ≡ Some (Ok entities)
-  pub are_sessions : sessions_of sessions ≡ Some (Ok connected)
-  pub is_tree : tree_of tree ≡ Some (Ok seen)
-  pub told : IsReport fs (clients detail entities connected) seen text found
+-- ---- the texts
+
+-- two texts mean an auth list and sessions, and these are the clients of the cluster
+abbrev pub AreClients : List ℕ → List ℕ → Roster → Type 0
+AreClients auth sessions known = (auth_of auth ≡ Some (Ok known.entities)) × (sessions_of sessions ≡ Some (Ok known.sessions))
 
 -- the text means an auth list
 abbrev pub IsAuthList : List ℕ → Type 0
 IsAuthList auth = (entities : List Named) × (auth_of auth ≡ Some (Ok entities))
 
--- sessions
-abbrev pub AreSessions : List ℕ → Type 0
-AreSessions sessions = (connected : List Connected) × (sessions_of sessions ≡ Some (Ok connected))
-
--- the fault is that of the first of the texts that means nothing; want of memory is in none
-abbrev pub IsFaultOfCluster : List ℕ → List ℕ → List ℕ → HeldFault → Type 0
-IsFaultOfCluster auth sessions tree (Auth fault) = IsFaultOf fault (auth_of auth)
-IsFaultOfCluster auth sessions tree (Sessions fault) = IsAuthList auth × IsFaultIn fault (sessions_of sessions)
-IsFaultOfCluster auth sessions tree (Tree fault) = IsAuthList auth × AreSessions sessions × IsFaultIn fault (tree_of tree)
-IsFaultOfCluster auth sessions tree NoMemory = Unit {0}
+-- the fault is that of the first of the two that means nothing
+abbrev pub IsFaultOfClients : List ℕ → List ℕ → HeldFault → Type 0
+IsFaultOfClients auth sessions (Auth fault) = IsFaultOf fault (auth_of auth)
+IsFaultOfClients auth sessions (Sessions fault) = IsAuthList auth × IsFaultIn fault (sessions_of sessions)

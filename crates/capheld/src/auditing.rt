@@ -1,75 +1,46 @@
-//! From three texts of a cluster to what its clients hold and may not.
-ghost use Rattle.std.specs.Prelude.{OnOk, IfOk, IfErr};
+//! From the clients and the tree of a cluster to what is held and may not be.
+ghost use Rattle.std.specs.Prelude.{OnOk, IfOk};
 ghost use Rattle.capcluster.specs.Dump.{dump};
-ghost use Rattle.capheld.specs.Audited.{Adds, AreLines, AreSaid, IsAudit, IsFaultOfCluster, IsReport, IsTold, SaysOf, SaysOfInode, clients};
+ghost use Rattle.capheld.specs.Audited.{Adds, AreLines, AreSaid, IsReport, IsTold, SaysOf, SaysOfInode, clients, clients_of};
 
-use crate::fault::HeldFault;
+use crate::clients::ClusterClients;
 use crate::holders::{note_holder, print_pathless_holders};
 use crate::notes::{Detail, Notes, Report};
 use crate::order::{counted, in_order};
 use crate::pairs::conflict_lines;
 use crate::summary::summary_line;
 use capaudit::Inode;
-use capauth::{AuthList, read_auth};
-use capcluster::{Holder, Session, Tree, TreeInode, read_sessions, read_tree};
+use capauth::AuthList;
+use capcluster::{Holder, Session, Tree, TreeInode};
 use capspec::{FsName, TreePath};
 use captext::print_str;
 use numbered::Numbered;
 use std::alloc::{AllocError, Global};
 
-/// What `ceph` prints of a cluster.
-pub struct ClusterTexts<'a> {
-    /// The auth list: `ceph auth ls -f json`.
-    pub auth: &'a [u8],
-    /// The sessions of a metadata server: `ceph tell mds.N session ls`.
-    pub sessions: &'a [u8],
-    /// The tree that it has in memory: `ceph tell mds.N dump tree /`.
-    pub tree: &'a [u8],
-}
-
-// By hand, so that whoever lets one go has one call to prove.
-impl Drop for ClusterTexts<'_> {
-    fn drop(self) {
-        let ClusterTexts {
-            auth: _,
-            sessions: _,
-            tree: _,
-        } = self;
-    }
-}
-
-/// What the clients of a cluster hold of the inodes of this file system and nobody behind their keys is permitted, and what two of
-/// them hold that no two may hold together; behind that what could not be judged; each line once, in the order of the lines' bytes,
-/// which is first that of paths, or those that are alike counted; and a line that sums it up. The fault is that of the first text that is none.
+/// What the clients of a cluster hold of the inodes of this file system, by the tree that a metadata server has in memory, and nobody
+/// behind their keys is permitted, and what two of them hold that no two may hold together; behind that what could not be judged; each
+/// line once, in the order of the lines' bytes, which is first that of paths, or those that are alike counted; and a line that sums it
+/// up.
 pub fn audit(
     alloc: Global,
     detail: Detail,
     fs: &FsName,
-    texts: &ClusterTexts,
-) -> Result<Report, HeldFault>
-    ensures ok { IfOk result (λ report. IsAudit detail fs.now texts.now.auth.now texts.now.sessions.now texts.now.tree.now report.text.items report.found) }
-    ensures err { IfErr result (IsFaultOfCluster texts.now.auth.now texts.now.sessions.now texts.now.tree.now) }
-{
-    let auth = read_auth(alloc, texts.auth).map_err(HeldFault::Auth)?;
-    let sessions = read_sessions(alloc, texts.sessions).map_err(HeldFault::Sessions)?;
-    let tree = read_tree(alloc, texts.tree).map_err(HeldFault::Tree)?;
-    let report = report(alloc, detail, fs, &auth, sessions.as_slice(), &tree)?;
-    Ok(report)
-}
-
-// What is told of a cluster.
-fn report(
-    alloc: Global,
-    detail: Detail,
-    fs: &FsName,
-    auth: &AuthList,
-    sessions: &[Session],
+    clients: &ClusterClients,
     tree: &Tree,
 ) -> Result<Report, AllocError>
-    ensures { IfOk result (λ report. IsReport fs.now (clients detail auth.now sessions.now) (dump tree.now.inodes.items tree.now.paths) report.text.items report.found) }
+    ensures { IfOk result (λ report. IsReport fs.now (clients_of detail clients.now) (dump tree.now.inodes.items tree.now.paths) report.text.items report.found) }
 {
+    let sessions = clients.sessions();
     let inodes = tree.inodes.as_slice();
-    let notes = note_inodes(alloc, detail, fs, auth, sessions, inodes, &tree.paths)?;
+    let notes = note_inodes(
+        alloc,
+        detail,
+        fs,
+        clients.auth(),
+        sessions,
+        inodes,
+        &tree.paths,
+    )?;
     let conflicts = conflict_lines(alloc, detail, sessions, inodes, &tree.paths)?;
     let lines = all_lines(alloc, detail, &notes, conflicts.as_slice())?;
     let last = summary_line(alloc, sessions, inodes, &notes, conflicts.as_slice())?;

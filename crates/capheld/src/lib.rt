@@ -5,6 +5,7 @@
 #![tactic(auto)]
 
 mod auditing;
+mod clients;
 mod fault;
 mod holders;
 mod lines;
@@ -13,6 +14,8 @@ mod order;
 mod pairs;
 mod summary;
 
-pub use auditing::{ClusterTexts, audit};
+pub use auditing::audit;
+pub use capcluster::{Tree, TreeFault, TreeReader};
+pub use clients::ClusterClients;
 pub use fault::HeldFault;
 pub use notes::{Detail, Report};
