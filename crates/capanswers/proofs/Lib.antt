@@ -1,4 +1,6 @@
 pub mod Unwritten
+pub mod Audits
+pub mod Grown
 pub mod Inquired
 pub mod Surveyed
 pub mod Logged

@@ -1,40 +1,40 @@
 -- What `audit` writes, and why it stops before that.
-use Rattle.std.specs.Prelude.{◌≡◌, ◌⊎◌, ◌≤◌, ◌==◌, ℕ, Bool, List, ◌++◌, length, Option, IfSome, IsTrue, codes, if◌then◌else◌}
+use Rattle.std.specs.Prelude.{◌≡◌, ◌⊎◌, ℕ, Bool, List, Option, IfSome, IsTrue, Ok, if◌then◌else◌}
 use Rattle.std.specs.Io.KnownBytes.{Appends, Keeps}
 use Rattle.capspec.specs.Names.{IsFsName}
-use Rattle.capstreams.specs.Caplines.Lines.{longest_script}
 use Rattle.capheld.specs.declared.fault.HeldFault.{HeldFault}
-use Rattle.capheld.specs.Audited.{IsAudit, IsFaultOfCluster}
+use Rattle.capheld.specs.Capcluster.Dump.{Dump, tree_of}
+use Rattle.capheld.specs.Audited.{Roster, AreClients, IsReport, IsFaultOfClients, clients_of}
 use Rattle.capquestion.specs.declared.fault.QuestionFault.TheVariants.{BadValue}
 use Rattle.capquestion.specs.declared.options.Opt.TheVariants.{Fs}
 use Rattle.capanswers.specs.declared.checkup.Checkup.{Checkup}
 use Rattle.capanswers.specs.declared.fault.AnswerFault.{AnswerFault}
 use Rattle.capanswers.specs.declared.fault.AnswerFault.TheVariants.{Cluster, Question, WriteFailed, NoMemory}
-use Rattle.capanswers.specs.Inquiry.{IsUnreadInput}
+use Rattle.capanswers.specs.Growing.{StopsTree}
 
--- these lines, or that nothing is found where there are none
-abbrev pub report_text : List ℕ → List ℕ
-report_text lines = if length lines == 0 then codes "nothing found\n" else lines
+-- the clients of the cluster are those that two texts mean
+abbrev pub AreClientsOf : Checkup → Roster → Type 0
+AreClientsOf checkup known = AreClients checkup.auth.items checkup.sessions.items known
 
--- this was found on the cluster, this could not be judged, and both are written; the status is 3 where either is anything, else 0
-abbrev pub IsCheckedBy : Checkup → List ℕ → ℕ → Option (List ℕ) → Option (List ℕ) → Type 0
-IsCheckedBy checkup tree status old new = (found : List ℕ) × (unknown : List ℕ) × IsAudit checkup.fs.items checkup.auth.items checkup.sessions.items tree found unknown
-    × (status ≡ (if length (found ++ unknown) == 0 then 0 else 3)) × Appends old new (report_text (found ++ unknown))
+-- this is told of the clients and the tree, and it is written; the status is 3 where anything was found or could not be judged, else 0
+abbrev pub IsCheckedBy : Checkup → Roster → Dump → ℕ → Option (List ℕ) → Option (List ℕ) → Type 0
+IsCheckedBy checkup known tree status old new = (text : List ℕ) × (found : Bool) × IsReport checkup.fs.items (clients_of checkup.detail known) tree text found
+    × (status ≡ (if found then 3 else 0)) × Appends old new text
 
--- the same on the tree that was to be read
+-- the same by the texts, of which that of the tree was to be read
 pub record AnswersCheckup (checkup : Checkup) (input : Option (List ℕ)) (status : ℕ) (old new : Option (List ℕ)) : Type 0 where
+  pub known : Roster
+  pub tree : Dump
   pub named : IsFsName checkup.fs.items
-  pub told : IfSome input (λ tree. (length tree ≤ longest_script) × IsCheckedBy checkup tree status old new)
+  pub are_clients : AreClientsOf checkup known
+  pub is_tree : IfSome input (λ text. tree_of text ≡ Ok tree)
+  pub told : IsCheckedBy checkup known tree status old new
 
--- what is told is the fault of the cluster's texts, or memory was missing
-abbrev pub TellsOfCluster : Checkup → Option (List ℕ) → AnswerFault → Type 0
-TellsOfCluster checkup input fault = (fault ≡ NoMemory)
-    ⊎ ((found : HeldFault) × (fault ≡ Cluster found) × IfSome input (λ tree. IsFaultOfCluster checkup.auth.items checkup.sessions.items tree found))
-
--- no file system has the name, the input can't be read, or the texts are none
+-- no file system has the name, the auth list or the sessions are none, behind these the tree is not read, or memory was missing
 abbrev pub IsFaultOfCheckup : Checkup → AnswerFault → Option (List ℕ) → Bool → Type 0
-IsFaultOfCheckup checkup fault input unread =
-    ((fault ≡ Question (BadValue Fs)) × (¬ IsFsName checkup.fs.items)) ⊎ (IsUnreadInput fault input unread ⊎ TellsOfCluster checkup input fault)
+IsFaultOfCheckup checkup fault input unread = ((fault ≡ Question (BadValue Fs)) × (¬ IsFsName checkup.fs.items))
+    ⊎ (((found : HeldFault) × (fault ≡ Cluster found) × IsFaultOfClients checkup.auth.items checkup.sessions.items found)
+    ⊎ (((known : Roster) × AreClientsOf checkup known × StopsTree fault input unread) ⊎ (fault ≡ NoMemory)))
 
 -- a write failed; or it is a fault of these, and nothing was written
 abbrev pub StopsCheckup : Checkup → AnswerFault → Option (List ℕ) → Bool → Bool → Option (List ℕ) → Option (List ℕ) → Type 0

@@ -1,20 +1,23 @@
 //! The command that tells what clients of a running cluster hold and may not.
-ghost use Rattle.std.specs.Prelude.{◌≡◌, ◌⊎◌, ◌++◌, ◌==◌, OnOk, IfOk, IfErr, IsFalse, codes, if◌then◌else◌, length};
+ghost use Rattle.std.specs.Prelude.{◌≡◌, ◌⊎◌, OnOk, IfOk, IfErr, IsFalse};
 ghost use Rattle.capstreams.specs.Watched.{inner_of, has_failed, has_ended};
 ghost use Rattle.capanswers.specs.Checkup.{AnswersCheckup, StopsCheckup};
 
 use crate::commands::write_text;
 use crate::fault::AnswerFault;
+use crate::growing::read_tree;
 use crate::status::{DONE, FOUND};
-use capheld::{ClusterTexts, Notes, audit};
+use capheld::{ClusterClients, Detail, audit};
 use capquestion::{Opt, QuestionFault};
 use capspec::FsName;
-use capstreams::{Watched, read_script};
-use std::alloc::{AllocError, Global};
+use capstreams::Watched;
+use std::alloc::Global;
 use std::io::{Read, Write};
 
 /// What `audit` is asked.
 pub struct Checkup {
+    /// In which detail is told what is found.
+    pub detail: Detail,
     /// The name of the file system.
     pub fs: Vec<u8>,
     /// The names of the files in which the texts of the cluster stand.
@@ -29,6 +32,7 @@ pub struct Checkup {
 impl Drop for Checkup {
     fn drop(self) {
         let Checkup {
+            detail: _,
             fs: _,
             files: _,
             auth: _,
@@ -58,8 +62,8 @@ impl Drop for ClusterFiles {
     }
 }
 
-/// Writes what clients hold and may not by the tree that the reader has, and what could not be judged, and says by the status
-/// whether there is any of either.
+/// Writes what clients hold and may not by the tree that the reader has, what could not be judged, and a line that sums it up, and says
+/// by the status whether there is any of either.
 pub fn check_cluster<R: Read, W: Write>(
     alloc: Global,
     checkup: &Checkup,
@@ -79,28 +83,17 @@ pub fn check_cluster<R: Read, W: Write>(
     let Some(fs) = FsName::read(checkup.fs.as_slice()) else {
         return Err(AnswerFault::Question(QuestionFault::BadValue(Opt::Fs)));
     };
-    let tree = read_script(alloc, reader)?;
-    let texts = ClusterTexts {
-        auth: checkup.auth.as_slice(),
-        sessions: checkup.sessions.as_slice(),
-        tree: tree.as_slice(),
-    };
-    let notes = audit(alloc, &fs, &texts)?;
-    let lines = all_lines(alloc, &notes)?;
-    let lines = lines.as_slice();
-    if lines.is_empty() {
-        write_text(b"nothing found\n", DONE, writer)
+    let clients = ClusterClients::read(
+        alloc,
+        checkup.auth.as_slice(),
+        checkup.sessions.as_slice(),
+    )?;
+    let tree = read_tree(alloc, reader)?;
+    let report = audit(alloc, checkup.detail, &fs, &clients, &tree)?;
+    let text = report.text.as_slice();
+    if report.found {
+        write_text(text, FOUND, writer)
     } else {
-        write_text(lines, FOUND, writer)
+        write_text(text, DONE, writer)
     }
-}
-
-// What is found, and behind it what could not be judged.
-fn all_lines(alloc: Global, notes: &Notes) -> Result<Vec<u8>, AllocError>
-    ensures { IfOk result (λ lines. lines.items ≡ notes.now.found.items ++ notes.now.unknown.items) }
-{
-    let mut lines = Vec::new(alloc);
-    lines.extend_from_slice(notes.found.as_slice())?;
-    lines.extend_from_slice(notes.unknown.as_slice())?;
-    Ok(lines)
 }

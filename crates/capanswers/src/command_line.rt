@@ -43,6 +43,8 @@ pub const SESSIONS: &str = "sessions";
 
 pub const TREE: &str = "tree";
 
+pub const RULE: &str = "rule";
+
 pub const KEYRING: &str = "keyring";
 
 pub const CLIENT: &str = "client";
@@ -99,7 +101,9 @@ const AUDIT_EXAMPLE: &str = "Example:
   ceph tell mds.0 session ls > sessions.json
   ceph tell mds.0 dump tree / | capd audit --auth auth.json --sessions sessions.json --tree -
 prints for each client and inode of which it holds what nobody behind its key is permitted, such as
-  /a/y client.reader session 4151 holds pAsLsXsFrw, may not Fw: grant 1 rule 5 no-write";
+  /a/y client.reader session 4151 holds pAsLsXsFrw, may not Fw: grant 1 rule 5 no-write
+and for each two clients that hold of an inode what no two may hold together, such as
+  /a/y client.reader session 4151 holds Fw beside Fs of client.tenant session 4149";
 
 const LOG_EXAMPLE: &str = "Example:
   capd log --fs cephfs < /var/log/ceph/ceph-mds.a.log
@@ -378,7 +382,7 @@ fn who<'a>(alloc: Global) -> Result<Command<'a>, AllocError> {
 fn audit<'a>(alloc: Global) -> Result<Command<'a>, AllocError> {
     Command::new(alloc, AUDIT)
         .about(
-            "Says what clients of a running cluster hold and nobody behind their keys is permitted",
+            "Says what clients of a running cluster hold and nobody behind their keys is permitted, and what no two may hold together",
         )
         .after_help(AUDIT_EXAMPLE)
         .arg(file(
@@ -396,7 +400,17 @@ fn audit<'a>(alloc: Global) -> Result<Command<'a>, AllocError> {
             TREE,
             "The tree, as `ceph tell mds.N dump tree /` prints it; - for standard input",
         ))?
+        .arg(rule(alloc))?
         .arg(file_system(alloc))
+}
+
+fn rule<'a>(alloc: Global) -> Arg<'a> {
+    Arg::new(alloc, RULE)
+        .long(RULE)
+        .help(
+            "Prints a line for each rule and client, with how many are found, and not one for each that is found",
+        )
+        .action(ArgAction::SetTrue)
 }
 
 // An option that has to be given and names a file.

@@ -1,7 +1,7 @@
 //! Why a command that answers a question about grants gave no answer.
 
 use capauth::AuthFault;
-use capheld::HeldFault;
+use capheld::{HeldFault, TreeFault};
 use capkeyring::KeyringFault;
 use capquestion::{CompareFault, QuestionFault};
 use capspec::SpecFault;
@@ -25,8 +25,10 @@ pub enum AnswerFault {
     Auth(AuthFault),
     /// The file of the auth list can't be opened.
     UnopenedAuth,
-    /// One of the texts of a cluster is none.
+    /// The auth list or the sessions of a cluster are none.
     Cluster(HeldFault),
+    /// The tree of a cluster is none.
+    Tree(TreeFault),
     /// The file of one of them can't be opened.
     UnopenedText,
     /// What has the text of the grants can't be read, as a script can't.
@@ -47,6 +49,7 @@ impl Display for AnswerFault {
             AnswerFault::Auth(fault) => write!(f, "auth: {fault}"),
             AnswerFault::UnopenedAuth => f.write_str("auth: Unopened"),
             AnswerFault::Cluster(fault) => Display::fmt(fault, f),
+            AnswerFault::Tree(fault) => write!(f, "tree: {fault}"),
             AnswerFault::UnopenedText => f.write_str("cluster: Unopened"),
             AnswerFault::Unread(fault) => Display::fmt(fault, f),
             AnswerFault::WriteFailed => f.write_str("write failed"),
@@ -120,6 +123,17 @@ impl From<HeldFault> for AnswerFault {
 
     fn from(found: HeldFault) -> Self {
         AnswerFault::Cluster(found)
+    }
+}
+
+impl From<TreeFault> for AnswerFault {
+    ghost use Rattle.std.specs.Prelude.{◌≡◌};
+    ghost use Rattle.capanswers.specs.declared.fault.AnswerFault.TheVariants as faults;
+
+    ghost from_gives = { λ found fault. fault ≡ faults.Tree found };
+
+    fn from(found: TreeFault) -> Self {
+        AnswerFault::Tree(found)
     }
 }
 

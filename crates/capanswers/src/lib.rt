@@ -13,6 +13,7 @@ mod command_line;
 mod commands;
 mod fault;
 mod gathering;
+mod growing;
 mod inquiry;
 mod keyring;
 mod logging;

@@ -3,10 +3,11 @@
 use crate::checkup::{Checkup, ClusterFiles};
 use crate::command_line::{
     AUDIT, AUTH, Ask, CLIENT, COMPARE, EXPLAIN, GRANTS, INPUT, JSON, KEYRING, LINT, LOG, MORE, NEW,
-    OLD, QUIET, RUN, SERVE, SESSIONS, TEXT, TREE, WHO,
+    OLD, QUIET, RULE, RUN, SERVE, SESSIONS, TEXT, TREE, WHO,
 };
 use crate::inquiry::{Form, Inquiry, Source};
 use crate::survey::Survey;
+use capheld::Detail;
 use capquestion::{AttemptValues, AttrValues, Opt, Shape, Values, spelled};
 use clap::ArgMatches;
 use clap::error::ErrorKind;
@@ -135,6 +136,11 @@ impl Matched<'_, '_> {
 
     fn checkup(&mut self) -> Checkup {
         Checkup {
+            detail: if self.matches.get_flag(RULE) {
+                Detail::Groups
+            } else {
+                Detail::Each
+            },
             fs: self.option(Opt::Fs),
             files: ClusterFiles {
                 auth: self.value(AUTH),

@@ -1,15 +1,19 @@
 -- The tree of a cluster, with what clients hold of each inode.
-use Rattle.std.specs.Prelude.{ℕ, ◌+◌, ◌%◌, ◌==◌, ◌&&◌, Bool, false, if◌then◌else◌, List, [], ◌∷◌, ◌++◌, length, codes, Option, Some, unwrap_or, option_map, option_and_then, Result, Ok, Err}
+use Rattle.std.specs.Prelude.{◌≡◌, ℕ, ◌+◌, ◌%◌, ◌==◌, ◌&&◌, Bool, false, if◌then◌else◌, List, [], ◌∷◌, ◌++◌, length, codes, Option, Some, None, unwrap_or, ok_or, option_map, option_and_then, Result, Ok, Err}
 use Rattle.std.specs.Ordering.{nat_cmp}
 use Rattle.std.specs.FinMap as map
 use Rattle.std.specs.FinMap.{FinMap}
 use Rattle.serde_json.specs.Data.{Data, Items, no_items, item}
-use Rattle.serde_json.specs.Find.{get, as_array, as_bool}
+use Rattle.serde_json.specs.Find.{get, as_bool}
+use Rattle.jsonrows.specs.declared.fault.Expected.{Expected}
+use Rattle.jsonrows.specs.declared.fault.RowFault.TheVariants as row_faults
+use Rattle.jsonrows.specs.Rows.{Rows, closed, broken, row, rows_of}
+use Rattle.jsonrows.specs.Cutting.{Reading, rows_left}
 use Rattle.capwords.specs.Paths.{names_of}
 use Rattle.capgrant.specs.declared.access.Attr.{Attr}
 use Rattle.capauth.specs.Auth.{json_of}
-use Rattle.capcluster.specs.declared.fault.ClusterFault.{ClusterFault}
-use Rattle.capcluster.specs.declared.fault.ClusterFault.TheVariants.{NoList, BadItem}
+use Rattle.capcluster.specs.declared.tree_fault.TreeFault.{TreeFault}
+use Rattle.capcluster.specs.declared.tree_fault.TreeFault.TheVariants as faults
 use Rattle.capcluster.specs.Values.{id_at, items_at, number_at, text_at}
 
 -- ---- what clients hold
@@ -106,19 +110,58 @@ pub record Dump : Type 0 where
 abbrev pub dump : List Listed → PathMap → Dump
 dump inodes paths = record { inodes = inodes; paths = paths }
 
+-- Why a text is no tree, the first thing that is wrong: it is no list, since something else was expected at a byte; or an item of it is no
+-- JSON, or no inode. Items have their numbers, from 1, and those of their first bytes.
+pub data Wrong : Type 0 where
+  no_list : ℕ → Expected → Wrong
+  no_json : ℕ → ℕ → Wrong
+  no_inode : ℕ → ℕ → Wrong
+
 -- with the inode that an item is
 abbrev pub with_inode : Dump → Data → Option Dump
 with_inode tree d = option_and_then (λ i. option_map (dump (tree.inodes ++ i ∷ [])) (with_directory tree.paths d)) (inode_of d)
 
--- with the inodes that the items are; or the number of the first that is none
-abbrev pub tree_from : Dump → Items → Result Dump ClusterFault
-tree_from tree no_items = Ok tree
-tree_from tree (item d ds) = unwrap_or (option_map (λ more. tree_from more ds) (with_inode tree d)) (Err (BadItem (length tree.inodes + 1)))
+-- the same of the JSON that the text of an item is
+abbrev pub with_json : Dump → ℕ → Option Data → Result Dump Wrong
+with_json tree byte None = Err (no_json (length tree.inodes + 1) byte)
+with_json tree byte (Some d) = ok_or (with_inode tree d) (no_inode (length tree.inodes + 1) byte)
 
--- the tree that a JSON value lists
-abbrev pub tree_in : Data → Result Dump ClusterFault
-tree_in d = unwrap_or (option_map (tree_from (dump [] root_alone)) (as_array d)) (Err NoList)
+-- the same of its text
+abbrev pub with_item : Dump → ℕ → List ℕ → Result Dump Wrong
+with_item tree byte text = with_json tree byte (json_of text)
 
--- the same of a text; None where it is no JSON
-abbrev pub tree_of : List ℕ → Option (Result Dump ClusterFault)
-tree_of text = option_map tree_in (json_of text)
+abbrev pub and_then : Result Dump Wrong → (Dump → Result Dump Wrong) → Result Dump Wrong
+and_then (Ok tree) next = next tree
+and_then (Err wrong) next = Err wrong
+
+-- with the inodes that the items of a list are
+abbrev pub tree_from : Dump → Rows → Result Dump Wrong
+tree_from tree closed = Ok tree
+tree_from tree (broken byte expected) = Err (no_list byte expected)
+tree_from tree (row byte text rows) = and_then (with_item tree byte text) (λ more. tree_from more rows)
+
+-- the tree that a text is
+abbrev pub tree_of : List ℕ → Result Dump Wrong
+tree_of text = tree_from (dump [] root_alone) (rows_of text)
+
+-- the fault is what is wrong; want of memory is in no text
+abbrev pub IsTreeFault : TreeFault → Result Dump Wrong → Type 0
+IsTreeFault (faults.Rows row_faults.NoMemory) found = Unit {0}
+IsTreeFault (faults.Rows (row_faults.Unexpected byte expected)) found = found ≡ Err (no_list byte expected)
+IsTreeFault (faults.NotJson number byte line column) found = found ≡ Err (no_json number byte)
+IsTreeFault (faults.BadItem number byte) found = found ≡ Err (no_inode number byte)
+IsTreeFault faults.NoMemory found = Unit {0}
+
+-- ---- a text that is read piece by piece
+
+-- the tree of what was read, and where the text stands
+pub record Growing : Type 0 where
+  pub tree : Dump
+  pub rows : Reading
+
+abbrev pub growing : Dump → Reading → Growing
+growing tree rows = record { tree = tree; rows = rows }
+
+-- the tree of that and of the text that follows
+abbrev pub tree_left : Growing → List ℕ → Result Dump Wrong
+tree_left g text = tree_from g.tree (rows_left g.rows text)

@@ -1,3 +1,4 @@
 pub mod Values
 pub mod Sessions
 pub mod Dump
+pub mod Reader

@@ -1,10 +1,10 @@
-//! Why a text of a cluster can't be read.
+//! Why the sessions of a cluster can't be read.
 
 use std::alloc::{AllocError, AllocFailed};
 use std::fmt;
 use std::fmt::Display;
 
-/// Why a text is no list of sessions, or no tree.
+/// Why a text is no list of sessions.
 #[derive(Clone, Copy)]
 pub enum ClusterFault {
     /// The text is no JSON.

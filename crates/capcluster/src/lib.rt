@@ -5,15 +5,19 @@
 #![tactic(auto)]
 
 mod fault;
+mod growing;
 mod holder;
 mod inode;
 mod naming;
 mod session;
 mod tree;
+mod tree_fault;
 mod values;
 
 pub use fault::ClusterFault;
+pub use growing::TreeReader;
 pub use holder::Holder;
 pub use inode::TreeInode;
 pub use session::{Session, read_sessions};
-pub use tree::{Tree, read_tree};
+pub use tree::Tree;
+pub use tree_fault::TreeFault;

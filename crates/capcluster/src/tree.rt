@@ -1,16 +1,11 @@
 //! The tree, with what clients hold of it.
 
-ghost use Rattle.std.specs.Prelude.{◌≡◌, [], Some, None, Ok, IfOk, IfErr, false, if◌then◌else◌, option_map};
-ghost use Rattle.std.specs.FinMap as map;
-ghost use Rattle.std.specs.Option.{option_copied};
-ghost use Rattle.serde_json.specs.View.{view, items_view};
-ghost use Rattle.capcluster.specs.Values.{IsFaultIn};
-ghost use Rattle.capcluster.specs.Dump.{dump, root_alone, tree_from, tree_of, with_inode};
+ghost use Rattle.std.specs.Prelude.{◌≡◌, Some, None, IfOk, if◌then◌else◌};
+ghost use Rattle.serde_json.specs.View.{view};
+ghost use Rattle.capcluster.specs.Dump.{dump, with_inode};
 
-use crate::fault::ClusterFault;
 use crate::inode::{TreeInode, read_inode};
 use crate::naming::{add_directory, root_alone};
-use crate::values::read_json;
 use capspec::TreePath;
 use numbered::Numbered;
 use serde_json::Value;
@@ -35,47 +30,29 @@ impl Drop for Tree {
     }
 }
 
-/// The tree that a text lists. Each item is an inode, with numbers at `ino`, `uid`, `gid` and `mode`, with who holds something of
-/// it at `client_caps`, and with the names in it at `dirfrags`, if it is a directory. The fault is the first thing that is wrong, or
-/// want of memory.
-pub fn read_tree(alloc: Global, text: &[u8]) -> Result<Tree, ClusterFault>
-    ensures ok { IfOk result (λ tree. tree_of text.now ≡ Some (Ok (dump tree.inodes.items tree.paths))) }
-    ensures err { IfErr result (λ fault. IsFaultIn fault (tree_of text.now)) }
-{
-    let value = read_json(alloc, text)?;
-    let Some(items) = value.as_array() else {
-        return Err(ClusterFault::NoList);
-    };
-    let tree = read_each(alloc, items.as_slice())?;
-    Ok(tree)
-}
+impl Tree {
+    ghost use Rattle.std.specs.Prelude.{◌≡◌, [], IfOk};
+    ghost use Rattle.capcluster.specs.Dump.{dump, root_alone};
 
-// The tree of these inodes.
-fn read_each(alloc: Global, items: &[Value]) -> Result<Tree, ClusterFault>
-    ensures ok { IfOk result (λ tree. tree_from (dump [] root_alone) (items_view items.now) ≡ Ok (dump tree.inodes.items tree.paths)) }
-    ensures err { IfErr result (λ fault. IsFaultIn fault (Some (tree_from (dump [] root_alone) (items_view items.now)))) }
-{
-    let mut inodes = Vec::new(alloc);
-    let mut paths = root_alone(alloc)?;
-    for item in items {
-        if !add_inode(alloc, &mut inodes, &mut paths, item)? {
-            return Err(ClusterFault::BadItem {
-                number: inodes.len() + 1,
-            });
-        }
+    // No inode, and the root alone has a path.
+    pub(crate) fn empty(alloc: Global) -> Result<Tree, AllocError>
+        ensures { IfOk result (λ tree. dump tree.inodes.items tree.paths ≡ dump [] root_alone) }
+    {
+        Ok(Tree {
+            inodes: Vec::new(alloc),
+            paths: root_alone(alloc)?,
+        })
     }
-    Ok(Tree { inodes, paths })
 }
 
 // Adds the inode that an item is, with the paths that it leads to. False where it is none, and then no inode is added.
-fn add_inode(
+pub(crate) fn add_inode(
     alloc: Global,
     inodes: &mut Vec<TreeInode>,
     paths: &mut Numbered<TreePath>,
     item: &Value,
 ) -> Result<bool, AllocError>
     ensures added { IfOk result (λ good. with_inode (dump inodes.old.items paths.old) (view item.now) ≡ (if good then Some (dump inodes.new.items paths.new) else None)) }
-    ensures kept { IfOk result (λ good. good ≡ false → inodes.new.items ≡ inodes.old.items) }
 {
     let Some(inode) = read_inode(alloc, item)? else {
         return Ok(false);

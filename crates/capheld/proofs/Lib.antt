@@ -1,3 +1,4 @@
 pub mod Said
 pub mod Saying
 pub mod Noting
+pub mod Giving

@@ -14,7 +14,7 @@ module _ (known : Clients) (i : Inode) (h : Held) (client : List ℕ) (is : name
   pub unlisted : find (λ e. bytes_eq e.name client) known.entities ≡ None → SaysOf known i h [] (unlisted_line client)
   unlisted none = rw (is, none) (refl, refl)
 
-  pub without_caps : (e : Named) → find (λ e. bytes_eq e.name client) known.entities ≡ Some e → e.caps ≡ None → (found unknown : List ℕ) → IsJudged i client [] h found unknown → SaysOf known i h found unknown
+  pub without_caps : (e : Named) → find (λ e. bytes_eq e.name client) known.entities ≡ Some e → e.caps ≡ None → (found unknown : List ℕ) → IsJudged known.detail i client [] h found unknown → SaysOf known i h found unknown
   without_caps e listed none found unknown judged = rw (is, listed, none) judged
 
 module _ (fs : List ℕ) (known : Clients) (paths : PathMap) (it : Listed) where

@@ -1,5 +1,6 @@
 pub mod Lines
 pub mod Order
+pub mod Summary
 pub mod Audited
 pub use Rattle.capcluster.specs as Capcluster
 pub use Rattle.capaudit.specs as Capaudit

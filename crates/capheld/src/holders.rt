@@ -3,8 +3,10 @@ ghost use Rattle.std.specs.Prelude.{◌≡◌, ◌++◌, OnOk, option_map};
 ghost use Rattle.std.specs.List.{flat_map};
 ghost use Rattle.capheld.specs.Audited.{Adds, IsJudged, IsJudgedBy, SaysOf, clients, name_of, pathless_of, session_of};
 
-use crate::lines::{print_held, print_pathless, print_strange, print_unlisted, print_unnamed};
-use crate::notes::Notes;
+use crate::lines::{
+    print_group, print_held, print_pathless, print_strange, print_unlisted, print_unnamed,
+};
+use crate::notes::{Detail, Notes};
 use capaudit::{Inode, beyond};
 use capauth::AuthList;
 use capcluster::{Holder, Session};
@@ -16,13 +18,14 @@ use std::alloc::{AllocError, Global};
 // Appends what is said of a client that holds something of the inode.
 pub(crate) fn note_holder(
     alloc: Global,
+    detail: Detail,
     notes: &mut Notes,
     auth: &AuthList,
     sessions: &[Session],
     inode: &Inode,
     holder: &Holder,
 ) -> Result<(), AllocError>
-    ensures { OnOk result (Adds (SaysOf (clients auth.now sessions.now) inode.now holder.now) notes.old notes.new) }
+    ensures { OnOk result (Adds (SaysOf (clients detail auth.now sessions.now) inode.now holder.now) notes.old notes.new) }
 {
     let Some(client) = name_of(sessions, holder.client()) else {
         return print_unnamed(&mut notes.unknown, holder.client());
@@ -31,8 +34,8 @@ pub(crate) fn note_holder(
         return print_unlisted(&mut notes.unknown, client);
     };
     match entity.caps() {
-        None => note_judged(notes, inode, client, &Grants::none(alloc)?, holder),
-        Some(text) => note_by_text(alloc, notes, inode, client, holder, text),
+        None => note_judged(detail, notes, inode, client, &Grants::none(alloc)?, holder),
+        Some(text) => note_by_text(alloc, detail, notes, inode, client, holder, text),
     }
 }
 
@@ -68,7 +71,7 @@ fn print_pathless_holder(
 }
 
 // The name that the session of this number tells.
-fn name_of(sessions: &[Session], number: u64) -> Option<&[u8]>
+pub(crate) fn name_of(sessions: &[Session], number: u64) -> Option<&[u8]>
     ensures { option_map (λ name. name.now) result ≡ name_of sessions.now number }
 {
     session_of(sessions, number)?.client()
@@ -84,16 +87,17 @@ fn session_of(sessions: &[Session], number: u64) -> Option<&Session>
 // Appends what is said of a client by the text of its grants.
 fn note_by_text(
     alloc: Global,
+    detail: Detail,
     notes: &mut Notes,
     inode: &Inode,
     client: &[u8],
     holder: &Holder,
     text: &[u8],
 ) -> Result<(), AllocError>
-    ensures { OnOk result (Adds (IsJudgedBy inode.now client.now holder.now text.now) notes.old notes.new) }
+    ensures { OnOk result (Adds (IsJudgedBy detail inode.now client.now holder.now text.now) notes.old notes.new) }
 {
     match read_grants(alloc, text) {
-        Ok(grants) => note_judged(notes, inode, client, &grants, holder),
+        Ok(grants) => note_judged(detail, notes, inode, client, &grants, holder),
         Err(fault) => match fault.kind {
             SpecFaultKind::NoMemory => Err(AllocError),
             _ => print_unread(&mut notes.unknown, client, &fault),
@@ -103,13 +107,14 @@ fn note_by_text(
 
 // Appends what is said of it by its grants.
 fn note_judged(
+    detail: Detail,
     notes: &mut Notes,
     inode: &Inode,
     client: &[u8],
     grants: &Grants,
     holder: &Holder,
 ) -> Result<(), AllocError>
-    ensures { OnOk result (Adds (IsJudged inode.now client.now grants.now holder.now) notes.old notes.new) }
+    ensures { OnOk result (Adds (IsJudged detail inode.now client.now grants.now holder.now) notes.old notes.new) }
 {
     let session = holder.client();
     let Ok(issued) = read_caps(holder.issued()) else {
@@ -120,14 +125,17 @@ fn note_judged(
     };
     match beyond(issued, grants, inode) {
         None => Ok(()),
-        Some(found) => print_held(
-            &mut notes.found,
-            inode.path,
-            client,
-            session,
-            issued,
-            pending,
-            &found,
-        ),
+        Some(found) => match detail {
+            Detail::Each => print_held(
+                &mut notes.found,
+                inode.path,
+                client,
+                session,
+                issued,
+                pending,
+                &found,
+            ),
+            Detail::Groups => print_group(&mut notes.found, client, &found),
+        },
     }
 }

@@ -5,12 +5,17 @@
 #![tactic(auto)]
 
 mod auditing;
+mod clients;
 mod fault;
 mod holders;
 mod lines;
 mod notes;
 mod order;
+mod pairs;
+mod summary;
 
-pub use auditing::{ClusterTexts, audit};
+pub use auditing::audit;
+pub use capcluster::{Tree, TreeFault, TreeReader};
+pub use clients::ClusterClients;
 pub use fault::HeldFault;
-pub use notes::Notes;
+pub use notes::{Detail, Report};

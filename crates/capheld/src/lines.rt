@@ -1,6 +1,8 @@
 //! The lines of an audit.
 ghost use Rattle.std.specs.Prelude.{◌≡◌, ◌++◌, OnOk, map};
-ghost use Rattle.capheld.specs.Lines.{beyond_text, held_line, pathless_line, place_text, revoked_text, strange_line, unlisted_line, unnamed_line, who_text, why_text};
+ghost use Rattle.capexplain.specs.Explaining.{path_text};
+ghost use Rattle.capexplain.specs.Quoting.{quoted};
+ghost use Rattle.capheld.specs.Lines.{beyond_text, group_line, held_line, pathless_line, place_text, revoked_text, strange_line, unlisted_line, unnamed_line, who_text, why_text};
 
 use capaudit::Finding;
 use capbits::CapSet;
@@ -25,6 +27,20 @@ pub(crate) fn print_held(
     print_str(text, "\n")
 }
 
+// Appends why a client holds what nobody behind its key is permitted, and which client, by which such lines are counted.
+pub(crate) fn print_group(
+    text: &mut Vec<u8>,
+    client: &[u8],
+    found: &Finding,
+) -> Result<(), AllocError>
+    ensures { OnOk result (text.new.items ≡ text.old.items ++ group_line client.now found.now) }
+{
+    print_why(text, found)?;
+    print_str(text, " ")?;
+    print_quoted(text, client)?;
+    print_str(text, "\n")
+}
+
 // Appends where something is held and by whom.
 fn print_place(
     text: &mut Vec<u8>,
@@ -34,15 +50,22 @@ fn print_place(
 ) -> Result<(), AllocError>
     ensures { OnOk result (text.new.items ≡ text.old.items ++ place_text (map (λ name. name.now) path.now) client.now session) }
 {
-    let mut names = Vec::new(*text.allocator());
-    print_path(&mut names, path)?;
-    print_quoted(text, names.as_slice())?;
+    print_at(text, path)?;
     print_str(text, " ")?;
     print_who(text, client, session)
 }
 
+// Appends a path, in quotes where it has to be.
+pub(crate) fn print_at(text: &mut Vec<u8>, path: &[&[u8]]) -> Result<(), AllocError>
+    ensures { OnOk result (text.new.items ≡ text.old.items ++ quoted (path_text (map (λ name. name.now) path.now))) }
+{
+    let mut names = Vec::new(*text.allocator());
+    print_path(&mut names, path)?;
+    print_quoted(text, names.as_slice())
+}
+
 // Appends a client and the number of its session.
-fn print_who(text: &mut Vec<u8>, client: &[u8], session: u64) -> Result<(), AllocError>
+pub(crate) fn print_who(text: &mut Vec<u8>, client: &[u8], session: u64) -> Result<(), AllocError>
     ensures { OnOk result (text.new.items ≡ text.old.items ++ who_text client.now session) }
 {
     print_quoted(text, client)?;

@@ -2,12 +2,12 @@
 
 use std::alloc::Global;
 
-/// The lines of an audit, each with its line feed.
-pub struct Notes {
-    /// A line for each session and inode of which it holds what nobody behind its key is permitted.
-    pub found: Vec<u8>,
-    /// Lines for what is held and could not be judged.
-    pub unknown: Vec<u8>,
+// Lines of an audit in the order in which they come, each with its line feed.
+pub(crate) struct Notes {
+    // A line for each session and inode of which it holds what nobody behind its key is permitted.
+    pub(crate) found: Vec<u8>,
+    // Lines for what is held and could not be judged.
+    pub(crate) unknown: Vec<u8>,
 }
 
 // By hand, so that whoever lets one go has one call to prove.
@@ -32,5 +32,30 @@ impl Notes {
             found: Vec::new(alloc),
             unknown: Vec::new(alloc),
         }
+    }
+}
+
+/// In which detail an audit tells what it finds.
+#[derive(Clone, Copy)]
+pub enum Detail {
+    /// By a line for each, with its path and its session.
+    Each,
+    /// By a line for all those of a client and a reason, and for all conflicts of two clients by the same capabilities, with how many
+    /// there are.
+    Groups,
+}
+
+/// What an audit tells.
+pub struct Report {
+    /// Its lines, each with its line feed. The last says how much was looked at, and what came of it.
+    pub text: Vec<u8>,
+    /// Whether anything was found or could not be judged.
+    pub found: bool,
+}
+
+// By hand, so that whoever lets one go has one call to prove.
+impl Drop for Report {
+    fn drop(self) {
+        let Report { text: _, found: _ } = self;
     }
 }

@@ -1,10 +1,12 @@
 //! Lines in order.
-ghost use Rattle.std.specs.Prelude.{◌≡◌, [], ◌∷◌, ◌++◌, IfOk, codes, map};
+ghost use Rattle.std.specs.Prelude.{◌≡◌, [], ◌∷◌, ◌++◌, IfOk, codes, count_by, map};
 ghost use Rattle.std.specs.List.{flat_map};
 ghost use Rattle.caplines.specs.Lines.{lines};
-ghost use Rattle.capheld.specs.Order.{AreInOrder};
+ghost use Rattle.std.specs.Str.{bytes_eq};
+ghost use Rattle.capheld.specs.Order.{AreCounted, AreInOrder, counted_line};
 
 use caplines::split_line;
+use captext::print_numbered;
 use std::alloc::{AllocError, Global};
 
 // The lines of a text, each once, in the order of their bytes, which is first that of paths.
@@ -15,6 +17,39 @@ pub(crate) fn in_order(alloc: Global, text: &[u8]) -> Result<Vec<u8>, AllocError
     lines.sort()?;
     lines.dedup();
     joined(alloc, lines.as_slice(), rest)
+}
+
+// The same lines in the same order, and behind each how often it stands in the text.
+pub(crate) fn counted(alloc: Global, text: &[u8]) -> Result<Vec<u8>, AllocError>
+    ensures { IfOk result (λ counted. AreCounted text.now counted.items) }
+{
+    let (lines, _rest) = cut(alloc, text)?;
+    let ordered = in_order(alloc, text)?;
+    let (kinds, _left) = cut(alloc, ordered.as_slice())?;
+    counts(alloc, lines.as_slice(), kinds.as_slice())
+}
+
+// Each of the kinds with how many of the lines are of it.
+fn counts(alloc: Global, lines: &[Vec<u8>], kinds: &[Vec<u8>]) -> Result<Vec<u8>, AllocError>
+    ensures { IfOk result (λ text. text.items ≡ flat_map (counted_line lines.now) kinds.now) }
+{
+    let mut text = Vec::new(alloc);
+    for kind in kinds {
+        text.extend_from_slice(kind.as_slice())?;
+        print_numbered(&mut text, ": ", count_of(lines, kind.as_slice()))?;
+        text.push(b'\n')?;
+    }
+    Ok(text)
+}
+
+// How many of the lines are this one.
+fn count_of(lines: &[Vec<u8>], line: &[u8]) -> u64
+    ensures { result ≡ count_by (λ other. bytes_eq other.items line.now) lines.now }
+{
+    lines
+        .iter()
+        .filter(|other| other.as_slice() == line)
+        .count() as u64
 }
 
 // The lines that end with a line feed, without it, and what stands behind the last one.

@@ -1,18 +1,14 @@
 use Rattle.std.proofs.Common.{rules}
-use Rattle.capcluster.specs.Dump.{dump}
 use Rattle.capheld.proofs.auditing.audit.Goals as goal
 
-pub returns-clause-ok : goal.returns-clause-ok
-returns-clause-ok c = record {
-  entities = c.in_ok-auth.auth;
-  connected = c.in_ok-sessions.sessions.items;
-  seen = dump c.in_ok-tree.tree.inodes.items c.in_ok-tree.tree.paths;
-  found_first = c.in_ok-notes.notes.found.items;
-  unknown_first = c.in_ok-notes.notes.unknown.items;
-  is_auth = search rules;
-  are_sessions = search rules;
-  is_tree = search rules;
+pub returns : goal.returns
+returns c = record {
+  beyond = c.in_ok-notes.notes.found.items;
+  conflicts = c.in_ok-conflicts.conflicts.items;
+  unknown = c.in_ok-notes.notes.unknown.items;
+  lines = c.in_ok-lines.lines.items;
   said = search rules;
-  found_ordered = search rules;
-  unknown_ordered = search rules;
+  paired = search rules;
+  ordered = search rules;
+  told = search rules;
 }

@@ -11,6 +11,6 @@ pub returns-in_default : goal.returns-in_default
 returns-in_default c =
     let is : IsFault c.args.text.now c.in-Err.fault = elim c.in-Err.ensures.fault [ inl told ↦ told | inr missed ↦ absurd (c.in_default.not-NoMemory (ap (λ (fault : SpecFault). fault.kind) missed.0)) ] in
     on_ok_weaker c.print_unread.result
-    (λ more. unknown_added (IsJudgedBy c.args.inode.now c.args.client.now c.args.holder.now c.args.text.now) c.args.notes.now (record { found = c.args.notes.now.found; unknown = c.print_unread.new.text }) (unread_line c.args.client.now c.in-Err.fault) refl more
+    (λ more. unknown_added (IsJudgedBy c.args.detail c.args.inode.now c.args.client.now c.args.holder.now c.args.text.now) c.args.notes.now (record { found = c.args.notes.now.found; unknown = c.print_unread.new.text }) (unread_line c.args.client.now c.in-Err.fault) refl more
     (inr (c.in-Err.fault, is, refl, refl)))
     c.print_unread.ensures
