@@ -50,8 +50,8 @@ module _ (client : ClientId) (sets : List (ClientId × Caps)) (i : ℕ) (at : po
   put-others caps other apart =
       ap (option_map (λ (k : ClientId × Caps). k.1))
       (find_past (is_of other) sets i (client, caps) (client, caps)
-        (not_of client other apart (get_or sets i (client, caps)) (find_passes (is_of client) sets (get_or sets i (client, caps)) (found-at (client, caps))))
-        (not_of client other apart (client, caps) (nat_eq_equiv.refl client.0)))
+      (not_of client other apart (get_or sets i (client, caps)) (find_passes (is_of client) sets (get_or sets i (client, caps)) (found-at (client, caps))))
+      (not_of client other apart (client, caps) (nat_eq_equiv.refl client.0)))
 
 -- without a place, nothing is
 pub none-kept : (client : ClientId) (sets : List (ClientId × Caps)) → position (is_of client) sets ≡ None → kept_among sets client ≡ None

@@ -9,11 +9,10 @@ use crate::holders::name_of;
 use crate::lines::{print_at, print_who};
 use crate::notes::Detail;
 use capaudit::{Conflict, Holding, conflicts};
-use capbits::read_caps;
 use capcluster::{Holder, Session, TreeInode};
 use capexplain::print_quoted;
 use capspec::TreePath;
-use captext::{print_caps, print_numbered, print_str};
+use captext::{print_caps, print_numbered, print_str, read_caps};
 use numbered::Numbered;
 use std::alloc::{AllocError, Global};
 

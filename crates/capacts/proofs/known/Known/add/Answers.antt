@@ -26,14 +26,14 @@ returns-in_ok-add_among-in-None-clause-own c =
 pub returns-in_ok-add_among-in-None-clause-others : goal.returns-in_ok-add_among-in-None-clause-others
 returns-in_ok-add_among-in-None-clause-others c = λ k apart.
     elim c.add.result as (λ r. OnOk r (c.add.new.self ≡ map.insert c.args.self.now.sets c.args.holder.ino.0 c.add_among-in-None.new.sets) → OnErr r (c.add.new.self ≡ c.args.self.now.sets)
-        → kept_of c.add.new.self k ≡ kept_of c.args.self.now.sets k) [
+    → kept_of c.add.new.self k ≡ kept_of c.args.self.now.sets k) [
       | Ok done ↦ λ put same.
           ap (λ sets. kept_of sets k) put
           ∙ kept-others c.args.self.now.sets c.args.holder c.add_among-in-None.new.sets
-            (λ client other.
-              c.in_ok-add_among-in-None.ensures.others client other
-              ∙ ap (λ xs. kept_among xs client) (c.in_ok-reserve_exact-in-None.ensures.items ∙ c.new-sets.ensures.items)
-              ∙ ap (λ o. of_list o client) c.in-None.ensures.value)
-            k apart
+          (λ client other.
+          c.in_ok-add_among-in-None.ensures.others client other
+          ∙ ap (λ xs. kept_among xs client) (c.in_ok-reserve_exact-in-None.ensures.items ∙ c.new-sets.ensures.items)
+          ∙ ap (λ o. of_list o client) c.in-None.ensures.value)
+          k apart
       | Err refused ↦ λ put same. ap (λ sets. kept_of sets k) same
     ] c.add.ensures.ok c.add.ensures.err

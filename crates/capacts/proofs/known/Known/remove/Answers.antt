@@ -11,7 +11,7 @@ returns-then-is_empty c = λ k apart.
     ap (λ sets. kept_of sets k) c.remove.ensures
     ∙ kept-none c.args.self.now.sets c.args.holder c.remove_among.new.sets (sym c.remove_among.new.sets.ok.0 ∙ none) k
     ∙ kept-others c.args.self.now.sets c.args.holder c.remove_among.new.sets
-      (λ client other. c.remove_among.ensures client other ∙ ap (λ o. of_list o client) c.in-Some.ensures.value) k apart
+    (λ client other. c.remove_among.ensures client other ∙ ap (λ o. of_list o client) c.in-Some.ensures.value) k apart
 
 pub returns-else-is_empty : goal.returns-else-is_empty
 returns-else-is_empty c =
