@@ -4,26 +4,26 @@ ghost use Rattle.std.specs.Prelude.{◌≡◌};
 use crate::command_line::Ask;
 use crate::fault::AnswerFault;
 use crate::inquiry::{Form, Inquiry};
+use crate::pointing::point_at;
 use crate::status::{FAILED, report};
 use capauth::AuthFault;
 use capkeyring::KeyringFault;
-use capquestion::{Opt, QuestionFault, Values};
+use capquestion::{CompareFault, Opt, QuestionFault, Values};
+use capspec::SpecFaultKind;
 use capstreams::print_quoted;
 use std::alloc::{AllocError, Global};
 use std::io::Write;
 
-/// Writes the fault as a line, and what helps against it, and returns its status.
+/// Writes the fault as a line, its place in a text of grants, and what helps against it, and returns its status.
 pub fn refuse(alloc: Global, ask: &Ask, fault: AnswerFault, faults: &mut impl Write) -> u8
     ensures { result ≡ FAILED }
 {
     let status = report(fault, faults);
-    advise(alloc, ask, fault, faults);
-    status
-}
-
-// Writes what helps against the fault, on a line of its own, where something is known to help.
-fn advise(alloc: Global, ask: &Ask, fault: AnswerFault, faults: &mut impl Write) {
-    if let Some(advice) = advice(ask, fault) {
+    let refused = refused(ask, fault);
+    if let Some((text, at)) = refused {
+        point_at(alloc, text, at, faults);
+    }
+    if let Some(advice) = advice(fault, refused) {
         let _ = writeln!(faults, "hint: {advice}");
     }
     match (ask, fault) {
@@ -32,6 +32,7 @@ fn advise(alloc: Global, ask: &Ask, fault: AnswerFault, faults: &mut impl Write)
         }
         _ => {}
     }
+    status
 }
 
 // Writes the bad value, in quotes where it has to be, and what the option takes, where more is asked for than the one line of the
@@ -92,13 +93,22 @@ fn taken_by(option: Opt) -> &'static str {
     }
 }
 
-fn advice(ask: &Ask, fault: AnswerFault) -> Option<&'static str> {
+// What helps against the fault, where something is known to help; it may be one of a text of grants, at this place.
+fn advice(fault: AnswerFault, refused: Option<(&[u8], usize)>) -> Option<&'static str> {
     match fault {
-        AnswerFault::Question(QuestionFault::Grants(_)) => match ask {
-            Ask::Explain(inquiry) => pasted(inquiry.values.grants.as_slice()),
-            _ => None,
-        },
-        AnswerFault::Keyring(found) => keyring_advice(found),
+        AnswerFault::Question(QuestionFault::Grants(_)) | AnswerFault::Compare(_) => {
+            let (text, at) = refused?;
+            pasted(text, at)
+        }
+        AnswerFault::Keyring(KeyringFault::NoEntity) => Some(
+            "--client takes a name that the keyring has between [ and ], as client.tenant",
+        ),
+        AnswerFault::Keyring(KeyringFault::NoCaps) => {
+            Some("the client's section has no line caps mds = \"..\"")
+        }
+        AnswerFault::Keyring(KeyringFault::NotQuoted) => Some(
+            "caps mds = takes one text in double quotes, with a backslash before each quote in it",
+        ),
         AnswerFault::Unopened => Some(
             "--keyring takes the name of a file, or - for standard input",
         ),
@@ -119,25 +129,58 @@ fn advice(ask: &Ask, fault: AnswerFault) -> Option<&'static str> {
     }
 }
 
-// Against a line of a keyring in the place of the text in it.
-fn pasted(text: &[u8]) -> Option<&'static str> {
-    let text = text.trim_ascii_start();
-    if text.starts_with(b"caps mds") || text.starts_with(b"\"") {
-        Some("paste what stands between the quotes")
-    } else {
-        None
+// The text of grants that has the fault, and how many bytes stand before it. Of a text with nothing but white space there is no place.
+fn refused<'a>(ask: &'a Ask, fault: AnswerFault) -> Option<(&'a [u8], usize)> {
+    let (text, found) = match (ask, fault) {
+        (Ask::Explain(inquiry), AnswerFault::Question(QuestionFault::Grants(found))) => {
+            (&inquiry.values.grants, found)
+        }
+        (
+            Ask::Grants(text) | Ask::Lint { text, .. },
+            AnswerFault::Question(QuestionFault::Grants(found)),
+        ) => (text, found),
+        (Ask::Compare { old, .. }, AnswerFault::Compare(CompareFault::Old(found))) => (old, found),
+        (Ask::Compare { new, .. }, AnswerFault::Compare(CompareFault::New(found))) => (new, found),
+        _ => return None,
+    };
+    match found.kind {
+        SpecFaultKind::Empty => None,
+        _ => Some((text.as_slice(), found.at)),
     }
 }
 
-fn keyring_advice(found: KeyringFault) -> Option<&'static str> {
-    match found {
-        KeyringFault::NoEntity => {
-            Some("--client takes a name that the keyring has between [ and ], as client.tenant")
+// What a line of a keyring begins with, and a text in quotes.
+const FRONTS: [&[u8]; 3] = [b"caps mds", b"\"", b"'"];
+
+// What may stand in a text that was copied from elsewhere, and what helps against it.
+const COPIED: [(&[u8], &str); 2] = [
+    (b"\\\"", "leave out the backslash before each quote"),
+    (
+        b"\r",
+        "leave out the carriage return at the end of each line",
+    ),
+];
+
+// Against a line of a keyring, or a text in quotes, in the place of the text in it; and against what stands at the place or behind it.
+fn pasted(text: &[u8], at: usize) -> Option<&'static str> {
+    for front in FRONTS {
+        if text.trim_ascii_start().starts_with(front) {
+            return Some("paste what stands between the quotes");
         }
-        KeyringFault::NoCaps => Some("the client's section has no line caps mds = \"..\""),
-        KeyringFault::NotQuoted => Some(
-            "caps mds = takes one text in double quotes, with a backslash before each quote in it",
-        ),
-        KeyringFault::NoMemory => None,
     }
+    for (part, advice) in COPIED {
+        if stands_in(text.get(at..)?, part) {
+            return Some(advice);
+        }
+    }
+    None
+}
+
+fn stands_in(text: &[u8], part: &[u8]) -> bool {
+    for place in 0..text.len() {
+        if text[place..].starts_with(part) {
+            return true;
+        }
+    }
+    false
 }

@@ -18,9 +18,11 @@ mod inquiry;
 mod keyring;
 mod logging;
 mod matched;
+mod pointing;
 mod reading;
 mod status;
 mod survey;
+mod usage;
 
 pub use advice::refuse;
 pub use arguments::words;
