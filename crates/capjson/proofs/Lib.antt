@@ -1,3 +1,4 @@
 pub mod Tables
 pub mod Plain
 pub mod Spelling
+pub mod Distinct

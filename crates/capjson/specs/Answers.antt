@@ -1,6 +1,7 @@
 -- The object that answers a question.
-use Rattle.std.specs.Prelude.{ℕ, Bool, Option, List, [], ◌∷◌, codes, map, if◌then◌else◌}
+use Rattle.std.specs.Prelude.{◌≡◌, ◌<◌, ◌^◌, ℕ, Bool, Option, List, [], ◌∷◌, codes, map, if◌then◌else◌}
 use Rattle.std.specs.List.{enumerate_from}
+use Rattle.hex.specs.Hex.{IsBytes}
 use Rattle.serde_json.specs.Data.{Data, string, array, object, Members, no_members}
 use Rattle.serde_json.specs.View.{items_of}
 use Rattle.capbits.specs.declared.caller.Caller.{Caller}
@@ -16,6 +17,7 @@ use Rattle.capremarks.specs.declared.differences.Difference.{Difference}
 use Rattle.capremarks.specs.declared.differences.Difference.TheVariants.{OtherFileSystem, AttributeByFlag, ModeByBits, LargeUid}
 use Rattle.capremarks.specs.declared.differences.Otherwise.{Otherwise}
 use Rattle.capexplain.specs.Explaining.{path_text}
+use Rattle.capexplain.specs.Lines.{HasNumber}
 use Rattle.capexplain.specs.PartTexts.{mode_text}
 use Rattle.capjson.specs.Values.{Table, with_all, object_of, natural, numbers_value, bytes_value, or_null, json_line}
 
@@ -82,3 +84,21 @@ answer_value q verdict left other = object (with_all (remarks_table left other) 
 -- as a line
 abbrev pub answer_object : Question → Verdict → Option ℕ → Option Otherwise → List ℕ
 answer_object q verdict left other = json_line (answer_value q verdict left other)
+
+-- ---- one answer for an object
+
+-- its names are bytes, its numbers have 32 bits, and its mode has 12
+pub record IsAskable (q : Question) : Type 0 where
+  pub access : HasNumber q.access
+  pub path : IsBytes (path_text q.path)
+  pub fs : IsBytes q.fs
+  pub mode : q.attr.mode < 2 ^ 12
+
+-- they ask for the same; of two paths the text is
+abbrev pub AskTheSame : Question → Question → Type 0
+AskTheSame q r = (q.access ≡ r.access) × (path_text q.path ≡ path_text r.path) × (q.fs ≡ r.fs) × (q.caller ≡ r.caller) × (q.attr ≡ r.attr)
+
+-- answers that are the same object are the same answer to the same question
+abbrev pub OneAnswer : Type 0
+OneAnswer = (q r : Question) (v w : Verdict) (left also : Option ℕ) (other further : Option Otherwise) → IsAskable q → IsAskable r
+    → answer_value q v left other ≡ answer_value r w also further → AskTheSame q r × (v ≡ w) × (left ≡ also) × (other ≡ further)
