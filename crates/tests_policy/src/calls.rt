@@ -1,14 +1,17 @@
-//! What one pass does at a server: it calls events, and asks.
+//! What passes do at a server: they call events and ask, each in a thread of its own.
 
-use crate::asserting::{present, same};
-use capbits::{ClientId, Ino};
-use capgrant::{Access, Verdict};
-use capjobs::{Answer, CapServer, Gate, Pass, Question, Reply, Server, Stop, Unknown, read_line};
+use crate::asserting::{made, same};
+use crate::gates::{Guard, Signs, hold_calls, let_go, wait_for_call};
+use crate::views::word_of;
+use capbits::{ClientId, Ino, PassId};
+use capgrant::Access;
+use capjobs::{Answer, CapServer, Pass, Question, Reply, Server, Stop, read_line};
 use std::alloc::Global;
 use std::process::Abort;
 use std::sync::Wait;
+use std::thread::{Threads, map_vec};
 
-/// What is done by one pass.
+/// What is done by a pass.
 pub enum Turn {
     /// Calls the event that a line says.
     Call(&'static str),
@@ -16,13 +19,27 @@ pub enum Turn {
     Make(&'static str),
     /// Asks whether a client may read an inode.
     Read(u32, u64),
+    /// Opens a session for the client of the pass's number, and makes 200 files.
+    Files,
+    /// Closes the gate: from now on calls are held there.
+    Close,
+    /// Waits until a call is held.
+    Await,
+    /// Lets the held call go on.
+    LetGo,
 }
 
-/// In short what it shows, and what is done, with what comes of each turn.
-pub type Case = (&'static str, &'static [(Turn, &'static str)]);
+/// What a pass does, with what comes of each turn.
+pub type Turns = &'static [(Turn, &'static str)];
+
+/// What the passes do at once, a list for each: the first for pass 1. The last counts for all further passes.
+pub type Phase = &'static [Turns];
 
 // So often an event is called that finds no memory.
 const TRIES: u32 = 3;
+
+// How many files a pass makes.
+const MADE: u32 = 200;
 
 // What came of a call: `fresh`, or why it isn't.
 fn called(answer: &Answer) -> &'static str {
@@ -34,11 +51,10 @@ fn called(answer: &Answer) -> &'static str {
     }
 }
 
-/// Calls the event that a line says.
-pub fn call_line<G: Gate, L: Server, R: Wait>(
+fn call<L: Server, R: Wait>(
     rt: &R,
     alloc: Global,
-    server: &CapServer<G, L>,
+    server: &CapServer<Guard, L>,
     pass: &mut Pass<L>,
     line: &str,
 ) -> &'static str {
@@ -52,9 +68,24 @@ pub fn call_line<G: Gate, L: Server, R: Wait>(
     }
 }
 
-/// Asks whether a client may read an inode.
-pub fn ask_read<G: Gate, L: Server>(
-    server: &CapServer<G, L>,
+// Calls the event that a line says until it is answered: memory may be missing once.
+fn make<L: Server, R: Wait>(
+    rt: &R,
+    alloc: Global,
+    server: &CapServer<Guard, L>,
+    pass: &mut Pass<L>,
+    line: &str,
+) -> &'static str {
+    for _ in 0..TRIES {
+        if call(rt, alloc, server, pass, line) != "no memory" {
+            return "made";
+        }
+    }
+    "no memory"
+}
+
+fn ask_read<L: Server>(
+    server: &CapServer<Guard, L>,
     pass: &mut Pass<L>,
     client: u32,
     ino: u64,
@@ -64,52 +95,80 @@ pub fn ask_read<G: Gate, L: Server>(
         ino: Ino(ino),
         access: Access::Read,
     };
-    match server.explain(pass, &question) {
-        Ok(Verdict::Allowed { .. }) => "allowed",
-        Ok(Verdict::Denied { rules }) => match rules.as_slice().first() {
-            Some(rule) => rule.word(),
-            None => "no grants",
-        },
-        Err(Unknown::NoSession) => "no session",
-        Err(Unknown::NoIno) => "no inode",
-        Err(Unknown::Gone) => "gone",
-        Err(Unknown::NoView) => "no view",
-    }
+    word_of(server.explain(pass, &question))
 }
 
-// Calls the event that a line says until it is answered: memory may be missing once.
-fn make<G: Gate, L: Server, R: Wait>(
+fn make_files<L: Server, R: Wait>(
     rt: &R,
     alloc: Global,
-    server: &CapServer<G, L>,
+    server: &CapServer<Guard, L>,
     pass: &mut Pass<L>,
-    line: &str,
 ) -> &'static str {
-    for _ in 0..TRIES {
-        if call_line(rt, alloc, server, pass, line) != "no memory" {
-            return "made";
+    let client = pass.number();
+    if let Ok(line) = format!(in alloc; "session {client} 10 10 - allow rw") {
+        call(rt, alloc, server, pass, line.as_str());
+    }
+    for nth in 0..MADE {
+        if let Ok(line) = format!(in alloc; "create {client} 1 f{client}.{nth} 0644") {
+            call(rt, alloc, server, pass, line.as_str());
         }
     }
-    "no memory"
+    "files"
 }
 
-/// Takes the turns by the first of the passes, and sees that each comes out as it is to.
-pub fn take_turns<G: Gate, L: Server, R: Abort + Wait>(
+fn take_turn<L: Server, R: Wait>(
     rt: &R,
     alloc: Global,
-    server: &CapServer<G, L>,
-    passes: Vec<Pass<L>>,
-    (title, turns): Case,
-) -> Vec<Pass<L>> {
-    let mut passes = passes;
-    let pass = present(rt, passes.first_mut(), title);
-    for (nth, (turn, want)) in turns.iter().enumerate() {
-        let came = match turn {
-            Turn::Call(line) => call_line(rt, alloc, server, pass, line),
-            Turn::Make(line) => make(rt, alloc, server, pass, line),
-            Turn::Read(client, ino) => ask_read(server, pass, *client, *ino),
-        };
-        same(rt, came, *want, (title, nth));
+    server: &CapServer<Guard, L>,
+    signs: &Signs,
+    pass: &mut Pass<L>,
+    turn: &Turn,
+) -> &'static str {
+    match turn {
+        Turn::Call(line) => call(rt, alloc, server, pass, line),
+        Turn::Make(line) => make(rt, alloc, server, pass, line),
+        Turn::Read(client, ino) => ask_read(server, pass, *client, *ino),
+        Turn::Files => make_files(rt, alloc, server, pass),
+        Turn::Close => hold_calls(signs),
+        Turn::Await => wait_for_call(signs),
+        Turn::LetGo => let_go(signs),
     }
-    passes
+}
+
+fn turns_of(phase: Phase, pass: PassId) -> Turns {
+    let place = pass.0.saturating_sub(1) as usize;
+    match phase.get(place.min(phase.len().saturating_sub(1))) {
+        Some(turns) => turns,
+        None => &[],
+    }
+}
+
+// Takes the turns of a pass, and sees that each comes out as it is to.
+fn take_turns<L: Server, R: Abort + Wait>(
+    rt: &R,
+    alloc: Global,
+    server: &CapServer<Guard, L>,
+    signs: &Signs,
+    pass: Pass<L>,
+    (title, phase): (&'static str, Phase),
+) -> Pass<L> {
+    let mut pass = pass;
+    for (nth, (turn, want)) in turns_of(phase, pass.number()).iter().enumerate() {
+        let came = take_turn(rt, alloc, server, signs, &mut pass, turn);
+        same(rt, came, *want, (title, pass.number(), nth));
+    }
+    pass
+}
+
+/// Has each pass take its turns of a phase, in a thread of its own. The passes come back.
+pub fn take_phase<L: Server + Send + Sync, R: Abort + Threads + Wait + Sync>(
+    rt: &R,
+    alloc: Global,
+    server: &CapServer<Guard, L>,
+    signs: &Signs,
+    passes: Vec<Pass<L>>,
+    (title, phase): (&'static str, Phase),
+) -> Vec<Pass<L>> {
+    let work = &|pass: Pass<L>| { take_turns(rt, alloc, server, signs, pass, (title, phase)) };
+    made(rt, map_vec(rt, passes, work), title)
 }
