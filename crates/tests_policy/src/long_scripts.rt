@@ -91,6 +91,13 @@ const LENGTHS: &[Case] = &[
     ),
 ];
 
+#[test]
+fn lines_and_scripts_have_a_greatest_length(rt: HostRuntime) {
+    for case in LENGTHS {
+        writes(&rt, *case);
+    }
+}
+
 // By itself, as it takes long.
 const THE_LONGEST: Case = ("the longest script", &[(0, MAX_SCRIPT, "\n")], &[]);
 
@@ -227,11 +234,9 @@ const LIMITS: &[Case] = &[
 ];
 
 #[test]
-fn scripts_and_a_core_have_their_limits(rt: HostRuntime) {
-    for cases in [LENGTHS, LIMITS] {
-        for case in cases {
-            writes(&rt, *case);
-        }
+fn a_core_has_its_limits(rt: HostRuntime) {
+    for case in LIMITS {
+        writes(&rt, *case);
     }
 }
 
