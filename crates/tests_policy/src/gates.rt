@@ -3,7 +3,9 @@
 
 use crate::asserting::{made, present, same};
 use crate::rows::{Numbers, count_numbered, numbers};
-use capjobs::{Gate, MAX_SCRIPT, read_plan, serve_plan};
+use capcommand::{read_plan, serve_plan};
+use capscript::MAX_SCRIPT;
+use capserver::Gate;
 use std::alloc::{AllocError, Global};
 use std::process::Abort;
 use std::sync::atomic::{AtomicU64, Ordering};

@@ -6,7 +6,7 @@ use crate::calls::Turn::{Await, Call, Close, Files, LetGo, Make, Read};
 use crate::calls::{Phase, Turns};
 use crate::rows::{Numbers, count_numbered};
 use crate::servers::{Case, rows_by};
-use capjobs::StartFault;
+use capserver::StartFault;
 use std::process::Abort;
 
 // Three clients, the third of which may go below /a alone, and the file /a/x.

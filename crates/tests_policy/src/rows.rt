@@ -1,6 +1,6 @@
 //! The rows that a server leaves, as numbers.
 
-use capjobs::{Reply, Row};
+use capserver::{Reply, Row};
 use std::alloc::{AllocError, Global};
 
 /// The numbers of a row: its pass, its number there, and the inode that was answered, or 0.

@@ -1,12 +1,13 @@
 //! The servers of the tests: one function owns each, has something done at it, and closes it.
 ghost use Rattle.std.specs.Prelude.{◌≡◌};
-ghost use Rattle.capjobs.specs.Capserver.Opened.{opened};
+ghost use Rattle.capserver.specs.Opened.{opened};
 
 use crate::asserting::{made, same};
 use crate::calls::{Phase, take_phase};
 use crate::gates::{Guard, Manner, Signs, in_time, open_gate};
 use crate::rows::{Numbers, numbers};
-use capjobs::{CapServer, Opening, Pass, Server, StartFault, file_system};
+use capscript::file_system;
+use capserver::{CapServer, Opening, Pass, Server, StartFault};
 use std::alloc::{AllocError, Global};
 use std::marker::Brand;
 use std::process::Abort;
