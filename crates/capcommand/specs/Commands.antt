@@ -6,13 +6,13 @@ use Rattle.capspec.specs.Written.{written}
 use Rattle.capspec.specs.declared.grant.Grant.{Grant}
 use Rattle.capanswers.specs.Capquestion.Fault.{IsFaultOfText}
 use Rattle.capanswers.specs.Capquestion.Comparing.{IsComparison}
-use Rattle.capjobs.specs.Caplines.declared.fault.ScriptFault.{ScriptFault}
-use Rattle.capjobs.specs.Caplines.declared.fault.ScriptFault.TheVariants as stops
-use Rattle.capjobs.specs.Caplines.Lines.{lines, longest_script}
-use Rattle.capjobs.specs.Capscript.Transcript.{Ran, IsTranscript}
-use Rattle.capjobs.specs.declared.fault.ServeFault.{ServeFault}
-use Rattle.capjobs.specs.declared.fault.ServeFault.TheVariants.{Script as ServeScript}
-use Rattle.capjobs.specs.Served.{IsServed, IsWritten}
+use Rattle.capscript.specs.Caplines.declared.fault.ScriptFault.{ScriptFault}
+use Rattle.capscript.specs.Caplines.declared.fault.ScriptFault.TheVariants as stops
+use Rattle.capscript.specs.Caplines.Lines.{lines, longest_script}
+use Rattle.capscript.specs.Transcript.{Ran, IsTranscript}
+use Rattle.capcommand.specs.declared.fault.ServeFault.{ServeFault}
+use Rattle.capcommand.specs.declared.fault.ServeFault.TheVariants.{Script as ServeScript}
+use Rattle.capcommand.specs.Served.{IsServed, IsWritten}
 use Rattle.capanswers.specs.declared.command_line.Ask.{Ask}
 use Rattle.capanswers.specs.declared.command_line.Ask.TheVariants as asks
 use Rattle.capanswers.specs.declared.fault.AnswerFault.{AnswerFault}
@@ -20,8 +20,8 @@ use Rattle.capanswers.specs.Answers.{AnswersInquiry, AnswersLint, StopsBefore, S
 use Rattle.capanswers.specs.Checkup.{AnswersCheckup, StopsCheckup}
 use Rattle.capanswers.specs.Survey.{AnswersSurvey, StopsSurvey}
 use Rattle.capanswers.specs.Logging.{AnswersLog, StopsLog}
-use Rattle.capcommand.specs.declared.fault.Fault.{Fault}
-use Rattle.capcommand.specs.declared.fault.Fault.TheVariants.{Answer, Script, Serve}
+use Rattle.capcommand.specs.declared.stopping.Fault.{Fault}
+use Rattle.capcommand.specs.declared.stopping.Fault.TheVariants.{Answer, Script, Serve}
 
 -- the whole answer was written: the answer to a question, the written form of grants, the lines that compare two texts, what is found in one,
 -- the lines for the clients of a cluster, what they hold and may not, those that tell of a log, the transcript of the script that was to be read, or the history; with the status 0, but for a question that is answered by the status alone,

@@ -1,22 +1,23 @@
 //! The commands of the program, over streams that the caller passes.
 ghost use Rattle.std.specs.Prelude.{◌≡◌, ◌≤◌, ◌⊎◌, ℕ, List, length, OnOk, IfOk, IfErr, IfSome, IsFalse};
 ghost use Rattle.std.specs.Io.KnownBytes.{Appends, Keeps};
-ghost use Rattle.capjobs.specs.Caplines.declared.fault.ScriptFault.{ScriptFault as AScriptFault};
-ghost use Rattle.capjobs.specs.Caplines.Lines.{lines, longest_script};
-ghost use Rattle.capjobs.specs.Capscript.Transcript.{IsTranscript};
-ghost use Rattle.capjobs.specs.Capstreams.Watched.{inner_of, has_failed, has_ended};
-ghost use Rattle.capjobs.specs.declared.fault.ServeFault.{ServeFault as AServeFault};
-ghost use Rattle.capjobs.specs.Served.{IsServed};
-ghost use Rattle.capcommand.specs.declared.fault.Fault.{Fault as AFault};
-ghost use Rattle.capcommand.specs.declared.fault.Fault.TheVariants as faults;
+ghost use Rattle.capscript.specs.Caplines.declared.fault.ScriptFault.{ScriptFault as AScriptFault};
+ghost use Rattle.capscript.specs.Caplines.Lines.{lines, longest_script};
+ghost use Rattle.capscript.specs.Transcript.{IsTranscript};
+ghost use Rattle.capscript.specs.Capstreams.Watched.{inner_of, has_failed, has_ended};
+ghost use Rattle.capcommand.specs.declared.fault.ServeFault.{ServeFault as AServeFault};
+ghost use Rattle.capcommand.specs.Served.{IsServed};
+ghost use Rattle.capcommand.specs.declared.stopping.Fault.{Fault as AFault};
+ghost use Rattle.capcommand.specs.declared.stopping.Fault.TheVariants as faults;
 ghost use Rattle.capcommand.specs.Commands.{Answers, Stops, RunStops, ServeStops};
 
-use crate::fault::Fault;
+use crate::serving::serve;
+use crate::stopping::Fault;
 use capanswers::{
     Ask, DENIED, DONE, FAILED, FOUND, USAGE, check_cluster, compare_texts, gather, grants, inquire,
     keyring_file, look_over, read_words, report, show, tell_log, tell_who,
 };
-use capjobs::{Watched, run, serve};
+use capscript::{Watched, run};
 use std::alloc::Global;
 use std::fs::Files;
 use std::io::{Read, Write};

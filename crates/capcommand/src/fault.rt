@@ -1,15 +1,84 @@
-//! Why a command stopped before its end.
+//! Why a script was not served.
+ghost use Rattle.std.specs.Prelude.{◌≡◌};
+ghost use Rattle.capscript.specs.Caplines.declared.fault.ScriptFault.TheVariants as stops;
+ghost use Rattle.capcommand.specs.declared.fault.ServeFault.TheVariants as faults;
 
-use capanswers::AnswerFault;
-use capjobs::{ScriptFault, ServeFault};
+use capscript::{LineFault, ScriptFault};
+use capserver::Stop;
+use std::alloc::{AllocError, AllocFailed};
+use thiserror::Error;
 
-/// Why a command stopped before its end.
-#[derive(Clone, Copy)]
-pub enum Fault {
-    /// A question about grants has no answer.
-    Answer(AnswerFault),
-    /// A script was not run to its end.
+/// Why a script was not served to its end.
+#[derive(Clone, Copy, Debug, Error)]
+pub enum ServeFault {
+    /// As where a script is run.
+    #[error("{0}")]
     Script(ScriptFault),
-    /// A script was not served to its end.
-    Serve(ServeFault),
+    /// The first line of one client too many.
+    #[error("line {line}: Clients")]
+    Clients {
+        /// The number of the line, the first being 1.
+        line: u64,
+    },
+    /// The history has as many rows as it may have.
+    #[error("history full")]
+    HistoryFull,
+}
+
+impl ServeFault {
+    // The line has the fault.
+    pub(crate) fn of_line(line: u64, kind: LineFault) -> ServeFault
+        ensures { result ≡ faults.Script (stops.LineFault line kind) }
+    {
+        ServeFault::Script(ScriptFault::LineFault { line, kind })
+    }
+}
+
+impl From<ScriptFault> for ServeFault {
+    ghost use Rattle.std.specs.Prelude.{◌≡◌};
+    ghost use Rattle.capcommand.specs.declared.fault.ServeFault.TheVariants as faults;
+
+    ghost from_gives = { λ stopped fault. fault ≡ faults.Script stopped };
+
+    fn from(stopped: ScriptFault) -> Self {
+        ServeFault::Script(stopped)
+    }
+}
+
+impl From<Stop> for ServeFault {
+    ghost use Rattle.std.specs.Prelude.{◌≡◌};
+    ghost use Rattle.capcommand.specs.Faults.{fault_of};
+
+    ghost from_gives = { λ stop fault. fault ≡ fault_of stop };
+
+    fn from(stop: Stop) -> Self {
+        match stop {
+            Stop::NoMemory => ServeFault::Script(ScriptFault::NoMemory),
+            Stop::Full => ServeFault::HistoryFull,
+        }
+    }
+}
+
+impl From<AllocError> for ServeFault {
+    ghost use Rattle.std.specs.Prelude.{◌≡◌};
+    ghost use Rattle.capscript.specs.Caplines.declared.fault.ScriptFault.TheVariants as stops;
+    ghost use Rattle.capcommand.specs.declared.fault.ServeFault.TheVariants as faults;
+
+    ghost from_gives = { λ _ fault. fault ≡ faults.Script stops.NoMemory };
+
+    fn from(_: AllocError) -> Self {
+        ServeFault::Script(ScriptFault::NoMemory)
+    }
+}
+
+impl<T: Drop> From<AllocFailed<T>> for ServeFault {
+    ghost use Rattle.std.specs.Prelude.{◌≡◌};
+    ghost use Rattle.capscript.specs.Caplines.declared.fault.ScriptFault.TheVariants as stops;
+    ghost use Rattle.capcommand.specs.declared.fault.ServeFault.TheVariants as faults;
+
+    ghost from_gives = { λ _ fault. fault ≡ faults.Script stops.NoMemory };
+
+    fn from(_: AllocFailed<T>) -> Self {
+        ServeFault::Script(ScriptFault::NoMemory)
+    }
 }

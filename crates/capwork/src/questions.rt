@@ -26,43 +26,26 @@ const ACCESSES: &[&str] = &["read", "write", "vxattr", "snapshot", "chmod", "cho
 /// How many texts of grants, and how many paths, are made before the first question.
 const TEXTS: u64 = 1024;
 
-/// The texts that questions are put together from.
-struct Texts {
-    grants: Vec<Vec<u8>>,
-    paths: Vec<Vec<u8>>,
-}
-
-// By hand, so that whoever lets one go has one call to prove.
-impl Drop for Texts {
-    fn drop(self) {
-        let Texts {
-            grants: _,
-            paths: _,
-        } = self;
-    }
-}
+/// The texts that questions are put together from: grants, and paths.
+type Texts<'a> = (&'a [Vec<u8>], &'a [Vec<u8>]);
 
 /// Answers so many questions, and returns the digest of the answers.
 pub(crate) fn ask_all(alloc: Global, count: u32, seed: u32) -> Result<u64, DayFault> {
     let mut talk = Talk::new(alloc, seed);
-    let texts = make_texts(&mut talk);
-    ask_often(&texts, &mut talk, count);
+    let (mut grants, mut paths) = (Vec::new(alloc), Vec::new(alloc));
+    make_texts(&mut talk, &mut grants, &mut paths);
+    ask_often((grants.as_slice(), paths.as_slice()), &mut talk, count);
     talk.digest()
 }
 
-fn make_texts(talk: &mut Talk) -> Texts {
-    let mut texts = Texts {
-        grants: Vec::new(talk.alloc()),
-        paths: Vec::new(talk.alloc()),
-    };
+fn make_texts(talk: &mut Talk, grants: &mut Vec<Vec<u8>>, paths: &mut Vec<Vec<u8>>) {
     for _ in 0..TEXTS {
-        add_grants(talk, &mut texts.grants);
-        add_path(talk, &mut texts.paths);
+        add_grants(talk, grants);
+        add_path(talk, paths);
     }
-    texts
 }
 
-fn ask_often(texts: &Texts, talk: &mut Talk, count: u32) {
+fn ask_often(texts: Texts, talk: &mut Talk, count: u32) {
     let mut values = blank(talk.alloc());
     for _ in 0..count {
         choose(texts, talk, &mut values);
@@ -93,9 +76,9 @@ fn blank(alloc: Global) -> Values {
 }
 
 // Puts one question together.
-fn choose(texts: &Texts, talk: &mut Talk, values: &mut Values) {
-    take(talk, &texts.grants, &mut values.grants);
-    take(talk, &texts.paths, &mut values.path);
+fn choose((grants, paths): Texts, talk: &mut Talk, values: &mut Values) {
+    take(talk, grants, &mut values.grants);
+    take(talk, paths, &mut values.path);
     choose_word(talk, MODES, &mut values.mode);
     choose_word(talk, ACCESSES, &mut values.access);
     choose_users(talk, values);
@@ -122,7 +105,7 @@ fn choose_word(talk: &mut Talk, words: &[&str], place: &mut Vec<u8>) {
 }
 
 // One of the texts, in the place of another.
-fn take(talk: &mut Talk, texts: &Vec<Vec<u8>>, place: &mut Vec<u8>) {
+fn take(talk: &mut Talk, texts: &[Vec<u8>], place: &mut Vec<u8>) {
     let number = talk.below(texts.len() as u64);
     if let Some(text) = texts.get(number as usize) {
         put(talk, text.as_slice(), place);

@@ -1,7 +1,6 @@
 //! Clients that all work on the same files: what one writes is revoked from the others, sessions become stale, are thrown out and
 //! come back, and entries are asked back.
 
-use crate::day_fault::DayFault;
 use crate::talk::Talk;
 use capscript::Core;
 
@@ -14,35 +13,35 @@ const FOLDERS: u64 = 10;
 /// How many files there are in each.
 const FILES: u64 = 40;
 
+/// The inode of the first file: the first directory is made before it.
+const FIRST: u64 = 3;
+
 /// Makes the files, lets all clients in, and has them work for so many rounds.
 pub(crate) fn share(core: &mut Core, talk: &mut Talk, count: u32) {
     for client in 1..=CLIENTS {
         let_in(core, talk, client);
     }
-    let files = make_all_files(core, talk);
-    work_often(core, talk, files.as_slice(), count)
+    make_all_files(core, talk);
+    work_often(core, talk, count)
 }
 
-fn work_often(core: &mut Core, talk: &mut Talk, files: &[u64], count: u32) {
+fn work_often(core: &mut Core, talk: &mut Talk, count: u32) {
     for _ in 0..count {
-        work(core, talk, files);
+        work(core, talk);
     }
 }
 
-// Makes the directories with their files, and returns the inodes of these.
-fn make_all_files(core: &mut Core, talk: &mut Talk) -> Vec<u64> {
-    let mut files = Vec::new(talk.alloc());
+// Makes the directories with their files, whose inodes follow them.
+fn make_all_files(core: &mut Core, talk: &mut Talk) {
     for number in 0..FOLDERS {
         let folder = talk.make(core, "mkdir 1 1 folder# 0755", &[number]);
-        make_files(core, talk, folder, &mut files);
+        make_files(core, talk, folder);
     }
-    files
 }
 
-fn make_files(core: &mut Core, talk: &mut Talk, folder: u64, files: &mut Vec<u64>) {
+fn make_files(core: &mut Core, talk: &mut Talk, folder: u64) {
     for name in 0..FILES {
-        let file = talk.make(core, "create 1 # file# 0644", &[folder, name]);
-        talk.keep(files, file);
+        talk.make(core, "create 1 # file# 0644", &[folder, name]);
     }
 }
 
@@ -57,13 +56,11 @@ fn let_in(core: &mut Core, talk: &mut Talk, client: u64) {
 }
 
 // One round: a client asks for something of a file, and one listens.
-fn work(core: &mut Core, talk: &mut Talk, files: &[u64]) {
+fn work(core: &mut Core, talk: &mut Talk) {
     let client = talk.among(1, CLIENTS);
     let dice = talk.below(1000);
-    let place = talk.below(files.len() as u64);
-    let Some(ino) = files.get(place as usize).copied() else {
-        return talk.fail(DayFault::Unexpected);
-    };
+    let place = talk.below(FOLDERS * FILES);
+    let ino = place.saturating_add(place / FILES).saturating_add(FIRST);
     if dice < 990 {
         use_file(core, talk, client, ino, dice);
     } else {

@@ -23,10 +23,10 @@ const BY_USER: &str =
 const SQUASHED: &str =
     "session # # # 100 allow r path=/pub, allow rw path=/scratch root_squash, allow rwps path=/tenant#";
 
-/// A tenant, with what it made.
+/// A tenant, with its directory, whose own directories follow it, and the files that it made.
 struct Tenant {
     client: u64,
-    folders: Vec<u64>,
+    home: u64,
     files: Vec<File>,
 }
 
@@ -35,7 +35,7 @@ impl Drop for Tenant {
     fn drop(self) {
         let Tenant {
             client: _,
-            folders: _,
+            home: _,
             files: _,
         } = self;
     }
@@ -79,10 +79,10 @@ fn let_in(core: &mut Core, talk: &mut Talk, number: u64) -> Tenant {
     let client = number.saturating_add(2);
     let home = talk.make(core, "mkdir # 1 tenant# 0777", &[ADMINISTRATOR, number]);
     open_session(core, talk, client, number);
-    let folders = make_folders(core, talk, client, home);
+    make_folders(core, talk, client, home);
     Tenant {
         client,
-        folders,
+        home,
         files: Vec::new(talk.alloc()),
     }
 }
@@ -98,14 +98,11 @@ fn open_session(core: &mut Core, talk: &mut Talk, client: u64, number: u64) {
     talk.say(core, line, &[client, user, user, number, user, user]);
 }
 
-// The directories that a tenant makes in its own.
-fn make_folders(core: &mut Core, talk: &mut Talk, client: u64, home: u64) -> Vec<u64> {
-    let mut folders = Vec::new(talk.alloc());
+// Makes the directories of a tenant in its own.
+fn make_folders(core: &mut Core, talk: &mut Talk, client: u64, home: u64) {
     for name in 0..FOLDERS {
-        let folder = talk.make(core, "mkdir # # folder# 0755", &[client, home, name]);
-        talk.keep(&mut folders, folder);
+        talk.make(core, "mkdir # # folder# 0755", &[client, home, name]);
     }
-    folders
 }
 
 // One round of a tenant: one request or a few, and what it is told of then.
@@ -122,18 +119,10 @@ fn work(core: &mut Core, talk: &mut Talk, tenant: &mut Tenant, turn: u64) {
     }
 }
 
-fn any_folder(talk: &mut Talk, tenant: &Tenant) -> u64 {
-    let place = talk.below(FOLDERS);
-    match tenant.folders.get(place as usize) {
-        Some(folder) => *folder,
-        None => 1,
-    }
-}
-
 // Makes a file, and opens it to write.
 fn make_file(core: &mut Core, talk: &mut Talk, tenant: &mut Tenant, name: u64) {
     let client = tenant.client;
-    let folder = any_folder(talk, tenant);
+    let folder = talk.among(tenant.home.saturating_add(1), FOLDERS);
     let heard = talk.say(core, "create # # file# 0644", &[client, folder, name]);
     if let Heard::Ino(ino) = heard {
         talk.keep(&mut tenant.files, File { ino, folder, name });
@@ -172,7 +161,7 @@ fn change_file(core: &mut Core, talk: &mut Talk, client: u64, ino: u64, dice: u6
 // Moves a file into another directory of the tenant's.
 fn move_file(core: &mut Core, talk: &mut Talk, tenant: &mut Tenant, place: usize, file: File) {
     let client = tenant.client;
-    let folder = any_folder(talk, tenant);
+    let folder = talk.among(tenant.home.saturating_add(1), FOLDERS);
     let File { ino, name, .. } = file;
     let heard = talk.say(core, "rename # # # file#", &[client, ino, folder, name]);
     match tenant.files.get_mut(place) {

@@ -49,42 +49,29 @@ pub(crate) enum Way {
 /// What the words of a command line ask for; nothing where they are not understood.
 pub(crate) fn work_of(words: &[Vec<u8>]) -> Option<Work> {
     match words {
-        [work] => alone(work.as_slice()),
-        [work, times] => by_grants(work.as_slice(), number(times)?),
-        [way, readers, inodes, times] => Some(Work::Serve(ServerWork::Explain(Asking {
-            readers: number(readers)?,
-            inodes: number(inodes)?,
-            times: number(times)?,
-            way: way_of(way.as_slice())?,
-        }))),
-        _ => None,
-    }
-}
-
-fn number(word: &Vec<u8>) -> Option<u32> {
-    read_u32(word.as_slice())
-}
-
-fn alone(work: &[u8]) -> Option<Work> {
-    match work {
-        b"retry" => Some(Work::Retry),
-        b"publish" => Some(Work::Serve(ServerWork::Publish)),
-        _ => None,
-    }
-}
-
-fn by_grants(work: &[u8], times: u32) -> Option<Work> {
-    match work {
-        b"verdict" => Some(Work::Verdict(times)),
-        b"parse" => Some(Work::Parse(times)),
-        _ => None,
-    }
-}
-
-fn way_of(word: &[u8]) -> Option<Way> {
-    match word {
-        b"explain" => Some(Way::Beside),
-        b"locked" => Some(Way::Locked),
+        [work] => match work.as_slice() {
+            b"retry" => Some(Work::Retry),
+            b"publish" => Some(Work::Serve(ServerWork::Publish)),
+            _ => None,
+        },
+        [work, times] => match (work.as_slice(), read_u32(times.as_slice())) {
+            (b"verdict", Some(times)) => Some(Work::Verdict(times)),
+            (b"parse", Some(times)) => Some(Work::Parse(times)),
+            _ => None,
+        },
+        [way, readers, inodes, times] => {
+            let way = match way.as_slice() {
+                b"explain" => Way::Beside,
+                b"locked" => Way::Locked,
+                _ => return None,
+            };
+            Some(Work::Serve(ServerWork::Explain(Asking {
+                readers: read_u32(readers.as_slice())?,
+                inodes: read_u32(inodes.as_slice())?,
+                times: read_u32(times.as_slice())?,
+                way,
+            })))
+        }
         _ => None,
     }
 }

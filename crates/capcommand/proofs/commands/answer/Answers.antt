@@ -1,7 +1,7 @@
 use Rattle.std.proofs.Common.{ℕ, List, rules, sym, subst, ◌∙◌}
 use Rattle.std.specs.Prelude.{IfErr}
 use Rattle.std.proofs.lemmas.Result.{IfErr-at_err}
-use Rattle.capjobs.specs.Capstreams.Watched.{inner_of, has_failed}
+use Rattle.capscript.specs.Capstreams.Watched.{inner_of, has_failed}
 use Rattle.capanswers.specs.Answers.{StopsInquiry}
 use Rattle.capanswers.specs.Checkup.{StopsCheckup}
 use Rattle.capanswers.specs.Survey.{StopsSurvey}

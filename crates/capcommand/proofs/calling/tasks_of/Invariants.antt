@@ -1,0 +1,14 @@
+use Rattle.std.proofs.Common.{◌≡◌, ◌+◌, length}
+use Rattle.std.specs.List.{sum_by}
+use Rattle.capcommand.proofs.calling.tasks_of.Given as goal
+
+abbrev pub invariant-loop-job : goal.invariant-loop-job
+invariant-loop-job g l = record {
+  many : length l.passes.items ≡ length l.jobs.items;
+  new : sum_by (λ p. p.calls) l.passes.items ≡ 0;
+  made : length l.tasks.items + length l.jobs.items ≡ length l.fn.jobs.items;
+  events : sum_by (λ t. length t.events.items) l.tasks.items + sum_by (λ j. length j.events.items) l.jobs.items ≡ sum_by (λ j. length j.events.items) l.fn.jobs.items;
+}
+
+abbrev pub decreases-loop-job : goal.decreases-loop-job
+decreases-loop-job g l = length l.jobs.items
