@@ -58,6 +58,12 @@ pub const JSON: &str = "json";
 /// The value of `--grants`, of `--keyring` or of `--auth` that stands for standard input.
 pub const INPUT: &[u8] = b"-";
 
+// What --more says, of a question and of a script.
+const LEFT: &str =
+    "Prints further lines, for what the grants leave to the client and where the MDS of Ceph 16 decides otherwise";
+
+const STOPPED: &str = "Says more on standard error of what stopped the script, where more is known";
+
 const STATUSES: &str = "Status:
   0  the whole answer was written; of `explain --quiet`: allowed
   1  a value, a text or a script has a fault, a read or a write failed, or memory was missing
@@ -152,9 +158,15 @@ pub enum Ask {
     /// What the checks of policy in a log are answered, on the file system of this name.
     Log(Vec<u8>),
     /// The transcript of a script.
-    Run,
+    Run {
+        /// Whether more is to be said of what stops it.
+        more: bool,
+    },
     /// The history of a script whose clients call at once.
-    Serve,
+    Serve {
+        /// Whether more is to be said of what stops it.
+        more: bool,
+    },
 }
 
 // By hand, so that whoever lets one go has one call to prove.
@@ -172,8 +184,8 @@ impl Drop for Ask {
             Ask::Who(_) => {}
             Ask::Audit(_) => {}
             Ask::Log(_) => {}
-            Ask::Run => {}
-            Ask::Serve => {}
+            Ask::Run { more: _ } => {}
+            Ask::Serve { more: _ } => {}
         }
     }
 }
@@ -220,8 +232,8 @@ fn capd<'a>(alloc: Global) -> Result<Command<'a>, AllocError> {
     let command = with(command, who(alloc));
     let command = with(command, audit(alloc));
     let command = with(command, log(alloc));
-    let command = with(command, Ok(run(alloc)));
-    with(command, Ok(serve(alloc)))
+    let command = with(command, run(alloc));
+    with(command, serve(alloc))
 }
 
 // The command with one subcommand more, where there was memory for both.
@@ -248,7 +260,7 @@ fn explain<'a>(alloc: Global) -> Result<Command<'a>, AllocError> {
     let command = with_arg(command, keyring(alloc));
     let command = with_arg(command, auth_list(alloc));
     let command = with_arg(command, client(alloc));
-    let command = with_arg(command, Ok(more(alloc)));
+    let command = with_arg(command, Ok(more(alloc, LEFT)));
     let command = with_arg(command, json(alloc).conflicts_with(MORE));
     with_arg(command, quiet(alloc))
 }
@@ -308,12 +320,10 @@ fn client<'a>(alloc: Global) -> Result<Arg<'a>, AllocError> {
         .conflicts_with(Opt::Grants.name())
 }
 
-fn more<'a>(alloc: Global) -> Arg<'a> {
+fn more<'a>(alloc: Global, help: &'a str) -> Arg<'a> {
     Arg::new(alloc, MORE)
         .long(MORE)
-        .help(
-            "Prints further lines, for what the grants leave to the client and where the MDS of Ceph 16 decides otherwise",
-        )
+        .help(help)
         .action(ArgAction::SetTrue)
 }
 
@@ -484,16 +494,18 @@ fn text_argument<'a>(alloc: Global, name: &'a str, value_name: &'a str, help: &'
         .action(ArgAction::Set)
 }
 
-fn run<'a>(alloc: Global) -> Command<'a> {
+fn run<'a>(alloc: Global) -> Result<Command<'a>, AllocError> {
     Command::new(alloc, RUN)
         .about("Reads a script from standard input and prints what a server answers to each line")
         .after_help(RUN_EXAMPLE)
+        .arg(more(alloc, STOPPED))
 }
 
-fn serve<'a>(alloc: Global) -> Command<'a> {
+fn serve<'a>(alloc: Global) -> Result<Command<'a>, AllocError> {
     Command::new(alloc, SERVE)
         .about(
             "Reads a script, lets each client call by a thread of its own behind the line `threads`, and prints the history",
         )
         .after_help(SERVE_EXAMPLE)
+        .arg(more(alloc, STOPPED))
 }

@@ -38,8 +38,12 @@ pub fn asked(alloc: Global, matches: &ArgMatches<'_>) -> Result<Ask, ErrorKind> 
         WHO => Ask::Who(matched.survey()),
         AUDIT => Ask::Audit(matched.checkup()),
         LOG => Ask::Log(matched.option(Opt::Fs)),
-        RUN => Ask::Run,
-        SERVE => Ask::Serve,
+        RUN => Ask::Run {
+            more: matched.says_more(),
+        },
+        SERVE => Ask::Serve {
+            more: matched.says_more(),
+        },
         _ => return Err(ErrorKind::MissingSubcommand),
     };
     match matched.fault {
@@ -101,10 +105,14 @@ impl Matched<'_, '_> {
         }
     }
 
+    fn says_more(&self) -> bool {
+        self.matches.get_flag(MORE)
+    }
+
     fn form(&self) -> Form {
         if self.matches.get_flag(QUIET) {
             Form::Status
-        } else if self.matches.get_flag(MORE) {
+        } else if self.says_more() {
             Form::More
         } else if self.matches.get_flag(JSON) {
             Form::Object

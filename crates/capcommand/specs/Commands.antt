@@ -34,8 +34,8 @@ Answers (asks.Lint text shape) input status old new = AnswersLint shape text.ite
 Answers (asks.Who survey) input status old new = (status ≡ 0) × AnswersSurvey survey input old new
 Answers (asks.Audit checkup) input status old new = AnswersCheckup checkup input status old new
 Answers (asks.Log fs) input status old new = (status ≡ 0) × AnswersLog fs.items input old new
-Answers asks.Run input status old new = (status ≡ 0) × IfSome input (λ script. (length script ≤ longest_script) × ((text : List ℕ) × IsTranscript (lines script) text × Appends old new text))
-Answers asks.Serve input status old new = (status ≡ 0) × IfSome input (λ script. (length script ≤ longest_script) × ((text : List ℕ) × IsServed (lines script) text × Appends old new text))
+Answers (asks.Run more) input status old new = (status ≡ 0) × IfSome input (λ script. (length script ≤ longest_script) × ((text : List ℕ) × IsTranscript (lines script) text × Appends old new text))
+Answers (asks.Serve more) input status old new = (status ≡ 0) × IfSome input (λ script. (length script ≤ longest_script) × ((text : List ℕ) × IsServed (lines script) text × Appends old new text))
 
 -- The run stopped so, and this was written. A script that was read to its end is told apart. A read or a write that failed is told; a
 -- failed read is told of nothing else but a script that is too long, and then nothing was written.
@@ -70,5 +70,5 @@ Stops (asks.Lint text shape) fault input ended unread unwritten old new = TellsO
 Stops (asks.Who survey) fault input ended unread unwritten old new = TellsOfAnswer (λ told. StopsSurvey survey told input unread unwritten old new) fault
 Stops (asks.Audit checkup) fault input ended unread unwritten old new = TellsOfAnswer (λ told. StopsCheckup checkup told input unread unwritten old new) fault
 Stops (asks.Log fs) fault input ended unread unwritten old new = TellsOfAnswer (λ told. StopsLog fs.items told input unread unwritten old new) fault
-Stops asks.Run fault input ended unread unwritten old new = (stop : ScriptFault) × (fault ≡ Script stop) × RunStops stop input ended unread unwritten old new
-Stops asks.Serve fault input ended unread unwritten old new = (stop : ServeFault) × (fault ≡ Serve stop) × ServeStops stop input unread unwritten old new
+Stops (asks.Run more) fault input ended unread unwritten old new = (stop : ScriptFault) × (fault ≡ Script stop) × RunStops stop input ended unread unwritten old new
+Stops (asks.Serve more) fault input ended unread unwritten old new = (stop : ServeFault) × (fault ≡ Serve stop) × ServeStops stop input unread unwritten old new
