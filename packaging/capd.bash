@@ -9,6 +9,8 @@ _capd() {
         mapfile -t COMPREPLY < <(compgen -W '--fs --help' -- "$word")
     elif [[ ${COMP_WORDS[1]} == compare || ${COMP_WORDS[1]} == lint ]]; then
         mapfile -t COMPREPLY < <(compgen -W '--json --help' -- "$word")
+    elif [[ ${COMP_WORDS[1]} == grants || ${COMP_WORDS[1]} == run || ${COMP_WORDS[1]} == serve ]]; then
+        mapfile -t COMPREPLY < <(compgen -W '--more --help' -- "$word")
     elif [[ ${COMP_WORDS[1]} != explain && ${COMP_WORDS[1]} != who && ${COMP_WORDS[1]} != audit ]]; then
         mapfile -t COMPREPLY < <(compgen -W '--help' -- "$word")
     elif [[ $before == --keyring || $before == --auth || $before == --sessions || $before == --tree ]]; then

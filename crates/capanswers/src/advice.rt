@@ -20,7 +20,9 @@ pub fn refuse(alloc: Global, ask: &Ask, fault: AnswerFault, faults: &mut impl Wr
 {
     let status = report(fault, faults);
     let refused = refused(ask, fault);
-    if let Some((text, at)) = refused {
+    if let Some((text, at)) = refused
+        && shows_place(ask)
+    {
         point_at(alloc, text, at, faults);
     }
     if let Some(advice) = advice(fault, refused) {
@@ -129,6 +131,15 @@ fn advice(fault: AnswerFault, refused: Option<(&[u8], usize)>) -> Option<&'stati
     }
 }
 
+// Whether the place in a text is shown: with `--more` alone where the line of the fault is all that a script may look for.
+fn shows_place(ask: &Ask) -> bool {
+    match ask {
+        Ask::Explain(inquiry) => matches!(inquiry.form, Form::More),
+        Ask::Grants { text: _, more } => *more,
+        _ => true,
+    }
+}
+
 // The text of grants that has the fault, and how many bytes stand before it. Of a text with nothing but white space there is no place.
 fn refused<'a>(ask: &'a Ask, fault: AnswerFault) -> Option<(&'a [u8], usize)> {
     let (text, found) = match (ask, fault) {
@@ -136,7 +147,7 @@ fn refused<'a>(ask: &'a Ask, fault: AnswerFault) -> Option<(&'a [u8], usize)> {
             (&inquiry.values.grants, found)
         }
         (
-            Ask::Grants(text) | Ask::Lint { text, .. },
+            Ask::Grants { text, .. } | Ask::Lint { text, .. },
             AnswerFault::Question(QuestionFault::Grants(found)),
         ) => (text, found),
         (Ask::Compare { old, .. }, AnswerFault::Compare(CompareFault::Old(found))) => (old, found),

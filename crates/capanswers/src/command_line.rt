@@ -70,7 +70,12 @@ pub enum Ask {
     /// Whether grants allow an access.
     Explain(Inquiry),
     /// The written form of the grants in a text.
-    Grants(Vec<u8>),
+    Grants {
+        /// The text.
+        text: Vec<u8>,
+        /// Whether the place of a fault is to be shown.
+        more: bool,
+    },
     /// What grants allow that others deny.
     Compare {
         /// The text of the old grants.
@@ -94,9 +99,15 @@ pub enum Ask {
     /// What the checks of policy in a log are answered, on the file system of this name.
     Log(Vec<u8>),
     /// The transcript of a script.
-    Run,
+    Run {
+        /// Whether more is to be said of what stops it.
+        more: bool,
+    },
     /// The history of a script whose clients call at once.
-    Serve,
+    Serve {
+        /// Whether more is to be said of what stops it.
+        more: bool,
+    },
 }
 
 // By hand, so that whoever lets one go has one call to prove.
@@ -104,7 +115,7 @@ impl Drop for Ask {
     fn drop(self) {
         match self {
             Ask::Explain(_) => {}
-            Ask::Grants(_) => {}
+            Ask::Grants { text: _, more: _ } => {}
             Ask::Compare {
                 old: _,
                 new: _,
@@ -114,8 +125,8 @@ impl Drop for Ask {
             Ask::Who(_) => {}
             Ask::Audit(_) => {}
             Ask::Log(_) => {}
-            Ask::Run => {}
-            Ask::Serve => {}
+            Ask::Run { more: _ } => {}
+            Ask::Serve { more: _ } => {}
         }
     }
 }

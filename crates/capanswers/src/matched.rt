@@ -25,7 +25,10 @@ pub fn asked(alloc: Global, matches: &ArgMatches<'_>) -> Result<Ask, ErrorKind> 
     };
     let ask = match name {
         EXPLAIN => Ask::Explain(matched.inquiry()),
-        GRANTS => Ask::Grants(matched.value(TEXT)),
+        GRANTS => Ask::Grants {
+            text: matched.value(TEXT),
+            more: matched.says_more(),
+        },
         COMPARE => Ask::Compare {
             old: matched.value(OLD),
             new: matched.value(NEW),
@@ -38,8 +41,12 @@ pub fn asked(alloc: Global, matches: &ArgMatches<'_>) -> Result<Ask, ErrorKind> 
         WHO => Ask::Who(matched.survey()),
         AUDIT => Ask::Audit(matched.checkup()),
         LOG => Ask::Log(matched.option(Opt::Fs)),
-        RUN => Ask::Run,
-        SERVE => Ask::Serve,
+        RUN => Ask::Run {
+            more: matched.says_more(),
+        },
+        SERVE => Ask::Serve {
+            more: matched.says_more(),
+        },
         _ => return Err(ErrorKind::MissingSubcommand),
     };
     match matched.fault {
@@ -101,10 +108,14 @@ impl Matched<'_, '_> {
         }
     }
 
+    fn says_more(&self) -> bool {
+        self.matches.get_flag(MORE)
+    }
+
     fn form(&self) -> Form {
         if self.matches.get_flag(QUIET) {
             Form::Status
-        } else if self.matches.get_flag(MORE) {
+        } else if self.says_more() {
             Form::More
         } else if self.matches.get_flag(JSON) {
             Form::Object

@@ -282,6 +282,35 @@ const EXPLAIN_WORDS: [Word; 16] = [
     },
 ];
 
+// What stops a script.
+const SCRIPT_WORDS: [Word; 1] = [Word {
+    name: Name::Own(MORE),
+    value: "",
+    help: "Says more on standard error of what stopped the script, where more is known",
+    kind: Kind::Flag,
+    needs: None,
+    bars: &[],
+}];
+
+const GRANTS_WORDS: [Word; 2] = [
+    Word {
+        name: Name::Own(TEXT),
+        value: "TEXT",
+        help: "The grants: 1 to 16 of them, as `ceph fs authorize` writes them",
+        kind: Kind::Bare,
+        needs: None,
+        bars: &[],
+    },
+    Word {
+        name: Name::Own(MORE),
+        value: "",
+        help: "Shows on standard error the place of a fault in the text",
+        kind: Kind::Flag,
+        needs: None,
+        bars: &[],
+    },
+];
+
 const COMPARE_WORDS: [Word; 3] = [
     Word {
         name: Name::Own(OLD),
@@ -415,14 +444,7 @@ pub(crate) const COMMANDS: [Usage; 9] = [
         name: GRANTS,
         about: "Writes grants in their one form, with all that means nothing left out",
         example: GRANTS_EXAMPLE,
-        words: &[Word {
-            name: Name::Own(TEXT),
-            value: "TEXT",
-            help: "The grants: 1 to 16 of them, as `ceph fs authorize` writes them",
-            kind: Kind::Bare,
-            needs: None,
-            bars: &[],
-        }],
+        words: &GRANTS_WORDS,
     },
     Usage {
         name: COMPARE,
@@ -458,12 +480,12 @@ pub(crate) const COMMANDS: [Usage; 9] = [
         name: RUN,
         about: "Reads a script from standard input and prints what a server answers to each line",
         example: RUN_EXAMPLE,
-        words: &[],
+        words: &SCRIPT_WORDS,
     },
     Usage {
         name: SERVE,
         about: "Reads a script, lets each client call by a thread of its own behind the line `threads`, and prints the history",
         example: SERVE_EXAMPLE,
-        words: &[],
+        words: &SCRIPT_WORDS,
     },
 ];

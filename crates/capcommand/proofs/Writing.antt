@@ -8,7 +8,7 @@ use Rattle.capscript.specs.Caplines.declared.fault.ScriptFault.{ScriptFault}
 use Rattle.capscript.specs.Caplines.declared.fault.ScriptFault.TheVariants as stops
 use Rattle.capscript.proofs.Capstreams.KnownBytes.{none_appended}
 use Rattle.capcommand.specs.declared.fault.ServeFault.{ServeFault}
-use Rattle.capcommand.specs.declared.fault.ServeFault.TheVariants.{Script, Clients, HistoryFull}
+use Rattle.capcommand.specs.declared.fault.ServeFault.TheVariants.{Script, Clients, HistoryFull, NoThread}
 use Rattle.capcommand.specs.Jobs.{Work, no_work, IsFaultAt, StopsAt}
 use Rattle.capcommand.specs.Served.{IsUnserved, IsWritten}
 
@@ -24,6 +24,7 @@ stopped_unserved script (Script (stops.LineFault line kind)) at = at
 stopped_unserved script (Script stops.NoMemory) at = tt
 stopped_unserved script (Script stops.ReadFault) at = never_stops (Script stops.ReadFault) (λ old number line is. is) no_work 1 script at
 stopped_unserved script (Script stops.WriteFault) at = never_stops (Script stops.WriteFault) (λ old number line is. is) no_work 1 script at
+stopped_unserved script NoThread at = tt
 stopped_unserved script (Clients line) at = at
 stopped_unserved script HistoryFull at = absurd (never_stops HistoryFull (λ old number line is. is) no_work 1 script at)
 

@@ -28,14 +28,14 @@ use Rattle.capcommand.specs.declared.stopping.Fault.TheVariants.{Answer, Script,
 -- and for what is found
 abbrev pub Answers : Ask → Option (List ℕ) → ℕ → Option (List ℕ) → Option (List ℕ) → Type 0
 Answers (asks.Explain inquiry) input status old new = AnswersInquiry inquiry input status old new
-Answers (asks.Grants text) input status old new = (status ≡ 0) × ((grants : List Grant) × Reads text.items grants × Appends old new (written grants ++ codes "\n"))
+Answers (asks.Grants text more) input status old new = (status ≡ 0) × ((grants : List Grant) × Reads text.items grants × Appends old new (written grants ++ codes "\n"))
 Answers (asks.Compare before after shape) input status old new = (status ≡ 0) × ((lines : List ℕ) × IsComparison shape before.items after.items lines × Appends old new lines)
 Answers (asks.Lint text shape) input status old new = AnswersLint shape text.items status old new
 Answers (asks.Who survey) input status old new = (status ≡ 0) × AnswersSurvey survey input old new
 Answers (asks.Audit checkup) input status old new = AnswersCheckup checkup input status old new
 Answers (asks.Log fs) input status old new = (status ≡ 0) × AnswersLog fs.items input old new
-Answers asks.Run input status old new = (status ≡ 0) × IfSome input (λ script. (length script ≤ longest_script) × ((text : List ℕ) × IsTranscript (lines script) text × Appends old new text))
-Answers asks.Serve input status old new = (status ≡ 0) × IfSome input (λ script. (length script ≤ longest_script) × ((text : List ℕ) × IsServed (lines script) text × Appends old new text))
+Answers (asks.Run more) input status old new = (status ≡ 0) × IfSome input (λ script. (length script ≤ longest_script) × ((text : List ℕ) × IsTranscript (lines script) text × Appends old new text))
+Answers (asks.Serve more) input status old new = (status ≡ 0) × IfSome input (λ script. (length script ≤ longest_script) × ((text : List ℕ) × IsServed (lines script) text × Appends old new text))
 
 -- The run stopped so, and this was written. A script that was read to its end is told apart. A read or a write that failed is told; a
 -- failed read is told of nothing else but a script that is too long, and then nothing was written.
@@ -64,11 +64,11 @@ TellsOfAnswer P (Serve stop) = ⊥
 -- why there is no whole answer, by whether the input was read to its end, whether a read failed and whether a write did
 abbrev pub Stops : Ask → Fault → Option (List ℕ) → Bool → Bool → Bool → Option (List ℕ) → Option (List ℕ) → Type 0
 Stops (asks.Explain inquiry) fault input ended unread unwritten old new = TellsOfAnswer (λ told. StopsInquiry inquiry told input unread unwritten old new) fault
-Stops (asks.Grants text) fault input ended unread unwritten old new = TellsOfAnswer (λ told. StopsBefore (IsFaultOfText text.items) told unwritten old new) fault
+Stops (asks.Grants text more) fault input ended unread unwritten old new = TellsOfAnswer (λ told. StopsBefore (IsFaultOfText text.items) told unwritten old new) fault
 Stops (asks.Compare before after shape) fault input ended unread unwritten old new = TellsOfAnswer (λ told. StopsComparing before.items after.items told unwritten old new) fault
 Stops (asks.Lint text shape) fault input ended unread unwritten old new = TellsOfAnswer (λ told. StopsBefore (IsFaultOfText text.items) told unwritten old new) fault
 Stops (asks.Who survey) fault input ended unread unwritten old new = TellsOfAnswer (λ told. StopsSurvey survey told input unread unwritten old new) fault
 Stops (asks.Audit checkup) fault input ended unread unwritten old new = TellsOfAnswer (λ told. StopsCheckup checkup told input unread unwritten old new) fault
 Stops (asks.Log fs) fault input ended unread unwritten old new = TellsOfAnswer (λ told. StopsLog fs.items told input unread unwritten old new) fault
-Stops asks.Run fault input ended unread unwritten old new = (stop : ScriptFault) × (fault ≡ Script stop) × RunStops stop input ended unread unwritten old new
-Stops asks.Serve fault input ended unread unwritten old new = (stop : ServeFault) × (fault ≡ Serve stop) × ServeStops stop input unread unwritten old new
+Stops (asks.Run more) fault input ended unread unwritten old new = (stop : ScriptFault) × (fault ≡ Script stop) × RunStops stop input ended unread unwritten old new
+Stops (asks.Serve more) fault input ended unread unwritten old new = (stop : ServeFault) × (fault ≡ Serve stop) × ServeStops stop input unread unwritten old new

@@ -11,7 +11,7 @@ use Rattle.capscript.specs.Caplines.Faults.{HasFault}
 use Rattle.capscript.specs.Caplines.Lines.{is_skipped}
 use Rattle.capscript.specs.Caplines.Words.{words}
 use Rattle.capcommand.specs.declared.fault.ServeFault.{ServeFault}
-use Rattle.capcommand.specs.declared.fault.ServeFault.TheVariants.{Script, Clients, HistoryFull}
+use Rattle.capcommand.specs.declared.fault.ServeFault.TheVariants.{Script, Clients, HistoryFull, NoThread}
 use Rattle.capcommand.specs.declared.plan.Job.{Job}
 use Rattle.capcommand.specs.declared.plan.Plan.{Plan}
 
@@ -130,6 +130,7 @@ IsFaultBy threads recall old number line (Script stops.ReadFault) = ⊥
 IsFaultBy threads recall old number line (Script stops.WriteFault) = ⊥
 IsFaultBy threads recall old number line (Clients at) = (at ≡ number) × IsTooMany old line
 IsFaultBy threads recall old number line HistoryFull = ⊥
+IsFaultBy threads recall old number line NoThread = ⊥
 
 abbrev pub IsFaultAt : Work → ℕ → List ℕ → ServeFault → Type 0
 IsFaultAt old number line fault = IsFaultBy (begins_with (codes "threads") line) (begins_with (codes "recall") line) old number line fault

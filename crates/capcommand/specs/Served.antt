@@ -1,5 +1,5 @@
 -- What a script that is served leaves, and what is written of it.
-use Rattle.std.specs.Prelude.{◌≡◌, ◌≤◌, ℕ, List, [], ◌++◌, Result, Ok, Err, length, codes}
+use Rattle.std.specs.Prelude.{◌≡◌, ◌≤◌, ◌⊎◌, ℕ, List, [], ◌++◌, Result, Ok, Err, length, codes}
 use Rattle.std.specs.List.{flat_map}
 use Rattle.inotree.specs.Calls.{first_tree}
 use Rattle.capserver.specs.Capevents.declared.row.Row.{Row}
@@ -9,7 +9,7 @@ use Rattle.capscript.specs.Capexplain.Audit.{audit_text}
 use Rattle.capscript.specs.Transcript.{fs_name, root_attr}
 use Rattle.capscript.specs.Caplines.declared.fault.ScriptFault.TheVariants as stops
 use Rattle.capcommand.specs.declared.fault.ServeFault.{ServeFault}
-use Rattle.capcommand.specs.declared.fault.ServeFault.TheVariants.{Script, Clients, HistoryFull}
+use Rattle.capcommand.specs.declared.fault.ServeFault.TheVariants.{Script, Clients, HistoryFull, NoThread}
 use Rattle.capcommand.specs.Jobs.{Work, no_work, event_count, TakesAll, StopsAt}
 
 -- the line of a row, with its line feed
@@ -40,13 +40,22 @@ pub record IsServed (script : List (List ℕ)) (text : List ℕ) : Type 0 where
 abbrev pub most_rows : ℕ
 most_rows = 4294967295
 
--- Why a script is not served: its first line that has a fault; or memory was missing; or all lines were taken, and the history was full:
--- then they say at least as many events as it has rows.
+-- memory was missing for the calls, or a thread was not to be had
+abbrev pub IsMissing : ServeFault → Type 0
+IsMissing fault = (fault ≡ Script stops.NoMemory) ⊎ (fault ≡ NoThread)
+
+-- So many events were not all answered: memory or a thread was missing; or the history was full, and has no more rows than there are events.
+abbrev pub IsCutShort : ℕ → ServeFault → Type 0
+IsCutShort events fault = IsMissing fault ⊎ ((fault ≡ HistoryFull) × (most_rows ≤ events))
+
+-- Why a script is not served: its first line that has a fault; or memory was missing, or a thread; or all lines were taken, and the
+-- history was full: then they say at least as many events as it has rows.
 abbrev pub IsUnserved : List (List ℕ) → ServeFault → Type 0
 IsUnserved script (Script (stops.LineFault line kind)) = StopsAt no_work 1 script (Script (stops.LineFault line kind))
 IsUnserved script (Script stops.NoMemory) = Unit {0}
 IsUnserved script (Script stops.ReadFault) = ⊥
 IsUnserved script (Script stops.WriteFault) = ⊥
+IsUnserved script NoThread = Unit {0}
 IsUnserved script (Clients line) = StopsAt no_work 1 script (Clients line)
 IsUnserved script HistoryFull = (work : Work) × TakesAll no_work script work × (most_rows ≤ event_count work)
 

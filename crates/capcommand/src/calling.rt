@@ -1,9 +1,11 @@
 //! The calls of a plan, each client's by a thread and a pass of its own.
-ghost use Rattle.std.specs.Prelude.{◌≡◌, ◌≤◌, ◌+◌, length, vec_len, IfOk, IsTrue};
+ghost use Rattle.std.specs.Prelude.{◌≡◌, ◌≤◌, ◌+◌, length, vec_len, IfOk, IfErr, IsTrue};
 ghost use Rattle.std.specs.List.{sum_by};
 ghost use Rattle.capserver.specs.Cappass.Passes.{AllNew};
 ghost use Rattle.capcommand.specs.Jobs.{work_of, event_count};
+ghost use Rattle.capcommand.specs.Served.{IsMissing};
 
+use crate::fault::ServeFault;
 use crate::plan::{Job, Plan};
 use capserver::{CapServer, Event, Gate, Pass, Server};
 use std::alloc::{AllocError, Global};
@@ -24,12 +26,13 @@ pub(crate) fn call_all<L: Server + Send + Sync, G: Gate + Send + Sync, T: Thread
     server: &CapServer<G, L>,
     passes: Vec<Pass<L>>,
     plan: Plan,
-) -> Result<Called<L>, AllocError>
+) -> Result<Called<L>, ServeFault>
     requires many { vec_len passes ≡ vec_len plan.jobs + 1 }
     requires new { AllNew 0 passes.items }
     ensures many { IfOk result (λ called. vec_len called.passes ≡ vec_len passes) }
     ensures most { IfOk result (λ called. sum_by (λ p. p.calls) called.passes.items ≤ event_count (work_of plan)) }
     ensures all { IfOk result (λ called. IsTrue called.answered → sum_by (λ p. p.calls) called.passes.items ≡ event_count (work_of plan)) }
+    ensures err { IfErr result IsMissing }
 {
     let Plan {
         first,
@@ -142,10 +145,11 @@ fn call_tasks<L: Server + Send + Sync, G: Gate + Send + Sync, T: Threads + Wait 
     alloc: Global,
     server: &CapServer<G, L>,
     tasks: Vec<Task<L>>,
-) -> Result<Called<L>, AllocError>
+) -> Result<Called<L>, ServeFault>
     ensures many { IfOk result (λ called. vec_len called.passes ≡ vec_len tasks) }
     ensures most { IfOk result (λ called. sum_by (λ p. p.calls) called.passes.items ≤ sum_by (λ t. length t.events.items) tasks.items) }
     ensures all { IfOk result (λ called. IsTrue called.answered → sum_by (λ p. p.calls) called.passes.items ≡ sum_by (λ t. length t.events.items) tasks.items) }
+    ensures err { IfErr result IsMissing }
 {
     scope(scope_env(), rt, |scope| {
         let started = start_all(scope, rt, alloc, server, tasks);
@@ -190,10 +194,11 @@ fn join_all<L: Server, T: Threads>(
     rt: &T,
     alloc: Global,
     started: Started<L>,
-) -> Result<Called<L>, AllocError>
+) -> Result<Called<L>, ServeFault>
     ensures many { IfOk result (λ called. IsTrue started.all × (vec_len called.passes ≡ vec_len started.threads)) }
     ensures most { IfOk result (λ called. sum_by (λ p. p.calls) called.passes.items ≤ sum_by (λ h. h.promise.0) started.threads.items) }
     ensures all { IfOk result (λ called. IsTrue called.answered → sum_by (λ p. p.calls) called.passes.items ≡ sum_by (λ h. h.promise.0) started.threads.items) }
+    ensures err { IfErr result IsMissing }
 {
     let Started { threads, all } = started;
     let mut passes = Vec::new(alloc);
@@ -209,6 +214,6 @@ fn join_all<L: Server, T: Threads>(
     if all {
         Ok(Called { passes, answered })
     } else {
-        Err(AllocError)
+        Err(ServeFault::NoThread)
     }
 }

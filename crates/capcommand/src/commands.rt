@@ -11,13 +11,14 @@ ghost use Rattle.capcommand.specs.declared.stopping.Fault.{Fault as AFault};
 ghost use Rattle.capcommand.specs.declared.stopping.Fault.TheVariants as faults;
 ghost use Rattle.capcommand.specs.Commands.{Answers, Stops, RunStops, ServeStops};
 
+use crate::fault::ServeFault;
 use crate::serving::serve;
 use crate::stopping::Fault;
 use capanswers::{
     Ask, DENIED, DONE, FAILED, FOUND, USAGE, check_cluster, compare_texts, gather, grants, inquire,
     keyring_file, look_over, read_words, report, show, tell_log, tell_who,
 };
-use capscript::{Watched, run};
+use capscript::{ScriptFault, Watched, run};
 use std::alloc::Global;
 use std::fs::Files;
 use std::io::{Read, Write};
@@ -83,7 +84,7 @@ pub fn carry_out<T: Threads + Wait + Sync, R: Read, W: Write, F: Write>(
 {
     match answer(rt, alloc, ask, reader, writer) {
         Ok(status) => status,
-        Err(fault) => refuse(alloc, ask, fault, faults),
+        Err(fault) => refuse(alloc, ask, fault, reader, faults),
     }
 }
 
@@ -108,7 +109,7 @@ fn answer<T: Threads + Wait + Sync, R: Read, W: Write>(
 {
     let answered = match ask {
         Ask::Explain(inquiry) => inquire(alloc, inquiry, reader, writer),
-        Ask::Grants(text) => grants(alloc, text.as_slice(), writer),
+        Ask::Grants { text, more: _ } => grants(alloc, text.as_slice(), writer),
         Ask::Compare { old, new, shape } => {
             compare_texts(alloc, old.as_slice(), new.as_slice(), *shape, writer)
         }
@@ -116,8 +117,8 @@ fn answer<T: Threads + Wait + Sync, R: Read, W: Write>(
         Ask::Who(survey) => tell_who(alloc, survey, reader, writer),
         Ask::Audit(checkup) => check_cluster(alloc, checkup, reader, writer),
         Ask::Log(fs) => tell_log(alloc, fs.as_slice(), reader, writer),
-        Ask::Run => return run_script(alloc, reader, writer),
-        Ask::Serve => return serve_script(rt, alloc, reader, writer),
+        Ask::Run { more: _ } => return run_script(alloc, reader, writer),
+        Ask::Serve { more: _ } => return serve_script(rt, alloc, reader, writer),
     };
     match answered {
         Ok(status) => Ok(status),
@@ -177,12 +178,47 @@ fn serve_script<T: Threads + Wait + Sync, R: Read, W: Write>(
 }
 
 // Says what stopped a command, and what helps against it, and returns its status.
-fn refuse(alloc: Global, ask: &Ask, fault: Fault, faults: &mut impl Write) -> u8
+fn refuse<R>(
+    alloc: Global,
+    ask: &Ask,
+    fault: Fault,
+    reader: &Watched<R>,
+    faults: &mut impl Write,
+) -> u8
     ensures { result ≡ FAILED }
 {
-    match fault {
-        Fault::Answer(fault) => capanswers::refuse(alloc, ask, fault, faults),
+    let status = match fault {
+        Fault::Answer(fault) => return capanswers::refuse(alloc, ask, fault, faults),
         Fault::Script(stop) => report(stop, faults),
         Fault::Serve(stop) => report(stop, faults),
+    };
+    if let Ask::Run { more: true } | Ask::Serve { more: true } = ask
+        && let Some(cause) = cause_of(fault, reader)
+    {
+        let _ = writeln!(faults, "hint: {cause}");
+    }
+    status
+}
+
+// What is known of the cause of a fault, where its line doesn't tell it.
+fn cause_of<R>(fault: Fault, reader: &Watched<R>) -> Option<&'static str> {
+    match fault {
+        Fault::Script(ScriptFault::ReadFault)
+        | Fault::Serve(ServeFault::Script(ScriptFault::ReadFault)) => cause_unread(reader),
+        Fault::Serve(ServeFault::NoThread) => Some(
+            "a thread was not to be had, or no memory for it",
+        ),
+        _ => None,
+    }
+}
+
+// Why a script was not read. Where no read failed it is too long.
+fn cause_unread<R>(reader: &Watched<R>) -> Option<&'static str> {
+    if reader.blocked() {
+        Some("standard input had nothing yet, and is set not to wait for more")
+    } else if reader.failed() {
+        None
+    } else {
+        Some("a script has at most 16777216 bytes")
     }
 }

@@ -23,6 +23,9 @@ pub enum ServeFault {
     /// The history has as many rows as it may have.
     #[error("history full")]
     HistoryFull,
+    /// A thread was not to be had, or no memory for it. It is told as want of memory is.
+    #[error("no memory")]
+    NoThread,
 }
 
 impl ServeFault {

@@ -9,7 +9,7 @@ ghost use Rattle.capscript.specs.Caplines.declared.fault.ScriptFault.TheVariants
 ghost use Rattle.capscript.specs.Capstreams.Watched.{inner_of, has_failed, has_ended};
 ghost use Rattle.capcommand.specs.declared.fault.ServeFault.TheVariants as faults;
 ghost use Rattle.capcommand.specs.Jobs.{work_of, event_count};
-ghost use Rattle.capcommand.specs.Served.{IsHistory, IsServed, IsUnserved, IsWritten, most_rows};
+ghost use Rattle.capcommand.specs.Served.{IsCutShort, IsHistory, IsServed, IsUnserved, IsWritten, most_rows};
 
 use crate::audit::audit_lines;
 use crate::calling::{Called, call_all};
@@ -111,8 +111,7 @@ pub fn serve_plan<T: Threads + Wait + Sync, G: Gate + Send + Sync>(
 ) -> Result<Core, ServeFault>
     requires few { vec_len plan.jobs ≤ 31 }
     ensures served { IfOk result (λ core. IsHistory (work_of plan) core.rows core.state) }
-    ensures err { OnErr result ((result ≡ Err (faults.Script stops.NoMemory))
-        ⊎ ((result ≡ Err faults.HistoryFull) × (most_rows ≤ event_count (work_of plan)))) }
+    ensures err { IfErr result (IsCutShort (event_count (work_of plan))) }
 {
     let (fs, tree) = file_system(alloc)?;
     let opening = Opening::new(alloc, fs, tree, MAX_ROWS)?;
@@ -130,7 +129,7 @@ fn served<L: Server + Send + Sync, G: Gate + Send + Sync, T: Threads + Wait + Sy
     count: u32,
     gate: G,
     plan: Plan,
-) -> Result<Core, Stop>
+) -> Result<Core, ServeFault>
     requires opening { opening ≡ opened L.opening L.max_rows L.history }
     requires name { blank.name ≡ L.name }
     requires parts { (blank.parts ≡ L.parts) × (L.parts ≡ 32) }
@@ -138,10 +137,10 @@ fn served<L: Server + Send + Sync, G: Gate + Send + Sync, T: Threads + Wait + Sy
     requires many { count ≡ vec_len plan.jobs + 1 }
     ensures legal { IfOk result (λ core. IsLegal L.opening core.rows core.state) }
     ensures counted { IfOk result (λ core. length core.rows ≡ event_count (work_of plan)) }
-    ensures full { IfErr result (λ stop. stop ≡ stop_kind.Full → most_rows ≤ event_count (work_of plan)) }
+    ensures err { IfErr result (IsCutShort (event_count (work_of plan))) }
 {
     let Ok((server, passes)) = CapServer::<G, L>::start(rt, opening, blank, count, gate) else {
-        return Err(Stop::NoMemory);
+        return Err(ServeFault::from(Stop::NoMemory));
     };
     match call_all(rt, alloc, &server, passes, plan) {
         Ok(Called { passes, answered }) => {
@@ -149,13 +148,13 @@ fn served<L: Server + Send + Sync, G: Gate + Send + Sync, T: Threads + Wait + Sy
             if answered {
                 Ok(core)
             } else {
-                Err(why_stopped(core))
+                Err(ServeFault::from(why_stopped(core)))
             }
         }
-        Err(_) => {
+        Err(missing) => {
             let closed = server.close(rt, Vec::new(alloc));
             drop(closed);
-            Err(Stop::NoMemory)
+            Err(missing)
         }
     }
 }

@@ -2,32 +2,36 @@
 ghost use Rattle.std.specs.Prelude.{◌≡◌, ◌<◌, ◌↔◌, ◌⊎◌, IsTrue, IsFalse, IsErr, OnOk, Ok, length};
 ghost use Rattle.std.specs.Io.{ReadsAtMost, WritesAtMost};
 ghost use Rattle.std.specs.Io.KnownBytes.{Keeps, Appends, ReadConsumes, WriteAppends};
+ghost use Rattle.capstreams.specs.Watched.{WouldWait};
 
 use std::io;
-use std::io::{Read, Write};
+use std::io::{ErrorKind, Read, Write};
 
-/// A reader or a writer that reads and writes as the inner one does, with two flags, which are clear at first and stay once they are
-/// set. `failed` is set once a read, a write or a flush failed, or a write of one byte or more took none; `ended`, once a read of one
-/// byte or more gave none.
+/// A reader or a writer that reads and writes as the inner one does, with three flags, which are clear at first and stay once they are
+/// set. `failed` is set once a read, a write or a flush failed, or a write of one byte or more took none; `blocked`, once a read failed
+/// since it would have had to wait; `ended`, once a read of one byte or more gave none.
 #[derive(Drop)]
 pub struct Watched<T> {
     inner: T,
     failed: bool,
+    blocked: bool,
     ended: bool,
 }
 
 impl<T> Watched<T> {
-    ghost use Rattle.capstreams.specs.Watched.{inner_of, has_failed, has_ended};
+    ghost use Rattle.capstreams.specs.Watched.{inner_of, has_failed, has_blocked, has_ended};
 
     /// The same reader or writer, with clear flags.
     pub fn new(inner: T) -> Self
         ensures same { inner_of result ≡ inner }
         ensures clear { IsFalse (has_failed result) }
+        ensures unblocked { IsFalse (has_blocked result) }
         ensures unended { IsFalse (has_ended result) }
     {
         Watched {
             inner,
             failed: false,
+            blocked: false,
             ended: false,
         }
     }
@@ -39,6 +43,13 @@ impl<T> Watched<T> {
         self.failed
     }
 
+    /// Whether a read on it failed since the stream is one that doesn't wait, and had nothing yet.
+    pub fn blocked(&self) -> bool
+        ensures { result ≡ has_blocked self.now }
+    {
+        self.blocked
+    }
+
     /// Whether a read came to the end.
     pub fn ended(&self) -> bool
         ensures { result ≡ has_ended self.now }
@@ -48,7 +59,7 @@ impl<T> Watched<T> {
 }
 
 impl<R: Read> Read for Watched<R> {
-    ghost use Rattle.capstreams.specs.Watched.{inner_of, has_failed, has_ended};
+    ghost use Rattle.capstreams.specs.Watched.{inner_of, has_failed, has_blocked, has_ended};
 
     ghost remaining = { λ reader. R.remaining (inner_of reader) };
 
@@ -56,11 +67,13 @@ impl<R: Read> Read for Watched<R> {
         ensures bound { ReadsAtMost result buf.new }
         ensures bytes { ReadConsumes (R.remaining (inner_of self.old)) (R.remaining (inner_of self.new)) result buf.new }
         ensures flag { IsTrue (has_failed self.new) ↔ (IsTrue (has_failed self.old) ⊎ IsErr result) }
+        ensures blocked { IsTrue (has_blocked self.new) ↔ (IsTrue (has_blocked self.old) ⊎ WouldWait result) }
         ensures ended { IsTrue (has_ended self.new)
             ↔ (IsTrue (has_ended self.old) ⊎ ((result ≡ Ok 0) × (0 < length buf.new))) }
     {
         let result = self.inner.read(buf);
         self.failed = self.failed || result.is_err();
+        self.blocked = self.blocked || would_block(&result);
         let gave_none = matches!(result, Ok(0)) && !buf.is_empty();
         self.ended = self.ended || gave_none;
         result
@@ -100,5 +113,15 @@ impl<W: Write> Write for Watched<W> {
         let result = self.inner.flush();
         self.failed = self.failed || result.is_err();
         result
+    }
+}
+
+// Whether a read failed since the stream doesn't wait.
+fn would_block(read: &io::Result<usize>) -> bool
+    ensures { IsTrue result ↔ WouldWait read.now }
+{
+    match read {
+        Ok(_) => false,
+        Err(error) => error.kind() == ErrorKind::WouldBlock,
     }
 }
