@@ -8,7 +8,7 @@ use std::fmt;
 /// What a client asks to do with an inode.
 ///
 /// It prints as its word: `read`, `write`, `vxattr`, `snapshot`, `chmod`, or `chown:N` or `chgrp:N` with the number in decimal.
-#[derive(Clone, Copy, PartialEq, Eq, Debug)]
+#[derive(Clone, Copy, PartialEq, Eq)]
 pub enum Access {
     /// Read the file or the directory, or its attributes.
     Read,
@@ -39,6 +39,13 @@ impl fmt::Display for Access {
             Access::Chown(uid) => write!(f, "chown:{uid}"),
             Access::Chgrp(gid) => write!(f, "chgrp:{gid}"),
         }
+    }
+}
+
+// An access prints for programmers as it does for people, so that its word stands once.
+impl fmt::Debug for Access {
+    fn fmt<W: fmt::Write>(&self, f: &mut fmt::Formatter<W>) -> fmt::Result {
+        fmt::Display::fmt(self, f)
     }
 }
 

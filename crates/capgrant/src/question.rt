@@ -166,7 +166,10 @@ impl Question<'_> {
     fn fails_uid(&self, grant: &Grant) -> bool
         ensures { result ≡ fails_uid self.now grant.now }
     {
-        grant.uid.is_some_and(|uid| uid != self.caller.uid)
+        match grant.uid {
+            Some(uid) => uid != self.caller.uid,
+            None => false,
+        }
     }
 
     #[tactic(auto, using(crate::proofs::Listed::length_listed), unfolding(crate::specs::Failing::fails_gids))]
@@ -284,7 +287,12 @@ fn has_listed_gid(caller: &Caller, grant: &Grant) -> bool
 fn contains_any(listed: &[u32], gids: &[u32]) -> bool
     ensures { result ≡ list_any (contains listed.now) gids.now }
 {
-    gids.iter().any(|gid| listed.contains(gid))
+    for gid in gids {
+        if listed.contains(gid) {
+            return true;
+        }
+    }
+    false
 }
 
 // Whether this is one of the caller's gids that the grant lists.

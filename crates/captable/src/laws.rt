@@ -19,70 +19,42 @@ ghost use Rattle.captable.specs.Shown.{IsShown};
 ghost use Rattle.captable.specs.Tests.{open_tests};
 ghost use Rattle.captable.specs.Many.{changed_by, changed_where, remade};
 
-/// A row of the table is the one that is found for its holder.
-pub fn each_row_is_found()
-    ensures { (t : Table) (row : EntryRow) → IsTable t → Contains t.rows row
+/// A row of the table is the one that is found for its holder. A change, an opening, a removal, a release and the end of a client say
+/// what becomes of their own entries, and change no other; a recall marks the first `n` entries in the order of recall, and a holder
+/// that becomes the last in it changes no entry.
+pub fn entries_are_of_their_holders()
+    ensures found { (t : Table) (row : EntryRow) → IsTable t → Contains t.rows row
         → find (is_row_of row.holder) t.rows ≡ Some row }
-{}
-
-/// A changed entry is changed, and no other is.
-pub fn a_change_is_of_one_holder()
-    ensures own { (t : Table) (k : Holder) (f : Entry → Entry) → entry_at (changed t k f) k ≡ option_map f (entry_at t k) }
-    ensures others { (t : Table) (k j : Holder) (f : Entry → Entry) → j ≢ k → entry_at (changed t k f) j ≡ entry_at t j }
-{}
-
-/// A holder whose entry is made has a new one, and no other entry changes.
-pub fn an_opening_is_of_one_holder()
-    ensures own { (t : Table) (k : Holder) → entry_at t k ≡ None → entry_at (opened t k) k ≡ Some new_entry }
-    ensures others { (t : Table) (k j : Holder) → j ≢ k → entry_at (opened t k) j ≡ entry_at t j }
-{}
-
-/// A holder that is taken out has no entry, and no other entry changes.
-pub fn a_removal_is_of_one_holder()
-    ensures own { (t : Table) (k : Holder) → entry_at (without t k) k ≡ None }
-    ensures others { (t : Table) (k j : Holder) → j ≢ k → entry_at (without t k) j ≡ entry_at t j }
-{}
-
-/// A client that is dropped has no entry, and no entry of another client changes.
-pub fn a_drop_is_of_one_client()
-    ensures own { (t : Table) (client : ClientId) (k : Holder) → k.client ≡ client → entry_at (without_client t client) k ≡ None }
-    ensures others { (t : Table) (client : ClientId) (k : Holder) → k.client ≢ client
+    ensures changed { (t : Table) (k : Holder) (f : Entry → Entry) → entry_at (changed t k f) k ≡ option_map f (entry_at t k) }
+    ensures changed_others { (t : Table) (k j : Holder) (f : Entry → Entry) → j ≢ k → entry_at (changed t k f) j ≡ entry_at t j }
+    ensures opened { (t : Table) (k : Holder) → entry_at t k ≡ None → entry_at (opened t k) k ≡ Some new_entry }
+    ensures opened_others { (t : Table) (k j : Holder) → j ≢ k → entry_at (opened t k) j ≡ entry_at t j }
+    ensures without { (t : Table) (k : Holder) → entry_at (without t k) k ≡ None }
+    ensures without_others { (t : Table) (k j : Holder) → j ≢ k → entry_at (without t k) j ≡ entry_at t j }
+    ensures dropped { (t : Table) (client : ClientId) (k : Holder) → k.client ≡ client → entry_at (without_client t client) k ≡ None }
+    ensures dropped_others { (t : Table) (client : ClientId) (k : Holder) → k.client ≢ client
         → entry_at (without_client t client) k ≡ entry_at t k }
-{}
-
-/// A release with the pin takes the entry out, any other release changes it, and no other entry changes.
-pub fn a_release_is_of_one_holder()
-    ensures pin { (t : Table) (k : Holder) (caps : Caps) → IsTrue (has caps P) → entry_at (released t k caps) k ≡ None }
-    ensures rest { (t : Table) (k : Holder) (caps : Caps) → IsFalse (has caps P)
+    // A release with the pin takes the entry out.
+    ensures released_pin { (t : Table) (k : Holder) (caps : Caps) → IsTrue (has caps P) → entry_at (released t k caps) k ≡ None }
+    ensures released { (t : Table) (k : Holder) (caps : Caps) → IsFalse (has caps P)
         → entry_at (released t k caps) k ≡ option_map (given_back caps) (entry_at t k) }
-    ensures others { (t : Table) (k j : Holder) (caps : Caps) → j ≢ k → entry_at (released t k caps) j ≡ entry_at t j }
-{}
-
-/// A holder that becomes the last in the order of recall changes no entry.
-pub fn a_touch_changes_no_entry()
-    ensures { (t : Table) (k j : Holder) → entry_at (touched t k) j ≡ entry_at t j }
-{}
-
-/// A recall marks the first `n` entries in the order of recall, and changes no other.
-pub fn a_recall_is_of_the_first()
-    ensures first { (t : Table) (n : ℕ) (k : Holder) → IsTrue (is_among (take n t.recall) k)
+    ensures released_others { (t : Table) (k j : Holder) (caps : Caps) → j ≢ k → entry_at (released t k caps) j ≡ entry_at t j }
+    ensures touched { (t : Table) (k j : Holder) → entry_at (touched t k) j ≡ entry_at t j }
+    ensures recalled { (t : Table) (n : ℕ) (k : Holder) → IsTrue (is_among (take n t.recall) k)
         → entry_at (recalled t n) k ≡ option_map (with_asked true) (entry_at t k) }
-    ensures others { (t : Table) (n : ℕ) (k : Holder) → IsFalse (is_among (take n t.recall) k)
+    ensures recalled_others { (t : Table) (n : ℕ) (k : Holder) → IsFalse (is_among (take n t.recall) k)
         → entry_at (recalled t n) k ≡ entry_at t k }
 {}
 
-/// What happens to a holder leaves the entries on every other inode as they were, in their order.
-pub fn other_inodes_keep_their_entries()
+/// What happens to a holder leaves the entries on every other inode as they were, in their order; what happens to a client, or in the
+/// order of recall, happens on each inode by itself.
+pub fn inodes_change_by_themselves()
     ensures changed { (t : Table) (k : Holder) (f : Entry → Entry) (ino : Ino) → ino ≢ k.ino
         → entries_on (changed t k f) ino ≡ entries_on t ino }
     ensures opened { (t : Table) (k : Holder) (ino : Ino) → ino ≢ k.ino → entries_on (opened t k) ino ≡ entries_on t ino }
     ensures without { (t : Table) (k : Holder) (ino : Ino) → ino ≢ k.ino → entries_on (without t k) ino ≡ entries_on t ino }
     ensures released { (t : Table) (k : Holder) (caps : Caps) (ino : Ino) → ino ≢ k.ino
         → entries_on (released t k caps) ino ≡ entries_on t ino }
-{}
-
-/// What happens to a client, or in the order of recall, happens on each inode by itself.
-pub fn inodes_change_by_themselves()
     ensures without_client { (t : Table) (client : ClientId) (ino : Ino)
         → entries_on (without_client t client) ino ≡ filter (λ row. not (is_of_client client row)) (entries_on t ino) }
     ensures touched { (t : Table) (k : Holder) (ino : Ino) → entries_on (touched t k) ino ≡ entries_on t ino }

@@ -15,11 +15,8 @@ mod walk;
 pub use entry::{Entry, EntryRow, Holder, Slot};
 pub use holders::Holders;
 pub use laws::{
-    a_change_is_of_one_holder, a_drop_is_of_one_client, a_recall_is_of_the_first,
-    a_release_is_of_one_holder, a_removal_is_of_one_holder, a_table_stays_a_table,
-    a_touch_changes_no_entry, an_opening_is_of_one_holder, each_row_is_found,
-    inodes_change_by_themselves, numbers_say_what_was_shown, one_by_one_is_at_once,
-    other_inodes_keep_their_entries,
+    a_table_stays_a_table, entries_are_of_their_holders, inodes_change_by_themselves,
+    numbers_say_what_was_shown, one_by_one_is_at_once,
 };
 pub use table::{CapTable, MAX_ENTRIES};
 pub use walk::Walk;

@@ -88,11 +88,22 @@ pub fn is_left_out(word: &[u8]) -> bool
 fn has_flags_alone(word: &[u8]) -> bool
     ensures { result ≡ list_all is_flag word.now }
 {
-    word.iter().all(|letter| matches!(letter, b'r' | b'w' | b'p' | b's' | b'f'))
+    for letter in word {
+        if !matches!(letter, b'r' | b'w' | b'p' | b's' | b'f') {
+            return false;
+        }
+    }
+    true
 }
 
 fn count_of(byte: u8, word: &[u8]) -> usize
     ensures { result ≡ count_of byte word.now }
 {
-    word.iter().filter(|other| **other == byte).count()
+    let mut count = 0;
+    for other in word {
+        if *other == byte {
+            count += 1;
+        }
+    }
+    count
 }

@@ -1,8 +1,0 @@
-use Rattle.captable.proofs.ByHolder.{entry_at-without, entry_at-without_other}
-use Rattle.captable.proofs.laws.a_removal_is_of_one_holder.Goals as goal
-
-pub returns-clause-own : goal.returns-clause-own
-returns-clause-own c = entry_at-without
-
-pub returns-clause-others : goal.returns-clause-others
-returns-clause-others c = entry_at-without_other
