@@ -35,6 +35,7 @@ fn served<T: Threads + Wait + Sync>(
         Ok(()) => Ok(written),
         Err(ServeFault::Script(fault)) => Err(DayFault::from(fault)),
         Err(ServeFault::HistoryFull) => Err(DayFault::Full),
+        Err(ServeFault::NoThread) => Err(DayFault::NoMemory),
         Err(ServeFault::Clients { .. }) => Err(DayFault::Work),
     }
 }
