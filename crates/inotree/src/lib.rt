@@ -17,10 +17,8 @@ mod tree;
 pub use attributes::{Attributes, MAX_ATTRIBUTES, MAX_VALUE, Value};
 pub use laws::{
     a_change_of_one_inode_leaves_the_others, a_change_that_may_be_made_keeps_the_tree,
-    a_child_stands_under_its_name, a_forgotten_stray_leaves_the_others,
-    a_move_leaves_what_is_not_below, a_new_inode_leaves_the_others, a_snapshot_leaves_all_alike,
-    an_inode_without_children_leaves_the_others, depth_is_the_length_of_the_path,
-    too_deep_is_a_path_of_too_many_names, within_is_below,
+    a_move_leaves_what_is_not_below, an_inode_without_children_leaves_the_others, names_lead_up,
+    what_is_made_or_kept_leaves_the_others,
 };
 pub use name::{MAX_NAME, Name, is_bad_attribute, is_bad_name};
 pub use names::{MAX_NAMES, Names};

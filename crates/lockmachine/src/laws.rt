@@ -23,19 +23,23 @@ ghost use Rattle.lockmachine.specs.Runs.{Runs, AreFew, MoveLittle, EndLittle};
 ghost use Rattle.lockmachine.specs.Rows.{IsInRow};
 
 /// Where no move applies, and who waits, waits for a lock that is there, the locks are at rest: each is stable at its
-/// target and nobody waits for it, or it gathers and some capabilities are still to be told back.
+/// target and nobody waits for it, or it gathers and some capabilities are still to be told back. Where they are at rest, no move
+/// applies; nor where nobody has an entry, nobody waits, and the locks are in SYNC.
 pub fn settled_is_at_rest()
-    ensures { (s : Scene) → WaitAtLocks s → first_move s ≡ Settled → IsAtRest s }
+    ensures rest { (s : Scene) → WaitAtLocks s → first_move s ≡ Settled → IsAtRest s }
+    ensures settled { (s : Scene) → IsAtRest s → first_move s ≡ Settled }
+    ensures idle { (s : Scene) → s.table.rows ≡ [] → s.locks.queue ≡ []
+        → ((ino : ℕ) (locks : InodeLocks) → map.get s.locks.states ino ≡ Some locks → locks ≡ in_sync)
+        → first_move s ≡ Settled }
 {}
 
-/// Where the locks are at rest, no move applies.
-pub fn at_rest_is_settled()
-    ensures { (s : Scene) → IsAtRest s → first_move s ≡ Settled }
-{}
-
-/// Between two servings each lock begins at most one gather and ends at most two.
+/// Between two servings each lock begins at most one gather and ends at most two. Moves between two servings and further ones before
+/// the next are moves between two servings; and so are gathers that end.
 pub fn between_servings_locks_move_little()
-    ensures { (s t : Scene) (steps : List Move) → Runs s steps t → AreFew steps }
+    ensures few { (s t : Scene) (steps : List Move) → Runs s steps t → AreFew steps }
+    ensures then { (a b c : Scene) → MoveLittle a b → MoveLittle b c → MoveLittle a c }
+    ensures ends { (old new : Scene) → EndLittle old new → MoveLittle old new }
+    ensures ends_then { (a b c : Scene) → EndLittle a b → EndLittle b c → EndLittle a c }
 {}
 
 /// Moves keep what is held in the rows of the states that locks have, or leave in a gather: a beginning leaves a state, and
@@ -47,53 +51,25 @@ pub fn moves_keep_rows()
         → Contains s.table.rows row → IsInRow s row part → IsInRow t row part }
 {}
 
-/// Where nobody has an entry and nobody waits, locks that are in SYNC are settled.
-pub fn nothing_wanted_is_settled()
-    ensures { (s : Scene) → s.table.rows ≡ [] → s.locks.queue ≡ []
-        → ((ino : ℕ) (locks : InodeLocks) → map.get s.locks.states ino ≡ Some locks → locks ≡ in_sync)
-        → first_move s ≡ Settled }
-{}
-
-/// The request that is served has the least number of all that may be.
-pub fn the_least_number_is_served()
-    ensures { (s : Scene) (ticket : Ticket) → IsLockMap s.locks → first_move s ≡ Serve ticket
+/// A request that waits is found by its number, and by it taken out of the queue, and no other is; the locks and the last number
+/// stay. The request that is served has the least number of all that may be.
+pub fn a_number_names_its_request()
+    ensures found { (locks : LockMap) (q : Request) → IsLockMap locks → Contains locks.queue q
+        → request_at locks q.ticket.0 ≡ Some q }
+    ensures taken { (locks : LockMap) (q : Request) → IsLockMap locks → Contains locks.queue q
+        → TakesOnly q locks (without_request locks q.ticket.0) }
+    ensures least { (s : Scene) (ticket : Ticket) → IsLockMap s.locks → first_move s ≡ Serve ticket
         → (q : Request) × (q.ticket ≡ ticket) × IsFirstServed s.locks q }
 {}
 
-/// A request that waits is found by its number.
-pub fn a_number_finds_its_request()
-    ensures { (locks : LockMap) (q : Request) → IsLockMap locks → Contains locks.queue q
-        → request_at locks q.ticket.0 ≡ Some q }
-{}
-
-/// By its number it is taken out of the queue, and no other is; the locks and the last number stay.
-pub fn a_number_takes_its_request()
-    ensures { (locks : LockMap) (q : Request) → IsLockMap locks → Contains locks.queue q
-        → TakesOnly q locks (without_request locks q.ticket.0) }
-{}
-
-/// Each move keeps the order of the queue.
-pub fn moves_keep_the_order()
-    ensures { (locks : LockMap) (step : Move) → IsLockMap locks → IsLockMap (moved locks step) }
-{}
-
-/// And so does a new request, where there is room for it.
-pub fn a_new_request_keeps_the_order()
-    ensures { (locks : LockMap) (client : ClientId) (ino : Ino) (ask : Ask) → IsLockMap locks
+/// Each move keeps the order of the queue. And so does a new request, where there is room for it; and the dropping of a client's
+/// requests. Where the client has none, nothing changes.
+pub fn the_queue_keeps_its_order()
+    ensures moved { (locks : LockMap) (step : Move) → IsLockMap locks → IsLockMap (moved locks step) }
+    ensures new { (locks : LockMap) (client : ClientId) (ino : Ino) (ask : Ask) → IsLockMap locks
         → length locks.queue < 1024 → IsLockMap (with_request locks client ino ask) }
-{}
-
-/// And so does the dropping of a client's requests. Where the client has none, nothing changes.
-pub fn dropped_requests_keep_the_order()
+    ensures dropped { (locks : LockMap) (client : ClientId) → IsLockMap locks → IsLockMap (without_requests_of locks client) }
     ensures none { (locks : LockMap) (client : ClientId)
         → option_map (λ (q : Request). q.ticket) (find (is_of_client client) locks.queue) ≡ None
         → (requests_of locks client ≡ []) × (without_requests_of locks client ≡ locks) }
-    ensures order { (locks : LockMap) (client : ClientId) → IsLockMap locks → IsLockMap (without_requests_of locks client) }
-{}
-
-/// Moves between two servings and further ones before the next are moves between two servings; and so are gathers that end.
-pub fn moves_between_servings_add_up()
-    ensures then { (a b c : Scene) → MoveLittle a b → MoveLittle b c → MoveLittle a c }
-    ensures ends { (old new : Scene) → EndLittle old new → MoveLittle old new }
-    ensures ends_then { (a b c : Scene) → EndLittle a b → EndLittle b c → EndLittle a c }
 {}

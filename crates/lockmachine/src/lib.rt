@@ -14,10 +14,8 @@ mod wants;
 
 pub use bytes::Bytes;
 pub use laws::{
-    a_new_request_keeps_the_order, a_number_finds_its_request, a_number_takes_its_request,
-    at_rest_is_settled, between_servings_locks_move_little, dropped_requests_keep_the_order,
-    moves_between_servings_add_up, moves_keep_rows, moves_keep_the_order,
-    nothing_wanted_is_settled, settled_is_at_rest, the_least_number_is_served,
+    a_number_names_its_request, between_servings_locks_move_little, moves_keep_rows,
+    settled_is_at_rest, the_queue_keeps_its_order,
 };
 pub use locks::Locks;
 pub use moves::Move;

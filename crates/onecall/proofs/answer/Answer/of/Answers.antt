@@ -1,3 +1,4 @@
+use Rattle.std.proofs.Common.{refl}
 use Rattle.onecall.proofs.answer.Answer.of.Goals.{in-Some, in-None}
 use Rattle.onecall.proofs.answer.Answer.of.Goals as goal
 
@@ -8,3 +9,7 @@ returns-clause-legal g c before =
       | in-Some w ↦ rw w.pass-is w.catch_up-fresh.ensures.legal
       | in-None w ↦ rw w.pass-is before
     ]
+
+-- a proof of its own, so that another reply is refused at once
+pub returns-clause-reply : goal.returns-clause-reply
+returns-clause-reply c = λ _. refl

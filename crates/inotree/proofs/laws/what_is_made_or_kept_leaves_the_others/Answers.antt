@@ -1,7 +1,13 @@
 use Rattle.std.proofs.Common.{refl}
 use Rattle.inotree.specs.Inodes.{with_snapshot, without_snapshot}
-use Rattle.inotree.proofs.Elsewhere.{alike-changed}
-use Rattle.inotree.proofs.laws.a_snapshot_leaves_all_alike.Goals as goal
+use Rattle.inotree.proofs.Elsewhere.{alike-new, alike-forgotten, alike-changed}
+use Rattle.inotree.proofs.laws.what_is_made_or_kept_leaves_the_others.Goals as goal
+
+pub returns-clause-new : goal.returns-clause-new
+returns-clause-new c = alike-new
+
+pub returns-clause-forgotten : goal.returns-clause-forgotten
+returns-clause-forgotten c = alike-forgotten
 
 pub returns-clause-any : goal.returns-clause-any
 returns-clause-any c = λ tree f at ino site attr. alike-changed tree f at site attr ino

@@ -1,0 +1,14 @@
+use Rattle.lockmachine.proofs.Queue.{moved-kept, with_request-kept, without_requests_of-kept, none_left}
+use Rattle.lockmachine.proofs.laws.the_queue_keeps_its_order.Goals as goal
+
+pub returns-clause-moved : goal.returns-clause-moved
+returns-clause-moved c = moved-kept
+
+pub returns-clause-new : goal.returns-clause-new
+returns-clause-new c = with_request-kept
+
+pub returns-clause-dropped : goal.returns-clause-dropped
+returns-clause-dropped c = without_requests_of-kept
+
+pub returns-clause-none : goal.returns-clause-none
+returns-clause-none c = none_left
