@@ -1,4 +1,4 @@
-use Rattle.std.proofs.Common.{◌≡◌, Bool, true, false, not, cond, IsSome, OnOk, ◌∷◌, length, refl, sym, ap, subst, ◌∙◌}
+use Rattle.std.proofs.Common.{◌≡◌, Bool, true, false, not, cond, IsSome, OnOk, length, refl, sym, ap, subst, ◌∙◌}
 use Rattle.std.specs.FinMap as map
 use Rattle.capacts.specs.declared.on_inode.OnInode.{OnInode}
 use Rattle.capacts.specs.Known.{kept_of}
