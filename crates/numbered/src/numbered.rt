@@ -99,7 +99,12 @@ impl<T: Drop> Numbered<T> {
     {
         let place = self.rows.len();
         let row = Row { number, value };
-        let is_new = add(&mut self.places, &mut self.rows, row, self.guesses.at(number))?;
+        let is_new = add(
+            &mut self.places,
+            &mut self.rows,
+            row,
+            self.guesses.at(number),
+        )?;
         if is_new {
             self.guesses.grow(&self.rows);
             self.guesses.note(number, place);
