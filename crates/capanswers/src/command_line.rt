@@ -401,6 +401,7 @@ fn audit<'a>(alloc: Global) -> Result<Command<'a>, AllocError> {
             "The tree, as `ceph tell mds.N dump tree /` prints it; - for standard input",
         ))?
         .arg(rule(alloc))?
+        .arg(json(alloc))?
         .arg(file_system(alloc))
 }
 
