@@ -30,8 +30,9 @@ pub(crate) fn note_holder(
 ) -> Result<(), AllocError>
     ensures { OnOk result (Adds (SaysOf (clients manner auth.now sessions.now) number inode.now holder.now) notes.old notes.new) }
 {
-    let Some(client) = name_of(sessions, holder.client()) else {
-        return print_unnamed(&mut notes.unknown, manner.shape, holder.client());
+    let session = holder.client();
+    let Some(client) = name_of(sessions, session) else {
+        return print_unnamed(&mut notes.unknown, manner.shape, session);
     };
     let Some(entity) = auth.find(client) else {
         return print_unlisted(&mut notes.unknown, manner.shape, client);

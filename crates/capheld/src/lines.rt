@@ -2,7 +2,7 @@
 ghost use Rattle.std.specs.Prelude.{◌≡◌, ◌++◌, OnOk, map};
 ghost use Rattle.capexplain.specs.Explaining.{path_text};
 ghost use Rattle.capexplain.specs.Quoting.{quoted};
-ghost use Rattle.capheld.specs.Lines.{beyond_text, group_line, held_line, place_text, revoked_text, who_text, why_text};
+ghost use Rattle.capheld.specs.Lines.{beyond_text, group_line, held_line, pathless_line, place_text, revoked_text, strange_line, who_text, why_text};
 
 use capaudit::Finding;
 use capbits::CapSet;
@@ -42,7 +42,7 @@ pub(crate) fn print_group(
 }
 
 // Appends where something is held and by whom.
-pub(crate) fn print_place(
+fn print_place(
     text: &mut Vec<u8>,
     path: &[&[u8]],
     client: &[u8],
@@ -110,4 +110,35 @@ fn print_why(text: &mut Vec<u8>, found: &Finding) -> Result<(), AllocError>
         None => print_str(text, "no access permits it"),
         Some(_) => print_failures(text, found.rules.as_slice()),
     }
+}
+
+// Appends that what a client holds is spelled otherwise than capabilities are.
+pub(crate) fn print_strange_line(
+    text: &mut Vec<u8>,
+    path: &[&[u8]],
+    client: &[u8],
+    session: u64,
+) -> Result<(), AllocError>
+    ensures { OnOk result (text.new.items ≡ text.old.items ++ strange_line (map (λ name. name.now) path.now) client.now session) }
+{
+    print_place(text, path, client, session)?;
+    print_str(text, " holds what is not known\n")
+}
+
+// Appends that a client holds something of an inode to which no path leads.
+pub(crate) fn print_pathless_line(
+    text: &mut Vec<u8>,
+    number: u64,
+    client: &[u8],
+    session: u64,
+    issued: &[u8],
+) -> Result<(), AllocError>
+    ensures { OnOk result (text.new.items ≡ text.old.items ++ pathless_line number client.now session issued.now) }
+{
+    print_numbered(text, "inode ", number)?;
+    print_str(text, ": no path: ")?;
+    print_who(text, client, session)?;
+    print_str(text, " holds ")?;
+    print_quoted(text, issued)?;
+    print_str(text, "\n")
 }

@@ -1,14 +1,16 @@
 //! What an audit finds, as objects of JSON.
 ghost use Rattle.std.specs.Prelude.{◌≡◌, ◌++◌, OnOk, map, option_map};
+ghost use Rattle.capbits.specs.Sets.{minus};
 ghost use Rattle.capjson.specs.Pieces.{piece_value};
 ghost use Rattle.capjson.specs.Values.{bytes_value, or_null};
-ghost use Rattle.capheld.specs.Objects.{access_value, caps_or_null, conflict_object, found_object, path_value, session_value, why_value};
+ghost use Rattle.capheld.specs.Objects.{access_value, caps_or_null, conflict_object, found_object, group_object, path_value, session_value, why_value};
 
 use crate::notes::Detail;
 use capaudit::{Conflict, Finding};
 use capbits::CapSet;
 use capgrant::Access;
 use capjson::{Piece, print_pieces};
+use captext::{print_numbered, print_str};
 use std::alloc::AllocError;
 
 // How many members of what is found those of one client and one reason have in common, and how many those of two clients in conflict
@@ -41,7 +43,7 @@ pub(crate) fn print_found<'x>(
         ("session", Piece::Number(session)),
         ("holds", Piece::Caps(issued)),
         ("may_not", Piece::Caps(found.caps)),
-        ("being_revoked", caps_if(found.caps.minus(pending))),
+        ("being_revoked", revoked_if(found.caps, pending)),
     ];
     match detail {
         Detail::Each => print_pieces(text, &table),
@@ -60,8 +62,8 @@ pub(crate) fn print_rivals<'x>(
     other: Option<&'x [u8]>,
     conflict: &Conflict,
 ) -> Result<(), AllocError>
-    ensures { OnOk result (text.new.items ≡ text.old.items ++ conflict_object detail number (option_map (λ names. map (λ name. name.now) names.now) path)
-        (option_map (λ name. name.now) one) (option_map (λ name. name.now) other) conflict.now) }
+    ensures { OnOk result (text.new.items ≡ text.old.items ++ conflict_object detail number (option_map (λ names. map (λ name. name.now) names.now) path.entry)
+        (option_map (λ name. name.now) one.entry) (option_map (λ name. name.now) other.entry) conflict.now) }
 {
     let table = [
         ("kind", Piece::Word("conflict")),
@@ -83,6 +85,20 @@ pub(crate) fn print_rivals<'x>(
     }
 }
 
+// Appends the object for so many of which this is the text of what they have in common.
+pub(crate) fn print_group_object(
+    text: &mut Vec<u8>,
+    count: u64,
+    each: &[u8],
+) -> Result<(), AllocError>
+    ensures { OnOk result (text.new.items ≡ text.old.items ++ group_object count each.now) }
+{
+    print_numbered(text, "{\"count\":", count)?;
+    print_str(text, ",\"each\":")?;
+    text.extend_from_slice(each)?;
+    print_str(text, ",\"kind\":\"group\"}\n")
+}
+
 // By which rules the grants deny the access that is missing. Null where no access permits it.
 fn why(found: &Finding) -> Piece<'_>
     ensures { piece_value result ≡ why_value found.now.missing found.now.rules }
@@ -102,18 +118,20 @@ fn access_if(access: Option<Access>) -> Piece<'static>
     }
 }
 
-fn caps_if(caps: CapSet) -> Piece<'static>
-    ensures { piece_value result ≡ caps_or_null caps }
+// Which of these are being taken back already.
+fn revoked_if(caps: CapSet, pending: CapSet) -> Piece<'static>
+    ensures { piece_value result ≡ caps_or_null (minus caps pending) }
 {
-    if caps.is_empty() {
+    let revoked = caps.minus(pending);
+    if revoked.is_empty() {
         Piece::Null
     } else {
-        Piece::Caps(caps)
+        Piece::Caps(revoked)
     }
 }
 
 fn bytes_if(bytes: Option<&[u8]>) -> Piece<'_>
-    ensures { piece_value result ≡ or_null bytes_value (option_map (λ bytes. bytes.now) bytes) }
+    ensures { piece_value result ≡ or_null bytes_value (option_map (λ bytes. bytes.now) bytes.entry) }
 {
     match bytes {
         None => Piece::Null,
@@ -122,7 +140,7 @@ fn bytes_if(bytes: Option<&[u8]>) -> Piece<'_>
 }
 
 fn path_if<'a>(path: Option<&'a [&'a [u8]]>) -> Piece<'a>
-    ensures { piece_value result ≡ or_null path_value (option_map (λ names. map (λ name. name.now) names.now) path) }
+    ensures { piece_value result ≡ or_null path_value (option_map (λ names. map (λ name. name.now) names.now) path.entry) }
 {
     match path {
         None => Piece::Null,
@@ -132,7 +150,7 @@ fn path_if<'a>(path: Option<&'a [&'a [u8]]>) -> Piece<'a>
 
 // The number of a session, which stands in a group for a client that tells no name, alone.
 fn session_of(detail: Detail, number: u64, name: Option<&[u8]>) -> Piece<'static>
-    ensures { piece_value result ≡ session_value detail number (option_map (λ name. name.now) name) }
+    ensures { piece_value result ≡ session_value detail number (option_map (λ name. name.now) name.entry) }
 {
     match (detail, name) {
         (Detail::Groups, Some(_)) => Piece::Null,

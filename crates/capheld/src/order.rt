@@ -6,6 +6,7 @@ ghost use Rattle.std.specs.Str.{bytes_eq};
 ghost use Rattle.capheld.specs.Order.{AreCounted, AreInOrder, counted_line};
 ghost use Rattle.capheld.specs.Shaped.{counted_in};
 
+use crate::objects::print_group_object;
 use capjson::Shape;
 use caplines::split_line;
 use captext::{print_numbered, print_str};
@@ -42,8 +43,8 @@ fn counts(
 {
     let mut text = Vec::new(alloc);
     for kind in kinds {
-        let kind = kind.as_slice();
-        print_counted(&mut text, shape, kind, count_of(lines, kind))?;
+        let line = kind.as_slice();
+        print_counted(&mut text, shape, line, count_of(lines, line))?;
     }
     Ok(text)
 }
@@ -63,12 +64,7 @@ fn print_counted(
             print_numbered(text, ": ", count)?;
             print_str(text, "\n")
         }
-        Shape::Objects => {
-            print_numbered(text, "{\"count\":", count)?;
-            print_str(text, ",\"each\":")?;
-            text.extend_from_slice(line)?;
-            print_str(text, ",\"kind\":\"group\"}\n")
-        }
+        Shape::Objects => print_group_object(text, count, line),
     }
 }
 

@@ -89,7 +89,7 @@ fn print_conflicts(
     conflicts: &[Conflict],
 ) -> Result<(), AllocError>
     ensures { OnOk result (text.new.items ≡ text.old.items
-        ++ flat_map (conflict_at manner sessions.now number (option_map (λ names. map (λ name. name.now) names.now) path)) conflicts.now) }
+        ++ flat_map (conflict_at manner sessions.now number (option_map (λ names. map (λ name. name.now) names.now) path.entry)) conflicts.now) }
 {
     for conflict in conflicts {
         print_conflict(manner, text, sessions, number, path, conflict)?;
@@ -107,7 +107,7 @@ fn print_conflict(
     conflict: &Conflict,
 ) -> Result<(), AllocError>
     ensures { OnOk result (text.new.items ≡ text.old.items
-        ++ conflict_at manner sessions.now number (option_map (λ names. map (λ name. name.now) names.now) path) conflict.now) }
+        ++ conflict_at manner sessions.now number (option_map (λ names. map (λ name. name.now) names.now) path.entry) conflict.now) }
 {
     let detail = manner.detail;
     let one = name_of(sessions, conflict.one.client);
@@ -128,8 +128,8 @@ fn print_clash(
     other: Option<&[u8]>,
     conflict: &Conflict,
 ) -> Result<(), AllocError>
-    ensures { OnOk result (text.new.items ≡ text.old.items ++ conflict_line detail number (option_map (λ names. map (λ name. name.now) names.now) path)
-        (option_map (λ name. name.now) one) (option_map (λ name. name.now) other) conflict.now) }
+    ensures { OnOk result (text.new.items ≡ text.old.items ++ conflict_line detail number (option_map (λ names. map (λ name. name.now) names.now) path.entry)
+        (option_map (λ name. name.now) one.entry) (option_map (λ name. name.now) other.entry) conflict.now) }
 {
     print_on(text, detail, number, path)?;
     print_client(text, detail, conflict.one.client, one)?;
@@ -145,7 +145,7 @@ fn print_on(
     number: u64,
     path: Option<&[&[u8]]>,
 ) -> Result<(), AllocError>
-    ensures { OnOk result (text.new.items ≡ text.old.items ++ on_inode detail number (option_map (λ names. map (λ name. name.now) names.now) path)) }
+    ensures { OnOk result (text.new.items ≡ text.old.items ++ on_inode detail number (option_map (λ names. map (λ name. name.now) names.now) path.entry)) }
 {
     if let Detail::Groups = detail {
         return Ok(());
@@ -175,7 +175,7 @@ fn print_client(
     number: u64,
     name: Option<&[u8]>,
 ) -> Result<(), AllocError>
-    ensures { OnOk result (text.new.items ≡ text.old.items ++ holder_text detail number (option_map (λ name. name.now) name)) }
+    ensures { OnOk result (text.new.items ≡ text.old.items ++ holder_text detail number (option_map (λ name. name.now) name.entry)) }
 {
     match (name, detail) {
         (None, _) => print_numbered(text, "client ", number),

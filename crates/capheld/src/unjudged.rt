@@ -2,7 +2,7 @@
 ghost use Rattle.std.specs.Prelude.{◌≡◌, ◌++◌, OnOk, map};
 ghost use Rattle.capheld.specs.Shaped.{pathless_in, strange_in, unlisted_in, unnamed_in, unread_in};
 
-use crate::lines::{print_place, print_who};
+use crate::lines::{print_pathless_line, print_strange_line};
 use capexplain::{print_quoted, print_unread};
 use capjson::{Piece, Shape, fault_word, print_pieces};
 use capspec::SpecFault;
@@ -86,10 +86,7 @@ pub(crate) fn print_strange<'x>(
     ensures { OnOk result (text.new.items ≡ text.old.items ++ strange_in shape number (map (λ name. name.now) path.now) client.now session) }
 {
     match shape {
-        Shape::Lines => {
-            print_place(text, path, client, session)?;
-            print_str(text, " holds what is not known\n")
-        }
+        Shape::Lines => print_strange_line(text, path, client, session),
         Shape::Objects => print_pieces(
             text,
             &[
@@ -115,14 +112,7 @@ pub(crate) fn print_pathless<'x>(
     ensures { OnOk result (text.new.items ≡ text.old.items ++ pathless_in shape number client.now session issued.now) }
 {
     match shape {
-        Shape::Lines => {
-            print_numbered(text, "inode ", number)?;
-            print_str(text, ": no path: ")?;
-            print_who(text, client, session)?;
-            print_str(text, " holds ")?;
-            print_quoted(text, issued)?;
-            print_str(text, "\n")
-        }
+        Shape::Lines => print_pathless_line(text, number, client, session, issued),
         Shape::Objects => print_pieces(
             text,
             &[

@@ -26,5 +26,5 @@ returns c =
     let known = clients c.args.manner c.args.auth.now c.args.sessions.now in
     on_ok_weaker c.note_holders.result
     (added_too _ (SaysOfInode c.args.fs.now known c.args.paths.now it) c.args.notes.now c.note_holders.new.notes
-    (at_path c.args.fs.now known c.args.paths.now it _ _ _ _ (sym (c.in-Some.ensures ∙ ap (λ (n : ℕ). map.get c.args.paths.now n) c.number.ensures)) (search rules) c.attr.ensures c.holders-2.ensures))
+    (at_path c.args.fs.now known c.args.paths.now it c.number-2.result _ _ _ _ c.number-2.ensures (sym (c.in-Some.ensures ∙ ap (λ (n : ℕ). map.get c.args.paths.now n) c.number.ensures)) (search rules) c.attr.ensures c.holders-2.ensures))
     c.note_holders.ensures

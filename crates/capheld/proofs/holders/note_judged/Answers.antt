@@ -35,8 +35,8 @@ returns-in-None c =
     nothing_added (IsJudged c.args.manner c.args.number c.args.inode.now c.args.client.now c.args.grants.now c.args.holder.now) c.args.notes.now c.args.notes.now refl refl
     (inl (c.in-Ok.issued, c.in-Ok-read_caps.pending, sym c.issued.ensures ∙ c.in-Ok.ensures.ok, sym c.pending.ensures ∙ c.in-Ok-read_caps.ensures.ok, inl (c.in-None.ensures, refl), refl))
 
-pub returns : goal.returns
-returns c =
+pub returns-in-Some : goal.returns-in-Some
+returns-in-Some c =
     let m = c.args.manner in
     let number = c.args.number in
     let i = c.args.inode.now in

@@ -1,15 +1,13 @@
-use Rattle.std.proofs.Common.{ℕ, List, codes, ◌++◌, append_assoc, sym, ap, ◌∙◌}
+use Rattle.std.proofs.Common.{ℕ, List, codes, ◌++◌, append_assoc, ◌∙◌}
 use Rattle.std.proofs.lemmas.Result.{on_ok_weaker}
 use Rattle.std.specs.Fmt.{decimal}
 use Rattle.capexplain.specs.Quoting.{quoted}
-use Rattle.capjson.specs.declared.shape.Shape.{Shape}
 use Rattle.capheld.specs.Lines.{who_text}
-use Rattle.capheld.specs.Shaped.{pathless_in}
 use Rattle.capheld.proofs.Noting.{behind}
-use Rattle.capheld.proofs.unjudged.print_pathless.Goals as goal
+use Rattle.capheld.proofs.lines.print_pathless_line.Goals as goal
 
-pub returns-in-Lines : goal.returns-in-Lines
-returns-in-Lines c =
+pub returns : goal.returns
+returns c =
     let last = c.print_str-3.new.text.items in
     let issued : List ℕ = quoted c.args.issued.now in
     let who : List ℕ = who_text c.args.client.now c.args.session in
@@ -19,6 +17,5 @@ returns-in-Lines c =
     (behind c.print_numbered.new.text.items c.print_str.new.text.items last (codes ": no path: ") (who ++ behind_who) c.in_ok-print_str.ensures
     (behind c.print_str.new.text.items c.print_who.new.text.items last who behind_who c.in_ok-print_who.ensures
     (behind c.print_who.new.text.items c.print_str-2.new.text.items last (codes " holds ") (issued ++ codes "\n") c.in_ok-print_str-2.ensures
-    (behind c.print_str-2.new.text.items c.print_quoted.new.text.items last issued (codes "\n") c.in_ok-print_quoted.ensures more))))
-    ∙ ap (λ (s : Shape). c.args.text.now.items ++ pathless_in s c.args.number c.args.client.now c.args.session c.args.issued.now) (sym c.in-Lines.is))
+    (behind c.print_str-2.new.text.items c.print_quoted.new.text.items last issued (codes "\n") c.in_ok-print_quoted.ensures more)))))
     c.print_str-3.ensures
