@@ -18,7 +18,7 @@ _capd() {
     elif [[ $before == --access || $before == who ]]; then
         mapfile -t COMPREPLY < <(compgen -W 'read write vxattr snapshot chmod' -- "$word")
     elif [[ ${COMP_WORDS[1]} == audit ]]; then
-        mapfile -t COMPREPLY < <(compgen -W '--auth --sessions --tree --rule --fs --help' -- "$word")
+        mapfile -t COMPREPLY < <(compgen -W '--auth --sessions --tree --rule --json --fs --help' -- "$word")
     elif [[ ${COMP_WORDS[1]} == who ]]; then
         mapfile -t COMPREPLY < <(compgen -W '--auth --fs --owner --group --mode --json --help' -- "$word")
     else

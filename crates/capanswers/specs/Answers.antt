@@ -1,12 +1,12 @@
 -- What a command that answers a question about grants writes, and why it stops before that.
-use Rattle.std.specs.Prelude.{◌≡◌, ◌⊎◌, ℕ, Bool, List, [], length, Option, IsTrue, IsFalse, codes, ◌==◌, if◌then◌else◌}
+use Rattle.std.specs.Prelude.{◌≡◌, ◌⊎◌, ℕ, Bool, List, length, Option, IsTrue, IsFalse, ◌==◌, if◌then◌else◌}
 use Rattle.std.specs.Global.{Vec}
 use Rattle.std.specs.Io.KnownBytes.{Appends, Keeps}
 use Rattle.capquestion.specs.declared.fault.QuestionFault.{QuestionFault}
 use Rattle.capquestion.specs.declared.question.Question.{Question}
 use Rattle.capquestion.specs.Question.{AsksFor, IsFaultIn}
-use Rattle.capquestion.specs.declared.shape.Shape.{Shape}
-use Rattle.capquestion.specs.declared.shape.Shape.TheVariants.{Lines, Objects}
+use Rattle.capjson.specs.declared.shape.Shape.{Shape}
+use Rattle.capjson.specs.Shapes.{nothing_in}
 use Rattle.capquestion.specs.Linting.{IsLintOf}
 use Rattle.capanswers.specs.declared.fault.AnswerFault.{AnswerFault}
 use Rattle.capanswers.specs.declared.fault.AnswerFault.TheVariants.{WriteFailed}
@@ -35,11 +35,6 @@ abbrev pub StopsInquiry : Inquiry → AnswerFault → Option (List ℕ) → Bool
 StopsInquiry inquiry fault input unread unwritten old new = (IsUnread inquiry.source fault input unread × Keeps old new)
     ⊎ ((grants : Vec ℕ) × IsGrantsText inquiry.source inquiry.values.grants.items input grants.items × IsFalse unread
     × StopsBefore (IsFaultIn (with_grants inquiry.values grants)) fault unwritten old new)
-
--- what is written where nothing is found: a line that says so, or no object
-abbrev pub nothing_in : Shape → List ℕ
-nothing_in Lines = codes "nothing found\n"
-nothing_in Objects = []
 
 -- the lines for what is found in a text of grants were written in this shape, with the status 3; or that nothing is, with 0
 abbrev pub AnswersLint : Shape → List ℕ → ℕ → Option (List ℕ) → Option (List ℕ) → Type 0

@@ -18,7 +18,7 @@ AreClientsOf checkup known = AreClients checkup.auth.items checkup.sessions.item
 
 -- this is told of the clients and the tree, and it is written; the status is 3 where anything was found or could not be judged, else 0
 abbrev pub IsCheckedBy : Checkup → Roster → Dump → ℕ → Option (List ℕ) → Option (List ℕ) → Type 0
-IsCheckedBy checkup known tree status old new = (text : List ℕ) × (found : Bool) × IsReport checkup.fs.items (clients_of checkup.detail known) tree text found
+IsCheckedBy checkup known tree status old new = (text : List ℕ) × (found : Bool) × IsReport checkup.fs.items (clients_of checkup.manner known) tree text found
     × (status ≡ (if found then 3 else 0)) × Appends old new text
 
 -- the same by the texts, of which that of the tree was to be read

@@ -7,7 +7,7 @@ use crate::commands::write_text;
 use crate::fault::AnswerFault;
 use crate::growing::read_tree;
 use crate::status::{DONE, FOUND};
-use capheld::{ClusterClients, Detail, audit};
+use capheld::{ClusterClients, Manner, audit};
 use capquestion::{Opt, QuestionFault};
 use capspec::FsName;
 use capstreams::Watched;
@@ -16,8 +16,8 @@ use std::io::{Read, Write};
 
 /// What `audit` is asked.
 pub struct Checkup {
-    /// In which detail is told what is found.
-    pub detail: Detail,
+    /// How is told what is found.
+    pub manner: Manner,
     /// The name of the file system.
     pub fs: Vec<u8>,
     /// The names of the files in which the texts of the cluster stand.
@@ -32,7 +32,7 @@ pub struct Checkup {
 impl Drop for Checkup {
     fn drop(self) {
         let Checkup {
-            detail: _,
+            manner: _,
             fs: _,
             files: _,
             auth: _,
@@ -89,7 +89,7 @@ pub fn check_cluster<R: Read, W: Write>(
         checkup.sessions.as_slice(),
     )?;
     let tree = read_tree(alloc, reader)?;
-    let report = audit(alloc, checkup.detail, &fs, &clients, &tree)?;
+    let report = audit(alloc, checkup.manner, &fs, &clients, &tree)?;
     let text = report.text.as_slice();
     if report.found {
         write_text(text, FOUND, writer)

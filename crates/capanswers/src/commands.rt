@@ -10,7 +10,7 @@ ghost use Rattle.capquestion.specs.Comparing.{IsComparison};
 ghost use Rattle.capquestion.specs.Question.{AsksFor, IsFaultIn};
 ghost use Rattle.capstreams.specs.Watched.{inner_of, has_failed, has_ended};
 ghost use Rattle.capanswers.specs.declared.fault.AnswerFault.TheVariants as faults;
-ghost use Rattle.capanswers.specs.Answers.{AnswersInquiry, AnswersLint, nothing_in, StopsBefore, StopsComparing, StopsInquiry};
+ghost use Rattle.capanswers.specs.Answers.{AnswersInquiry, AnswersLint, StopsBefore, StopsComparing, StopsInquiry};
 ghost use Rattle.capanswers.specs.Inquiry.{IsAnswered};
 
 use crate::fault::AnswerFault;
@@ -137,19 +137,9 @@ pub fn look_over<W: Write>(
     let lines = lint_text(alloc, text, shape)?;
     let lines = lines.as_slice();
     if lines.is_empty() {
-        write_text(nothing(shape).as_bytes(), DONE, writer)
+        write_text(shape.nothing().as_bytes(), DONE, writer)
     } else {
         write_text(lines, FOUND, writer)
-    }
-}
-
-// What is written where nothing is found: a line that says so, or no object.
-fn nothing(shape: Shape) -> &'static str
-    ensures { result.now ≡ nothing_in shape }
-{
-    match shape {
-        Shape::Lines => "nothing found\n",
-        Shape::Objects => "",
     }
 }
 

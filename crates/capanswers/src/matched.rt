@@ -7,7 +7,7 @@ use crate::command_line::{
 };
 use crate::inquiry::{Form, Inquiry, Source};
 use crate::survey::Survey;
-use capheld::Detail;
+use capheld::{Detail, Manner};
 use capquestion::{AttemptValues, AttrValues, Opt, Shape, Values, spelled};
 use clap::ArgMatches;
 use clap::error::ErrorKind;
@@ -147,10 +147,13 @@ impl Matched<'_, '_> {
 
     fn checkup(&mut self) -> Checkup {
         Checkup {
-            detail: if self.matches.get_flag(RULE) {
-                Detail::Groups
-            } else {
-                Detail::Each
+            manner: Manner {
+                detail: if self.matches.get_flag(RULE) {
+                    Detail::Groups
+                } else {
+                    Detail::Each
+                },
+                shape: self.shape(),
             },
             fs: self.option(Opt::Fs),
             files: ClusterFiles {

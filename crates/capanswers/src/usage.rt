@@ -396,7 +396,7 @@ const WHO_WORDS: [Word; 8] = [
     PRINTS_JSON,
 ];
 
-const AUDIT_WORDS: [Word; 5] = [
+const AUDIT_WORDS: [Word; 6] = [
     Word {
         name: Name::Own(AUTH),
         value: "FILE",
@@ -425,6 +425,14 @@ const AUDIT_WORDS: [Word; 5] = [
         name: Name::Own(RULE),
         value: "",
         help: "Prints a line for each rule and client, with how many are found, and not one for each that is found",
+        kind: Kind::Flag,
+        needs: None,
+        bars: &[],
+    },
+    Word {
+        name: Name::Own(JSON),
+        value: "",
+        help: JSON_HELP,
         kind: Kind::Flag,
         needs: None,
         bars: &[],

@@ -1,5 +1,5 @@
 -- What clients of a cluster hold and may not.
-use Rattle.std.specs.Prelude.{◌≡◌, ◌⊎◌, ◌==◌, ℕ, Bool, not, if◌then◌else◌, Option, Some, None, option_and_then, Ok, List, [], ◌∷◌, ◌++◌, length, codes, find, bytes_eq, IsTrue}
+use Rattle.std.specs.Prelude.{◌≡◌, ◌⊎◌, ◌==◌, ℕ, Bool, not, if◌then◌else◌, Option, Some, None, option_and_then, Ok, List, [], ◌∷◌, ◌++◌, length, find, bytes_eq, IsTrue}
 use Rattle.std.specs.FinMap as map
 use Rattle.std.specs.List.{flat_map}
 use Rattle.capbits.specs.declared.cap.Cap.{Cap}
@@ -19,15 +19,17 @@ use Rattle.capaudit.specs.declared.pairs.Holding.{Holding}
 use Rattle.capaudit.specs.Conflicts.{conflicts_of}
 use Rattle.capaudit.specs.Callers.{Inode, inode, IsPermittedToSome}
 use Rattle.capaudit.specs.Findings.{IsBeyond}
-use Rattle.capexplain.specs.Standing.{unread_line}
+use Rattle.capjson.specs.declared.shape.Shape.{Shape}
+use Rattle.capjson.specs.Shapes.{nothing_in}
 use Rattle.capheld.specs.declared.fault.HeldFault.{HeldFault}
 use Rattle.capheld.specs.declared.fault.HeldFault.TheVariants.{Auth, Sessions}
 use Rattle.capheld.specs.declared.notes.Detail.{Detail}
 use Rattle.capheld.specs.declared.notes.Detail.TheVariants.{Each, Groups}
+use Rattle.capheld.specs.declared.notes.Manner.{Manner}
 use Rattle.capheld.specs.declared.notes.Notes.{Notes}
 use Rattle.capheld.specs.Order.{AreInOrder, AreCounted}
-use Rattle.capheld.specs.Summary.{summary_line}
-use Rattle.capheld.specs.Lines.{held_line, group_line, inode_text, session_text, client_text, conflict_line, clash_line, unnamed_line, unlisted_line, strange_line, pathless_line}
+use Rattle.capheld.specs.Summary.{counts_of}
+use Rattle.capheld.specs.Shaped.{found_in, conflict_in, unnamed_in, unlisted_in, unread_in, strange_in, pathless_in, counts_in}
 
 -- ---- who it is
 
@@ -39,17 +41,17 @@ pub record Roster : Type 0 where
 abbrev pub roster : List Named → List Connected → Roster
 roster entities sessions = record { entities = entities; sessions = sessions }
 
--- the same, and in which detail is told what is found of them
+-- the same, and how is told what is found of them
 pub record Clients : Type 0 where
-  pub detail : Detail
+  pub manner : Manner
   pub entities : List Named
   pub sessions : List Connected
 
-abbrev pub clients : Detail → List Named → List Connected → Clients
-clients detail entities sessions = record { detail = detail; entities = entities; sessions = sessions }
+abbrev pub clients : Manner → List Named → List Connected → Clients
+clients manner entities sessions = record { manner = manner; entities = entities; sessions = sessions }
 
-abbrev pub clients_of : Detail → Roster → Clients
-clients_of detail known = clients detail known.entities known.sessions
+abbrev pub clients_of : Manner → Roster → Clients
+clients_of manner known = clients manner known.entities known.sessions
 
 -- the first session of this number
 abbrev pub session_of : List Connected → ℕ → Option Connected
@@ -61,43 +63,39 @@ name_of sessions number = option_and_then (λ s. s.client) (session_of sessions 
 
 -- ---- what is said of one who holds something
 
--- the line for what is found, or that for all that are found so of the client
-abbrev pub found_line : Detail → List (List ℕ) → List ℕ → ℕ → Caps → Caps → Finding → List ℕ
-found_line Each path client session issued pending f = held_line path client session issued pending f
-found_line Groups path client session issued pending f = group_line client f
-
 -- all of it is permitted to somebody, and nothing is said; else a line tells what is not
-abbrev pub IsToldBeyond : Detail → Inode → List ℕ → ℕ → List Grant → Caps → Caps → List ℕ → Type 0
-IsToldBeyond detail i client session grants issued pending found = (((cap : Cap) → IsTrue (has issued cap) → IsPermittedToSome i grants cap) × (found ≡ []))
-    ⊎ ((f : Finding) × IsBeyond issued grants i f × (found ≡ found_line detail i.path client session issued pending f))
+abbrev pub IsToldBeyond : Manner → ℕ → Inode → List ℕ → ℕ → List Grant → Caps → Caps → List ℕ → Type 0
+IsToldBeyond m number i client session grants issued pending found = (((cap : Cap) → IsTrue (has issued cap) → IsPermittedToSome i grants cap) × (found ≡ []))
+    ⊎ ((f : Finding) × IsBeyond issued grants i f × (found ≡ found_in m number i.path client session issued pending f))
 
 -- what is known to be held is judged by these grants; else a line says that it is not known
-abbrev pub IsJudged : Detail → Inode → List ℕ → List Grant → Held → List ℕ → List ℕ → Type 0
-IsJudged detail i client grants h found unknown = ((issued : Caps) × (pending : Caps) × (h.issued ≡ text_of issued) × (h.pending ≡ text_of pending) × IsToldBeyond detail i client h.client grants issued pending found × (unknown ≡ []))
-    ⊎ (((issued pending : Caps) → h.issued ≡ text_of issued → h.pending ≡ text_of pending → ⊥) × (found ≡ []) × (unknown ≡ strange_line i.path client h.client))
+abbrev pub IsJudged : Manner → ℕ → Inode → List ℕ → List Grant → Held → List ℕ → List ℕ → Type 0
+IsJudged m number i client grants h found unknown = ((issued : Caps) × (pending : Caps) × (h.issued ≡ text_of issued) × (h.pending ≡ text_of pending) × IsToldBeyond m number i client h.client grants issued pending found × (unknown ≡ []))
+    ⊎ (((issued pending : Caps) → h.issued ≡ text_of issued → h.pending ≡ text_of pending → ⊥) × (found ≡ []) × (unknown ≡ strange_in m.shape number i.path client h.client))
 
 -- the grants are those that the text means; else a line tells its first fault
-abbrev pub IsJudgedBy : Detail → Inode → List ℕ → Held → List ℕ → List ℕ → List ℕ → Type 0
-IsJudgedBy detail i client h text found unknown = ((grants : List Grant) × Reads text grants × IsJudged detail i client grants h found unknown)
-    ⊎ ((fault : SpecFault) × IsFault text fault × (found ≡ []) × (unknown ≡ unread_line client fault))
+abbrev pub IsJudgedBy : Manner → ℕ → Inode → List ℕ → Held → List ℕ → List ℕ → List ℕ → Type 0
+IsJudgedBy m number i client h text found unknown = ((grants : List Grant) × Reads text grants × IsJudged m number i client grants h found unknown)
+    ⊎ ((fault : SpecFault) × IsFault text fault × (found ≡ []) × (unknown ≡ unread_in m.shape client fault))
 
 -- the same of the text that the auth list has of a client; one that has none is permitted nothing
-abbrev pub SaysOfCaps : Detail → Inode → List ℕ → Held → Option (List ℕ) → List ℕ → List ℕ → Type 0
-SaysOfCaps detail i client h None found unknown = IsJudged detail i client [] h found unknown
-SaysOfCaps detail i client h (Some text) found unknown = IsJudgedBy detail i client h text found unknown
+abbrev pub SaysOfCaps : Manner → ℕ → Inode → List ℕ → Held → Option (List ℕ) → List ℕ → List ℕ → Type 0
+SaysOfCaps m number i client h None found unknown = IsJudged m number i client [] h found unknown
+SaysOfCaps m number i client h (Some text) found unknown = IsJudgedBy m number i client h text found unknown
 
 -- of the entry that the auth list has of it
-abbrev pub SaysOfEntity : Detail → Inode → List ℕ → Held → Option Named → List ℕ → List ℕ → Type 0
-SaysOfEntity detail i client h None found unknown = (found ≡ []) × (unknown ≡ unlisted_line client)
-SaysOfEntity detail i client h (Some e) found unknown = SaysOfCaps detail i client h e.caps found unknown
+abbrev pub SaysOfEntity : Manner → ℕ → Inode → List ℕ → Held → Option Named → List ℕ → List ℕ → Type 0
+SaysOfEntity m number i client h None found unknown = (found ≡ []) × (unknown ≡ unlisted_in m.shape client)
+SaysOfEntity m number i client h (Some e) found unknown = SaysOfCaps m number i client h e.caps found unknown
 
 -- of the name of it that is known
-abbrev pub SaysOfName : Clients → Inode → Held → Option (List ℕ) → List ℕ → List ℕ → Type 0
-SaysOfName known i h None found unknown = (found ≡ []) × (unknown ≡ unnamed_line h.client)
-SaysOfName known i h (Some client) found unknown = SaysOfEntity known.detail i client h (find (λ e. bytes_eq e.name client) known.entities) found unknown
+abbrev pub SaysOfName : Clients → ℕ → Inode → Held → Option (List ℕ) → List ℕ → List ℕ → Type 0
+SaysOfName known number i h None found unknown = (found ≡ []) × (unknown ≡ unnamed_in known.manner.shape h.client)
+SaysOfName known number i h (Some client) found unknown = SaysOfEntity known.manner number i client h (find (λ e. bytes_eq e.name client) known.entities) found unknown
 
-abbrev pub SaysOf : Clients → Inode → Held → List ℕ → List ℕ → Type 0
-SaysOf known i h found unknown = SaysOfName known i h (name_of known.sessions h.client) found unknown
+-- of one who holds something of the inode of this number
+abbrev pub SaysOf : Clients → ℕ → Inode → Held → List ℕ → List ℕ → Type 0
+SaysOf known number i h found unknown = SaysOfName known number i h (name_of known.sessions h.client) found unknown
 
 -- ---- what is said of all
 
@@ -111,17 +109,17 @@ pub data AreSaid {X : Type 0} (Says : X → List ℕ → List ℕ → Type 0) : 
   one_more : {x : X} {xs : List X} (found unknown founds unknowns : List ℕ) → Says x found unknown → AreSaid Says xs founds unknowns → AreSaid Says (x ∷ xs) (found ++ founds) (unknown ++ unknowns)
 
 -- of one who holds something of the inode of this number, to which no path leads, and whose name may be known
-abbrev pub pathless_text : ℕ → Held → Option (List ℕ) → List ℕ
-pathless_text number h None = unnamed_line h.client
-pathless_text number h (Some client) = pathless_line number client h.client h.issued
+abbrev pub pathless_text : Shape → ℕ → Held → Option (List ℕ) → List ℕ
+pathless_text shape number h None = unnamed_in shape h.client
+pathless_text shape number h (Some client) = pathless_in shape number client h.client h.issued
 
-abbrev pub pathless_of : List Connected → ℕ → Held → List ℕ
-pathless_of sessions number h = pathless_text number h (name_of sessions h.client)
+abbrev pub pathless_of : Shape → List Connected → ℕ → Held → List ℕ
+pathless_of shape sessions number h = pathless_text shape number h (name_of sessions h.client)
 
 -- of an inode: of each who holds something of it, on the path that leads to it; or that none does
 abbrev pub SaysAt : List ℕ → Clients → Listed → Option (List (List ℕ)) → List ℕ → List ℕ → Type 0
-SaysAt fs known it None found unknown = (found ≡ []) × (unknown ≡ flat_map (pathless_of known.sessions it.number) it.holders)
-SaysAt fs known it (Some path) found unknown = AreSaid (SaysOf known (inode fs path it.attr)) it.holders found unknown
+SaysAt fs known it None found unknown = (found ≡ []) × (unknown ≡ flat_map (pathless_of known.manner.shape known.sessions it.number) it.holders)
+SaysAt fs known it (Some path) found unknown = AreSaid (SaysOf known it.number (inode fs path it.attr)) it.holders found unknown
 
 abbrev pub SaysOfInode : List ℕ → Clients → PathMap → Listed → List ℕ → List ℕ → Type 0
 SaysOfInode fs known paths it found unknown = SaysAt fs known it (map.get paths it.number) found unknown
@@ -142,38 +140,29 @@ abbrev pub Holds : Held → List Holding → Type 0
 Holds h known = ((caps : Caps) × (h.issued ≡ text_of caps) × (known ≡ record { client = h.client; caps = caps } ∷ []))
     ⊎ (((caps : Caps) → h.issued ≡ text_of caps → ⊥) × (known ≡ []))
 
--- the line for two sessions in conflict on an inode
-abbrev pub conflict_at : List Connected → List ℕ → Conflict → List ℕ
-conflict_at sessions inode c = conflict_line inode (session_text c.one.client (name_of sessions c.one.client)) (session_text c.other.client (name_of sessions c.other.client)) c
-
--- the line for all conflicts of their two clients by the same caps
-abbrev pub clash_of : List Connected → Conflict → List ℕ
-clash_of sessions c = clash_line (client_text c.one.client (name_of sessions c.one.client)) (client_text c.other.client (name_of sessions c.other.client)) c
-
--- the one or the other
-abbrev pub clash_at : Detail → List Connected → List ℕ → Conflict → List ℕ
-clash_at Each sessions inode c = conflict_at sessions inode c
-clash_at Groups sessions inode c = clash_of sessions c
+-- two sessions in conflict on the inode of this number, to which a path may lead, by the names that they tell
+abbrev pub conflict_at : Manner → List Connected → ℕ → Option (List (List ℕ)) → Conflict → List ℕ
+conflict_at m sessions number path c = conflict_in m number path (name_of sessions c.one.client) (name_of sessions c.other.client) c
 
 -- of an inode a line for each pair that holds of it what the table of the locks keeps apart
-abbrev pub SaysOfPairs : Detail → List Connected → PathMap → Listed → List ℕ → Type 0
-SaysOfPairs detail sessions paths it text = (holdings : List Holding) × Give Holds it.holders holdings
-    × (text ≡ flat_map (clash_at detail sessions (inode_text it.number (map.get paths it.number))) (conflicts_of holdings))
+abbrev pub SaysOfPairs : Manner → List Connected → PathMap → Listed → List ℕ → Type 0
+SaysOfPairs m sessions paths it text = (holdings : List Holding) × Give Holds it.holders holdings
+    × (text ≡ flat_map (conflict_at m sessions it.number (map.get paths it.number)) (conflicts_of holdings))
 
 -- ---- the audit
 
 -- lines in order, or lines that are alike counted
-abbrev pub AreShown : Detail → List ℕ → List ℕ → Type 0
-AreShown Each text shown = AreInOrder text shown
-AreShown Groups text shown = AreCounted text shown
+abbrev pub AreShown : Detail → Shape → List ℕ → List ℕ → Type 0
+AreShown Each shape text shown = AreInOrder text shown
+AreShown Groups shape text shown = AreCounted shape text shown
 
 -- what is found beyond grants and in conflict, in order or counted, and behind it, in order, what is not known
-abbrev pub AreLines : Detail → List ℕ → List ℕ → List ℕ → List ℕ → Type 0
-AreLines detail beyond conflicts unknown lines = (first : List ℕ) × (last : List ℕ) × AreShown detail (beyond ++ conflicts) first × AreInOrder unknown last × (lines ≡ first ++ last)
+abbrev pub AreLines : Manner → List ℕ → List ℕ → List ℕ → List ℕ → Type 0
+AreLines m beyond conflicts unknown lines = (first : List ℕ) × (last : List ℕ) × AreShown m.detail m.shape (beyond ++ conflicts) first × AreInOrder unknown last × (lines ≡ first ++ last)
 
 -- these lines are told, or that nothing is found where there are none, and behind them the last one
-abbrev pub IsTold : List ℕ → List ℕ → List ℕ → Bool → Type 0
-IsTold lines last text found = (found ≡ not (length lines == 0)) × (text ≡ (if found then lines else codes "nothing found\n") ++ last)
+abbrev pub IsTold : Shape → List ℕ → List ℕ → List ℕ → Bool → Type 0
+IsTold shape lines last text found = (found ≡ not (length lines == 0)) × (text ≡ (if found then lines else nothing_in shape) ++ last)
 
 -- what is told of the inodes of a tree
 pub record IsReport (fs : List ℕ) (known : Clients) (seen : Dump) (text : List ℕ) (found : Bool) : Type 0 where
@@ -182,9 +171,9 @@ pub record IsReport (fs : List ℕ) (known : Clients) (seen : Dump) (text : List
   pub unknown : List ℕ
   pub lines : List ℕ
   pub said : AreSaid (SaysOfInode fs known seen.paths) seen.inodes beyond unknown
-  pub paired : Give (SaysOfPairs known.detail known.sessions seen.paths) seen.inodes conflicts
-  pub ordered : AreLines known.detail beyond conflicts unknown lines
-  pub told : IsTold lines (summary_line known.sessions seen.inodes beyond conflicts unknown) text found
+  pub paired : Give (SaysOfPairs known.manner known.sessions seen.paths) seen.inodes conflicts
+  pub ordered : AreLines known.manner beyond conflicts unknown lines
+  pub told : IsTold known.manner.shape lines (counts_in known.manner.shape (counts_of known.sessions seen.inodes beyond conflicts unknown)) text found
 
 -- ---- the texts
 

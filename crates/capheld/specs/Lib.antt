@@ -1,4 +1,6 @@
 pub mod Lines
+pub mod Objects
+pub mod Shaped
 pub mod Order
 pub mod Summary
 pub mod Audited

@@ -2,7 +2,7 @@
 ghost use Rattle.std.specs.Prelude.{◌≡◌, ◌++◌, OnOk, map};
 ghost use Rattle.capexplain.specs.Explaining.{path_text};
 ghost use Rattle.capexplain.specs.Quoting.{quoted};
-ghost use Rattle.capheld.specs.Lines.{beyond_text, group_line, held_line, pathless_line, place_text, revoked_text, strange_line, unlisted_line, unnamed_line, who_text, why_text};
+ghost use Rattle.capheld.specs.Lines.{beyond_text, group_line, held_line, pathless_line, place_text, revoked_text, strange_line, who_text, why_text};
 
 use capaudit::Finding;
 use capbits::CapSet;
@@ -112,24 +112,8 @@ fn print_why(text: &mut Vec<u8>, found: &Finding) -> Result<(), AllocError>
     }
 }
 
-// Appends that no session names a client.
-pub(crate) fn print_unnamed(text: &mut Vec<u8>, number: u64) -> Result<(), AllocError>
-    ensures { OnOk result (text.new.items ≡ text.old.items ++ unnamed_line number) }
-{
-    print_numbered(text, "client ", number)?;
-    print_str(text, ": no session names it\n")
-}
-
-// Appends that the auth list lacks a client.
-pub(crate) fn print_unlisted(text: &mut Vec<u8>, client: &[u8]) -> Result<(), AllocError>
-    ensures { OnOk result (text.new.items ≡ text.old.items ++ unlisted_line client.now) }
-{
-    print_quoted(text, client)?;
-    print_str(text, ": no entry in the auth list\n")
-}
-
 // Appends that what a client holds is spelled otherwise than capabilities are.
-pub(crate) fn print_strange(
+pub(crate) fn print_strange_line(
     text: &mut Vec<u8>,
     path: &[&[u8]],
     client: &[u8],
@@ -142,7 +126,7 @@ pub(crate) fn print_strange(
 }
 
 // Appends that a client holds something of an inode to which no path leads.
-pub(crate) fn print_pathless(
+pub(crate) fn print_pathless_line(
     text: &mut Vec<u8>,
     number: u64,
     client: &[u8],

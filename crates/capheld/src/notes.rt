@@ -1,5 +1,6 @@
 //! What an audit finds, as lines.
 
+use capjson::Shape;
 use std::alloc::Global;
 
 // Lines of an audit in the order in which they come, each with its line feed.
@@ -45,9 +46,18 @@ pub enum Detail {
     Groups,
 }
 
+/// How an audit tells what it finds.
+#[derive(Clone, Copy)]
+pub struct Manner {
+    /// In which detail.
+    pub detail: Detail,
+    /// In which shape.
+    pub shape: Shape,
+}
+
 /// What an audit tells.
 pub struct Report {
-    /// Its lines, each with its line feed. The last says how much was looked at, and what came of it.
+    /// Its lines, or the objects that stand in their place, each with its line feed. The last says how much was looked at, and what came of it.
     pub text: Vec<u8>,
     /// Whether anything was found or could not be judged.
     pub found: bool,

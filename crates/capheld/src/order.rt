@@ -1,12 +1,15 @@
 //! Lines in order.
-ghost use Rattle.std.specs.Prelude.{◌≡◌, [], ◌∷◌, ◌++◌, IfOk, codes, count_by, map};
+ghost use Rattle.std.specs.Prelude.{◌≡◌, [], ◌∷◌, ◌++◌, IfOk, codes, count_by, map, OnOk};
 ghost use Rattle.std.specs.List.{flat_map};
 ghost use Rattle.caplines.specs.Lines.{lines};
 ghost use Rattle.std.specs.Str.{bytes_eq};
 ghost use Rattle.capheld.specs.Order.{AreCounted, AreInOrder, counted_line};
+ghost use Rattle.capheld.specs.Shaped.{counted_in};
 
+use crate::objects::print_group_object;
+use capjson::Shape;
 use caplines::split_line;
-use captext::print_numbered;
+use captext::{print_numbered, print_str};
 use std::alloc::{AllocError, Global};
 
 // The lines of a text, each once, in the order of their bytes, which is first that of paths.
@@ -19,27 +22,50 @@ pub(crate) fn in_order(alloc: Global, text: &[u8]) -> Result<Vec<u8>, AllocError
     joined(alloc, lines.as_slice(), rest)
 }
 
-// The same lines in the same order, and behind each how often it stands in the text.
-pub(crate) fn counted(alloc: Global, text: &[u8]) -> Result<Vec<u8>, AllocError>
-    ensures { IfOk result (λ counted. AreCounted text.now counted.items) }
+// The same lines in the same order, and with each how often it stands in the text.
+pub(crate) fn counted(alloc: Global, shape: Shape, text: &[u8]) -> Result<Vec<u8>, AllocError>
+    ensures { IfOk result (λ counted. AreCounted shape text.now counted.items) }
 {
     let (lines, _rest) = cut(alloc, text)?;
     let ordered = in_order(alloc, text)?;
     let (kinds, _left) = cut(alloc, ordered.as_slice())?;
-    counts(alloc, lines.as_slice(), kinds.as_slice())
+    counts(alloc, shape, lines.as_slice(), kinds.as_slice())
 }
 
 // Each of the kinds with how many of the lines are of it.
-fn counts(alloc: Global, lines: &[Vec<u8>], kinds: &[Vec<u8>]) -> Result<Vec<u8>, AllocError>
-    ensures { IfOk result (λ text. text.items ≡ flat_map (counted_line lines.now) kinds.now) }
+fn counts(
+    alloc: Global,
+    shape: Shape,
+    lines: &[Vec<u8>],
+    kinds: &[Vec<u8>],
+) -> Result<Vec<u8>, AllocError>
+    ensures { IfOk result (λ text. text.items ≡ flat_map (counted_line shape lines.now) kinds.now) }
 {
     let mut text = Vec::new(alloc);
     for kind in kinds {
-        text.extend_from_slice(kind.as_slice())?;
-        print_numbered(&mut text, ": ", count_of(lines, kind.as_slice()))?;
-        text.push(b'\n')?;
+        let line = kind.as_slice();
+        print_counted(&mut text, shape, line, count_of(lines, line))?;
     }
     Ok(text)
+}
+
+// Appends a line with how many lines it is.
+fn print_counted(
+    text: &mut Vec<u8>,
+    shape: Shape,
+    line: &[u8],
+    count: u64,
+) -> Result<(), AllocError>
+    ensures { OnOk result (text.new.items ≡ text.old.items ++ counted_in shape line.now count) }
+{
+    match shape {
+        Shape::Lines => {
+            text.extend_from_slice(line)?;
+            print_numbered(text, ": ", count)?;
+            print_str(text, "\n")
+        }
+        Shape::Objects => print_group_object(text, count, line),
+    }
 }
 
 // How many of the lines are this one.

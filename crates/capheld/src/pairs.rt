@@ -1,16 +1,17 @@
 //! Which sessions hold of one inode what the table of the locks keeps apart.
-ghost use Rattle.std.specs.Prelude.{◌≡◌, ◌++◌, IfOk, OnOk};
-ghost use Rattle.std.specs.FinMap as map;
+ghost use Rattle.std.specs.Prelude.{◌≡◌, ◌++◌, IfOk, OnOk, map, option_map};
 ghost use Rattle.std.specs.List.{flat_map};
-ghost use Rattle.capheld.specs.Audited.{AddsTo, Give, Holds, SaysOfPairs, clash_at, clash_of, conflict_at, name_of};
-ghost use Rattle.capheld.specs.Lines.{beside_text, client_text, inode_text, session_text};
+ghost use Rattle.capheld.specs.Audited.{AddsTo, Give, Holds, SaysOfPairs, conflict_at};
+ghost use Rattle.capheld.specs.Lines.{beside_text, conflict_line, holder_text, on_inode};
 
 use crate::holders::name_of;
 use crate::lines::{print_at, print_who};
-use crate::notes::Detail;
+use crate::notes::{Detail, Manner};
+use crate::objects::print_rivals;
 use capaudit::{Conflict, Holding, conflicts};
 use capcluster::{Holder, Session, TreeInode};
 use capexplain::print_quoted;
+use capjson::Shape;
 use capspec::TreePath;
 use captext::{print_caps, print_numbered, print_str, read_caps};
 use numbered::Numbered;
@@ -19,16 +20,16 @@ use std::alloc::{AllocError, Global};
 // A line for each pair of sessions that hold of one of these inodes what no two may hold together.
 pub(crate) fn conflict_lines(
     alloc: Global,
-    detail: Detail,
+    manner: Manner,
     sessions: &[Session],
     inodes: &[TreeInode],
     paths: &Numbered<TreePath>,
 ) -> Result<Vec<u8>, AllocError>
-    ensures { IfOk result (λ text. Give (SaysOfPairs detail sessions.now paths.now) inodes.now text.items) }
+    ensures { IfOk result (λ text. Give (SaysOfPairs manner sessions.now paths.now) inodes.now text.items) }
 {
     let mut text = Vec::new(alloc);
     for inode in inodes {
-        print_pairs(alloc, detail, &mut text, sessions, paths, inode)?;
+        print_pairs(alloc, manner, &mut text, sessions, paths, inode)?;
     }
     Ok(text)
 }
@@ -36,18 +37,29 @@ pub(crate) fn conflict_lines(
 // Appends the lines for those of one inode.
 fn print_pairs(
     alloc: Global,
-    detail: Detail,
+    manner: Manner,
     text: &mut Vec<u8>,
     sessions: &[Session],
     paths: &Numbered<TreePath>,
     inode: &TreeInode,
 ) -> Result<(), AllocError>
-    ensures { OnOk result (AddsTo (SaysOfPairs detail sessions.now paths.now inode.now) text.old.items text.new.items) }
+    ensures { OnOk result (AddsTo (SaysOfPairs manner sessions.now paths.now inode.now) text.old.items text.new.items) }
 {
+    let number = inode.number();
     let holdings = holdings_of(alloc, inode.holders())?;
     let found = conflicts(alloc, holdings.as_slice())?;
-    let place = place_of(alloc, paths, inode.number())?;
-    print_conflicts(detail, text, sessions, place.as_slice(), found.as_slice())
+    let Some(path) = paths.get(number) else {
+        return print_conflicts(manner, text, sessions, number, None, found.as_slice());
+    };
+    let names = path.names(alloc)?;
+    print_conflicts(
+        manner,
+        text,
+        sessions,
+        number,
+        Some(names.as_slice()),
+        found.as_slice(),
+    )
 }
 
 // Who holds which capabilities. Whose are spelled otherwise than capabilities are is left out.
@@ -67,69 +79,82 @@ fn holdings_of(alloc: Global, holders: &[Holder]) -> Result<Vec<Holding>, AllocE
     Ok(holdings)
 }
 
-// The path of the inode of this number, or the number where no path leads to it.
-fn place_of(alloc: Global, paths: &Numbered<TreePath>, number: u64) -> Result<Vec<u8>, AllocError>
-    ensures { IfOk result (λ place. place.items ≡ inode_text number (map.get paths.now number)) }
-{
-    let mut place = Vec::new(alloc);
-    match paths.get(number) {
-        None => print_numbered(&mut place, "inode ", number)?,
-        Some(path) => {
-            let names = path.names(alloc)?;
-            print_at(&mut place, names.as_slice())?;
-        }
-    }
-    Ok(place)
-}
-
-// Appends the lines for conflicts on the inode of this place.
+// Appends the lines for conflicts on the inode of this number, to which this path may lead.
 fn print_conflicts(
-    detail: Detail,
+    manner: Manner,
     text: &mut Vec<u8>,
     sessions: &[Session],
-    place: &[u8],
+    number: u64,
+    path: Option<&[&[u8]]>,
     conflicts: &[Conflict],
 ) -> Result<(), AllocError>
-    ensures { OnOk result (text.new.items ≡ text.old.items ++ flat_map (clash_at detail sessions.now place.now) conflicts.now) }
+    ensures { OnOk result (text.new.items ≡ text.old.items
+        ++ flat_map (conflict_at manner sessions.now number (option_map (λ names. map (λ name. name.now) names.now) path.entry)) conflicts.now) }
 {
     for conflict in conflicts {
-        match detail {
-            Detail::Each => print_conflict(text, sessions, place, conflict)?,
-            Detail::Groups => print_clash(text, sessions, conflict)?,
-        }
+        print_conflict(manner, text, sessions, number, path, conflict)?;
     }
     Ok(())
 }
 
 // Appends the line for one of them.
 fn print_conflict(
+    manner: Manner,
     text: &mut Vec<u8>,
     sessions: &[Session],
-    place: &[u8],
+    number: u64,
+    path: Option<&[&[u8]]>,
     conflict: &Conflict,
 ) -> Result<(), AllocError>
-    ensures { OnOk result (text.new.items ≡ text.old.items ++ conflict_at sessions.now place.now conflict.now) }
+    ensures { OnOk result (text.new.items ≡ text.old.items
+        ++ conflict_at manner sessions.now number (option_map (λ names. map (λ name. name.now) names.now) path.entry) conflict.now) }
 {
-    text.extend_from_slice(place)?;
-    print_str(text, " ")?;
-    print_session(text, sessions, conflict.one.client)?;
+    let detail = manner.detail;
+    let one = name_of(sessions, conflict.one.client);
+    let other = name_of(sessions, conflict.other.client);
+    match manner.shape {
+        Shape::Lines => print_clash(text, detail, number, path, one, other, conflict),
+        Shape::Objects => print_rivals(text, detail, number, path, one, other, conflict),
+    }
+}
+
+// Appends it as a line for people.
+fn print_clash(
+    text: &mut Vec<u8>,
+    detail: Detail,
+    number: u64,
+    path: Option<&[&[u8]]>,
+    one: Option<&[u8]>,
+    other: Option<&[u8]>,
+    conflict: &Conflict,
+) -> Result<(), AllocError>
+    ensures { OnOk result (text.new.items ≡ text.old.items ++ conflict_line detail number (option_map (λ names. map (λ name. name.now) names.now) path.entry)
+        (option_map (λ name. name.now) one.entry) (option_map (λ name. name.now) other.entry) conflict.now) }
+{
+    print_on(text, detail, number, path)?;
+    print_client(text, detail, conflict.one.client, one)?;
     print_beside(text, conflict)?;
-    print_session(text, sessions, conflict.other.client)?;
+    print_client(text, detail, conflict.other.client, other)?;
     print_str(text, "\n")
 }
 
-// Appends which two clients they are and what of each conflicts, by which conflicts are counted.
-fn print_clash(
+// Appends the path of the inode of this number, or the number where no path leads to it. Groups are of many inodes.
+fn print_on(
     text: &mut Vec<u8>,
-    sessions: &[Session],
-    conflict: &Conflict,
+    detail: Detail,
+    number: u64,
+    path: Option<&[&[u8]]>,
 ) -> Result<(), AllocError>
-    ensures { OnOk result (text.new.items ≡ text.old.items ++ clash_of sessions.now conflict.now) }
+    ensures { OnOk result (text.new.items ≡ text.old.items ++ on_inode detail number (option_map (λ names. map (λ name. name.now) names.now) path.entry)) }
 {
-    print_client(text, sessions, conflict.one.client)?;
-    print_beside(text, conflict)?;
-    print_client(text, sessions, conflict.other.client)?;
-    print_str(text, "\n")
+    if let Detail::Groups = detail {
+        return Ok(());
+    }
+    match path {
+        None => print_numbered(text, "inode ", number)?,
+        Some(path) => print_at(text, path)?,
+    }
+    print_str(text, " ")
 }
 
 // Appends what the one holds beside what the other holds.
@@ -143,22 +168,18 @@ fn print_beside(text: &mut Vec<u8>, conflict: &Conflict) -> Result<(), AllocErro
     print_str(text, " of ")
 }
 
-// Appends the number of a session, behind the name that it tells.
-fn print_session(text: &mut Vec<u8>, sessions: &[Session], number: u64) -> Result<(), AllocError>
-    ensures { OnOk result (text.new.items ≡ text.old.items ++ session_text number (name_of sessions.now number)) }
+// Appends the number of a session, behind the name that it may tell. Among groups a name stands alone.
+fn print_client(
+    text: &mut Vec<u8>,
+    detail: Detail,
+    number: u64,
+    name: Option<&[u8]>,
+) -> Result<(), AllocError>
+    ensures { OnOk result (text.new.items ≡ text.old.items ++ holder_text detail number (option_map (λ name. name.now) name.entry)) }
 {
-    match name_of(sessions, number) {
-        None => print_numbered(text, "client ", number),
-        Some(client) => print_who(text, client, number),
-    }
-}
-
-// Appends the name that a session tells, or its number where it tells none.
-fn print_client(text: &mut Vec<u8>, sessions: &[Session], number: u64) -> Result<(), AllocError>
-    ensures { OnOk result (text.new.items ≡ text.old.items ++ client_text number (name_of sessions.now number)) }
-{
-    match name_of(sessions, number) {
-        None => print_numbered(text, "client ", number),
-        Some(client) => print_quoted(text, client),
+    match (name, detail) {
+        (None, _) => print_numbered(text, "client ", number),
+        (Some(client), Detail::Each) => print_who(text, client, number),
+        (Some(client), Detail::Groups) => print_quoted(text, client),
     }
 }

@@ -11,7 +11,8 @@ use Rattle.serde_json.specs.Data.{Data, string, object, Members, no_members, mem
 use Rattle.serde_json.specs.View.{items_of}
 use Rattle.serde_json.specs.Written.{has_float, items_have_float, members_have_float}
 use Rattle.capbits.specs.declared.caller.Caller.{Caller}
-use Rattle.capgrant.specs.declared.access.Access.{Access}
+use Rattle.capbits.specs.Text.{text_of}
+use Rattle.capgrant.specs.declared.access.Access as access
 use Rattle.capgrant.specs.declared.access.Attr.{Attr}
 use Rattle.capgrant.specs.declared.answer.Verdict.{Verdict}
 use Rattle.capgrant.specs.declared.answer.Verdict.TheVariants.{Allowed, Denied}
@@ -30,6 +31,10 @@ use Rattle.capremarks.specs.Capcompare.declared.witness.Witness.{Witness}
 use Rattle.capexplain.specs.Capwho.declared.standing.Standing.{Standing}
 use Rattle.capexplain.specs.Capwho.declared.standing.Standing.TheVariants as standings
 use Rattle.capexplain.specs.Capwho.Callers.{Wanted}
+use Rattle.capjson.specs.declared.table.Piece.{Piece}
+use Rattle.capjson.specs.declared.table.Piece.TheVariants.{Null, Number, Word, Bytes, Numbers, Access, Path, Caps, Rules}
+use Rattle.capjson.specs.Pieces.{piece_value, pieces_value}
+use Rattle.capjson.proofs.Tables.{Row, member_of}
 use Rattle.capjson.specs.Values.{Table, with_all, object_of, natural, numbers_value, bytes_value, or_null, IsPlain}
 use Rattle.capjson.specs.Answers.{place_table, caller_table, attr_table, with_question, rule_value, rules_value, allowing_table, verdict_table, difference_value, otherwise_value, remarks_table, answer_value, verdict_word}
 use Rattle.capjson.specs.Changes.{with_witness, change_table, change_value}
@@ -109,8 +114,8 @@ flat-bytes bytes = by_form (is_utf8 bytes)
     by_form true = flat-string 2 bytes
     by_form false = flat-hex (encode_lower bytes)
 
-pub flat-place : (access : Access) (path : List (List ℕ)) (fs : List ℕ) → AllFlat 2 (place_table access path fs)
-flat-place access path fs = (flat-string 2 (access_word access), (flat-bytes (path_text path), (flat-bytes fs, tt)))
+pub flat-place : (wanted : access.Access) (path : List (List ℕ)) (fs : List ℕ) → AllFlat 2 (place_table wanted path fs)
+flat-place wanted path fs = (flat-string 2 (access_word wanted), (flat-bytes (path_text path), (flat-bytes fs, tt)))
 
 pub flat-caller : (caller : Caller) → AllFlat 2 (caller_table caller)
 flat-caller caller = (flat-natural 2 caller.uid, (flat-natural 2 caller.gid, (flat-numbers caller.groups, tt)))
@@ -163,6 +168,26 @@ plain-answer q v left other =
     let asked = with_question q no_members in
     let judged = with_all (verdict_table v) asked in
     plain-object (with_all (remarks_table left other) judged) (flat-with_all 2 (remarks_table left other) judged (flat-remarks left other) (flat-with_all 2 (verdict_table v) asked (flat-verdict v) (flat-question q no_members (none 2))))
+
+-- ---- those of pieces
+
+flat-piece : (p : Piece) → IsFlat 2 (piece_value p)
+flat-piece Null = (refl, omega arith)
+flat-piece (Number n) = flat-natural 2 n
+flat-piece (Word text) = flat-string 2 text.now
+flat-piece (Bytes bytes) = flat-bytes bytes.now
+flat-piece (Numbers numbers) = flat-numbers numbers.now
+flat-piece (Access access) = flat-string 2 (access_word access)
+flat-piece (Path path) = flat-bytes (path_text (map (λ name. name.now) path.now))
+flat-piece (Caps caps) = flat-bytes (text_of caps)
+flat-piece (Rules rules) = flat-rules rules.now
+
+flat-pieces : (table : List Row) → AllFlat 2 (map member_of table)
+flat-pieces [] = tt
+flat-pieces (m ∷ more) = (flat-piece m.1, flat-pieces more)
+
+pub plain-pieces : (table : List Row) → IsPlain (pieces_value table)
+plain-pieces table = plain-object (with_all (map member_of table) no_members) (flat-with_all 2 (map member_of table) no_members (flat-pieces table) (none 2))
 
 -- ---- those of clients
 

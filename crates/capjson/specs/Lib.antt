@@ -1,3 +1,4 @@
+pub mod Shapes
 pub mod Values
 pub mod Pieces
 pub mod Answers

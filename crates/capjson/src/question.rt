@@ -7,7 +7,6 @@ ghost use Rattle.capjson.specs.Values.{with_all};
 
 use crate::table::{Members, Piece, put_all};
 use capbits::{Caller, Mode};
-use capexplain::print_path;
 use capgrant::{Access, Attr, Question};
 use capspec::FsName;
 use std::alloc::{AllocError, Global};
@@ -26,23 +25,22 @@ pub(crate) fn put_question(
 }
 
 /// Adds what is asked for, and where the inode is.
-pub(crate) fn put_place(
+pub(crate) fn put_place<'x>(
     members: &mut Members,
     alloc: Global,
     access: Access,
-    path: &[&[u8]],
-    fs: &FsName,
+    path: &'x [&'x [u8]],
+    fs: &'x FsName,
 ) -> Result<(), AllocError>
     ensures { OnOk result (members_view members.new.entries
         ≡ with_all (place_table access (map (λ name. name.now) path.now) fs.now) (members_view members.old.entries)) }
 {
-    let mut names = Vec::new(alloc);
-    print_path(&mut names, path)?;
-    let word = format!(in alloc; "{access}")?;
-    // Apart, as they are borrowed of three.
-    put_all(members, alloc, &[("access", Piece::Word(word.as_str()))])?;
-    put_all(members, alloc, &[("path", Piece::Bytes(names.as_slice()))])?;
-    put_all(members, alloc, &[("fs", Piece::Bytes(fs.as_bytes()))])
+    let table = [
+        ("access", Piece::Access(access)),
+        ("path", Piece::Path(path)),
+        ("fs", Piece::Bytes(fs.as_bytes())),
+    ];
+    put_all(members, alloc, &table)
 }
 
 // Adds who asks.

@@ -93,7 +93,8 @@ fn put_fault(members: &mut Members, alloc: Global, fault: &SpecFault) -> Result<
     put_all(members, alloc, &table)
 }
 
-fn fault_word(kind: SpecFaultKind) -> &'static str
+/// The word for what is wrong with a text of grants.
+pub fn fault_word(kind: SpecFaultKind) -> &'static str
     ensures { result.now ≡ fault_word kind }
 {
     match kind {

@@ -1,13 +1,12 @@
 //! Verdicts.
-ghost use Rattle.std.specs.Prelude.{◌≡◌, IfOk, OnOk};
-ghost use Rattle.serde_json.specs.View.{view, members_view};
+ghost use Rattle.std.specs.Prelude.{◌≡◌, OnOk};
+ghost use Rattle.serde_json.specs.View.{members_view};
 ghost use Rattle.capgrant.specs.declared.answer.Verdict.TheVariants as verdicts;
-ghost use Rattle.capjson.specs.Answers.{allowing_table, rule_value, rules_value, verdict_table};
+ghost use Rattle.capjson.specs.Answers.{allowing_table, verdict_table};
 ghost use Rattle.capjson.specs.Values.{with_all};
 
 use crate::table::{Members, Piece, put_all};
 use capgrant::{Rule, Verdict};
-use serde_json::{Map, Value, put};
 use std::alloc::{AllocError, Global};
 
 /// Adds what the verdict is, and by which grant or rules.
@@ -49,30 +48,9 @@ pub(crate) fn put_denial(
     ensures { OnOk result (members_view members.new.entries
         ≡ with_all (verdict_table (verdicts.Denied rules.now)) (members_view members.old.entries)) }
 {
-    let rules = rules_value(alloc, rules)?;
-    put_all(members, alloc, &[("verdict", Piece::Word("denied"))])?;
-    put(members, alloc, "rules", rules)
-}
-
-fn rules_value(alloc: Global, rules: &[Rule]) -> Result<Value, AllocError>
-    ensures { IfOk result (λ value. view value ≡ rules_value rules.now) }
-{
-    let mut items = Vec::new(alloc);
-    for (place, rule) in rules.iter().enumerate() {
-        items.push(rule_value(alloc, place + 1, *rule)?)?;
-    }
-    Ok(Value::from(items))
-}
-
-fn rule_value(alloc: Global, number: usize, rule: Rule) -> Result<Value, AllocError>
-    ensures { IfOk result (λ value. view value ≡ rule_value (number, rule)) }
-{
-    let mut members = Map::new(alloc);
     let table = [
-        ("grant", Piece::Number(number as u64)),
-        ("rule", Piece::Number(u64::from(rule.number()))),
-        ("word", Piece::Word(rule.word())),
+        ("verdict", Piece::Word("denied")),
+        ("rules", Piece::Rules(rules)),
     ];
-    put_all(&mut members, alloc, &table)?;
-    Ok(Value::from(members))
+    put_all(members, alloc, &table)
 }

@@ -6,7 +6,7 @@ use Rattle.capauth.specs.Auth.{Named, is_client}
 use Rattle.capexplain.specs.Capwho.Callers.{Wanted}
 use Rattle.capquestion.specs.Clients.{Says, AreLines}
 use Rattle.capquestion.specs.Clients.AreLines.{no_more, client, another}
-use Rattle.capquestion.specs.declared.shape.Shape.{Shape}
+use Rattle.capjson.specs.declared.shape.Shape.{Shape}
 
 -- with the lines of the others behind it the text is that of all
 abbrev pub IsBegun : Shape → Wanted → Option Attr → List Named → ℕ → List ℕ → Type 0

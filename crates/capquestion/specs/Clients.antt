@@ -12,8 +12,8 @@ use Rattle.capexplain.specs.Capwho.Callers.{Wanted}
 use Rattle.capexplain.specs.Capwho.Standing.{Answers}
 use Rattle.capexplain.specs.Standing.{standing_line, unread_line}
 use Rattle.capjson.specs.Standings.{standing_object, unread_object}
-use Rattle.capquestion.specs.declared.shape.Shape.{Shape}
-use Rattle.capquestion.specs.declared.shape.Shape.TheVariants.{Lines, Objects}
+use Rattle.capjson.specs.declared.shape.Shape.{Shape}
+use Rattle.capjson.specs.declared.shape.Shape.TheVariants.{Lines, Objects}
 
 -- the line of a client, in this shape
 abbrev pub standing_in : Shape → List ℕ → Wanted → Option Attr → Standing → List ℕ

@@ -9,8 +9,8 @@ use Rattle.capexplain.specs.Comparing.{comparison}
 use Rattle.capjson.specs.Changes.{change_lines}
 use Rattle.capquestion.specs.declared.comparing.CompareFault.{CompareFault}
 use Rattle.capquestion.specs.declared.comparing.CompareFault.TheVariants.{Old, New, NoMemory}
-use Rattle.capquestion.specs.declared.shape.Shape.{Shape}
-use Rattle.capquestion.specs.declared.shape.Shape.TheVariants.{Lines, Objects}
+use Rattle.capjson.specs.declared.shape.Shape.{Shape}
+use Rattle.capjson.specs.declared.shape.Shape.TheVariants.{Lines, Objects}
 
 -- What is told of the new grants: nothing, where the old ones cover them, else a witness, which is of root only where no other shows it.
 abbrev pub IsGain : List Grant → List Grant → Option Witness → Type 0

@@ -6,8 +6,8 @@ use Rattle.capexplain.specs.Capcompare.declared.finding.Finding.{Finding}
 use Rattle.capexplain.specs.Capcompare.Findings.{AreFindings}
 use Rattle.capexplain.specs.Linting.{lint_lines}
 use Rattle.capjson.specs.Findings.{lint_objects}
-use Rattle.capquestion.specs.declared.shape.Shape.{Shape}
-use Rattle.capquestion.specs.declared.shape.Shape.TheVariants.{Lines, Objects}
+use Rattle.capjson.specs.declared.shape.Shape.{Shape}
+use Rattle.capjson.specs.declared.shape.Shape.TheVariants.{Lines, Objects}
 
 -- the findings in this shape
 abbrev pub lint_in : Shape → List Finding → List ℕ

@@ -5,12 +5,11 @@ ghost use Rattle.capquestion.specs.Attempts.{wanted_by};
 ghost use Rattle.capquestion.specs.Clients.{AnswersWho, AreLines, Says, standing_in, unread_in};
 
 use crate::attempt::Attempt;
-use crate::shape::Shape;
 use crate::texts::read_text;
 use capauth::{AuthFault, Entity, read_auth};
 use capexplain::{Standing, Wanted, print_standing, print_unread};
 use capgrant::Attr;
-use capjson::{print_standing_object, print_unread_object};
+use capjson::{Shape, print_standing_object, print_unread_object};
 use capspec::SpecFault;
 use std::alloc::{AllocError, Global};
 

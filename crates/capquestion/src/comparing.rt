@@ -2,10 +2,9 @@
 ghost use Rattle.std.specs.Prelude.{IfOk, IfErr};
 ghost use Rattle.capquestion.specs.Comparing.{Compares, IsComparison, IsFaultOfTexts};
 
-use crate::shape::Shape;
 use crate::texts::read_text;
 use capexplain::{comparison_lines, gained, lost};
-use capjson::change_objects;
+use capjson::{Shape, change_objects};
 use capspec::{Grants, SpecFault};
 use std::alloc::{AllocError, Global};
 use std::fmt;

@@ -16,17 +16,16 @@ mod modes;
 mod options;
 mod question;
 mod remarks;
-mod shape;
 mod texts;
 mod words;
 
 pub use attempt::{Attempt, AttemptValues, AttrValues};
 pub use capauth::AuthFault;
+pub use capjson::Shape;
 pub use clients::who;
 pub use comparing::{CompareFault, compare};
 pub use fault::QuestionFault;
 pub use linting::lint_text;
 pub use options::Opt;
 pub use question::{Question, Values};
-pub use shape::Shape;
 pub use words::{spell, spelled};

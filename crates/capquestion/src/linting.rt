@@ -4,9 +4,8 @@ ghost use Rattle.capquestion.specs.Fault.{IsFaultOfText};
 ghost use Rattle.capquestion.specs.Linting.{IsLintOf};
 
 use crate::fault::QuestionFault;
-use crate::shape::Shape;
 use capexplain::{lint, lint_lines};
-use capjson::lint_objects;
+use capjson::{Shape, lint_objects};
 use capspec::read_grants;
 use std::alloc::Global;
 

@@ -3,4 +3,4 @@ use Rattle.capheld.proofs.Said.{IsBegun}
 use Rattle.capheld.proofs.auditing.note_holders.Given as goal
 
 abbrev pub invariant-loop-holder : goal.invariant-loop-holder
-invariant-loop-holder l = Adds (IsBegun (SaysOf (clients l.detail l.auth l.sessions) l.inode) l.holders l.holder-index) l.initial.notes l.notes
+invariant-loop-holder l = Adds (IsBegun (SaysOf (clients l.manner l.auth l.sessions) l.number l.inode) l.holders l.holder-index) l.initial.notes l.notes

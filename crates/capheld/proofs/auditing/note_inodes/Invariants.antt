@@ -3,4 +3,4 @@ use Rattle.capheld.proofs.Said.{IsBegun}
 use Rattle.capheld.proofs.auditing.note_inodes.Given as goal
 
 abbrev pub invariant-loop-inode : goal.invariant-loop-inode
-invariant-loop-inode l = IsBegun (SaysOfInode l.fs (clients l.detail l.auth l.sessions) l.paths) l.inodes l.inode-index l.notes.found.items l.notes.unknown.items
+invariant-loop-inode l = IsBegun (SaysOfInode l.fs (clients l.manner l.auth l.sessions) l.paths) l.inodes l.inode-index l.notes.found.items l.notes.unknown.items

@@ -2,15 +2,15 @@ use Rattle.std.proofs.Common.{refl, ap, inl, inr}
 use Rattle.std.proofs.lemmas.Result.{on_ok_weaker}
 use Rattle.capspec.specs.declared.fault.SpecFault.{SpecFault}
 use Rattle.capspec.specs.Faults.{IsFault}
-use Rattle.capexplain.specs.Standing.{unread_line}
 use Rattle.capheld.specs.Audited.{IsJudgedBy}
+use Rattle.capheld.specs.Shaped.{unread_in}
 use Rattle.capheld.proofs.Noting.{unknown_added}
 use Rattle.capheld.proofs.holders.note_by_text.Goals as goal
 
 pub returns-in_default : goal.returns-in_default
 returns-in_default c =
     let is : IsFault c.args.text.now c.in-Err.fault = elim c.in-Err.ensures.fault [ inl told ↦ told | inr missed ↦ absurd (c.in_default.not-NoMemory (ap (λ (fault : SpecFault). fault.kind) missed.0)) ] in
-    on_ok_weaker c.print_unread.result
-    (λ more. unknown_added (IsJudgedBy c.args.detail c.args.inode.now c.args.client.now c.args.holder.now c.args.text.now) c.args.notes.now (record { found = c.args.notes.now.found; unknown = c.print_unread.new.text }) (unread_line c.args.client.now c.in-Err.fault) refl more
+    on_ok_weaker c.print_torn.result
+    (λ more. unknown_added (IsJudgedBy c.args.manner c.args.number c.args.inode.now c.args.client.now c.args.holder.now c.args.text.now) c.args.notes.now (record { found = c.args.notes.now.found; unknown = c.print_torn.new.text }) (unread_in c.args.manner.shape c.args.client.now c.in-Err.fault) refl more
     (inr (c.in-Err.fault, is, refl, refl)))
-    c.print_unread.ensures
+    c.print_torn.ensures

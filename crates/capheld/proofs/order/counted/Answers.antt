@@ -6,7 +6,7 @@ use Rattle.capheld.proofs.order.counted.Goals as goal
 
 pub returns : goal.returns
 returns c =
-    IfOk-weaker c.counts.result (λ text. text.items ≡ flat_map (counted_line c.as_slice-2.result.now) c.as_slice-3.result.now) (λ text. AreCounted c.args.text.now text.items)
+    IfOk-weaker c.counts.result (λ text. text.items ≡ flat_map (counted_line c.args.shape c.as_slice-2.result.now) c.as_slice-3.result.now) (λ text. AreCounted c.args.shape c.args.text.now text.items)
     (λ text is. record {
       all = c.as_slice-2.result.now;
       rest = c.in_ok-lines._rest.now;

@@ -1,26 +1,42 @@
-use Rattle.std.proofs.Common.{ℕ, List, ◌++◌, refl, ap, subst, ◌∙◌}
+use Rattle.std.proofs.Common.{◌≡◌, ℕ, List, ◌++◌, Bor, Option, None, Some, map, refl, sym, ap, subst, ◌∙◌}
 use Rattle.std.proofs.lemmas.Result.{on_ok_weaker}
-use Rattle.std.specs.FinMap as map
+use Rattle.std.specs.FinMap as paths
 use Rattle.std.specs.List.{flat_map}
 use Rattle.capaudit.specs.declared.pairs.Conflict.{Conflict}
+use Rattle.capaudit.specs.declared.pairs.Holding.{Holding}
 use Rattle.capaudit.specs.Conflicts.{conflicts_of}
-use Rattle.capcluster.specs.Dump.{Held}
-use Rattle.capheld.specs.Audited.{Give, Holds, clash_at}
-use Rattle.capheld.specs.Lines.{inode_text}
+use Rattle.capcluster.specs.Dump.{Held, Listed, PathMap}
+use Rattle.capcluster.specs.Sessions.{Connected}
+use Rattle.capheld.specs.declared.notes.Manner.{Manner}
+use Rattle.capheld.specs.Audited.{AddsTo, Give, Holds, SaysOfPairs, conflict_at}
 use Rattle.capheld.proofs.pairs.print_pairs.Goals as goal
+
+abbrev names_of : List (Bor (List ℕ)) → List (List ℕ)
+names_of names = map (λ name. name.now) names
+
+-- the lines for the conflicts among holdings are those of the inode
+module _ (m : Manner) (sessions : List Connected) (known : PathMap) (it : Listed) where
+  pub of_inode : (number : ℕ) (path : Option (List (List ℕ))) (holders : List Held) (holdings : List Holding) (found : List Conflict) (old new : List ℕ) → number ≡ it.number → holders ≡ it.holders → Give Holds holders holdings
+      → path ≡ paths.get known number → found ≡ conflicts_of holdings → new ≡ old ++ flat_map (conflict_at m sessions number path) found → AddsTo (SaysOfPairs m sessions known it) old new
+  of_inode number path holders holdings found old new is_number are_holders given leads are more = (
+    flat_map (conflict_at m sessions it.number (paths.get known it.number)) (conflicts_of holdings),
+    more
+        ∙ ap (λ (cs : List Conflict). old ++ flat_map (conflict_at m sessions number path) cs) are
+        ∙ ap (λ (p : Option (List (List ℕ))). old ++ flat_map (conflict_at m sessions number p) (conflicts_of holdings)) leads
+        ∙ ap (λ (n : ℕ). old ++ flat_map (conflict_at m sessions n (paths.get known n)) (conflicts_of holdings)) is_number,
+    (holdings, subst (λ (hs : List Held). Give Holds hs holdings) are_holders given, refl),
+  )
+
+pub returns-in_default : goal.returns-in_default
+returns-in_default c =
+    on_ok_weaker c.print_conflicts.result
+    (of_inode c.args.manner c.args.sessions.now c.args.paths.now c.args.inode.now c.number-number.result None c.holders.result.now c.in_ok-holdings.holdings.items _ c.args.text.now.items _
+    c.number-number.ensures c.holders.ensures c.in_ok-holdings.ensures c.in_default.ensures (c.as_slice-in_default.ensures.value ∙ c.in_ok-found.ensures ∙ ap conflicts_of c.as_slice.ensures.value))
+    c.print_conflicts.ensures
 
 pub returns : goal.returns
 returns c =
-    let it = c.args.inode.now in
-    let old = c.args.text.now.items in
-    let place : List ℕ = inode_text it.number (map.get c.args.paths.now it.number) in
-    let holdings = c.in_ok-holdings.holdings.items in
-    on_ok_weaker c.print_conflicts.result
-    (λ more. (
-      flat_map (clash_at c.args.detail c.args.sessions.now place) (conflicts_of holdings),
-      more
-          ∙ ap (λ (at : List ℕ). old ++ flat_map (clash_at c.args.detail c.args.sessions.now at) c.as_slice-3.result.now) (c.as_slice-2.ensures.value ∙ c.in_ok-place.ensures ∙ ap (λ (n : ℕ). inode_text n (map.get c.args.paths.now n)) c.number.ensures)
-          ∙ ap (λ (found : List Conflict). old ++ flat_map (clash_at c.args.detail c.args.sessions.now place) found) (c.as_slice-3.ensures.value ∙ c.in_ok-found.ensures ∙ ap conflicts_of c.as_slice.ensures.value),
-      (holdings, subst (λ (hs : List Held). Give Holds hs holdings) c.holders.ensures c.in_ok-holdings.ensures, refl),
-    ))
-    c.print_conflicts.ensures
+    on_ok_weaker c.print_conflicts-2.result
+    (of_inode c.args.manner c.args.sessions.now c.args.paths.now c.args.inode.now c.number-number.result _ c.holders.result.now c.in_ok-holdings.holdings.items _ c.args.text.now.items _
+    c.number-number.ensures c.holders.ensures c.in_ok-holdings.ensures (ap (λ (ns : List (Bor (List ℕ))). Some (names_of ns)) c.as_slice-2.ensures.value ∙ ap Some c.in_ok-names.ensures ∙ c.in-Some.ensures) (c.as_slice-3.ensures.value ∙ c.in_ok-found.ensures ∙ ap conflicts_of c.as_slice.ensures.value))
+    c.print_conflicts-2.ensures

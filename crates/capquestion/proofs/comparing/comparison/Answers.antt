@@ -2,7 +2,7 @@ use Rattle.std.proofs.Common.{◌≡◌, ℕ, List, Option, rules, sym, ap, ◌�
 use Rattle.std.proofs.lemmas.Result.{IfOk-weaker}
 use Rattle.capspec.specs.declared.grant.Grant.{Grant}
 use Rattle.capexplain.specs.Capcompare.declared.witness.Witness.{Witness}
-use Rattle.capquestion.specs.declared.shape.Shape.{Shape}
+use Rattle.capjson.specs.declared.shape.Shape.{Shape}
 use Rattle.capquestion.specs.Comparing.{Compares, IsGain, comparison_in}
 use Rattle.capquestion.proofs.comparing.comparison.Goals as goal
 

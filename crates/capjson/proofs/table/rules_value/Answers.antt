@@ -1,6 +1,6 @@
 use Rattle.capjson.specs.Answers.{rule_value}
 use Rattle.capjson.proofs.Tables.{one_numbered}
-use Rattle.capjson.proofs.verdicts.rules_value.Goals as goal
+use Rattle.capjson.proofs.table.rules_value.Goals as goal
 
 pub loop-place-preserved : goal.loop-place-preserved
 loop-place-preserved c =

@@ -4,7 +4,7 @@ use Rattle.std.specs.Fmt.{decimal}
 use Rattle.capexplain.specs.Quoting.{quoted}
 use Rattle.capheld.specs.Lines.{who_text}
 use Rattle.capheld.proofs.Noting.{behind}
-use Rattle.capheld.proofs.lines.print_pathless.Goals as goal
+use Rattle.capheld.proofs.lines.print_pathless_line.Goals as goal
 
 pub returns : goal.returns
 returns c =
