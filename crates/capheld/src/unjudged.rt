@@ -3,8 +3,8 @@ ghost use Rattle.std.specs.Prelude.{◌≡◌, ◌++◌, OnOk, map};
 ghost use Rattle.capheld.specs.Shaped.{pathless_in, strange_in, unlisted_in, unnamed_in, unread_in};
 
 use crate::lines::{print_pathless_line, print_strange_line};
-use capexplain::{print_quoted, print_unread};
-use capjson::{Piece, Shape, fault_word, print_pieces};
+use capexplain::{fault_word, print_quoted, print_unread};
+use capjson::{Piece, Shape, print_pieces};
 use capspec::SpecFault;
 use captext::{print_numbered, print_str};
 use std::alloc::AllocError;

@@ -18,5 +18,5 @@ pub use changes::change_objects;
 pub use findings::lint_objects;
 pub use laws::{one_answer_for_an_object, one_spelling_for_bytes, one_value_for_a_line};
 pub use shape::Shape;
-pub use standings::{fault_word, print_standing_object, print_unread_object};
+pub use standings::{print_standing_object, print_unread_object};
 pub use table::{Piece, print_pieces};
