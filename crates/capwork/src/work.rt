@@ -54,11 +54,14 @@ pub(crate) fn work_of(words: &[Vec<u8>]) -> Option<Work> {
             b"publish" => Some(Work::Serve(ServerWork::Publish)),
             _ => None,
         },
-        [work, times] => match (work.as_slice(), read_u32(times.as_slice())) {
-            (b"verdict", Some(times)) => Some(Work::Verdict(times)),
-            (b"parse", Some(times)) => Some(Work::Parse(times)),
-            _ => None,
-        },
+        [work, times] => {
+            let times = read_u32(times.as_slice())?;
+            match work.as_slice() {
+                b"verdict" => Some(Work::Verdict(times)),
+                b"parse" => Some(Work::Parse(times)),
+                _ => None,
+            }
+        }
         [way, readers, inodes, times] => {
             let way = match way.as_slice() {
                 b"explain" => Way::Beside,
