@@ -1,8 +1,9 @@
-use Rattle.std.proofs.Common.{subst}
+use Rattle.std.proofs.Common.{sym, subst}
 use Rattle.published.specs.Capview.declared.view.View.{View}
 use Rattle.published.specs.Capview.Answers.{IsAnswer}
 use Rattle.published.specs.Capview.Sight.{Shows}
 use Rattle.published.proofs.Capview.Likeness.{shows-refl}
+use Rattle.published.specs.Rows.{Legal}
 use Rattle.published.specs.declared.value.Published.{Published}
 use Rattle.witness.proofs.Asking.{answered, never_unseen}
 use Rattle.witness.proofs.witness.Witness.explain.Goals as goal
@@ -18,3 +19,7 @@ pub returns-clause-no_view : goal.returns-clause-no_view
 returns-clause-no_view g c none =
     let view = c.get.result.now.view in
     absurd (never_unseen c.args.fs.now view c.args.question.now c.explain-answer.result (c.explain-answer.ensures view (shows-refl view)) none)
+
+-- what is kept is what was read, by a proof of its own: a body that keeps another beginning is refused without a long search
+pub invariant_of-self-2 : goal.invariant_of-self-2
+invariant_of-self-2 g c = (c.leave.ensures.place, subst (Legal g.L.Server.opening) (sym c.leave.ensures.known) c.in-Some.ensures.saw.value_is.legal)
