@@ -5,7 +5,7 @@ use Rattle.std.specs.Fmt.{decimal}
 use Rattle.std.specs.List.{list_all, flat_map, enumerate_from, starts_with}
 use Rattle.std.specs.Str.Parse.{digits_value}
 use Rattle.std.proofs.lemmas.Bool.{and_parts, cases_lt}
-use Rattle.std.proofs.lemmas.Fmt.{decimal_is_IsNumeral, decimal_by_steps}
+use Rattle.std.proofs.lemmas.Fmt.{decimal_is_IsNumeral, decimal_by_steps, decimal_injective}
 use Rattle.std.proofs.lemmas.List.{append_cancel_left}
 use Rattle.capgrant.specs.declared.access.Access.{Access}
 use Rattle.capgrant.specs.declared.access.Access.TheVariants.{Read, Write, SetVxattr, Snapshot, Chmod, Chown, Chgrp}
@@ -46,9 +46,6 @@ plain_number =
     decimal_by_steps (λ n ds. list_all is_plain ds ≡ true)
     (λ n below. plain_push [] (48 + n) refl (plain_below 10 n refl below))
     (λ n ds large all. plain_push ds (48 + n % 10) all (plain_below 10 (n % 10) refl (omega arith)))
-
-one_number : (m n : ℕ) → m < 2 ^ 64 → n < 2 ^ 64 → decimal m ≡ decimal n → m ≡ n
-one_number m n small also same = sym (decimal_is_IsNumeral m small).1 ∙ ap (digits_value 10) same ∙ (decimal_is_IsNumeral n also).1
 
 -- ---- accesses
 
@@ -117,7 +114,7 @@ one_failure k r q s t same =
     let small = (has_number r).1 in
     let also = (has_number q).1 in
     let parted = bare (decimal (rule_number r)) (decimal (rule_number q)) (rule_word r ++ s) (rule_word q ++ t) (plain_number (rule_number r) small) (plain_number (rule_number q) also) behind in
-    let rule : r ≡ q = sym (has_number r).0 ∙ ap numbered (one_number (rule_number r) (rule_number q) small also parted.0) ∙ (has_number q).0 in
+    let rule : r ≡ q = sym (has_number r).0 ∙ ap numbered (decimal_injective (rule_number r) (rule_number q) small also parted.0) ∙ (has_number q).0 in
     (rule, append_cancel_left (rule_word r) s t (parted.1 ∙ ap (λ (x : Rule). rule_word x ++ t) (sym rule)))
 
 abbrev further : ℕ × Rule → List ℕ
@@ -165,7 +162,7 @@ one_answer a b p q (Allowed g) (Allowed h) fits also small too same =
     let behind = append_cancel_left (codes "allowed ") (access_word a ++ 32 ∷ (quoted p ++ 32 ∷ (codes "grant " ++ decimal g))) (access_word b ++ 32 ∷ (quoted q ++ 32 ∷ (codes "grant " ++ decimal h)))
     (sym (allowed_line a p g) ∙ same ∙ allowed_line b q h) in
     let all = parted a b p q (codes "grant " ++ decimal g) (codes "grant " ++ decimal h) fits also behind in
-    let number = one_number g h (omega arith) (omega arith) (append_cancel_left (codes "grant ") (decimal g) (decimal h) all.2) in
+    let number = decimal_injective g h (omega arith) (omega arith) (append_cancel_left (codes "grant ") (decimal g) (decimal h) all.2) in
     (all.0, all.1, ap Allowed number)
 one_answer a b p q (Allowed g) (Denied rs) fits also small too same = clash 97 100 (omega arith) (ap first_byte same)
 one_answer a b p q (Denied rs) (Allowed g) fits also small too same = clash 97 100 (omega arith) (sym (ap first_byte same))

@@ -35,4 +35,4 @@ pub use linting::lint_lines;
 pub use quoting::print_quoted;
 pub use remarking::remarked_lines;
 pub use reply::reply_lines;
-pub use standing::{print_standing, print_unread};
+pub use standing::{fault_word, print_standing, print_unread};

@@ -67,7 +67,8 @@ pub fn print_unread(text: &mut Vec<u8>, client: &[u8], fault: &SpecFault) -> Res
     print(text, format_args!(": grants: {word} at {at}\n"))
 }
 
-fn fault_word(kind: SpecFaultKind) -> &'static str
+/// The word for what is wrong with a text of grants.
+pub fn fault_word(kind: SpecFaultKind) -> &'static str
     ensures { result.now ≡ fault_word kind }
 {
     match kind {

@@ -1,16 +1,15 @@
 //! What is said of the clients of a cluster.
 ghost use Rattle.std.specs.Prelude.{◌≡◌, ◌++◌, OnOk};
 ghost use Rattle.serde_json.specs.View.{members_view};
-ghost use Rattle.capexplain.specs.Standing.{fault_word};
 ghost use Rattle.capjson.specs.Standings.{fault_table, standing_object, standing_table, standing_value, unread_object, unread_value, with_client};
 ghost use Rattle.capjson.specs.Values.{ReadsBack, with_all};
 
 use crate::question::{put_attr, put_place};
 use crate::table::{Members, Piece, print_object, put_all};
 use crate::verdicts::{put_allowing, put_denial};
-use capexplain::{Standing, Wanted};
+use capexplain::{Standing, Wanted, fault_word};
 use capgrant::Attr;
-use capspec::{SpecFault, SpecFaultKind};
+use capspec::SpecFault;
 use serde_json::Map;
 use std::alloc::{AllocError, Global};
 
@@ -91,23 +90,4 @@ fn put_fault(members: &mut Members, alloc: Global, fault: &SpecFault) -> Result<
         ("at", Piece::Number(fault.at as u64)),
     ];
     put_all(members, alloc, &table)
-}
-
-fn fault_word(kind: SpecFaultKind) -> &'static str
-    ensures { result.now ≡ fault_word kind }
-{
-    match kind {
-        SpecFaultKind::Empty => "Empty",
-        SpecFaultKind::NotAllow => "NotAllow",
-        SpecFaultKind::BadFlags => "BadFlags",
-        SpecFaultKind::BadItem => "BadItem",
-        SpecFaultKind::Twice => "Twice",
-        SpecFaultKind::BadNumber => "BadNumber",
-        SpecFaultKind::OpenQuote => "OpenQuote",
-        SpecFaultKind::GidsWithoutUid => "GidsWithoutUid",
-        SpecFaultKind::LeftOut => "LeftOut",
-        SpecFaultKind::TooMany => "TooMany",
-        SpecFaultKind::BadPath => "BadPath",
-        SpecFaultKind::NoMemory => "NoMemory",
-    }
 }
