@@ -216,6 +216,9 @@ pub one_answer : (q r : Question) (v w : Verdict) (left also : Option ℕ) (othe
     → AskTheSame q r × (v ≡ w) × (left ≡ also) × (other ≡ further)
 one_answer q r v w left also other further fit fits same =
     let p = shows q v left other in
-    let s : Shows (answer_value q v left other) r also further = subst (λ (d : Data). Shows d r also further) (sym same) (shows r w also further) in
-    (one_question q r left also other further (answer_value q v left other) fit fits p s,
-    one_verdict q r v w left also other further same, one_left left also (sym p.client ∙ s.client), one_otherwise other further (sym p.ceph ∙ s.ceph))
+    let s : Shows (answer_value q v left other) r also further = subst (λ (d : Data). Shows d r also further) (sym same) (shows r w also further) in (
+      one_question q r left also other further (answer_value q v left other) fit fits p s,
+      one_verdict q r v w left also other further same,
+      one_left left also (sym p.client ∙ s.client),
+      one_otherwise other further (sym p.ceph ∙ s.ceph),
+    )
