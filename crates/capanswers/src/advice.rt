@@ -160,31 +160,20 @@ fn refused<'a>(ask: &'a Ask, fault: AnswerFault) -> Option<(&'a [u8], usize)> {
     }
 }
 
-// What a line of a keyring begins with, and a text in quotes.
-const FRONTS: [&[u8]; 3] = [b"caps mds", b"\"", b"'"];
-
-// What may stand in a text that was copied from elsewhere, and what helps against it.
-const COPIED: [(&[u8], &str); 2] = [
-    (b"\\\"", "leave out the backslash before each quote"),
-    (
-        b"\r",
-        "leave out the carriage return at the end of each line",
-    ),
-];
-
 // Against a line of a keyring, or a text in quotes, in the place of the text in it; and against what stands at the place or behind it.
 fn pasted(text: &[u8], at: usize) -> Option<&'static str> {
-    for front in FRONTS {
-        if text.trim_ascii_start().starts_with(front) {
-            return Some("paste what stands between the quotes");
-        }
+    let front = text.trim_ascii_start();
+    if front.starts_with(b"caps mds") || front.starts_with(b"\"") || front.starts_with(b"'") {
+        return Some("paste what stands between the quotes");
     }
-    for (part, advice) in COPIED {
-        if stands_in(text.get(at..)?, part) {
-            return Some(advice);
-        }
+    let behind = text.get(at..)?;
+    if stands_in(behind, b"\\\"") {
+        Some("leave out the backslash before each quote")
+    } else if stands_in(behind, b"\r") {
+        Some("leave out the carriage return at the end of each line")
+    } else {
+        None
     }
-    None
 }
 
 fn stands_in(text: &[u8], part: &[u8]) -> bool {
