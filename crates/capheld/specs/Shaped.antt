@@ -1,5 +1,5 @@
 -- What an audit says, as lines or as objects.
-use Rattle.std.specs.Prelude.{ℕ, List, [], ◌++◌, codes, Option}
+use Rattle.std.specs.Prelude.{ℕ, List, ◌++◌, codes, Option}
 use Rattle.std.specs.Fmt.{decimal}
 use Rattle.capbits.specs.Caps.{Caps}
 use Rattle.capspec.specs.declared.fault.SpecFault.{SpecFault}

@@ -1,11 +1,10 @@
 use Rattle.std.proofs.Common.{ℕ, List, [], ◌∷◌, ◌++◌, codes, map, sym, ap, ◌∙◌}
 use Rattle.std.proofs.lemmas.Result.{on_ok_weaker}
 use Rattle.serde_json.specs.Data.{Data, string}
-use Rattle.capbits.specs.Sets.{minus}
 use Rattle.capjson.specs.Pieces.{piece_value}
 use Rattle.capjson.specs.Values.{object_of, natural, bytes_value, json_line, or_null}
 use Rattle.capheld.specs.declared.notes.Detail.{Detail}
-use Rattle.capheld.specs.Objects.{access_value, caps_value, caps_or_null, found_object, path_value, why_value}
+use Rattle.capheld.specs.Objects.{access_value, caps_value, found_object, path_value, why_value}
 use Rattle.capheld.proofs.objects.print_found.Goals as goal
 
 pub returns-in-Each : goal.returns-in-Each
