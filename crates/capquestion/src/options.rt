@@ -32,21 +32,7 @@ pub enum Opt {
 
 impl Opt {
     ghost use Rattle.std.specs.Prelude.{◌≡◌};
-    ghost use Rattle.capquestion.specs.Options.{all_options, option_name};
-
-    /// Every option, in the order in which their values are tested.
-    pub const ALL: [Opt; 10] = [
-        Opt::Grants,
-        Opt::Fs,
-        Opt::Uid,
-        Opt::Gid,
-        Opt::Groups,
-        Opt::Path,
-        Opt::Owner,
-        Opt::Group,
-        Opt::Mode,
-        Opt::Access,
-    ];
+    ghost use Rattle.capquestion.specs.Options.{option_name};
 
     /// The name of the option, without its two dashes.
     pub fn name(self) -> &'static str

@@ -126,7 +126,7 @@ impl Question {
     ghost use Rattle.capgrant.specs.Verdict.{is_allowed};
     ghost use Rattle.capquestion.specs.Question.{AsksFor, IsFaultIn, verdict_on, answer_text};
 
-    /// The question that the values ask. They are read in the order of `Opt::ALL`, and the fault is that of the first bad one.
+    /// The question that the values ask. They are read in the order of `Opt`, and the fault is that of the first bad one.
     /// `NoMemory` comes last, and only where each value is good.
     pub fn read(alloc: Global, values: &Values) -> Result<Question, QuestionFault>
         ensures ok { IfOk result (AsksFor values.now) }
