@@ -124,8 +124,10 @@ fn make_room(heads: &mut Numbered<Head>, number: u64) -> Result<(), AllocError>
     ensures ok { OnOk result (heads.new ≡ with_room heads.old number) }
     ensures err { OnErr result (heads.new ≡ heads.old) }
 {
-    heads.add(number, Head::empty())?;
-    Ok(())
+    if heads.get(number).is_some() {
+        return Ok(());
+    }
+    heads.add(number, Head::empty())
 }
 
 // Gives the room for the ends of a list back, if it has no nodes.

@@ -29,9 +29,12 @@ pub(crate) fn begin_poll(polls: &mut Numbered<Poll>, client: ClientId) -> Result
     ensures ok { OnOk result (polls.new ≡ begun polls.old client) }
     ensures err { OnErr result (polls.new ≡ polls.old) }
 {
+    let number = client.0 as u64;
+    if polls.get(number).is_some() {
+        return Ok(());
+    }
     let (place, due) = (None, 0);
-    polls.add(client.0 as u64, Poll { place, due })?;
-    Ok(())
+    polls.add(number, Poll { place, due })
 }
 
 // Of a client without nodes nothing is kept.
