@@ -5,11 +5,7 @@ use crate::looking::{Look, row_text};
 use crate::steps::locks_text;
 use crate::texts::text_of;
 use crate::viewing::changes_text;
-use crate::views::Round;
-use crate::{
-    gathers, histories, moved_entries, recalls, sessions, sessions_end, tables, trees, viewing,
-    views, waits,
-};
+use crate::{gathers, histories, moved_entries, recalls, sessions_end, viewing, waits};
 use capbits::PassId;
 use capscript::{Core, Event, Reply, Stop, file_system, read_line, reply_lines};
 use std::alloc::{AllocError, Global};
@@ -23,9 +19,10 @@ pub enum Beside {
     Locks,
     /// What the last step that was answered says that it changed of what readers see.
     Changes,
-    /// Nothing is looked at.
-    Nothing,
 }
+
+/// A line, and the lines that are answered or why none are.
+pub type Ask = (&'static str, &'static str);
 
 /// A line, the lines that are answered or why none are, and what is seen then.
 pub type Step = (&'static str, &'static str, &'static str);
@@ -33,23 +30,8 @@ pub type Step = (&'static str, &'static str, &'static str);
 /// The pass that takes the steps, and what is seen beside them.
 pub type Part = (u32, Beside, &'static [Step]);
 
-/// What is looked at behind the last step.
-#[derive(Clone, Copy)]
-pub enum Then {
-    /// Rows of the history.
-    Rows(&'static [Look]),
-    /// The sessions.
-    Sessions,
-    /// The tree, and a copy of it behind which it changes.
-    Tree,
-    /// A view of the core, which follows what it is told.
-    View(&'static [Round]),
-    /// A table of capabilities and locks, for the files and the clients that the core has.
-    Tables,
-}
-
-/// What it shows, how many rows the history takes, the parts, and what is looked at behind them.
-pub type Case = (&'static str, u32, &'static [Part], Then);
+/// What it shows, how many rows the history takes, the parts, and what its rows tell behind them.
+pub type Case = (&'static str, u32, &'static [Part], &'static [Look]);
 
 fn event(rt: &impl Abort, alloc: Global, line: &str) -> Event {
     match read_line(alloc, 1, line.as_bytes()) {
@@ -76,7 +58,7 @@ fn answers(
     alloc: Global,
     core: &mut Core,
     pass: u32,
-    (line, wanted): (&'static str, &'static str),
+    (line, wanted): Ask,
     title: &'static str,
 ) {
     let answer = core.apply(PassId(pass), event(rt, alloc, line));
@@ -84,16 +66,22 @@ fn answers(
     same(rt, text.as_str(), wanted, (title, line));
 }
 
+/// Asks one by one, by pass 1, and compares what is answered.
+pub fn ask(rt: &impl Abort, alloc: Global, core: &mut Core, asks: &[Ask]) {
+    for line in asks {
+        answers(rt, alloc, core, 1, *line, "asked");
+    }
+}
+
 fn beside_text(rt: &impl Abort, alloc: Global, core: &Core, beside: Beside) -> String {
     match beside {
         Beside::Locks => locks_text(rt, alloc, core),
         Beside::Changes => changes_text(rt, alloc, core),
-        Beside::Nothing => String::new(alloc),
     }
 }
 
-/// Takes the steps one by one, and compares what is answered and seen.
-pub fn take_steps(
+// Takes the steps one by one, and compares what is answered and seen.
+fn take_steps(
     rt: &impl Abort,
     alloc: Global,
     core: &mut Core,
@@ -119,20 +107,10 @@ fn take_parts(
     }
 }
 
-fn see_rows(rt: &impl Abort, alloc: Global, core: &Core, shown: &[Look], title: &'static str) {
+fn look_at(rt: &impl Abort, alloc: Global, core: &Core, shown: &[Look], title: &'static str) {
     for (place, wanted) in shown {
         let text = row_text(rt, alloc, core, *place);
         same(rt, text.as_str(), *wanted, (title, "the end"));
-    }
-}
-
-fn look_at(rt: &(impl AllocGlobal + Abort), core: &mut Core, then: Then, title: &'static str) {
-    match then {
-        Then::Rows(rows) => see_rows(rt, rt.alloc(), core, rows, title),
-        Then::Sessions => sessions::see_all(rt, rt.alloc(), core),
-        Then::Tree => trees::copy_stays(rt, rt.alloc(), core),
-        Then::View(rounds) => views::follow_all(rt, core, (title, rounds)),
-        Then::Tables => tables::play_all(rt, core),
     }
 }
 
@@ -142,12 +120,19 @@ fn fresh(alloc: Global, max_rows: u32) -> Result<Core, AllocError> {
     Core::new(alloc, fs, tree, max_rows)
 }
 
-// Takes the parts of a case on a fresh core, and looks at what is left. No other function of the tests owns a core: each statement of
-// one that does is dear to prove.
-fn plays(rt: &(impl AllocGlobal + Abort), (title, max_rows, parts, then): Case) {
+/// A core that was asked this by pass 1, and answered so.
+pub fn core_of(rt: &(impl AllocGlobal + Abort), asks: &[Ask]) -> Core {
+    let mut core = made(rt, fresh(rt.alloc(), 100), "a core");
+    ask(rt, rt.alloc(), &mut core, asks);
+    core
+}
+
+// Takes the parts of a case on a fresh core, and looks at rows of its history. A core is owned by few functions of the tests: each
+// statement of one that does is dear to prove.
+fn plays(rt: &(impl AllocGlobal + Abort), (title, max_rows, parts, shown): Case) {
     let mut core = made(rt, fresh(rt.alloc(), max_rows), title);
     take_parts(rt, rt.alloc(), &mut core, parts, title);
-    look_at(rt, &mut core, then, title);
+    look_at(rt, rt.alloc(), &core, shown, title);
     drop(core);
 }
 
@@ -158,12 +143,8 @@ fn each_step_is_answered_by_the_rules(rt: HostRuntime) {
         histories::CASES,
         moved_entries::CASES,
         recalls::CASES,
-        sessions::CASES,
         sessions_end::CASES,
-        tables::CASES,
-        trees::CASES,
         viewing::CASES,
-        views::CASES,
         waits::CASES,
     ] {
         for case in cases {

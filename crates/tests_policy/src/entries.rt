@@ -1,23 +1,59 @@
 //! The table of capabilities: the orders in which its entries stand, and what each keeps.
 
 use crate::asserting::{made, same};
-use crate::tables::Step::*;
-use crate::tables::{At, Step};
 use crate::texts::caps;
 use capbits::{CapSet, ClientId, Ino, Refusal};
 use captable::{CapTable, Entry, Holder, Holders, Walk};
 use std::alloc::AllocError;
 use std::process::Abort;
 
-/// Holders, in an order.
-pub type Places = &'static [Holder];
+type Places = &'static [Holder];
 
-/// The holders of the entries of a walk, and whether each is asked for capabilities.
-pub type Rows = &'static [(Holder, bool)];
+// The holders of the entries of a walk, and whether each is asked for capabilities.
+type Rows = &'static [(Holder, bool)];
 
-/// What is held, what is wanted, the numbers of the last change, of the last revocation and of the last change that was told,
-/// and whether capabilities are asked for.
-pub type Kept = (&'static str, &'static str, (u64, u64, u64), bool);
+// What is held, what is wanted, the numbers of the last change, of the last revocation and of the last change that was told,
+// and whether capabilities are asked for.
+type Kept = (&'static str, &'static str, (u64, u64, u64), bool);
+
+// What is done with a table, or seen in it. A text names capabilities.
+enum Step {
+    // An entry of a client is opened on an inode, or refused.
+    Open(Holder, Option<Refusal>),
+    // As many as there may be are opened, of 64 clients on 1024 inodes.
+    Fill,
+    // The client wants these.
+    Want(Holder, &'static str),
+    // It holds these too.
+    Give(Holder, &'static str),
+    // What it is to know of changes: before, and after.
+    Renumber(Holder, &'static str, &'static str),
+    // A message tells it.
+    Tell(Holder),
+    // It gives these back.
+    Release(Holder, &'static str, Result<(), Refusal>),
+    Touch(Holder),
+    DropClient(u32),
+    // So many entries are recalled, which are these.
+    Recall(u32, Places),
+    // An entry is asked for capabilities, or not any more.
+    Mark(Holder, bool),
+    // A client's entries that are not due are walked over, up to the first that is.
+    SkipQuiet(u32),
+    Keeps(Holder, Option<Kept>),
+    // The order of recall, one by one.
+    Order(Places),
+    // The orders of making: of an inode, and of a client.
+    HoldersOf(u64, Rows),
+    EntriesOf(u32, Rows),
+    // The client's entries from the first on that may be due.
+    DueOf(u32, Rows),
+}
+
+use Step::*;
+
+// Where a test fails: the case, and the number of the step.
+type At = (&'static str, usize);
 
 // ---- what is done
 
@@ -33,27 +69,19 @@ pub fn open(rt: &impl Abort, table: &mut CapTable, holder: Holder) -> Option<Ref
     refusal
 }
 
-/// Opens as many entries as there may be, of 64 clients on 1024 inodes.
-pub fn fill(rt: &impl Abort, table: &mut CapTable) {
+fn fill(rt: &impl Abort, table: &mut CapTable) {
     for n in 0..65536 {
         let (client, ino) = (ClientId(n % 64), Ino(u64::from(n / 64)));
         same(rt, open(rt, table, Holder { client, ino }), None, n);
     }
 }
 
-/// Counts a change of what the client is to know, where there is an entry.
-pub fn renumber(table: &mut CapTable, holder: Holder, before: CapSet, after: CapSet) {
+fn renumber(table: &mut CapTable, holder: Holder, before: CapSet, after: CapSet) {
     if let Some(entry) = table.find(holder.client, holder.ino) {
         if entry.seq < u64::MAX {
             table.renumber(holder.client, holder.ino, before, after);
         }
     }
-}
-
-/// The client wants these; its entry is made where there is none.
-pub fn want(rt: &impl Abort, table: &mut CapTable, holder: Holder, wanted: CapSet) {
-    let _refusal = open(rt, table, holder);
-    table.set_want(holder.client, holder.ino, wanted);
 }
 
 /// The client gives these back, unless that is refused.
@@ -76,8 +104,8 @@ fn are(rt: &impl Abort, found: Result<Holders, AllocError>, want: Places, at: At
     same(rt, again.as_slice(), want, at);
 }
 
-/// Sees that so many entries are the first to be recalled, and recalls them.
-pub fn are_recalled(rt: &impl Abort, table: &mut CapTable, n: u32, want: Places, at: At) {
+// Sees that so many entries are the first to be recalled, and recalls them.
+fn recall(rt: &impl Abort, table: &mut CapTable, n: u32, want: Places, at: At) {
     are(rt, table.first_to_recall(n), want, at);
     are(rt, table.recall(n), want, at);
 }
@@ -89,8 +117,7 @@ fn kept(found: Option<Entry>) -> Option<(CapSet, CapSet, (u64, u64, u64), bool)>
     Some((entry.held, entry.want, numbers, entry.asked))
 }
 
-/// Sees what is kept.
-pub fn keeps(rt: &impl Abort, found: Option<Entry>, want: Option<Kept>, at: At) {
+fn keeps(rt: &impl Abort, found: Option<Entry>, want: Option<Kept>, at: At) {
     let want = match want {
         Some((held, wanted, numbers, asked)) => Some((caps(held), caps(wanted), numbers, asked)),
         None => None,
@@ -98,8 +125,8 @@ pub fn keeps(rt: &impl Abort, found: Option<Entry>, want: Option<Kept>, at: At) 
     same(rt, kept(found), want, at);
 }
 
-/// Sees that a walk goes by these entries.
-pub fn goes_by(rt: &impl Abort, walk: Walk<'_>, want: Rows, at: At) {
+// Sees that a walk goes by these entries.
+fn goes_by(rt: &impl Abort, walk: Walk<'_>, want: Rows, at: At) {
     let mut walk = walk;
     for row in want {
         let found = match walk.next() {
@@ -111,14 +138,45 @@ pub fn goes_by(rt: &impl Abort, walk: Walk<'_>, want: Rows, at: At) {
     same(rt, walk.next().is_none(), true, at);
 }
 
-/// Sees that this is the order of recall.
-pub fn is_order(rt: &impl Abort, table: &CapTable, want: Places, at: At) {
+fn is_order(rt: &impl Abort, table: &CapTable, want: Places, at: At) {
     let mut next = table.oldest();
     for holder in want {
         same(rt, next, Some(*holder), at);
         next = table.newer(holder.client, holder.ino);
     }
     same(rt, next, None, at);
+}
+
+// ---- whole runs
+
+fn take(rt: &impl Abort, table: &mut CapTable, step: &Step, at: At) {
+    match step {
+        Open(h, want) => same(rt, open(rt, table, *h), *want, at),
+        Fill => fill(rt, table),
+        Want(h, text) => table.set_want(h.client, h.ino, caps(text)),
+        Give(h, text) => table.issue(h.client, h.ino, caps(text)),
+        Renumber(h, before, after) => renumber(table, *h, caps(before), caps(after)),
+        Tell(h) => table.tell(h.client, h.ino),
+        Release(h, text, want) => same(rt, release(table, *h, text), *want, at),
+        Touch(h) => table.touch(h.client, h.ino),
+        DropClient(client) => table.drop_client(ClientId(*client)),
+        Recall(n, want) => recall(rt, table, *n, want, at),
+        Mark(h, asked) => table.ask(h.client, h.ino, *asked),
+        SkipQuiet(client) => table.skip_quiet(ClientId(*client)),
+        Keeps(h, want) => keeps(rt, table.find(h.client, h.ino), *want, at),
+        Order(want) => is_order(rt, table, want, at),
+        HoldersOf(ino, want) => goes_by(rt, table.holders_of(Ino(*ino)), want, at),
+        EntriesOf(client, want) => goes_by(rt, table.entries_of(ClientId(*client)), want, at),
+        DueOf(client, want) => goes_by(rt, table.due_of(ClientId(*client)), want, at),
+    }
+}
+
+// Takes the steps on a new table. No other function owns a table: each statement of one that does is dear to prove.
+fn runs(rt: &(impl Abort + AllocGlobal), title: &'static str, steps: &[Step]) {
+    let mut table = made(rt, CapTable::new(rt.alloc()), title);
+    for (nth, step) in steps.iter().enumerate() {
+        take(rt, &mut table, step, (title, nth));
+    }
 }
 
 /// Client 1 with inode 2.
@@ -286,10 +344,17 @@ const ALL_ENTRIES: &[Step] = &[
     Open(ONE_2, Some(Refusal::Limit)),
 ];
 
-pub const CASES: &[(&'static str, &'static [Step])] = &[
+const CASES: &[(&str, &[Step])] = &[
     ("an entry keeps what is held, wanted and told", SHARED_FILE),
     ("the orders are kept apart", ORDERS),
     ("recall names the oldest", RECALLS),
     ("a walk over what is due begins behind what is not", DUE),
     ("no more than 65,536 entries", ALL_ENTRIES),
 ];
+
+#[test]
+fn a_table_keeps_entries_in_their_orders(rt: HostRuntime) {
+    for (title, steps) in CASES {
+        runs(&rt, title, steps);
+    }
+}

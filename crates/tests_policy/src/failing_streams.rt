@@ -1,11 +1,11 @@
 //! Readers and writers that fail: what their flags tell, and what a run over them leaves.
 
 use crate::asserting::same;
-use crate::runs::{SNAPSHOTS, SNAPSHOTS_ANSWERED, run_over};
-use capscript::{ScriptFault, Watched};
+use crate::runs::{SNAPSHOTS, SNAPSHOTS_ANSWERED};
+use capscript::{ScriptFault, Watched, run};
+use std::alloc::Global;
 use std::io;
 use std::io::{ErrorKind, Read, Write};
-use std::process::Abort;
 
 // Reads once into so much room: how many bytes came, or none for a failure, whether the reader has failed by then, and whether
 // it came to its end.
@@ -52,6 +52,15 @@ impl Read for Failing<'_> {
     }
 }
 
+// Runs over a reader that may fail: whether the reader's flag is set, whether the run stopped, and whether it wrote nothing.
+fn run_on_reads(alloc: Global, reads: Failing) -> (bool, bool, bool) {
+    let mut text = Vec::new(alloc);
+    let mut reader = Watched::new(reads);
+    let mut writer = Watched::new(&mut text);
+    let ended = run(alloc, &mut reader, &mut writer);
+    (reader.failed(), ended.is_err(), text.is_empty())
+}
+
 const TWO_LINES: &[u8] = b"session 1 10 10 - none\nlookup 1 1 a";
 
 #[test]
@@ -64,9 +73,7 @@ fn a_read_that_fails_writes_nothing(rt: HostRuntime) {
                 at_once,
                 reads_left,
             };
-            let mut text = Vec::new(rt.alloc());
-            let (ended, flags) = run_over(rt.alloc(), reads, &mut text);
-            let found = (flags.0, ended.is_err(), text.is_empty());
+            let found = run_on_reads(rt.alloc(), reads);
             let failed = reads_left < wanted;
             same(&rt, found, (failed, failed, failed), (at_once, reads_left));
         }
@@ -114,27 +121,34 @@ fn a_flush_is_passed_on(rt: HostRuntime) {
     }
 }
 
-// Runs over a writer that takes so many bytes, and sees whether its flag is set, how the run ended, and what was written.
-fn writes_in_room(rt: &(impl AllocGlobal + Abort), wanted: &[u8], room: usize, fails: bool) {
-    let mut text = Vec::new(rt.alloc());
-    let full = Full {
+// Runs over a writer that takes so many bytes: whether the writer's flag is set, how the run ended, and what was written.
+fn run_in_room(
+    alloc: Global,
+    room: usize,
+    fails: bool,
+) -> (bool, Result<(), ScriptFault>, Vec<u8>) {
+    let mut text = Vec::new(alloc);
+    let mut reader = Watched::new(SNAPSHOTS.as_bytes());
+    let mut writer = Watched::new(Full {
         text: &mut text,
         room,
         fails,
-    };
-    let (ended, flags) = run_over(rt.alloc(), SNAPSHOTS.as_bytes(), full);
-    let is_short = room < wanted.len();
-    let fault = ended == Err(ScriptFault::WriteFault);
-    same(rt, (flags.1, fault), (is_short, is_short), (room, fails));
-    let begun = &wanted[..room.min(wanted.len())];
-    same(rt, text.as_slice(), begun, (room, fails));
+    });
+    let ended = run(alloc, &mut reader, &mut writer);
+    let failed = writer.failed();
+    (failed, ended, text)
 }
 
 #[test]
 fn a_write_that_fails_leaves_a_beginning(rt: HostRuntime) {
     let wanted = SNAPSHOTS_ANSWERED.as_bytes();
     for room in 0..=wanted.len() {
-        writes_in_room(&rt, wanted, room, false);
-        writes_in_room(&rt, wanted, room, true);
+        for fails in [false, true] {
+            let (failed, ended, text) = run_in_room(rt.alloc(), room, fails);
+            let is_short = room < wanted.len();
+            let fault = ended == Err(ScriptFault::WriteFault);
+            same(&rt, (failed, fault), (is_short, is_short), (room, fails));
+            same(&rt, text.as_slice(), &wanted[..room], (room, fails));
+        }
     }
 }

@@ -1,7 +1,7 @@
 //! The life of a gather, step by step.
 
 use crate::asking::Beside::Locks;
-use crate::asking::{Case, Step, Then};
+use crate::asking::{Case, Step};
 
 // A lock gathers until all is told back.
 const A_GATHER: &[Step] = &[
@@ -67,5 +67,5 @@ pub const CASES: &[Case] = &[(
         (1, Locks, A_GATHER_OF_NOBODY),
         (1, Locks, A_GATHER_OF_THE_OTHER),
     ],
-    Then::Rows(&[]),
+    &[],
 )];

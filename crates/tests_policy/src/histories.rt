@@ -1,7 +1,7 @@
 //! What a core keeps of its events: the rows of its history, and whose they are.
 
 use crate::asking::Beside::Changes;
-use crate::asking::{Case, Part, Step, Then};
+use crate::asking::{Case, Part, Step};
 use crate::looking::Look;
 
 const MORE_THAN_TWO_ROWS: &[Step] = &[
@@ -53,18 +53,13 @@ pub const CASES: &[Case] = &[
         "a full history takes no more",
         2,
         &[(7, Changes, MORE_THAN_TWO_ROWS)],
-        Then::Rows(TWO_ROWS),
+        TWO_ROWS,
     ),
     (
         "a history of no rows takes none",
         0,
         &[(7, Changes, MORE_THAN_NO_ROW)],
-        Then::Rows(NO_ROW),
+        NO_ROW,
     ),
-    (
-        "each pass is numbered on its own",
-        100,
-        PASSES,
-        Then::Rows(NUMBERED),
-    ),
+    ("each pass is numbered on its own", 100, PASSES, NUMBERED),
 ];

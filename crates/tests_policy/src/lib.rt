@@ -1,5 +1,5 @@
-//! Tests of the public calls: capabilities, grants, the tree, the table of capabilities, sessions and locks; the core and its scripts; the
-//! calls behind the commands that answer questions about grants; the server, and the jobs that threads do at it.
+//! Tests of the public calls of all that needs no server: capabilities, grants, the tree, the table of capabilities, sessions and locks;
+//! the core and its scripts; and the calls behind the commands that answer questions about grants.
 //!
 //! They show what no answer of a command shows; all else is asked in the talks of `capbench`. They stand in a crate of their own,
 //! since a crate with tests is proved twice. The asserts stand in helpers without a contract, and so do the reads of values, since
@@ -11,15 +11,13 @@ mod asking;
 #[cfg(test)]
 mod asserting;
 #[cfg(test)]
-mod calls;
+mod auditing;
 #[cfg(test)]
 mod caps;
 #[cfg(test)]
 mod entries;
 #[cfg(test)]
 mod failing_streams;
-#[cfg(test)]
-mod gates;
 #[cfg(test)]
 mod gathers;
 #[cfg(test)]
@@ -41,25 +39,17 @@ mod numbered_maps;
 #[cfg(test)]
 mod permitted;
 #[cfg(test)]
-mod questions;
-#[cfg(test)]
 mod recalls;
 #[cfg(test)]
 mod replies;
 #[cfg(test)]
-mod rows;
-#[cfg(test)]
 mod runs;
-#[cfg(test)]
-mod servers;
 #[cfg(test)]
 mod sessions;
 #[cfg(test)]
 mod sessions_end;
 #[cfg(test)]
 mod steps;
-#[cfg(test)]
-mod tables;
 #[cfg(test)]
 mod texts;
 #[cfg(test)]

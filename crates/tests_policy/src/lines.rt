@@ -18,11 +18,27 @@ const SPELLINGS: &[(&str, &[u8])] = &[
     ("\u{ff}\u{101}\u{80}", b"\xff\xc4\x81\x80"),
 ];
 
+#[test]
+fn texts_spell_bytes(rt: HostRuntime) {
+    for (text, wanted) in SPELLINGS {
+        let bytes = made(&rt, spelled(rt.alloc(), text), text);
+        same(&rt, bytes.as_slice(), *wanted, *text);
+    }
+}
+
 // The status of want of memory, and what is said of it.
 fn reported_want_of_memory(alloc: Global) -> (u8, Vec<u8>) {
     let mut faults = Vec::new(alloc);
     let status = report(AnswerFault::NoMemory, &mut faults);
     (status, faults)
+}
+
+// No command line of a test lacks memory.
+#[test]
+fn want_of_memory_has_its_line(rt: HostRuntime) {
+    let (status, faults) = reported_want_of_memory(rt.alloc());
+    same(&rt, status, 1, "status");
+    same(&rt, faults.as_slice(), b"capd: no memory\n", "faults");
 }
 
 fn denied_without_grants(alloc: Global) -> Result<Vec<u8>, AllocError> {
@@ -32,17 +48,13 @@ fn denied_without_grants(alloc: Global) -> Result<Vec<u8>, AllocError> {
     explain_line(alloc, Access::Read, &[], &denied)
 }
 
-// No command line of a test lacks memory.
 #[test]
-fn what_is_said_is_spelled(rt: HostRuntime) {
-    for (text, wanted) in SPELLINGS {
-        let bytes = made(&rt, spelled(rt.alloc(), text), text);
-        same(&rt, bytes.as_slice(), *wanted, *text);
-    }
-    let (status, faults) = reported_want_of_memory(rt.alloc());
-    same(&rt, status, 1, "status");
-    same(&rt, faults.as_slice(), b"capd: no memory\n", "faults");
+fn a_client_without_grants_is_denied(rt: HostRuntime) {
     let line = made(&rt, denied_without_grants(rt.alloc()), "a line");
-    let wanted = b"denied read / no grants";
-    same(&rt, line.as_slice(), wanted, "no grants");
+    same(
+        &rt,
+        line.as_slice(),
+        b"denied read / no grants",
+        "no grants",
+    );
 }

@@ -1,10 +1,9 @@
 //! Locks: the inodes that have them, the requests that wait for them, and the moves that they make for what is wanted and held.
 
-use crate::asserting::same;
-use crate::entries::{ONE_2, ONE_3, TWO_2};
-use crate::tables::Step::*;
-use crate::tables::{At, Step};
-use crate::texts::caps;
+use crate::asking::{Ask as Asked, core_of};
+use crate::asserting::{made, same};
+use crate::entries::{ONE_2, ONE_3, TWO_2, open, release};
+use crate::texts::{caps, cephfs};
 use capbits::{CapSet, ClientId, Ino, Part, Ticket};
 use capscript::{Ask, Core, Locks, Move, Wants, wants_on};
 use capspec::FsName;
@@ -12,11 +11,51 @@ use captable::{CapTable, Holder};
 use locktable::{LockState, State};
 use std::process::Abort;
 
-/// What there is, who is connected, and the file system.
-pub type Known<'a> = (&'a Core, &'a FsName);
+// The files 2 and 3, and 4, which was unlinked. The clients 1 and 2 may do all, and 3 may read; 4 is stale, and 5 has no session.
+const FILES_AND_CLIENTS: &[Asked] = &[
+    ("session 1 1 1 - allow rw", "done"),
+    ("session 2 2 2 - allow rw", "done"),
+    ("session 3 3 3 - allow r", "done"),
+    ("session 4 4 4 - allow rw", "done"),
+    ("create 1 1 f 0755", "ino 2"),
+    ("create 1 1 g 0755", "ino 3"),
+    ("create 1 1 h 0755", "ino 4"),
+    ("open 1 4 r", "caps 1 pFscr"),
+    ("unlink 1 4", "done"),
+    ("stale 4", "done"),
+];
 
-/// The number of the request.
-pub fn enqueue(locks: &mut Locks, holder: Holder, part: Part) -> Option<Ticket> {
+// What there is, who is connected, and the file system.
+type Known<'a> = (&'a Core, &'a FsName);
+
+// What happens, or is seen.
+enum Step {
+    // An inode has locks from now on, or none any more.
+    Add(u64),
+    Forget(u64),
+    Lock(u64, Part, Option<LockState>),
+    // A client wants these of an inode; its entry is made where there is none.
+    Want(Holder, &'static str),
+    Issue(Holder, &'static str),
+    Release(Holder, &'static str),
+    // A client asks for a part of an inode: the number under which its request waits.
+    Waits(Holder, Part, u64),
+    // The requests of a client are dropped.
+    DropRequests(u32),
+    // How many requests wait, and the last number that was given.
+    Queue(usize, u64),
+    // The locks make these moves, and no more.
+    Moves(&'static [Move]),
+    // What somebody wants of inode 2, and the loner with what it wants.
+    Wanted(&'static str, Option<(u32, &'static str)>),
+}
+
+use Step::*;
+
+// Where a test fails: the case, and the number of the step, and of the move in it.
+type At = (&'static str, usize, usize);
+
+fn enqueue(locks: &mut Locks, holder: Holder, part: Part) -> Option<Ticket> {
     if locks.enqueue_refusal().is_some() || locks.last() == u64::MAX {
         return None;
     }
@@ -32,13 +71,13 @@ fn make_next(rt: &impl Abort, (core, fs): Known, table: &CapTable, locks: &mut L
     next
 }
 
-/// Sees that the locks make these moves, and no more.
-pub fn make(
+// Sees that the locks make these moves, and no more.
+fn make(
     rt: &impl Abort,
     (known, table): (Known, &CapTable),
     locks: &mut Locks,
     want: &[Move],
-    (title, step): At,
+    (title, step): (&'static str, usize),
 ) {
     for (nth, want) in want.iter().enumerate() {
         same(
@@ -48,17 +87,16 @@ pub fn make(
             (title, step, nth),
         );
     }
-    let at = (title, step, want.len());
+    let at: At = (title, step, want.len());
     same(rt, make_next(rt, known, table, locks), Move::Settled, at);
 }
 
-/// What is wanted of inode 2.
-pub fn wants((core, fs): Known, table: &CapTable) -> Wants {
+// What is wanted of inode 2.
+fn wants((core, fs): Known, table: &CapTable) -> Wants {
     wants_on(fs, core.tree(), core.sessions(), table, Ino(2))
 }
 
-/// What somebody wants, and the loner with what it wants.
-pub fn wants_of(wanted: &str, loner: Option<(u32, &str)>) -> Wants {
+fn wants_of(wanted: &str, loner: Option<(u32, &str)>) -> Wants {
     let loner: Option<(ClientId, CapSet)> = match loner {
         Some((client, text)) => Some((ClientId(client), caps(text))),
         None => None,
@@ -66,6 +104,44 @@ pub fn wants_of(wanted: &str, loner: Option<(u32, &str)>) -> Wants {
     Wants {
         wanted: caps(wanted),
         loner,
+    }
+}
+
+// Makes the entry where there is none.
+fn want(rt: &impl Abort, table: &mut CapTable, holder: Holder, wanted: CapSet) {
+    let _refusal = open(rt, table, holder);
+    table.set_want(holder.client, holder.ino, wanted);
+}
+
+fn take(
+    rt: &impl Abort,
+    known: Known,
+    (table, locks): (&mut CapTable, &mut Locks),
+    step: &Step,
+    at: (&'static str, usize),
+) {
+    match step {
+        Add(ino) => made(rt, locks.add_ino(Ino(*ino)), at),
+        Forget(ino) => locks.drop_ino(Ino(*ino)),
+        Lock(ino, part, want) => same(rt, locks.state(Ino(*ino), *part), *want, at),
+        Want(h, text) => want(rt, table, *h, caps(text)),
+        Issue(h, text) => table.issue(h.client, h.ino, caps(text)),
+        Release(h, text) => same(rt, release(table, *h, text), Ok(()), at),
+        Waits(h, part, want) => same(rt, enqueue(locks, *h, *part), Some(Ticket(*want)), at),
+        DropRequests(client) => locks.drop_requests_of(ClientId(*client)),
+        Queue(count, last) => same(rt, (locks.waiting(), locks.last()), (*count, *last), at),
+        Moves(want) => make(rt, (known, table), locks, want, at),
+        Wanted(text, loner) => same(rt, wants(known, table), wants_of(text, *loner), at),
+    }
+}
+
+// Takes the steps with a new table and new locks, those of inode 2. No other function owns them.
+fn plays(rt: &(impl Abort + AllocGlobal), known: Known, title: &'static str, steps: &[Step]) {
+    let mut table = made(rt, CapTable::new(rt.alloc()), title);
+    let mut locks = made(rt, Locks::new(rt.alloc()), title);
+    made(rt, locks.add_ino(Ino(2)), title);
+    for (nth, step) in steps.iter().enumerate() {
+        take(rt, known, (&mut table, &mut locks), step, (title, nth));
     }
 }
 
@@ -228,18 +304,18 @@ const TO_MIX: Option<LockState> = Some(LockState::Gather {
 const WAITING: &[Step] = &[
     Want(ONE_2, WRITER),
     Moves(&[F_BEGINS_FIRST, END_F]),
-    Give(ONE_2, WRITER),
+    Issue(ONE_2, WRITER),
     Want(TWO_2, READER),
     Moves(&[F_BEGINS_MIX]),
     Lock(2, Part::F, TO_MIX),
     // Half of what is to be given back, and all.
-    Release(ONE_2, "Fsc", Ok(())),
+    Release(ONE_2, "Fsc"),
     Moves(&[]),
-    Release(ONE_2, "Fxb", Ok(())),
+    Release(ONE_2, "Fxb"),
     Moves(&[END_F]),
     Lock(2, Part::F, Some(LockState::Stable(State::Mix))),
     // Then the first stops to write, and both read.
-    Release(ONE_2, "Fw", Ok(())),
+    Release(ONE_2, "Fw"),
     Moves(&[F_BEGINS_SYNC, END_F]),
 ];
 
@@ -247,21 +323,21 @@ const WAITING: &[Step] = &[
 const A_GOAL_CHANGES: &[Step] = &[
     Want(ONE_2, WRITER),
     Moves(&[F_BEGINS_FIRST, END_F]),
-    Give(ONE_2, WRITER),
+    Issue(ONE_2, WRITER),
     Want(TWO_2, READER),
     Moves(&[F_BEGINS_MIX]),
     Want(TWO_2, "p"),
-    Release(ONE_2, "Fsxcb", Ok(())),
+    Release(ONE_2, "Fsxcb"),
     Moves(&[END_F, F_BEGINS_FIRST, END_F]),
     // What a stale client wants does not count; what it holds does.
     Want(ONE_2, "p"),
     Want(FOUR_2, WRITER),
-    Give(FOUR_2, "pFsr"),
+    Issue(FOUR_2, "pFsr"),
     Want(TWO_2, WRITER),
     Moves(&[F_BEGINS_SECOND]),
-    Release(ONE_2, "Frw", Ok(())),
+    Release(ONE_2, "Frw"),
     Moves(&[]),
-    Release(FOUR_2, "Fsr", Ok(())),
+    Release(FOUR_2, "Fsr"),
     Moves(&[END_F]),
 ];
 
@@ -299,24 +375,24 @@ const IN_ORDER: &[Step] = &[
     Want(ONE_3, WRITER),
     Want(ONE_2, WRITER),
     Moves(&[F_BEGINS_FIRST, END_F, F3_BEGINS_FIRST, END_F3]),
-    Give(ONE_3, WRITER),
-    Give(ONE_2, WRITER),
+    Issue(ONE_3, WRITER),
+    Issue(ONE_2, WRITER),
     Want(TWO_3, READER),
     Want(TWO_2, READER),
     Moves(&[F_BEGINS_MIX, F3_BEGINS_MIX]),
-    Release(ONE_3, "Fsxcb", Ok(())),
-    Release(ONE_2, "Fsxcb", Ok(())),
+    Release(ONE_3, "Fsxcb"),
+    Release(ONE_2, "Fsxcb"),
     Moves(&[END_F, END_F3]),
     // A beginning of the lesser inode, and an end of the greater.
     Want(TWO_3, "p"),
     Moves(&[F3_BEGINS_FIRST, END_F3]),
-    Give(ONE_3, "Fsxcb"),
+    Issue(ONE_3, "Fsxcb"),
     Want(TWO_3, READER),
     Moves(&[F3_BEGINS_MIX]),
     Want(ONE_2, "p"),
-    Release(ONE_2, "Frw", Ok(())),
+    Release(ONE_2, "Frw"),
     Want(TWO_2, "pLsx"),
-    Release(ONE_3, "Fsxcb", Ok(())),
+    Release(ONE_3, "Fsxcb"),
     Moves(&[END_F3, L_BEGINS_SECOND, END_L]),
 ];
 
@@ -392,7 +468,7 @@ const WANTED: &[Step] = &[
     Wanted("pFscr", Some((3, "pFscr"))),
 ];
 
-pub const CASES: &[(&'static str, &'static [Step])] = &[
+const CASES: &[(&str, &[Step])] = &[
     ("what does not count moves no lock", NOTHING_MOVES),
     ("a lock goes to what is wanted", GOALS),
     ("a gather waits for what is held", WAITING),
@@ -408,3 +484,13 @@ pub const CASES: &[(&'static str, &'static [Step])] = &[
     ),
     ("wants count as far as they are permitted", WANTED),
 ];
+
+#[test]
+fn locks_move_for_what_is_wanted_and_held(rt: HostRuntime) {
+    let core = core_of(&rt, FILES_AND_CLIENTS);
+    let fs = cephfs(&rt);
+    for (title, steps) in CASES {
+        plays(&rt, (&core, &fs), title, steps);
+    }
+    drop(core);
+}

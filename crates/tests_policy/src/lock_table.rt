@@ -80,6 +80,13 @@ const CELLS: &[Cell] = &[
     (Part::X, (State::Lock, Some(OWN)), &[], &[]),
 ];
 
+#[test]
+fn every_cell_of_the_table(rt: HostRuntime) {
+    for cell in CELLS {
+        has_cell(&rt, *cell);
+    }
+}
+
 // A state, a request at the head, and whether the state serves it. None serves an empty queue.
 const SERVED: &[(State, Head, bool)] = &[
     (State::Sync, Head::Change, false),
@@ -96,6 +103,13 @@ const SERVED: &[(State, Head, bool)] = &[
     (OWN, Head::Read(TWO), false),
     (OWN, Head::Empty, false),
 ];
+
+#[test]
+fn what_each_state_serves(rt: HostRuntime) {
+    for (state, head, wanted) in SERVED {
+        same(&rt, serves(*state, *head), *wanted, (*state, *head));
+    }
+}
 
 // What stands at the head of the queue of a part, what is wanted of it, and whether client 1 alone wants it; from which states
 // its lock goes, and where: none where it stays.
@@ -188,13 +202,7 @@ const OF_SEVERAL: &[Goal] = &[
 ];
 
 #[test]
-fn each_row_of_the_table(rt: HostRuntime) {
-    for cell in CELLS {
-        has_cell(&rt, *cell);
-    }
-    for (state, head, wanted) in SERVED {
-        same(&rt, serves(*state, *head), *wanted, (*state, *head));
-    }
+fn where_a_lock_goes(rt: HostRuntime) {
     for goals in [BY_THE_HEAD, UNWANTED, OF_A_LONER, OF_SEVERAL] {
         for goal in goals {
             goes(&rt, *goal);

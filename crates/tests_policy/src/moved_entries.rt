@@ -2,7 +2,7 @@
 //! back, in the step in which the rename is served.
 
 use crate::asking::Beside::Locks;
-use crate::asking::{Case, Step, Then};
+use crate::asking::{Case, Step};
 use crate::looking::Look;
 
 // The row of the step has the ends in their order. The file lock of inode 2 stands beside each step.
@@ -68,5 +68,5 @@ pub const CASES: &[Case] = &[(
     "the row that serves renames keeps their ends",
     100,
     &[(1, Locks, A_DIRECTORY_IS_MOVED)],
-    Then::Rows(THE_ENDS_IN_THE_ROW),
+    THE_ENDS_IN_THE_ROW,
 )];

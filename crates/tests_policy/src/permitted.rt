@@ -22,15 +22,16 @@ fn two_rules() -> Rules {
     Rules::from(given)
 }
 
-// Sees that a list of rules gives its vector back.
-fn gives_back(rt: &impl Abort, rules: Rules) {
+#[test]
+fn a_list_of_rules_gives_its_vector_back(rt: HostRuntime) {
+    let rules = two_rules();
     let wanted: &[Rule] = &[Rule::Path, Rule::NoWrite];
-    let last = present(rt, rules.iter().last(), "a rule").number();
+    let last = present(&rt, rules.iter().last(), "a rule").number();
     let found = (rules.len(), rules.is_empty(), last);
-    same(rt, found, (2, false, 5), "sizes");
-    same(rt, rules.as_slice(), wanted, "as_slice");
+    same(&rt, found, (2, false, 5), "sizes");
+    same(&rt, rules.as_slice(), wanted, "as_slice");
     let given = rules.into_inner();
-    same(rt, given.as_slice(), wanted, "into_inner");
+    same(&rt, given.as_slice(), wanted, "into_inner");
 }
 
 // All that a client may hold: nothing, for reading, for writing, and for both.
@@ -73,7 +74,6 @@ fn permit(rt: &(impl Abort + AllocGlobal), row: &Row) {
 
 #[test]
 fn reading_and_writing_permit_their_capabilities(rt: HostRuntime) {
-    gives_back(&rt, two_rules());
     for row in PERMITTED {
         permit(&rt, row);
     }

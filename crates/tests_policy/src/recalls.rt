@@ -1,7 +1,7 @@
 //! Who is asked to give back, and who hears of it; and who comes off the blocklist.
 
 use crate::asking::Beside::Locks;
-use crate::asking::{Case, Step, Then};
+use crate::asking::{Case, Step};
 use crate::looking::Look;
 
 // Two clients share a file, and a change waits for both.
@@ -38,5 +38,5 @@ pub const CASES: &[Case] = &[(
     "a recall moves nothing",
     100,
     &[(1, Locks, A_CHANGE_WAITS), (1, Locks, A_RECALL_MEANWHILE)],
-    Then::Rows(ITS_ROW),
+    ITS_ROW,
 )];

@@ -4,27 +4,14 @@ use crate::asserting::{made, same};
 use capscript::{ScriptFault, Watched, run};
 use std::alloc::Global;
 use std::io;
-use std::io::{Read, Write};
 use std::process::Abort;
-
-/// Runs over a reader and a writer: how it ends, and whether the reader's flag and the writer's are set. No other function runs: what is
-/// promised of it stays behind here.
-pub fn run_over(
-    alloc: Global,
-    reads: impl Read + Drop,
-    writes: impl Write + Drop,
-) -> (Result<(), ScriptFault>, (bool, bool)) {
-    let mut reader = Watched::new(reads);
-    let mut writer = Watched::new(writes);
-    let ended = run(alloc, &mut reader, &mut writer);
-    let flags = (reader.failed(), writer.failed());
-    (ended, flags)
-}
 
 /// What a run over a script writes, and how it ends, in words behind an equals sign.
 pub fn transcript(rt: &impl Abort, alloc: Global, script: &[u8]) -> Vec<u8> {
     let mut text = Vec::new(alloc);
-    let (ended, _flags) = run_over(alloc, script, &mut text);
+    let mut reader = Watched::new(script);
+    let mut writer = Watched::new(&mut text);
+    let ended = run(alloc, &mut reader, &mut writer);
     if let Err(fault) = ended {
         let word = made(rt, format!(in alloc; "={fault}"), "a fault");
         made(rt, text.extend_from_slice(word.as_bytes()), "a fault");
@@ -59,11 +46,19 @@ ino 2
 refused NoEnt
 ";
 
-// Line feeds without end.
+// Runs over line feeds without end: how it ends, whether the reader's flag and the writer's are set, and what is written.
+fn run_without_end(alloc: Global) -> (Result<(), ScriptFault>, (bool, bool), Vec<u8>) {
+    let mut text = Vec::new(alloc);
+    let mut reader = Watched::new(io::repeat(b'\n'));
+    let mut writer = Watched::new(&mut text);
+    let ended = run(alloc, &mut reader, &mut writer);
+    let flags = (reader.failed(), writer.failed());
+    (ended, flags, text)
+}
+
 #[test]
 fn scripts_without_end_are_not_run(rt: HostRuntime) {
-    let mut text = Vec::new(rt.alloc());
-    let (ended, flags) = run_over(rt.alloc(), io::repeat(b'\n'), &mut text);
+    let (ended, flags, text) = run_without_end(rt.alloc());
     same(&rt, ended, Err(ScriptFault::ReadFault), "the end");
     same(&rt, flags, (false, false), "the flags");
     same(&rt, text.as_slice(), b"", "the text");

@@ -1,11 +1,9 @@
 //! Sessions: what is kept of each client, and a copy of them.
 
-use crate::asking::Beside::Nothing;
-use crate::asking::{Case, Step, Then};
+use crate::asking::{Ask, core_of};
 use crate::asserting::{made, present, same};
 use crate::texts::line_of;
 use capbits::ClientId;
-use capscript::Core;
 use capspec::Flags4;
 use sessiontab::{Connected, MAX_BLOCKED, MAX_SESSIONS, Sessions, Status};
 use std::alloc::Global;
@@ -41,20 +39,20 @@ fn same_in_a_copy(rt: &impl Abort, alloc: Global, connected: &Connected) {
     same(rt, found.as_str(), wanted.as_str(), "a copy");
 }
 
-const COMING_AND_GOING: &[Step] = &[
-    ("session 1 1 1 - allow rws", "done", ""),
-    ("session 3 3 3 - allow r path=/a, allow rwps", "done", ""),
-    ("session 2 2 2 - allow rw", "done", ""),
-    ("session 4 4 4 - allow rw", "done", ""),
-    ("session 4 4 4 - allow rw", "refused SessionOpen", ""),
-    ("stale 3", "done", ""),
-    ("stale 3", "refused SessionStale", ""),
-    ("evict 2", "done", ""),
-    ("evict 2", "refused NoSession", ""),
-    ("session 2 2 2 - allow rw", "refused Blocklisted", ""),
+const COMING_AND_GOING: &[Ask] = &[
+    ("session 1 1 1 - allow rws", "done"),
+    ("session 3 3 3 - allow r path=/a, allow rwps", "done"),
+    ("session 2 2 2 - allow rw", "done"),
+    ("session 4 4 4 - allow rw", "done"),
+    ("session 4 4 4 - allow rw", "refused SessionOpen"),
+    ("stale 3", "done"),
+    ("stale 3", "refused SessionStale"),
+    ("evict 2", "done"),
+    ("evict 2", "refused NoSession"),
+    ("session 2 2 2 - allow rw", "refused Blocklisted"),
     // Other grants are for a stale session too, and leave all else.
-    ("regrant 3 allow rwp", "done", ""),
-    ("regrant 2 allow rwp", "refused NoSession", ""),
+    ("regrant 3 allow rwp", "done"),
+    ("regrant 2 allow rwp", "refused NoSession"),
 ];
 
 const LEFT: &[Look] = &[
@@ -65,18 +63,13 @@ const LEFT: &[Look] = &[
     (9, None, false, None, None),
 ];
 
-/// Sees what is left of each client, and that a copy has the same.
-pub fn see_all(rt: &impl Abort, alloc: Global, core: &Core) {
-    same(rt, (MAX_SESSIONS, MAX_BLOCKED), (64, 1024), "the most");
+#[test]
+fn each_client_has_its_own_session(rt: HostRuntime) {
+    same(&rt, (MAX_SESSIONS, MAX_BLOCKED), (64, 1024), "the most");
+    let core = core_of(&rt, COMING_AND_GOING);
     for look in LEFT {
-        see(rt, core.sessions(), *look);
+        see(&rt, core.sessions(), *look);
     }
-    same_in_a_copy(rt, alloc, core.sessions().connected());
+    same_in_a_copy(&rt, rt.alloc(), core.sessions().connected());
+    drop(core);
 }
-
-pub const CASES: &[Case] = &[(
-    "each client has its own session",
-    100,
-    &[(1, Nothing, COMING_AND_GOING)],
-    Then::Sessions,
-)];

@@ -1,7 +1,7 @@
 //! Sessions that end, and what ends with them.
 
 use crate::asking::Beside::Locks;
-use crate::asking::{Case, Step, Then};
+use crate::asking::{Case, Step};
 use crate::looking::Look;
 
 // Four requests wait, two of each client, the change of the second first.
@@ -51,5 +51,5 @@ pub const CASES: &[Case] = &[(
     "what is dropped is kept before what is served",
     100,
     &[(1, Locks, FOUR_WAIT), (1, Locks, THE_FIRST_CLOSES)],
-    Then::Rows(WHAT_ENDED),
+    WHAT_ENDED,
 )];

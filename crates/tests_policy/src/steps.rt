@@ -9,29 +9,27 @@ use locktable::{LockState, State};
 use std::alloc::Global;
 use std::process::Abort;
 
-// The word of a state. Only the clients 1 and 2 are seen.
-fn state_word(state: State) -> &'static str {
-    match state {
+fn state_text(rt: &impl Abort, alloc: Global, state: State) -> String {
+    let word = match state {
         State::Sync => "SYNC",
         State::Lock => "LOCK",
         State::Mix => "MIX",
-        State::Excl(ClientId(1)) => "EXCL(1)",
-        State::Excl(ClientId(2)) => "EXCL(2)",
-        State::Excl(_) => "EXCL",
-    }
+        State::Excl(client) => return made(rt, format!(in alloc; "EXCL({client})"), "a state"),
+    };
+    text_of(rt, alloc, word.as_bytes())
 }
 
 // A lock by its state, or by the two of a gather; a dash where there is none.
 fn lock_text(rt: &impl Abort, alloc: Global, lock: Option<LockState>) -> String {
-    let word = match lock {
-        None => "-",
-        Some(LockState::Stable(state)) => state_word(state),
+    match lock {
+        None => text_of(rt, alloc, b"-"),
+        Some(LockState::Stable(state)) => state_text(rt, alloc, state),
         Some(LockState::Gather { from, to }) => {
-            let (from, to) = (state_word(from), state_word(to));
-            return made(rt, format!(in alloc; "{from} to {to}"), "a gather");
+            let from = state_text(rt, alloc, from);
+            let to = state_text(rt, alloc, to);
+            made(rt, format!(in alloc; "{from} to {to}"), "a gather")
         }
-    };
-    text_of(rt, alloc, word.as_bytes())
+    }
 }
 
 fn entry_text(rt: &impl Abort, alloc: Global, entry: Option<Entry>) -> String {

@@ -1,7 +1,6 @@
 //! Trees: where inodes stand, and a copy that goes its own way.
 
-use crate::asking::Beside::Nothing;
-use crate::asking::{Case, Step, Then, take_steps};
+use crate::asking::{Ask, ask, core_of};
 use crate::asserting::{made, present, same};
 use crate::texts::line_of;
 use capbits::Ino;
@@ -11,30 +10,30 @@ use std::alloc::Global;
 use std::process::Abort;
 
 // A file with an owner and an attribute, in a directory with a snapshot, beside a stray. Whoever has a file open keeps it as a stray.
-const BEFORE: &[Step] = &[
-    ("session 1 10 10 - allow rwps", "done", ""),
-    ("mkdir 1 1 d 0755", "ino 2", ""),
-    ("create 1 2 f 0755", "ino 3", ""),
-    ("create 1 1 g 0755", "ino 4", ""),
-    ("open 1 4 r", "caps 1 pFscr", ""),
-    ("unlink 1 4", "done", ""),
-    ("alter 1 3 chown 5", "done", ""),
-    ("alter 1 3 chgrp 6", "done", ""),
-    ("alter 1 3 chmod 0640", "done", ""),
-    ("alter 1 3 setx x 31", "done", ""),
-    ("mksnap 1 2 s", "done", ""),
-    ("open 1 3 r", "caps 1 pFscr", ""),
+const BEFORE: &[Ask] = &[
+    ("session 1 10 10 - allow rwps", "done"),
+    ("mkdir 1 1 d 0755", "ino 2"),
+    ("create 1 2 f 0755", "ino 3"),
+    ("create 1 1 g 0755", "ino 4"),
+    ("open 1 4 r", "caps 1 pFscr"),
+    ("unlink 1 4", "done"),
+    ("alter 1 3 chown 5", "done"),
+    ("alter 1 3 chgrp 6", "done"),
+    ("alter 1 3 chmod 0640", "done"),
+    ("alter 1 3 setx x 31", "done"),
+    ("mksnap 1 2 s", "done"),
+    ("open 1 3 r", "caps 1 pFscr"),
 ];
 
-const BEHIND: &[Step] = &[
-    ("alter 1 3 chown 15", "done", ""),
-    ("alter 1 3 chgrp 16", "done", ""),
-    ("alter 1 3 chmod 0777", "done", ""),
-    ("alter 1 3 setx x 32", "done", ""),
-    ("alter 1 1 setx y 33", "done", ""),
-    ("mksnap 1 2 t", "done", ""),
-    ("unlink 1 3", "done", ""),
-    ("create 1 1 h 0755", "ino 5", ""),
+const BEHIND: &[Ask] = &[
+    ("alter 1 3 chown 15", "done"),
+    ("alter 1 3 chgrp 16", "done"),
+    ("alter 1 3 chmod 0777", "done"),
+    ("alter 1 3 setx x 32", "done"),
+    ("alter 1 1 setx y 33", "done"),
+    ("mksnap 1 2 t", "done"),
+    ("unlink 1 3", "done"),
+    ("create 1 1 h 0755", "ino 5"),
 ];
 
 // All that is kept of each inode.
@@ -63,12 +62,11 @@ fn see(rt: &impl Abort, tree: &Tree) {
     same(rt, path.as_slice(), names, "its names");
 }
 
-/// Sees the tree, and changes it behind a copy, which stays as it was.
-pub fn copy_stays(rt: &impl Abort, alloc: Global, core: &mut Core) {
-    see(rt, core.tree());
+// Changes the tree behind a copy, which stays as it was.
+fn copy_stays(rt: &impl Abort, alloc: Global, core: &mut Core) {
     let before = inodes_text(rt, alloc, core.tree());
     let copy = made(rt, core.tree().copy(), "a copy");
-    take_steps(rt, alloc, core, (1, Nothing, BEHIND), "behind a copy");
+    ask(rt, alloc, core, BEHIND);
     let text = inodes_text(rt, alloc, &copy);
     same(rt, text.as_str(), before.as_str(), "the copy");
     see(rt, &copy);
@@ -76,9 +74,10 @@ pub fn copy_stays(rt: &impl Abort, alloc: Global, core: &mut Core) {
     same(rt, text.as_str() == before.as_str(), false, "the tree");
 }
 
-pub const CASES: &[Case] = &[(
-    "a copy of a tree goes its own way",
-    100,
-    &[(1, Nothing, BEFORE)],
-    Then::Tree,
-)];
+#[test]
+fn a_copy_of_a_tree_goes_its_own_way(rt: HostRuntime) {
+    let mut core = core_of(&rt, BEFORE);
+    see(&rt, core.tree());
+    copy_stays(&rt, rt.alloc(), &mut core);
+    drop(core);
+}

@@ -1,7 +1,7 @@
 //! What a step changes of what readers see.
 
 use crate::asking::Beside::Changes;
-use crate::asking::{Case, Step, Then};
+use crate::asking::{Case, Step};
 use crate::asserting::made;
 use crate::texts::text_of;
 use capgrant::Attr;
@@ -194,18 +194,18 @@ pub const CASES: &[Case] = &[
             (1, Changes, WHAT_WAITS_IS_TOLD_LATER),
             (1, Changes, SESSIONS_TURN),
         ],
-        Then::Rows(&[]),
+        &[],
     ),
     (
         "a client that goes takes its strays along",
         100,
         &[(1, Changes, STRAYS_GO)],
-        Then::Rows(&[]),
+        &[],
     ),
     (
         "a step that is not answered tells nothing",
         2,
         &[(1, Changes, TWO_ROWS)],
-        Then::Rows(&[]),
+        &[],
     ),
 ];

@@ -1,18 +1,17 @@
 //! Worked runs: a view that follows a server by the changes that it is told, and what it answers.
 
-use crate::asking::Beside::Nothing;
-use crate::asking::{Case, Step, Then};
+use crate::asking::{Ask, core_of};
 use crate::asserting::{made, present, same};
 use crate::texts::{Owner, attr_of, caller_of, cephfs, grants_of};
 use capbits::{ClientId, Ino};
 use capgrant::{Access, Verdict};
-use capscript::{Core, Question, Unknown, View, ViewChange};
+use capscript::{Question, Unknown, View, ViewChange};
 use inotree::Name;
 use std::process::Abort;
 
-/// What a view is told. The first number is that of an inode or a client.
+// What a view is told. The first number is that of an inode or a client.
 #[derive(Clone, Copy)]
-pub enum Told {
+enum Told {
     // Made in a directory under a name, as a directory or not.
     Born(u64, u64, &'static [u8], bool),
     Moved(u64, u64, &'static [u8]),
@@ -28,12 +27,15 @@ pub enum Told {
 
 use Told::*;
 
-/// What a client asks of an inode, and the answer: `grant` with a number, the word of the rule by which the first grant fails,
-/// or why there is no verdict.
-pub type Look = (u32, u64, Access, &'static str);
+// What a client asks of an inode, and the answer: `grant` with a number, the word of the rule by which the first grant fails,
+// or why there is no verdict.
+type Look = (u32, u64, Access, &'static str);
 
-/// What is told, whether the view can follow, and what is answered then.
-pub type Round = (&'static [(Told, bool)], &'static [Look]);
+// What is told, whether the view can follow, and what is answered then.
+type Round = (&'static [(Told, bool)], &'static [Look]);
+
+// What it shows, what a core was asked whose view it is, and the rounds.
+type Case = (&'static str, &'static [Ask], &'static [Round]);
 
 // Where a test fails: the case, the number of the round, and of what is told or asked in it.
 type At = (&'static str, usize, usize);
@@ -89,8 +91,8 @@ fn follow(rt: &(impl Abort + AllocGlobal), view: &mut View, (told, want): (Told,
 
 // ---- what is answered
 
-/// What was answered, in short. No case is decided by another grant than the first.
-pub fn word_of(answer: Result<Verdict, Unknown>) -> &'static str {
+// No case is decided by another grant than the first.
+fn word_of(answer: Result<Verdict, Unknown>) -> &'static str {
     match answer {
         Ok(Verdict::Allowed { grant: 1 }) => "grant 1",
         Ok(Verdict::Allowed { grant: _ }) => "another grant",
@@ -132,13 +134,11 @@ fn play(
     }
 }
 
-/// Plays the rounds on a copy of a view of the core, and then on the view itself, which is still as it was.
-pub fn follow_all(
-    rt: &(impl Abort + AllocGlobal),
-    core: &Core,
-    (title, rounds): (&'static str, &'static [Round]),
-) {
+// Plays the rounds on a copy of a view of a core that was asked this, and then on the view itself, which is still as it was.
+fn runs(rt: &(impl Abort + AllocGlobal), (title, asks, rounds): Case) {
+    let core = core_of(rt, asks);
     let mut view = made(rt, View::of(core.tree(), core.sessions()), title);
+    drop(core);
     let mut copy = made(rt, view.copy(), title);
     play(rt, &mut copy, (title, rounds));
     play(rt, &mut view, (title, rounds));
@@ -294,38 +294,25 @@ const WITH_A_SNAPSHOT: &[Round] = &[(
 )];
 
 // A directory with a snapshot, and nobody has a session.
-const A_SNAPSHOT: &[Step] = &[
-    ("session 9 10 10 - allow rws", "done", ""),
-    ("mkdir 9 1 d 0755", "ino 2", ""),
-    ("mksnap 9 2 s", "done", ""),
-    ("close 9", "done", ""),
+const A_SNAPSHOT: &[Ask] = &[
+    ("session 9 10 10 - allow rws", "done"),
+    ("mkdir 9 1 d 0755", "ino 2"),
+    ("mksnap 9 2 s", "done"),
+    ("close 9", "done"),
 ];
 
-pub const CASES: &[Case] = &[
-    (
-        "an inode is judged where it stands",
-        100,
-        &[],
-        Then::View(MOVED),
-    ),
-    ("what is gone has no verdict", 100, &[], Then::View(GONE)),
-    (
-        "an inode is judged by whose it is",
-        100,
-        &[],
-        Then::View(SETTLED),
-    ),
-    ("the last grants count", 100, &[], Then::View(REGRANTED)),
-    (
-        "what does not fit changes nothing",
-        100,
-        &[],
-        Then::View(OF_ANOTHER),
-    ),
-    (
-        "a directory had a snapshot",
-        100,
-        &[(1, Nothing, A_SNAPSHOT)],
-        Then::View(WITH_A_SNAPSHOT),
-    ),
+const CASES: &[Case] = &[
+    ("an inode is judged where it stands", &[], MOVED),
+    ("what is gone has no verdict", &[], GONE),
+    ("an inode is judged by whose it is", &[], SETTLED),
+    ("the last grants count", &[], REGRANTED),
+    ("what does not fit changes nothing", &[], OF_ANOTHER),
+    ("a directory had a snapshot", A_SNAPSHOT, WITH_A_SNAPSHOT),
 ];
+
+#[test]
+fn a_view_follows_what_it_is_told(rt: HostRuntime) {
+    for case in CASES {
+        runs(&rt, *case);
+    }
+}

@@ -1,7 +1,7 @@
 //! Who waits for a file, step by step, and what is kept of it.
 
 use crate::asking::Beside::Locks;
-use crate::asking::{Case, Step, Then};
+use crate::asking::{Case, Step};
 use crate::looking::Look;
 
 const ONE_HAS_A_FILE: &[Step] = &[
@@ -183,30 +183,30 @@ pub const CASES: &[Case] = &[
             (1, Locks, TWO_REQUESTS),
             (1, Locks, A_REQUEST_FOR_VALUES),
         ],
-        Then::Rows(THE_REQUESTS_KEPT),
+        THE_REQUESTS_KEPT,
     ),
     (
         "what is served at once has no other end",
         100,
         &[(1, Locks, SERVED_AT_ONCE)],
-        Then::Rows(SERVED_AT_ONCE_KEPT),
+        SERVED_AT_ONCE_KEPT,
     ),
     (
         "a flush waits for no lock",
         100,
         &[(1, Locks, ONE_HAS_A_FILE), (1, Locks, A_FLUSH)],
-        Then::Rows(&[]),
+        &[],
     ),
     (
         "an unlinked file keeps its locks until it is forgotten",
         100,
         &[(1, Locks, ONE_HAS_A_FILE), (1, Locks, AN_UNLINKED_FILE)],
-        Then::Rows(&[]),
+        &[],
     ),
     (
         "a denial when served is in the row that serves",
         100,
         &[(1, Locks, DENIED_WHEN_SERVED)],
-        Then::Rows(DENIED_WHEN_SERVED_KEPT),
+        DENIED_WHEN_SERVED_KEPT,
     ),
 ];

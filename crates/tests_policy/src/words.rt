@@ -6,25 +6,19 @@ use std::alloc::Global;
 use std::env::{Env, FillError};
 use std::process::Abort;
 
-// A command line of words of these lengths. Its first word is the program's name. The bytes of a word are those of the text from its number on.
+// A command line. Its first word is the program's name.
 #[derive(Drop)]
 struct Line<'a> {
-    lengths: &'a [usize],
-    text: &'a [u8],
-}
-
-fn word<'a>(line: &Line<'a>, number: usize) -> Option<&'a [u8]> {
-    let length = *line.lengths.get(number)?;
-    line.text.get(number..number.checked_add(length)?)
+    words: &'a [Vec<u8>],
 }
 
 impl Env for Line<'_> {
     fn arg(&self, i: usize, buf: &mut [u8]) -> Result<usize, FillError> {
-        let word = word(self, i).ok_or(FillError::NotPresent)?;
+        let word = self.words.get(i).ok_or(FillError::NotPresent)?;
         if word.len() > buf.len() {
             return Err(FillError::TooLong);
         }
-        buf[..word.len()].copy_from_slice(word);
+        buf[..word.len()].copy_from_slice(word.as_slice());
         Ok(word.len())
     }
 
@@ -37,28 +31,43 @@ impl Env for Line<'_> {
     }
 }
 
-// Sees that all words behind the first are read.
-fn are_read(rt: &impl Abort, alloc: Global, line: &Line<'_>) {
-    let found = made(rt, words(line, alloc), "the words");
-    let behind = line.lengths.len().saturating_sub(1);
-    same(rt, found.len(), behind, line.lengths);
-    for (place, read) in found.iter().enumerate() {
-        same(
+// The bytes of a word are its number and those that follow.
+fn word_of(rt: &impl Abort, alloc: Global, number: usize, length: usize) -> Vec<u8> {
+    let mut word = Vec::new(alloc);
+    for place in 0..length {
+        made(
             rt,
-            Some(read.as_slice()),
-            word(line, place.saturating_add(1)),
-            place,
+            word.push((number.wrapping_add(place) % 251) as u8),
+            number,
         );
     }
+    word
 }
 
-// Bytes that follow each other.
-fn bytes(rt: &impl Abort, alloc: Global, count: usize) -> Vec<u8> {
-    let mut text = Vec::new(alloc);
-    for place in 0..count {
-        made(rt, text.push((place % 251) as u8), place);
+// A line whose words have these lengths.
+fn line_of(rt: &impl Abort, alloc: Global, lengths: &[usize]) -> Vec<Vec<u8>> {
+    let mut line = Vec::new(alloc);
+    for (number, length) in lengths.iter().enumerate() {
+        made(rt, line.push(word_of(rt, alloc, number, *length)), number);
     }
-    text
+    line
+}
+
+// Sees that all words behind the first are read from a line whose words have these lengths.
+fn are_read(rt: &(impl Abort + AllocGlobal), lengths: &[usize]) {
+    let line = line_of(rt, rt.alloc(), lengths);
+    let found = made(
+        rt,
+        words(
+            &Line {
+                words: line.as_slice(),
+            },
+            rt.alloc(),
+        ),
+        "the words",
+    );
+    let wanted = line.as_slice().get(1..).unwrap_or(&[]);
+    same(rt, found.as_slice(), wanted, lengths);
 }
 
 // The lengths of the words of a line, that of the program's name first.
@@ -78,12 +87,7 @@ const LINES: &[&[usize]] = &[
 
 #[test]
 fn all_bytes_of_all_words_are_read(rt: HostRuntime) {
-    let text = bytes(&rt, rt.alloc(), 70_100);
     for lengths in LINES {
-        let line = Line {
-            lengths,
-            text: text.as_slice(),
-        };
-        are_read(&rt, rt.alloc(), &line);
+        are_read(&rt, lengths);
     }
 }

@@ -1,4 +1,4 @@
-use Rattle.tests_policy.proofs.servers.rows_by.Given as goal
+use Rattle.tests_server.proofs.servers.rows_by.Given as goal
 
 abbrev pub ghosts-served-L-Ledger : goal.ghosts-served-L-Ledger
 ghosts-served-L-Ledger g a = record { name = a.blank.name; parts = a.blank.parts }

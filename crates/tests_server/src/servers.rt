@@ -2,12 +2,13 @@
 ghost use Rattle.std.specs.Prelude.{◌≡◌};
 ghost use Rattle.capserver.specs.Opened.{opened};
 
-use crate::asserting::{made, same};
-use crate::calls::{Phase, take_phase};
-use crate::gates::{Guard, Manner, Signs, in_time, open_gate};
+use crate::asserting::made;
+use crate::calls::{Case, take_turns};
+use crate::holding::{Hold, Signs, ask_beside, open_gate};
 use crate::rows::{Numbers, numbers};
+use crate::threads::{make_all, make_two};
 use capscript::file_system;
-use capserver::{CapServer, Opening, Pass, Server, StartFault};
+use capserver::{CapServer, Opening, Server, StartFault};
 use std::alloc::{AllocError, Global};
 use std::marker::Brand;
 use std::process::Abort;
@@ -15,29 +16,26 @@ use std::sync::ledger::Blank;
 use std::sync::{Arc, Wait};
 use std::thread::Threads;
 
-/// What it shows, how many rows the history takes, how many passes there are, and what they do, one phase after the other.
-pub type Case = (&'static str, u32, u32, &'static [Phase]);
+/// How many rows the history of a server in a test may have, where that doesn't matter.
+pub const MANY_ROWS: u32 = 1000;
+
+/// What is done at a server.
+#[derive(Clone, Copy)]
+pub enum Work {
+    /// Its first pass takes turns.
+    Turns(Case),
+    /// Each pass makes files, one after the other.
+    Files,
+    /// Two passes make files at once.
+    Both,
+    /// The first pass asks while a call of the second is held.
+    Beside,
+}
 
 // An opening on a root alone, for a history of at most so many rows.
 fn opening(alloc: Global, max_rows: u32) -> Result<Opening, AllocError> {
     let (fs, tree) = file_system(alloc)?;
     Opening::new(alloc, fs, tree, max_rows)
-}
-
-fn take_phases<L: Server + Send + Sync, R: Abort + Threads + Wait + Sync>(
-    rt: &R,
-    alloc: Global,
-    server: &CapServer<Guard, L>,
-    signs: &Signs,
-    passes: Vec<Pass<L>>,
-    (title, phases): (&'static str, &'static [Phase]),
-) -> Vec<Pass<L>> {
-    let mut passes = passes;
-    for phase in phases {
-        passes = take_phase(rt, alloc, server, signs, passes, (title, *phase));
-    }
-    same(rt, in_time(signs), "in time", title);
-    passes
 }
 
 // Serves with so many passes, and answers the rows.
@@ -47,8 +45,8 @@ fn served<L: Server + Send + Sync, R: Abort + Threads + Wait + Sync>(
     opening: Opening,
     blank: Blank,
     count: u32,
-    held: (Guard, Arc<Signs, Global>),
-    work: (&'static str, &'static [Phase]),
+    held: (Hold, Arc<Signs, Global>),
+    work: Work,
 ) -> Result<Vec<Numbers>, StartFault>
     requires opening { opening ≡ opened L.opening L.max_rows L.history }
     requires name { blank.name ≡ L.name }
@@ -56,23 +54,28 @@ fn served<L: Server + Send + Sync, R: Abort + Threads + Wait + Sync>(
     requires passes { count ≡ L.passes }
 {
     let (gate, signs) = held;
-    let (server, passes) = CapServer::<Guard, L>::start(rt, opening, blank, count, gate)?;
-    let back = take_phases(rt, alloc, &server, &signs, passes, work);
+    let (server, passes) = CapServer::<Hold, L>::start(rt, opening, blank, count, gate)?;
+    let back = match work {
+        Work::Turns(case) => take_turns(rt, alloc, &server, passes, case),
+        Work::Files => make_all(rt, alloc, &server, passes),
+        Work::Both => make_two(rt, alloc, &server, passes),
+        Work::Beside => ask_beside(rt, alloc, &server, &signs, passes),
+    };
     let closed = server.close(rt, back);
     let rows = made(rt, numbers(alloc, closed.core.history()), "rows");
     drop(closed);
     Ok(rows)
 }
 
-/// The rows of a server on a root alone, when this was done.
+/// The rows of a server on a root alone, with so many passes and a history of so many rows, when this was done.
 pub fn rows_by<R: AllocGlobal + Abort + Threads + Wait + Sync>(
     rt: &R,
-    (title, max_rows, count, phases): Case,
+    max_rows: u32,
+    count: u32,
+    work: Work,
 ) -> Result<Vec<Numbers>, StartFault> {
-    let gate = open_gate(rt.alloc(), Manner::Holds);
-    let (Ok(opening), Ok(held)) = (opening(rt.alloc(), max_rows), gate) else {
+    let (Ok(opening), Ok(held)) = (opening(rt.alloc(), max_rows), open_gate(rt.alloc())) else {
         return Err(StartFault::NoMemory);
     };
-    let work = (title, phases);
     served::<Brand, R>(rt, rt.alloc(), opening, Blank::new(32), count, held, work)
 }

@@ -1,0 +1,38 @@
+//! The asserts of the tests.
+//!
+//! None of these functions has a contract: a test needs nothing of what they saw, and so its proof carries none of it.
+
+use std::fmt::Debug;
+use std::process::Abort;
+
+/// Fails the test unless both values are equal.
+pub fn same<T: PartialEq + Debug + Drop>(
+    rt: &impl Abort,
+    found: T,
+    wanted: T,
+    place: impl Debug + Copy,
+) {
+    assert_eq!(rt; found, wanted, "at {place:?}");
+}
+
+/// Fails the test unless the condition holds.
+pub fn holds(rt: &impl Abort, condition: bool, place: impl Debug + Copy) {
+    assert!(rt; condition, "at {place:?}");
+}
+
+/// What a call has made. Fails the test where it has not.
+pub fn made<T, E: Debug + Drop>(
+    rt: &impl Abort,
+    found: Result<T, E>,
+    place: impl Debug + Copy,
+) -> T {
+    match found {
+        Ok(value) => value,
+        Err(error) => panic!(rt; "{error:?}: at {place:?}"),
+    }
+}
+
+/// What is there. Fails the test where nothing is.
+pub fn present<T>(rt: &impl Abort, found: Option<T>, what: &str) -> T {
+    found.expect(rt, what)
+}
