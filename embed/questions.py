@@ -1,5 +1,5 @@
 """Random questions, each asked of examples/c/explain, once by a block that is filled from the grants and once by their text, and of
-`capd explain`: all have to write the same, byte for byte."""
+`capd explain`: all have to write the same, byte for byte, but for what `capd` says may help, behind the line of a fault."""
 
 import os
 import random
@@ -89,7 +89,9 @@ def compare(number, seed, explain, capd):
     told = [said_by([*asked, "--by", kind]) for kind in ("block", "text")]
     wanted = said_by([capd, "explain", *[f"--{name}={value}" for name, value in values.items()]])
     status, out, err = wanted
-    wanted = status, out, err.replace(b"capd: ", b"explain: ", 1)
+    line, *more = err.splitlines(keepends=True) or [b""]
+    assert all(it.startswith(b"hint: ") for it in more), err
+    wanted = status, out, line.replace(b"capd: ", b"explain: ", 1)
     kind = out.split(b" ")[0].decode() or f"status {status}"
     return kind, None if told == [wanted, wanted] else (values, told, wanted)
 
