@@ -9,7 +9,7 @@ use Rattle.std.proofs.lemmas.List.Elements.{AllWithin-more}
 use Rattle.capbits.specs.declared.ids.Ino.{Ino}
 use Rattle.captable.specs.declared.entry.EntryRow.{EntryRow}
 use Rattle.captable.specs.Calls.{is_of_inode}
-use Rattle.capnotes.specs.InoSets.{InoSet}
+use Rattle.caprules.specs.Capnotes.InoSets.{InoSet}
 
 pub differ : (a b : ℕ) → not (a == b) ≡ true → a ≢ b
 differ a b e = λ same. true≢false (sym e ∙ ap not (eq-eqb a b same))

@@ -11,22 +11,22 @@ use Rattle.capbits.proofs.Tests.{pass-both}
 use Rattle.capgrant.specs.declared.access.Access.{Access}
 use Rattle.inotree.specs.declared.node.Node.{Node}
 use Rattle.inotree.specs.Tree.{Nodes}
-use Rattle.capnotes.specs.Lockmachine.declared.request.Change.{Change}
-use Rattle.capnotes.specs.Lockmachine.declared.request.Change.TheVariants.{Set, SetXattr, RemoveXattr}
-use Rattle.capnotes.specs.Lockmachine.declared.request.Ask.{Ask}
-use Rattle.capnotes.specs.Lockmachine.declared.request.Ask.TheVariants.{Get, Alter, Unlink, Rmdir, Rename}
-use Rattle.capnotes.specs.Lockmachine.declared.request.Request.{Request}
-use Rattle.capnotes.specs.Lockmachine.Policy.{failures}
-use Rattle.capnotes.specs.Lockmachine.Scene.{Scene}
-use Rattle.capnotes.specs.Capevents.declared.outcome.Outcome.{Outcome}
-use Rattle.capnotes.specs.Capevents.declared.outcome.Outcome.TheVariants as outcome
-use Rattle.capacts.specs.declared.stopped.Stopped.{Stopped}
-use Rattle.capacts.specs.declared.stopped.Stopped.TheVariants.{ByPolicy, ByTest}
-use Rattle.capacts.specs.Judge.{is_met, first_denied, stop_by, stop, denial_of}
-use Rattle.capacts.specs.Needs.{Need, need}
-use Rattle.capacts.specs.Serving.{MayEndAs, As_judged, Without_memory, judged_again, passed_as, told_of, stop_outcome, outcome_unless, takes_memory}
-use Rattle.capnotes.specs.Changing.{tree_after, tree_with}
-use Rattle.capacts.specs.Asks.{ask_before, ask_needs, ask_after, change_tests}
+use Rattle.caprules.specs.Lockmachine.declared.request.Change.{Change}
+use Rattle.caprules.specs.Lockmachine.declared.request.Change.TheVariants.{Set, SetXattr, RemoveXattr}
+use Rattle.caprules.specs.Lockmachine.declared.request.Ask.{Ask}
+use Rattle.caprules.specs.Lockmachine.declared.request.Ask.TheVariants.{Get, Alter, Unlink, Rmdir, Rename}
+use Rattle.caprules.specs.Lockmachine.declared.request.Request.{Request}
+use Rattle.caprules.specs.Lockmachine.Policy.{failures}
+use Rattle.caprules.specs.Lockmachine.Scene.{Scene}
+use Rattle.caprules.specs.Capevents.declared.outcome.Outcome.{Outcome}
+use Rattle.caprules.specs.Capevents.declared.outcome.Outcome.TheVariants as outcome
+use Rattle.caprules.specs.declared.stopped.Stopped.{Stopped}
+use Rattle.caprules.specs.declared.stopped.Stopped.TheVariants.{ByPolicy, ByTest}
+use Rattle.caprules.specs.Judge.{is_met, first_denied, stop_by, stop, denial_of}
+use Rattle.caprules.specs.Needs.{Need, need}
+use Rattle.caprules.specs.Serving.{MayEndAs, As_judged, Without_memory, judged_again, passed_as, told_of, stop_outcome, outcome_unless, takes_memory}
+use Rattle.caprules.specs.Capnotes.Changing.{tree_after, tree_with}
+use Rattle.caprules.specs.Asks.{ask_before, ask_needs, ask_after, change_tests}
 use Rattle.capacts.specs.Served.{call_tests, change_call_tests}
 
 -- ---- policy alone

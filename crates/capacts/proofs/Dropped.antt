@@ -3,10 +3,10 @@ use Rattle.std.proofs.Common.{◌≡◌, ℕ, ◌+◌, ◌≤◌, true, false, n
 use Rattle.std.specs.Prelude.{map as each, filter}
 use Rattle.std.proofs.lemmas.List.{length-take-le}
 use Rattle.capbits.specs.declared.ids.ClientId.{ClientId}
-use Rattle.capnotes.specs.Lockmachine.declared.request.Request.{Request}
-use Rattle.capnotes.specs.Lockmachine.Requests.{is_of_client}
-use Rattle.capnotes.specs.Capevents.declared.outcome.Ended.{Ended}
-use Rattle.capacts.specs.Left.{dropped_of}
+use Rattle.caprules.specs.Lockmachine.declared.request.Request.{Request}
+use Rattle.caprules.specs.Lockmachine.Requests.{is_of_client}
+use Rattle.caprules.specs.Capevents.declared.outcome.Ended.{Ended}
+use Rattle.caprules.specs.Serving.{dropped_of}
 
 -- those of a client among these requests, dropped
 abbrev pub dropped_among : ClientId → List Request → List Ended

@@ -14,7 +14,7 @@ use Rattle.capbits.specs.declared.ids.ClientId.{ClientId}
 use Rattle.capbits.specs.Caps.{Caps}
 use Rattle.captable.specs.declared.entry.Holder.{Holder}
 use Rattle.captable.proofs.Searches.{find_passes, find-filter_kept}
-use Rattle.capnotes.proofs.Lockmachine.Positions.{at_position, no_position}
+use Rattle.caprules.proofs.Lockmachine.Positions.{at_position, no_position}
 use Rattle.numbered.proofs.Maps.{insert-at, remove-at}
 use Rattle.capacts.specs.Known.{KnownSets, is_of, kept_among, kept_of}
 

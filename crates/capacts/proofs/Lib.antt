@@ -9,7 +9,7 @@ pub mod Walked
 pub mod KeptPlaces
 pub mod KeptSets
 pub mod Held
-pub use Rattle.capnotes.proofs.Capevents
-pub use Rattle.capnotes.proofs as Capnotes
-pub use Rattle.capnotes.proofs.Capview
-pub use Rattle.capnotes.proofs.Lockmachine
+pub use Rattle.caprules.proofs.Capevents
+pub use Rattle.caprules.proofs.Capnotes
+pub use Rattle.caprules.proofs.Capview
+pub use Rattle.caprules.proofs.Lockmachine

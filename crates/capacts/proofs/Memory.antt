@@ -1,9 +1,9 @@
 -- Which requests take memory.
 use Rattle.std.proofs.Common.{◌≡◌, true, refl}
-use Rattle.capnotes.specs.Lockmachine.declared.request.Ask.{Ask}
-use Rattle.capnotes.specs.Lockmachine.declared.request.Ask.TheVariants.{Get, Alter, Unlink, Rmdir, Rename}
+use Rattle.caprules.specs.Lockmachine.declared.request.Ask.{Ask}
+use Rattle.caprules.specs.Lockmachine.declared.request.Ask.TheVariants.{Get, Alter, Unlink, Rmdir, Rename}
 use Rattle.capacts.specs.Served.{is_rename}
-use Rattle.capacts.specs.Serving.{takes_memory}
+use Rattle.caprules.specs.Serving.{takes_memory}
 
 -- one that is to move an inode does, for the name
 pub rename-takes : (ask : Ask) → is_rename ask ≡ true → takes_memory ask ≡ true

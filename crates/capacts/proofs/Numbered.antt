@@ -8,8 +8,8 @@ use Rattle.std.proofs.lemmas.List.Folds.{find-append}
 use Rattle.std.proofs.lemmas.List.Sums.{sum_by-cons, count_by-le-length}
 use Rattle.std.proofs.lemmas.Option.{same_Some, none-some}
 use Rattle.capbits.specs.declared.ids.PassId.{PassId}
-use Rattle.capnotes.specs.Capevents.declared.row.Row.{Row}
-use Rattle.capacts.specs.Numbers.{rows_of, AreNumbered}
+use Rattle.caprules.specs.Capevents.declared.row.Row.{Row}
+use Rattle.caprules.specs.Numbers.{rows_of, AreNumbered}
 
 -- ---- the last element that passes a test
 

@@ -5,7 +5,7 @@ use Rattle.capbits.specs.declared.caller.Caller.{Caller}
 use Rattle.capgrant.specs.declared.access.Access.{Access}
 use Rattle.inotree.specs.declared.node.Node.{Node}
 use Rattle.sessiontab.specs.declared.session.Session.{Session}
-use Rattle.capnotes.specs.Lockmachine.Policy.{subject_of, failures_of}
+use Rattle.caprules.specs.Lockmachine.Policy.{subject_of, failures_of}
 use Rattle.capspec.specs.declared.grant.Grant.{Grant}
 use Rattle.capgrant.specs.declared.answer.Verdict.{Verdict}
 use Rattle.capgrant.specs.Question.{Question}

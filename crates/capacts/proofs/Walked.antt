@@ -10,7 +10,7 @@ use Rattle.captable.specs.declared.entry.EntryRow.{EntryRow}
 use Rattle.captable.specs.Table.{Table}
 use Rattle.captable.specs.Calls.{is_of_inode}
 use Rattle.inotree.specs.Tree.{Nodes, is_within}
-use Rattle.capnotes.specs.InoSets.{InoSet}
+use Rattle.caprules.specs.Capnotes.InoSets.{InoSet}
 use Rattle.capacts.specs.Reach.{AreWalked, CoversBelow, Widens}
 use Rattle.capacts.proofs.InoSets.{at_more, none-there}
 

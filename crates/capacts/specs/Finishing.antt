@@ -15,13 +15,13 @@ use Rattle.captable.specs.declared.entry.Entry.{Entry}
 use Rattle.captable.specs.declared.entry.EntryRow.{EntryRow}
 use Rattle.captable.specs.declared.entry.Holder.{Holder}
 use Rattle.captable.specs.Calls.{issued, renumbered}
-use Rattle.capnotes.specs.Lockmachine.declared.states.InodeLocks.{InodeLocks}
-use Rattle.capnotes.specs.Lockmachine.Inodes.{StateMap, lock_in}
-use Rattle.capnotes.specs.Lockmachine.Scene.{against_lock}
-use Rattle.capnotes.specs.Lockmachine.Policy.{permitted}
-use Rattle.capnotes.specs.Lockmachine.Wants.{effective_want}
-use Rattle.capacts.specs.Finish.{allowed_by}
-use Rattle.capnotes.specs.InoSets.{InoSet}
+use Rattle.caprules.specs.Lockmachine.declared.states.InodeLocks.{InodeLocks}
+use Rattle.caprules.specs.Lockmachine.Inodes.{StateMap, lock_in}
+use Rattle.caprules.specs.Lockmachine.Scene.{against_lock}
+use Rattle.caprules.specs.Lockmachine.Policy.{permitted}
+use Rattle.caprules.specs.Lockmachine.Wants.{effective_want}
+use Rattle.caprules.specs.Finish.{allowed_by}
+use Rattle.caprules.specs.Capnotes.InoSets.{InoSet}
 
 -- the clients of these entries
 abbrev pub clients_of : List EntryRow → List ℕ

@@ -13,8 +13,8 @@ use Rattle.captable.specs.declared.entry.Entry.{Entry}
 use Rattle.captable.specs.declared.entry.EntryRow.{EntryRow}
 use Rattle.captable.specs.declared.entry.Holder.{Holder}
 use Rattle.captable.specs.Table.{Table, same, is_row_of, entry_at}
-use Rattle.capnotes.specs.Lockmachine.Scene.{Scene, told_set}
-use Rattle.capacts.specs.Finish.{due}
+use Rattle.caprules.specs.Lockmachine.Scene.{Scene, told_set}
+use Rattle.caprules.specs.Finish.{due}
 
 -- the sets that are kept on each inode, each with its client
 abbrev pub KnownSets : Type 0

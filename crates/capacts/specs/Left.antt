@@ -3,11 +3,10 @@ use Rattle.std.specs.Prelude.{Bool, true, false, not, List, [], map as each, fil
 use Rattle.capbits.specs.declared.ids.ClientId.{ClientId}
 use Rattle.captable.specs.Table.{Table}
 use Rattle.captable.specs.Calls.{without_client}
-use Rattle.capnotes.specs.Lockmachine.declared.request.Request.{Request}
-use Rattle.capnotes.specs.Lockmachine.Locks.{LockMap, requests_of, without_requests_of}
-use Rattle.capnotes.specs.Capevents.declared.outcome.Ended.{Ended}
-use Rattle.capnotes.specs.Capevents.declared.outcome.Outcome.TheVariants as outcome
-use Rattle.capnotes.specs.Untold.{is_to}
+use Rattle.caprules.specs.Lockmachine.Locks.{LockMap, requests_of, without_requests_of}
+use Rattle.caprules.specs.Capevents.declared.outcome.Ended.{Ended}
+use Rattle.caprules.specs.Capnotes.Untold.{is_to}
+use Rattle.caprules.specs.Serving.{dropped_of}
 use Rattle.capacts.specs.declared.leaving.Turn.{Turn}
 use Rattle.capacts.specs.declared.leaving.Turn.TheVariants.{Close, Stale, Renew, Regrant, Evict}
 
@@ -18,10 +17,6 @@ is_end Stale = false
 is_end Renew = false
 is_end (Regrant grants) = false
 is_end Evict = true
-
--- a request ends unserved, since its client's session does
-abbrev pub dropped_of : Request → Ended
-dropped_of q = record { client = q.client; ticket = q.ticket; outcome = outcome.Dropped }
 
 -- ---- what is left, where the session ends or does not
 

@@ -4,8 +4,8 @@ use Rattle.std.specs.FinSet as set
 use Rattle.inotree.specs.Tree.{Nodes, is_within}
 use Rattle.captable.specs.declared.entry.EntryRow.{EntryRow}
 use Rattle.captable.specs.Table.{Table}
-use Rattle.capnotes.specs.Lockmachine.declared.request.Request.{Request}
-use Rattle.capnotes.specs.InoSets.{InoSet}
+use Rattle.caprules.specs.Lockmachine.declared.request.Request.{Request}
+use Rattle.caprules.specs.Capnotes.InoSets.{InoSet}
 use Rattle.capacts.specs.Served.{is_rename}
 
 -- the inode, or one of the others: another of the event, or one that was moved

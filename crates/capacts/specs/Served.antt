@@ -3,10 +3,10 @@ use Rattle.std.specs.Prelude.{ℕ, Bool, true, false, List}
 use Rattle.capbits.specs.Refusal.{Test}
 use Rattle.inotree.specs.Tree.{Nodes}
 use Rattle.inotree.specs.Tests.{inode_tests, unlink_tests, rmdir_tests, rename_tests, set_tests, set_xattr_tests, remove_xattr_tests}
-use Rattle.capnotes.specs.Lockmachine.declared.request.Change.{Change}
-use Rattle.capnotes.specs.Lockmachine.declared.request.Change.TheVariants.{Set, SetXattr, RemoveXattr}
-use Rattle.capnotes.specs.Lockmachine.declared.request.Ask.{Ask}
-use Rattle.capnotes.specs.Lockmachine.declared.request.Ask.TheVariants.{Get, Alter, Unlink, Rmdir, Rename}
+use Rattle.caprules.specs.Lockmachine.declared.request.Change.{Change}
+use Rattle.caprules.specs.Lockmachine.declared.request.Change.TheVariants.{Set, SetXattr, RemoveXattr}
+use Rattle.caprules.specs.Lockmachine.declared.request.Ask.{Ask}
+use Rattle.caprules.specs.Lockmachine.declared.request.Ask.TheVariants.{Get, Alter, Unlink, Rmdir, Rename}
 
 -- the tests of the call that makes a change
 abbrev pub change_call_tests : Nodes → ℕ → Change → List Test

@@ -6,14 +6,14 @@ ghost use Rattle.inotree.specs.Tree.{path_of};
 ghost use Rattle.captable.specs.Table.{same, entry_at};
 ghost use Rattle.captable.specs.Calls.{changed};
 ghost use Rattle.captable.specs.Many.{changed_by};
-ghost use Rattle.capacts.specs.Finish.{allowed_by};
+ghost use Rattle.caprules.specs.Finish.{allowed_by};
 ghost use Rattle.capacts.specs.Finishing as words;
 ghost use Rattle.capacts.specs.Known.{KeptAnew, kept_of, known_in};
 
 use crate::known::Known;
 use crate::told::{lock_under, told_under};
 use capbits::{Cap, CapSet, Part};
-use capnotes::{InodeLocks, permitted_and_wanted};
+use caprules::{InodeLocks, permitted_and_wanted};
 use capspec::FsName;
 use captable::{CapTable, Entry, EntryRow};
 use inotree::{Names, Node, Tree};

@@ -3,11 +3,11 @@ ghost use Rattle.std.specs.Prelude.{◌≡◌, []};
 ghost use Rattle.std.specs.Option.{option_map};
 ghost use Rattle.capgrant.specs.Verdict.{is_allowed, IfDenied};
 ghost use Rattle.capgrant.specs.declared.answer.Verdict.TheVariants as verdict_kind;
-ghost use Rattle.capnotes.specs.Lockmachine.Policy.{is_granted, failures};
-ghost use Rattle.capacts.specs.Judge.{denial_of};
-ghost use Rattle.capacts.specs.declared.stopped.Stopped.TheVariants as stopped_kind;
+ghost use Rattle.caprules.specs.Lockmachine.Policy.{is_granted, failures};
+ghost use Rattle.caprules.specs.Judge.{denial_of};
+ghost use Rattle.caprules.specs.declared.stopped.Stopped.TheVariants as stopped_kind;
 
-use crate::stopped::Stopped;
+use caprules::Stopped;
 use arrayvec::ArrayVec;
 use capbits::Refusal;
 use capgrant::{Access, Rules, Verdict, verdict};

@@ -3,14 +3,15 @@ ghost use Rattle.std.specs.Prelude.{Some, ◌≡◌, ◌+◌, ◌≤◌, ◌++�
 ghost use Rattle.captable.specs.declared.entry.Entry.{Entry};
 ghost use Rattle.captable.specs.declared.entry.Holder.{Holder};
 ghost use Rattle.captable.specs.Table.{entry_at};
-ghost use Rattle.capnotes.specs.Lockmachine.Locks.{requests_of, without_requests_of};
+ghost use Rattle.caprules.specs.Lockmachine.Locks.{requests_of, without_requests_of};
 ghost use Rattle.capacts.specs.Known.{kept_of};
-ghost use Rattle.capacts.specs.Left.{dropped_of, is_end};
+ghost use Rattle.capacts.specs.Left.{is_end};
 ghost use Rattle.capacts.specs.Left as words;
+ghost use Rattle.caprules.specs.Serving.{dropped_of};
 
 use crate::known::Known;
 use capbits::ClientId;
-use capnotes::{Ended, Locks, Messages, Outcome};
+use caprules::{Ended, Locks, Messages, Outcome};
 use capspec::Grants;
 use captable::CapTable;
 

@@ -12,13 +12,12 @@ pub mod leaving;
 pub mod reach;
 pub mod serving;
 pub mod stop;
-pub mod stopped;
 pub mod sweep;
 pub mod told;
 
-pub use capnotes::{
+pub use caprules::{
     Ask, Bytes, Change, ChangeList, Ended, EndedList, Event, InoSet, InodeLocks, Locks, Message,
     MessageList, Messages, Move, OpenMode, Outcome, PartValues, Question, Reply, Request, Row,
-    ToldNumbers, Unknown, View, ViewChange, Wants, copy_of_messages, copy_of_outcome,
-    copy_of_reply, wants_on,
+    Stopped, ToldNumbers, Unknown, View, ViewChange, Wants, copy_of_messages,
+    copy_of_outcome, copy_of_reply, wants_on,
 };

@@ -7,7 +7,7 @@ ghost use Rattle.capacts.specs.Served.{is_rename};
 ghost use Rattle.capacts.specs.Reach.{AreWalked, Covers, CoversBelow, Widens};
 
 use capbits::Ino;
-use capnotes::{Ask, ChangeList, InoSet, Request};
+use caprules::{Ask, ChangeList, InoSet, Request};
 use captable::CapTable;
 use inotree::Tree;
 use std::alloc::{AllocError, Global};

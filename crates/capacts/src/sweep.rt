@@ -1,11 +1,11 @@
 //! Where a sweep over inodes has come to, and what it does there.
 ghost use Rattle.std.specs.Prelude.{◌≡◌, true};
-ghost use Rattle.capnotes.specs.Lockmachine.Scene.{scene};
-ghost use Rattle.capnotes.specs.Lockmachine.Runs.{MoveLittle, ChangesLocksOf};
-ghost use Rattle.capnotes.specs.Lockmachine.Turns.{IsTurnOf, IsDue, NobodyElsewhere};
+ghost use Rattle.caprules.specs.Lockmachine.Scene.{scene};
+ghost use Rattle.caprules.specs.Lockmachine.Runs.{MoveLittle, ChangesLocksOf};
+ghost use Rattle.caprules.specs.Lockmachine.Turns.{IsTurnOf, IsDue, NobodyElsewhere};
 
 use capbits::{Ino, Ticket};
-use capnotes::Locks;
+use caprules::Locks;
 use capspec::FsName;
 use captable::CapTable;
 use inotree::Tree;

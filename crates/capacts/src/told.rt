@@ -1,10 +1,10 @@
 //! What the client of an entry is to know that it holds.
 ghost use Rattle.std.specs.Prelude.{◌≡◌};
-ghost use Rattle.capnotes.specs.Lockmachine.Scene.{against_lock};
+ghost use Rattle.caprules.specs.Lockmachine.Scene.{against_lock};
 ghost use Rattle.capacts.specs.Finishing as words;
 
 use capbits::{CapSet, Part};
-use capnotes::InodeLocks;
+use caprules::InodeLocks;
 use captable::EntryRow;
 use locktable::{LockState, row};
 

@@ -3,8 +3,8 @@ use Rattle.std.specs.Prelude.{◌≡◌, ◌≤◌, ◌⊎◌, ℕ, List, [], �
 use Rattle.std.specs.List.{flat_map}
 use Rattle.inotree.specs.Calls.{first_tree}
 use Rattle.capserver.specs.Capevents.declared.row.Row.{Row}
-use Rattle.capserver.specs.Capsteps.History.{IsOpening, IsLegal}
-use Rattle.capserver.specs.Capsteps.State.{State}
+use Rattle.capserver.specs.Caprules.History.{IsOpening, IsLegal}
+use Rattle.capserver.specs.Caprules.State.{State}
 use Rattle.capscript.specs.Capexplain.Audit.{audit_text}
 use Rattle.capscript.specs.Transcript.{fs_name, root_attr}
 use Rattle.capscript.specs.Caplines.declared.fault.ScriptFault.TheVariants as stops

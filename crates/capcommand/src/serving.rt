@@ -1,7 +1,7 @@
 //! Serving a script: what its lines call is called by the passes of a server, and the history of that is written.
 ghost use Rattle.std.specs.Prelude.{◌≡◌, ◌≢◌, ◌<◌, ◌≤◌, ◌+◌, ◌⊎◌, ◌↔◌, ℕ, List, Err, length, vec_len, IfOk, IfErr, IfSome, OnErr, IsTrue, IsFalse};
 ghost use Rattle.std.specs.Io.KnownBytes.{Appends, Keeps};
-ghost use Rattle.capserver.specs.Capsteps.History.{IsLegal};
+ghost use Rattle.capserver.specs.Caprules.History.{IsLegal};
 ghost use Rattle.capserver.specs.Capacts.declared.stop.Stop.TheVariants as stop_kind;
 ghost use Rattle.capserver.specs.Opened.{opened};
 ghost use Rattle.capscript.specs.Caplines.Lines.{lines, longest_script};

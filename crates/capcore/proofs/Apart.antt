@@ -24,9 +24,9 @@ use Rattle.captable.proofs.Searches.{find_passes}
 use Rattle.capsteps.specs.Lockmachine.Locks.{lock_at}
 use Rattle.capsteps.specs.Lockmachine.Scene.{Scene}
 use Rattle.capsteps.specs.Lockmachine.Moves.{present_state}
-use Rattle.capsteps.specs.State.{State}
-use Rattle.capsteps.specs.Headline.{IsInPlace, AreInPlace, NoneConflict}
-use Rattle.capsteps.specs.Sound.{IsSound}
+use Rattle.capsteps.specs.Caprules.State.{State}
+use Rattle.capsteps.specs.Caprules.Headline.{IsInPlace, AreInPlace, NoneConflict}
+use Rattle.capsteps.specs.Caprules.Sound.{IsSound}
 
 -- ---- capabilities that conflict are of one part
 

@@ -28,13 +28,13 @@ use Rattle.capsteps.proofs.Lockmachine.Queue.{with_request-kept}
 use Rattle.capsteps.proofs.Lockmachine.SameBut.{same-request}
 use Rattle.capsteps.specs.Capevents.declared.event.Event.{Event}
 use Rattle.capsteps.specs.Capevents.declared.event.Event.TheVariants as event
-use Rattle.capsteps.specs.State.{State}
-use Rattle.capsteps.specs.Capacts.Asks.{ask_before, ask_needs, ask_after}
-use Rattle.capsteps.specs.Capacts.Judge.{judged, asked_tests, asking_tests, waiting_tests, stop, stop_by, first_denied}
-use Rattle.capsteps.specs.Capacts.Needs.{Need}
-use Rattle.capsteps.specs.Direct.{direct, effect, effect_unless, asks}
-use Rattle.capsteps.specs.Capacts.Serving.{judged_again}
-use Rattle.capsteps.specs.Sound.{IsSound, AreGiven}
+use Rattle.capsteps.specs.Caprules.State.{State}
+use Rattle.capsteps.specs.Caprules.Asks.{ask_before, ask_needs, ask_after}
+use Rattle.capsteps.specs.Caprules.Judge.{judged, asked_tests, asking_tests, waiting_tests, stop, stop_by, first_denied}
+use Rattle.capsteps.specs.Caprules.Needs.{Need}
+use Rattle.capsteps.specs.Caprules.Direct.{direct, effect, effect_unless, asks}
+use Rattle.capsteps.specs.Caprules.Serving.{judged_again}
+use Rattle.capsteps.specs.Caprules.Sound.{IsSound, AreGiven}
 use Rattle.capsteps.specs.Touching.{asks_for, IsTouchedEntry, TouchesOne}
 use Rattle.capsteps.proofs.NothingServed.{sound-pinned}
 use Rattle.capsteps.proofs.Touched.{all-left, asked-session, asked-there, AreBelow}

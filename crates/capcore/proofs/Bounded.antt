@@ -11,13 +11,13 @@ use Rattle.capsteps.specs.Capevents.declared.event.Event.{Event}
 use Rattle.capsteps.specs.Capevents.declared.event.Event.TheVariants as event
 use Rattle.capsteps.specs.Capevents.declared.outcome.Ended.{Ended}
 use Rattle.capsteps.specs.Capevents.declared.reply.Reply.{Reply}
-use Rattle.capsteps.specs.Capacts.declared.stopped.Stopped.{Stopped}
-use Rattle.capsteps.specs.State.{State}
-use Rattle.capsteps.specs.Direct.{direct, effect, effect_unless, found}
-use Rattle.capsteps.specs.Headline.{ByMoves, AreBounded, move_of}
-use Rattle.capsteps.specs.Capacts.Judge.{judged}
-use Rattle.capsteps.specs.Settle.{Made, Began, Gathered, Served, MakesAll, ended_in}
-use Rattle.capsteps.specs.Step.{Step}
+use Rattle.capsteps.specs.Caprules.declared.stopped.Stopped.{Stopped}
+use Rattle.capsteps.specs.Caprules.State.{State}
+use Rattle.capsteps.specs.Caprules.Direct.{direct, effect, effect_unless, found}
+use Rattle.capsteps.specs.Caprules.Headline.{ByMoves, AreBounded, move_of}
+use Rattle.capsteps.specs.Caprules.Judge.{judged}
+use Rattle.capsteps.specs.Caprules.Settle.{Made, Began, Gathered, Served, MakesAll, ended_in}
+use Rattle.capsteps.specs.Caprules.Step.{Step}
 use Rattle.capsteps.specs.Touching.{touched_by}
 use Rattle.capcore.proofs.OfInode.{event-order}
 use Rattle.capsteps.proofs.Served.{served-count}

@@ -20,15 +20,15 @@ use Rattle.capbits.specs.declared.ids.Ticket.{Ticket}
 use Rattle.capsteps.specs.Capevents.declared.event.Event.{Event}
 use Rattle.capsteps.specs.Capevents.declared.outcome.Ended.{Ended}
 use Rattle.capsteps.specs.declared.said.Said.{Said}
-use Rattle.capsteps.specs.State.{State}
+use Rattle.capsteps.specs.Caprules.State.{State}
 use Rattle.capsteps.specs.Answered.{IsAnswered}
-use Rattle.capsteps.specs.Direct.{direct, reply_of, shown, with_scene}
-use Rattle.capsteps.specs.Capacts.Judge.{judged}
+use Rattle.capsteps.specs.Caprules.Direct.{direct, reply_of, shown, with_scene}
+use Rattle.capsteps.specs.Caprules.Judge.{judged}
 use Rattle.capsteps.specs.Serves.{SettlesWith, EndsWith}
-use Rattle.capsteps.specs.Capacts.Finish.{sizes_owed}
-use Rattle.capsteps.specs.Settle.{MakesAll, ended_in, sized_in}
-use Rattle.capsteps.specs.Sound.{IsSoundEntry, IsSound, NumbersLeft}
-use Rattle.capsteps.specs.Step.{earlier, all_ended, state_at_end}
+use Rattle.capsteps.specs.Caprules.Finish.{sizes_owed}
+use Rattle.capsteps.specs.Caprules.Settle.{MakesAll, ended_in, sized_in}
+use Rattle.capsteps.specs.Caprules.Sound.{IsSoundEntry, IsSound, NumbersLeft}
+use Rattle.capsteps.specs.Caprules.Step.{earlier, all_ended, state_at_end}
 use Rattle.capsteps.specs.Touching.{touched_by, IsTouchedEntry, Touches, TouchesOne, SettlesAt, Knows, finished_at}
 use Rattle.capsteps.specs.Capacts.Known.{KnownSets, known_in, AreKnown, StillKept}
 use Rattle.capsteps.specs.Capnotes.Untold.{HaveOwnNumbers, but_for}

@@ -11,13 +11,13 @@ use Rattle.capsteps.specs.Lockmachine.Scene.{Scene}
 use Rattle.capsteps.specs.Capevents.declared.event.Event.{Event}
 use Rattle.capsteps.specs.Capevents.declared.outcome.Ended.{Ended}
 use Rattle.capsteps.specs.Capevents.declared.reply.Reply.{Reply}
-use Rattle.capsteps.specs.State.{State}
-use Rattle.capsteps.specs.Direct.{direct, reply_of, shown}
-use Rattle.capsteps.specs.Headline.{IssuesExactly}
-use Rattle.capsteps.specs.Capacts.Finish.{sizes_owed}
-use Rattle.capsteps.specs.Settle.{Made, ended_in, sized_in}
-use Rattle.capsteps.specs.Sound.{IsSound, AreGiven}
-use Rattle.capsteps.specs.Step.{Step, all_ended, state_at_end}
+use Rattle.capsteps.specs.Caprules.State.{State}
+use Rattle.capsteps.specs.Caprules.Direct.{direct, reply_of, shown}
+use Rattle.capsteps.specs.Caprules.Headline.{IssuesExactly}
+use Rattle.capsteps.specs.Caprules.Finish.{sizes_owed}
+use Rattle.capsteps.specs.Caprules.Settle.{Made, ended_in, sized_in}
+use Rattle.capsteps.specs.Caprules.Sound.{IsSound, AreGiven}
+use Rattle.capsteps.specs.Caprules.Step.{Step, all_ended, state_at_end}
 use Rattle.capsteps.specs.Touching.{Touches, SettlesAt, Knows, finished_at}
 use Rattle.capsteps.proofs.SizesOwed.{sizes-end, sizes-sound, sizes-issues, sizes-given}
 use Rattle.capsteps.proofs.StayingSound.{given-touched}

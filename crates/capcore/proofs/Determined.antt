@@ -28,18 +28,18 @@ use Rattle.capsteps.specs.Capevents.declared.outcome.Outcome.{Outcome}
 use Rattle.capsteps.specs.Capevents.declared.outcome.Outcome.TheVariants as outcome
 use Rattle.capsteps.specs.Capevents.declared.reply.Reply.{Reply}
 use Rattle.capsteps.specs.Capevents.declared.reply.Reply.TheVariants as reply
-use Rattle.capsteps.specs.Capacts.declared.stopped.Stopped.{Stopped}
+use Rattle.capsteps.specs.Caprules.declared.stopped.Stopped.{Stopped}
 use Rattle.capsteps.specs.Capevents.Replies.{outcome_reply}
-use Rattle.capsteps.specs.Direct.{Direct, Answer, Says, Shows, Gives, Awaits, direct, effect, effect_unless, asks, found, reply_of, shown, awaited_as}
+use Rattle.capsteps.specs.Caprules.Direct.{Direct, Answer, Says, Shows, Gives, Awaits, direct, effect, effect_unless, asks, found, reply_of, shown, awaited_as}
 use Rattle.capsteps.specs.Capnotes.Untold.{is_of_ticket, HaveOwnNumbers}
-use Rattle.capsteps.specs.Capacts.Finish.{sizes_owed, finished}
-use Rattle.capsteps.specs.Headline.{move_of}
-use Rattle.capsteps.specs.Capacts.Judge.{judged}
+use Rattle.capsteps.specs.Caprules.Finish.{sizes_owed, finished}
+use Rattle.capsteps.specs.Caprules.Headline.{move_of}
+use Rattle.capsteps.specs.Caprules.Judge.{judged}
 use Rattle.capcore.specs.SameEvents.{FoundMemory}
-use Rattle.capsteps.specs.Capacts.Serving.{MayEndAs, As_judged, Without_memory, served}
-use Rattle.capsteps.specs.Settle.{Made, Began, Gathered, Served, Makes, MakesAll, ended_in, sized_in}
-use Rattle.capsteps.specs.State.{State}
-use Rattle.capsteps.specs.Step.{Step, StepBy, earlier, state_after, all_ended}
+use Rattle.capsteps.specs.Caprules.Serving.{MayEndAs, As_judged, Without_memory, served}
+use Rattle.capsteps.specs.Caprules.Settle.{Made, Began, Gathered, Served, Makes, MakesAll, ended_in, sized_in}
+use Rattle.capsteps.specs.Caprules.State.{State}
+use Rattle.capsteps.specs.Caprules.Step.{Step, StepBy, earlier, state_after, all_ended}
 use Rattle.capcore.proofs.Bounded.{direct-order}
 use Rattle.capcore.proofs.EndedIn.{own-numbers}
 use Rattle.capsteps.proofs.Moved.{Waited, ended-waited, moved-all}

@@ -16,12 +16,12 @@ use Rattle.capsteps.specs.Capevents.declared.event.Event.{Event}
 use Rattle.capsteps.specs.Capevents.declared.event.Event.TheVariants as event
 use Rattle.capsteps.specs.Capevents.declared.reply.Reply.{Reply}
 use Rattle.capsteps.specs.Capevents.declared.reply.Reply.TheVariants as reply
-use Rattle.capsteps.specs.Capacts.declared.stopped.Stopped.{Stopped}
-use Rattle.capsteps.specs.Capacts.declared.stopped.Stopped.TheVariants.{ByTest}
-use Rattle.capsteps.specs.State.{State}
-use Rattle.capsteps.specs.Capacts.Judge.{stop, stop_reply, judged, asked_tests}
-use Rattle.capsteps.specs.Capacts.Needs.{Need, need}
-use Rattle.capsteps.specs.Direct.{Says, IsDirect, direct, effect_unless, found, with_birth, owned_by, made_event}
+use Rattle.capsteps.specs.Caprules.declared.stopped.Stopped.{Stopped}
+use Rattle.capsteps.specs.Caprules.declared.stopped.Stopped.TheVariants.{ByTest}
+use Rattle.capsteps.specs.Caprules.State.{State}
+use Rattle.capsteps.specs.Caprules.Judge.{stop, stop_reply, judged, asked_tests}
+use Rattle.capsteps.specs.Caprules.Needs.{Need, need}
+use Rattle.capsteps.specs.Caprules.Direct.{Says, IsDirect, direct, effect_unless, found, with_birth, owned_by, made_event}
 use Rattle.capsteps.proofs.Judging.{stopped, passed, direct-stopped, direct-passed}
 
 -- the tests behind policy, where what stands before them stops nothing

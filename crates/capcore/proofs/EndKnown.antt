@@ -6,11 +6,11 @@ use Rattle.captable.specs.Table.{IsTable, entry_of}
 use Rattle.captable.proofs.ByHolder.{row_found}
 use Rattle.capsteps.specs.Lockmachine.Scene.{Scene, told_set}
 use Rattle.capsteps.specs.Capevents.declared.outcome.Ended.{Ended}
-use Rattle.capsteps.specs.State.{State}
-use Rattle.capsteps.specs.Capacts.Finish.{sizes_owed}
+use Rattle.capsteps.specs.Caprules.State.{State}
+use Rattle.capsteps.specs.Caprules.Finish.{sizes_owed}
 use Rattle.capsteps.specs.Capacts.Known.{KnownSets, kept_of, known_in, AreKnown, StillKept, KeptAnew}
 use Rattle.capsteps.specs.Serves.{SettlesWith, EndsWith}
-use Rattle.capsteps.specs.Sound.{IsSound}
+use Rattle.capsteps.specs.Caprules.Sound.{IsSound}
 use Rattle.capsteps.specs.Touching.{Touches, Knows, told_then, finished_at}
 use Rattle.capsteps.proofs.Knowing.{still-known}
 use Rattle.capsteps.proofs.SameOff.{row_elsewhere}

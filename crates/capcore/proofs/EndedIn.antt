@@ -11,8 +11,8 @@ use Rattle.capsteps.specs.Lockmachine.Requests.{is_numbered}
 use Rattle.capsteps.specs.Lockmachine.Locks.{IsLockMap}
 use Rattle.capsteps.specs.Lockmachine.Scene.{Scene}
 use Rattle.capsteps.specs.Capevents.declared.outcome.Ended.{Ended}
-use Rattle.capsteps.specs.Settle.{Made, Began, Gathered, Served, Makes, MakesAll, ended_in}
-use Rattle.capsteps.specs.Step.{earlier}
+use Rattle.capsteps.specs.Caprules.Settle.{Made, Began, Gathered, Served, Makes, MakesAll, ended_in}
+use Rattle.capsteps.specs.Caprules.Step.{earlier}
 use Rattle.capsteps.specs.Capnotes.Untold.{HaveOwnNumbers, but_for}
 use Rattle.capsteps.proofs.Moved.{Waited, ended-waited}
 

@@ -22,13 +22,13 @@ use Rattle.capsteps.specs.Lockmachine.Scene.{Scene}
 use Rattle.capsteps.proofs.Lockmachine.SameBut.{same-trans, same-tree, same-entries}
 use Rattle.capsteps.specs.Capevents.declared.event.Event.TheVariants as event
 use Rattle.capsteps.specs.Capevents.declared.reply.Reply.TheVariants as reply
-use Rattle.capsteps.specs.State.{State}
-use Rattle.capsteps.specs.Capacts.Asks.{change_tests, exclusive}
+use Rattle.capsteps.specs.Caprules.State.{State}
+use Rattle.capsteps.specs.Caprules.Asks.{change_tests, exclusive}
 use Rattle.capsteps.specs.Capnotes.Changing.{tree_changed}
-use Rattle.capsteps.specs.Capacts.Judge.{judged}
-use Rattle.capsteps.specs.Direct.{direct, effect_unless, says, with_flush}
+use Rattle.capsteps.specs.Caprules.Judge.{judged}
+use Rattle.capsteps.specs.Caprules.Direct.{direct, effect_unless, says, with_flush}
 use Rattle.capsteps.specs.Capacts.Served.{change_call_tests}
-use Rattle.capsteps.specs.Sound.{IsSound, AreGiven}
+use Rattle.capsteps.specs.Caprules.Sound.{IsSound, AreGiven}
 use Rattle.capsteps.specs.Touching.{IsTouchedEntry, TouchesOne}
 use Rattle.capsteps.proofs.Capacts.Again.{change-passed}
 use Rattle.capsteps.proofs.OneChange.{by_change, alike_change}

@@ -13,7 +13,7 @@ use Rattle.inotree.specs.declared.node.Site.TheVariants.{Root}
 use Rattle.inotree.specs.Inodes.{InodeMap}
 use Rattle.inotree.specs.Tree.{Nodes, place_at}
 use Rattle.inotree.specs.Calls.{first_tree}
-use Rattle.capsteps.specs.History.{HasNoStray}
+use Rattle.capsteps.specs.Caprules.History.{HasNoStray}
 
 no_stray : (attr : Attr) → HasNoStray (first_tree attr)
 no_stray attr q gone = by_test (eq_by_cmp nat_cmp q 1) (ap (λ o. place_at (option_map (λ n. n.site) o)) (sym (map.get-insert nat_cmp_total none 1 root q)) ∙ gone)

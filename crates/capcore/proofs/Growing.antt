@@ -4,11 +4,11 @@ use Rattle.inotree.specs.Tree.{Nodes}
 use Rattle.captable.specs.Table.{IsTable, entry_at}
 use Rattle.capsteps.specs.Capview.declared.change.ViewChange.{ViewChange}
 use Rattle.capsteps.specs.Capevents.declared.row.Row.{Row}
-use Rattle.capsteps.specs.State.{State}
-use Rattle.capsteps.specs.Step.{Step}
-use Rattle.capsteps.specs.Sound.{IsSound, AreGiven}
-use Rattle.capsteps.specs.Capacts.Numbers.{rows_of}
-use Rattle.capsteps.specs.History.{Told, told, IsTold, IsOpening, HasNoStray, Replays}
+use Rattle.capsteps.specs.Caprules.State.{State}
+use Rattle.capsteps.specs.Caprules.Step.{Step}
+use Rattle.capsteps.specs.Caprules.Sound.{IsSound, AreGiven}
+use Rattle.capsteps.specs.Caprules.Numbers.{rows_of}
+use Rattle.capsteps.specs.Caprules.History.{Told, told, IsTold, IsOpening, HasNoStray, Replays}
 use Rattle.capsteps.proofs.Capacts.Numbered.{numbered-nil, numbered-snoc}
 use Rattle.capsteps.proofs.ShownSteps.{step-shown}
 use Rattle.capcore.proofs.Sounding.{opening-sound, opening-given}

@@ -17,12 +17,12 @@ use Rattle.capsteps.specs.Lockmachine.Scene.{Scene}
 use Rattle.capsteps.specs.Capevents.declared.event.Event.{Event}
 use Rattle.capsteps.specs.Capevents.declared.event.Event.TheVariants as event
 use Rattle.capsteps.specs.Capevents.declared.event.OpenMode.{OpenMode}
-use Rattle.capsteps.specs.Capacts.declared.stopped.Stopped.{Stopped}
-use Rattle.capsteps.specs.State.{State}
-use Rattle.capsteps.specs.Direct.{Direct, direct, effect, effect_unless, found, with_entry, with_opening}
-use Rattle.capsteps.specs.Headline.{holds, is_due, IssuesExactly}
-use Rattle.capsteps.specs.Capacts.Judge.{judged, revoked_of}
-use Rattle.capsteps.specs.Shown.{may_take, TakesOnlySo}
+use Rattle.capsteps.specs.Caprules.declared.stopped.Stopped.{Stopped}
+use Rattle.capsteps.specs.Caprules.State.{State}
+use Rattle.capsteps.specs.Caprules.Direct.{Direct, direct, effect, effect_unless, found, with_entry, with_opening}
+use Rattle.capsteps.specs.Caprules.Headline.{holds, is_due, IssuesExactly}
+use Rattle.capsteps.specs.Caprules.Judge.{judged, revoked_of}
+use Rattle.capsteps.specs.Caprules.Shown.{may_take, TakesOnlySo}
 use Rattle.capsteps.proofs.ShownSteps.{apart-of, apart_client, entry_at-entry_other}
 use Rattle.capcore.proofs.ShownWords.{holds-entry, holds-found, gone_is}
 

@@ -9,15 +9,15 @@ use Rattle.capsteps.specs.Lockmachine.declared.request.Change.{Change}
 use Rattle.capsteps.specs.Lockmachine.Locks.{IsLockMap}
 use Rattle.capsteps.specs.Capevents.declared.event.Event.{Event}
 use Rattle.capsteps.specs.Capevents.declared.event.Event.TheVariants as event
-use Rattle.capsteps.specs.Capacts.declared.stopped.Stopped.{Stopped}
+use Rattle.capsteps.specs.Caprules.declared.stopped.Stopped.{Stopped}
 use Rattle.capsteps.specs.declared.touch.Touch.{Touch}
 use Rattle.capsteps.specs.declared.touch.Touch.TheVariants.{Open, Want, Ack, Release}
-use Rattle.capsteps.specs.State.{State}
-use Rattle.capsteps.specs.Capacts.Judge.{judged}
-use Rattle.capsteps.specs.Direct.{Direct, direct, effect, effect_unless}
+use Rattle.capsteps.specs.Caprules.State.{State}
+use Rattle.capsteps.specs.Caprules.Judge.{judged}
+use Rattle.capsteps.specs.Caprules.Direct.{Direct, direct, effect, effect_unless}
 use Rattle.capsteps.specs.Touch.{touch_event}
 use Rattle.capsteps.specs.Touching.{touched_by, asks_for, TouchesOne}
-use Rattle.capsteps.specs.Sound.{IsSound, AreGiven}
+use Rattle.capsteps.specs.Caprules.Sound.{IsSound, AreGiven}
 use Rattle.capcore.proofs.Asked.{asking, asking-stop, asking-direct, asking-touches, below-of_ask, order-of_ask}
 use Rattle.capcore.proofs.Flushed.{flush-touches, flush-table, below-of_flush}
 use Rattle.capsteps.proofs.Touched.{touches-touched, table-of_touch, below-of_touch, keeps-of_touch, locks-of_touch, AreBelow, Keeps}

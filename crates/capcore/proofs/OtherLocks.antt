@@ -14,12 +14,12 @@ use Rattle.capsteps.proofs.Lockmachine.Moving.{is_at, with_lock-each}
 use Rattle.capsteps.specs.Capevents.declared.event.Event.{Event}
 use Rattle.capsteps.specs.Capevents.declared.outcome.Ended.{Ended}
 use Rattle.capsteps.specs.Capevents.declared.reply.Reply.{Reply}
-use Rattle.capsteps.specs.Direct.{Answer, Says, Shows, Gives, Awaits, direct, shown}
-use Rattle.capsteps.specs.Capacts.Finish.{is_kept, issue, sizes_owed}
-use Rattle.capsteps.specs.Headline.{ByMoves, OtherLocksStay, is_of_lock_at}
-use Rattle.capsteps.specs.Settle.{Made, Began, Gathered, Served, Makes, MakesAll, sized_in}
-use Rattle.capsteps.specs.State.{State}
-use Rattle.capsteps.specs.Step.{Step, state_after}
+use Rattle.capsteps.specs.Caprules.Direct.{Answer, Says, Shows, Gives, Awaits, direct, shown}
+use Rattle.capsteps.specs.Caprules.Finish.{is_kept, issue, sizes_owed}
+use Rattle.capsteps.specs.Caprules.Headline.{ByMoves, OtherLocksStay, is_of_lock_at}
+use Rattle.capsteps.specs.Caprules.Settle.{Made, Began, Gathered, Served, Makes, MakesAll, sized_in}
+use Rattle.capsteps.specs.Caprules.State.{State}
+use Rattle.capsteps.specs.Caprules.Step.{Step, state_after}
 use Rattle.capsteps.proofs.Strays.{retained-here, retained-gone}
 
 -- ---- the moves

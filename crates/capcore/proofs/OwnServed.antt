@@ -33,13 +33,13 @@ use Rattle.capsteps.proofs.Lockmachine.Rest.{same_part_is}
 use Rattle.capsteps.specs.Capevents.declared.outcome.Outcome.{Outcome}
 use Rattle.capsteps.specs.Capevents.declared.reply.Reply.{Reply}
 use Rattle.capsteps.specs.Capevents.declared.reply.Reply.TheVariants as reply
-use Rattle.capsteps.specs.Capacts.declared.stopped.Stopped.{Stopped}
+use Rattle.capsteps.specs.Caprules.declared.stopped.Stopped.{Stopped}
 use Rattle.capsteps.specs.Capevents.Replies.{outcome_reply}
-use Rattle.capsteps.specs.Direct.{awaited_as}
+use Rattle.capsteps.specs.Caprules.Direct.{awaited_as}
 use Rattle.capsteps.specs.Capnotes.Untold.{is_of_ticket}
-use Rattle.capsteps.specs.Headline.{is_stop}
-use Rattle.capsteps.specs.Capacts.Serving.{judged_again, told_of, passed_as, outcome_unless, MayEndAs, As_judged, Without_memory}
-use Rattle.capsteps.specs.Settle.{Made, Began, Gathered, Served, MakesAll, ended_in}
+use Rattle.capsteps.specs.Caprules.Headline.{is_stop}
+use Rattle.capsteps.specs.Caprules.Serving.{judged_again, told_of, passed_as, outcome_unless, MayEndAs, As_judged, Without_memory}
+use Rattle.capsteps.specs.Caprules.Settle.{Made, Began, Gathered, Served, MakesAll, ended_in}
 use Rattle.capsteps.proofs.Stopping.{no_moves}
 
 -- ---- how a request ends that nothing stops

@@ -13,17 +13,17 @@ use Rattle.capsteps.specs.Capevents.declared.outcome.Message.{Message}
 use Rattle.capsteps.specs.Capevents.declared.reply.Reply.{Reply}
 use Rattle.capsteps.specs.Capevents.declared.reply.Reply.TheVariants as reply
 use Rattle.capsteps.specs.declared.said.Said.{Said}
-use Rattle.capsteps.specs.Capacts.declared.stopped.Stopped.{Stopped}
-use Rattle.capsteps.specs.State.{State}
+use Rattle.capsteps.specs.Caprules.declared.stopped.Stopped.{Stopped}
+use Rattle.capsteps.specs.Caprules.State.{State}
 use Rattle.capsteps.specs.Answered.{IsAnswered}
-use Rattle.capsteps.specs.Capacts.Judge.{judged, stop_by, first_denied}
-use Rattle.capsteps.specs.Direct.{Direct, Gives, direct, effect_unless, reply_of, shown}
-use Rattle.capsteps.specs.Headline.{IssuesExactly}
-use Rattle.capsteps.specs.Messages.{first_messages, with_given, after_messages}
+use Rattle.capsteps.specs.Caprules.Judge.{judged, stop_by, first_denied}
+use Rattle.capsteps.specs.Caprules.Direct.{Direct, Gives, direct, effect_unless, reply_of, shown}
+use Rattle.capsteps.specs.Caprules.Headline.{IssuesExactly}
+use Rattle.capsteps.specs.Caprules.Messages.{first_messages, with_given, after_messages}
 use Rattle.capsteps.specs.Capnotes.Untold.{is_left}
-use Rattle.capsteps.specs.Settle.{Settles}
-use Rattle.capsteps.specs.Sound.{IsSound, AreGiven}
-use Rattle.capsteps.specs.Step.{Step, all_ended, state_after}
+use Rattle.capsteps.specs.Caprules.Settle.{Settles}
+use Rattle.capsteps.specs.Caprules.Sound.{IsSound, AreGiven}
+use Rattle.capsteps.specs.Caprules.Step.{Step, all_ended, state_after}
 use Rattle.capsteps.proofs.Finishing.{sound-ends, sound-settles}
 use Rattle.capcore.proofs.Promised.{has-due}
 use Rattle.capcore.proofs.Sounding.{later-given}

@@ -22,24 +22,24 @@ use Rattle.capsteps.specs.Capevents.declared.event.Event.TheVariants as event
 use Rattle.capbits.specs.declared.refusal.Refusal.{Refusal}
 use Rattle.capsteps.specs.Capevents.declared.reply.Reply.{Reply}
 use Rattle.capsteps.specs.Capevents.declared.reply.Reply.TheVariants as reply
-use Rattle.capsteps.specs.State.{State}
+use Rattle.capsteps.specs.Caprules.State.{State}
 use Rattle.capbits.specs.Refusal.{first_failing}
-use Rattle.capsteps.specs.Capacts.Judge.{judged, before, needs, after, first_denied, stop_by}
-use Rattle.capsteps.specs.Capacts.Needs.{Need}
+use Rattle.capsteps.specs.Caprules.Judge.{judged, before, needs, after, first_denied, stop_by}
+use Rattle.capsteps.specs.Caprules.Needs.{Need}
 use Rattle.capsteps.specs.Capevents.declared.outcome.Ended.{Ended}
-use Rattle.capsteps.specs.Capacts.declared.stopped.Stopped.{Stopped}
-use Rattle.capsteps.specs.Capacts.declared.stopped.Stopped.TheVariants.{ByPolicy, ByTest}
-use Rattle.capsteps.specs.Direct.{Direct, effect, effect_unless, found, direct, opened_as, reply_of, IsDirect}
-use Rattle.capsteps.specs.Settle.{Made, MakesAll, ended_in}
+use Rattle.capsteps.specs.Caprules.declared.stopped.Stopped.{Stopped}
+use Rattle.capsteps.specs.Caprules.declared.stopped.Stopped.TheVariants.{ByPolicy, ByTest}
+use Rattle.capsteps.specs.Caprules.Direct.{Direct, effect, effect_unless, found, direct, opened_as, reply_of, IsDirect}
+use Rattle.capsteps.specs.Caprules.Settle.{Made, MakesAll, ended_in}
 use Rattle.capsteps.specs.Touching.{asks_for}
 use Rattle.capcore.proofs.Asked.{asking, asking-stop, asking-direct, asking-again, order-of_ask}
 use Rattle.capcore.proofs.OwnServed.{own-not_stopped}
-use Rattle.capsteps.specs.Step.{Step, state_after}
+use Rattle.capsteps.specs.Caprules.Step.{Step, state_after}
 use Rattle.capsteps.proofs.Stopping.{stopped-only}
-use Rattle.capsteps.specs.Capacts.Finish.{due}
-use Rattle.capsteps.specs.Sound.{IsSoundEntry, IsSound}
+use Rattle.capsteps.specs.Caprules.Finish.{due}
+use Rattle.capsteps.specs.Caprules.Sound.{IsSoundEntry, IsSound}
 use Rattle.capsteps.proofs.LeftAlone.{found-contains}
-use Rattle.capsteps.specs.Headline.{DeniedExactly, DeniesByName, IssuesExactly, is_stop}
+use Rattle.capsteps.specs.Caprules.Headline.{DeniedExactly, DeniesByName, IssuesExactly, is_stop}
 
 -- ---- an event that nothing stops
 

@@ -9,12 +9,12 @@ use Rattle.captable.proofs.Tables.{IsTable-recalled}
 use Rattle.capsteps.specs.Capevents.declared.event.Event.TheVariants as event
 use Rattle.capsteps.specs.Capevents.declared.reply.Reply.TheVariants as reply
 use Rattle.capsteps.specs.declared.said.Said.{Said}
-use Rattle.capsteps.specs.State.{State}
+use Rattle.capsteps.specs.Caprules.State.{State}
 use Rattle.capsteps.specs.Capacts.Known.{KnownSets, AreKnown}
 use Rattle.capsteps.specs.Answered.{IsAnswered}
-use Rattle.capsteps.specs.Direct.{with_table}
-use Rattle.capsteps.specs.Capacts.Finish.{finished}
-use Rattle.capsteps.specs.Sound.{IsSound, AreGiven}
+use Rattle.capsteps.specs.Caprules.Direct.{with_table}
+use Rattle.capsteps.specs.Caprules.Finish.{finished}
+use Rattle.capsteps.specs.Caprules.Sound.{IsSound, AreGiven}
 use Rattle.capsteps.proofs.Finishing.{same-finished}
 use Rattle.capsteps.proofs.Knowing.{HoldAlike, known-alike, alike-where}
 use Rattle.capcore.proofs.Sounding.{later-given}

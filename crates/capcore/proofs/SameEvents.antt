@@ -10,11 +10,11 @@ use Rattle.capsteps.specs.Capevents.declared.event.Event.{Event}
 use Rattle.capsteps.specs.Capevents.declared.row.Row.{Row}
 use Rattle.capsteps.specs.Capevents.declared.outcome.Ended.{Ended}
 use Rattle.capsteps.specs.Capevents.declared.reply.Reply.{Reply}
-use Rattle.capsteps.specs.Capacts.Numbers.{AreNumbered, rows_of}
-use Rattle.capsteps.specs.History.{IsOpening, Replays}
+use Rattle.capsteps.specs.Caprules.Numbers.{AreNumbered, rows_of}
+use Rattle.capsteps.specs.Caprules.History.{IsOpening, Replays}
 use Rattle.capcore.specs.SameEvents.{FoundMemory, AllFoundMemory, events_of, ends_of, passes_of}
-use Rattle.capsteps.specs.State.{State}
-use Rattle.capsteps.specs.Step.{Step}
+use Rattle.capsteps.specs.Caprules.State.{State}
+use Rattle.capsteps.specs.Caprules.Step.{Step}
 use Rattle.capcore.proofs.Determined.{step-once, row-once, step-order}
 
 -- rows lead to one state

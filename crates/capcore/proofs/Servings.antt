@@ -14,12 +14,12 @@ use Rattle.capsteps.specs.Capevents.declared.outcome.Outcome.{Outcome}
 use Rattle.capsteps.specs.Capevents.declared.outcome.Outcome.TheVariants as outcome
 use Rattle.capbits.specs.declared.refusal.Refusal.{Refusal}
 use Rattle.capbits.specs.Refusal.{first_failing}
-use Rattle.capsteps.specs.Capacts.Judge.{first_denied, stop_by}
-use Rattle.capsteps.specs.Capacts.Needs.{Need}
-use Rattle.capsteps.specs.Capacts.Serving.{MayEndAs, As_judged, Without_memory, told_of, passed_as, outcome_unless}
-use Rattle.capsteps.specs.Capacts.Asks.{ask_before, ask_needs, ask_after}
-use Rattle.capsteps.specs.Settle.{Made, Began, Gathered, Served, Makes, MakesAll}
-use Rattle.capsteps.specs.Headline.{ServedDenied, ServedByName, EachServing}
+use Rattle.capsteps.specs.Caprules.Judge.{first_denied, stop_by}
+use Rattle.capsteps.specs.Caprules.Needs.{Need}
+use Rattle.capsteps.specs.Caprules.Serving.{MayEndAs, As_judged, Without_memory, told_of, passed_as, outcome_unless}
+use Rattle.capsteps.specs.Caprules.Asks.{ask_before, ask_needs, ask_after}
+use Rattle.capsteps.specs.Caprules.Settle.{Made, Began, Gathered, Served, Makes, MakesAll}
+use Rattle.capsteps.specs.Caprules.Headline.{ServedDenied, ServedByName, EachServing}
 
 -- ---- one serving
 

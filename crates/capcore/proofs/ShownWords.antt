@@ -24,15 +24,15 @@ use Rattle.capsteps.specs.Lockmachine.Told.{is_taken}
 use Rattle.capsteps.proofs.Lockmachine.Told.{has-against, has-told, pin-takes_all}
 use Rattle.capsteps.specs.Capevents.declared.event.Event.{Event}
 use Rattle.capsteps.specs.Capevents.declared.event.Event.TheVariants as event
-use Rattle.capsteps.specs.Capacts.declared.stopped.Stopped.{Stopped}
+use Rattle.capsteps.specs.Caprules.declared.stopped.Stopped.{Stopped}
 use Rattle.capsteps.specs.declared.touch.Touch.TheVariants.{Ack}
-use Rattle.capsteps.specs.Direct.{Direct, direct, effect_unless}
-use Rattle.capsteps.specs.Headline.{holds}
-use Rattle.capsteps.specs.Capacts.Judge.{judged, revoked_of}
+use Rattle.capsteps.specs.Caprules.Direct.{Direct, direct, effect_unless}
+use Rattle.capsteps.specs.Caprules.Headline.{holds}
+use Rattle.capsteps.specs.Caprules.Judge.{judged, revoked_of}
 use Rattle.capsteps.specs.Capevents.declared.row.Row.{Row}
-use Rattle.capsteps.specs.State.{State}
-use Rattle.capsteps.specs.Shown.{AreShown, ShowsWhatIsTold, ShowsOnlyPermitted, TakesUnshown, shown_of}
-use Rattle.capsteps.specs.Sound.{IsSound, IsSoundEntry}
+use Rattle.capsteps.specs.Caprules.State.{State}
+use Rattle.capsteps.specs.Caprules.Shown.{AreShown, ShowsWhatIsTold, ShowsOnlyPermitted, TakesUnshown, shown_of}
+use Rattle.capsteps.specs.Caprules.Sound.{IsSound, IsSoundEntry}
 use Rattle.capsteps.proofs.LeftAlone.{found-contains}
 use Rattle.capsteps.proofs.Placed.{told-permitted}
 use Rattle.capsteps.proofs.Revoking.{revoked-found}

@@ -15,9 +15,9 @@ use Rattle.capsteps.specs.Lockmachine.Inodes.{in_sync}
 use Rattle.capsteps.specs.Lockmachine.Requests.{first_for}
 use Rattle.capsteps.proofs.Lockmachine.Idle.{InSync, idle}
 use Rattle.capsteps.proofs.Lockmachine.Rest.{at_rest}
-use Rattle.capsteps.specs.State.{State}
-use Rattle.capsteps.specs.History.{HasNoStray, IsOpening}
-use Rattle.capsteps.specs.Sound.{IsSoundEntry, IsSound, AreGiven}
+use Rattle.capsteps.specs.Caprules.State.{State}
+use Rattle.capsteps.specs.Caprules.History.{HasNoStray, IsOpening}
+use Rattle.capsteps.specs.Caprules.Sound.{IsSoundEntry, IsSound, AreGiven}
 use Rattle.capsteps.proofs.LeftAlone.{some_same}
 
 -- ---- numbers

@@ -11,19 +11,19 @@ use Rattle.capsteps.specs.Capevents.declared.event.Event.TheVariants as event
 use Rattle.capsteps.specs.Capevents.declared.outcome.Ended.{Ended}
 use Rattle.capsteps.specs.Capevents.declared.reply.Reply.{Reply}
 use Rattle.capsteps.specs.declared.said.Said.{Said}
-use Rattle.capsteps.specs.Capacts.declared.stopped.Stopped.{Stopped}
-use Rattle.capsteps.specs.Capacts.declared.stopped.Stopped.TheVariants.{ByPolicy, ByTest}
-use Rattle.capsteps.specs.State.{State}
+use Rattle.capsteps.specs.Caprules.declared.stopped.Stopped.{Stopped}
+use Rattle.capsteps.specs.Caprules.declared.stopped.Stopped.TheVariants.{ByPolicy, ByTest}
+use Rattle.capsteps.specs.Caprules.State.{State}
 use Rattle.capsteps.specs.Answered.{IsAnswered}
 use Rattle.inotree.specs.declared.node.Kind.TheVariants.{Directory, File}
-use Rattle.capsteps.specs.Capacts.Judge.{judged}
+use Rattle.capsteps.specs.Caprules.Judge.{judged}
 use Rattle.capsteps.specs.Capevents.Replies.{has_list}
-use Rattle.capsteps.specs.Direct.{Answer, Says, Shows, Gives, Awaits, Direct, direct, effect, effect_unless, found, reply_of, shown, with_scene, IsDirect}
-use Rattle.capsteps.specs.Settle.{Settles}
-use Rattle.capsteps.specs.Capacts.Finish.{sizes_owed, finished}
+use Rattle.capsteps.specs.Caprules.Direct.{Answer, Says, Shows, Gives, Awaits, Direct, direct, effect, effect_unless, found, reply_of, shown, with_scene, IsDirect}
+use Rattle.capsteps.specs.Caprules.Settle.{Settles}
+use Rattle.capsteps.specs.Caprules.Finish.{sizes_owed, finished}
 use Rattle.capsteps.specs.Leaving.{with_parts, LeavesEntries}
-use Rattle.capsteps.specs.Sound.{IsSound, AreGiven}
-use Rattle.capsteps.specs.Step.{Step, state_after}
+use Rattle.capsteps.specs.Caprules.Sound.{IsSound, AreGiven}
+use Rattle.capsteps.specs.Caprules.Step.{Step, state_after}
 use Rattle.capsteps.specs.Touching.{touched_by, turned_by, is_listing}
 use Rattle.capsteps.proofs.Finishing.{none-sized, sound-settles}
 use Rattle.capsteps.proofs.Judging.{no_test}

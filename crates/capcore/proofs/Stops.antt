@@ -16,16 +16,16 @@ use Rattle.capsteps.specs.Capevents.declared.event.Event.TheVariants as event
 use Rattle.capsteps.specs.Capevents.declared.outcome.Ended.{Ended}
 use Rattle.capsteps.specs.Capevents.declared.reply.Reply.{Reply}
 use Rattle.capsteps.specs.declared.said.Said.{Said}
-use Rattle.capsteps.specs.Capacts.declared.stopped.Stopped.{Stopped}
-use Rattle.capsteps.specs.State.{State}
+use Rattle.capsteps.specs.Caprules.declared.stopped.Stopped.{Stopped}
+use Rattle.capsteps.specs.Caprules.State.{State}
 use Rattle.capsteps.specs.Answered.{IsAnswered}
-use Rattle.capsteps.specs.Direct.{Direct, direct, effect_unless, says}
-use Rattle.capsteps.specs.Headline.{IssuesExactly}
-use Rattle.capsteps.specs.Capacts.Asks.{ask_needs}
-use Rattle.capsteps.specs.Capacts.Judge.{judged, stop, stop_reply, asked_tests, asking_tests, waiting_tests}
-use Rattle.capsteps.specs.Capacts.Needs.{need}
-use Rattle.capsteps.specs.Sound.{IsSound}
-use Rattle.capsteps.specs.Step.{Step}
+use Rattle.capsteps.specs.Caprules.Direct.{Direct, direct, effect_unless, says}
+use Rattle.capsteps.specs.Caprules.Headline.{IssuesExactly}
+use Rattle.capsteps.specs.Caprules.Asks.{ask_needs}
+use Rattle.capsteps.specs.Caprules.Judge.{judged, stop, stop_reply, asked_tests, asking_tests, waiting_tests}
+use Rattle.capsteps.specs.Caprules.Needs.{need}
+use Rattle.capsteps.specs.Caprules.Sound.{IsSound}
+use Rattle.capsteps.specs.Caprules.Step.{Step}
 use Rattle.capsteps.specs.Touching.{asks_for, touched_by}
 use Rattle.capcore.proofs.Promised.{has-due}
 use Rattle.capcore.proofs.Sounding.{later-given}

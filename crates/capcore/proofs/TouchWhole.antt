@@ -12,12 +12,12 @@ use Rattle.capsteps.specs.declared.touch.Touch.{Touch}
 use Rattle.capsteps.specs.declared.touch.Touch.TheVariants.{Open, Want, Ack, Release}
 use Rattle.capsteps.specs.Capevents.declared.event.Event.{Event}
 use Rattle.capsteps.specs.Capevents.declared.outcome.Ended.{Ended}
-use Rattle.capsteps.specs.Capacts.declared.stopped.Stopped.{Stopped}
-use Rattle.capsteps.specs.State.{State}
-use Rattle.capsteps.specs.Capacts.Judge.{judged, revoked_of}
+use Rattle.capsteps.specs.Caprules.declared.stopped.Stopped.{Stopped}
+use Rattle.capsteps.specs.Caprules.State.{State}
+use Rattle.capsteps.specs.Caprules.Judge.{judged, revoked_of}
 use Rattle.capsteps.specs.Capevents.Replies.{has_list}
-use Rattle.capsteps.specs.Direct.{direct, effect, effect_unless, reply_of, shown, opened_as}
-use Rattle.capsteps.specs.Sound.{IsSound}
+use Rattle.capsteps.specs.Caprules.Direct.{direct, effect, effect_unless, reply_of, shown, opened_as}
+use Rattle.capsteps.specs.Caprules.Sound.{IsSound}
 use Rattle.capsteps.specs.Touch.{touch_event, touched_table, touch_answer}
 use Rattle.capsteps.specs.Touching.{touched_by}
 use Rattle.capsteps.proofs.Knowing.{HoldAlike}

@@ -30,18 +30,18 @@ use Rattle.capsteps.specs.Capevents.declared.event.Event.{Event}
 use Rattle.capsteps.specs.Capevents.declared.outcome.Ended.{Ended}
 use Rattle.capsteps.specs.Capevents.declared.reply.Reply.TheVariants as reply
 use Rattle.capsteps.specs.declared.said.Said.{Said}
-use Rattle.capsteps.specs.Capacts.declared.stopped.Stopped.TheVariants.{ByTest}
-use Rattle.capsteps.specs.State.{State}
+use Rattle.capsteps.specs.Caprules.declared.stopped.Stopped.TheVariants.{ByTest}
+use Rattle.capsteps.specs.Caprules.State.{State}
 use Rattle.capsteps.specs.Answered.{IsAnswered}
-use Rattle.capsteps.specs.Direct.{Direct, direct, reply_of, shown}
-use Rattle.capsteps.specs.Capacts.Judge.{judged, stop}
+use Rattle.capsteps.specs.Caprules.Direct.{Direct, direct, reply_of, shown}
+use Rattle.capsteps.specs.Caprules.Judge.{judged, stop}
 use Rattle.capsteps.specs.Capnotes.Untold.{is_to}
 use Rattle.capsteps.specs.Capacts.Reach.{is_touched}
 use Rattle.capsteps.specs.Serves.{SettlesWith, EndsWith}
-use Rattle.capsteps.specs.Capacts.Finish.{sizes_owed}
-use Rattle.capsteps.specs.Settle.{ended_in, sized_in}
-use Rattle.capsteps.specs.Sound.{IsSound, NumbersLeft}
-use Rattle.capsteps.specs.Step.{earlier, all_ended, state_at_end}
+use Rattle.capsteps.specs.Caprules.Finish.{sizes_owed}
+use Rattle.capsteps.specs.Caprules.Settle.{ended_in, sized_in}
+use Rattle.capsteps.specs.Caprules.Sound.{IsSound, NumbersLeft}
+use Rattle.capsteps.specs.Caprules.Step.{earlier, all_ended, state_at_end}
 use Rattle.capsteps.specs.Touching.{Touches, SettlesAt, Knows, finished_at}
 use Rattle.capsteps.specs.Capacts.Known.{KnownSets, known_in, AreKnown, StillKept}
 use Rattle.capsteps.specs.Capacts.Left.{is_end, table_left, locks_left, messages_left, dropped_by}

@@ -34,11 +34,11 @@ use Rattle.capsteps.proofs.Lockmachine.SameOutside.{outside-itself, outside-then
 use Rattle.capsteps.specs.Capacts.declared.leaving.Turn.{Turn}
 use Rattle.capsteps.specs.Capacts.declared.leaving.Turn.TheVariants.{Close, Stale, Renew, Regrant, Evict}
 use Rattle.capsteps.specs.Capevents.declared.reply.Reply.TheVariants as reply
-use Rattle.capsteps.specs.State.{State}
-use Rattle.capsteps.specs.Direct.{Direct, Says, direct, effect, effect_unless}
-use Rattle.capsteps.specs.Capacts.Judge.{judged}
+use Rattle.capsteps.specs.Caprules.State.{State}
+use Rattle.capsteps.specs.Caprules.Direct.{Direct, Says, direct, effect, effect_unless}
+use Rattle.capsteps.specs.Caprules.Judge.{judged}
 use Rattle.capsteps.specs.Capnotes.Untold.{is_to}
-use Rattle.capsteps.specs.Sound.{IsSound}
+use Rattle.capsteps.specs.Caprules.Sound.{IsSound}
 use Rattle.capsteps.specs.Touching.{Touches, IsTouchedEntry}
 use Rattle.capsteps.specs.Capacts.Left.{is_end, table_left, locks_left, messages_left, dropped_by}
 use Rattle.capsteps.specs.Turn.{turn_event, turned_sessions, turned}

@@ -7,8 +7,8 @@ use Rattle.inotree.specs.Tree.{IsTree}
 use Rattle.numbered.proofs.Maps.{put_back}
 use Rattle.capsteps.specs.Lockmachine.Inodes.{StateMap, in_sync}
 use Rattle.capsteps.specs.Lockmachine.Locks.{LockMap, with_ino, without_ino}
-use Rattle.capsteps.specs.State.{State}
-use Rattle.capsteps.specs.Sound.{IsSound}
+use Rattle.capsteps.specs.Caprules.State.{State}
+use Rattle.capsteps.specs.Caprules.Sound.{IsSound}
 use Rattle.capsteps.proofs.LeftAlone.{no_locks}
 
 pub added-dropped : (locks : LockMap) (ino : ℕ) → map.get locks.states ino ≡ None → without_ino (with_ino locks ino) ino ≡ locks

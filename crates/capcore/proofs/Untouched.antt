@@ -31,9 +31,9 @@ use Rattle.capsteps.specs.Lockmachine.Locks.{with_ino}
 use Rattle.capsteps.specs.Lockmachine.Policy.{permitted}
 use Rattle.capsteps.specs.Lockmachine.Wants.{effective_want}
 use Rattle.capsteps.proofs.Lockmachine.PolicyElsewhere.{permitted-session, permitted-new, permitted-changed, want-session, want-new, want-changed}
-use Rattle.capsteps.specs.State.{State}
-use Rattle.capsteps.specs.Direct.{with_scene, with_tree, with_birth}
-use Rattle.capsteps.specs.Sound.{IsSoundEntry, IsSound}
+use Rattle.capsteps.specs.Caprules.State.{State}
+use Rattle.capsteps.specs.Caprules.Direct.{with_scene, with_tree, with_birth}
+use Rattle.capsteps.specs.Caprules.Sound.{IsSoundEntry, IsSound}
 use Rattle.capsteps.specs.Leaving.{LeavesEntries}
 use Rattle.capsteps.proofs.LeftAlone.{kept-sound, none_if, some_same, no_locks, kept-known}
 

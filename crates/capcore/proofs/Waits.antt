@@ -14,16 +14,16 @@ use Rattle.capsteps.specs.Lockmachine.Scene.{Scene}
 use Rattle.capsteps.specs.Lockmachine.Moves.{IsQuietOutside}
 use Rattle.capsteps.proofs.Lockmachine.SameOutside.{rest-outside}
 use Rattle.captable.specs.Table.{IsTable}
-use Rattle.capsteps.specs.State.{State}
+use Rattle.capsteps.specs.Caprules.State.{State}
 use Rattle.capsteps.specs.Answered.{IsAnswered}
-use Rattle.capsteps.specs.Capacts.Asks.{ask_needs}
+use Rattle.capsteps.specs.Caprules.Asks.{ask_needs}
 use Rattle.capsteps.specs.declared.said.Said.{Said}
-use Rattle.capsteps.specs.Direct.{Answer, Awaits, Direct, direct, reply_of, shown, with_scene, awaited_as}
+use Rattle.capsteps.specs.Caprules.Direct.{Answer, Awaits, Direct, direct, reply_of, shown, with_scene, awaited_as}
 use Rattle.capsteps.specs.Capnotes.Untold.{is_of_ticket, HaveOwnNumbers, but_for}
-use Rattle.capsteps.specs.Capacts.Judge.{judged, stop, asking_tests, waiting_tests}
+use Rattle.capsteps.specs.Caprules.Judge.{judged, stop, asking_tests, waiting_tests}
 use Rattle.capsteps.specs.Serves.{EndsWith}
-use Rattle.capsteps.specs.Sound.{IsSound}
-use Rattle.capsteps.specs.Step.{earlier}
+use Rattle.capsteps.specs.Caprules.Sound.{IsSound}
+use Rattle.capsteps.specs.Caprules.Step.{earlier}
 use Rattle.capcore.proofs.Asked.{asking-touches, asking-direct, asking-stop, order-of_ask}
 use Rattle.capcore.proofs.EndKnown.{ends-known}
 use Rattle.capsteps.proofs.Knowing.{HoldAlike, alike-less, still-there, still-knows}

@@ -14,8 +14,8 @@ use Rattle.capsteps.specs.Capview.declared.change.ViewChange.{ViewChange}
 use Rattle.capsteps.specs.Capview.contracts.change.ViewChange as view_change
 use Rattle.capsteps.specs.Capevents.contracts.outcome.Ended as ended
 use Rattle.capsteps.specs.Capevents.contracts.row.Row as history_row
-use Rattle.capsteps.specs.State.{State}
-use Rattle.capsteps.specs.History.{Told, told}
+use Rattle.capsteps.specs.Caprules.State.{State}
+use Rattle.capsteps.specs.Caprules.History.{Told, told}
 
 -- a state as its parts
 abbrev pub scene_code : Coded Scene

@@ -6,13 +6,13 @@ use Rattle.capsteps.specs.Capview.Changes.{AreChanges}
 use Rattle.capsteps.specs.Lockmachine.Moves.{IsAtRest}
 use Rattle.capsteps.specs.Capevents.declared.event.Event.{Event}
 use Rattle.capsteps.specs.Capevents.declared.reply.Reply.{Reply}
-use Rattle.capsteps.specs.State.{State}
-use Rattle.capsteps.specs.Direct.{direct}
-use Rattle.capsteps.specs.Headline.{DeniedExactly, DeniesByName, ServedDenied, ServedByName, EachServing, ByMoves, AreBounded, OtherLocksStay, IssuesExactly, AreInPlace, AreRevoked, NoneConflict, is_stop}
-use Rattle.capsteps.specs.History.{Told, IsNext, InItsRow, Replays}
-use Rattle.capsteps.specs.Noted.{view_of}
-use Rattle.capsteps.specs.Shown.{ShowsWhatIsTold, ShowsOnlyPermitted, TakesUnshown, TakesOnlySo}
-use Rattle.capsteps.specs.Sound.{IsSound}
+use Rattle.capsteps.specs.Caprules.State.{State}
+use Rattle.capsteps.specs.Caprules.Direct.{direct}
+use Rattle.capsteps.specs.Caprules.Headline.{DeniedExactly, DeniesByName, ServedDenied, ServedByName, EachServing, ByMoves, AreBounded, OtherLocksStay, IssuesExactly, AreInPlace, AreRevoked, NoneConflict, is_stop}
+use Rattle.capsteps.specs.Caprules.History.{Told, IsNext, InItsRow, Replays}
+use Rattle.capsteps.specs.Caprules.Noted.{view_of}
+use Rattle.capsteps.specs.Caprules.Shown.{ShowsWhatIsTold, ShowsOnlyPermitted, TakesUnshown, TakesOnlySo}
+use Rattle.capsteps.specs.Caprules.Sound.{IsSound}
 
 pub record IsPromised (old : Told) (pass : PassId) (event : Event) (answer : Reply) (new : Told) : Type 0 where
   -- one step of the rules, and one row

@@ -3,9 +3,9 @@ ghost use Rattle.std.specs.Prelude.{◌≡◌, Some, IfOk, OnErr};
 ghost use Rattle.captable.specs.Table.{holder};
 ghost use Rattle.capsteps.specs.Capevents.declared.event.Event.{Event};
 ghost use Rattle.capsteps.specs.Answered.{IsAnswered};
-ghost use Rattle.capsteps.specs.Noted.{view_of};
+ghost use Rattle.capsteps.specs.Caprules.Noted.{view_of};
 ghost use Rattle.capsteps.specs.Capview.Changes.{AreChanges};
-ghost use Rattle.capsteps.specs.Sound.{NumbersLeft};
+ghost use Rattle.capsteps.specs.Caprules.Sound.{NumbersLeft};
 ghost use Rattle.capsteps.specs.Touching.{asks_for};
 ghost use Rattle.capcore.specs.Asks.{ask_of};
 

@@ -3,9 +3,9 @@ ghost use Rattle.std.specs.Prelude.{◌≡◌, IfOk, OnErr};
 ghost use Rattle.captable.specs.Table.{holder};
 ghost use Rattle.capsteps.specs.Capevents.declared.event.Event.TheVariants as event;
 ghost use Rattle.capsteps.specs.Answered.{IsAnswered};
-ghost use Rattle.capsteps.specs.Noted.{view_of};
+ghost use Rattle.capsteps.specs.Caprules.Noted.{view_of};
 ghost use Rattle.capsteps.specs.Capview.Changes.{AreChanges};
-ghost use Rattle.capsteps.specs.Sound.{NumbersLeft};
+ghost use Rattle.capsteps.specs.Caprules.Sound.{NumbersLeft};
 
 use crate::judging::flush_stop;
 use crate::world::World;

@@ -4,11 +4,11 @@ ghost use Rattle.std.specs.Prelude.{◌≡◌, ℕ};
 ghost use Rattle.captable.specs.Table.{IsTable};
 ghost use Rattle.captable.specs.Calls.{recalled};
 ghost use Rattle.capsteps.specs.Lockmachine.Scene.{Scene};
-ghost use Rattle.capsteps.specs.State.{State};
-ghost use Rattle.capsteps.specs.Direct.{Answer, shown, with_table};
-ghost use Rattle.capsteps.specs.Capacts.Finish.{finished};
-ghost use Rattle.capsteps.specs.Headline.{IssuesExactly};
-ghost use Rattle.capsteps.specs.Sound.{IsSound, AreGiven};
+ghost use Rattle.capsteps.specs.Caprules.State.{State};
+ghost use Rattle.capsteps.specs.Caprules.Direct.{Answer, shown, with_table};
+ghost use Rattle.capsteps.specs.Caprules.Finish.{finished};
+ghost use Rattle.capsteps.specs.Caprules.Headline.{IssuesExactly};
+ghost use Rattle.capsteps.specs.Caprules.Sound.{IsSound, AreGiven};
 
 /// What a client is told at the end of a step leaves a sound state sound, nothing to do and all that is held as it was.
 pub fn telling_leaves_all_but_what_was_told()

@@ -8,11 +8,11 @@ ghost use Rattle.sessiontab.specs.Tests.{connected_test, session_tests};
 ghost use Rattle.capsteps.specs.Lockmachine.Locks.{LockMap};
 ghost use Rattle.capsteps.specs.Lockmachine.Scene.{Scene, scene};
 ghost use Rattle.capsteps.specs.Capevents.declared.event.Event.TheVariants as event;
-ghost use Rattle.capsteps.specs.Capacts.Asks as words;
-ghost use Rattle.capsteps.specs.Capacts.Asks.{ask_after, ask_before, ask_needs};
-ghost use Rattle.capsteps.specs.Capacts.Judge.{asked_tests, asking_tests, before, flush_tests, judged, opening_needs, opening_tests, room_for, stop, waiting_tests};
+ghost use Rattle.capsteps.specs.Caprules.Asks as words;
+ghost use Rattle.capsteps.specs.Caprules.Asks.{ask_after, ask_before, ask_needs};
+ghost use Rattle.capsteps.specs.Caprules.Judge.{asked_tests, asking_tests, before, flush_tests, judged, opening_needs, opening_tests, room_for, stop, waiting_tests};
 ghost use Rattle.capsteps.specs.Capacts.Known.{AreKnown};
-ghost use Rattle.capsteps.specs.Capacts.Needs.{need};
+ghost use Rattle.capsteps.specs.Caprules.Needs.{need};
 ghost use Rattle.capsteps.specs.Touch.{touch_event};
 ghost use Rattle.capcore.specs.Asks.{ask_of};
 
@@ -25,7 +25,7 @@ use capsteps::known::Known;
 use capsteps::serving::{
     ask_denial, before_refusal, change_access, change_refusal, places_refusal, rename_denial,
 };
-use capsteps::stopped::Stopped;
+use capsteps::Stopped;
 use capsteps::touch::{Touch, revoked_of};
 use capsteps::{Ask, Change, Locks, OpenMode};
 use captable::{CapTable, Holder};

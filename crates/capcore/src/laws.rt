@@ -20,18 +20,18 @@ ghost use Rattle.capsteps.specs.Capevents.declared.event.Event.{Event};
 ghost use Rattle.capsteps.specs.Capevents.declared.row.Row.{Row};
 ghost use Rattle.capsteps.specs.Capevents.declared.outcome.Ended.{Ended};
 ghost use Rattle.capsteps.specs.Capevents.declared.reply.Reply.{Reply};
-ghost use Rattle.capsteps.specs.Capacts.declared.stopped.Stopped.{Stopped};
-ghost use Rattle.capsteps.specs.State.{State};
-ghost use Rattle.capsteps.specs.Direct.{with_scene};
+ghost use Rattle.capsteps.specs.Caprules.declared.stopped.Stopped.{Stopped};
+ghost use Rattle.capsteps.specs.Caprules.State.{State};
+ghost use Rattle.capsteps.specs.Caprules.Direct.{with_scene};
 ghost use Rattle.capsteps.specs.Leaving.{with_parts, LeavesEntries};
-ghost use Rattle.capsteps.specs.Capacts.Judge.{judged, stop_reply};
-ghost use Rattle.capsteps.specs.Step.{Step, StepBy};
-ghost use Rattle.capsteps.specs.History.{HasNoStray, IsOpening, Replays, IsLegal};
+ghost use Rattle.capsteps.specs.Caprules.Judge.{judged, stop_reply};
+ghost use Rattle.capsteps.specs.Caprules.Step.{Step, StepBy};
+ghost use Rattle.capsteps.specs.Caprules.History.{HasNoStray, IsOpening, Replays, IsLegal};
 ghost use Rattle.capcore.specs.SameEvents.{FoundMemory, AllFoundMemory, events_of, ends_of, passes_of};
-ghost use Rattle.capsteps.specs.Settle.{Made, MakesAll, Settles, ended_in};
-ghost use Rattle.capsteps.specs.Capacts.Finish.{finished};
-ghost use Rattle.capsteps.specs.Headline.{EachServing, ServedDenied, ServedByName, NoneConflict};
-ghost use Rattle.capsteps.specs.Sound.{IsSound};
+ghost use Rattle.capsteps.specs.Caprules.Settle.{Made, MakesAll, Settles, ended_in};
+ghost use Rattle.capsteps.specs.Caprules.Finish.{finished};
+ghost use Rattle.capsteps.specs.Caprules.Headline.{EachServing, ServedDenied, ServedByName, NoneConflict};
+ghost use Rattle.capsteps.specs.Caprules.Sound.{IsSound};
 
 /// The opening state is sound.
 pub fn an_opening_is_sound()

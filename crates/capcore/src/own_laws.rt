@@ -6,12 +6,12 @@ ghost use Rattle.capbits.specs.declared.ids.Ino.{Ino};
 ghost use Rattle.capsteps.specs.Lockmachine.declared.request.Ask.{Ask};
 ghost use Rattle.capsteps.specs.Lockmachine.Locks.{IsLockMap, next_request, with_request};
 ghost use Rattle.capsteps.specs.Lockmachine.Scene.{Scene};
-ghost use Rattle.capsteps.specs.State.{State};
-ghost use Rattle.capsteps.specs.Direct.{Awaits, reply_of};
-ghost use Rattle.capsteps.specs.Headline.{is_stop};
-ghost use Rattle.capsteps.specs.Capacts.Serving.{judged_again};
-ghost use Rattle.capsteps.specs.Settle.{Made, MakesAll, ended_in};
-ghost use Rattle.capsteps.specs.Sound.{IsSound};
+ghost use Rattle.capsteps.specs.Caprules.State.{State};
+ghost use Rattle.capsteps.specs.Caprules.Direct.{Awaits, reply_of};
+ghost use Rattle.capsteps.specs.Caprules.Headline.{is_stop};
+ghost use Rattle.capsteps.specs.Caprules.Serving.{judged_again};
+ghost use Rattle.capsteps.specs.Caprules.Settle.{Made, MakesAll, ended_in};
+ghost use Rattle.capsteps.specs.Caprules.Sound.{IsSound};
 
 /// A request that nothing stops when it comes, and that is served in the same step, is neither denied nor refused: no
 /// request of an earlier step is served before it, so it is judged on the tree and the sessions on which it came.

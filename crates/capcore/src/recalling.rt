@@ -2,7 +2,7 @@
 ghost use Rattle.std.specs.Prelude.{◌≡◌, IfOk, OnErr};
 ghost use Rattle.capsteps.specs.Capevents.declared.event.Event.TheVariants as event;
 ghost use Rattle.capsteps.specs.Answered.{IsAnswered};
-ghost use Rattle.capsteps.specs.Noted.{view_of};
+ghost use Rattle.capsteps.specs.Caprules.Noted.{view_of};
 ghost use Rattle.capsteps.specs.Capview.Changes.{AreChanges};
 
 use crate::world::World;

@@ -1,6 +1,6 @@
 //! The core and its steps.
 ghost use Rattle.std.specs.Prelude.{◌≡◌, ◌↔◌, ◌<◌, [], length, Err, IfOk, OnErr};
-ghost use Rattle.capsteps.specs.History.{HasNoStray, IsOpening, IsTold};
+ghost use Rattle.capsteps.specs.Caprules.History.{HasNoStray, IsOpening, IsTold};
 ghost use Rattle.capcore.specs.Promised.{IsPromised};
 ghost use Rattle.sessiontab.specs.Calls.{status_of};
 ghost use Rattle.captable.specs.Table.{holder, entry_at};
@@ -33,7 +33,7 @@ pub struct Core {
 }
 
 impl Model for Core {
-    ghost use Rattle.capsteps.specs.History.{Told, IsTold, told};
+    ghost use Rattle.capsteps.specs.Caprules.History.{Told, IsTold, told};
     ghost use Rattle.capcore.specs.Codes.{told_code};
 
     ghost Value = { Told };

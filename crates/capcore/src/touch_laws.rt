@@ -4,11 +4,11 @@ ghost use Rattle.std.specs.Prelude.{◌≡◌, List};
 ghost use Rattle.capsteps.specs.Lockmachine.Scene.{Scene};
 ghost use Rattle.capsteps.specs.Capevents.declared.event.Event.{Event};
 ghost use Rattle.capsteps.specs.Capevents.declared.reply.Reply.{Reply};
-ghost use Rattle.capsteps.specs.State.{State};
-ghost use Rattle.capsteps.specs.Direct.{direct, reply_of, shown};
-ghost use Rattle.capsteps.specs.Capacts.Finish.{sizes_owed, finished};
-ghost use Rattle.capsteps.specs.Settle.{Made, Settles, ended_in, sized_in};
-ghost use Rattle.capsteps.specs.Step.{Step, all_ended, state_at_end};
+ghost use Rattle.capsteps.specs.Caprules.State.{State};
+ghost use Rattle.capsteps.specs.Caprules.Direct.{direct, reply_of, shown};
+ghost use Rattle.capsteps.specs.Caprules.Finish.{sizes_owed, finished};
+ghost use Rattle.capsteps.specs.Caprules.Settle.{Made, Settles, ended_in, sized_in};
+ghost use Rattle.capsteps.specs.Caprules.Step.{Step, all_ended, state_at_end};
 
 /// An event is a whole step, once the locks have settled, the step has ended and its client was told what is answered. The
 /// requests that the event dropped and those of earlier steps that were served are what the step ended.

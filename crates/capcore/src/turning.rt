@@ -2,8 +2,8 @@
 ghost use Rattle.std.specs.Prelude.{◌≡◌, IfOk, OnErr};
 ghost use Rattle.capsteps.specs.Capview.Changes.{AreChanges};
 ghost use Rattle.capsteps.specs.Answered.{IsAnswered};
-ghost use Rattle.capsteps.specs.Noted.{view_of};
-ghost use Rattle.capsteps.specs.Sound.{NumbersLeft};
+ghost use Rattle.capsteps.specs.Caprules.Noted.{view_of};
+ghost use Rattle.capsteps.specs.Caprules.Sound.{NumbersLeft};
 ghost use Rattle.capsteps.specs.Turn.{turn_event};
 
 use crate::world::World;

@@ -3,8 +3,8 @@ ghost use Rattle.std.specs.Prelude.{List, ◌≡◌, ◌+◌, false, [], None, I
 ghost use Rattle.inotree.specs.Tree.{is_directory};
 ghost use Rattle.inotree.specs.Calls.{with_new};
 ghost use Rattle.inotree.specs.Tests.{create_tests};
-ghost use Rattle.capsteps.specs.State.{State};
-ghost use Rattle.capsteps.specs.Sound.{IsSound, NumbersLeft};
+ghost use Rattle.capsteps.specs.Caprules.State.{State};
+ghost use Rattle.capsteps.specs.Caprules.Sound.{IsSound, NumbersLeft};
 ghost use Rattle.capsteps.specs.Touch.{touch_event};
 ghost use Rattle.capsteps.specs.Touching.{touched_by, turned_by, is_listing};
 ghost use Rattle.captable.specs.Table.{IsTable, Table};
@@ -12,10 +12,10 @@ ghost use Rattle.capsteps.specs.Lockmachine.Locks.{IsLockMap, LockMap};
 ghost use Rattle.sessiontab.specs.Calls.{with_session};
 ghost use Rattle.sessiontab.specs.Tests.{new_session_tests};
 ghost use Rattle.std.specs.FinMap as map;
-ghost use Rattle.capsteps.specs.Direct.{Says, IsDirect, direct, made_event, owned_by, with_birth, with_sessions};
-ghost use Rattle.capsteps.specs.History.{IsOpening, HasNoStray};
+ghost use Rattle.capsteps.specs.Caprules.Direct.{Says, IsDirect, direct, made_event, owned_by, with_birth, with_sessions};
+ghost use Rattle.capsteps.specs.Caprules.History.{IsOpening, HasNoStray};
 ghost use Rattle.capsteps.specs.Answered.{IsAnswered};
-ghost use Rattle.capsteps.specs.Noted.{view_of};
+ghost use Rattle.capsteps.specs.Caprules.Noted.{view_of};
 ghost use Rattle.capsteps.specs.Capview.Changes.{AreChanges};
 ghost use Rattle.capsteps.specs.Capview.Sight.{Shows};
 ghost use Rattle.capbits.specs.Refusal.{first_failing};
@@ -81,9 +81,9 @@ impl Drop for World {
 }
 
 impl Model for World {
-    ghost use Rattle.capsteps.specs.State.{State};
+    ghost use Rattle.capsteps.specs.Caprules.State.{State};
     ghost use Rattle.capcore.specs.Codes.{state_code};
-    ghost use Rattle.capsteps.specs.Sound.{IsSound, NumbersLeft};
+    ghost use Rattle.capsteps.specs.Caprules.Sound.{IsSound, NumbersLeft};
     ghost use Rattle.capsteps.specs.Touch.{touch_event};
     ghost use Rattle.capsteps.specs.Touching.{touched_by, is_listing};
     ghost use Rattle.capsteps.specs.Capnotes.Untold.{HasRoom};

@@ -15,9 +15,9 @@ use Rattle.capcore.specs.Lockmachine.Inodes.{in_sync}
 use Rattle.inotree.specs.Calls.{first_tree}
 use Rattle.capcore.specs.Capevents.declared.event.Event.{Event}
 use Rattle.capcore.specs.Capevents.declared.row.Row.{Row}
-use Rattle.capcore.specs.Capacts.Numbers.{AreNumbered, rows_of}
-use Rattle.capcore.specs.Capsteps.History.{Told, IsOpening, Replays}
-use Rattle.capcore.specs.Capsteps.State.{State}
+use Rattle.capcore.specs.Caprules.Numbers.{AreNumbered, rows_of}
+use Rattle.capcore.specs.Caprules.History.{Told, IsOpening, Replays}
+use Rattle.capcore.specs.Caprules.State.{State}
 use Rattle.capbits.specs.declared.ids.ClientId.{ClientId}
 use Rattle.capstreams.specs.Caplines.Events.{Reads}
 use Rattle.capstreams.specs.Caplines.Faults.{IsStop}

@@ -7,8 +7,8 @@ use Rattle.inotree.specs.Calls.{first_tree}
 use Rattle.capcore.specs.Capevents.declared.event.Event.{Event}
 use Rattle.capcore.specs.Capevents.declared.row.Row.{Row}
 use Rattle.capcore.specs.Capevents.declared.reply.Reply.{Reply}
-use Rattle.capcore.specs.Capsteps.History.{Told, IsOpening, IsLegal, IsNext}
-use Rattle.capcore.specs.Capsteps.State.{State}
+use Rattle.capcore.specs.Caprules.History.{Told, IsOpening, IsLegal, IsNext}
+use Rattle.capcore.specs.Caprules.State.{State}
 use Rattle.capstreams.specs.Caplines.declared.fault.LineFault.{LineFault}
 use Rattle.capstreams.specs.Caplines.declared.fault.ScriptFault.{ScriptFault}
 use Rattle.capstreams.specs.Caplines.declared.fault.ScriptFault.TheVariants as stops

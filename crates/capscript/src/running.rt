@@ -2,7 +2,7 @@
 ghost use Rattle.std.specs.Prelude.{◌≡◌, ◌≢◌, ◌⊎◌, ◌↔◌, ◌<◌, ◌≤◌, ◌+◌, ◌++◌, ℕ, List, [], length, IsTrue, IsFalse, IfOk, IfErr, IfSome, OnOk, OnErr, Err};
 ghost use Rattle.std.specs.Io.KnownBytes.{Appends, Consumes};
 ghost use Rattle.inotree.specs.Calls.{first_tree};
-ghost use Rattle.capcore.specs.Capsteps.History.{HasNoStray, IsOpening};
+ghost use Rattle.capcore.specs.Caprules.History.{HasNoStray, IsOpening};
 ghost use Rattle.capstreams.specs.Caplines.declared.fault.ScriptFault.TheVariants as stops;
 ghost use Rattle.capstreams.specs.Caplines.Lines.{lines, longest_script};
 ghost use Rattle.capscript.specs.Transcript.{Ran, Answered, Answers, AnswersLine, StopsIn, fs_name, root_attr};

@@ -10,10 +10,10 @@ use Rattle.capcore.proofs.Capview.Likeness.{shows-refl}
 use Rattle.capcore.specs.Capevents.declared.event.Event.{Event}
 use Rattle.capcore.specs.Capevents.declared.reply.Reply.{Reply}
 use Rattle.capcore.specs.Capevents.declared.row.Row.{Row}
-use Rattle.capcore.specs.Capacts.Numbers.{AreNumbered, rows_of}
-use Rattle.capcore.specs.Capsteps.History.{IsLegal, IsTold, Told, IsNext, Replays, made_row}
-use Rattle.capcore.specs.Capsteps.State.{State}
-use Rattle.capcore.specs.Capsteps.Noted.{view_of}
+use Rattle.capcore.specs.Caprules.Numbers.{AreNumbered, rows_of}
+use Rattle.capcore.specs.Caprules.History.{IsLegal, IsTold, Told, IsNext, Replays, made_row}
+use Rattle.capcore.specs.Caprules.State.{State}
+use Rattle.capcore.specs.Caprules.Noted.{view_of}
 use Rattle.onecall.specs.Cappass.Published.Publishing.{Publishing, IsReady}
 use Rattle.onecall.specs.Cappass.Published.Rows.{Legal}
 use Rattle.onecall.proofs.Cappass.Published.Beginnings.{prefix_more, prefix_trans, prefix_length}

@@ -1,9 +1,9 @@
 -- What a call says of the core when the lock is free again: not which state it found, but that there is one.
 use Rattle.std.specs.Prelude.{ℕ}
 use Rattle.capbits.specs.declared.ids.PassId.{PassId}
-use Rattle.capcore.specs.Capsteps.History.{Told}
+use Rattle.capcore.specs.Caprules.History.{Told}
 use Rattle.capcore.specs.Promised.{IsPromised}
-use Rattle.capcore.specs.Capsteps.State.{State}
+use Rattle.capcore.specs.Caprules.State.{State}
 use Rattle.capcore.specs.Capevents.declared.event.Event.{Event}
 use Rattle.capcore.specs.Capevents.declared.reply.Reply.{Reply}
 use Rattle.capserver.specs.Held.{IsLed}

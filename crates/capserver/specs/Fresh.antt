@@ -1,7 +1,7 @@
 -- What a fresh call leaves.
 use Rattle.std.specs.Prelude.{◌≡◌, ℕ, ◌<◌, List, [], ◌∷◌, ◌++◌, length}
 use mathlib.Core.List.{IsPrefix}
-use Rattle.capcore.specs.Capsteps.History.{made_row}
+use Rattle.capcore.specs.Caprules.History.{made_row}
 use Rattle.capcore.specs.Capevents.declared.event.Event.{Event}
 use Rattle.capcore.specs.Capevents.declared.row.Row.{Row}
 use Rattle.capcore.specs.Capevents.declared.outcome.Ended.{Ended}

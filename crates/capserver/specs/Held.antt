@@ -1,10 +1,10 @@
 -- What stands under the lock.
 use Rattle.std.specs.Prelude.{◌≡◌, ◌≤◌, ℕ, false, length}
 use mathlib.Core.List.{IsPrefix}
-use Rattle.capcore.specs.Capsteps.State.{State}
-use Rattle.capcore.specs.Capsteps.History.{Told, Replays}
+use Rattle.capcore.specs.Caprules.State.{State}
+use Rattle.capcore.specs.Caprules.History.{Told, Replays}
 use Rattle.capcore.specs.Capview.Sight.{Shows}
-use Rattle.capcore.specs.Capsteps.Noted.{view_of}
+use Rattle.capcore.specs.Caprules.Noted.{view_of}
 use Rattle.onecall.specs.Cappass.Published.Publishing.{Publishing}
 
 -- the history leads from the opening state to that of the core, and takes as many rows as the opening said

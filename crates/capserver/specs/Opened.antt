@@ -2,7 +2,7 @@
 use Rattle.std.specs.Prelude.{ℕ, refl}
 use Rattle.std.specs.Coded.{Coded, code_by, coded×, coded_ℕ}
 use Rattle.logbook.specs.Pages.{Book, book_coded}
-use Rattle.capcore.specs.Capsteps.State.{State}
+use Rattle.capcore.specs.Caprules.State.{State}
 use Rattle.capcore.specs.Codes.{state_code}
 
 -- the state that the core opens with, how many rows its history takes at most, and the book for them

@@ -1,10 +1,10 @@
 //! What stands under the lock.
 ghost use Rattle.std.specs.Prelude.{◌≡◌, ◌≤◌, ◌+◌, ◌↔◌, [], false, Err, Some, length, IsTrue, IfOk, IfSome, OnOk, OnErr};
 ghost use mathlib.Core.List.{IsPrefix};
-ghost use Rattle.capcore.specs.Capsteps.History.{IsLegal};
+ghost use Rattle.capcore.specs.Caprules.History.{IsLegal};
 ghost use Rattle.capcore.specs.Promised.{IsPromised};
 ghost use Rattle.capcore.specs.Capacts.declared.stop.Stop.TheVariants as stop_kind;
-ghost use Rattle.capcore.specs.Capsteps.Noted.{view_of};
+ghost use Rattle.capcore.specs.Caprules.Noted.{view_of};
 ghost use Rattle.onecall.specs.Cappass.Published.Rows.{Legal};
 ghost use Rattle.capserver.specs.Fresh.{IsFresh};
 ghost use Rattle.capserver.specs.Held.{IsLed};
@@ -32,7 +32,7 @@ pub struct Locked<L: Server> {
 
 impl<L: Server> Model for Locked<L> {
     ghost use Rattle.std.specs.Prelude.{◌≡◌, ◌+◌, MatchOption};
-    ghost use Rattle.capcore.specs.Capsteps.History.{Told};
+    ghost use Rattle.capcore.specs.Caprules.History.{Told};
     ghost use Rattle.capcore.specs.Codes.{told_code};
     ghost use Rattle.capserver.specs.Held.{IsHeld, IsLed};
 

@@ -1,6 +1,6 @@
 //! A core before its server starts.
 ghost use Rattle.std.specs.Prelude.{◌≡◌, ◌≤◌, [], IfOk};
-ghost use Rattle.capcore.specs.Capsteps.History.{HasNoStray, IsOpening};
+ghost use Rattle.capcore.specs.Caprules.History.{HasNoStray, IsOpening};
 
 use capcore::Core;
 use capspec::FsName;

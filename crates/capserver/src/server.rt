@@ -2,7 +2,7 @@
 ghost use Rattle.std.specs.Prelude.{◌≡◌, ◌≢◌, ◌≤◌, ◌<◌, ◌+◌, Err, length, IsTrue, IfOk, IfErr, OnOk, OnErr, vec_len};
 ghost use Rattle.std.specs.List.{sum_by};
 ghost use mathlib.Core.List.{IsPrefix};
-ghost use Rattle.capcore.specs.Capsteps.History.{IsLegal};
+ghost use Rattle.capcore.specs.Caprules.History.{IsLegal};
 ghost use Rattle.capcore.specs.Capview.declared.answer.Unknown.TheVariants as unknown;
 ghost use Rattle.onecall.specs.Cappass.Witness.Answers.{IsAnswered};
 ghost use Rattle.onecall.specs.Cappass.Published.Rows.{Legal};

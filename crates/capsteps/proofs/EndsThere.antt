@@ -29,11 +29,11 @@ use Rattle.capacts.specs.Lockmachine.Scene.{Scene, told_set}
 use Rattle.capacts.specs.Lockmachine.Inodes.{lock_in}
 use Rattle.capacts.proofs.Lockmachine.PolicyElsewhere.{permitted-kept, want-kept}
 use Rattle.capacts.proofs.Lockmachine.Told.{told-same}
-use Rattle.capsteps.specs.State.{State}
-use Rattle.capacts.specs.Finish.{allowed_by, due, issue_row, issue, is_kept, forget, told_before, number_row, finished}
-use Rattle.capsteps.specs.Headline.{holds, IssuesExactly}
-use Rattle.capsteps.specs.Sound.{IsSound, IsSoundEntry}
-use Rattle.capsteps.specs.Settle.{Made}
+use Rattle.capacts.specs.Caprules.State.{State}
+use Rattle.capacts.specs.Caprules.Finish.{allowed_by, due, issue_row, issue, is_kept, forget, told_before, number_row, finished}
+use Rattle.capacts.specs.Caprules.Headline.{holds, IssuesExactly}
+use Rattle.capacts.specs.Caprules.Sound.{IsSound, IsSoundEntry}
+use Rattle.capacts.specs.Caprules.Settle.{Made}
 use Rattle.capsteps.specs.Touching.{Touches, SettlesAt, Knows, stays, told_then, finished_entry, finished_at}
 use Rattle.capacts.specs.Known.{KnownSets, kept_of, AreKnown, kept_anew, KeptAnew}
 use Rattle.capacts.proofs.Held.{or_inside}

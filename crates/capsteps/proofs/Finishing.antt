@@ -21,10 +21,10 @@ use Rattle.captable.proofs.ByHolder.{row_found}
 use Rattle.capacts.specs.Lockmachine.Scene.{Scene, told_set}
 use Rattle.capacts.proofs.Lockmachine.Exact.{settled}
 use Rattle.capacts.proofs.Held.{or_inside}
-use Rattle.capsteps.specs.State.{State}
-use Rattle.capsteps.specs.Settle.{Settles}
-use Rattle.capacts.specs.Finish.{sizes_owed, due, issue_row, issue, is_kept, forget, told_before, number_row, number, finished}
-use Rattle.capsteps.specs.Sound.{IsSound, IsSoundEntry}
+use Rattle.capacts.specs.Caprules.State.{State}
+use Rattle.capacts.specs.Caprules.Settle.{Settles}
+use Rattle.capacts.specs.Caprules.Finish.{sizes_owed, due, issue_row, issue, is_kept, forget, told_before, number_row, number, finished}
+use Rattle.capacts.specs.Caprules.Sound.{IsSound, IsSoundEntry}
 
 -- ---- lists of rows that stay
 

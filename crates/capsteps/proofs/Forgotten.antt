@@ -26,10 +26,10 @@ use Rattle.capacts.specs.Lockmachine.Scene.{Scene, target_by, outside}
 use Rattle.capacts.specs.Lockmachine.Moves.{IsQuiet, IsAtRest}
 use Rattle.capacts.specs.Lockmachine.Rows.{IsInRowOf, IsInRow}
 use Rattle.capacts.proofs.Lockmachine.PolicyElsewhere.{want-kept, wants-kept}
-use Rattle.capsteps.specs.State.{State}
-use Rattle.capsteps.specs.Direct.{with_scene}
-use Rattle.capacts.specs.Finish.{allowed_by, due, is_kept}
-use Rattle.capsteps.specs.Sound.{IsSoundEntry, IsSound}
+use Rattle.capacts.specs.Caprules.State.{State}
+use Rattle.capacts.specs.Caprules.Direct.{with_scene}
+use Rattle.capacts.specs.Caprules.Finish.{allowed_by, due, is_kept}
+use Rattle.capacts.specs.Caprules.Sound.{IsSoundEntry, IsSound}
 use Rattle.capsteps.specs.Touching.{stays, forget_among}
 use Rattle.capsteps.proofs.LeftAlone.{found-contains}
 use Rattle.capsteps.proofs.Placed.{placed}

@@ -26,7 +26,7 @@ use Rattle.capacts.specs.Lockmachine.Policy.{permitted}
 use Rattle.capacts.specs.Lockmachine.Wants.{effective_want}
 use Rattle.capacts.specs.Lockmachine.Scene.{Scene, outside, told_set}
 use Rattle.capacts.specs.Lockmachine.Rows.{IsInRowOf, IsInRow}
-use Rattle.capacts.specs.Finish.{allowed_by, allowed_part, allowed_to, due, issue_row}
+use Rattle.capacts.specs.Caprules.Finish.{allowed_by, allowed_part, allowed_to, due, issue_row}
 use Rattle.capsteps.specs.Touching.{finished_entry}
 use Rattle.capacts.proofs.Walked.{second_true}
 

@@ -5,13 +5,13 @@ use Rattle.capacts.specs.Lockmachine.Scene.{Scene}
 use Rattle.capacts.specs.Capevents.declared.event.Event.{Event}
 use Rattle.capbits.specs.declared.refusal.Refusal.{Refusal}
 use Rattle.capacts.specs.Capevents.declared.reply.Reply.{Reply}
-use Rattle.capacts.specs.declared.stopped.Stopped.{Stopped}
-use Rattle.capacts.specs.declared.stopped.Stopped.TheVariants.{ByTest}
-use Rattle.capsteps.specs.State.{State}
+use Rattle.capacts.specs.Caprules.declared.stopped.Stopped.{Stopped}
+use Rattle.capacts.specs.Caprules.declared.stopped.Stopped.TheVariants.{ByTest}
+use Rattle.capacts.specs.Caprules.State.{State}
 use Rattle.capbits.specs.Refusal.{Test, first_failing}
-use Rattle.capacts.specs.Judge.{stop, stop_by, stop_reply, first_denied, judged}
-use Rattle.capacts.specs.Needs.{Need}
-use Rattle.capsteps.specs.Direct.{Says, effect, effect_unless, IsDirect}
+use Rattle.capacts.specs.Caprules.Judge.{stop, stop_by, stop_reply, first_denied, judged}
+use Rattle.capacts.specs.Caprules.Needs.{Need}
+use Rattle.capacts.specs.Caprules.Direct.{Says, effect, effect_unless, IsDirect}
 
 stop_by-stopped : (s : Scene) (o : Option Refusal) (d : Option Need) (l : Option Refusal) (r : Stopped) → stop_by s o d None ≡ Some r → stop_by s o d l ≡ Some r
 stop_by-stopped s (Some x) d l r e = e

@@ -14,7 +14,7 @@ use Rattle.captable.proofs.Searches.{find-map}
 use Rattle.capacts.specs.Lockmachine.Scene.{Scene, told_set}
 use Rattle.capacts.specs.Lockmachine.Told.{is_taken}
 use Rattle.capacts.proofs.Lockmachine.Told.{has-against, has-told, told-less}
-use Rattle.capacts.specs.Judge.{revoked_of}
+use Rattle.capacts.specs.Caprules.Judge.{revoked_of}
 use Rattle.capacts.specs.Known.{KnownSets, kept_of, known_in, AreKnown, HaveRoom, is_still_kept, StillKept}
 use Rattle.capsteps.specs.Touching.{Knows}
 use Rattle.capsteps.proofs.Revoking.{revoked-found}

@@ -32,13 +32,13 @@ use Rattle.capacts.specs.Lockmachine.Wants.{effective_want, want_of, loner_of, u
 use Rattle.capacts.specs.Lockmachine.Scene.{Scene, rows_on, loner, wanted, against, told_set}
 use Rattle.capacts.specs.Lockmachine.Moves.{IsQuiet}
 use Rattle.capacts.proofs.Lockmachine.PolicyElsewhere.{wants-kept}
-use Rattle.capsteps.specs.State.{State}
+use Rattle.capacts.specs.Caprules.State.{State}
 use Rattle.capacts.specs.Known.{KnownSets, kept_of, AreKnown}
-use Rattle.capsteps.specs.Direct.{with_scene}
-use Rattle.capacts.specs.Finish.{due, finished}
+use Rattle.capacts.specs.Caprules.Direct.{with_scene}
+use Rattle.capacts.specs.Caprules.Finish.{due, finished}
 use Rattle.capacts.specs.Finishing.{against_under, allowed_under}
-use Rattle.capsteps.specs.Headline.{IsInPlace}
-use Rattle.capsteps.specs.Sound.{IsSoundEntry, IsSound}
+use Rattle.capacts.specs.Caprules.Headline.{IsInPlace}
+use Rattle.capacts.specs.Caprules.Sound.{IsSoundEntry, IsSound}
 use Rattle.capsteps.specs.Leaving.{with_parts, LeavesEntries}
 use Rattle.capsteps.proofs.Finishing.{same-finished}
 use Rattle.capsteps.proofs.StillQuiet.{still_quiet}

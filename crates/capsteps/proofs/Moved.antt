@@ -31,9 +31,9 @@ use Rattle.capacts.proofs.Lockmachine.Queue.{moved-kept}
 use Rattle.capacts.specs.Capevents.declared.outcome.Outcome.{Outcome}
 use Rattle.capacts.specs.Capevents.declared.outcome.Outcome.TheVariants as outcome
 use Rattle.capacts.specs.Capevents.declared.outcome.Ended.{Ended}
-use Rattle.capacts.specs.Serving.{served}
+use Rattle.capacts.specs.Caprules.Serving.{served}
 use Rattle.capacts.specs.Capnotes.Changing.{tree_with, tree_after}
-use Rattle.capsteps.specs.Settle.{Made, Began, Gathered, Served, Makes, MakesAll, ended_in}
+use Rattle.capacts.specs.Caprules.Settle.{Made, Began, Gathered, Served, Makes, MakesAll, ended_in}
 use Rattle.capsteps.proofs.LeftAlone.{found-contains}
 use Rattle.capsteps.proofs.OneChange.{by_ask}
 

@@ -19,7 +19,7 @@ use Rattle.capacts.specs.Capnotes.InoSets.{InoSet, IsNext}
 use Rattle.capacts.specs.Known.{KnownSets, OthersHaveAll}
 use Rattle.capacts.specs.Reach.{is_touched}
 use Rattle.capsteps.specs.Serves.{SettlesWith, EndsAt, EndsWith}
-use Rattle.capsteps.specs.Settle.{Made, Began, Gathered, Served, MakesAll, ended_in, sized_in}
+use Rattle.capacts.specs.Caprules.Settle.{Made, Began, Gathered, Served, MakesAll, ended_in, sized_in}
 use Rattle.capsteps.proofs.SameOff.{off-wider}
 
 -- moves that end no request serve nobody: they change no size, and leave the tree

@@ -9,9 +9,9 @@ use Rattle.capacts.specs.Lockmachine.Locks.{IsLockMap}
 use Rattle.capacts.specs.Lockmachine.Scene.{Scene}
 use Rattle.capacts.specs.Lockmachine.Turns.{WaitAt}
 use Rattle.capacts.proofs.Lockmachine.Waiting.{waits-kept-at, served-at, quiet-waits-at}
-use Rattle.capsteps.specs.State.{State}
-use Rattle.capsteps.specs.Settle.{Made, Began, Gathered, Served, MakesAll, ended_in}
-use Rattle.capsteps.specs.Sound.{IsSound, IsSoundEntry}
+use Rattle.capacts.specs.Caprules.State.{State}
+use Rattle.capacts.specs.Caprules.Settle.{Made, Began, Gathered, Served, MakesAll, ended_in}
+use Rattle.capacts.specs.Caprules.Sound.{IsSound, IsSoundEntry}
 use Rattle.capsteps.proofs.Moved.{moved-made}
 
 abbrev none : ℕ → Bool

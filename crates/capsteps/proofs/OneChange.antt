@@ -22,9 +22,9 @@ use Rattle.capacts.specs.Lockmachine.Scene.{Scene}
 use Rattle.capacts.proofs.Lockmachine.PolicyElsewhere.{alike-itself}
 use Rattle.capacts.specs.Capevents.declared.outcome.Outcome.{Outcome}
 use Rattle.capacts.specs.Capevents.declared.outcome.Outcome.TheVariants as outcome
-use Rattle.capacts.specs.Serving.{MayEndAs}
+use Rattle.capacts.specs.Caprules.Serving.{MayEndAs}
 use Rattle.capacts.specs.Capnotes.Changing.{tree_after, tree_with, tree_changed}
-use Rattle.capacts.specs.Asks.{ask_before, ask_needs, ask_after, change_tests}
+use Rattle.capacts.specs.Caprules.Asks.{ask_before, ask_needs, ask_after, change_tests}
 use Rattle.capacts.specs.Served.{is_rename}
 use Rattle.capacts.proofs.Again.{leaves-or-makes, passed-all}
 

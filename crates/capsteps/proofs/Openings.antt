@@ -8,7 +8,7 @@ use Rattle.captable.specs.Calls.{new_entry, opened, wanting, touched}
 use Rattle.captable.proofs.Changes.{put_found}
 use Rattle.captable.proofs.ByHolder.{entry_at-opened}
 use Rattle.capacts.specs.Capevents.declared.event.OpenMode.{OpenMode}
-use Rattle.capsteps.specs.Direct.{opening_wants, with_want, with_opening}
+use Rattle.capacts.specs.Caprules.Direct.{opening_wants, with_want, with_opening}
 
 -- the wanted set of an entry that is known is written, or changed
 want-known : (t : Table) (k : Holder) (e : Entry) (mode : OpenMode) → entry_at t k ≡ Some e

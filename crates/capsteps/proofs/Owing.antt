@@ -9,7 +9,7 @@ use Rattle.captable.specs.declared.entry.EntryRow.{EntryRow}
 use Rattle.captable.specs.Table.{Table}
 use Rattle.captable.specs.Calls.{is_of_inode, with_size_due}
 use Rattle.captable.specs.Many.{changed_where, remade}
-use Rattle.capacts.specs.Finish.{is_sized, owed}
+use Rattle.capacts.specs.Caprules.Finish.{is_sized, owed}
 
 map_itself : (rows : List EntryRow) → map (λ row. row) rows ≡ rows
 map_itself [] = refl

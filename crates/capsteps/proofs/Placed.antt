@@ -20,7 +20,7 @@ use Rattle.capacts.specs.Lockmachine.Scene.{Scene, outside, against_lock, agains
 use Rattle.capacts.specs.Lockmachine.Rows.{IsInRowOf, IsInRow}
 use Rattle.capacts.specs.Lockmachine.Policy.{permitted}
 use Rattle.capacts.proofs.Walked.{second_true}
-use Rattle.capsteps.specs.Headline.{IsTakenBack, IsInPlace, AreRevoked}
+use Rattle.capacts.specs.Caprules.Headline.{IsTakenBack, IsInPlace, AreRevoked}
 
 -- a row that passes two tests is found by both
 pub any_found : (p q : EntryRow → Bool) (rows : List EntryRow) (row : EntryRow) → Contains rows row → p row ≡ true → q row ≡ true → list_any q (filter p rows) ≡ true

@@ -24,8 +24,8 @@ use Rattle.capacts.specs.Lockmachine.Scene.{Scene, told_set}
 use Rattle.capacts.specs.Capevents.declared.outcome.Ended.{Ended}
 use Rattle.capacts.specs.Capevents.declared.outcome.Message.{Message}
 use Rattle.capacts.specs.Capevents.declared.outcome.Message.TheVariants as message
-use Rattle.capsteps.specs.State.{State}
-use Rattle.capsteps.specs.Messages.{row_messages, size_message, first_messages, end_messages, after_messages, is_caps_of, is_size_of, is_recall_of, told_if, sized_if, unasked_if}
+use Rattle.capacts.specs.Caprules.State.{State}
+use Rattle.capacts.specs.Caprules.Messages.{row_messages, size_message, first_messages, end_messages, after_messages, is_caps_of, is_size_of, is_recall_of, told_if, sized_if, unasked_if}
 use Rattle.capsteps.proofs.Telling.{map_alike, given_fields, given-fields}
 
 -- ---- the first of a list

@@ -14,7 +14,7 @@ use Rattle.captable.proofs.Changes.{no_entry}
 use Rattle.captable.proofs.Searches.{find_passes}
 use Rattle.captable.proofs.Tables.{same-is}
 use Rattle.capacts.specs.Lockmachine.Scene.{Scene, against}
-use Rattle.capacts.specs.Judge.{revoked_of}
+use Rattle.capacts.specs.Caprules.Judge.{revoked_of}
 
 -- where it has one
 pub revoked-found : (s : Scene) (k : Holder) (e : Entry) → entry_at s.table k ≡ Some e → revoked_of s k ≡ against s (record { holder = k; entry = e })

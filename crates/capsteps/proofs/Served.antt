@@ -6,7 +6,7 @@ use Rattle.capacts.specs.Lockmachine.Requests.{is_numbered}
 use Rattle.capacts.specs.Lockmachine.Locks.{LockMap, IsLockMap, without_request}
 use Rattle.capacts.specs.Lockmachine.Scene.{Scene}
 use Rattle.capacts.proofs.Lockmachine.Queue.{taken_alone}
-use Rattle.capsteps.specs.Settle.{Made, Began, Gathered, Served, Makes, MakesAll, ended_in}
+use Rattle.capacts.specs.Caprules.Settle.{Made, Began, Gathered, Served, Makes, MakesAll, ended_in}
 use Rattle.capsteps.proofs.LeftAlone.{found-contains}
 use Rattle.capsteps.proofs.Moved.{moved-made}
 

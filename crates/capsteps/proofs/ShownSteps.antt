@@ -38,18 +38,18 @@ use Rattle.capacts.specs.Capevents.declared.outcome.Message.{Message}
 use Rattle.capacts.specs.Capevents.declared.outcome.Message.TheVariants as message
 use Rattle.capacts.specs.Capevents.declared.reply.Reply.{Reply}
 use Rattle.capacts.specs.Capevents.declared.reply.Reply.TheVariants as reply
-use Rattle.capacts.specs.declared.stopped.Stopped.{Stopped}
-use Rattle.capacts.specs.declared.stopped.Stopped.TheVariants.{ByPolicy, ByTest}
-use Rattle.capsteps.specs.State.{State}
-use Rattle.capsteps.specs.Direct.{Direct, Shows, Gives, direct, effect, effect_unless, with_entry, with_opening, with_wanted, reply_of, shown, found, opened_as}
-use Rattle.capacts.specs.Finish.{is_sized, owed, sizes_owed, due, issue_row, issue, forget, told_before, number_row}
-use Rattle.capacts.specs.Judge.{judged, stop_reply, revoked_of}
-use Rattle.capsteps.specs.Messages.{first_messages, messages_to, after_messages, row_messages, caps_messages, size_message, size_messages, recall_messages, end_message, end_messages, is_caps_of, is_size_of, is_recall_of, told_if, sized_if, unasked_if}
+use Rattle.capacts.specs.Caprules.declared.stopped.Stopped.{Stopped}
+use Rattle.capacts.specs.Caprules.declared.stopped.Stopped.TheVariants.{ByPolicy, ByTest}
+use Rattle.capacts.specs.Caprules.State.{State}
+use Rattle.capacts.specs.Caprules.Direct.{Direct, Shows, Gives, direct, effect, effect_unless, with_entry, with_opening, with_wanted, reply_of, shown, found, opened_as}
+use Rattle.capacts.specs.Caprules.Finish.{is_sized, owed, sizes_owed, due, issue_row, issue, forget, told_before, number_row}
+use Rattle.capacts.specs.Caprules.Judge.{judged, stop_reply, revoked_of}
+use Rattle.capacts.specs.Caprules.Messages.{first_messages, messages_to, after_messages, row_messages, caps_messages, size_message, size_messages, recall_messages, end_message, end_messages, is_caps_of, is_size_of, is_recall_of, told_if, sized_if, unasked_if}
 use Rattle.capacts.specs.Capnotes.Untold.{is_to}
-use Rattle.capsteps.specs.Settle.{Made, Settles, ended_in, sized_in}
-use Rattle.capsteps.specs.Shown.{AreShown, shown_by, shown_of, shown_opened, shown_less, shown_given, shown_in}
-use Rattle.capsteps.specs.Sound.{IsSound, IsSoundEntry}
-use Rattle.capsteps.specs.Step.{Step, state_after}
+use Rattle.capacts.specs.Caprules.Settle.{Made, Settles, ended_in, sized_in}
+use Rattle.capacts.specs.Caprules.Shown.{AreShown, shown_by, shown_of, shown_opened, shown_less, shown_given, shown_in}
+use Rattle.capacts.specs.Caprules.Sound.{IsSound, IsSoundEntry}
+use Rattle.capacts.specs.Caprules.Step.{Step, state_after}
 use Rattle.capsteps.proofs.Finishing.{sound-ends}
 use Rattle.capsteps.proofs.LeftAlone.{found-contains}
 use Rattle.capsteps.proofs.Moved.{moved-all}

@@ -21,12 +21,12 @@ use Rattle.captable.proofs.ByHolder.{row_found}
 use Rattle.captable.proofs.Searches.{find-map}
 use Rattle.capacts.specs.Lockmachine.Locks.{IsLockMap}
 use Rattle.capacts.specs.Lockmachine.Scene.{Scene, told_set}
-use Rattle.capacts.specs.Finish.{is_sized, owed, sizes_owed, issue_row, issue, is_kept, forget, told_before, number_row, number, finished}
-use Rattle.capsteps.specs.Headline.{IssuesExactly}
-use Rattle.capsteps.specs.Settle.{Made, sized_in}
-use Rattle.capsteps.specs.Sound.{IsSound, AreGiven}
-use Rattle.capsteps.specs.State.{State}
-use Rattle.capsteps.specs.Step.{state_at_end}
+use Rattle.capacts.specs.Caprules.Finish.{is_sized, owed, sizes_owed, issue_row, issue, is_kept, forget, told_before, number_row, number, finished}
+use Rattle.capacts.specs.Caprules.Headline.{IssuesExactly}
+use Rattle.capacts.specs.Caprules.Settle.{Made, sized_in}
+use Rattle.capacts.specs.Caprules.Sound.{IsSound, AreGiven}
+use Rattle.capacts.specs.Caprules.State.{State}
+use Rattle.capacts.specs.Caprules.Step.{state_at_end}
 use Rattle.capsteps.specs.Touching.{Touches, SettlesAt, Knows, stays, forget_among, told_then, finished_entry, finished_at}
 use Rattle.capacts.specs.Known.{KnownSets, kept_of, AreKnown, kept_anew, KeptAnew}
 use Rattle.capsteps.proofs.EndsThere.{any-map, two_changes, field-renumbered, settled-table, touched-ends, touched-issues, touched-known}

@@ -36,7 +36,7 @@ use Rattle.capacts.specs.Served.{is_rename}
 use Rattle.capacts.specs.Reach.{is_touched, Widens, Covers, Reaches}
 use Rattle.capsteps.specs.Serves.{Serves, SettlesWith}
 use Rattle.capacts.specs.Capnotes.Changing.{tree_after}
-use Rattle.capsteps.specs.Settle.{Made, Began, Gathered, Served, Makes, MakesAll, ended_by, ended_in, sized_by, sized_in}
+use Rattle.capacts.specs.Caprules.Settle.{Made, Began, Gathered, Served, Makes, MakesAll, ended_by, ended_in, sized_by, sized_in}
 use Rattle.capsteps.specs.Sweep.{AreStill, GoesOnBehind, IsFirstPlace, IsSwept, IsTurnOfLeast, StandsAt, changed_alone}
 use Rattle.capsteps.specs.Touching.{IsSameOff}
 use Rattle.capsteps.proofs.Among.{untouched, not-touched, more-touched}

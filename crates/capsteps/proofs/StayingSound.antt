@@ -32,11 +32,11 @@ use Rattle.capacts.specs.Lockmachine.Rows.{IsInRow}
 use Rattle.capacts.specs.Lockmachine.Wants.{effective_want}
 use Rattle.capacts.proofs.Lockmachine.Rest.{at_rest}
 use Rattle.capacts.specs.Capevents.declared.outcome.Ended.{Ended}
-use Rattle.capsteps.specs.State.{State}
-use Rattle.capacts.specs.Finish.{due, allowed_to}
-use Rattle.capsteps.specs.Sound.{IsSoundEntry, IsSound, AreGiven}
-use Rattle.capsteps.specs.Settle.{Made, ended_in}
-use Rattle.capsteps.specs.Step.{earlier, state_at_end}
+use Rattle.capacts.specs.Caprules.State.{State}
+use Rattle.capacts.specs.Caprules.Finish.{due, allowed_to}
+use Rattle.capacts.specs.Caprules.Sound.{IsSoundEntry, IsSound, AreGiven}
+use Rattle.capacts.specs.Caprules.Settle.{Made, ended_in}
+use Rattle.capacts.specs.Caprules.Step.{earlier, state_at_end}
 use Rattle.capsteps.specs.Touching.{IsTouchedEntry, Touches, SettlesAt, Knows, finished_at}
 use Rattle.capsteps.proofs.EndsThere.{any-map, off_due}
 use Rattle.capsteps.proofs.IssuedRows.{ended_row, want-ended, told-ended, revoked-ended, seq-ended, effective-ended, holds-due, holds-pin, in_row-ended}

@@ -8,13 +8,13 @@ use Rattle.capacts.specs.Lockmachine.declared.moves.Move.TheVariants.{Begin, End
 use Rattle.capacts.specs.Capevents.declared.event.Event.{Event}
 use Rattle.capacts.specs.Capevents.declared.outcome.Ended.{Ended}
 use Rattle.capacts.specs.Capevents.declared.reply.Reply.{Reply}
-use Rattle.capacts.specs.declared.stopped.Stopped.{Stopped}
-use Rattle.capsteps.specs.State.{State}
-use Rattle.capacts.specs.Judge.{judged, stop_reply}
-use Rattle.capsteps.specs.Direct.{Direct, direct, says, effect_unless, reply_of, shown}
-use Rattle.capsteps.specs.Settle.{Made, Began, Gathered, Served, Makes, MakesAll, Settles, ended_in}
-use Rattle.capsteps.specs.Step.{Step, all_ended, state_after}
-use Rattle.capsteps.specs.Sound.{IsSound}
+use Rattle.capacts.specs.Caprules.declared.stopped.Stopped.{Stopped}
+use Rattle.capacts.specs.Caprules.State.{State}
+use Rattle.capacts.specs.Caprules.Judge.{judged, stop_reply}
+use Rattle.capacts.specs.Caprules.Direct.{Direct, direct, says, effect_unless, reply_of, shown}
+use Rattle.capacts.specs.Caprules.Settle.{Made, Began, Gathered, Served, Makes, MakesAll, Settles, ended_in}
+use Rattle.capacts.specs.Caprules.Step.{Step, all_ended, state_after}
+use Rattle.capacts.specs.Caprules.Sound.{IsSound}
 use Rattle.capsteps.proofs.Finishing.{sound-ends, sound-settles}
 
 pub stopped-step : (old : State) (e : Event) (stopped : Stopped) → IsSound old → IsTable old.scene.table → judged old.scene e ≡ Some stopped → Step old e (stop_reply stopped) [] old

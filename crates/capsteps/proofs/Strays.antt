@@ -22,7 +22,7 @@ use Rattle.captable.specs.Calls.{is_of_inode}
 use Rattle.capacts.specs.Lockmachine.Locks.{without_ino}
 use Rattle.capacts.specs.Lockmachine.Scene.{Scene}
 use Rattle.capacts.specs.Capnotes.InoSets.{InoSet, IsListOf}
-use Rattle.capacts.specs.Finish.{is_kept}
+use Rattle.capacts.specs.Caprules.Finish.{is_kept}
 use Rattle.capsteps.specs.Touching.{stays, forget_at, forget_among}
 use Rattle.capsteps.proofs.Finishing.{same_kept}
 use Rattle.capsteps.proofs.ManyInodes.{same_number}

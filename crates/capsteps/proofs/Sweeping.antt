@@ -28,7 +28,7 @@ use Rattle.capacts.proofs.Lockmachine.Turns.{turn-passes, turn-rests}
 use Rattle.capacts.proofs.Lockmachine.Finding.{by_number}
 use Rattle.capacts.proofs.Lockmachine.Waiting.{waits-kept-at}
 use Rattle.captable.specs.Table.{Table}
-use Rattle.capsteps.specs.Settle.{ended_in}
+use Rattle.capacts.specs.Caprules.Settle.{ended_in}
 use Rattle.capsteps.specs.Sweep.{AreStill, IsSwept, IsNextOf}
 use Rattle.capsteps.proofs.Moved.{as_made, makes-append, ended-append}
 

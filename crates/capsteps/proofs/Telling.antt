@@ -28,13 +28,13 @@ use Rattle.capacts.specs.Lockmachine.Scene.{Scene, wants, outside}
 use Rattle.capacts.specs.Lockmachine.Moves.{is_open}
 use Rattle.capacts.specs.Capevents.declared.outcome.Ended.{Ended}
 use Rattle.capacts.specs.Capevents.declared.outcome.Message.{Message}
-use Rattle.capsteps.specs.State.{State}
-use Rattle.capsteps.specs.Direct.{Answer, Says, Shows, Gives, Awaits, with_scene, shown}
-use Rattle.capacts.specs.Finish.{due}
-use Rattle.capsteps.specs.Headline.{holds, is_due, IssuesExactly, IsInPlace, AreInPlace}
-use Rattle.capsteps.specs.Messages.{first_messages, after_messages, is_caps_of, is_size_of, is_recall_of, told_if, sized_if, unasked_if}
+use Rattle.capacts.specs.Caprules.State.{State}
+use Rattle.capacts.specs.Caprules.Direct.{Answer, Says, Shows, Gives, Awaits, with_scene, shown}
+use Rattle.capacts.specs.Caprules.Finish.{due}
+use Rattle.capacts.specs.Caprules.Headline.{holds, is_due, IssuesExactly, IsInPlace, AreInPlace}
+use Rattle.capacts.specs.Caprules.Messages.{first_messages, after_messages, is_caps_of, is_size_of, is_recall_of, told_if, sized_if, unasked_if}
 use Rattle.capacts.specs.Capnotes.Untold.{is_end_of, is_to}
-use Rattle.capsteps.specs.Sound.{IsSoundEntry, IsSound, AreGiven}
+use Rattle.capacts.specs.Caprules.Sound.{IsSoundEntry, IsSound, AreGiven}
 use Rattle.capsteps.proofs.StillQuiet.{still_quiet}
 
 -- ---- lists that are mapped

@@ -15,10 +15,10 @@ use Rattle.captable.proofs.ByHolder.{entry_at-changed, entry_at-changed_other, e
 use Rattle.captable.proofs.Tables.{same-is}
 use Rattle.capsteps.specs.declared.touch.Touch.{Touch}
 use Rattle.capsteps.specs.declared.touch.Touch.TheVariants.{Open, Want, Ack, Release}
-use Rattle.capsteps.specs.Direct.{opening_wants, with_entry, with_opening}
+use Rattle.capacts.specs.Caprules.Direct.{opening_wants, with_entry, with_opening}
 use Rattle.capacts.specs.Known.{KnownSets, kept_of, is_still_kept, AreKnown, StillKept, OthersHaveAll}
-use Rattle.capsteps.specs.Sound.{IsSound, IsSoundEntry}
-use Rattle.capsteps.specs.State.{State}
+use Rattle.capacts.specs.Caprules.Sound.{IsSound, IsSoundEntry}
+use Rattle.capacts.specs.Caprules.State.{State}
 use Rattle.capsteps.specs.Touch.{touched_table}
 use Rattle.capsteps.proofs.Knowing.{held_at, HoldAlike, still-known}
 use Rattle.capsteps.proofs.LeftAlone.{found-contains}

@@ -57,13 +57,13 @@ use Rattle.capacts.specs.Capevents.declared.event.OpenMode.{OpenMode}
 use Rattle.capacts.specs.Capevents.declared.event.OpenMode.TheVariants as opening
 use Rattle.capsteps.specs.declared.touch.Touch.{Touch}
 use Rattle.capsteps.specs.declared.touch.Touch.TheVariants.{Open, Want, Ack, Release}
-use Rattle.capsteps.specs.State.{State}
-use Rattle.capacts.specs.Judge.{judged, before, needs, after, stop_by, first_denied, is_met, opening_needs, is_writing, revoked_of, connected_tests, asked_tests, room_for}
-use Rattle.capacts.specs.Needs.{Need, need}
-use Rattle.capsteps.specs.Direct.{Direct, direct, effect, effect_unless, opening_wants, with_entry, with_table}
+use Rattle.capacts.specs.Caprules.State.{State}
+use Rattle.capacts.specs.Caprules.Judge.{judged, before, needs, after, stop_by, first_denied, is_met, opening_needs, is_writing, revoked_of, connected_tests, asked_tests, room_for}
+use Rattle.capacts.specs.Caprules.Needs.{Need, need}
+use Rattle.capacts.specs.Caprules.Direct.{Direct, direct, effect, effect_unless, opening_wants, with_entry, with_table}
 use Rattle.capsteps.specs.Touch.{touch_event, touch_tests, touched_table}
 use Rattle.capsteps.specs.Touching.{IsTouchedEntry, TouchesOne}
-use Rattle.capsteps.specs.Sound.{IsSound, IsSoundEntry, AreGiven}
+use Rattle.capacts.specs.Caprules.Sound.{IsSound, IsSoundEntry, AreGiven}
 use Rattle.capsteps.proofs.Judging.{no_test}
 use Rattle.capsteps.proofs.NothingServed.{sound-waits}
 use Rattle.capsteps.proofs.Placed.{placed-in_row}

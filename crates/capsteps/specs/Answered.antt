@@ -2,11 +2,11 @@
 use Rattle.std.specs.Prelude.{◌≡◌, ℕ, ◌+◌}
 use Rattle.capacts.specs.Capevents.declared.event.Event.{Event}
 use Rattle.capsteps.specs.declared.said.Said.{Said}
-use Rattle.capsteps.specs.State.{State}
-use Rattle.capsteps.specs.Direct.{direct}
-use Rattle.capsteps.specs.Headline.{IssuesExactly}
-use Rattle.capsteps.specs.Sound.{IsSound, AreGiven}
-use Rattle.capsteps.specs.Step.{Step}
+use Rattle.capacts.specs.Caprules.State.{State}
+use Rattle.capacts.specs.Caprules.Direct.{direct}
+use Rattle.capacts.specs.Caprules.Headline.{IssuesExactly}
+use Rattle.capacts.specs.Caprules.Sound.{IsSound, AreGiven}
+use Rattle.capacts.specs.Caprules.Step.{Step}
 
 -- it is a step, with this answer and these requests of earlier steps that it ended; the state stays sound, what is issued is
 -- what is wanted, permitted and allowed, and no number rises by more than one

@@ -1,22 +1,13 @@
-pub mod State
-pub mod Direct
-pub mod Settle
-pub mod Messages
-pub mod Step
 pub mod Touch
 pub mod Touching
 pub mod Turn
-pub mod History
-pub mod Headline
-pub mod Sound
 pub mod Leaving
 pub mod Answered
-pub mod Noted
 pub mod Serves
 pub mod Sweep
-pub mod Shown
 pub use Rattle.capacts.specs as Capacts
 pub use Rattle.capacts.specs.Capevents
 pub use Rattle.capacts.specs.Capnotes
+pub use Rattle.capacts.specs.Caprules
 pub use Rattle.capacts.specs.Capview
 pub use Rattle.capacts.specs.Lockmachine

@@ -7,10 +7,10 @@ use Rattle.capacts.specs.Lockmachine.declared.request.Request.{Request}
 use Rattle.capacts.specs.Lockmachine.Locks.{request_at, without_request}
 use Rattle.capacts.specs.Lockmachine.Scene.{Scene}
 use Rattle.capacts.specs.Capevents.declared.outcome.Ended.{Ended}
-use Rattle.capacts.specs.Serving.{MayEndAs}
+use Rattle.capacts.specs.Caprules.Serving.{MayEndAs}
 use Rattle.capacts.specs.Capnotes.Changing.{tree_after}
-use Rattle.capacts.specs.Finish.{sizes_owed}
-use Rattle.capsteps.specs.Settle.{Made, ended_in, sized_in}
+use Rattle.capacts.specs.Caprules.Finish.{sizes_owed}
+use Rattle.capacts.specs.Caprules.Settle.{Made, ended_in, sized_in}
 use Rattle.capsteps.specs.Touching.{SettlesAt, told_then, finished_at}
 use Rattle.capacts.specs.Known.{KnownSets, known_in, KeptAnew}
 

@@ -14,7 +14,7 @@ use Rattle.capacts.specs.Capnotes.InoSets.{InoSet}
 use Rattle.capacts.specs.declared.sweep.SweepPlace.{SweepPlace}
 use Rattle.capacts.specs.Served.{is_rename}
 use Rattle.capacts.specs.Reach.{is_touched}
-use Rattle.capsteps.specs.Settle.{Made, MakesAll, ended_in}
+use Rattle.capacts.specs.Caprules.Settle.{Made, MakesAll, ended_in}
 
 -- the least of these inodes
 pub record IsLeastOf (at : ℕ → Bool) (ino : ℕ) : Type 0 where

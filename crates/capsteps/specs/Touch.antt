@@ -13,8 +13,8 @@ use Rattle.capacts.specs.Capevents.declared.event.Event.TheVariants as event
 use Rattle.capacts.specs.Capevents.declared.reply.Reply.TheVariants as reply
 use Rattle.capsteps.specs.declared.touch.Touch.{Touch}
 use Rattle.capsteps.specs.declared.touch.Touch.TheVariants.{Open, Want, Ack, Release}
-use Rattle.capacts.specs.Judge.{room_for}
-use Rattle.capsteps.specs.Direct.{Answer, Says, Shows, with_opening, with_wanted}
+use Rattle.capacts.specs.Caprules.Judge.{room_for}
+use Rattle.capacts.specs.Caprules.Direct.{Answer, Says, Shows, with_opening, with_wanted}
 
 -- the event that asks it of the client's entry on the inode
 abbrev pub touch_event : ClientId → Ino → Touch → Event

@@ -27,9 +27,9 @@ use Rattle.capacts.specs.Lockmachine.Rows.{IsInRow}
 use Rattle.capacts.specs.Lockmachine.Turns.{WaitAt}
 use Rattle.capacts.specs.Capevents.declared.event.Event.{Event}
 use Rattle.capacts.specs.Capevents.declared.event.Event.TheVariants as event
-use Rattle.capacts.specs.Finish.{issue_row, is_kept}
-use Rattle.capsteps.specs.Settle.{Made, Settles}
-use Rattle.capsteps.specs.State.{State}
+use Rattle.capacts.specs.Caprules.Finish.{issue_row, is_kept}
+use Rattle.capacts.specs.Caprules.Settle.{Made, Settles}
+use Rattle.capacts.specs.Caprules.State.{State}
 
 -- who asks, and of which inode, where the event is about one that is there already: about an entry on it, or about what it keeps
 abbrev pub touched_by : Event → Option Holder

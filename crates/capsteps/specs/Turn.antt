@@ -24,7 +24,7 @@ use Rattle.capacts.specs.Capnotes.InoSets.{InoSet}
 use Rattle.capacts.specs.Capnotes.Noted.{view}
 use Rattle.capacts.specs.Left.{is_end, table_left, locks_left, messages_left}
 use Rattle.capacts.specs.Reach.{is_touched}
-use Rattle.capsteps.specs.State.{State}
+use Rattle.capacts.specs.Caprules.State.{State}
 
 -- the event by which it does
 abbrev pub turn_event : ClientId → Turn → Event

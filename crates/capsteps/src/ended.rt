@@ -2,7 +2,7 @@
 ghost use Rattle.std.specs.Prelude.{◌≡◌, ◌+◌, ◌≤◌, ◌++◌, false, length};
 ghost use Rattle.std.specs.List.{find};
 ghost use Rattle.capacts.specs.Capevents.Replies.{has_list};
-ghost use Rattle.capsteps.specs.Direct.{awaited_as};
+ghost use Rattle.capacts.specs.Caprules.Direct.{awaited_as};
 ghost use Rattle.capacts.specs.Capnotes.Untold.{is_of_ticket, HaveOwnNumbers, but_for};
 ghost use Rattle.capacts.specs.Capevents.declared.reply.Reply.TheVariants as reply;
 

@@ -12,7 +12,7 @@ ghost use Rattle.captable.specs.Calls.{told, changed, is_of_inode, entries_on};
 ghost use Rattle.captable.specs.Many.{changed_by, changed_where};
 ghost use Rattle.capacts.specs.Lockmachine.Scene.{Scene, scene};
 ghost use Rattle.capacts.specs.Finishing as words;
-ghost use Rattle.capsteps.specs.Direct.{opened_as};
+ghost use Rattle.capacts.specs.Caprules.Direct.{opened_as};
 ghost use Rattle.capacts.specs.Known.{AreKnown, HaveRoom, KeptAnew, OthersHaveAll, kept_of, known_in};
 ghost use Rattle.capsteps.specs.Touching.{forget_at, forget_among, finished_at, told_then};
 ghost use Rattle.capacts.specs.Reach.{is_touched};

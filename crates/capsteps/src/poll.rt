@@ -4,8 +4,8 @@ ghost use Rattle.captable.specs.Calls.{is_of_client, is_due};
 ghost use Rattle.captable.specs.Many.{changed_where};
 ghost use Rattle.capacts.specs.Lockmachine.Scene.{Scene, told_set};
 ghost use Rattle.capacts.specs.Known.{AreKnown, known_in};
-ghost use Rattle.capsteps.specs.Messages.{after_messages, caps_messages, end_messages, first_messages, row_messages, size_messages};
-ghost use Rattle.capsteps.specs.State.{State};
+ghost use Rattle.capacts.specs.Caprules.Messages.{after_messages, caps_messages, end_messages, first_messages, row_messages, size_messages};
+ghost use Rattle.capacts.specs.Caprules.State.{State};
 
 use capacts::known::Known;
 use capacts::{Ended, Message, MessageList, copy_of_outcome};

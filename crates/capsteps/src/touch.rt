@@ -1,15 +1,15 @@
 //! What an event asks of one entry, and what of the entry that changes.
 ghost use Rattle.std.specs.Prelude.{◌≡◌, ◌<◌, ◌^◌, ◌-◌, [], None, OnOk, OnErr};
 ghost use Rattle.capbits.specs.Refusal.{first_failing};
-ghost use Rattle.capacts.specs.Judge.{revoked_of, room_for};
+ghost use Rattle.capacts.specs.Caprules.Judge.{revoked_of, room_for};
 ghost use Rattle.capacts.specs.Lockmachine.Scene.{Scene};
 ghost use Rattle.captable.specs.Table.{IsTable, entry_at};
 ghost use Rattle.captable.specs.Calls.{opened};
 ghost use Rattle.captable.specs.Tests.{open_tests};
 ghost use Rattle.capacts.specs.Known.{AreKnown, StillKept};
-ghost use Rattle.capsteps.specs.State.{State};
-ghost use Rattle.capsteps.specs.Direct.{reply_of, shown, with_table};
-ghost use Rattle.capsteps.specs.Direct as effects;
+ghost use Rattle.capacts.specs.Caprules.State.{State};
+ghost use Rattle.capacts.specs.Caprules.Direct.{reply_of, shown, with_table};
+ghost use Rattle.capacts.specs.Caprules.Direct as effects;
 ghost use Rattle.capsteps.specs.Touch as words;
 
 use crate::finish::show;

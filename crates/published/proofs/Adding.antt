@@ -5,7 +5,7 @@ use Rattle.std.proofs.lemmas.Bool.Decides.{nat_tests}
 use mathlib.Core.List.{IsPrefix}
 use prog.Atomic.{either}
 use Rattle.logbook.specs.Pages.{Cell, cell, keeps, gives, adds, no_nib, step, Away, Moves, Goes}
-use Rattle.capsteps.specs.Capevents.declared.row.Row.{Row}
+use Rattle.caprules.specs.Capevents.declared.row.Row.{Row}
 use Rattle.published.specs.Rows.{IsKept, cells_of, words_of, next_of, Makes, Adds, Looks}
 use Rattle.published.proofs.Beginnings.{prefix_whole, prefix_length}
 use Rattle.published.proofs.Words.{words_more, words_home, words-length, cells_away, cells_set}

@@ -1,10 +1,10 @@
 -- Rows that are added one by one: what begins a legal history is legal.
 use Rattle.std.proofs.Common.{◌≡◌, ℕ, zero, suc, ◌<◌, List, [], ◌∷◌, ◌++◌, length, take, drop, get_or, refl, ap, sym, ◌∙◌, subst, arith, append_assoc}
 use mathlib.Core.List.{IsPrefix}
-use Rattle.capsteps.specs.Capevents.declared.row.Row.{Row}
-use Rattle.capsteps.specs.Capacts.Numbers.{AreNumbered}
-use Rattle.capsteps.specs.History.{IsLegal, Replays}
-use Rattle.capsteps.specs.State.{State}
+use Rattle.caprules.specs.Capevents.declared.row.Row.{Row}
+use Rattle.caprules.specs.Numbers.{AreNumbered}
+use Rattle.caprules.specs.History.{IsLegal, Replays}
+use Rattle.caprules.specs.State.{State}
 use Rattle.published.specs.Rows.{Legal}
 
 no_row : (earlier later : List Row) (row : Row) → [] ≡ earlier ++ row ∷ later → ⊥

@@ -4,6 +4,6 @@ pub mod Gathering
 pub mod Publishing
 pub mod Seeing
 pub mod Words
-pub use Rattle.capsteps.proofs.Capevents
-pub use Rattle.capsteps.proofs as Capsteps
-pub use Rattle.capsteps.proofs.Capview
+pub use Rattle.caprules.proofs.Capevents
+pub use Rattle.caprules.proofs as Caprules
+pub use Rattle.caprules.proofs.Capview

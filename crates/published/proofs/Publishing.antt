@@ -3,19 +3,19 @@ use Rattle.std.proofs.Common.{◌≡◌, ℕ, Bool, true, false, not, IsTrue, Re
 use mathlib.Core.List.{IsPrefix}
 use Rattle.logbook.specs.Pages.{Book}
 use Rattle.crossbeam_utils.specs.Register.{TurnsAt}
-use Rattle.capsteps.specs.Capevents.declared.row.Row.{Row}
-use Rattle.capsteps.specs.History.{IsLegal}
-use Rattle.capsteps.specs.State.{State}
-use Rattle.capsteps.specs.Capview.declared.view.View.{View}
-use Rattle.capsteps.specs.Capview.Sight.{Shows}
+use Rattle.caprules.specs.Capevents.declared.row.Row.{Row}
+use Rattle.caprules.specs.History.{IsLegal}
+use Rattle.caprules.specs.State.{State}
+use Rattle.caprules.specs.Capview.declared.view.View.{View}
+use Rattle.caprules.specs.Capview.Sight.{Shows}
 use Rattle.published.specs.declared.place.Place.{Place}
 use Rattle.published.specs.declared.value.Published.{Published}
 use Rattle.published.specs.declared.value.Stage.{Stage}
-use Rattle.capsteps.specs.Noted.{view_of}
+use Rattle.caprules.specs.Noted.{view_of}
 use Rattle.published.specs.Places.{IsPublished, Keeps, Saw}
 use Rattle.published.specs.Publishing.{IsReady, IsStaging, publishing}
 use Rattle.published.specs.Value.{staged_all}
-use Rattle.capsteps.proofs.Capview.Likeness.{shows-refl}
+use Rattle.caprules.proofs.Capview.Likeness.{shows-refl}
 use Rattle.published.proofs.Beginnings.{prefix_self, prefix_trans}
 use Rattle.published.proofs.Gathering.{legal_none}
 use Rattle.published.proofs.Seeing.{turns}

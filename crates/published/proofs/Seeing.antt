@@ -6,7 +6,7 @@ use lib.ListN.{get_elem?}
 use Rattle.logbook.specs.Pages.{Book}
 use Rattle.crossbeam_utils.specs.Register.{Turns, TurnsAt, Admits}
 use Rattle.atomic_table.proofs.Lists.{at_set, at_snoc}
-use Rattle.capsteps.specs.State.{State}
+use Rattle.caprules.specs.State.{State}
 use Rattle.published.specs.declared.value.Published.{Published}
 use Rattle.published.specs.declared.place.Place.{Place}
 use Rattle.published.specs.Places.{IsPublished, Keeps, Saw}

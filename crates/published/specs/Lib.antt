@@ -2,6 +2,6 @@ pub mod Rows
 pub mod Value
 pub mod Places
 pub mod Publishing
-pub use Rattle.capsteps.specs.Capevents
-pub use Rattle.capsteps.specs as Capsteps
-pub use Rattle.capsteps.specs.Capview
+pub use Rattle.caprules.specs.Capevents
+pub use Rattle.caprules.specs as Caprules
+pub use Rattle.caprules.specs.Capview

@@ -4,9 +4,9 @@ use mathlib.Core.Option.{some}
 use mathlib.Core.List.{IsPrefix}
 use lib.ListN.{get_elem?}
 use Rattle.logbook.specs.Pages.{Book}
-use Rattle.capsteps.specs.Noted.{view_of}
-use Rattle.capsteps.specs.State.{State}
-use Rattle.capsteps.specs.Capview.Sight.{Shows}
+use Rattle.caprules.specs.Noted.{view_of}
+use Rattle.caprules.specs.State.{State}
+use Rattle.caprules.specs.Capview.Sight.{Shows}
 use Rattle.published.specs.declared.value.Published.{Published}
 use Rattle.published.specs.declared.place.Place.{Place}
 use Rattle.published.specs.Rows.{Legal}

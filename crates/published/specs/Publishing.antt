@@ -3,14 +3,14 @@ use Rattle.std.specs.Prelude.{◌≡◌, Bool, false, List, refl}
 use Rattle.std.specs.Coded.{Coded, code_by, coded×, coded_bool}
 use mathlib.Core.List.{IsPrefix}
 use Rattle.logbook.specs.Pages.{Book}
-use Rattle.capsteps.specs.Capevents.declared.row.Row.{Row}
-use Rattle.capsteps.specs.State.{State}
-use Rattle.capsteps.specs.Capview.declared.view.View.{View}
-use Rattle.capsteps.specs.Capview.Codes.{view_code}
-use Rattle.capsteps.specs.Capview.Sight.{Shows}
+use Rattle.caprules.specs.Capevents.declared.row.Row.{Row}
+use Rattle.caprules.specs.State.{State}
+use Rattle.caprules.specs.Capview.declared.view.View.{View}
+use Rattle.caprules.specs.Capview.Codes.{view_code}
+use Rattle.caprules.specs.Capview.Sight.{Shows}
 use Rattle.published.specs.declared.value.Published.{Published}
 use Rattle.published.specs.declared.value.Stage.{Stage}
-use Rattle.capsteps.specs.Noted.{view_of}
+use Rattle.caprules.specs.Noted.{view_of}
 use Rattle.published.specs.Rows.{Legal, rows_code}
 use Rattle.published.specs.Value.{staged_all}
 

@@ -2,12 +2,12 @@
 use Rattle.std.specs.Prelude.{ℕ, ◌≡◌, ◌≤◌, ◌+◌, ◌*◌, ◌==◌, true, false, List, [], ◌∷◌, ◌++◌, length, replicate, MatchBool}
 use Rattle.std.specs.Coded.{Coded, coded_list}
 use Rattle.logbook.specs.Pages.{Cell, Step, View as Page, Book, Named, Nib, nib, may_make, may_write}
-use Rattle.capsteps.specs.Capevents.declared.event.Event.TheVariants.{Unblock}
-use Rattle.capsteps.specs.Capevents.declared.row.Row.{Row}
-use Rattle.capsteps.specs.Capevents.declared.reply.Reply.TheVariants.{Done}
-use Rattle.capsteps.specs.Capevents.contracts.row.Row as history_row
-use Rattle.capsteps.specs.History.{IsLegal}
-use Rattle.capsteps.specs.State.{State}
+use Rattle.caprules.specs.Capevents.declared.event.Event.TheVariants.{Unblock}
+use Rattle.caprules.specs.Capevents.declared.row.Row.{Row}
+use Rattle.caprules.specs.Capevents.declared.reply.Reply.TheVariants.{Done}
+use Rattle.caprules.specs.Capevents.contracts.row.Row as history_row
+use Rattle.caprules.specs.History.{IsLegal}
+use Rattle.caprules.specs.State.{State}
 
 -- a list of rows is stored as their codes
 abbrev pub rows_code : Coded (List Row)

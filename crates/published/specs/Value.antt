@@ -1,6 +1,6 @@
 -- What is published, and what a stage makes of it.
 use Rattle.std.specs.Prelude.{List, fold}
-use Rattle.capsteps.specs.Capview.Changes.{view_by}
+use Rattle.caprules.specs.Capview.Changes.{view_by}
 use Rattle.published.specs.declared.value.Published.{Published}
 use Rattle.published.specs.declared.value.Stage.{Stage}
 use Rattle.published.specs.declared.value.Stage.TheVariants as stage

@@ -4,7 +4,7 @@ ghost use mathlib.Core.List.{IsPrefix};
 ghost use Rattle.published.specs.Rows.{Legal};
 
 use crate::ledger::Server;
-use capsteps::Row;
+use caprules::Row;
 use logbook::{Gain, Plain, Play, Rule, Seen, Word};
 use std::marker::{Model, PhantomData};
 
@@ -131,7 +131,7 @@ impl<L: Server> Drop for Beginning<L> {
 
 impl<L: Server> Model for Beginning<L> {
     ghost use Rattle.std.specs.Prelude.{◌≡◌, List, length};
-    ghost use Rattle.capsteps.specs.Capevents.declared.row.Row.{Row};
+    ghost use Rattle.caprules.specs.Capevents.declared.row.Row.{Row};
     ghost use Rattle.published.specs.Rows.{Legal, rows_code};
 
     ghost Value = { List Row };

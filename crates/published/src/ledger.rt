@@ -10,7 +10,7 @@ pub const MAX_PASSES: u32 = 32;
 /// and the book of its rows. Contracts alone see the last four.
 pub trait Server: Ledger {
     ghost use Rattle.std.specs.Prelude.{ℕ};
-    ghost use Rattle.capsteps.specs.State.{State};
+    ghost use Rattle.caprules.specs.State.{State};
     ghost use Rattle.logbook.specs.Pages.{Book};
 
     ghost passes: { ℕ };
@@ -28,7 +28,7 @@ impl Server for Brand {
     ghost use Rattle.std.specs.FinMap as map;
     ghost use Rattle.std.specs.FinSet as set;
     ghost use Rattle.captable.specs.Table as table;
-    ghost use Rattle.capsteps.specs.Lockmachine.Locks.{no_locks};
+    ghost use Rattle.caprules.specs.Lockmachine.Locks.{no_locks};
 
     ghost passes = { 0 };
 

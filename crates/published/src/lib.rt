@@ -11,7 +11,7 @@ mod staging;
 mod value;
 
 pub use beginning::{Beginning, Counted, Head, Rows};
-pub use capsteps::{Question, Unknown};
+pub use caprules::{Question, Unknown};
 pub use ledger::{MAX_PASSES, Server};
 pub use place::{Place, PlacesRule, PublishedReader, PublishedReading, PublishedWriter, Sees};
 pub use publisher::Publisher;

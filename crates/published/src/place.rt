@@ -1,7 +1,7 @@
 //! The rule of the readers' places: what is published is a legal history with its view, and what a place knows begins it.
 use crate::ledger::Server;
 use crate::value::{Published, Stage};
-use capsteps::Row;
+use caprules::Row;
 use crossbeam_utils::rule::{Outcome, Protocol};
 use left_right::reader::{Reader, Reading};
 use left_right::writer::Writer;

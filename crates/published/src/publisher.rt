@@ -2,8 +2,8 @@
 ghost use Rattle.std.specs.Prelude.{◌≡◌, ◌<◌, ◌≤◌, true, false, [], length, fold, IfOk, IfSome};
 ghost use mathlib.Core.List.{IsPrefix};
 ghost use Rattle.left_right.specs.Sides.{view as place_view};
-ghost use Rattle.capsteps.specs.Capview.Changes.{view_by};
-ghost use Rattle.capsteps.specs.Noted.{view_of};
+ghost use Rattle.caprules.specs.Capview.Changes.{view_by};
+ghost use Rattle.caprules.specs.Noted.{view_of};
 ghost use Rattle.published.specs.Publishing.{IsReady};
 ghost use Rattle.published.specs.Rows.{Legal};
 
@@ -13,7 +13,7 @@ use crate::place::{PublishedReader, PublishedWriter, Sees};
 use crate::recorder::{NewRows, Recorder};
 use crate::staging::{stage_changes, stage_history, stage_view};
 use crate::value::Published;
-use capsteps::{Row, View, ViewChange};
+use caprules::{Row, View, ViewChange};
 use inotree::Tree;
 use sessiontab::Sessions;
 use std::alloc::{AllocError, Global};

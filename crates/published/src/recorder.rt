@@ -6,7 +6,7 @@ ghost use Rattle.published.specs.Rows.{Legal, head_of, next_of};
 
 use crate::beginning::{Add, Beginning, Counted, Head, Law, Look, Make, Nothing, Rows};
 use crate::ledger::Server;
-use capsteps::Row;
+use caprules::Row;
 use logbook::{Offer, Pen, Seen, Start, Word};
 use std::alloc::AllocError;
 use std::marker::Model;
@@ -78,7 +78,7 @@ impl<L: Server> Drop for Recorder<L> {
 
 impl<L: Server> Model for Recorder<L> {
     ghost use Rattle.std.specs.Prelude.{◌≡◌, List};
-    ghost use Rattle.capsteps.specs.Capevents.declared.row.Row.{Row};
+    ghost use Rattle.caprules.specs.Capevents.declared.row.Row.{Row};
     ghost use Rattle.published.specs.Rows.{head_of, next_of, rows_code};
 
     ghost Value = { List Row };

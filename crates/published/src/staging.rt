@@ -1,7 +1,7 @@
 //! The stages that bring what is published up to date.
 ghost use Rattle.std.specs.Prelude.{◌≡◌, ◌≤◌, length, drop, fold, Ok, IsTrue, IfSome};
 ghost use mathlib.Core.List.{IsPrefix};
-ghost use Rattle.capsteps.specs.Capview.Changes.{view_by};
+ghost use Rattle.caprules.specs.Capview.Changes.{view_by};
 ghost use Rattle.published.specs.Rows.{Legal};
 ghost use Rattle.published.specs.Value.{staged, staged_all};
 
@@ -9,7 +9,7 @@ use crate::ledger::Server;
 use crate::place::PublishedWriter;
 use crate::recorder::{Recorder, gather};
 use crate::value::Stage;
-use capsteps::{Row, View, ViewChange};
+use caprules::{Row, View, ViewChange};
 use inotree::Tree;
 use sessiontab::Sessions;
 use std::alloc::{AllocError, Global};

@@ -2,7 +2,7 @@
 ghost use Rattle.std.specs.Prelude.{◌≡◌, IfOk};
 
 use crate::beginning::Counted;
-use capsteps::{View, ViewChange};
+use caprules::{View, ViewChange};
 use left_right::Absorb;
 use std::alloc::AllocError;
 

@@ -3,7 +3,7 @@ use Rattle.std.proofs.Common.{◌≡◌, ℕ, List, Result, Ok, Err, sym, subst}
 use Rattle.logbook.specs.Pages.{Book}
 use Rattle.capgrant.specs.declared.answer.Verdict.{Verdict}
 use Rattle.published.specs.Capevents.declared.row.Row.{Row}
-use Rattle.published.specs.Capsteps.State.{State}
+use Rattle.published.specs.Caprules.State.{State}
 use Rattle.published.specs.Capview.declared.answer.Question.{Question}
 use Rattle.published.specs.Capview.declared.answer.Unknown.{Unknown}
 use Rattle.published.specs.Capview.declared.answer.Unknown.TheVariants as unknown
@@ -11,7 +11,7 @@ use Rattle.published.specs.Capview.declared.view.View.{View}
 use Rattle.published.specs.Capview.Answers.{IsAnswer}
 use Rattle.published.specs.Capview.Sight.{Shows}
 use Rattle.published.specs.declared.value.Published.{Published}
-use Rattle.published.specs.Capsteps.Noted.{view_of}
+use Rattle.published.specs.Caprules.Noted.{view_of}
 use Rattle.published.specs.Places.{IsPublished}
 use Rattle.witness.specs.Answers.{IsAnswered}
 

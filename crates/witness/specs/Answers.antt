@@ -2,11 +2,11 @@
 use Rattle.std.specs.Prelude.{List, Result}
 use Rattle.capgrant.specs.declared.answer.Verdict.{Verdict}
 use Rattle.published.specs.Capevents.declared.row.Row.{Row}
-use Rattle.published.specs.Capsteps.State.{State}
+use Rattle.published.specs.Caprules.State.{State}
 use Rattle.published.specs.Capview.declared.answer.Question.{Question}
 use Rattle.published.specs.Capview.declared.answer.Unknown.{Unknown}
 use Rattle.published.specs.Capview.Answers.{IsAnswer}
-use Rattle.published.specs.Capsteps.Noted.{view_of}
+use Rattle.published.specs.Caprules.Noted.{view_of}
 use Rattle.published.specs.Rows.{Legal}
 
 -- the rows that are known are legal, and the answer is that of the state to which they lead

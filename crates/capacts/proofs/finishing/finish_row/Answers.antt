@@ -4,8 +4,8 @@ use Rattle.capbits.specs.Sets.{meet}
 use Rattle.captable.specs.declared.entry.EntryRow.{EntryRow}
 use Rattle.captable.specs.Table.{Table}
 use Rattle.captable.proofs.Changes.{put_found}
-use Rattle.capnotes.specs.Lockmachine.Policy.{permitted, permitted_to, subject_of}
-use Rattle.capnotes.specs.Lockmachine.Wants.{want_of_permitted}
+use Rattle.caprules.specs.Lockmachine.Policy.{permitted, permitted_to, subject_of}
+use Rattle.caprules.specs.Lockmachine.Wants.{want_of_permitted}
 use Rattle.capacts.specs.Finishing as words
 use Rattle.capacts.specs.Known.{known_in}
 use Rattle.capacts.proofs.KeptSets.{kept-one}

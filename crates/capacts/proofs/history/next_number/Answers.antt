@@ -4,8 +4,8 @@ use Rattle.std.specs.List.{find}
 use Rattle.std.specs.Option.{option_map}
 use Rattle.std.proofs.lemmas.Iterator.Search.{find_from_yields_List}
 use Rattle.std.proofs.lemmas.Iterator.Adapters.{YieldsList-from_rev_slice}
-use Rattle.capnotes.specs.Capevents.declared.row.Row.{Row}
-use Rattle.capacts.specs.Numbers.{rows_of}
+use Rattle.caprules.specs.Capevents.declared.row.Row.{Row}
+use Rattle.caprules.specs.Numbers.{rows_of}
 use Rattle.capacts.proofs.Numbered.{no_row_found, last_row_found, rows_of-le-length}
 use Rattle.capacts.proofs.history.next_number.Goals as goal
 use Rattle.capacts.proofs.history.next_number.Goals.{After-find, In-Some}

@@ -1,8 +1,8 @@
 use Rattle.std.proofs.Common.{◌≡◌, ◌+◌, ◌≤◌, ◌++◌, List, filter, not, length, take, ap, ◌∙◌, arith, length-append}
 use Rattle.std.proofs.lemmas.List.{take_all}
-use Rattle.capnotes.specs.Lockmachine.declared.request.Request.{Request}
-use Rattle.capnotes.specs.Lockmachine.Requests.{is_of_client}
-use Rattle.capnotes.specs.Lockmachine.Locks.{LockMap}
+use Rattle.caprules.specs.Lockmachine.declared.request.Request.{Request}
+use Rattle.caprules.specs.Lockmachine.Requests.{is_of_client}
+use Rattle.caprules.specs.Lockmachine.Locks.{LockMap}
 use Rattle.capacts.proofs.Dropped.{dropped_among, dropped-count, dropped-few}
 use Rattle.capacts.proofs.leaving.drop_requests.Goals as goal
 

@@ -2,8 +2,8 @@ use Rattle.std.proofs.Common.{◌≢◌, ℕ, ◌+◌, get_or, List, sym, ap, su
 use Rattle.std.specs.List.{AllWithin}
 use Rattle.capbits.specs.declared.ids.Ino.{Ino}
 use Rattle.captable.specs.declared.entry.EntryRow.{EntryRow}
-use Rattle.capnotes.specs.InoSets.{InoSet}
-use Rattle.capnotes.specs.Noted.{Noted}
+use Rattle.caprules.specs.Capnotes.InoSets.{InoSet}
+use Rattle.caprules.specs.Capnotes.Noted.{Noted}
 use Rattle.capacts.specs.Reach.{Widens}
 use Rattle.capacts.proofs.Adding.{differ, same-one, IsAdded, added-more}
 use Rattle.capacts.proofs.InoSets.{added, widens-added, widens-then}

@@ -1,9 +1,9 @@
 use Rattle.std.proofs.Common.{[], ap, sym, ◌∙◌}
 use Rattle.capgrant.specs.declared.access.Access.{Access}
-use Rattle.capnotes.specs.Lockmachine.declared.request.Ask.{Ask}
-use Rattle.capnotes.specs.Lockmachine.Scene.{Scene, scene}
-use Rattle.capacts.specs.Judge.{stop, denial_of}
-use Rattle.capacts.specs.Asks.{ask_needs, change_access}
+use Rattle.caprules.specs.Lockmachine.declared.request.Ask.{Ask}
+use Rattle.caprules.specs.Lockmachine.Scene.{Scene, scene}
+use Rattle.caprules.specs.Judge.{stop, denial_of}
+use Rattle.caprules.specs.Asks.{ask_needs, change_access}
 use Rattle.capacts.proofs.Again.{denial-stop}
 use Rattle.capacts.proofs.serving.ask_denial.Goals as goal
 

@@ -1,7 +1,7 @@
 use Rattle.std.proofs.Common.{[], refl, sym, ap, ◌∙◌}
-use Rattle.capnotes.specs.Lockmachine.Locks.{no_locks}
-use Rattle.capnotes.specs.Lockmachine.Scene.{Scene, scene}
-use Rattle.capnotes.specs.Changing.{tree_after}
+use Rattle.caprules.specs.Lockmachine.Locks.{no_locks}
+use Rattle.caprules.specs.Lockmachine.Scene.{Scene, scene}
+use Rattle.caprules.specs.Capnotes.Changing.{tree_after}
 use Rattle.capacts.proofs.Again.{calls-passed, ends-stopped, ends-passed, ends-without_memory, tree-stopped, tree-passed}
 use Rattle.capacts.proofs.Memory.{rename-takes}
 use Rattle.capacts.proofs.serving.serve.Goals as goal

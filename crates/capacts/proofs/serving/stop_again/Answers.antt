@@ -1,9 +1,9 @@
 use Rattle.std.proofs.Common.{refl, sym, ap, ◌∙◌}
 use Rattle.std.specs.Option.{option_map}
-use Rattle.capnotes.specs.Lockmachine.declared.request.Request.{Request}
-use Rattle.capnotes.specs.Lockmachine.Scene.{Scene, scene}
-use Rattle.capacts.specs.declared.stopped.Stopped.TheVariants.{ByTest}
-use Rattle.capacts.specs.Asks.{ask_before, ask_needs, ask_after}
+use Rattle.caprules.specs.Lockmachine.declared.request.Request.{Request}
+use Rattle.caprules.specs.Lockmachine.Scene.{Scene, scene}
+use Rattle.caprules.specs.declared.stopped.Stopped.TheVariants.{ByTest}
+use Rattle.caprules.specs.Asks.{ask_before, ask_needs, ask_after}
 use Rattle.capacts.proofs.Again.{stopped-before, stopped-policy, stopped-after}
 use Rattle.capacts.proofs.serving.stop_again.Goals as goal
 

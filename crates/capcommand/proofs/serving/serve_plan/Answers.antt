@@ -1,5 +1,5 @@
 use Rattle.std.proofs.Common.{subst}
-use Rattle.capserver.specs.Capsteps.History.{IsOpening}
+use Rattle.capserver.specs.Caprules.History.{IsOpening}
 use Rattle.capscript.specs.Transcript.{fs_name}
 use Rattle.capcommand.proofs.serving.serve_plan.Goals as goal
 

@@ -1,7 +1,7 @@
 use Rattle.std.proofs.Common.{[], ◌∷◌, None, sym, ap, ◌∙◌}
 use Rattle.capsteps.specs.Lockmachine.Scene.{Scene, scene}
-use Rattle.capsteps.specs.Capacts.Judge.{asked_tests, first_denied, stop_by}
-use Rattle.capsteps.specs.Capacts.Needs.{need}
+use Rattle.capsteps.specs.Caprules.Judge.{asked_tests, first_denied, stop_by}
+use Rattle.capsteps.specs.Caprules.Needs.{need}
 use Rattle.capsteps.proofs.Capacts.Again.{denial-stop, stopped-before}
 use Rattle.capcore.proofs.judging.access_stop.Goals as goal
 

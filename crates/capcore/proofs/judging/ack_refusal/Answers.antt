@@ -2,7 +2,7 @@ use Rattle.std.proofs.Common.{refl, sym, ap, ◌∙◌}
 use Rattle.capbits.specs.Refusal.{first_failing}
 use Rattle.captable.specs.Tests.{ack_tests}
 use Rattle.capsteps.specs.Lockmachine.Scene.{Scene, scene}
-use Rattle.capsteps.specs.Capacts.Judge.{connected_tests, revoked_of}
+use Rattle.capsteps.specs.Caprules.Judge.{connected_tests, revoked_of}
 use Rattle.capsteps.proofs.Revoking.{passed-front}
 use Rattle.capcore.proofs.judging.ack_refusal.Goals as goal
 

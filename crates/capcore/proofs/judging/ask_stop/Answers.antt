@@ -1,9 +1,9 @@
 use Rattle.std.proofs.Common.{refl, sym, ap, ◌∙◌}
 use Rattle.std.specs.Option.{option_map}
 use Rattle.capsteps.specs.Lockmachine.Scene.{Scene, scene}
-use Rattle.capsteps.specs.Capacts.declared.stopped.Stopped.TheVariants.{ByTest}
-use Rattle.capsteps.specs.Capacts.Asks.{ask_needs}
-use Rattle.capsteps.specs.Capacts.Judge.{asking_tests, waiting_tests}
+use Rattle.capsteps.specs.Caprules.declared.stopped.Stopped.TheVariants.{ByTest}
+use Rattle.capsteps.specs.Caprules.Asks.{ask_needs}
+use Rattle.capsteps.specs.Caprules.Judge.{asking_tests, waiting_tests}
 use Rattle.capsteps.proofs.Capacts.Again.{stopped-before, stopped-policy, stopped-after}
 use Rattle.capcore.specs.Asks.{ask_of}
 use Rattle.capcore.proofs.judging.ask_stop.Goals as goal

@@ -1,8 +1,8 @@
 use Rattle.std.proofs.Common.{[], ap, sym, ◌∙◌}
 use Rattle.capgrant.specs.declared.access.Access.{Access}
 use Rattle.capsteps.specs.Lockmachine.Scene.{Scene, scene}
-use Rattle.capsteps.specs.Capacts.Judge.{stop, denial_of}
-use Rattle.capsteps.specs.Capacts.Asks.{ask_needs, change_access}
+use Rattle.capsteps.specs.Caprules.Judge.{stop, denial_of}
+use Rattle.capsteps.specs.Caprules.Asks.{ask_needs, change_access}
 use Rattle.capsteps.proofs.Capacts.Again.{denial-stop}
 use Rattle.capcore.specs.declared.asks.Asked.{Asked}
 use Rattle.capcore.specs.Asks.{ask_of}

@@ -7,7 +7,7 @@ use Rattle.capbits.proofs.Tests.{failing-front}
 use Rattle.captable.specs.Tests.{release_tests}
 use Rattle.captable.specs.Table.{Table}
 use Rattle.capsteps.specs.Lockmachine.Requests.{part_of_change}
-use Rattle.capsteps.specs.Capacts.Asks.{change_tests, exclusive}
+use Rattle.capsteps.specs.Caprules.Asks.{change_tests, exclusive}
 use Rattle.capsteps.proofs.Revoking.{passed-front}
 use Rattle.capcore.proofs.judging.flush_refusal.Goals as goal
 

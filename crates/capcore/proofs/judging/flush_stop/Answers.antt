@@ -5,9 +5,9 @@ use Rattle.capsteps.specs.Lockmachine.Locks.{LockMap}
 use Rattle.capsteps.specs.Lockmachine.Scene.{Scene, scene}
 use Rattle.capsteps.specs.Capevents.declared.event.Event.{Event}
 use Rattle.capsteps.specs.Capevents.declared.event.Event.TheVariants.{Flush}
-use Rattle.capsteps.specs.Capacts.declared.stopped.Stopped.TheVariants.{ByTest}
-use Rattle.capsteps.specs.Capacts.Judge.{stop, asked_tests, before, needs, after}
-use Rattle.capsteps.specs.Capacts.Needs.{need}
+use Rattle.capsteps.specs.Caprules.declared.stopped.Stopped.TheVariants.{ByTest}
+use Rattle.capsteps.specs.Caprules.Judge.{stop, asked_tests, before, needs, after}
+use Rattle.capsteps.specs.Caprules.Needs.{need}
 use Rattle.capsteps.proofs.Judging.{stopped, passed}
 use Rattle.capcore.proofs.judging.flush_stop.Goals as goal
 use Rattle.capcore.proofs.judging.flush_stop.Goals.{After-access_stop}

@@ -3,8 +3,8 @@ use Rattle.std.specs.Option.{option_map}
 use Rattle.capsteps.specs.Lockmachine.Scene.{Scene, scene}
 use Rattle.capsteps.specs.Capevents.declared.event.Event.{Event}
 use Rattle.capsteps.specs.Capevents.declared.event.Event.TheVariants.{Open}
-use Rattle.capsteps.specs.Capacts.declared.stopped.Stopped.TheVariants.{ByTest}
-use Rattle.capsteps.specs.Capacts.Judge.{before, needs, after}
+use Rattle.capsteps.specs.Caprules.declared.stopped.Stopped.TheVariants.{ByTest}
+use Rattle.capsteps.specs.Caprules.Judge.{before, needs, after}
 use Rattle.capsteps.proofs.Capacts.Again.{stopped-after}
 use Rattle.capcore.proofs.judging.open_stop.Goals as goal
 

@@ -5,9 +5,9 @@ use Rattle.capbits.specs.declared.refusal.Refusal.{Refusal}
 use Rattle.capsteps.specs.Lockmachine.Scene.{Scene, scene}
 use Rattle.capsteps.specs.Capevents.declared.event.Event.{Event}
 use Rattle.capsteps.specs.Capevents.declared.event.Event.TheVariants.{Ack}
-use Rattle.capsteps.specs.Capacts.declared.stopped.Stopped.TheVariants.{ByTest}
+use Rattle.capsteps.specs.Caprules.declared.stopped.Stopped.TheVariants.{ByTest}
 use Rattle.capsteps.specs.declared.touch.Touch.{Touch}
-use Rattle.capsteps.specs.Capacts.Judge.{before, judged, stop_by}
+use Rattle.capsteps.specs.Caprules.Judge.{before, judged, stop_by}
 use Rattle.capsteps.specs.Touch.{touch_event}
 use Rattle.capcore.proofs.judging.touch_stop.Goals as goal
 

@@ -1,4 +1,4 @@
-use Rattle.capsteps.specs.Direct.{with_scene}
+use Rattle.capsteps.specs.Caprules.Direct.{with_scene}
 use Rattle.capsteps.specs.Leaving.{with_parts}
 use Rattle.capsteps.proofs.Finishing.{sound-settles}
 use Rattle.capsteps.proofs.LeftAlone.{kept-sound, kept-finished}

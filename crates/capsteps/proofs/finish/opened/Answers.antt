@@ -5,7 +5,7 @@ use Rattle.capbits.specs.Sets.{no_caps}
 use Rattle.captable.specs.declared.entry.Holder.{Holder}
 use Rattle.captable.specs.Table.{Table, entry_at}
 use Rattle.capacts.specs.Capevents.declared.reply.Reply.TheVariants.{Opened}
-use Rattle.capsteps.specs.Direct.{opened_as}
+use Rattle.capacts.specs.Caprules.Direct.{opened_as}
 use Rattle.captable.proofs.ByHolder.{row_of-entry}
 use Rattle.capsteps.proofs.finish.opened.Goals as goal
 

@@ -2,7 +2,7 @@ use Rattle.std.proofs.Common.{◌≡◌, ◌++◌, List, [], ◌∷◌, take, sy
 use Rattle.captable.specs.declared.entry.EntryRow.{EntryRow}
 use Rattle.capacts.specs.Capevents.declared.outcome.Message.{Message}
 use Rattle.capacts.specs.Capevents.declared.outcome.Message.TheVariants.{Recall}
-use Rattle.capsteps.specs.Messages.{caps_messages, size_messages, recall_messages}
+use Rattle.capacts.specs.Caprules.Messages.{caps_messages, size_messages, recall_messages}
 use Rattle.capsteps.proofs.Polling.{take-take_append}
 use Rattle.capsteps.proofs.poll.add_due.Goals as goal
 

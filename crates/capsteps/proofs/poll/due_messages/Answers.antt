@@ -5,7 +5,7 @@ use Rattle.captable.specs.declared.entry.EntryRow.{EntryRow}
 use Rattle.captable.specs.Calls.{is_of_client, is_due}
 use Rattle.capacts.proofs.Lockmachine.Finding.{contains-filter, filter-contains}
 use Rattle.capacts.specs.Capevents.declared.outcome.Message.{Message}
-use Rattle.capsteps.specs.Messages.{end_messages}
+use Rattle.capacts.specs.Caprules.Messages.{end_messages}
 use Rattle.capsteps.proofs.Polling.{IsListed, due_of, take-take_append, few-more, listed-more, listed-all, listed-full, listed-first, listed-done, left-behind, known-row}
 use Rattle.capsteps.proofs.poll.due_messages.Goals as goal
 

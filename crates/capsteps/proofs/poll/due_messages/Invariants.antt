@@ -3,7 +3,7 @@ use Rattle.captable.specs.declared.entry.EntryRow.{EntryRow}
 use Rattle.captable.specs.Calls.{is_due}
 use Rattle.capacts.specs.Lockmachine.Scene.{Scene}
 use Rattle.capacts.specs.Known.{AreKnown}
-use Rattle.capsteps.specs.Messages.{end_messages}
+use Rattle.capacts.specs.Caprules.Messages.{end_messages}
 use Rattle.capsteps.proofs.Polling.{IsListed}
 use Rattle.capsteps.proofs.poll.due_messages.Given as goal
 

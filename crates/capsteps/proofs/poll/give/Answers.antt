@@ -2,7 +2,7 @@ use Rattle.std.proofs.Common.{◌≡◌, ◌+◌, ◌++◌, [], ◌∷◌, take,
 use Rattle.std.proofs.lemmas.List.{take_more, take_all}
 use Rattle.captable.specs.Calls.{is_of_client}
 use Rattle.captable.specs.Many.{changed_where}
-use Rattle.capsteps.specs.Messages.{after_messages}
+use Rattle.capacts.specs.Caprules.Messages.{after_messages}
 use Rattle.capsteps.proofs.Polling.{given-none, given-more}
 use Rattle.capsteps.proofs.poll.give.Goals as goal
 

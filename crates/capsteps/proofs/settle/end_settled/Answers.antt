@@ -3,7 +3,7 @@ use Rattle.std.specs.Prelude.{All, IsTrue}
 use Rattle.sessiontab.specs.Calls.{has_session}
 use Rattle.captable.specs.Table.{Table}
 use Rattle.capacts.specs.Lockmachine.Scene.{Scene, scene}
-use Rattle.capacts.specs.Finish.{is_sized, owed}
+use Rattle.capacts.specs.Caprules.Finish.{is_sized, owed}
 use Rattle.capacts.specs.Reach.{is_touched}
 use Rattle.capacts.specs.Known.{known_in, HaveRoom, KeptAnew}
 use Rattle.capsteps.specs.Touching.{told_then, finished_at}

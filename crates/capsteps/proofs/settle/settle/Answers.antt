@@ -14,7 +14,7 @@ use Rattle.capacts.specs.Capevents.declared.outcome.Outcome.{Outcome}
 use Rattle.capacts.specs.declared.sweep.SweepPlace.{SweepPlace}
 use Rattle.capacts.specs.Reach.{is_touched, Reaches}
 use Rattle.capsteps.specs.Serves.{Serves}
-use Rattle.capsteps.specs.Settle.{Served, sets_size, is_done, sized_in}
+use Rattle.capacts.specs.Caprules.Settle.{Served, sets_size, is_done, sized_in}
 use Rattle.capsteps.specs.Sweep.{GoesOn, GoesOnBehind, IsSwept, StandsAt}
 use Rattle.capacts.proofs.Capnotes.Noting.{leads-none, leads-then}
 use Rattle.capsteps.proofs.SoFar.{IsSoFar, so-far-begins, so-far-served, so-far-settled, so-far-swept, stands-behind, stands-first, turn-of_least}

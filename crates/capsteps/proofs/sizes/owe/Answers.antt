@@ -6,7 +6,7 @@ use Rattle.captable.specs.declared.entry.Holder.{Holder}
 use Rattle.captable.specs.Table.{Table, entry_at}
 use Rattle.captable.specs.Calls.{with_size_due}
 use Rattle.captable.proofs.Changes.{same_found, left_found, none_found}
-use Rattle.capacts.specs.Finish.{owed}
+use Rattle.capacts.specs.Caprules.Finish.{owed}
 use Rattle.capsteps.proofs.sizes.owe.Goals as goal
 
 abbrev owed_of : Holder → Entry → Entry

@@ -6,7 +6,7 @@ use Rattle.sessiontab.specs.Calls.{has_session}
 use Rattle.captable.specs.Table.{Table}
 use Rattle.captable.specs.Calls.{is_of_inode}
 use Rattle.captable.specs.Many.{changed_where}
-use Rattle.capacts.specs.Finish.{is_sized, owed}
+use Rattle.capacts.specs.Caprules.Finish.{is_sized, owed}
 use Rattle.capsteps.proofs.ManyInodes.{holders-stay}
 use Rattle.capsteps.proofs.Owing.{none-owed, more-owed}
 use Rattle.capsteps.proofs.sizes.owe_sizes.Goals as goal

@@ -2,7 +2,7 @@ use Rattle.std.proofs.Common.{◌≡◌, Some, None, sym, ap, subst, ◌∙◌}
 use Rattle.capbits.specs.Sets.{union}
 use Rattle.captable.specs.Table.{entry_at}
 use Rattle.captable.specs.Calls.{wanting}
-use Rattle.capsteps.specs.Direct.{opening_wants, with_want}
+use Rattle.capacts.specs.Caprules.Direct.{opening_wants, with_want}
 use Rattle.capacts.specs.Known.{StillKept}
 use Rattle.capsteps.proofs.Knowing.{still-then}
 use Rattle.capsteps.proofs.Openings.{opening-there, opening-new}

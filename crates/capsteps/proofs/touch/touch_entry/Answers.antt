@@ -3,7 +3,7 @@ use Rattle.capbits.specs.declared.cap.Cap.TheVariants.{P}
 use Rattle.capbits.specs.Caps.{has}
 use Rattle.capbits.specs.Sets.{union}
 use Rattle.captable.specs.Calls.{taken, given_back, wanting}
-use Rattle.capsteps.specs.Direct.{with_want}
+use Rattle.capacts.specs.Caprules.Direct.{with_want}
 use Rattle.capsteps.specs.Touch.{touched_table}
 use Rattle.capsteps.proofs.Knowing.{still-there}
 use Rattle.capsteps.proofs.TouchKept.{WasThere, there-changed, there-cond}

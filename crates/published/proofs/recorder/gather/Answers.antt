@@ -1,7 +1,7 @@
 use Rattle.std.proofs.Common.{◌≡◌, ◌∷◌, [], ◌++◌, List, sym, subst, ◌∙◌, arith, rules}
 use mathlib.Core.List.{IsPrefix}
-use Rattle.capsteps.specs.Capevents.declared.row.Row.{Row}
-use Rattle.capsteps.specs.State.{State}
+use Rattle.caprules.specs.Capevents.declared.row.Row.{Row}
+use Rattle.caprules.specs.State.{State}
 use Rattle.published.specs.Rows.{Legal}
 use Rattle.published.proofs.Gathering.{legal_more, take_begins}
 use Rattle.published.proofs.recorder.gather.Goals as goal

@@ -1,5 +1,5 @@
 use Rattle.std.proofs.Common.{◌≡◌, drop, fold}
-use Rattle.capsteps.specs.Capview.Changes.{view_by}
+use Rattle.caprules.specs.Capview.Changes.{view_by}
 use Rattle.published.specs.Value.{staged_all}
 use Rattle.published.proofs.staging.stage_changes.Given as goal
 

@@ -1,16 +1,16 @@
 use Rattle.std.proofs.Common.{◌≡◌, ◌+◌, ◌++◌, ◌∷◌, [], List, length, refl, ap, sym, subst, ◌∙◌}
-use Rattle.capsteps.specs.State.{State}
+use Rattle.capsteps.specs.Caprules.State.{State}
 use Rattle.capsteps.specs.Capevents.declared.row.Row.{Row}
 use Rattle.capsteps.specs.Capevents.declared.reply.Reply.{Reply}
 use Rattle.capsteps.specs.Answered.{IsAnswered}
-use Rattle.capsteps.specs.Direct.{direct}
-use Rattle.capsteps.specs.Headline.{ServedDenied, ServedByName, EachServing, AreBounded}
-use Rattle.capsteps.specs.Capacts.Numbers.{rows_of}
-use Rattle.capsteps.specs.History.{Told, told, made_row}
+use Rattle.capsteps.specs.Caprules.Direct.{direct}
+use Rattle.capsteps.specs.Caprules.Headline.{ServedDenied, ServedByName, EachServing, AreBounded}
+use Rattle.capsteps.specs.Caprules.Numbers.{rows_of}
+use Rattle.capsteps.specs.Caprules.History.{Told, told, made_row}
 use Rattle.capcore.specs.Promised.{IsPromised}
-use Rattle.capsteps.specs.Shown.{ShowsWhatIsTold}
-use Rattle.capsteps.specs.Sound.{IsSound}
-use Rattle.capsteps.specs.Step.{Step}
+use Rattle.capsteps.specs.Caprules.Shown.{ShowsWhatIsTold}
+use Rattle.capsteps.specs.Caprules.Sound.{IsSound}
+use Rattle.capsteps.specs.Caprules.Step.{Step}
 use Rattle.capcore.proofs.Apart.{held-apart}
 use Rattle.capcore.proofs.Bounded.{direct-order, moves-bounded, by-moves}
 use Rattle.capcore.proofs.OtherLocks.{other-locks}

@@ -5,7 +5,7 @@ use Rattle.inotree.proofs.Passing.{passed-create}
 use Rattle.capsteps.specs.Lockmachine.Locks.{LockMap}
 use Rattle.capsteps.specs.Capacts.Known.{AreKnown}
 use Rattle.capsteps.specs.Capnotes.Untold.{HasRoom}
-use Rattle.capsteps.specs.State.{State}
+use Rattle.capsteps.specs.Caprules.State.{State}
 use Rattle.capcore.proofs.Undone.{added-dropped, not_given}
 use Rattle.capcore.proofs.Untouched.{birth-sound, birth-known}
 use Rattle.capcore.proofs.world.World.add.Goals as goal

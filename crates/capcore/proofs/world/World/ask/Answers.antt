@@ -7,19 +7,19 @@ use Rattle.capsteps.specs.Lockmachine.Locks.{LockMap, next_request, with_request
 use Rattle.capsteps.specs.Lockmachine.Scene.{Scene}
 use Rattle.capsteps.specs.Capevents.declared.event.Event.{Event}
 use Rattle.capsteps.specs.Capevents.declared.outcome.Ended.{Ended}
-use Rattle.capsteps.specs.State.{State}
+use Rattle.capsteps.specs.Caprules.State.{State}
 use Rattle.capsteps.specs.Answered.{IsAnswered}
-use Rattle.capsteps.specs.Capacts.Asks.{ask_needs}
-use Rattle.capsteps.specs.Capacts.Judge.{stop, asking_tests, waiting_tests}
+use Rattle.capsteps.specs.Caprules.Asks.{ask_needs}
+use Rattle.capsteps.specs.Caprules.Judge.{stop, asking_tests, waiting_tests}
 use Rattle.capsteps.specs.Touching.{asks_for}
 use Rattle.capsteps.specs.Capnotes.Untold.{but_for}
 use Rattle.capcore.specs.Asks.{ask_of}
 use Rattle.capcore.proofs.Asked.{asking-room, asking-stop}
 use Rattle.capcore.proofs.Waits.{some-asking, room-left, few-others, wait-quiet, wait-differ, wait-known, wait-answered}
 use Rattle.capsteps.specs.Capview.Changes.{AreChanges}
-use Rattle.capsteps.specs.Noted.{view_of}
+use Rattle.capsteps.specs.Caprules.Noted.{view_of}
 use Rattle.capsteps.proofs.Capnotes.Noting.{changes-all, changes-still}
-use Rattle.capsteps.specs.Sound.{IsSound}
+use Rattle.capsteps.specs.Caprules.Sound.{IsSound}
 use Rattle.capcore.proofs.Stops.{asking-at, stopped-answered}
 use Rattle.capcore.proofs.world.World.ask.Goals as goal
 use Rattle.capcore.proofs.world.World.ask.Goals.{After-waiting-waiting, After-enqueue-ticket, After-close_with}

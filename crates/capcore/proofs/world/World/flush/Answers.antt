@@ -7,22 +7,22 @@ use Rattle.capsteps.specs.Capevents.declared.event.Event.{Event}
 use Rattle.capsteps.specs.Capevents.declared.event.Event.TheVariants as event
 use Rattle.capsteps.specs.Capevents.declared.outcome.Ended.{Ended}
 use Rattle.capsteps.specs.Capevents.declared.reply.Reply.TheVariants as reply
-use Rattle.capsteps.specs.State.{State}
+use Rattle.capsteps.specs.Caprules.State.{State}
 use Rattle.capsteps.specs.Answered.{IsAnswered}
-use Rattle.capsteps.specs.Direct.{Answer, Says, Direct, direct, reply_of, shown, says, with_flush}
-use Rattle.capsteps.specs.Capacts.Judge.{judged}
+use Rattle.capsteps.specs.Caprules.Direct.{Answer, Says, Direct, direct, reply_of, shown, says, with_flush}
+use Rattle.capsteps.specs.Caprules.Judge.{judged}
 use Rattle.capsteps.specs.Capacts.Known.{known_in, StillKept}
 use Rattle.capsteps.specs.Touching.{Knows}
 use Rattle.capsteps.specs.Serves.{EndsWith}
-use Rattle.capsteps.specs.Sound.{IsSound}
-use Rattle.capsteps.specs.Step.{earlier}
+use Rattle.capsteps.specs.Caprules.Sound.{IsSound}
+use Rattle.capsteps.specs.Caprules.Step.{earlier}
 use Rattle.capcore.proofs.Closing.{first-quiet, told-all, closed-known, closed}
 use Rattle.capsteps.proofs.Knowing.{HoldAlike, alike-less, still-there, still-room, still-knows}
 use Rattle.capcore.proofs.OfInode.{event-table}
 use Rattle.capcore.proofs.Flushed.{flush-calls, flush-direct}
 use Rattle.capcore.proofs.Stops.{judged-at, stopped-answered}
 use Rattle.capsteps.specs.Capview.Changes.{AreChanges}
-use Rattle.capsteps.specs.Noted.{view_of}
+use Rattle.capsteps.specs.Caprules.Noted.{view_of}
 use Rattle.capsteps.proofs.Capnotes.Noting.{changes-all, changes-still, leads-then}
 use Rattle.capcore.proofs.world.World.flush.Goals as goal
 use Rattle.capcore.proofs.world.World.flush.Goals.{After-touch, After-close}

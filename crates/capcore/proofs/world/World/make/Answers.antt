@@ -2,8 +2,8 @@ use Rattle.std.proofs.Common.{◌≡◌, None, ap, sym, subst, ◌∙◌}
 use Rattle.std.specs.FinMap as map
 use Rattle.capbits.proofs.Tests.{pass-both}
 use Rattle.capsteps.specs.Lockmachine.Scene.{scene}
-use Rattle.capsteps.specs.State.{State}
-use Rattle.capsteps.specs.Direct.{owned_by}
+use Rattle.capsteps.specs.Caprules.State.{State}
+use Rattle.capsteps.specs.Caprules.Direct.{owned_by}
 use Rattle.capbits.specs.Refusal.{first_failing}
 use Rattle.inotree.specs.Tests.{inode_tests, new_inode_tests, create_tests}
 use Rattle.capgrant.specs.declared.access.Access.TheVariants.{Write}

@@ -10,8 +10,8 @@ use Rattle.capcore.proofs.Effects.{making-stopped, snapshot-refused}
 use Rattle.capcore.proofs.Untouched.{changed-sound, changed-known}
 use Rattle.capsteps.specs.Capview.Sight.{IsLike, Shows}
 use Rattle.capsteps.proofs.Capview.Likeness.{like-unseen, shows-tree}
-use Rattle.capsteps.specs.State.{State}
-use Rattle.capsteps.specs.Noted.{view_of}
+use Rattle.capsteps.specs.Caprules.State.{State}
+use Rattle.capsteps.specs.Caprules.Noted.{view_of}
 use Rattle.capsteps.specs.Capnotes.Noted.{view}
 use Rattle.capcore.proofs.world.World.make_snapshot.Goals as goal
 

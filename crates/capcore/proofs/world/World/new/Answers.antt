@@ -1,8 +1,8 @@
 use Rattle.std.proofs.Common.{◌≡◌, None, ap, rules}
 use Rattle.captable.specs.declared.entry.Holder.{Holder}
 use Rattle.captable.specs.Table.{Table, entry_at}
-use Rattle.capsteps.specs.State.{State}
-use Rattle.capsteps.specs.History.{IsOpening}
+use Rattle.capsteps.specs.Caprules.State.{State}
+use Rattle.capsteps.specs.Caprules.History.{IsOpening}
 use Rattle.capsteps.specs.Capnotes.Untold.{HasRoom}
 use Rattle.capcore.proofs.Sounding.{opening-sound}
 use Rattle.capcore.proofs.world.World.new.Goals as goal

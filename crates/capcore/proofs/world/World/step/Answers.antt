@@ -8,7 +8,7 @@ use Rattle.capsteps.specs.Answered.{IsAnswered}
 use Rattle.capsteps.specs.Touching.{asks_for}
 use Rattle.capsteps.specs.Capevents.declared.event.Event.{Event}
 use Rattle.capsteps.specs.declared.said.Said.{Said}
-use Rattle.capsteps.specs.State.{State}
+use Rattle.capsteps.specs.Caprules.State.{State}
 use Rattle.capcore.proofs.world.World.step.Goals as goal
 
 -- whichever event it was that asked, it is this one

@@ -8,16 +8,16 @@ use Rattle.captable.specs.Table.{Table, IsTable, holder, entry_at}
 use Rattle.capsteps.specs.Lockmachine.Scene.{Scene}
 use Rattle.capsteps.specs.Capevents.declared.event.Event.{Event}
 use Rattle.capsteps.specs.Capevents.declared.outcome.Ended.{Ended}
-use Rattle.capsteps.specs.State.{State}
+use Rattle.capsteps.specs.Caprules.State.{State}
 use Rattle.capsteps.specs.Answered.{IsAnswered}
 use Rattle.capsteps.specs.Capevents.Replies.{has_list}
-use Rattle.capsteps.specs.Direct.{Answer, direct, reply_of, shown}
-use Rattle.capsteps.specs.Capacts.Judge.{judged}
+use Rattle.capsteps.specs.Caprules.Direct.{Answer, direct, reply_of, shown}
+use Rattle.capsteps.specs.Caprules.Judge.{judged}
 use Rattle.capsteps.specs.Capacts.Known.{known_in, AreKnown, StillKept}
 use Rattle.capsteps.specs.Touching.{Knows}
 use Rattle.capsteps.specs.Serves.{EndsWith}
-use Rattle.capsteps.specs.Sound.{IsSound, NumbersLeft}
-use Rattle.capsteps.specs.Step.{earlier}
+use Rattle.capsteps.specs.Caprules.Sound.{IsSound, NumbersLeft}
+use Rattle.capsteps.specs.Caprules.Step.{earlier}
 use Rattle.capsteps.specs.Touch.{touch_event, touch_tests, touch_answer}
 use Rattle.capcore.proofs.Closing.{first-quiet, first-numbers, first-clients, told-all, closed-known, closed}
 use Rattle.capsteps.proofs.Knowing.{held_at, HoldAlike, known-alike, still-room, still-knows, still-all}
@@ -27,7 +27,7 @@ use Rattle.capsteps.proofs.TouchKept.{touch-less, others-have_all}
 use Rattle.capcore.proofs.TouchWhole.{first-is, touch-answered, touched-by, touch-reply, no_list-touch, tell-alike}
 use Rattle.capsteps.proofs.Touched.{touched-tests}
 use Rattle.capsteps.specs.Capview.Changes.{AreChanges}
-use Rattle.capsteps.specs.Noted.{view_of}
+use Rattle.capsteps.specs.Caprules.Noted.{view_of}
 use Rattle.capsteps.proofs.Capnotes.Noting.{changes-all, changes-still}
 use Rattle.capcore.proofs.world.World.touch.Goals as goal
 use Rattle.capcore.proofs.world.World.touch.Goals.{In_ok-touch_entry, After-close}

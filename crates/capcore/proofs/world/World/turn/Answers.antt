@@ -8,21 +8,21 @@ use Rattle.capsteps.specs.Lockmachine.Moves.{IsQuietOutside}
 use Rattle.capsteps.specs.Lockmachine.Scene.{Scene}
 use Rattle.capsteps.specs.Capevents.declared.event.Event.{Event}
 use Rattle.capsteps.specs.Capevents.declared.outcome.Ended.{Ended}
-use Rattle.capsteps.specs.Capacts.declared.stopped.Stopped.TheVariants.{ByTest}
-use Rattle.capsteps.specs.State.{State}
+use Rattle.capsteps.specs.Caprules.declared.stopped.Stopped.TheVariants.{ByTest}
+use Rattle.capsteps.specs.Caprules.State.{State}
 use Rattle.capsteps.specs.Answered.{IsAnswered}
-use Rattle.capsteps.specs.Capacts.Judge.{judged}
+use Rattle.capsteps.specs.Caprules.Judge.{judged}
 use Rattle.capsteps.specs.Capacts.Known.{AreKnown, StillKept}
 use Rattle.capsteps.specs.Capacts.Reach.{is_touched}
 use Rattle.capsteps.specs.Serves.{EndsWith}
-use Rattle.capsteps.specs.Sound.{IsSound, NumbersLeft}
+use Rattle.capsteps.specs.Caprules.Sound.{IsSound, NumbersLeft}
 use Rattle.capsteps.specs.Capacts.Left.{is_end, dropped_by}
 use Rattle.capsteps.specs.Turn.{turn_event, turned}
 use Rattle.capcore.proofs.Stops.{stopped-answered}
 use Rattle.capcore.proofs.TurnStep.{turn-stop, few-waiting, few-messages, turn-quiet, turn-clients, turn-numbers, turn-alike, turn-known, turn-closed}
 use Rattle.capsteps.proofs.Knowing.{HoldAlike, still-there, still-room}
 use Rattle.capsteps.specs.Capview.Changes.{AreChanges}
-use Rattle.capsteps.specs.Noted.{view_of}
+use Rattle.capsteps.specs.Caprules.Noted.{view_of}
 use Rattle.capsteps.specs.Capnotes.Noted.{view}
 use Rattle.capsteps.proofs.Capnotes.Noting.{changes-still}
 use Rattle.capcore.proofs.world.World.turn.Goals as goal

@@ -1,6 +1,6 @@
 use Rattle.std.proofs.Common.{Option, MatchOption, ap, sym, subst}
 use mathlib.Core.List.{IsPrefix}
-use Rattle.capcore.specs.Capsteps.History.{Told}
+use Rattle.capcore.specs.Caprules.History.{Told}
 use Rattle.onecall.specs.Cappass.Published.Publishing.{Publishing}
 use Rattle.capserver.specs.Held.{IsHeld}
 use Rattle.capserver.proofs.Holding.{held_of, legal_of, room_of, held_mended, ready_of, all_of}

@@ -3,8 +3,8 @@ use Rattle.std.specs.Option.{option_copied_mut}
 use mathlib.Core.List.{IsPrefix}
 use Rattle.capcore.specs.Capview.declared.change.ViewChange.{ViewChange}
 use Rattle.capcore.specs.Capview.Changes.{AreChanges}
-use Rattle.capcore.specs.Capsteps.History.{Told}
-use Rattle.capcore.specs.Capsteps.Noted.{view_of}
+use Rattle.capcore.specs.Caprules.History.{Told}
+use Rattle.capcore.specs.Caprules.Noted.{view_of}
 use Rattle.capcore.specs.Promised.{IsPromised}
 use Rattle.onecall.specs.Cappass.Published.Publishing.{Publishing}
 use Rattle.capserver.specs.Held.{IsHeld}

@@ -1,7 +1,7 @@
 use Rattle.std.proofs.Common.{◌≡◌, List, ap, sym, subst, arith, length}
 use mathlib.Core.List.{IsPrefix}
 use Rattle.capcore.specs.Capevents.declared.row.Row.{Row}
-use Rattle.capcore.specs.Capsteps.History.{Told}
+use Rattle.capcore.specs.Caprules.History.{Told}
 use Rattle.onecall.specs.Cappass.Passes.{AllBegin}
 use Rattle.onecall.proofs.Cappass.Numbering.{begin_longer}
 use Rattle.capserver.proofs.server.CapServer.close.Goals as goal

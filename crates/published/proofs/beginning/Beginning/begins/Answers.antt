@@ -1,7 +1,7 @@
 use Rattle.std.proofs.Common.{◌≤◌, ap, subst, arith, length, List}
 use Rattle.std.proofs.lemmas.Bool.Decides.{nat_tests}
 use mathlib.Core.List.{IsPrefix}
-use Rattle.capsteps.specs.Capevents.declared.row.Row.{Row}
+use Rattle.caprules.specs.Capevents.declared.row.Row.{Row}
 use Rattle.published.proofs.Beginnings.{prefix_shorter}
 use Rattle.published.proofs.beginning.Beginning.begins.Goals as goal
 

@@ -9,12 +9,12 @@ use Rattle.captable.specs.declared.entry.Entry.{Entry}
 use Rattle.captable.specs.declared.entry.EntryRow.{EntryRow}
 use Rattle.captable.specs.Calls.{is_of_client, told, with_asked, with_size_due}
 use Rattle.captable.specs.Many.{changed_where}
-use Rattle.capacts.specs.Lockmachine.Scene.{Scene, told_set}
-use Rattle.capacts.specs.Capevents.declared.outcome.Ended.{Ended}
-use Rattle.capacts.specs.Capevents.declared.outcome.Message.{Message}
-use Rattle.capacts.specs.Capevents.declared.outcome.Message.TheVariants as message
-use Rattle.capacts.specs.Capnotes.Untold.{is_to, is_left}
-use Rattle.capsteps.specs.State.{State}
+use Rattle.capnotes.specs.Lockmachine.Scene.{Scene, told_set}
+use Rattle.capnotes.specs.Capevents.declared.outcome.Ended.{Ended}
+use Rattle.capnotes.specs.Capevents.declared.outcome.Message.{Message}
+use Rattle.capnotes.specs.Capevents.declared.outcome.Message.TheVariants as message
+use Rattle.capnotes.specs.Untold.{is_to, is_left}
+use Rattle.caprules.specs.State.{State}
 
 -- what the client is to know that it holds has changed since it was told
 abbrev pub caps_messages : Scene → EntryRow → List Message

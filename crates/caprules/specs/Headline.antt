@@ -16,30 +16,30 @@ use Rattle.locktable.specs.Rows.{row_of}
 use Rattle.captable.specs.declared.entry.Holder.{Holder}
 use Rattle.captable.specs.declared.entry.EntryRow.{EntryRow}
 use Rattle.captable.specs.Table.{is_row_of}
-use Rattle.capacts.specs.Lockmachine.Locks.{LockMap, lock_at}
-use Rattle.capacts.specs.Lockmachine.Policy.{failures, permitted}
-use Rattle.capacts.specs.Lockmachine.declared.request.Request.{Request}
-use Rattle.capacts.specs.Lockmachine.Requests.{same_part}
-use Rattle.capacts.specs.Lockmachine.Scene.{Scene, against}
-use Rattle.capacts.specs.Lockmachine.Moves.{is_open}
-use Rattle.capacts.specs.Lockmachine.Runs.{AreFew}
-use Rattle.capacts.specs.Lockmachine.declared.moves.Move.{Move}
-use Rattle.capacts.specs.Lockmachine.declared.moves.Move.TheVariants.{Begin, End, Serve}
-use Rattle.capacts.specs.Capevents.declared.outcome.Outcome.{Outcome}
-use Rattle.capacts.specs.Capevents.declared.outcome.Outcome.TheVariants as outcome
-use Rattle.capacts.specs.Asks.{ask_before, ask_needs}
-use Rattle.capsteps.specs.Settle.{Made, Began, Gathered, Served, MakesAll, ended_in}
-use Rattle.capsteps.specs.State.{State}
-use Rattle.capsteps.specs.Direct.{direct}
-use Rattle.capsteps.specs.Step.{StepBy}
-use Rattle.capacts.specs.Capevents.declared.outcome.Ended.{Ended}
-use Rattle.capacts.specs.Capevents.declared.event.Event.{Event}
-use Rattle.capacts.specs.Capevents.declared.reply.Reply.{Reply}
-use Rattle.capacts.specs.Capevents.declared.reply.Reply.TheVariants as reply
+use Rattle.capnotes.specs.Lockmachine.Locks.{LockMap, lock_at}
+use Rattle.capnotes.specs.Lockmachine.Policy.{failures, permitted}
+use Rattle.capnotes.specs.Lockmachine.declared.request.Request.{Request}
+use Rattle.capnotes.specs.Lockmachine.Requests.{same_part}
+use Rattle.capnotes.specs.Lockmachine.Scene.{Scene, against}
+use Rattle.capnotes.specs.Lockmachine.Moves.{is_open}
+use Rattle.capnotes.specs.Lockmachine.Runs.{AreFew}
+use Rattle.capnotes.specs.Lockmachine.declared.moves.Move.{Move}
+use Rattle.capnotes.specs.Lockmachine.declared.moves.Move.TheVariants.{Begin, End, Serve}
+use Rattle.capnotes.specs.Capevents.declared.outcome.Outcome.{Outcome}
+use Rattle.capnotes.specs.Capevents.declared.outcome.Outcome.TheVariants as outcome
+use Rattle.caprules.specs.Asks.{ask_before, ask_needs}
+use Rattle.caprules.specs.Settle.{Made, Began, Gathered, Served, MakesAll, ended_in}
+use Rattle.caprules.specs.State.{State}
+use Rattle.caprules.specs.Direct.{direct}
+use Rattle.caprules.specs.Step.{StepBy}
+use Rattle.capnotes.specs.Capevents.declared.outcome.Ended.{Ended}
+use Rattle.capnotes.specs.Capevents.declared.event.Event.{Event}
+use Rattle.capnotes.specs.Capevents.declared.reply.Reply.{Reply}
+use Rattle.capnotes.specs.Capevents.declared.reply.Reply.TheVariants as reply
 use Rattle.capbits.specs.Refusal.{Test, first_failing}
-use Rattle.capacts.specs.Needs.{Need}
-use Rattle.capacts.specs.Judge.{before, needs, first_denied}
-use Rattle.capacts.specs.Finish.{due}
+use Rattle.caprules.specs.Needs.{Need}
+use Rattle.caprules.specs.Judge.{before, needs, first_denied}
+use Rattle.caprules.specs.Finish.{due}
 
 -- ---- denials
 

@@ -1,6 +1,6 @@
 //! What stops a request.
 ghost use Rattle.std.specs.Prelude.{◌≡◌};
-ghost use Rattle.capacts.specs.Judge.{stop_reply};
+ghost use Rattle.caprules.specs.Judge.{stop_reply};
 
 use capbits::Refusal;
 use capgrant::{Access, Rules};

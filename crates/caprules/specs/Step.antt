@@ -1,13 +1,13 @@
 -- One step: the event by itself, the moves, and the end of the step.
 use Rattle.std.specs.Prelude.{◌≡◌, ℕ, nat_le, List, ◌++◌, filter}
-use Rattle.capacts.specs.Lockmachine.Scene.{Scene}
-use Rattle.capacts.specs.Capevents.declared.event.Event.{Event}
-use Rattle.capacts.specs.Capevents.declared.outcome.Ended.{Ended}
-use Rattle.capacts.specs.Capevents.declared.reply.Reply.{Reply}
-use Rattle.capsteps.specs.State.{State}
-use Rattle.capsteps.specs.Direct.{Direct, direct, reply_of, shown}
-use Rattle.capsteps.specs.Settle.{Made, Settles, ended_in, sized_in}
-use Rattle.capacts.specs.Finish.{sizes_owed, finished}
+use Rattle.capnotes.specs.Lockmachine.Scene.{Scene}
+use Rattle.capnotes.specs.Capevents.declared.event.Event.{Event}
+use Rattle.capnotes.specs.Capevents.declared.outcome.Ended.{Ended}
+use Rattle.capnotes.specs.Capevents.declared.reply.Reply.{Reply}
+use Rattle.caprules.specs.State.{State}
+use Rattle.caprules.specs.Direct.{Direct, direct, reply_of, shown}
+use Rattle.caprules.specs.Settle.{Made, Settles, ended_in, sized_in}
+use Rattle.caprules.specs.Finish.{sizes_owed, finished}
 
 -- of the requests that the moves ended, those of earlier steps: they have no number above the last that was given before
 abbrev pub earlier : ℕ → List Ended → List Ended

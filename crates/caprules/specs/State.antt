@@ -1,7 +1,7 @@
 -- The state of the core.
 use Rattle.std.specs.Prelude.{List}
-use Rattle.capacts.specs.Lockmachine.Scene.{Scene}
-use Rattle.capacts.specs.Capevents.declared.outcome.Ended.{Ended}
+use Rattle.capnotes.specs.Lockmachine.Scene.{Scene}
+use Rattle.capnotes.specs.Capevents.declared.outcome.Ended.{Ended}
 
 pub record State : Type 0 where
   -- the file system's name, tree, sessions, entries and locks

@@ -11,11 +11,11 @@ use Rattle.inotree.specs.Tree.{place}
 use Rattle.sessiontab.specs.Calls.{has_session}
 use Rattle.captable.specs.declared.entry.EntryRow.{EntryRow}
 use Rattle.captable.specs.Calls.{is_of_inode}
-use Rattle.capacts.specs.Lockmachine.Scene.{Scene}
-use Rattle.capacts.specs.Lockmachine.Moves.{IsAtRest}
-use Rattle.capacts.specs.Finish.{due}
-use Rattle.capsteps.specs.Headline.{AreInPlace}
-use Rattle.capsteps.specs.State.{State}
+use Rattle.capnotes.specs.Lockmachine.Scene.{Scene}
+use Rattle.capnotes.specs.Lockmachine.Moves.{IsAtRest}
+use Rattle.caprules.specs.Finish.{due}
+use Rattle.caprules.specs.Headline.{AreInPlace}
+use Rattle.caprules.specs.State.{State}
 
 -- an entry
 pub record IsSoundEntry (s : Scene) (row : EntryRow) : Type 0 where

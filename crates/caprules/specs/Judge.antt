@@ -29,10 +29,10 @@ use Rattle.capnotes.specs.Capevents.declared.event.OpenMode.{OpenMode}
 use Rattle.capnotes.specs.Capevents.declared.event.OpenMode.TheVariants as opening
 use Rattle.capnotes.specs.Capevents.declared.reply.Reply.{Reply}
 use Rattle.capnotes.specs.Capevents.declared.reply.Reply.TheVariants as reply
-use Rattle.capacts.specs.declared.stopped.Stopped.{Stopped}
-use Rattle.capacts.specs.declared.stopped.Stopped.TheVariants.{ByPolicy, ByTest}
-use Rattle.capacts.specs.Needs.{Need, need, need_if}
-use Rattle.capacts.specs.Asks.{ask_before, ask_needs, ask_after, change_access, change_tests, exclusive}
+use Rattle.caprules.specs.declared.stopped.Stopped.{Stopped}
+use Rattle.caprules.specs.declared.stopped.Stopped.TheVariants.{ByPolicy, ByTest}
+use Rattle.caprules.specs.Needs.{Need, need, need_if}
+use Rattle.caprules.specs.Asks.{ask_before, ask_needs, ask_after, change_access, change_tests, exclusive}
 
 -- ---- by event
 

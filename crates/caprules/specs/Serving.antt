@@ -14,13 +14,14 @@ use Rattle.capnotes.specs.Lockmachine.Moves.{moved as moved_locks}
 use Rattle.capnotes.specs.Lockmachine.Scene.{Scene}
 use Rattle.capnotes.specs.Capevents.declared.outcome.PartValues.{PartValues}
 use Rattle.capnotes.specs.Capevents.declared.outcome.PartValues.TheVariants as values
+use Rattle.capnotes.specs.Capevents.declared.outcome.Ended.{Ended}
 use Rattle.capnotes.specs.Capevents.declared.outcome.Outcome.{Outcome}
 use Rattle.capnotes.specs.Capevents.declared.outcome.Outcome.TheVariants as outcome
-use Rattle.capacts.specs.declared.stopped.Stopped.{Stopped}
-use Rattle.capacts.specs.declared.stopped.Stopped.TheVariants.{ByPolicy, ByTest}
-use Rattle.capacts.specs.Asks.{ask_before, ask_needs, ask_after}
+use Rattle.caprules.specs.declared.stopped.Stopped.{Stopped}
+use Rattle.caprules.specs.declared.stopped.Stopped.TheVariants.{ByPolicy, ByTest}
+use Rattle.caprules.specs.Asks.{ask_before, ask_needs, ask_after}
 use Rattle.capnotes.specs.Changing.{tree_after}
-use Rattle.capacts.specs.Judge.{stop}
+use Rattle.caprules.specs.Judge.{stop}
 
 -- what stops the request now
 abbrev pub judged_again : Scene → Request → Option Stopped
@@ -83,3 +84,9 @@ pub data MayEndAs (s : Scene) (q : Request) : Outcome → Type 0 where
 -- it waits no more
 abbrev pub served : Scene → Request → Outcome → Scene
 served s q o = record s { tree = tree_after s.tree q o; locks = moved_locks s.locks (Serve q.ticket) }
+
+-- ---- unserved
+
+-- a request ends unserved, since its client's session does
+abbrev pub dropped_of : Request → Ended
+dropped_of q = record { client = q.client; ticket = q.ticket; outcome = outcome.Dropped }

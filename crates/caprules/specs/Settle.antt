@@ -6,19 +6,19 @@ use Rattle.capbits.specs.declared.ids.Ino.{Ino}
 use Rattle.locktable.specs.declared.states.State.{State as LockGoal}
 use Rattle.inotree.specs.declared.node.Setting.{Setting}
 use Rattle.inotree.specs.declared.node.Setting.TheVariants as settings
-use Rattle.capacts.specs.Lockmachine.declared.request.Ask.{Ask}
-use Rattle.capacts.specs.Lockmachine.declared.request.Ask.TheVariants.{Get, Alter, Unlink, Rmdir, Rename}
-use Rattle.capacts.specs.Lockmachine.declared.request.Change.{Change}
-use Rattle.capacts.specs.Lockmachine.declared.request.Change.TheVariants.{Set, SetXattr, RemoveXattr}
-use Rattle.capacts.specs.Lockmachine.declared.request.Request.{Request}
-use Rattle.capacts.specs.Lockmachine.declared.moves.Move.TheVariants.{Begin, End, Serve, Settled}
-use Rattle.capacts.specs.Lockmachine.Locks.{request_at}
-use Rattle.capacts.specs.Lockmachine.Scene.{Scene}
-use Rattle.capacts.specs.Lockmachine.Moves.{first_move, with_moved}
-use Rattle.capacts.specs.Capevents.declared.outcome.Outcome.{Outcome}
-use Rattle.capacts.specs.Capevents.declared.outcome.Outcome.TheVariants as outcome
-use Rattle.capacts.specs.Capevents.declared.outcome.Ended.{Ended}
-use Rattle.capacts.specs.Serving.{MayEndAs, served}
+use Rattle.capnotes.specs.Lockmachine.declared.request.Ask.{Ask}
+use Rattle.capnotes.specs.Lockmachine.declared.request.Ask.TheVariants.{Get, Alter, Unlink, Rmdir, Rename}
+use Rattle.capnotes.specs.Lockmachine.declared.request.Change.{Change}
+use Rattle.capnotes.specs.Lockmachine.declared.request.Change.TheVariants.{Set, SetXattr, RemoveXattr}
+use Rattle.capnotes.specs.Lockmachine.declared.request.Request.{Request}
+use Rattle.capnotes.specs.Lockmachine.declared.moves.Move.TheVariants.{Begin, End, Serve, Settled}
+use Rattle.capnotes.specs.Lockmachine.Locks.{request_at}
+use Rattle.capnotes.specs.Lockmachine.Scene.{Scene}
+use Rattle.capnotes.specs.Lockmachine.Moves.{first_move, with_moved}
+use Rattle.capnotes.specs.Capevents.declared.outcome.Outcome.{Outcome}
+use Rattle.capnotes.specs.Capevents.declared.outcome.Outcome.TheVariants as outcome
+use Rattle.capnotes.specs.Capevents.declared.outcome.Ended.{Ended}
+use Rattle.caprules.specs.Serving.{MayEndAs, served}
 
 -- a move that was made
 pub data Made : Type 0 where

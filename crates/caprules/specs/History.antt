@@ -7,17 +7,17 @@ use Rattle.capbits.specs.declared.ids.PassId.{PassId}
 use Rattle.inotree.specs.declared.node.Place.TheVariants.{Gone}
 use Rattle.inotree.specs.Tree.{Nodes, place}
 use Rattle.captable.specs.Table as table
-use Rattle.capacts.specs.Lockmachine.Inodes.{in_sync}
-use Rattle.capacts.specs.Capview.declared.change.ViewChange.{ViewChange}
-use Rattle.capacts.specs.Capevents.declared.event.Event.{Event}
-use Rattle.capacts.specs.Capevents.declared.row.Row.{Row}
-use Rattle.capacts.specs.Capevents.declared.outcome.Ended.{Ended}
-use Rattle.capacts.specs.Capevents.declared.reply.Reply.{Reply}
-use Rattle.capacts.specs.Numbers.{rows_of, AreNumbered}
-use Rattle.capsteps.specs.State.{State}
-use Rattle.capsteps.specs.Step.{Step}
-use Rattle.capsteps.specs.Sound.{IsSound, AreGiven}
-use Rattle.capsteps.specs.Shown.{AreShown}
+use Rattle.capnotes.specs.Lockmachine.Inodes.{in_sync}
+use Rattle.capnotes.specs.Capview.declared.change.ViewChange.{ViewChange}
+use Rattle.capnotes.specs.Capevents.declared.event.Event.{Event}
+use Rattle.capnotes.specs.Capevents.declared.row.Row.{Row}
+use Rattle.capnotes.specs.Capevents.declared.outcome.Ended.{Ended}
+use Rattle.capnotes.specs.Capevents.declared.reply.Reply.{Reply}
+use Rattle.caprules.specs.Numbers.{rows_of, AreNumbered}
+use Rattle.caprules.specs.State.{State}
+use Rattle.caprules.specs.Step.{Step}
+use Rattle.caprules.specs.Sound.{IsSound, AreGiven}
+use Rattle.caprules.specs.Shown.{AreShown}
 
 -- a state, the history that led to it, how many rows it may have, and what the last step changed of what readers see
 pub record Told : Type 0 where

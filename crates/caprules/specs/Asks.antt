@@ -19,7 +19,7 @@ use Rattle.capnotes.specs.Lockmachine.declared.request.Change.TheVariants.{Set, 
 use Rattle.capnotes.specs.Lockmachine.declared.request.Ask.{Ask}
 use Rattle.capnotes.specs.Lockmachine.declared.request.Ask.TheVariants.{Get, Alter, Unlink, Rmdir, Rename}
 use Rattle.capnotes.specs.Lockmachine.Scene.{Scene}
-use Rattle.capacts.specs.Needs.{Need, need, need_if}
+use Rattle.caprules.specs.Needs.{Need, need, need_if}
 
 -- ---- accesses
 

@@ -23,26 +23,26 @@ use Rattle.captable.specs.declared.entry.Holder.{Holder}
 use Rattle.captable.specs.declared.entry.EntryRow.{EntryRow}
 use Rattle.captable.specs.Table.{Table, holder, is_row_of, entry_at}
 use Rattle.captable.specs.Calls.{opened, wanting, acked, released, touched, told, recalled, without_client, changed as changed_entry}
-use Rattle.capacts.specs.Lockmachine.declared.request.Ask.{Ask}
-use Rattle.capacts.specs.Lockmachine.declared.request.Ask.TheVariants.{Get, Alter, Unlink, Rmdir, Rename}
-use Rattle.capacts.specs.Lockmachine.declared.request.Change.{Change}
-use Rattle.capacts.specs.Lockmachine.Locks.{with_ino, with_request, requests_of, without_requests_of}
-use Rattle.capacts.specs.Lockmachine.Scene.{Scene, told_set}
-use Rattle.capacts.specs.Capevents.Replies.{outcome_reply}
-use Rattle.capacts.specs.Capevents.declared.event.Event.{Event}
-use Rattle.capacts.specs.Capevents.declared.event.Event.TheVariants as event
-use Rattle.capacts.specs.Capevents.declared.event.OpenMode.{OpenMode}
-use Rattle.capacts.specs.Capevents.declared.event.OpenMode.TheVariants as opening
-use Rattle.capacts.specs.Capevents.declared.outcome.Ended.{Ended}
-use Rattle.capacts.specs.Capevents.declared.reply.Reply.{Reply}
-use Rattle.capacts.specs.Capevents.declared.reply.Reply.TheVariants as reply
-use Rattle.capacts.specs.Capnotes.Untold.{is_of_ticket, is_to}
-use Rattle.capsteps.specs.State.{State}
-use Rattle.capacts.specs.declared.stopped.Stopped.{Stopped}
-use Rattle.capacts.specs.Capnotes.Changing.{tree_changed}
-use Rattle.capacts.specs.Left.{dropped_of}
-use Rattle.capacts.specs.Judge.{judged, stop_reply, revoked_of}
-use Rattle.capsteps.specs.Messages.{first_messages, with_given}
+use Rattle.capnotes.specs.Lockmachine.declared.request.Ask.{Ask}
+use Rattle.capnotes.specs.Lockmachine.declared.request.Ask.TheVariants.{Get, Alter, Unlink, Rmdir, Rename}
+use Rattle.capnotes.specs.Lockmachine.declared.request.Change.{Change}
+use Rattle.capnotes.specs.Lockmachine.Locks.{with_ino, with_request, requests_of, without_requests_of}
+use Rattle.capnotes.specs.Lockmachine.Scene.{Scene, told_set}
+use Rattle.capnotes.specs.Capevents.Replies.{outcome_reply}
+use Rattle.capnotes.specs.Capevents.declared.event.Event.{Event}
+use Rattle.capnotes.specs.Capevents.declared.event.Event.TheVariants as event
+use Rattle.capnotes.specs.Capevents.declared.event.OpenMode.{OpenMode}
+use Rattle.capnotes.specs.Capevents.declared.event.OpenMode.TheVariants as opening
+use Rattle.capnotes.specs.Capevents.declared.outcome.Ended.{Ended}
+use Rattle.capnotes.specs.Capevents.declared.reply.Reply.{Reply}
+use Rattle.capnotes.specs.Capevents.declared.reply.Reply.TheVariants as reply
+use Rattle.capnotes.specs.Untold.{is_of_ticket, is_to}
+use Rattle.caprules.specs.State.{State}
+use Rattle.caprules.specs.declared.stopped.Stopped.{Stopped}
+use Rattle.capnotes.specs.Changing.{tree_changed}
+use Rattle.caprules.specs.Serving.{dropped_of}
+use Rattle.caprules.specs.Judge.{judged, stop_reply, revoked_of}
+use Rattle.caprules.specs.Messages.{first_messages, with_given}
 
 abbrev pub with_scene : State → Scene → State
 with_scene s scene = record s { scene = scene }

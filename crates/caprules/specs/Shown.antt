@@ -10,16 +10,16 @@ use Rattle.captable.specs.declared.entry.Entry.{Entry}
 use Rattle.captable.specs.declared.entry.Holder.{Holder}
 use Rattle.captable.specs.Shown.{IsShown}
 use Rattle.captable.specs.Table.{holder, same, entry_at}
-use Rattle.capacts.specs.Lockmachine.Policy.{permitted}
-use Rattle.capacts.specs.Lockmachine.Scene.{Scene, told_set}
-use Rattle.capacts.specs.Capevents.declared.event.Event.{Event}
-use Rattle.capacts.specs.Capevents.declared.event.Event.TheVariants as event
-use Rattle.capacts.specs.Capevents.declared.row.Row.{Row}
-use Rattle.capacts.specs.Capevents.declared.outcome.Message.{Message}
-use Rattle.capacts.specs.Capevents.declared.outcome.Message.TheVariants as message
-use Rattle.capacts.specs.Capevents.declared.reply.Reply.{Reply}
-use Rattle.capacts.specs.Capevents.declared.reply.Reply.TheVariants as reply
-use Rattle.capsteps.specs.Headline.{holds}
+use Rattle.capnotes.specs.Lockmachine.Policy.{permitted}
+use Rattle.capnotes.specs.Lockmachine.Scene.{Scene, told_set}
+use Rattle.capnotes.specs.Capevents.declared.event.Event.{Event}
+use Rattle.capnotes.specs.Capevents.declared.event.Event.TheVariants as event
+use Rattle.capnotes.specs.Capevents.declared.row.Row.{Row}
+use Rattle.capnotes.specs.Capevents.declared.outcome.Message.{Message}
+use Rattle.capnotes.specs.Capevents.declared.outcome.Message.TheVariants as message
+use Rattle.capnotes.specs.Capevents.declared.reply.Reply.{Reply}
+use Rattle.capnotes.specs.Capevents.declared.reply.Reply.TheVariants as reply
+use Rattle.caprules.specs.Headline.{holds}
 
 -- ---- by rows alone
 

@@ -1,0 +1,20 @@
+pub mod Needs
+pub mod Asks
+pub mod Judge
+pub mod Serving
+pub mod Finish
+pub mod Numbers
+pub mod State
+pub mod Direct
+pub mod Settle
+pub mod Messages
+pub mod Step
+pub mod History
+pub mod Headline
+pub mod Sound
+pub mod Shown
+pub mod Noted
+pub use Rattle.capnotes.specs.Capevents
+pub use Rattle.capnotes.specs as Capnotes
+pub use Rattle.capnotes.specs.Capview
+pub use Rattle.capnotes.specs.Lockmachine

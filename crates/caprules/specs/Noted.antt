@@ -1,0 +1,7 @@
+-- What readers see of a state.
+use Rattle.capnotes.specs.Capview.declared.view.View.{View}
+use Rattle.capnotes.specs.Noted.{view}
+use Rattle.caprules.specs.State.{State}
+
+abbrev pub view_of : State → View
+view_of s = view s.scene.tree s.scene.sessions.sessions

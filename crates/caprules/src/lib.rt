@@ -1,0 +1,15 @@
+//! The rules of a step, as definitions: how an event is judged, what it does by itself, which moves follow, what is issued and numbered,
+//! what clients are told, and when a history is legal.
+//!
+//! No body goes by them here: `capacts`, `capsteps` and `capcore` do, and what stands beside the core knows nothing else of it.
+#![tactic(auto)]
+
+mod stopped;
+
+pub use capnotes::{
+    Ask, Bytes, Change, ChangeList, Ended, EndedList, Event, InoSet, InodeLocks, Locks, Message,
+    MessageList, Messages, Move, OpenMode, Outcome, PartValues, Question, Reply, Request, Row,
+    ToldNumbers, Unknown, View, ViewChange, Wants, copy_of_messages, copy_of_outcome,
+    copy_of_reply, copy_of_rules, permitted_and_wanted, wants_on,
+};
+pub use stopped::Stopped;
