@@ -1,7 +1,7 @@
 //! The day's work that takes a server: a script whose clients call it from threads of their own.
 
 use capcommand::{ServeFault, Watched, serve};
-use capwork::{Amount, DayFault, history_digest, served_script};
+use capload::{Amount, DayFault, history_digest, served_script};
 use std::alloc::Global;
 use std::sync::Wait;
 use std::thread::Threads;

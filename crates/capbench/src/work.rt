@@ -1,7 +1,7 @@
 //! The work that is counted and timed.
 
 use crate::serving::serve_script;
-use capwork::{Amount, DayFault, digest_of, tell};
+use capload::{Amount, DayFault, digest_of, tell};
 use std::io::{Read, Write};
 use std::sync::Wait;
 use std::thread::Threads;

@@ -1,6 +1,4 @@
-mod JobLists
 mod NewPasses
-mod Plans
 mod Writing
 pub use Rattle.capserver.proofs.Capcore
 pub use Rattle.capscript.proofs.Capexplain

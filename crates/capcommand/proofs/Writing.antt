@@ -7,9 +7,9 @@ use Rattle.capscript.specs.Caplines.Lines.{lines}
 use Rattle.capscript.specs.Caplines.declared.fault.ScriptFault.{ScriptFault}
 use Rattle.capscript.specs.Caplines.declared.fault.ScriptFault.TheVariants as stops
 use Rattle.capscript.proofs.Capstreams.KnownBytes.{none_appended}
-use Rattle.capcommand.specs.declared.fault.ServeFault.{ServeFault}
-use Rattle.capcommand.specs.declared.fault.ServeFault.TheVariants.{Script, Clients, HistoryFull, NoThread}
-use Rattle.capcommand.specs.Jobs.{Work, no_work, IsFaultAt, StopsAt}
+use Rattle.capscript.specs.declared.serve_fault.ServeFault.{ServeFault}
+use Rattle.capscript.specs.declared.serve_fault.ServeFault.TheVariants.{Script, Clients, HistoryFull, NoThread}
+use Rattle.capscript.specs.Jobs.{Work, no_work, IsFaultAt, StopsAt}
 use Rattle.capcommand.specs.Served.{IsUnserved, IsWritten}
 
 -- no line has a fault of a kind that no line can have

@@ -10,8 +10,8 @@ use Rattle.capscript.specs.Caplines.declared.fault.ScriptFault.{ScriptFault}
 use Rattle.capscript.specs.Caplines.declared.fault.ScriptFault.TheVariants as stops
 use Rattle.capscript.specs.Caplines.Lines.{lines, longest_script}
 use Rattle.capscript.specs.Transcript.{Ran, IsTranscript}
-use Rattle.capcommand.specs.declared.fault.ServeFault.{ServeFault}
-use Rattle.capcommand.specs.declared.fault.ServeFault.TheVariants.{Script as ServeScript}
+use Rattle.capscript.specs.declared.serve_fault.ServeFault.{ServeFault}
+use Rattle.capscript.specs.declared.serve_fault.ServeFault.TheVariants.{Script as ServeScript}
 use Rattle.capcommand.specs.Served.{IsServed, IsWritten}
 use Rattle.capanswers.specs.declared.command_line.Ask.{Ask}
 use Rattle.capanswers.specs.declared.command_line.Ask.TheVariants as asks

@@ -1,6 +1,4 @@
 pub mod Commands
-pub mod Faults
-pub mod Jobs
 pub mod Served
 pub use Rattle.capserver.specs.Capcore
 pub use Rattle.capscript.specs.Capexplain

@@ -8,9 +8,9 @@ use Rattle.capserver.specs.Caprules.State.{State}
 use Rattle.capscript.specs.Capexplain.Audit.{audit_text}
 use Rattle.capscript.specs.Transcript.{fs_name, root_attr}
 use Rattle.capscript.specs.Caplines.declared.fault.ScriptFault.TheVariants as stops
-use Rattle.capcommand.specs.declared.fault.ServeFault.{ServeFault}
-use Rattle.capcommand.specs.declared.fault.ServeFault.TheVariants.{Script, Clients, HistoryFull, NoThread}
-use Rattle.capcommand.specs.Jobs.{Work, no_work, event_count, TakesAll, StopsAt}
+use Rattle.capscript.specs.declared.serve_fault.ServeFault.{ServeFault}
+use Rattle.capscript.specs.declared.serve_fault.ServeFault.TheVariants.{Script, Clients, HistoryFull, NoThread}
+use Rattle.capscript.specs.Jobs.{Work, no_work, event_count, TakesAll, StopsAt}
 
 -- the line of a row, with its line feed
 abbrev pub row_line : Row → List ℕ

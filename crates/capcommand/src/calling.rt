@@ -2,11 +2,10 @@
 ghost use Rattle.std.specs.Prelude.{◌≡◌, ◌≤◌, ◌+◌, length, vec_len, IfOk, IfErr, IsTrue};
 ghost use Rattle.std.specs.List.{sum_by};
 ghost use Rattle.capserver.specs.Cappass.Passes.{AllNew};
-ghost use Rattle.capcommand.specs.Jobs.{work_of, event_count};
+ghost use Rattle.capscript.specs.Jobs.{work_of, event_count};
 ghost use Rattle.capcommand.specs.Served.{IsMissing};
 
-use crate::fault::ServeFault;
-use crate::plan::{Job, Plan};
+use capscript::{Job, Plan, ServeFault};
 use capserver::{CapServer, Event, Gate, Pass, Server};
 use std::alloc::{AllocError, Global};
 use std::sync::Wait;

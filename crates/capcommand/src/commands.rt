@@ -5,20 +5,19 @@ ghost use Rattle.capscript.specs.Caplines.declared.fault.ScriptFault.{ScriptFaul
 ghost use Rattle.capscript.specs.Caplines.Lines.{lines, longest_script};
 ghost use Rattle.capscript.specs.Transcript.{IsTranscript};
 ghost use Rattle.capscript.specs.Capstreams.Watched.{inner_of, has_failed, has_ended};
-ghost use Rattle.capcommand.specs.declared.fault.ServeFault.{ServeFault as AServeFault};
+ghost use Rattle.capscript.specs.declared.serve_fault.ServeFault.{ServeFault as AServeFault};
 ghost use Rattle.capcommand.specs.Served.{IsServed};
 ghost use Rattle.capcommand.specs.declared.stopping.Fault.{Fault as AFault};
 ghost use Rattle.capcommand.specs.declared.stopping.Fault.TheVariants as faults;
 ghost use Rattle.capcommand.specs.Commands.{Answers, Stops, RunStops, ServeStops};
 
-use crate::fault::ServeFault;
 use crate::serving::serve;
 use crate::stopping::Fault;
 use capanswers::{
     Ask, DENIED, DONE, FAILED, FOUND, USAGE, check_cluster, compare_texts, gather, grants, inquire,
     keyring_file, look_over, read_words, report, show, tell_log, tell_who,
 };
-use capscript::{ScriptFault, Watched, run};
+use capscript::{ScriptFault, ServeFault, Watched, run};
 use std::alloc::Global;
 use std::fs::Files;
 use std::io::{Read, Write};

@@ -9,17 +9,13 @@
 mod audit;
 mod calling;
 mod commands;
-mod fault;
-mod plan;
 mod serving;
 mod stopping;
 
 pub use capanswers::{
     AnswerFault, Ask, DENIED, DONE, FAILED, FOUND, Form, Inquiry, Source, USAGE, report, words,
 };
-pub use capscript::Watched;
+pub use capscript::{Job, MAX_CLIENTS, Plan, ServeFault, Watched, read_plan};
 pub use commands::{carry_out, dispatch};
-pub use fault::ServeFault;
-pub use plan::{Job, MAX_CLIENTS, Plan, read_plan};
 pub use serving::{serve, serve_plan};
 pub use stopping::Fault;

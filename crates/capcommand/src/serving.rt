@@ -7,15 +7,15 @@ ghost use Rattle.capserver.specs.Opened.{opened};
 ghost use Rattle.capscript.specs.Caplines.Lines.{lines, longest_script};
 ghost use Rattle.capscript.specs.Caplines.declared.fault.ScriptFault.TheVariants as stops;
 ghost use Rattle.capscript.specs.Capstreams.Watched.{inner_of, has_failed, has_ended};
-ghost use Rattle.capcommand.specs.declared.fault.ServeFault.TheVariants as faults;
-ghost use Rattle.capcommand.specs.Jobs.{work_of, event_count};
+ghost use Rattle.capscript.specs.declared.serve_fault.ServeFault.TheVariants as faults;
+ghost use Rattle.capscript.specs.Jobs.{work_of, event_count};
 ghost use Rattle.capcommand.specs.Served.{IsCutShort, IsHistory, IsServed, IsUnserved, IsWritten, most_rows};
 
 use crate::audit::audit_lines;
 use crate::calling::{Called, call_all};
-use crate::fault::ServeFault;
-use crate::plan::{Plan, read_plan};
-use capscript::{Watched, file_system, read_script, write_text};
+use capscript::{
+    Plan, ServeFault, Watched, file_system, read_plan, read_script, write_text,
+};
 use capserver::{CapServer, Closed, Core, Gate, NoGate, Opening, Server, Stop};
 use std::alloc::Global;
 use std::io::{Read, Write};

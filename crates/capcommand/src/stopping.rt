@@ -1,8 +1,7 @@
 //! Why a command stopped before its end.
 
-use crate::fault::ServeFault;
 use capanswers::AnswerFault;
-use capscript::ScriptFault;
+use capscript::{ScriptFault, ServeFault};
 
 /// Why a command stopped before its end.
 #[derive(Clone, Copy)]

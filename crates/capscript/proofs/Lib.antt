@@ -1,4 +1,6 @@
 pub mod Histories
+mod JobLists
+pub mod Plans
 pub use Rattle.capcore.proofs as Capcore
 pub use Rattle.capstreams.proofs.Capexplain
 pub use Rattle.capstreams.proofs.Caplines

@@ -1,3 +1,5 @@
+pub mod Jobs
+pub mod ServeFaults
 pub mod Transcript
 pub use Rattle.capcore.specs as Capcore
 pub use Rattle.capstreams.specs.Capexplain

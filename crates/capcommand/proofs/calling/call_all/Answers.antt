@@ -1,6 +1,6 @@
 use Rattle.std.proofs.Common.{ap, ◌∙◌, arith, length}
 use Rattle.std.specs.List.{sum_by}
-use Rattle.capcommand.specs.Jobs.{work_of, job_events}
+use Rattle.capscript.specs.Jobs.{work_of, job_events}
 use Rattle.capcommand.proofs.NewPasses.{first_called_none, others_called_none, most_called}
 use Rattle.capcommand.proofs.calling.call_all.Goals as goal
 

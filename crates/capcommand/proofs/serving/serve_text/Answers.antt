@@ -1,8 +1,8 @@
 use Rattle.std.proofs.Common.{ap, ◌∙◌}
 use Rattle.capscript.specs.Caplines.Lines.{lines}
-use Rattle.capcommand.specs.Jobs.{work_of}
+use Rattle.capscript.specs.Jobs.{work_of}
 use Rattle.capcommand.specs.Served.{IsUnserved, audit_lines}
-use Rattle.capcommand.proofs.Plans.{handed_on}
+use Rattle.capscript.proofs.Plans.{handed_on}
 use Rattle.capcommand.proofs.Writing.{stopped_unserved}
 use Rattle.capcommand.proofs.serving.serve_text.Goals as goal
 

@@ -1,9 +1,9 @@
 use Rattle.std.proofs.Common.{◌≡◌, List, get_or, ap, rules}
-use Rattle.capserver.specs.Capevents.declared.event.Event.{Event}
-use Rattle.capcommand.specs.declared.plan.Job.{Job}
-use Rattle.capcommand.specs.Jobs.{Work, Calls, calls_by}
-use Rattle.capcommand.proofs.JobLists.{known_gets_event}
-use Rattle.capcommand.proofs.plan.Plan.add_event.Goals as goal
+use Rattle.capcore.specs.Capevents.declared.event.Event.{Event}
+use Rattle.capscript.specs.declared.plan.Job.{Job}
+use Rattle.capscript.specs.Jobs.{Work, Calls, calls_by}
+use Rattle.capscript.proofs.JobLists.{known_gets_event}
+use Rattle.capscript.proofs.plan.Plan.add_event.Goals as goal
 
 pub returns-clause-ok : goal.returns-clause-ok
 returns-clause-ok c =

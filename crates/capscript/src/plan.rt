@@ -1,15 +1,15 @@
 //! What the lines of a script call, and for whom.
 ghost use Rattle.std.specs.Prelude.{◌≡◌, ◌==◌, ◌≤◌, ◌⊎◌, [], ◌∷◌, length, vec_len, Some, None, OnOk, OnErr, IfOk, IfErr, Err, false, IsFalse};
 ghost use Rattle.std.specs.List.{position};
-ghost use Rattle.capscript.specs.Caplines.Lines.{lines, longest_script};
-ghost use Rattle.capscript.specs.Caplines.declared.fault.ScriptFault.TheVariants as stops;
-ghost use Rattle.capcommand.specs.declared.fault.ServeFault.TheVariants as faults;
-ghost use Rattle.capcommand.specs.Jobs.{work_of, no_work, calls_of, calls_by, with_event, is_known, first_word, Takes, TakesEvent, TakesAll, IsFaultBy, IsFaultAt, StopsAt};
+ghost use Rattle.capstreams.specs.Caplines.Lines.{lines, longest_script};
+ghost use Rattle.capstreams.specs.Caplines.declared.fault.ScriptFault.TheVariants as stops;
+ghost use Rattle.capscript.specs.declared.serve_fault.ServeFault.TheVariants as faults;
+ghost use Rattle.capscript.specs.Jobs.{work_of, no_work, calls_of, calls_by, with_event, is_known, first_word, Takes, TakesEvent, TakesAll, IsFaultBy, IsFaultAt, StopsAt};
 
-use crate::fault::ServeFault;
+use crate::serve_fault::ServeFault;
 use capbits::ClientId;
-use capscript::{LineFault, read_line, split_at_space, split_line};
-use capserver::Event;
+use capcore::Event;
+use capstreams::{LineFault, read_line, split_at_space, split_line};
 use std::alloc::{AllocError, Global};
 
 /// How many clients may have lines behind the line `threads`: each has a pass of its own, beside that of the lines before.

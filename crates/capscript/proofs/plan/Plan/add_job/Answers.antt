@@ -1,8 +1,8 @@
 use Rattle.std.proofs.Common.{List, map, inr, refl, ap, ◌∙◌, arith}
-use Rattle.capcommand.specs.declared.plan.Job.{Job}
-use Rattle.capcommand.specs.Jobs.{Work, Calls, calls_of}
-use Rattle.capcommand.proofs.JobLists.{new_gets_job, is_unknown}
-use Rattle.capcommand.proofs.plan.Plan.add_job.Goals as goal
+use Rattle.capscript.specs.declared.plan.Job.{Job}
+use Rattle.capscript.specs.Jobs.{Work, Calls, calls_of}
+use Rattle.capscript.proofs.JobLists.{new_gets_job, is_unknown}
+use Rattle.capscript.proofs.plan.Plan.add_job.Goals as goal
 
 pub returns-then-len-eq-MAX_CLIENTS-clause-err : goal.returns-then-len-eq-MAX_CLIENTS-clause-err
 returns-then-len-eq-MAX_CLIENTS-clause-err c =

@@ -1,10 +1,10 @@
 //! Why a script was not served.
 ghost use Rattle.std.specs.Prelude.{◌≡◌};
-ghost use Rattle.capscript.specs.Caplines.declared.fault.ScriptFault.TheVariants as stops;
-ghost use Rattle.capcommand.specs.declared.fault.ServeFault.TheVariants as faults;
+ghost use Rattle.capstreams.specs.Caplines.declared.fault.ScriptFault.TheVariants as stops;
+ghost use Rattle.capscript.specs.declared.serve_fault.ServeFault.TheVariants as faults;
 
-use capscript::{LineFault, ScriptFault};
-use capserver::Stop;
+use capcore::Stop;
+use capstreams::{LineFault, ScriptFault};
 use std::alloc::{AllocError, AllocFailed};
 use thiserror::Error;
 
@@ -39,7 +39,7 @@ impl ServeFault {
 
 impl From<ScriptFault> for ServeFault {
     ghost use Rattle.std.specs.Prelude.{◌≡◌};
-    ghost use Rattle.capcommand.specs.declared.fault.ServeFault.TheVariants as faults;
+    ghost use Rattle.capscript.specs.declared.serve_fault.ServeFault.TheVariants as faults;
 
     ghost from_gives = { λ stopped fault. fault ≡ faults.Script stopped };
 
@@ -50,7 +50,7 @@ impl From<ScriptFault> for ServeFault {
 
 impl From<Stop> for ServeFault {
     ghost use Rattle.std.specs.Prelude.{◌≡◌};
-    ghost use Rattle.capcommand.specs.Faults.{fault_of};
+    ghost use Rattle.capscript.specs.ServeFaults.{fault_of};
 
     ghost from_gives = { λ stop fault. fault ≡ fault_of stop };
 
@@ -64,8 +64,8 @@ impl From<Stop> for ServeFault {
 
 impl From<AllocError> for ServeFault {
     ghost use Rattle.std.specs.Prelude.{◌≡◌};
-    ghost use Rattle.capscript.specs.Caplines.declared.fault.ScriptFault.TheVariants as stops;
-    ghost use Rattle.capcommand.specs.declared.fault.ServeFault.TheVariants as faults;
+    ghost use Rattle.capstreams.specs.Caplines.declared.fault.ScriptFault.TheVariants as stops;
+    ghost use Rattle.capscript.specs.declared.serve_fault.ServeFault.TheVariants as faults;
 
     ghost from_gives = { λ _ fault. fault ≡ faults.Script stops.NoMemory };
 
@@ -76,8 +76,8 @@ impl From<AllocError> for ServeFault {
 
 impl<T: Drop> From<AllocFailed<T>> for ServeFault {
     ghost use Rattle.std.specs.Prelude.{◌≡◌};
-    ghost use Rattle.capscript.specs.Caplines.declared.fault.ScriptFault.TheVariants as stops;
-    ghost use Rattle.capcommand.specs.declared.fault.ServeFault.TheVariants as faults;
+    ghost use Rattle.capstreams.specs.Caplines.declared.fault.ScriptFault.TheVariants as stops;
+    ghost use Rattle.capscript.specs.declared.serve_fault.ServeFault.TheVariants as faults;
 
     ghost from_gives = { λ _ fault. fault ≡ faults.Script stops.NoMemory };
 

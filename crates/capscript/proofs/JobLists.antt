@@ -4,11 +4,11 @@ use Rattle.std.specs.Prelude.{map, if◌then◌else◌, IsFalse}
 use Rattle.std.specs.List.{position, position_or_len, list_any, sum_by}
 use Rattle.std.proofs.lemmas.Bool.{ltb-false}
 use Rattle.std.proofs.lemmas.List.Sums.{sum_by-cons}
-use Rattle.capserver.proofs.Lockmachine.Positions.{at_position}
+use Rattle.capcore.proofs.Lockmachine.Positions.{at_position}
 use Rattle.capbits.specs.declared.ids.ClientId.{ClientId}
-use Rattle.capserver.specs.Capevents.declared.event.Event.{Event}
-use Rattle.capcommand.specs.declared.plan.Job.{Job}
-use Rattle.capcommand.specs.Jobs.{Calls, calls_by, calls_of, is_of, is_known, with_event, job_events}
+use Rattle.capcore.specs.Capevents.declared.event.Event.{Event}
+use Rattle.capscript.specs.declared.plan.Job.{Job}
+use Rattle.capscript.specs.Jobs.{Calls, calls_by, calls_of, is_of, is_known, with_event, job_events}
 
 abbrev pub of : ClientId → Job → Bool
 of client job = job.client.0 == client.0

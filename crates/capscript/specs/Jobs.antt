@@ -2,18 +2,18 @@
 use Rattle.std.specs.Prelude.{◌≡◌, ◌≢◌, ◌⊎◌, ◌+◌, ◌≤◌, ◌==◌, ℕ, Bool, true, false, Some, None, List, [], ◌∷◌, ◌++◌, length, map, codes, bytes_eq, if◌then◌else◌, IsTrue, IsFalse}
 use Rattle.std.specs.List.{list_any, sum_by}
 use Rattle.capbits.specs.declared.ids.ClientId.{ClientId}
-use Rattle.capserver.specs.Capevents.declared.event.Event.{Event}
-use Rattle.capscript.specs.Caplines.declared.fault.LineFault.{LineFault}
-use Rattle.capscript.specs.Caplines.declared.fault.LineFault.TheVariants as kinds
-use Rattle.capscript.specs.Caplines.declared.fault.ScriptFault.TheVariants as stops
-use Rattle.capscript.specs.Caplines.Events.{Reads, client_of}
-use Rattle.capscript.specs.Caplines.Faults.{HasFault}
-use Rattle.capscript.specs.Caplines.Lines.{is_skipped}
-use Rattle.capscript.specs.Caplines.Words.{words}
-use Rattle.capcommand.specs.declared.fault.ServeFault.{ServeFault}
-use Rattle.capcommand.specs.declared.fault.ServeFault.TheVariants.{Script, Clients, HistoryFull, NoThread}
-use Rattle.capcommand.specs.declared.plan.Job.{Job}
-use Rattle.capcommand.specs.declared.plan.Plan.{Plan}
+use Rattle.capcore.specs.Capevents.declared.event.Event.{Event}
+use Rattle.capstreams.specs.Caplines.declared.fault.LineFault.{LineFault}
+use Rattle.capstreams.specs.Caplines.declared.fault.LineFault.TheVariants as kinds
+use Rattle.capstreams.specs.Caplines.declared.fault.ScriptFault.TheVariants as stops
+use Rattle.capstreams.specs.Caplines.Events.{Reads, client_of}
+use Rattle.capstreams.specs.Caplines.Faults.{HasFault}
+use Rattle.capstreams.specs.Caplines.Lines.{is_skipped}
+use Rattle.capstreams.specs.Caplines.Words.{words}
+use Rattle.capscript.specs.declared.serve_fault.ServeFault.{ServeFault}
+use Rattle.capscript.specs.declared.serve_fault.ServeFault.TheVariants.{Script, Clients, HistoryFull, NoThread}
+use Rattle.capscript.specs.declared.plan.Job.{Job}
+use Rattle.capscript.specs.declared.plan.Plan.{Plan}
 
 -- what a client calls, in order
 pub record Calls : Type 0 where
