@@ -124,10 +124,8 @@ fn make_room(heads: &mut Numbered<Head>, number: u64) -> Result<(), AllocError>
     ensures ok { OnOk result (heads.new ≡ with_room heads.old number) }
     ensures err { OnErr result (heads.new ≡ heads.old) }
 {
-    if heads.get(number).is_some() {
-        return Ok(());
-    }
-    heads.add(number, Head::empty())
+    heads.add(number, Head::empty())?;
+    Ok(())
 }
 
 // Gives the room for the ends of a list back, if it has no nodes.

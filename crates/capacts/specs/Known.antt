@@ -1,8 +1,7 @@
 -- What is kept of each entry from the end of the last step: the set that its client is to know of.
-use Rattle.std.specs.Prelude.{◌≡◌, ◌==◌, Bool, List, true, false, Option, Some, None, IsSome, unwrap_or}
+use Rattle.std.specs.Prelude.{◌≡◌, ◌==◌, Bool, List, true, false, ◌∷◌, Option, Some, None, IsSome, unwrap_or}
 use Rattle.std.specs.FinMap as map
 use Rattle.std.specs.FinMap.{FinMap}
-use Rattle.std.specs.Global.{Vec}
 use Rattle.std.specs.List.{find}
 use Rattle.std.specs.Option.{option_and_then, option_map}
 use Rattle.std.specs.Ordering.{nat_cmp}
@@ -15,10 +14,15 @@ use Rattle.captable.specs.declared.entry.Holder.{Holder}
 use Rattle.captable.specs.Table.{Table, same, is_row_of, entry_at}
 use Rattle.caprules.specs.Lockmachine.Scene.{Scene, told_set}
 use Rattle.caprules.specs.Finish.{due}
+use Rattle.capacts.specs.declared.on_inode.OnInode.{OnInode}
 
--- the sets that are kept on each inode, each with its client
+-- what is kept on each inode
 abbrev pub KnownSets : Type 0
-KnownSets = FinMap nat_cmp (Vec (ClientId × Caps))
+KnownSets = FinMap nat_cmp OnInode
+
+-- the sets that are kept on one, each with its client
+abbrev pub sets_on : OnInode → List (ClientId × Caps)
+sets_on on = on.first ∷ on.others.items
 
 -- a set is this client's
 abbrev pub is_of : ClientId → ClientId × Caps → Bool
@@ -30,7 +34,7 @@ kept_among sets client = option_map (λ (kept : ClientId × Caps). kept.1) (find
 
 -- what is kept of a holder, where something is
 abbrev pub kept_of : KnownSets → Holder → Option Caps
-kept_of sets k = option_and_then (λ (on : Vec (ClientId × Caps)). kept_among on.items k.client) (map.get sets k.ino.0)
+kept_of sets k = option_and_then (λ (on : OnInode). kept_among (sets_on on) k.client) (map.get sets k.ino.0)
 
 -- the same, and nothing where nothing is
 abbrev pub known_in : KnownSets → Holder → Caps

@@ -9,6 +9,7 @@ pub mod history;
 pub mod judge;
 pub mod known;
 pub mod leaving;
+mod on_inode;
 pub mod reach;
 pub mod serving;
 pub mod stop;

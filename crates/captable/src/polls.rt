@@ -29,12 +29,9 @@ pub(crate) fn begin_poll(polls: &mut Numbered<Poll>, client: ClientId) -> Result
     ensures ok { OnOk result (polls.new ≡ begun polls.old client) }
     ensures err { OnErr result (polls.new ≡ polls.old) }
 {
-    let number = client.0 as u64;
-    if polls.get(number).is_some() {
-        return Ok(());
-    }
     let (place, due) = (None, 0);
-    polls.add(number, Poll { place, due })
+    polls.add(client.0 as u64, Poll { place, due })?;
+    Ok(())
 }
 
 // Of a client without nodes nothing is kept.

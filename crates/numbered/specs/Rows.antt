@@ -1,5 +1,5 @@
 -- The rows that the values stand in, and the place of each number among them.
-use Rattle.std.specs.Prelude.{◌≡◌, ℕ, List, map as each, Option, Some, slice_get, is_some}
+use Rattle.std.specs.Prelude.{◌≡◌, ℕ, List, map as each, Option, Some, slice_get, is_some, if◌then◌else◌}
 use Rattle.std.specs.BTreeMap.{BTreeMap, get}
 use Rattle.std.specs.FinMap as map
 use Rattle.std.specs.FinMap.{FinMap}
@@ -15,6 +15,10 @@ module _ {T : Type 0} where
   -- the values that stand in the rows
   abbrev pub map_of : List (Row T) → FinMap nat_cmp T
   map_of rows = map.from_entries (each entry_of rows)
+
+  -- a map with a value under a number, if that had none
+  abbrev pub with_new : FinMap nat_cmp T → ℕ → T → FinMap nat_cmp T
+  with_new m number value = if map.contains_key m number then m else map.insert m number value
 
   -- the number in the row at a place, if there is one
   abbrev pub number_at : List (Row T) → ℕ → Option ℕ

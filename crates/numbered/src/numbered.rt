@@ -1,8 +1,9 @@
 //! The map.
-ghost use Rattle.std.specs.Prelude.{◌≡◌, OnOk, OnErr};
+ghost use Rattle.std.specs.Prelude.{◌≡◌, not, IfOk, OnOk, OnErr};
 ghost use Rattle.std.specs.Borrow.{sem};
 ghost use Rattle.std.specs.Option.{option_copied, option_copied_mut};
 ghost use Rattle.std.specs.FinMap as map;
+ghost use Rattle.numbered.specs.Rows.{with_new};
 
 use crate::guesses::Guesses;
 use crate::rows::{Row, add, place_near, row_near, take_out};
@@ -83,21 +84,32 @@ impl<T: Drop> Numbered<T> {
                 self.rows[place] = Row { number, value };
                 Ok(())
             }
-            None => self.add(number, value),
+            None => {
+                self.add(number, value)?;
+                Ok(())
+            }
         }
     }
 
-    /// Puts a value under a number that has none, which is not looked for again. For want of memory nothing changes.
-    pub fn add(&mut self, number: u64, value: T) -> Result<(), AllocError>
-        requires absent { map.get self.old number ≡ None }
-        ensures ok { OnOk result (self.new ≡ map.insert self.old number value) }
+    /// Puts a value under this number if it has none, and answers whether it had none. For want of memory nothing changes.
+    pub fn add(&mut self, number: u64, value: T) -> Result<bool, AllocError>
+        ensures added { IfOk result (λ added. added ≡ not (map.contains_key self.old number)) }
+        ensures ok { OnOk result (self.new ≡ with_new self.old number value) }
         ensures err { OnErr result (self.new ≡ self.old) }
     {
         let place = self.rows.len();
-        add(&mut self.places, &mut self.rows, Row { number, value })?;
-        self.guesses.grow(&self.rows);
-        self.guesses.note(number, place);
-        Ok(())
+        let row = Row { number, value };
+        let is_new = add(
+            &mut self.places,
+            &mut self.rows,
+            row,
+            self.guesses.at(number),
+        )?;
+        if is_new {
+            self.guesses.grow(&self.rows);
+            self.guesses.note(number, place);
+        }
+        Ok(is_new)
     }
 
     /// Takes the value of this number out, if there is one.

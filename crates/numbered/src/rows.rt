@@ -1,13 +1,14 @@
 //! The rows that the values stand in, in no order, and the place of each number among them.
-ghost use Rattle.std.specs.Prelude.{◌≡◌, ◌==◌, ◌<◌, ℕ, if◌then◌else◌, None, Some, IfNone, IfSome, OnOk, OnErr, length, vec_len};
+ghost use Rattle.std.specs.Prelude.{◌≡◌, ◌==◌, ◌<◌, ℕ, if◌then◌else◌, None, Some, IfNone, IfSome, OnOk, OnErr, length, vec_len, not, IfOk};
 ghost use Rattle.std.specs.Option.{option_map};
 ghost use Rattle.std.specs.BTreeMap.{get};
 ghost use Rattle.std.specs.FinMap as map;
 ghost use Rattle.std.specs.Ordering.{nat_cmp};
-ghost use Rattle.numbered.specs.Rows.{HasPlaces, HasRows, IsPlaced, map_of, number_at};
+ghost use Rattle.numbered.specs.Rows.{HasPlaces, HasRows, IsPlaced, map_of, number_at, with_new};
 
 use std::alloc::AllocError;
 use std::collections::BTreeMap;
+use std::collections::btree_map::Entry;
 
 // A value, with its number.
 #[derive(Drop)]
@@ -65,25 +66,36 @@ pub(crate) fn row_near<'a, T>(
     rows.get(place_near(places, rows, number, guess)?)
 }
 
-// Puts a row at the end, whose number no row has. For want of memory nothing changes.
+// Puts a row at the end, if no row has its number, and answers whether none had. One that has it may stand at the place that is
+// guessed, and need not be searched for then. For want of memory nothing changes.
 pub(crate) fn add<T: Drop>(
     places: &mut BTreeMap<u64, usize>,
     rows: &mut Vec<Row<T>>,
     row: Row<T>,
-) -> Result<(), AllocError>
+    guess: usize,
+) -> Result<bool, AllocError>
     requires placed { IsPlaced places.old rows.old.items }
-    requires absent { map.get (map_of rows.old.items) row.number ≡ None }
-    ensures ok { OnOk result (map_of rows.new.items ≡ map.insert (map_of rows.old.items) row.number row.value) }
+    ensures added { IfOk result (λ added. added ≡ not (map.contains_key (map_of rows.old.items) row.number)) }
+    ensures ok { OnOk result (map_of rows.new.items ≡ with_new (map_of rows.old.items) row.number row.value) }
     ensures err { OnErr result (rows.new.items ≡ rows.old.items) }
     ensures placed { HasPlaces places.new rows.new.items }
     ensures numbers { HasRows places.new rows.new.items }
 {
-    // Room comes first, so that nothing fails once the number has a place.
-    rows.reserve(1)?;
-    places.insert(row.number, rows.len())?;
-    match rows.push(row) {
-        Ok(()) => Ok(()),
-        Err(_) => unreachable!(),
+    match rows.get(guess) {
+        Some(there) if there.number == row.number => return Ok(false),
+        _ => {}
+    }
+    match places.entry(row.number)? {
+        Entry::Occupied(_there) => Ok(false),
+        Entry::Vacant(place) => {
+            // Room comes first, so that nothing fails once the number has a place.
+            rows.reserve(1)?;
+            place.insert(rows.len());
+            match rows.push(row) {
+                Ok(()) => Ok(true),
+                Err(_) => unreachable!(),
+            }
+        }
     }
 }
 

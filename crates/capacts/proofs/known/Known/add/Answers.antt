@@ -1,39 +1,47 @@
-use Rattle.std.proofs.Common.{◌≡◌, Result, Ok, Err, OnOk, OnErr, None, IsSome, [], sym, ap, subst, ◌∙◌}
+use Rattle.std.proofs.Common.{◌≡◌, Bool, true, false, not, cond, IsSome, OnOk, length, refl, sym, ap, subst, ◌∙◌}
 use Rattle.std.specs.FinMap as map
-use Rattle.std.proofs.lemmas.Result.{on_ok_weaker}
-use Rattle.captable.specs.declared.entry.Holder.{Holder}
-use Rattle.capacts.specs.Known.{kept_among, kept_of}
-use Rattle.capacts.proofs.KeptPlaces.{of_list, kept-own, kept-others}
+use Rattle.capacts.specs.declared.on_inode.OnInode.{OnInode}
+use Rattle.capacts.specs.Known.{kept_of}
+use Rattle.capacts.proofs.KeptPlaces.{of_sets, kept-own, kept-others, first-own, added-own, added-others}
 use Rattle.capacts.proofs.known.Known.add.Goals as goal
-use Rattle.capacts.proofs.known.Known.add.Goals.{After-add}
+use Rattle.capacts.proofs.known.Known.add.Goals.{Then-branch, After-self-in-Some-1}
 
-pub returns-in-Some-clause-own : goal.returns-in-Some-clause-own
-returns-in-Some-clause-own c =
-    subst (λ o. OnOk c.add_among.result (IsSome o)) (sym (kept-own c.args.self.now.sets c.args.holder c.add_among.new.sets)) c.add_among.ensures.own
+-- ---- nothing was kept on the inode
 
-pub returns-in-Some-clause-others : goal.returns-in-Some-clause-others
-returns-in-Some-clause-others c =
-    kept-others c.args.self.now.sets c.args.holder c.add_among.new.sets
-    (λ client apart. c.add_among.ensures.others client apart ∙ ap (λ o. of_list o client) c.in-Some.ensures.value)
+alone : Then-branch → OnInode
+alone c = record { first = (c.args.holder.client, c.empty.result); others = c.new.result }
 
--- a list with one client is put there, or nothing changes
-pub returns-in_ok-add_among-in-None-clause-own : goal.returns-in_ok-add_among-in-None-clause-own
-returns-in_ok-add_among-in-None-clause-own c =
-    on_ok_weaker c.add.result
-    (λ put. subst IsSome (sym (ap (λ sets. kept_of sets c.args.holder) put ∙ kept-own c.args.self.now.sets c.args.holder c.add_among-in-None.new.sets)) c.in_ok-add_among-in-None.ensures.own)
-    c.add.ensures.ok
+pub returns-then-branch-clause-own : goal.returns-then-branch-clause-own
+unfolding alone
+returns-then-branch-clause-own c =
+    subst IsSome
+    (sym (added-own c.args.self.now.sets c.args.holder (alone c) (sym c.if-branch.true ∙ c.in_ok-add.ensures.added) c.add.new.self c.in_ok-add.ensures.ok
+    ∙ first-own (c.args.holder.client, c.empty.result) c.args.holder.client refl c.new.result.items))
+    refl
 
-pub returns-in_ok-add_among-in-None-clause-others : goal.returns-in_ok-add_among-in-None-clause-others
-returns-in_ok-add_among-in-None-clause-others c = λ k apart.
-    elim c.add.result as (λ r. OnOk r (c.add.new.self ≡ map.insert c.args.self.now.sets c.args.holder.ino.0 c.add_among-in-None.new.sets) → OnErr r (c.add.new.self ≡ c.args.self.now.sets)
-    → kept_of c.add.new.self k ≡ kept_of c.args.self.now.sets k) [
-      | Ok done ↦ λ put same.
-          ap (λ sets. kept_of sets k) put
-          ∙ kept-others c.args.self.now.sets c.args.holder c.add_among-in-None.new.sets
-          (λ client other.
-          c.in_ok-add_among-in-None.ensures.others client other
-          ∙ ap (λ xs. kept_among xs client) (c.in_ok-reserve_exact-in-None.ensures.items ∙ c.new-sets.ensures.items)
-          ∙ ap (λ o. of_list o client) c.in-None.ensures.value)
-          k apart
-      | Err refused ↦ λ put same. ap (λ sets. kept_of sets k) same
-    ] c.add.ensures.ok c.add.ensures.err
+pub returns-then-branch-clause-others : goal.returns-then-branch-clause-others
+unfolding alone
+returns-then-branch-clause-others c =
+    added-others c.args.self.now.sets c.args.holder (alone c) (sym c.if-branch.true ∙ c.in_ok-add.ensures.added) c.add.new.self c.in_ok-add.ensures.ok refl (ap length c.new.ensures.items)
+
+-- ---- something was
+
+not_false : (b : Bool) → false ≡ not b → b ≡ true
+not_false true e = refl
+not_false false e = cc
+
+stays : (c : After-self-in-Some-1) → c.add.new.self ≡ c.args.self.now.sets
+stays c =
+    let was = c.args.self.now.sets in
+    let there = not_false (map.contains_key was c.args.holder.ino.0) (sym c.if-branch.false ∙ c.in_ok-add.ensures.added) in
+    c.in_ok-add.ensures.ok ∙ ap (λ b. cond b was (map.insert was c.args.holder.ino.0 (record { first = (c.args.holder.client, c.empty.result); others = c.new.result }))) there
+
+pub returns-clause-own : goal.returns-clause-own
+returns-clause-own c =
+    subst (λ o. OnOk c.add-in-Some.result (IsSome o)) (sym (kept-own c.add.new.self c.args.holder c.add-in-Some.new.self)) c.add-in-Some.ensures.own
+
+pub returns-clause-others : goal.returns-clause-others
+returns-clause-others c = λ k apart.
+    kept-others c.add.new.self c.args.holder c.add-in-Some.new.self
+    (λ client other. c.add-in-Some.ensures.others client other ∙ ap (λ o. of_sets o client) c.in-Some.ensures.value) k apart
+    ∙ ap (λ sets. kept_of sets k) (stays c)

@@ -1,19 +1,19 @@
-use Rattle.std.proofs.Common.{◌≡◌, [], List, length, sym, ap, ◌∙◌, arith}
-use Rattle.std.proofs.lemmas.Bool.{eqb-true}
-use Rattle.std.specs.Vec.{vec_len}
-use Rattle.capacts.specs.Known.{kept_of}
-use Rattle.capacts.proofs.KeptPlaces.{of_list, kept-none, kept-others}
+use Rattle.std.proofs.Common.{◌≡◌, ◌≢◌, None, ap, subst, ◌∙◌}
+use Rattle.std.specs.Bool.{OnTrue}
+use Rattle.capbits.specs.declared.ids.ClientId.{ClientId}
+use Rattle.capacts.specs.Known.{kept_of, kept_among, sets_on}
+use Rattle.capacts.proofs.KeptPlaces.{of_sets, kept-none, kept-others}
 use Rattle.capacts.proofs.known.Known.remove.Goals as goal
 
-pub returns-then-is_empty : goal.returns-then-is_empty
-returns-then-is_empty c = λ k apart.
-    let none : vec_len c.remove_among.new.sets ≡ 0 = eqb-true (vec_len c.remove_among.new.sets) 0 (sym c.is_empty.ensures ∙ c.if-is_empty.true) in
-    ap (λ sets. kept_of sets k) c.remove.ensures
-    ∙ kept-none c.args.self.now.sets c.args.holder c.remove_among.new.sets (sym c.remove_among.new.sets.ok.0 ∙ none) k
-    ∙ kept-others c.args.self.now.sets c.args.holder c.remove_among.new.sets
-    (λ client other. c.remove_among.ensures client other ∙ ap (λ o. of_list o client) c.in-Some.ensures.value) k apart
+pub returns-then-remove : goal.returns-then-remove
+returns-then-remove c = λ k apart.
+    let alone = subst (λ b. OnTrue b ((other : ClientId) → other ≢ c.args.holder.client → kept_among (sets_on c.remove.new.self) other ≡ None)) c.if-remove.true c.remove.ensures.alone in
+    ap (λ sets. kept_of sets k) c.remove-then-remove.ensures
+    ∙ kept-none c.args.self.now.sets c.args.holder c.remove.new.self alone k apart
+    ∙ kept-others c.args.self.now.sets c.args.holder c.remove.new.self
+    (λ client other. c.remove.ensures.others client other ∙ ap (λ o. of_sets o client) c.in-Some.ensures.value) k apart
 
-pub returns-else-is_empty : goal.returns-else-is_empty
-returns-else-is_empty c =
-    kept-others c.args.self.now.sets c.args.holder c.remove_among.new.sets
-    (λ client other. c.remove_among.ensures client other ∙ ap (λ o. of_list o client) c.in-Some.ensures.value)
+pub returns-else-remove : goal.returns-else-remove
+returns-else-remove c =
+    kept-others c.args.self.now.sets c.args.holder c.remove.new.self
+    (λ client other. c.remove.ensures.others client other ∙ ap (λ o. of_sets o client) c.in-Some.ensures.value)
