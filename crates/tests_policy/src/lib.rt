@@ -23,6 +23,8 @@ mod gathers;
 #[cfg(test)]
 mod histories;
 #[cfg(test)]
+mod library;
+#[cfg(test)]
 mod lines;
 #[cfg(test)]
 mod lock_moves;
