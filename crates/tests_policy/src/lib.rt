@@ -57,6 +57,8 @@ mod texts;
 #[cfg(test)]
 mod trees;
 #[cfg(test)]
+mod triple_lists;
+#[cfg(test)]
 mod viewing;
 #[cfg(test)]
 mod views;
