@@ -2,6 +2,7 @@
 ghost use Rattle.std.specs.Prelude.{◌≡◌, ◌+◌, ◌≤◌, Some, None, IsSome, IfOk, OnErr, IfSome, IfNone, slice_get, option_and_then};
 
 use crate::chain::{move_last, next_of};
+use crate::error::AddError;
 use crate::heads::{Head, first_in};
 use crate::link::LinkWrites;
 use crate::moves::{put_value, take_in, take_out};
@@ -82,7 +83,7 @@ impl<T: Copy> TripleLists<T> {
     ghost use Rattle.capbits.specs.Refusal.{first_failing};
     ghost use Rattle.cap_arena.specs.Walks.{key_after};
     ghost use Rattle.cap_arena.specs.Lists.{OfInode, OfClient, OfRecall, IsLists, empty, count, keys, node_at};
-    ghost use Rattle.cap_arena.specs.Calls.{node, add_tests, Adds, Removes, Touches, Sets};
+    ghost use Rattle.cap_arena.specs.Calls.{node, add_tests, refusal_in, Adds, Removes, Touches, Sets};
 
     /// No nodes.
     pub fn new(alloc: Global) -> Result<TripleLists<T>, AllocError>
@@ -106,8 +107,32 @@ impl<T: Copy> TripleLists<T> {
         None
     }
 
-    /// Adds a node, the last one of each of its lists, and answers its key. For want of memory nothing changes.
+    /// Adds a node, the last one of each of its lists, and answers its key. It is refused as Limit.
     pub fn add<L: Ledger>(
+        &mut self,
+        client: ClientId,
+        ino: Ino,
+        value: T,
+        writes: &mut LinkWrites<L>,
+    ) -> Result<usize, AddError>
+        ensures refused { refusal_in result ≡ first_failing (add_tests self.old) }
+        ensures ok { IfOk result (λ key. Adds self.old self.new key (node client ino value)) }
+        ensures err { OnErr result (self.new ≡ self.old) }
+        ensures unwritten { OnErr result (writes.new ≡ writes.old) }
+        ensures count { writes.new ≤ writes.old + 12 }
+        ensures sound { IsLists self.new }
+    {
+        // A look at the lists, by which the proof knows what they keep.
+        let _oldest = self.oldest();
+        if let Some(refusal) = self.add_refusal() {
+            return Err(AddError::Refused(refusal));
+        }
+        let key = self.add_tested(client, ino, value, writes)?;
+        Ok(key)
+    }
+
+    /// The same, where there are fewer nodes than there may be. For want of memory nothing changes.
+    pub fn add_tested<L: Ledger>(
         &mut self,
         client: ClientId,
         ino: Ino,

@@ -237,15 +237,15 @@ fn carry_out(alloc: Global, tree: &mut Tree, ino: Ino, ask: &Ask) -> Result<Serv
             Ok(done())
         }
         Ask::Unlink => {
-            tree.unlink(ino);
+            tree.unlink_tested(ino);
             Ok(done())
         }
         Ask::Rmdir => {
-            tree.rmdir(ino);
+            tree.rmdir_tested(ino);
             Ok(done())
         }
         Ask::Rename { dir, name } => {
-            tree.rename(ino, *dir, name.as_slice())?;
+            tree.rename_tested(ino, *dir, name.as_slice())?;
             Ok(done())
         }
     }
@@ -259,9 +259,9 @@ pub fn alter(tree: &mut Tree, ino: Ino, change: &Change) -> Result<(), AllocErro
     ensures memory { OnErr result (words.change_takes_memory change.now ≡ true) }
 {
     match change {
-        Change::Set(setting) => tree.set(ino, *setting),
-        Change::SetXattr { name, value } => tree.set_xattr(ino, name.as_slice(), value.as_slice())?,
-        Change::RemoveXattr { name } => tree.remove_xattr(ino, name.as_slice()),
+        Change::Set(setting) => tree.set_tested(ino, *setting),
+        Change::SetXattr { name, value } => tree.set_xattr_tested(ino, name.as_slice(), value.as_slice())?,
+        Change::RemoveXattr { name } => tree.remove_xattr_tested(ino, name.as_slice()),
     }
     Ok(())
 }

@@ -53,7 +53,7 @@ impl World {
             drop(ask);
             return Err(refused);
         }
-        let ticket = self.locks.enqueue(client, ino, ask);
+        let ticket = self.locks.enqueue_tested(client, ino, ask);
         end_at_one(
             &self.fs,
             &mut self.tree,

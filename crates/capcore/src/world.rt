@@ -392,7 +392,7 @@ impl World {
         ensures err { OnErr result (self.new ≡ self.old) }
     {
         let grants = grants.copy()?;
-        self.sessions.open_session(client, caller.copy(), grants)?;
+        self.sessions.open_session_tested(client, caller.copy(), grants)?;
         Ok(())
     }
 
@@ -403,7 +403,7 @@ impl World {
         if let Some(refusal) = self.sessions.unblock_refusal(client) {
             return Reply::Refused(refusal);
         }
-        self.sessions.unblock(client);
+        self.sessions.unblock_tested(client);
         Reply::Done
     }
 
@@ -472,7 +472,7 @@ impl World {
         if let Some(refusal) = self.tree.new_snapshot_refusal(ino, name) {
             return Ok(Reply::Refused(refusal));
         }
-        self.tree.snap_add(ino, name)?;
+        self.tree.snap_add_tested(ino, name)?;
         Ok(Reply::Done)
     }
 
@@ -493,7 +493,7 @@ impl World {
         if let Some(refusal) = self.tree.old_snapshot_refusal(ino, name) {
             return Ok(Reply::Refused(refusal));
         }
-        self.tree.snap_remove(ino, name);
+        self.tree.snap_remove_tested(ino, name);
         Ok(Reply::Done)
     }
 }
@@ -561,8 +561,8 @@ fn make_in(tree: &mut Tree, kind: Kind, dir: Ino, name: &[u8], attr: Attr) -> Re
     ensures err { OnErr result (tree.new ≡ tree.old) }
 {
     let made = match kind {
-        Kind::File => tree.create(dir, name, attr),
-        Kind::Directory => tree.mkdir(dir, name, attr),
+        Kind::File => tree.create_tested(dir, name, attr),
+        Kind::Directory => tree.mkdir_tested(dir, name, attr),
     };
     match made {
         Ok(_ino) => Ok(()),

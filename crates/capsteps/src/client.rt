@@ -1,8 +1,6 @@
 //! Steps by which a client's session ends, becomes stale, is open again or has other grants.
 ghost use Rattle.std.specs.Prelude.{Some, ◌≡◌, ◌+◌, ◌≤◌, ◌<◌, true, [], ◌∷◌, None, All, Contains, length, map as each, IfOk, OnOk, OnErr, vec_capacity};
 ghost use Rattle.capbits.specs.Refusal.{first_failing};
-ghost use Rattle.sessiontab.specs.Calls.{with_grants};
-ghost use Rattle.sessiontab.specs.Tests.{connected_test};
 ghost use Rattle.captable.specs.declared.entry.EntryRow.{EntryRow};
 ghost use Rattle.captable.specs.Calls.{is_of_client};
 ghost use Rattle.capacts.specs.Lockmachine.declared.request.Request.{Request};
@@ -15,7 +13,6 @@ use crate::endings::Endings;
 use capacts::leaving::Turn;
 use capacts::{ChangeList, InoSet, Locks, Messages, ViewChange};
 use capbits::{ClientId, Ino, Refusal};
-use capspec::Grants;
 use captable::CapTable;
 use inotree::ROOT;
 use sessiontab::Sessions;
@@ -53,25 +50,12 @@ pub fn turn_session(sessions: &mut Sessions, client: ClientId, turn: Turn) -> Re
     ensures err { OnErr result (sessions.new ≡ sessions.old) }
 {
     match turn {
-        Turn::Close => sessions.close_session(client),
-        Turn::Stale => sessions.mark_stale(client),
-        Turn::Renew => sessions.renew(client),
-        Turn::Regrant(grants) => regrant(sessions, client, grants)?,
-        Turn::Evict => sessions.evict(client)?,
+        Turn::Close => sessions.close_session_tested(client),
+        Turn::Stale => sessions.mark_stale_tested(client),
+        Turn::Renew => sessions.renew_tested(client),
+        Turn::Regrant(grants) => sessions.regrant_tested(client, grants.copy()?),
+        Turn::Evict => sessions.evict_tested(client)?,
     }
-    Ok(())
-}
-
-// The client's session has a copy of these grants in place of those that it had. For want of memory nothing changes.
-fn regrant(sessions: &mut Sessions, client: ClientId, grants: &Grants) -> Result<(), AllocError>
-    requires passed { first_failing (connected_test sessions.old client.0 ∷ []) ≡ None }
-    ensures ok { OnOk result (sessions.new ≡ with_grants sessions.old client.0 grants.now) }
-    ensures err { OnErr result (sessions.new ≡ sessions.old) }
-{
-    let copy = grants.copy()?;
-    let Ok(()) = sessions.regrant(client, copy) else {
-        unreachable!()
-    };
     Ok(())
 }
 

@@ -74,11 +74,11 @@ pub fn touch_entry(
         Touch::Open(mode) => open(table, known, holder, *mode)?,
         Touch::Want(caps) => want(table, holder, caps.union(CapSet::of(&[Cap::P]))),
         Touch::Ack(seq) => {
-            table.ack(holder.client, holder.ino, *seq, revoked);
+            table.ack_tested(holder.client, holder.ino, *seq, revoked);
             known.remove_unheld(table, holder);
         }
         Touch::Release(caps) => {
-            table.release(holder.client, holder.ino, *caps);
+            table.release_tested(holder.client, holder.ino, *caps);
             known.remove_unheld(table, holder);
         }
     }
@@ -119,7 +119,7 @@ fn make_entry(table: &mut CapTable, known: &mut Known, holder: Holder) -> Result
     ensures known { StillKept table.old table.new known.old.sets known.new.sets }
 {
     known.add(holder)?;
-    match table.open_entry(holder.client, holder.ino) {
+    match table.open_entry_tested(holder.client, holder.ino) {
         Ok(()) => Ok(()),
         Err(refused) => {
             known.remove(holder);

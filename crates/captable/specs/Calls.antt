@@ -1,5 +1,5 @@
 -- What each call on the table changes and answers.
-use Rattle.std.specs.Prelude.{ℕ, ◌+◌, Bool, true, false, not, ◌==◌, ◌||◌, nat_lt, Option, None, List, [], ◌∷◌, ◌++◌, map, filter, take, slice_get, if◌then◌else◌}
+use Rattle.std.specs.Prelude.{ℕ, ◌+◌, Bool, true, false, not, ◌==◌, ◌||◌, nat_lt, Option, None, List, [], ◌∷◌, ◌++◌, map, filter, take, slice_get, is_some, if◌then◌else◌}
 use Rattle.capbits.specs.declared.cap.Cap.TheVariants.{P}
 use Rattle.capbits.specs.declared.ids.ClientId.{ClientId}
 use Rattle.capbits.specs.declared.ids.Ino.{Ino}
@@ -8,7 +8,7 @@ use Rattle.capbits.specs.Sets.{no_caps, is_empty, union, minus}
 use Rattle.captable.specs.declared.entry.Holder.{Holder}
 use Rattle.captable.specs.declared.entry.Entry.{Entry}
 use Rattle.captable.specs.declared.entry.EntryRow.{EntryRow}
-use Rattle.captable.specs.Table.{Table, same, is_row_of, is_among}
+use Rattle.captable.specs.Table.{Table, same, is_row_of, is_among, entry_at}
 
 -- ---- one holder's entry
 
@@ -23,6 +23,10 @@ opened table k = record {
   recall = table.recall ++ k ∷ [];
   made = table.made + 1;
 }
+
+-- the table in which the holder has an entry, a new one where it had none
+abbrev pub with_entry : Table → Holder → Table
+with_entry table k = if is_some (entry_at table k) then table else opened table k
 
 -- the rows, with the holder's entry changed by f
 abbrev pub change_rows : List EntryRow → Holder → (Entry → Entry) → List EntryRow

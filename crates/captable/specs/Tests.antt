@@ -1,5 +1,5 @@
 -- The tests of what is asked of the table, each with what is answered where it fails.
-use Rattle.std.specs.Prelude.{ℕ, Bool, false, not, nat_lt, nat_le, List, [], ◌∷◌, length, is_some}
+use Rattle.std.specs.Prelude.{ℕ, Bool, false, not, nat_lt, nat_le, ◌==◌, List, [], ◌∷◌, ◌++◌, length, is_some, if◌then◌else◌}
 use Rattle.std.specs.Option.{option_map_or}
 use Rattle.capbits.specs.Caps.{Caps}
 use Rattle.capbits.specs.Sets.{is_empty, meet, minus}
@@ -20,6 +20,10 @@ last_revocation table k = option_map_or (λ e. e.revoke_seq) (entry_at table k) 
 -- there may be one more entry
 abbrev pub open_tests : Table → List Test
 open_tests table = refused_if (nat_le 65536 (length table.rows)) refusal.Limit ∷ []
+
+-- the holder has an entry, or there may be one more, and a number is left for it
+abbrev pub open_entry_tests : Table → Holder → List Test
+open_entry_tests table k = if is_some (entry_at table k) then [] else open_tests table ++ refused_if (table.made == 18446744073709551615) refusal.Limit ∷ []
 
 -- the client has an entry on the inode
 abbrev pub entry_test : Table → Holder → Test

@@ -12,6 +12,7 @@ mod polls;
 mod table;
 mod walk;
 
+pub use cap_arena::AddError;
 pub use entry::{Entry, EntryRow, Holder, Slot};
 pub use holders::Holders;
 pub use laws::{

@@ -115,7 +115,7 @@ pub(crate) fn add_node<L: Ledger>(
     ensures sound { IsLists lists.new }
 {
     let mut writes = LinkWrites::<L>::new(blank);
-    lists.add(holder.client, holder.ino, slot, &mut writes)
+    lists.add_tested(holder.client, holder.ino, slot, &mut writes)
 }
 
 // The node becomes the last one in the order of recall.

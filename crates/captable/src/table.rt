@@ -10,7 +10,7 @@ use crate::polls::{
     set_place, skip_place,
 };
 use crate::walk::Walk;
-use cap_arena::{MAX_NODES, TripleLists};
+use cap_arena::{AddError, MAX_NODES, TripleLists};
 use capbits::{Cap, CapSet, ClientId, Ino, Refusal};
 use numbered::Numbered;
 use std::alloc::{AllocError, Global};
@@ -81,14 +81,16 @@ impl fmt::Debug for CapTable {
 impl CapTable {
     ghost use Rattle.captable.specs.Table as words;
     ghost use Rattle.std.specs.List.{fold};
+    ghost use Rattle.std.specs.Result.{result_err};
     ghost use Rattle.cap_arena.specs.Lists.{IsLists};
+    ghost use Rattle.cap_arena.specs.Calls.{refusal_in};
     ghost use Rattle.captable.specs.Table.{IsTable, holder, entry_at};
     ghost use Rattle.captable.specs.Nodes.{AreLists};
     ghost use Rattle.captable.specs.Walks.{first_holder};
     ghost use Rattle.captable.specs.Many.{changed_by, asking};
     ghost use Rattle.capbits.specs.Refusal.{first_failing};
-    ghost use Rattle.captable.specs.Tests.{open_tests, entry_test, ack_tests, release_tests};
-    ghost use Rattle.captable.specs.Calls.{opened, changed, wanting, issued, acked, renumbered, told, with_asked, with_size_due, released, without, without_client, newer_in, touched, recalled, is_of_client, is_of_inode, is_due};
+    ghost use Rattle.captable.specs.Tests.{open_tests, open_entry_tests, entry_test, ack_tests, release_tests};
+    ghost use Rattle.captable.specs.Calls.{opened, with_entry, changed, wanting, issued, acked, renumbered, told, with_asked, with_size_due, released, without, without_client, newer_in, touched, recalled, is_of_client, is_of_inode, is_due};
 
     /// A table without entries, of which none was made yet. No clause can say that the memory for it is there.
     pub fn new(alloc: Global) -> Result<CapTable, AllocError>
@@ -214,11 +216,69 @@ impl CapTable {
         None
     }
 
+    // ---- changes that are refused where a test fails
+
+    /// Makes the client's entry on the inode where it has none, last in both orders, which holds and wants nothing. It is
+    /// refused as Limit where there are as many as there may be, or the last number was given. Where the client has an
+    /// entry, nothing happens.
+    pub fn open_entry(&mut self, client: ClientId, ino: Ino) -> Result<(), AddError>
+        ensures refused { refusal_in result ≡ first_failing (open_entry_tests self.old (holder client ino)) }
+        ensures ok { OnOk result (self.new ≡ with_entry self.old (holder client ino)) }
+        ensures err { OnErr result (self.new ≡ self.old) }
+    {
+        if self.find(client, ino).is_some() {
+            return Ok(());
+        }
+        if let Some(refusal) = self.open_refusal() {
+            return Err(AddError::Refused(refusal));
+        }
+        if self.made() == u64::MAX {
+            return Err(AddError::Refused(Refusal::Limit));
+        }
+        self.open_entry_tested(client, ino)?;
+        Ok(())
+    }
+
+    /// Takes an acknowledgement, which names the message with the number `seq`: the client gives back the capabilities
+    /// of `against`, which are being revoked, and no longer holds any of them. With the pin among them its whole entry
+    /// goes, whatever else it holds, from both orders. It is refused as NoEntry, as NothingToAck, as BadSeq, or as OldSeq.
+    pub fn ack(
+        &mut self,
+        client: ClientId,
+        ino: Ino,
+        seq: u64,
+        against: CapSet,
+    ) -> Result<(), Refusal>
+        ensures refused { result_err result ≡ first_failing (ack_tests self.old (holder client ino) seq against) }
+        ensures ok { OnOk result (self.new ≡ acked self.old (holder client ino) against) }
+        ensures err { OnErr result (self.new ≡ self.old) }
+    {
+        if let Some(refusal) = self.ack_refusal(client, ino, seq, against) {
+            return Err(refusal);
+        }
+        self.ack_tested(client, ino, seq, against);
+        Ok(())
+    }
+
+    /// The client gives back these capabilities: it neither holds nor wants them any more. With the pin among them its
+    /// whole entry goes, from both orders. It is refused as NoEntry, or as NotHeld.
+    pub fn release(&mut self, client: ClientId, ino: Ino, caps: CapSet) -> Result<(), Refusal>
+        ensures refused { result_err result ≡ first_failing (release_tests self.old (holder client ino) caps) }
+        ensures ok { OnOk result (self.new ≡ released self.old (holder client ino) caps) }
+        ensures err { OnErr result (self.new ≡ self.old) }
+    {
+        if let Some(refusal) = self.release_refusal(client, ino, caps) {
+            return Err(refusal);
+        }
+        self.release_tested(client, ino, caps);
+        Ok(())
+    }
+
     // ---- changes
 
     /// Makes the client's entry on the inode, last in both orders, which holds and wants nothing. For want of memory
     /// nothing changes.
-    pub fn open_entry(&mut self, client: ClientId, ino: Ino) -> Result<(), AllocError>
+    pub fn open_entry_tested(&mut self, client: ClientId, ino: Ino) -> Result<(), AllocError>
         requires new { entry_at self.old (holder client ino) ≡ None }
         requires made { self.old.made < 2 ^ 64 - 1 }
         requires passed { first_failing (open_tests self.old) ≡ None }
@@ -277,7 +337,7 @@ impl CapTable {
     /// Takes an acknowledgement, which names the message with the number `seq`: the client gives back the capabilities
     /// of `against`, which are being revoked, and no longer holds any of them. With the pin among them its whole entry
     /// goes, whatever else it holds, from both orders.
-    pub fn ack(&mut self, client: ClientId, ino: Ino, seq: u64, against: CapSet)
+    pub fn ack_tested(&mut self, client: ClientId, ino: Ino, seq: u64, against: CapSet)
         requires passed { first_failing (ack_tests self.old (holder client ino) seq against) ≡ None }
         ensures { self.new ≡ acked self.old (holder client ino) against }
     {
@@ -391,7 +451,7 @@ impl CapTable {
 
     /// The client gives back these capabilities: it neither holds nor wants them any more. With the pin among them its
     /// whole entry goes, from both orders.
-    pub fn release(&mut self, client: ClientId, ino: Ino, caps: CapSet)
+    pub fn release_tested(&mut self, client: ClientId, ino: Ino, caps: CapSet)
         requires passed { first_failing (release_tests self.old (holder client ino) caps) ≡ None }
         ensures { self.new ≡ released self.old (holder client ino) caps }
     {

@@ -74,9 +74,9 @@ fn make(tree: &mut Tree, dir: Ino, name: &Name, attr: Attr, is_dir: bool) -> Res
     ensures err { OnErr result (tree.new ≡ tree.old) }
 {
     if is_dir {
-        tree.mkdir(dir, name.as_bytes(), attr)
+        tree.mkdir_tested(dir, name.as_bytes(), attr)
     } else {
-        tree.create(dir, name.as_bytes(), attr)
+        tree.create_tested(dir, name.as_bytes(), attr)
     }
 }
 
@@ -94,7 +94,7 @@ fn moved(tree: &mut Tree, ino: Ino, dir: Ino, name: &Name) -> Result<(), AllocEr
     if tree.new_place_refusal(ino, dir, name.as_bytes()).is_some() {
         return Err(AllocError);
     }
-    tree.rename(ino, dir, name.as_bytes())
+    tree.rename_tested(ino, dir, name.as_bytes())
 }
 
 // An inode becomes a stray. The snapshots of a directory don't matter: they are not told of.

@@ -1,6 +1,7 @@
 pub mod Below
 pub mod Changes
 pub mod Elsewhere
+pub mod FirstOf
 pub mod Gathering
 pub mod Growing
 pub mod Inner

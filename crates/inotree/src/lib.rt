@@ -4,6 +4,8 @@
 #![tactic(auto)]
 
 mod attributes;
+mod calls;
+mod error;
 mod heights;
 mod index;
 mod inodes;
@@ -15,6 +17,7 @@ mod snapshots;
 mod tree;
 
 pub use attributes::{Attributes, MAX_ATTRIBUTES, MAX_VALUE, Value};
+pub use error::TreeError;
 pub use laws::{
     a_change_of_one_inode_leaves_the_others, a_change_that_may_be_made_keeps_the_tree,
     a_move_leaves_what_is_not_below, an_inode_without_children_leaves_the_others, names_lead_up,

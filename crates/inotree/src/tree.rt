@@ -452,7 +452,7 @@ impl Tree {
     // ---- changes, whose tests were passed
 
     /// Makes a file in a directory, with this owner, group and mode, and answers its number.
-    pub fn create(&mut self, dir: Ino, name: &[u8], attr: Attr) -> Result<Ino, AllocError>
+    pub fn create_tested(&mut self, dir: Ino, name: &[u8], attr: Attr) -> Result<Ino, AllocError>
         requires passed { first_failing (create_tests self.old dir.0 name.now) ≡ None }
         ensures ok { OnOk result (self.new ≡ with_new self.old Kind.File dir.0 name.now attr) }
         ensures ino { IfOk result (λ ino. ino.0 ≡ self.old.last + 1) }
@@ -462,7 +462,7 @@ impl Tree {
     }
 
     /// Makes a directory in a directory, with this owner, group and mode, and answers its number.
-    pub fn mkdir(&mut self, dir: Ino, name: &[u8], attr: Attr) -> Result<Ino, AllocError>
+    pub fn mkdir_tested(&mut self, dir: Ino, name: &[u8], attr: Attr) -> Result<Ino, AllocError>
         requires passed { first_failing (create_tests self.old dir.0 name.now) ≡ None }
         ensures ok { OnOk result (self.new ≡ with_new self.old Kind.Directory dir.0 name.now attr) }
         ensures ino { IfOk result (λ ino. ino.0 ≡ self.old.last + 1) }
@@ -509,7 +509,7 @@ impl Tree {
     }
 
     /// Unlinks a file, which stays as a stray until it is forgotten.
-    pub fn unlink(&mut self, ino: Ino)
+    pub fn unlink_tested(&mut self, ino: Ino)
         requires passed { first_failing (unlink_tests self.old ino.0) ≡ None }
         ensures { self.new ≡ unlinked self.old ino.0 }
     {
@@ -518,7 +518,7 @@ impl Tree {
     }
 
     /// Removes an empty directory, which stays as a stray until it is forgotten.
-    pub fn rmdir(&mut self, ino: Ino)
+    pub fn rmdir_tested(&mut self, ino: Ino)
         requires passed { first_failing (rmdir_tests self.old ino.0) ≡ None }
         ensures { self.new ≡ unlinked self.old ino.0 }
     {
@@ -539,7 +539,7 @@ impl Tree {
     }
 
     /// Moves an inode into a directory, under a name.
-    pub fn rename(&mut self, ino: Ino, dir: Ino, name: &[u8]) -> Result<(), AllocError>
+    pub fn rename_tested(&mut self, ino: Ino, dir: Ino, name: &[u8]) -> Result<(), AllocError>
         requires passed { first_failing (rename_tests self.old ino.0 dir.0 name.now) ≡ None }
         ensures ok { OnOk result (self.new ≡ moved self.old ino.0 dir.0 name.now) }
         ensures err { OnErr result (self.new ≡ self.old) }
@@ -569,7 +569,7 @@ impl Tree {
     }
 
     /// Sets a field of an inode.
-    pub fn set(&mut self, ino: Ino, setting: Setting)
+    pub fn set_tested(&mut self, ino: Ino, setting: Setting)
         requires passed { first_failing (set_tests self.old ino.0 setting) ≡ None }
         ensures { self.new ≡ changed (with_setting setting) self.old ino.0 }
     {
@@ -585,7 +585,7 @@ impl Tree {
     }
 
     /// Gives an attribute of an inode a value, in place of the one that it may have.
-    pub fn set_xattr(&mut self, ino: Ino, name: &[u8], value: &[u8]) -> Result<(), AllocError>
+    pub fn set_xattr_tested(&mut self, ino: Ino, name: &[u8], value: &[u8]) -> Result<(), AllocError>
         requires passed { first_failing (set_xattr_tests self.old ino.0 name.now value.now) ≡ None }
         ensures ok { OnOk result (self.new ≡ changed (with_attribute name.now value.now) self.old ino.0) }
         ensures err { OnErr result (self.new ≡ self.old) }
@@ -595,7 +595,7 @@ impl Tree {
     }
 
     /// Takes an attribute from an inode.
-    pub fn remove_xattr(&mut self, ino: Ino, name: &[u8])
+    pub fn remove_xattr_tested(&mut self, ino: Ino, name: &[u8])
         requires passed { first_failing (remove_xattr_tests self.old ino.0 name.now) ≡ None }
         ensures { self.new ≡ changed (without_attribute name.now) self.old ino.0 }
     {
@@ -607,7 +607,7 @@ impl Tree {
     }
 
     /// Gives a directory a snapshot of this name.
-    pub fn snap_add(&mut self, ino: Ino, name: &[u8]) -> Result<(), AllocError>
+    pub fn snap_add_tested(&mut self, ino: Ino, name: &[u8]) -> Result<(), AllocError>
         requires passed { first_failing (snap_add_tests self.old ino.0 name.now) ≡ None }
         ensures ok { OnOk result (self.new ≡ changed (with_snapshot name.now) self.old ino.0) }
         ensures err { OnErr result (self.new ≡ self.old) }
@@ -616,7 +616,7 @@ impl Tree {
     }
 
     /// Takes a snapshot name from a directory.
-    pub fn snap_remove(&mut self, ino: Ino, name: &[u8])
+    pub fn snap_remove_tested(&mut self, ino: Ino, name: &[u8])
         requires passed { first_failing (snap_remove_tests self.old ino.0 name.now) ≡ None }
         ensures { self.new ≡ changed (without_snapshot name.now) self.old ino.0 }
     {

@@ -2,6 +2,7 @@
 ghost use Rattle.std.specs.Prelude.{◌≡◌, ◌==◌, ◌&&◌, ◌+◌, ◌-◌, ◌<◌, ◌^◌, ℕ, List, None, false, length, position, IfOk, IfSome, OnOk, OnErr};
 ghost use Rattle.std.specs.List.{find, list_any};
 ghost use Rattle.std.specs.Option.{option_map};
+ghost use Rattle.std.specs.Result.{result_err};
 ghost use Rattle.std.specs.FinMap as map;
 ghost use Rattle.capbits.specs.Refusal.{first_failing};
 ghost use Rattle.capbits.specs.declared.cap.Part.{Part};
@@ -159,8 +160,23 @@ impl Locks {
         None
     }
 
-    /// Lets what a client asks for wait behind all others, under the next number, which it answers. It takes no memory.
-    pub fn enqueue(&mut self, client: ClientId, ino: Ino, ask: Ask) -> Ticket
+    /// Lets what a client asks for wait behind all others, under the next number, which it answers. It takes no memory. It is
+    /// refused as Limit, and what was asked for is dropped then.
+    pub fn enqueue(&mut self, client: ClientId, ino: Ino, ask: Ask) -> Result<Ticket, Refusal>
+        requires numbers { self.old.last < 2 ^ 64 - 1 }
+        ensures refused { result_err result ≡ first_failing (words.queue_tests self.old) }
+        ensures ok { OnOk result (self.new ≡ words.with_request self.old client ino ask) }
+        ensures ticket { IfOk result (λ ticket. ticket.0 ≡ self.old.last + 1) }
+        ensures err { OnErr result (self.new ≡ self.old) }
+    {
+        if let Some(refusal) = self.enqueue_refusal() {
+            return Err(refusal);
+        }
+        Ok(self.enqueue_tested(client, ino, ask))
+    }
+
+    /// The same, where fewer wait than may.
+    pub fn enqueue_tested(&mut self, client: ClientId, ino: Ino, ask: Ask) -> Ticket
         requires room { first_failing (words.queue_tests self.old) ≡ None }
         requires numbers { self.old.last < 2 ^ 64 - 1 }
         ensures queued { self.new ≡ words.with_request self.old client ino ask }

@@ -5,11 +5,13 @@
 
 mod blocklist;
 mod connected;
+mod error;
 mod laws;
 mod session;
 mod table;
 
 pub use connected::Connected;
+pub use error::SessionError;
 pub use laws::a_new_session_leaves_the_others;
 pub use session::{NoSession, Session, Status};
 pub use table::{MAX_BLOCKED, MAX_SESSIONS, Sessions};

@@ -1,11 +1,13 @@
 //! The table of sessions, with the blocklist.
 ghost use Rattle.std.specs.Prelude.{◌≡◌, ◌↔◌, [], ◌∷◌, None, IsTrue, IsOk, IfOk, IfErr, OnOk, OnErr};
 ghost use Rattle.std.specs.Option.{option_map, option_copied};
+ghost use Rattle.std.specs.Result.{result_err};
 ghost use Rattle.std.specs.FinMap as map;
 ghost use Rattle.std.specs.FinSet as set;
 
 use crate::blocklist::Blocklist;
 use crate::connected::Connected;
+use crate::error::SessionError;
 use crate::session::{NoSession, Session, Status};
 use capbits::{Caller, ClientId, Refusal};
 use capspec::Grants;
@@ -52,7 +54,7 @@ impl Sessions {
     ghost use Rattle.sessiontab.specs.Table.{IsSound};
     ghost use Rattle.capbits.specs.Refusal.{first_failing};
     ghost use Rattle.sessiontab.specs.Calls.{status_of, with_session, without_session, with_status, with_grants, with_evicted, without_blocked, has_session};
-    ghost use Rattle.sessiontab.specs.Tests.{connected_test, session_tests, stale_tests, new_session_tests, evict_tests, blocked_test};
+    ghost use Rattle.sessiontab.specs.Tests.{connected_test, session_tests, stale_tests, new_session_tests, evict_tests, blocked_test, refusal_in};
     ghost use Rattle.sessiontab.specs.declared.session.Status.TheVariants.{Open, Stale};
 
     /// Nobody is connected, and nobody was thrown out.
@@ -139,10 +141,110 @@ impl Sessions {
         }
     }
 
-    // ---- changes, whose tests were passed
+    // ---- changes that are refused where a test fails
+
+    /// Opens a session for a client. It is refused as Blocklisted, as SessionOpen where the client has a session, or as Limit.
+    /// The caller and the grants of one that is not opened are dropped.
+    pub fn open_session(
+        &mut self,
+        client: ClientId,
+        caller: Caller,
+        grants: Grants,
+    ) -> Result<(), SessionError>
+        ensures refused { refusal_in result ≡ first_failing (new_session_tests self.old client.0) }
+        ensures ok { OnOk result (self.new ≡ with_session self.old client.0 caller grants) }
+        ensures err { OnErr result (self.new ≡ self.old) }
+    {
+        if let Some(refusal) = self.open_refusal(client) {
+            return Err(SessionError::Refused(refusal));
+        }
+        self.open_session_tested(client, caller, grants)?;
+        Ok(())
+    }
+
+    /// Ends a client's session, open or stale. It is refused as NoSession.
+    pub fn close_session(&mut self, client: ClientId) -> Result<(), Refusal>
+        ensures refused { result_err result ≡ first_failing (connected_test self.old client.0 ∷ []) }
+        ensures ok { OnOk result (self.new ≡ without_session self.old client.0) }
+        ensures err { OnErr result (self.new ≡ self.old) }
+    {
+        if let Some(refusal) = self.connected_refusal(client) {
+            return Err(refusal);
+        }
+        self.close_session_tested(client);
+        Ok(())
+    }
+
+    /// Marks a client's open session as stale. It is refused as NoSession, or as SessionStale.
+    pub fn mark_stale(&mut self, client: ClientId) -> Result<(), Refusal>
+        ensures refused { result_err result ≡ first_failing (session_tests self.old client.0) }
+        ensures ok { OnOk result (self.new ≡ with_status self.old client.0 Stale) }
+        ensures err { OnErr result (self.new ≡ self.old) }
+    {
+        if let Some(refusal) = self.session_refusal(client) {
+            return Err(refusal);
+        }
+        self.mark_stale_tested(client);
+        Ok(())
+    }
+
+    /// Marks a client's stale session as open again. It is refused as NoSession, or as NotStale.
+    pub fn renew(&mut self, client: ClientId) -> Result<(), Refusal>
+        ensures refused { result_err result ≡ first_failing (stale_tests self.old client.0) }
+        ensures ok { OnOk result (self.new ≡ with_status self.old client.0 Open) }
+        ensures err { OnErr result (self.new ≡ self.old) }
+    {
+        if let Some(refusal) = self.renew_refusal(client) {
+            return Err(refusal);
+        }
+        self.renew_tested(client);
+        Ok(())
+    }
+
+    /// Gives a client's session, open or stale, other grants. Where the client has none, the grants are given back.
+    pub fn regrant(&mut self, client: ClientId, grants: Grants) -> Result<(), (NoSession, Grants)>
+        ensures which { IsOk result ↔ IsTrue (has_session self.old client.0) }
+        ensures ok { OnOk result (self.new ≡ with_grants self.old client.0 grants) }
+        ensures back { IfErr result (λ refused. refused.1 ≡ grants) }
+        ensures err { OnErr result (self.new ≡ self.old) }
+    {
+        if self.status(client).is_none() {
+            return Err((NoSession, grants));
+        }
+        self.regrant_tested(client, grants);
+        Ok(())
+    }
+
+    /// Throws a client out: ends its session, open or stale, and puts it on the blocklist. It is refused as NoSession, or as Limit.
+    pub fn evict(&mut self, client: ClientId) -> Result<(), SessionError>
+        ensures refused { refusal_in result ≡ first_failing (evict_tests self.old client.0) }
+        ensures ok { OnOk result (self.new ≡ with_evicted self.old client.0) }
+        ensures err { OnErr result (self.new ≡ self.old) }
+    {
+        if let Some(refusal) = self.evict_refusal(client) {
+            return Err(SessionError::Refused(refusal));
+        }
+        self.evict_tested(client)?;
+        Ok(())
+    }
+
+    /// Takes a client off the blocklist. It is refused as NotBlocked.
+    pub fn unblock(&mut self, client: ClientId) -> Result<(), Refusal>
+        ensures refused { result_err result ≡ first_failing (blocked_test self.old client.0 ∷ []) }
+        ensures ok { OnOk result (self.new ≡ without_blocked self.old client.0) }
+        ensures err { OnErr result (self.new ≡ self.old) }
+    {
+        if let Some(refusal) = self.unblock_refusal(client) {
+            return Err(refusal);
+        }
+        self.unblock_tested(client);
+        Ok(())
+    }
+
+    // ---- the same, whose tests were passed before
 
     /// Opens a session for a client. For want of memory nothing changes, and the caller and the grants are dropped.
-    pub fn open_session(
+    pub fn open_session_tested(
         &mut self,
         client: ClientId,
         caller: Caller,
@@ -161,7 +263,7 @@ impl Sessions {
     }
 
     /// Ends a client's session, open or stale.
-    pub fn close_session(&mut self, client: ClientId)
+    pub fn close_session_tested(&mut self, client: ClientId)
         requires passed { first_failing (connected_test self.old client.0 ∷ []) ≡ None }
         ensures { self.new ≡ without_session self.old client.0 }
     {
@@ -169,7 +271,7 @@ impl Sessions {
     }
 
     /// Marks a client's open session as stale.
-    pub fn mark_stale(&mut self, client: ClientId)
+    pub fn mark_stale_tested(&mut self, client: ClientId)
         requires passed { first_failing (session_tests self.old client.0) ≡ None }
         ensures { self.new ≡ with_status self.old client.0 Stale }
     {
@@ -177,30 +279,22 @@ impl Sessions {
     }
 
     /// Marks a client's stale session as open again.
-    pub fn renew(&mut self, client: ClientId)
+    pub fn renew_tested(&mut self, client: ClientId)
         requires passed { first_failing (stale_tests self.old client.0) ≡ None }
         ensures { self.new ≡ with_status self.old client.0 Open }
     {
         self.connected.set_status(client, Status::Open);
     }
 
-    /// Gives a client's session, open or stale, other grants. Where the client has no session, nothing changes, and the grants are
-    /// given back.
-    pub fn regrant(&mut self, client: ClientId, grants: Grants) -> Result<(), (NoSession, Grants)>
-        ensures which { IsOk result ↔ IsTrue (has_session self.old client.0) }
-        ensures ok { OnOk result (self.new ≡ with_grants self.old client.0 grants) }
-        ensures back { IfErr result (λ refused. refused.1 ≡ grants) }
-        ensures err { OnErr result (self.new ≡ self.old) }
+    /// Gives a client's session, open or stale, other grants. Where the client has none, nothing happens.
+    pub fn regrant_tested(&mut self, client: ClientId, grants: Grants)
+        ensures { self.new ≡ with_grants self.old client.0 grants }
     {
-        if self.status(client).is_none() {
-            return Err((NoSession, grants));
-        }
         self.connected.set_grants(client, grants);
-        Ok(())
     }
 
     /// Throws a client out: ends its session, open or stale, and puts it on the blocklist. For want of memory nothing changes.
-    pub fn evict(&mut self, client: ClientId) -> Result<(), AllocError>
+    pub fn evict_tested(&mut self, client: ClientId) -> Result<(), AllocError>
         requires passed { first_failing (evict_tests self.old client.0) ≡ None }
         ensures ok { OnOk result (self.new ≡ with_evicted self.old client.0) }
         ensures err { OnErr result (self.new ≡ self.old) }
@@ -211,7 +305,7 @@ impl Sessions {
     }
 
     /// Takes a client off the blocklist.
-    pub fn unblock(&mut self, client: ClientId)
+    pub fn unblock_tested(&mut self, client: ClientId)
         requires passed { first_failing (blocked_test self.old client.0 ∷ []) ≡ None }
         ensures { self.new ≡ without_blocked self.old client.0 }
     {

@@ -3,7 +3,7 @@
 use crate::asserting::{made, same};
 use crate::texts::caps;
 use capbits::{CapSet, ClientId, Ino, Refusal};
-use captable::{CapTable, Entry, Holder, Holders, Walk};
+use captable::{AddError, CapTable, Entry, Holder, Holders, Walk};
 use std::alloc::AllocError;
 use std::process::Abort;
 
@@ -32,6 +32,8 @@ enum Step {
     Tell(Holder),
     // It gives these back.
     Release(Holder, &'static str, Result<(), Refusal>),
+    // It acknowledges the message of this number, where these are being revoked.
+    Ack(Holder, u64, &'static str, Result<(), Refusal>),
     Touch(Holder),
     DropClient(u32),
     // So many entries are recalled, which are these.
@@ -59,14 +61,11 @@ type At = (&'static str, usize);
 
 /// Makes the entry where there is none. Answers why it can't be made.
 pub fn open(rt: &impl Abort, table: &mut CapTable, holder: Holder) -> Option<Refusal> {
-    let refusal = table.open_refusal();
-    if table.find(holder.client, holder.ino).is_some() {
-        return Some(Refusal::Exists);
+    match table.open_entry(holder.client, holder.ino) {
+        Ok(()) => None,
+        Err(AddError::Refused(refusal)) => Some(refusal),
+        Err(AddError::NoMemory) => panic!(rt; "no memory: {holder:?}"),
     }
-    if refusal.is_none() && table.made() < u64::MAX {
-        made(rt, table.open_entry(holder.client, holder.ino), holder);
-    }
-    refusal
 }
 
 fn fill(rt: &impl Abort, table: &mut CapTable) {
@@ -86,12 +85,12 @@ fn renumber(table: &mut CapTable, holder: Holder, before: CapSet, after: CapSet)
 
 /// The client gives these back, unless that is refused.
 pub fn release(table: &mut CapTable, holder: Holder, text: &str) -> Result<(), Refusal> {
-    let (client, ino, caps) = (holder.client, holder.ino, caps(text));
-    if let Some(refusal) = table.release_refusal(client, ino, caps) {
-        return Err(refusal);
-    }
-    table.release(client, ino, caps);
-    Ok(())
+    table.release(holder.client, holder.ino, caps(text))
+}
+
+// It acknowledges the message of this number, where these are being revoked.
+fn ack(table: &mut CapTable, holder: Holder, seq: u64, text: &str) -> Result<(), Refusal> {
+    table.ack(holder.client, holder.ino, seq, caps(text))
 }
 
 // ---- what is seen
@@ -158,6 +157,7 @@ fn take(rt: &impl Abort, table: &mut CapTable, step: &Step, at: At) {
         Renumber(h, before, after) => renumber(table, *h, caps(before), caps(after)),
         Tell(h) => table.tell(h.client, h.ino),
         Release(h, text, want) => same(rt, release(table, *h, text), *want, at),
+        Ack(h, seq, text, want) => same(rt, ack(table, *h, *seq, text), *want, at),
         Touch(h) => table.touch(h.client, h.ino),
         DropClient(client) => table.drop_client(ClientId(*client)),
         Recall(n, want) => recall(rt, table, *n, want, at),
@@ -254,6 +254,33 @@ const SHARED_FILE: &[Step] = &[
     HoldersOf(2, &[(TWO_2, false)]),
 ];
 
+// A client with a file for itself is told twice what it keeps, and hears of the first time alone. Where two tests fail, the
+// first answers, and what is refused changes nothing.
+const ACKNOWLEDGED: &[Step] = &[
+    Ack(ONE_2, 0, "p", Err(Refusal::NoEntry)),
+    Open(ONE_2, None),
+    Want(ONE_2, "pFsxcrwb"),
+    Give(ONE_2, "pFsxcrwb"),
+    Renumber(ONE_2, "-", "pFsxcrwb"),
+    Tell(ONE_2),
+    Renumber(ONE_2, "pFsxcrwb", "pFrw"),
+    Renumber(ONE_2, "pFrw", "pFr"),
+    // What it does not hold is not there to be taken, whatever the number.
+    Ack(ONE_2, 9, "As", Err(Refusal::NothingToAck)),
+    Ack(ONE_2, 2, "Fsxcwb", Err(Refusal::BadSeq)),
+    Ack(ONE_2, 1, "Fsxcwb", Err(Refusal::OldSeq { need: 3 })),
+    Keeps(ONE_2, Some(("pFsxcrwb", "pFsxcrwb", (3, 3, 1), false))),
+    Tell(ONE_2),
+    Ack(ONE_2, 4, "Fsxcwb", Err(Refusal::BadSeq)),
+    Ack(ONE_2, 3, "AsFsxcwb", Ok(())),
+    // It is wanted still.
+    Keeps(ONE_2, Some(("pFr", "pFsxcrwb", (3, 3, 3), false))),
+    Ack(ONE_2, 3, "Fsxcwb", Err(Refusal::NothingToAck)),
+    // With the pin the entry goes.
+    Ack(ONE_2, 3, "pFr", Ok(())),
+    Keeps(ONE_2, None),
+];
+
 const ORDERS: &[Step] = &[
     Order(&[]),
     Open(ONE_2, None),
@@ -338,6 +365,8 @@ const ONE_MORE: Holder = Holder {
 const ALL_ENTRIES: &[Step] = &[
     Fill,
     Open(ONE_MORE, Some(Refusal::Limit)),
+    // Who has an entry needs none.
+    Open(ONE_2, None),
     Give(ONE_2, "p"),
     Release(ONE_2, "p", Ok(())),
     Open(ONE_MORE, None),
@@ -346,6 +375,7 @@ const ALL_ENTRIES: &[Step] = &[
 
 const CASES: &[(&str, &[Step])] = &[
     ("an entry keeps what is held, wanted and told", SHARED_FILE),
+    ("an acknowledgement takes what is revoked", ACKNOWLEDGED),
     ("the orders are kept apart", ORDERS),
     ("recall names the oldest", RECALLS),
     ("a walk over what is due begins behind what is not", DUE),

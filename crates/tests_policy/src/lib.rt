@@ -23,6 +23,8 @@ mod gathers;
 #[cfg(test)]
 mod histories;
 #[cfg(test)]
+mod library;
+#[cfg(test)]
 mod lines;
 #[cfg(test)]
 mod lock_moves;
@@ -54,6 +56,8 @@ mod steps;
 mod texts;
 #[cfg(test)]
 mod trees;
+#[cfg(test)]
+mod triple_lists;
 #[cfg(test)]
 mod viewing;
 #[cfg(test)]

@@ -4,7 +4,7 @@ use crate::asking::{Ask as Asked, core_of};
 use crate::asserting::{made, same};
 use crate::entries::{ONE_2, ONE_3, TWO_2, open, release};
 use crate::texts::{caps, cephfs};
-use capbits::{CapSet, ClientId, Ino, Part, Ticket};
+use capbits::{CapSet, ClientId, Ino, Part, Refusal, Ticket};
 use capscript::{Ask, Core, Locks, Move, Wants, wants_on};
 use capspec::FsName;
 use captable::{CapTable, Holder};
@@ -40,6 +40,10 @@ enum Step {
     Release(Holder, &'static str),
     // A client asks for a part of an inode: the number under which its request waits.
     Waits(Holder, Part, u64),
+    // Its request does not wait.
+    Refuses(Holder, Part, Refusal),
+    // It asks as often as requests may wait.
+    Fill(Holder, Part),
     // The requests of a client are dropped.
     DropRequests(u32),
     // How many requests wait, and the last number that was given.
@@ -55,11 +59,18 @@ use Step::*;
 // Where a test fails: the case, and the number of the step, and of the move in it.
 type At = (&'static str, usize, usize);
 
-fn enqueue(locks: &mut Locks, holder: Holder, part: Part) -> Option<Ticket> {
-    if locks.enqueue_refusal().is_some() || locks.last() == u64::MAX {
-        return None;
+fn enqueue(locks: &mut Locks, holder: Holder, part: Part) -> Result<Ticket, Refusal> {
+    if locks.last() == u64::MAX {
+        return Err(Refusal::Limit);
     }
-    Some(locks.enqueue(holder.client, holder.ino, Ask::Get(part)))
+    locks.enqueue(holder.client, holder.ino, Ask::Get(part))
+}
+
+// As many wait as may, under the numbers from 1 on.
+fn fill(rt: &impl Abort, locks: &mut Locks, holder: Holder, part: Part) {
+    for n in 1..=1024 {
+        same(rt, enqueue(locks, holder, part), Ok(Ticket(n)), n);
+    }
 }
 
 // Makes the next move. A request that is served is the one that the move names.
@@ -127,7 +138,9 @@ fn take(
         Want(h, text) => want(rt, table, *h, caps(text)),
         Issue(h, text) => table.issue(h.client, h.ino, caps(text)),
         Release(h, text) => same(rt, release(table, *h, text), Ok(()), at),
-        Waits(h, part, want) => same(rt, enqueue(locks, *h, *part), Some(Ticket(*want)), at),
+        Waits(h, part, want) => same(rt, enqueue(locks, *h, *part), Ok(Ticket(*want)), at),
+        Refuses(h, part, want) => same(rt, enqueue(locks, *h, *part), Err(*want), at),
+        Fill(h, part) => fill(rt, locks, *h, *part),
         DropRequests(client) => locks.drop_requests_of(ClientId(*client)),
         Queue(count, last) => same(rt, (locks.waiting(), locks.last()), (*count, *last), at),
         Moves(want) => make(rt, (known, table), locks, want, at),
@@ -423,6 +436,18 @@ const REQUESTS: &[Step] = &[
     Queue(0, 4),
 ];
 
+// Where as many wait as may, one more is refused, and has no number; one that is dropped makes room.
+const FULL: &[Step] = &[
+    Fill(THREE_2, Part::F),
+    Refuses(ONE_2, Part::A, Refusal::Limit),
+    Queue(1024, 1024),
+    DropRequests(1),
+    Refuses(ONE_2, Part::A, Refusal::Limit),
+    DropRequests(3),
+    Waits(ONE_2, Part::A, 1025),
+    Queue(1, 1025),
+];
+
 const COMING_AND_GOING: &[Step] = &[
     Lock(1, Part::F, None),
     Lock(2, Part::A, SYNC),
@@ -478,6 +503,7 @@ const CASES: &[(&str, &[Step])] = &[
     ),
     ("moves come in their order", IN_ORDER),
     ("requests wait under numbers", REQUESTS),
+    ("no more than 1,024 requests wait", FULL),
     (
         "an inode has locks from its making to its end",
         COMING_AND_GOING,

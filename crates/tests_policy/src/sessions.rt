@@ -1,11 +1,11 @@
-//! Sessions: what is kept of each client, and a copy of them.
+//! Sessions: what is kept of each client, a copy of them, and what each call on them is refused as.
 
 use crate::asking::{Ask, core_of};
 use crate::asserting::{made, present, same};
-use crate::texts::line_of;
-use capbits::ClientId;
+use crate::texts::{caller_of, grants_of, line_of};
+use capbits::{ClientId, Refusal};
 use capspec::Flags4;
-use sessiontab::{Connected, MAX_BLOCKED, MAX_SESSIONS, Sessions, Status};
+use sessiontab::{Connected, MAX_BLOCKED, MAX_SESSIONS, SessionError, Sessions, Status};
 use std::alloc::Global;
 use std::process::Abort;
 
@@ -72,4 +72,116 @@ fn each_client_has_its_own_session(rt: HostRuntime) {
     }
     same_in_a_copy(&rt, rt.alloc(), core.sessions().connected());
     drop(core);
+}
+
+// ---- calls that answer their refusals
+
+// What is asked, of a client.
+#[derive(Clone, Copy)]
+enum Call {
+    Open,
+    Close,
+    Stale,
+    Renew,
+    Regrant,
+    Evict,
+    Unblock,
+}
+
+use Call::*;
+
+fn refused(rt: &impl Abort, done: Result<(), SessionError>) -> Option<Refusal> {
+    match done {
+        Ok(()) => None,
+        Err(SessionError::Refused(refusal)) => Some(refusal),
+        Err(SessionError::NoMemory) => panic!(rt; "no memory"),
+    }
+}
+
+fn opened(
+    rt: &(impl Abort + AllocGlobal),
+    sessions: &mut Sessions,
+    client: ClientId,
+) -> Option<Refusal> {
+    let caller = caller_of(rt, (client.0, 0, &[]));
+    let grants = grants_of(rt, "allow rw");
+    refused(rt, sessions.open_session(client, caller, grants))
+}
+
+fn regranted(
+    rt: &(impl Abort + AllocGlobal),
+    sessions: &mut Sessions,
+    client: ClientId,
+) -> Option<Refusal> {
+    match sessions.regrant(client, grants_of(rt, "allow r")) {
+        Ok(()) => None,
+        Err((_no_session, _grants)) => Some(Refusal::NoSession),
+    }
+}
+
+// Makes the call, and answers what it is refused as.
+fn answer(
+    rt: &(impl Abort + AllocGlobal),
+    sessions: &mut Sessions,
+    call: Call,
+    number: u32,
+) -> Option<Refusal> {
+    let client = ClientId(number);
+    match call {
+        Open => opened(rt, sessions, client),
+        Close => sessions.close_session(client).err(),
+        Stale => sessions.mark_stale(client).err(),
+        Renew => sessions.renew(client).err(),
+        Regrant => regranted(rt, sessions, client),
+        Evict => refused(rt, sessions.evict(client)),
+        Unblock => sessions.unblock(client).err(),
+    }
+}
+
+// The calls, each by the clients of a range, and what they are refused as.
+type Calls = &'static [(Call, (u32, u32), Option<Refusal>)];
+
+// Where two tests fail, the first answers.
+const REFUSALS: Calls = &[
+    (Close, (1, 1), Some(Refusal::NoSession)),
+    (Stale, (1, 1), Some(Refusal::NoSession)),
+    (Renew, (1, 1), Some(Refusal::NoSession)),
+    (Regrant, (1, 1), Some(Refusal::NoSession)),
+    (Evict, (1, 1), Some(Refusal::NoSession)),
+    (Unblock, (1, 1), Some(Refusal::NotBlocked)),
+    (Open, (1, 64), None),
+    (Open, (1, 1), Some(Refusal::SessionOpen)),
+    (Open, (65, 65), Some(Refusal::Limit)),
+    (Renew, (1, 1), Some(Refusal::NotStale)),
+    (Stale, (1, 1), None),
+    (Stale, (1, 1), Some(Refusal::SessionStale)),
+    (Open, (1, 1), Some(Refusal::SessionOpen)),
+    (Regrant, (1, 1), None),
+    (Renew, (1, 1), None),
+    (Evict, (1, 1), None),
+    (Evict, (1, 1), Some(Refusal::NoSession)),
+    (Open, (65, 65), None),
+    (Open, (1, 1), Some(Refusal::Blocklisted)),
+    (Close, (2, 65), None),
+    (Open, (1, 1), Some(Refusal::Blocklisted)),
+    (Unblock, (1, 1), None),
+    (Unblock, (1, 1), Some(Refusal::NotBlocked)),
+    (Open, (1, 1), None),
+    (Regrant, (2, 2), Some(Refusal::NoSession)),
+];
+
+fn plays(rt: &(impl Abort + AllocGlobal), calls: Calls) {
+    let mut sessions = made(rt, Sessions::new(rt.alloc()), "sessions");
+    for (nth, (asked, (first, last), wanted)) in calls.iter().enumerate() {
+        for client in *first..=*last {
+            let found = answer(rt, &mut sessions, *asked, client);
+            same(rt, found, *wanted, (nth, client));
+        }
+    }
+    drop(sessions);
+}
+
+#[test]
+fn what_is_refused_is_named(rt: HostRuntime) {
+    plays(&rt, REFUSALS);
 }

@@ -22,10 +22,10 @@ returns-in-Want-clause-known c =
 
 pub returns-in-Ack-clause-known : goal.returns-in-Ack-clause-known
 returns-in-Ack-clause-known c =
-    let was : WasThere c.args.table.now c.ack.new.self = subst (WasThere c.args.table.now) (sym c.ack.ensures) (there-cond (has c.args.revoked P) c.args.table.now c.args.holder (taken c.args.revoked)) in
-    still-there c.args.table.now c.ack.new.self c.args.known.now.sets c.remove_unheld.new.self.sets (λ k e there. ap is_some (was k e there).1) c.remove_unheld.ensures
+    let was : WasThere c.args.table.now c.ack_tested.new.self = subst (WasThere c.args.table.now) (sym c.ack_tested.ensures) (there-cond (has c.args.revoked P) c.args.table.now c.args.holder (taken c.args.revoked)) in
+    still-there c.args.table.now c.ack_tested.new.self c.args.known.now.sets c.remove_unheld.new.self.sets (λ k e there. ap is_some (was k e there).1) c.remove_unheld.ensures
 
 pub returns-in-Release-clause-known : goal.returns-in-Release-clause-known
 returns-in-Release-clause-known c =
-    let was : WasThere c.args.table.now c.release.new.self = subst (WasThere c.args.table.now) (sym c.release.ensures) (there-cond (has c.in-Release.caps P) c.args.table.now c.args.holder (given_back c.in-Release.caps)) in
-    still-there c.args.table.now c.release.new.self c.args.known.now.sets c.remove_unheld-in-Release.new.self.sets (λ k e there. ap is_some (was k e there).1) c.remove_unheld-in-Release.ensures
+    let was : WasThere c.args.table.now c.release_tested.new.self = subst (WasThere c.args.table.now) (sym c.release_tested.ensures) (there-cond (has c.in-Release.caps P) c.args.table.now c.args.holder (given_back c.in-Release.caps)) in
+    still-there c.args.table.now c.release_tested.new.self c.args.known.now.sets c.remove_unheld-in-Release.new.self.sets (λ k e there. ap is_some (was k e there).1) c.remove_unheld-in-Release.ensures

@@ -22,7 +22,7 @@ use Rattle.capsteps.proofs.Capnotes.Noting.{changes-all, changes-still}
 use Rattle.capsteps.specs.Caprules.Sound.{IsSound}
 use Rattle.capcore.proofs.Stops.{asking-at, stopped-answered}
 use Rattle.capcore.proofs.world.World.ask.Goals as goal
-use Rattle.capcore.proofs.world.World.ask.Goals.{After-waiting-waiting, After-enqueue-ticket, After-close_with}
+use Rattle.capcore.proofs.world.World.ask.Goals.{After-waiting-waiting, After-enqueue_tested-ticket, After-close_with}
 
 -- ---- a request that is stopped
 
@@ -53,13 +53,13 @@ module _ (c : After-waiting-waiting) where
   free = sym (c.ask_stop.ensures c.self.inside.table) ∙ c.in_default.is
 
 -- what waits is a copy of it
-module _ (c : After-enqueue-ticket) where
-  queued : c.enqueue-ticket.new.self ≡ with_request c.self.inside.locks c.args.client c.args.ino (ask_of c.args.asked)
-  queued = c.enqueue-ticket.ensures.queued ∙ ap (with_request c.self.inside.locks c.args.client c.args.ino) c.in_ok-ask.ensures
+module _ (c : After-enqueue_tested-ticket) where
+  queued : c.enqueue_tested-ticket.new.self ≡ with_request c.self.inside.locks c.args.client c.args.ino (ask_of c.args.asked)
+  queued = c.enqueue_tested-ticket.ensures.queued ∙ ap (with_request c.self.inside.locks c.args.client c.args.ino) c.in_ok-ask.ensures
 
-pub enqueue-ticket-requires-clause-room : goal.enqueue-ticket-requires-clause-room
-enqueue-ticket-requires-clause-room g =
-    let c = (goal.at.enqueue-ticket-requires-clause-room g).After-waiting-waiting in
+pub enqueue_tested-ticket-requires-clause-room : goal.enqueue_tested-ticket-requires-clause-room
+enqueue_tested-ticket-requires-clause-room g =
+    let c = (goal.at.enqueue_tested-ticket-requires-clause-room g).After-waiting-waiting in
     room-left c.self.inside.locks (asking-room (old c).scene (k c) (ask c) (free c))
 
 -- ---- while it waits
@@ -67,7 +67,7 @@ enqueue-ticket-requires-clause-room g =
 pub end_at_one-requires-clause-quiet : goal.end_at_one-requires-clause-quiet
 end_at_one-requires-clause-quiet g =
     let c = (goal.at.end_at_one-requires-clause-quiet g).After-waiting-waiting in
-    wait-quiet (old c) (k c) (ask c) g.self.invariant.0 g.oldest-oldest.ensures.sound g.waiting-waiting.ensures.sound (free c) g.enqueue-ticket.new.self (queued (goal.at.end_at_one-requires-clause-quiet g).After-enqueue-ticket)
+    wait-quiet (old c) (k c) (ask c) g.self.invariant.0 g.oldest-oldest.ensures.sound g.waiting-waiting.ensures.sound (free c) g.enqueue_tested-ticket.new.self (queued (goal.at.end_at_one-requires-clause-quiet g).After-enqueue_tested-ticket)
 
 pub end_at_one-requires-clause-room : goal.end_at_one-requires-clause-room
 end_at_one-requires-clause-room g = λ j f there. ap is_some (g.self.invariant.2 j f there)
@@ -76,7 +76,7 @@ pub close_with-requires-clause-differ : goal.close_with-requires-clause-differ
 close_with-requires-clause-differ g =
     let c = (goal.at.close_with-requires-clause-differ g).After-waiting-waiting in
     let last : Scene = record { fs = g.self.inside.fs; tree = g.end_at_one.new.tree; sessions = g.self.inside.sessions; table = g.end_at_one.new.table; locks = g.end_at_one.new.locks } in
-    wait-differ (old c) (k c) (ask c) g.self.invariant.0 g.oldest-oldest.ensures.sound g.waiting-waiting.ensures.sound (free c) g.enqueue-ticket.new.self (queued (goal.at.close_with-requires-clause-differ g).After-enqueue-ticket)
+    wait-differ (old c) (k c) (ask c) g.self.invariant.0 g.oldest-oldest.ensures.sound g.waiting-waiting.ensures.sound (free c) g.enqueue_tested-ticket.new.self (queued (goal.at.close_with-requires-clause-differ g).After-enqueue_tested-ticket)
     _ _ g.self.invariant.2 last g.end_at_one.new.endings.told.items
     g.end_at_one.ensures.ends
 
@@ -86,8 +86,8 @@ module _ (g : After-close_with) where
   abbrev c : After-waiting-waiting
   c = (goal.at.invariant_of-self-2 g).After-waiting-waiting
 
-  copied : g.enqueue-ticket.new.self ≡ with_request g.self.inside.locks g.args.client g.args.ino (ask c)
-  copied = queued (goal.at.invariant_of-self-2 g).After-enqueue-ticket
+  copied : g.enqueue_tested-ticket.new.self ≡ with_request g.self.inside.locks g.args.client g.args.ino (ask c)
+  copied = queued (goal.at.invariant_of-self-2 g).After-enqueue_tested-ticket
 
   abbrev last : Scene
   last = record { fs = g.self.inside.fs; tree = g.end_at_one.new.tree; sessions = g.self.inside.sessions; table = g.end_at_one.new.table; locks = g.end_at_one.new.locks }
@@ -97,27 +97,27 @@ module _ (g : After-close_with) where
 
   whole : (e : Event) → asks_for e ≡ Some (k c, ask c) → IsAnswered (old c) e g.close_with.result new
   whole =
-      wait-answered (old c) (k c) (ask c) g.self.invariant.0 g.oldest-oldest.ensures.sound g.waiting-waiting.ensures.sound (free c) g.enqueue-ticket.new.self copied
+      wait-answered (old c) (k c) (ask c) g.self.invariant.0 g.oldest-oldest.ensures.sound g.waiting-waiting.ensures.sound (free c) g.enqueue_tested-ticket.new.self copied
       _ _ g.self.invariant.2 last g.end_at_one.new.endings.told.items
       g.end_at_one.ensures.ends
-      g.end_at_one.ensures.table g.enqueue-ticket.result g.enqueue-ticket.ensures.ticket g.close_with.result g.close_with.new.messages.items
+      g.end_at_one.ensures.table g.enqueue_tested-ticket.result g.enqueue_tested-ticket.ensures.ticket g.close_with.result g.close_with.new.messages.items
       g.close_with.ensures.reply g.close_with.ensures.kept g.close_with.ensures.ended
-      (g.close_with.ensures.items ∙ ap (λ (ms : List Ended). ms ++ but_for g.enqueue-ticket.result g.end_at_one.new.endings.told.items) g.reserve.ensures.items)
+      (g.close_with.ensures.items ∙ ap (λ (ms : List Ended). ms ++ but_for g.enqueue_tested-ticket.result g.end_at_one.new.endings.told.items) g.reserve.ensures.items)
 
 pub invariant_of-self-2 : goal.invariant_of-self-2
 invariant_of-self-2 g =
     let asked = some-asking (k (c g)) (ask (c g)) in
     let w = whole g asked.0 asked.1 in
-    let ticket = g.enqueue-ticket.result in
+    let ticket = g.enqueue_tested-ticket.result in
     let told = g.end_at_one.new.endings.told.items in
     let items : length g.close_with.new.messages.items ≡ length g.self.inside.messages.items + length (but_for ticket told) =
     ap length g.close_with.ensures.items ∙ length-append g.reserve.new.self.items (but_for ticket told) ∙ ap (λ (ms : List Ended). length ms + length (but_for ticket told)) g.reserve.ensures.items in
     let few = few-others ticket told in
-    let queue : length g.enqueue-ticket.new.self.queue ≡ length g.self.inside.locks.queue + 1 =
+    let queue : length g.enqueue_tested-ticket.new.self.queue ≡ length g.self.inside.locks.queue + 1 =
     ap (λ (l : LockMap). length l.queue) (copied g) ∙ length-append g.self.inside.locks.queue (next_request g.self.inside.locks g.args.client g.args.ino (ask (c g)) ∷ []) in (
       w.sound,
       omega (arith, items, few, queue, g.in_default-reserve.ensures.ok, g.close_with.ensures.room, g.end_at_one.ensures.count, g.waiting-waiting.ensures.waiting),
-      wait-known (old (c g)) (k (c g)) (ask (c g)) g.self.invariant.0 g.oldest-oldest.ensures.sound g.waiting-waiting.ensures.sound (free (c g)) g.enqueue-ticket.new.self (copied g)
+      wait-known (old (c g)) (k (c g)) (ask (c g)) g.self.invariant.0 g.oldest-oldest.ensures.sound g.waiting-waiting.ensures.sound (free (c g)) g.enqueue_tested-ticket.new.self (copied g)
           _ _ g.self.invariant.2 (last g) g.end_at_one.new.endings.told.items g.end_at_one.ensures.ends,
     )
 

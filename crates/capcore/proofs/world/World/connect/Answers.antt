@@ -10,7 +10,7 @@ invariant_of-self-2 c =
     let passed : first_failing (new_session_tests c.self.inside.sessions c.args.client.0) ≡ None =
     subst (λ (s : State). first_failing (new_session_tests s.scene.sessions c.args.client.0) ≡ None) (sym c.self.view_is) c.requires.passed in
     let sound = c.self.invariant.0 in
-    rw c.in_ok-open_session.ensures.ok (
+    rw c.in_ok-open_session_tested.ensures.ok (
       session-sound sound c.args.client.0 c.copy-2.result c.in_ok-grants.grants passed,
       c.self.invariant.1,
       session-known sound c.self.inside.known.sets c.self.invariant.2 c.args.client.0 c.copy-2.result c.in_ok-grants.grants passed,

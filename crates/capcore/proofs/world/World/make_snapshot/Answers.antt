@@ -23,8 +23,8 @@ returns-in-Some-new_snapshot_refusal-clause-direct c =
     snapshot-refused c.args.self.now c.args.client c.args.ino c.args.name.now (access-at _ c.args.self.now c.args.client c.args.ino.0 Snapshot c.access_stop.result c.self.view_is (c.access_stop.ensures c.self.inside.table c.self.inside.locks) ∙ c.in_default.is) c.in-Some-new_snapshot_refusal.refusal
     (ap (λ s. first_failing (new_snapshot_tests s.scene.tree c.args.ino.0 c.args.name.now)) (sym c.self.view_is) ∙ sym c.new_snapshot_refusal.ensures ∙ c.in-Some-new_snapshot_refusal.is)
 
-pub snap_add-requires : goal.snap_add-requires
-snap_add-requires c = record {
+pub snap_add_tested-requires : goal.snap_add_tested-requires
+snap_add_tested-requires c = record {
   passed = pass-both (inode_tests c.self.inside.tree c.args.ino.0) (new_snapshot_tests c.self.inside.tree c.args.ino.0 c.args.name.now)
       (inode-passed (scene c.self.inside.fs c.self.inside.tree c.self.inside.sessions c.self.inside.table c.self.inside.locks) c.args.client c.args.ino.0 Snapshot
       (sym (c.access_stop.ensures c.self.inside.table c.self.inside.locks) ∙ c.in_default.is))
@@ -34,7 +34,7 @@ snap_add-requires c = record {
 pub invariant_of-self-2 : goal.invariant_of-self-2
 invariant_of-self-2 c =
     let sound = c.self.invariant.0 in
-    rw c.in_ok-snap_add.ensures.ok (
+    rw c.in_ok-snap_add_tested.ensures.ok (
       changed-sound sound (with_snapshot c.args.name.now) c.args.ino.0 (λ n. refl) (λ n. refl),
       c.self.invariant.1,
       changed-known sound c.self.inside.known.sets c.self.invariant.2 (with_snapshot c.args.name.now) c.args.ino.0 (λ n. refl) (λ n. refl),
@@ -42,6 +42,6 @@ invariant_of-self-2 c =
 
 pub returns-clause-seen : goal.returns-clause-seen
 returns-clause-seen c =
-    subst (λ (s : State). Shows (view_of s) (view c.snap_add.new.self c.self.inside.sessions.sessions)) c.self.view_is
-    (shows-tree c.self.inside.tree c.snap_add.new.self c.self.inside.sessions.sessions
-    (subst (IsLike c.self.inside.tree) (sym c.in_ok-snap_add.ensures.ok) (like-unseen c.self.inside.tree (with_snapshot c.args.name.now) c.args.ino.0 (λ n. refl))))
+    subst (λ (s : State). Shows (view_of s) (view c.snap_add_tested.new.self c.self.inside.sessions.sessions)) c.self.view_is
+    (shows-tree c.self.inside.tree c.snap_add_tested.new.self c.self.inside.sessions.sessions
+    (subst (IsLike c.self.inside.tree) (sym c.in_ok-snap_add_tested.ensures.ok) (like-unseen c.self.inside.tree (with_snapshot c.args.name.now) c.args.ino.0 (λ n. refl))))

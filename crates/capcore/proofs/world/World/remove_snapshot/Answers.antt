@@ -23,8 +23,8 @@ returns-in-Some-old_snapshot_refusal-clause-direct c =
     snapshot-kept c.args.self.now c.args.client c.args.ino c.args.name.now (access-at _ c.args.self.now c.args.client c.args.ino.0 Snapshot c.access_stop.result c.self.view_is (c.access_stop.ensures c.self.inside.table c.self.inside.locks) ∙ c.in_default.is) c.in-Some-old_snapshot_refusal.refusal
     (ap (λ s. first_failing (old_snapshot_tests s.scene.tree c.args.ino.0 c.args.name.now)) (sym c.self.view_is) ∙ sym c.old_snapshot_refusal.ensures ∙ c.in-Some-old_snapshot_refusal.is)
 
-pub snap_remove-requires : goal.snap_remove-requires
-snap_remove-requires c = record {
+pub snap_remove_tested-requires : goal.snap_remove_tested-requires
+snap_remove_tested-requires c = record {
   passed = pass-both (inode_tests c.self.inside.tree c.args.ino.0) (old_snapshot_tests c.self.inside.tree c.args.ino.0 c.args.name.now)
       (inode-passed (scene c.self.inside.fs c.self.inside.tree c.self.inside.sessions c.self.inside.table c.self.inside.locks) c.args.client c.args.ino.0 Snapshot
       (sym (c.access_stop.ensures c.self.inside.table c.self.inside.locks) ∙ c.in_default.is))
@@ -34,7 +34,7 @@ snap_remove-requires c = record {
 pub invariant_of-self : goal.invariant_of-self
 invariant_of-self c =
     let sound = c.self.invariant.0 in
-    rw c.snap_remove.ensures (
+    rw c.snap_remove_tested.ensures (
       changed-sound sound (without_snapshot c.args.name.now) c.args.ino.0 (λ n. refl) (λ n. refl),
       c.self.invariant.1,
       changed-known sound c.self.inside.known.sets c.self.invariant.2 (without_snapshot c.args.name.now) c.args.ino.0 (λ n. refl) (λ n. refl),
@@ -42,6 +42,6 @@ invariant_of-self c =
 
 pub returns-clause-seen : goal.returns-clause-seen
 returns-clause-seen c =
-    subst (λ (s : State). Shows (view_of s) (view c.snap_remove.new.self c.self.inside.sessions.sessions)) c.self.view_is
-    (shows-tree c.self.inside.tree c.snap_remove.new.self c.self.inside.sessions.sessions
-    (subst (IsLike c.self.inside.tree) (sym c.snap_remove.ensures) (like-unseen c.self.inside.tree (without_snapshot c.args.name.now) c.args.ino.0 (λ n. refl))))
+    subst (λ (s : State). Shows (view_of s) (view c.snap_remove_tested.new.self c.self.inside.sessions.sessions)) c.self.view_is
+    (shows-tree c.self.inside.tree c.snap_remove_tested.new.self c.self.inside.sessions.sessions
+    (subst (IsLike c.self.inside.tree) (sym c.snap_remove_tested.ensures) (like-unseen c.self.inside.tree (without_snapshot c.args.name.now) c.args.ino.0 (λ n. refl))))

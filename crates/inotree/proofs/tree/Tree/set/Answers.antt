@@ -1,10 +1,22 @@
-use Rattle.std.proofs.Common.{refl}
-use Rattle.inotree.specs.Inodes.{with_setting}
-use Rattle.inotree.proofs.Changes.{kept-any, kept_at, setting_kind, setting_site}
-use Rattle.inotree.proofs.Inner.{setting_good}
+use Rattle.std.proofs.Common.{sym, ◌∙◌}
+use Rattle.inotree.specs.Tests.{inode_tests, setting_tests}
+use Rattle.inotree.proofs.FirstOf.{first-both}
 use Rattle.inotree.proofs.tree.Tree.set.Goals as goal
 
-pub invariant_of-self : goal.invariant_of-self
-invariant_of-self c =
-    kept_at c.self.inside.heights _ _ c.self.inside.last _ _ c.set.ensures refl
-    (kept-any c.self.inside.heights c.self.inside.inodes c.self.inside.last c.args.ino.0 (with_setting c.args.setting) c.self.inside.names c.self.invariant.0 c.self.invariant.1 (setting_kind c.args.setting) (setting_site c.args.setting) (setting_good c.args.setting))
+pub returns-in-Some-clause-refused : goal.returns-in-Some-clause-refused
+returns-in-Some-clause-refused c =
+    let t = c.args.self.now in
+    let i = c.args.ino.0 in
+    sym c.in-Some.is ∙ first-both (inode_tests t i) (setting_tests t i c.args.setting) _ _ _ c.or.ensures c.inode_refusal-here.ensures c.setting_refusal.ensures
+
+pub set_tested-requires : goal.set_tested-requires
+set_tested-requires c =
+    let t = c.args.self.now in
+    let i = c.args.ino.0 in
+    record { passed = sym (first-both (inode_tests t i) (setting_tests t i c.args.setting) _ _ _ c.or.ensures c.inode_refusal-here.ensures c.setting_refusal.ensures) ∙ c.in_default.is }
+
+pub returns-clause-refused : goal.returns-clause-refused
+returns-clause-refused c =
+    let t = c.args.self.now in
+    let i = c.args.ino.0 in
+    sym c.in_default.is ∙ first-both (inode_tests t i) (setting_tests t i c.args.setting) _ _ _ c.or.ensures c.inode_refusal-here.ensures c.setting_refusal.ensures

@@ -1,20 +1,28 @@
-use Rattle.std.proofs.Common.{◌≡◌, false, refl, ap, ◌∙◌}
-use Rattle.inotree.specs.Names.{is_bad_attribute}
-use Rattle.capbits.specs.Maps.{change_at}
-use Rattle.inotree.specs.Inodes.{InodeMap, with_attribute}
-use Rattle.inotree.proofs.Changes.{kept-any, kept_at}
-use Rattle.inotree.proofs.Inner.{attribute_good}
-use Rattle.inotree.proofs.Passing.{passed-set_xattr}
-use Rattle.inotree.proofs.Results.{either}
+use Rattle.std.proofs.Common.{sym, ◌∙◌}
+use Rattle.inotree.specs.Tests.{inode_tests, new_attribute_tests}
+use Rattle.inotree.proofs.FirstOf.{first-both}
 use Rattle.inotree.proofs.tree.Tree.set_xattr.Goals as goal
 
-pub invariant_of-self : goal.invariant_of-self
-invariant_of-self c =
-    let m : InodeMap = c.self.inside.inodes in
-    let passed = passed-set_xattr c.args.self.now c.args.ino.0 c.args.name.now c.args.value.now c.requires.passed in
-    let good : is_bad_attribute c.of.result ≡ false = ap is_bad_attribute c.of.ensures ∙ passed in
-    either c.set_attribute.result c.set_attribute.ensures.ok c.set_attribute.ensures.err
-    (λ (done : c.set_attribute.new.self ≡ change_at (with_attribute c.of.result c.in_ok-value.value) m c.args.ino.0).
-    kept_at c.self.inside.heights _ _ c.self.inside.last _ _ done refl
-    (kept-any c.self.inside.heights m c.self.inside.last c.args.ino.0 (with_attribute c.of.result c.in_ok-value.value) c.self.inside.names c.self.invariant.0 c.self.invariant.1 (λ y. refl) (λ y. refl) (attribute_good c.of.result c.in_ok-value.value good)))
-    (λ (same : c.set_attribute.new.self ≡ m). kept_at c.self.inside.heights _ _ c.self.inside.last _ _ same refl (c.self.invariant.0, c.self.invariant.1))
+pub returns-in-Some-clause-refused : goal.returns-in-Some-clause-refused
+returns-in-Some-clause-refused c =
+    let t = c.args.self.now in
+    let i = c.args.ino.0 in
+    sym c.in-Some.is ∙ first-both (inode_tests t i) (new_attribute_tests t i c.args.name.now c.args.value.now) _ _ _ c.or.ensures c.inode_refusal-here.ensures c.new_attribute_refusal.ensures
+
+pub set_xattr_tested-requires : goal.set_xattr_tested-requires
+set_xattr_tested-requires c =
+    let t = c.args.self.now in
+    let i = c.args.ino.0 in
+    record { passed = sym (first-both (inode_tests t i) (new_attribute_tests t i c.args.name.now c.args.value.now) _ _ _ c.or.ensures c.inode_refusal-here.ensures c.new_attribute_refusal.ensures) ∙ c.in_default.is }
+
+pub returns-in_err-set_xattr_tested-clause-refused : goal.returns-in_err-set_xattr_tested-clause-refused
+returns-in_err-set_xattr_tested-clause-refused c =
+    let t = c.args.self.now in
+    let i = c.args.ino.0 in
+    rw c.from_residual.ensures (sym c.in_default.is ∙ first-both (inode_tests t i) (new_attribute_tests t i c.args.name.now c.args.value.now) _ _ _ c.or.ensures c.inode_refusal-here.ensures c.new_attribute_refusal.ensures)
+
+pub returns-clause-refused : goal.returns-clause-refused
+returns-clause-refused c =
+    let t = c.args.self.now in
+    let i = c.args.ino.0 in
+    sym c.in_default.is ∙ first-both (inode_tests t i) (new_attribute_tests t i c.args.name.now c.args.value.now) _ _ _ c.or.ensures c.inode_refusal-here.ensures c.new_attribute_refusal.ensures

@@ -1,20 +1,28 @@
-use Rattle.std.proofs.Common.{◌≡◌, false, refl, ap, ◌∙◌}
-use Rattle.inotree.specs.Names.{is_bad_name}
-use Rattle.capbits.specs.Maps.{change_at}
-use Rattle.inotree.specs.Inodes.{InodeMap, with_snapshot}
-use Rattle.inotree.proofs.Changes.{kept-any, kept_at}
-use Rattle.inotree.proofs.Inner.{snapshot_good}
-use Rattle.inotree.proofs.Passing.{passed-snap_add}
-use Rattle.inotree.proofs.Results.{either}
+use Rattle.std.proofs.Common.{sym, ◌∙◌}
+use Rattle.inotree.specs.Tests.{inode_tests, new_snapshot_tests}
+use Rattle.inotree.proofs.FirstOf.{first-both}
 use Rattle.inotree.proofs.tree.Tree.snap_add.Goals as goal
 
-pub invariant_of-self : goal.invariant_of-self
-invariant_of-self c =
-    let m : InodeMap = c.self.inside.inodes in
-    let passed = passed-snap_add c.args.self.now c.args.ino.0 c.args.name.now c.requires.passed in
-    let good : is_bad_name c.of.result ≡ false = ap is_bad_name c.of.ensures ∙ passed in
-    either c.add_snapshot.result c.add_snapshot.ensures.ok c.add_snapshot.ensures.err
-    (λ (done : c.add_snapshot.new.self ≡ change_at (with_snapshot c.of.result) m c.args.ino.0).
-    kept_at c.self.inside.heights _ _ c.self.inside.last _ _ done refl
-    (kept-any c.self.inside.heights m c.self.inside.last c.args.ino.0 (with_snapshot c.of.result) c.self.inside.names c.self.invariant.0 c.self.invariant.1 (λ y. refl) (λ y. refl) (snapshot_good c.of.result good)))
-    (λ (same : c.add_snapshot.new.self ≡ m). kept_at c.self.inside.heights _ _ c.self.inside.last _ _ same refl (c.self.invariant.0, c.self.invariant.1))
+pub returns-in-Some-clause-refused : goal.returns-in-Some-clause-refused
+returns-in-Some-clause-refused c =
+    let t = c.args.self.now in
+    let i = c.args.ino.0 in
+    sym c.in-Some.is ∙ first-both (inode_tests t i) (new_snapshot_tests t i c.args.name.now) _ _ _ c.or.ensures c.inode_refusal-here.ensures c.new_snapshot_refusal.ensures
+
+pub snap_add_tested-requires : goal.snap_add_tested-requires
+snap_add_tested-requires c =
+    let t = c.args.self.now in
+    let i = c.args.ino.0 in
+    record { passed = sym (first-both (inode_tests t i) (new_snapshot_tests t i c.args.name.now) _ _ _ c.or.ensures c.inode_refusal-here.ensures c.new_snapshot_refusal.ensures) ∙ c.in_default.is }
+
+pub returns-in_err-snap_add_tested-clause-refused : goal.returns-in_err-snap_add_tested-clause-refused
+returns-in_err-snap_add_tested-clause-refused c =
+    let t = c.args.self.now in
+    let i = c.args.ino.0 in
+    rw c.from_residual.ensures (sym c.in_default.is ∙ first-both (inode_tests t i) (new_snapshot_tests t i c.args.name.now) _ _ _ c.or.ensures c.inode_refusal-here.ensures c.new_snapshot_refusal.ensures)
+
+pub returns-clause-refused : goal.returns-clause-refused
+returns-clause-refused c =
+    let t = c.args.self.now in
+    let i = c.args.ino.0 in
+    sym c.in_default.is ∙ first-both (inode_tests t i) (new_snapshot_tests t i c.args.name.now) _ _ _ c.or.ensures c.inode_refusal-here.ensures c.new_snapshot_refusal.ensures

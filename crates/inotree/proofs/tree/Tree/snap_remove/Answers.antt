@@ -1,18 +1,22 @@
-use Rattle.std.proofs.Common.{refl, subst}
-use Rattle.inotree.specs.Inodes.{without_snapshot}
-use Rattle.inotree.specs.Tree.{IsTree}
-use Rattle.inotree.proofs.Changes.{kept-any, kept_at}
-use Rattle.inotree.proofs.Inner.{no_snapshot_good}
-use Rattle.inotree.proofs.Passing.{short_snapshot}
+use Rattle.std.proofs.Common.{sym, ◌∙◌}
+use Rattle.inotree.specs.Tests.{inode_tests, old_snapshot_tests}
+use Rattle.inotree.proofs.FirstOf.{first-both}
 use Rattle.inotree.proofs.tree.Tree.snap_remove.Goals as goal
 
-pub invariant_of-self : goal.invariant_of-self
-invariant_of-self c =
-    kept_at c.self.inside.heights _ _ c.self.inside.last _ _ c.remove_snapshot.ensures refl
-    (kept-any c.self.inside.heights c.self.inside.inodes c.self.inside.last c.args.ino.0 (without_snapshot c.in-Some.name) c.self.inside.names c.self.invariant.0 c.self.invariant.1 (λ y. refl) (λ y. refl) (no_snapshot_good c.in-Some.name))
+pub returns-in-Some-clause-refused : goal.returns-in-Some-clause-refused
+returns-in-Some-clause-refused c =
+    let t = c.args.self.now in
+    let i = c.args.ino.0 in
+    sym c.in-Some.is ∙ first-both (inode_tests t i) (old_snapshot_tests t i c.args.name.now) _ _ _ c.or.ensures c.inode_refusal-here.ensures c.old_snapshot_refusal.ensures
 
-pub unreachable-requires : goal.unreachable-requires
-unreachable-requires c =
-    let fits = short_snapshot c.args.self.now (subst IsTree c.self.view_is c.self.invariant.0) c.args.ino.0 c.args.name.now c.requires.passed in
-    let read = c.in_default.ensures.valid.1 fits in
-    cc
+pub snap_remove_tested-requires : goal.snap_remove_tested-requires
+snap_remove_tested-requires c =
+    let t = c.args.self.now in
+    let i = c.args.ino.0 in
+    record { passed = sym (first-both (inode_tests t i) (old_snapshot_tests t i c.args.name.now) _ _ _ c.or.ensures c.inode_refusal-here.ensures c.old_snapshot_refusal.ensures) ∙ c.in_default.is }
+
+pub returns-clause-refused : goal.returns-clause-refused
+returns-clause-refused c =
+    let t = c.args.self.now in
+    let i = c.args.ino.0 in
+    sym c.in_default.is ∙ first-both (inode_tests t i) (old_snapshot_tests t i c.args.name.now) _ _ _ c.or.ensures c.inode_refusal-here.ensures c.old_snapshot_refusal.ensures

@@ -1,5 +1,0 @@
-use Rattle.sessiontab.proofs.Sound.{sound-unblock}
-use Rattle.sessiontab.proofs.table.Sessions.unblock.Goals as goal
-
-pub invariant_of-self : goal.invariant_of-self
-invariant_of-self c = rw c.remove.ensures.out (sound-unblock _ _ _ c.self.invariant)

@@ -1,0 +1,24 @@
+//! Why a call on the sessions was not carried out.
+ghost use Rattle.std.specs.Prelude.{◌≡◌};
+
+use capbits::Refusal;
+use std::alloc::AllocError;
+
+/// Why a call that takes memory was not carried out. Nothing has changed.
+#[derive(Clone, Copy)]
+pub enum SessionError {
+    /// A test fails, which is the first that does.
+    Refused(Refusal),
+    /// Every test is passed, and there was no memory left.
+    NoMemory,
+}
+
+impl From<AllocError> for SessionError {
+    ghost use Rattle.sessiontab.specs.declared.error.SessionError.TheVariants as errors;
+
+    ghost from_gives = { λ _ error. error ≡ errors.NoMemory };
+
+    fn from(_no_memory: AllocError) -> SessionError {
+        SessionError::NoMemory
+    }
+}

@@ -1,0 +1,130 @@
+//! The layers, each used by itself: the examples of docs/LIBRARY.md.
+
+use crate::asserting::{made, same};
+use crate::texts::{attr_of, caller_of, caps, cephfs, grants_of};
+use capbits::{Cap, CapSet, Caller, ClientId, Ino, Part, PassId, Refusal};
+use capgrant::{Access, Attr, Verdict, verdict};
+use capscript::{Core, Reply, Stop, file_system, read_line};
+use capspec::{FsName, Grants};
+use captable::{AddError, CapTable};
+use inotree::{ROOT, Tree, TreeError};
+use locktable::{Head, State, row, target};
+use sessiontab::{SessionError, Sessions};
+use std::alloc::Global;
+use std::process::Abort;
+
+// The number of the grant that lets a caller write at a path.
+fn grant_to_write(
+    grants: &Grants,
+    fs: &FsName,
+    caller: &Caller,
+    path: &[&[u8]],
+    attr: &Attr,
+) -> Option<u32> {
+    match verdict(grants, fs, caller, path, attr, Access::Write) {
+        Verdict::Allowed { grant } => Some(grant),
+        Verdict::Denied { rules: _ } => None,
+    }
+}
+
+// What two clients may hold of a file's content that the first alone wants to write.
+fn one_writes(one: ClientId, two: ClientId) -> (CapSet, CapSet) {
+    let wants = CapSet::of(&[Cap::P, Cap::Fr, Cap::Fw]);
+    let state = target(Part::F, State::Sync, Head::Empty, Some((one, wants)), wants);
+    (row(Part::F, state, one), row(Part::F, state, two))
+}
+
+// Makes /a and /a/f, and answers why /a can't be removed.
+fn full_directory(alloc: Global, attr: Attr) -> Result<Option<Refusal>, TreeError> {
+    let mut tree = Tree::new(alloc, attr)?;
+    let dir = tree.mkdir(ROOT, b"a", attr)?;
+    tree.create(dir, b"f", attr)?;
+    Ok(tree.rmdir(dir).err())
+}
+
+// Throws a client out, and answers why its session can't be renewed.
+fn thrown_out(
+    alloc: Global,
+    client: ClientId,
+    caller: Caller,
+    grants: Grants,
+) -> Result<Option<Refusal>, SessionError> {
+    let mut sessions = Sessions::new(alloc)?;
+    sessions.open_session(client, caller, grants)?;
+    sessions.evict(client)?;
+    Ok(sessions.renew(client).err())
+}
+
+// A client gives back what it holds to write, and answers what it still holds.
+fn given_back(alloc: Global, client: ClientId, ino: Ino) -> Result<CapSet, AddError> {
+    let mut table = CapTable::new(alloc)?;
+    table.open_entry(client, ino)?;
+    table.issue(client, ino, CapSet::of(&[Cap::P, Cap::Fr, Cap::Fw]));
+    match table.release(client, ino, CapSet::of(&[Cap::Fw])) {
+        Ok(()) => {}
+        Err(refusal) => return Err(AddError::Refused(refusal)),
+    }
+    match table.find(client, ino) {
+        Some(entry) => Ok(entry.held),
+        None => Ok(CapSet::empty()),
+    }
+}
+
+// The core answers the event that a line says.
+fn answer(core: &mut Core, alloc: Global, line: &str) -> Result<Reply, Stop> {
+    match read_line(alloc, 1, line.as_bytes()) {
+        Ok(Some((_client, event))) => core.apply(PassId(1), event),
+        _ => Err(Stop::NoMemory),
+    }
+}
+
+fn makes_a_file(rt: &impl Abort, alloc: Global, core: &mut Core) {
+    let opened = made(rt, answer(core, alloc, "session 1 10 10 - allow rw"), "opened");
+    same(rt, matches!(opened, Reply::Done), true, "a session");
+    let file = made(rt, answer(core, alloc, "create 1 1 f 0644"), "made");
+    same(rt, matches!(file, Reply::Ino(Ino(2))), true, "a file");
+}
+
+#[test]
+fn grants_are_asked_alone(rt: HostRuntime) {
+    let grants = grants_of(&rt, "allow r, allow rw path=/foo");
+    let (fs, caller) = (cephfs(&rt), caller_of(&rt, (9, 50, &[])));
+    let attr = attr_of(&rt, (7, 50, 0o640));
+    let inside = grant_to_write(&grants, &fs, &caller, &[b"foo"], &attr);
+    let beside = grant_to_write(&grants, &fs, &caller, &[b"food"], &attr);
+    same(&rt, (inside, beside), (Some(2), None), "to write");
+}
+
+#[test]
+fn layers_are_used_alone(rt: HostRuntime) {
+    let (one, two) = (ClientId(1), ClientId(2));
+    let held = (caps("Fsxcrwb"), caps("-"));
+    same(&rt, one_writes(one, two), held, "the lock table");
+    let attr = attr_of(&rt, (0, 0, 0o755));
+    let full = match full_directory(rt.alloc(), attr) {
+        Ok(refusal) => refusal,
+        Err(_error) => None,
+    };
+    same(&rt, full, Some(Refusal::NotEmpty), "the tree");
+    let (caller, grants) = (caller_of(&rt, (9, 50, &[])), grants_of(&rt, "allow rw"));
+    let gone = match thrown_out(rt.alloc(), one, caller, grants) {
+        Ok(refusal) => refusal,
+        Err(_error) => None,
+    };
+    same(&rt, gone, Some(Refusal::NoSession), "the sessions");
+    let left = match given_back(rt.alloc(), one, Ino(2)) {
+        Ok(held) => held,
+        Err(_error) => CapSet::empty(),
+    };
+    same(&rt, left, caps("pFr"), "the table");
+}
+
+#[test]
+fn a_core_is_asked(rt: HostRuntime) {
+    let (fs, tree) = made(&rt, file_system(rt.alloc()), "a file system");
+    let mut core = made(&rt, Core::new(rt.alloc(), fs, tree, 1000), "a core");
+    makes_a_file(&rt, rt.alloc(), &mut core);
+    let child = core.tree().child(ROOT, b"f");
+    same(&rt, child, Some(Ino(2)), "a name");
+    drop(core);
+}
