@@ -7,10 +7,10 @@ ghost use Rattle.caprules.specs.Lockmachine.Policy.{is_granted, failures};
 ghost use Rattle.caprules.specs.Judge.{denial_of};
 ghost use Rattle.caprules.specs.declared.stopped.Stopped.TheVariants as stopped_kind;
 
-use caprules::Stopped;
 use arrayvec::ArrayVec;
 use capbits::Refusal;
 use capgrant::{Access, Rules, Verdict, verdict};
+use caprules::Stopped;
 use capspec::FsName;
 use captable::Holder;
 use inotree::{Names, Tree};

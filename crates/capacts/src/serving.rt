@@ -20,10 +20,9 @@ ghost use Rattle.caprules.specs.Asks as asks;
 ghost use Rattle.capacts.specs.Served.{call_tests, change_call_tests, is_rename};
 
 use crate::judge::{by_test, denial};
-use caprules::Stopped;
 use capbits::{Ino, Part, Refusal};
 use capgrant::Access;
-use caprules::{Ask, Change, Outcome, PartValues, Request, copy_of_rules};
+use caprules::{Ask, Change, Outcome, PartValues, Request, Stopped, copy_of_rules};
 use capspec::FsName;
 use captable::Holder;
 use inotree::{Node, Setting, Tree};
@@ -260,7 +259,11 @@ pub fn alter(tree: &mut Tree, ino: Ino, change: &Change) -> Result<(), AllocErro
 {
     match change {
         Change::Set(setting) => tree.set_tested(ino, *setting),
-        Change::SetXattr { name, value } => tree.set_xattr_tested(ino, name.as_slice(), value.as_slice())?,
+        Change::SetXattr { name, value } => tree.set_xattr_tested(
+            ino,
+            name.as_slice(),
+            value.as_slice(),
+        )?,
         Change::RemoveXattr { name } => tree.remove_xattr_tested(ino, name.as_slice()),
     }
     Ok(())

@@ -13,9 +13,7 @@ ghost use Rattle.capcommand.specs.Served.{IsCutShort, IsHistory, IsServed, IsUns
 
 use crate::audit::audit_lines;
 use crate::calling::{Called, call_all};
-use capscript::{
-    Plan, ServeFault, Watched, file_system, read_plan, read_script, write_text,
-};
+use capscript::{Plan, ServeFault, Watched, file_system, read_plan, read_script, write_text};
 use capserver::{CapServer, Closed, Core, Gate, NoGate, Opening, Server, Stop};
 use std::alloc::Global;
 use std::io::{Read, Write};

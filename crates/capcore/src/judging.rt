@@ -25,9 +25,8 @@ use capsteps::known::Known;
 use capsteps::serving::{
     ask_denial, before_refusal, change_access, change_refusal, places_refusal, rename_denial,
 };
-use capsteps::Stopped;
 use capsteps::touch::{Touch, revoked_of};
-use capsteps::{Ask, Change, Locks, OpenMode};
+use capsteps::{Ask, Change, Locks, OpenMode, Stopped};
 use captable::{CapTable, Holder};
 use inotree::Tree;
 use sessiontab::Sessions;

@@ -392,7 +392,8 @@ impl World {
         ensures err { OnErr result (self.new ≡ self.old) }
     {
         let grants = grants.copy()?;
-        self.sessions.open_session_tested(client, caller.copy(), grants)?;
+        self.sessions
+            .open_session_tested(client, caller.copy(), grants)?;
         Ok(())
     }
 

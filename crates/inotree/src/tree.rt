@@ -585,7 +585,12 @@ impl Tree {
     }
 
     /// Gives an attribute of an inode a value, in place of the one that it may have.
-    pub fn set_xattr_tested(&mut self, ino: Ino, name: &[u8], value: &[u8]) -> Result<(), AllocError>
+    pub fn set_xattr_tested(
+        &mut self,
+        ino: Ino,
+        name: &[u8],
+        value: &[u8],
+    ) -> Result<(), AllocError>
         requires passed { first_failing (set_xattr_tests self.old ino.0 name.now value.now) ≡ None }
         ensures ok { OnOk result (self.new ≡ changed (with_attribute name.now value.now) self.old ino.0) }
         ensures err { OnErr result (self.new ≡ self.old) }

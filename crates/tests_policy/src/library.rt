@@ -2,7 +2,7 @@
 
 use crate::asserting::{made, same};
 use crate::texts::{attr_of, caller_of, caps, cephfs, grants_of};
-use capbits::{Cap, CapSet, Caller, ClientId, Ino, Part, PassId, Refusal};
+use capbits::{Caller, Cap, CapSet, ClientId, Ino, Part, PassId, Refusal};
 use capgrant::{Access, Attr, Verdict, verdict};
 use capscript::{Core, Reply, Stop, file_system, read_line};
 use capspec::{FsName, Grants};
@@ -79,7 +79,11 @@ fn answer(core: &mut Core, alloc: Global, line: &str) -> Result<Reply, Stop> {
 }
 
 fn makes_a_file(rt: &impl Abort, alloc: Global, core: &mut Core) {
-    let opened = made(rt, answer(core, alloc, "session 1 10 10 - allow rw"), "opened");
+    let opened = made(
+        rt,
+        answer(core, alloc, "session 1 10 10 - allow rw"),
+        "opened",
+    );
     same(rt, matches!(opened, Reply::Done), true, "a session");
     let file = made(rt, answer(core, alloc, "create 1 1 f 0644"), "made");
     same(rt, matches!(file, Reply::Ino(Ino(2))), true, "a file");

@@ -116,7 +116,13 @@ fn rmdir(tree: &mut Tree, ino: Ino) -> [Option<Refusal>; 2] {
 }
 
 // The answer of `rename_fault` and then that of `rename`.
-fn rename(rt: &impl Abort, tree: &mut Tree, ino: Ino, dir: Ino, name: Name) -> [Option<Refusal>; 2] {
+fn rename(
+    rt: &impl Abort,
+    tree: &mut Tree,
+    ino: Ino,
+    dir: Ino,
+    name: Name,
+) -> [Option<Refusal>; 2] {
     let fault = tree.rename_fault(ino, dir, name.as_bytes());
     [fault, refused(rt, tree.rename(ino, dir, name.as_bytes()))]
 }
