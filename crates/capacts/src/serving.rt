@@ -209,7 +209,7 @@ pub fn change_refusal(tree: &Tree, ino: Ino, change: &Change) -> Option<Refusal>
     ensures { (s : Scene) → s.tree ≡ tree.now → result ≡ first_failing (asks.change_tests s ino.0 change.now) }
 {
     match change {
-        Change::Set(setting) => tree.setting_refusal(ino, *setting),
+        Change::Set(setting) => tree.setting_refusal(ino, setting),
         Change::SetXattr { name, value } => {
             tree.new_attribute_refusal(ino, name.as_slice(), value.as_slice())
         }

@@ -26,6 +26,22 @@ impl Tree {
         here.or(self.new_inode_refusal(dir, name))
     }
 
+    // Why an inode can't be given this value of an attribute.
+    fn set_xattr_refusal(&self, ino: Ino, name: &[u8], value: &[u8]) -> Option<Refusal>
+        ensures { result ≡ first_failing (set_xattr_tests self.now ino.0 name.now value.now) }
+    {
+        let here = self.inode_refusal(ino);
+        here.or(self.new_attribute_refusal(ino, name, value))
+    }
+
+    // Why a directory can't be given a snapshot of this name.
+    fn snap_add_refusal(&self, ino: Ino, name: &[u8]) -> Option<Refusal>
+        ensures { result ≡ first_failing (snap_add_tests self.now ino.0 name.now) }
+    {
+        let here = self.inode_refusal(ino);
+        here.or(self.new_snapshot_refusal(ino, name))
+    }
+
     /// What `rmdir` would be refused as now; none where it would not be.
     pub fn rmdir_fault(&self, ino: Ino) -> Option<Refusal>
         ensures { result ≡ first_failing (rmdir_tests self.now ino.0) }
@@ -128,7 +144,7 @@ impl Tree {
         ensures err { OnErr result (self.new ≡ self.old) }
     {
         let here = self.inode_refusal(ino);
-        if let Some(refusal) = here.or(self.setting_refusal(ino, setting)) {
+        if let Some(refusal) = here.or(self.setting_refusal(ino, &setting)) {
             return Err(refusal);
         }
         self.set_tested(ino, setting);
@@ -142,8 +158,7 @@ impl Tree {
         ensures ok { OnOk result (self.new ≡ changed (with_attribute name.now value.now) self.old ino.0) }
         ensures err { OnErr result (self.new ≡ self.old) }
     {
-        let here = self.inode_refusal(ino);
-        if let Some(refusal) = here.or(self.new_attribute_refusal(ino, name, value)) {
+        if let Some(refusal) = self.set_xattr_refusal(ino, name, value) {
             return Err(TreeError::Refused(refusal));
         }
         self.set_xattr_tested(ino, name, value)?;
@@ -170,8 +185,7 @@ impl Tree {
         ensures ok { OnOk result (self.new ≡ changed (with_snapshot name.now) self.old ino.0) }
         ensures err { OnErr result (self.new ≡ self.old) }
     {
-        let here = self.inode_refusal(ino);
-        if let Some(refusal) = here.or(self.new_snapshot_refusal(ino, name)) {
+        if let Some(refusal) = self.snap_add_refusal(ino, name) {
             return Err(TreeError::Refused(refusal));
         }
         self.snap_add_tested(ino, name)?;

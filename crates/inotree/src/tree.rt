@@ -366,8 +366,8 @@ impl Tree {
     }
 
     /// Why a field of an inode can't be set: a file alone has a size.
-    pub fn setting_refusal(&self, ino: Ino, setting: Setting) -> Option<Refusal>
-        ensures { result ≡ first_failing (setting_tests self.now ino.0 setting) }
+    pub fn setting_refusal(&self, ino: Ino, setting: &Setting) -> Option<Refusal>
+        ensures { result ≡ first_failing (setting_tests self.now ino.0 setting.now) }
     {
         match setting {
             Setting::Size(_) => self.file_refusal(ino),
