@@ -3,12 +3,13 @@ ghost use Rattle.std.specs.Prelude.{◌≡◌};
 
 use crate::command_line::Ask;
 use crate::fault::AnswerFault;
-use crate::inquiry::{Form, Inquiry};
+use crate::inquiry::Form;
 use crate::pointing::point_at;
 use crate::status::{FAILED, report};
 use capauth::AuthFault;
+use capheld::{ClusterFault, HeldFault, TreeFault};
 use capkeyring::KeyringFault;
-use capquestion::{CompareFault, Opt, QuestionFault, Values};
+use capquestion::{AttemptValues, CompareFault, Opt, QuestionFault, Values};
 use capspec::SpecFaultKind;
 use capstreams::print_quoted;
 use std::alloc::{AllocError, Global};
@@ -21,29 +22,25 @@ pub fn refuse(alloc: Global, ask: &Ask, fault: AnswerFault, faults: &mut impl Wr
     let status = report(fault, faults);
     let refused = refused(ask, fault);
     if let Some((text, at)) = refused
-        && shows_place(ask)
+        && shows_more(ask)
     {
         point_at(alloc, text, at, faults);
     }
     if let Some(advice) = advice(fault, refused) {
         let _ = writeln!(faults, "hint: {advice}");
     }
-    match (ask, fault) {
-        (Ask::Explain(inquiry), AnswerFault::Question(QuestionFault::BadValue(option))) => {
-            name_value(alloc, inquiry, option, faults);
+    match fault {
+        AnswerFault::Question(QuestionFault::BadValue(option)) if shows_more(ask) => {
+            name_value(alloc, ask, option, faults);
         }
         _ => {}
     }
     status
 }
 
-// Writes the bad value, in quotes where it has to be, and what the option takes, where more is asked for than the one line of the
-// fault. Without memory for that nothing is written.
-fn name_value(alloc: Global, inquiry: &Inquiry, option: Opt, faults: &mut impl Write) {
-    let Form::More = inquiry.form else {
-        return;
-    };
-    let Ok(value) = shown(alloc, value_of(&inquiry.values, option)) else {
+// Writes the bad value, in quotes where it has to be, and what the option takes. Without memory for that nothing is written.
+fn name_value(alloc: Global, ask: &Ask, option: Opt, faults: &mut impl Write) {
+    let Ok(value) = shown(alloc, value_of(ask, option)) else {
         return;
     };
     let taken = taken_by(option);
@@ -62,7 +59,17 @@ fn shown(alloc: Global, value: &[u8]) -> Result<Vec<u8>, AllocError> {
     Ok(text)
 }
 
-fn value_of(values: &Values, option: Opt) -> &[u8] {
+fn value_of(ask: &Ask, option: Opt) -> &[u8] {
+    match ask {
+        Ask::Explain(inquiry) => asked_value(&inquiry.values, option),
+        Ask::Who(survey) => attempted_value(&survey.values, option),
+        Ask::Audit(checkup) => checkup.fs.as_slice(),
+        Ask::Log(fs) => fs.as_slice(),
+        _ => b"",
+    }
+}
+
+fn asked_value(values: &Values, option: Opt) -> &[u8] {
     let value = match option {
         Opt::Grants => &values.grants,
         Opt::Fs => &values.fs,
@@ -77,6 +84,19 @@ fn value_of(values: &Values, option: Opt) -> &[u8] {
         Opt::Group => &values.group,
         Opt::Mode => &values.mode,
         Opt::Access => &values.access,
+    };
+    value.as_slice()
+}
+
+fn attempted_value(values: &AttemptValues, option: Opt) -> &[u8] {
+    let value = match (option, &values.attr) {
+        (Opt::Access, _) => &values.access,
+        (Opt::Path, _) => &values.path,
+        (Opt::Fs, _) => &values.fs,
+        (Opt::Owner, Some(attr)) => &attr.owner,
+        (Opt::Group, Some(attr)) => &attr.group,
+        (Opt::Mode, Some(attr)) => &attr.mode,
+        _ => return b"",
     };
     value.as_slice()
 }
@@ -117,22 +137,51 @@ fn advice(fault: AnswerFault, refused: Option<(&[u8], usize)>) -> Option<&'stati
         AnswerFault::UnopenedAuth => Some(
             "--auth takes the name of a file, or - for standard input",
         ),
-        AnswerFault::Auth(AuthFault::NotJson { .. } | AuthFault::NoList) => {
-            Some("--auth takes what `ceph auth ls -f json` prints")
-        }
-        AnswerFault::Auth(AuthFault::NoEntity) => Some(
-            "--client takes a name that the list has at entity, as client.tenant",
-        ),
-        AnswerFault::Auth(AuthFault::NoCaps) => Some("the client has no caps for the MDS"),
+        AnswerFault::Auth(found) | AnswerFault::Cluster(HeldFault::Auth(found)) => listing(found),
         AnswerFault::UnopenedText => Some(
             "--auth and --sessions take the names of files, and --tree that of one, or - for standard input",
+        ),
+        AnswerFault::Cluster(HeldFault::Sessions(found)) => connecting(found),
+        AnswerFault::Tree(TreeFault::NotJson { .. }) => {
+            Some("--tree takes what `ceph tell mds.0 dump tree /` prints")
+        }
+        AnswerFault::Tree(TreeFault::BadItem { .. }) => Some(
+            "an inode has numbers at ino, uid, gid and mode, and lists at client_caps and dirfrags if they are there",
         ),
         _ => None,
     }
 }
 
-// Whether the place in a text is shown: with `--more` alone where the line of the fault is all that a script may look for.
-fn shows_place(ask: &Ask) -> bool {
+// What an auth list has, and who is looked for in it.
+fn listing(fault: AuthFault) -> Option<&'static str> {
+    match fault {
+        AuthFault::NotJson { .. } | AuthFault::NoList => {
+            Some("--auth takes what `ceph auth ls -f json` prints")
+        }
+        AuthFault::NotAnEntity { .. } => Some(
+            "an entity has a text at entity and an object at caps, in which mds is a text if it is there",
+        ),
+        AuthFault::NoEntity => Some(
+            "--client takes a name that the list has at entity, as client.tenant",
+        ),
+        AuthFault::NoCaps => Some("the client has no caps for the MDS"),
+        AuthFault::NoMemory => None,
+    }
+}
+
+// What sessions have.
+fn connecting(fault: ClusterFault) -> Option<&'static str> {
+    match fault {
+        ClusterFault::NotJson { .. } | ClusterFault::NoList => {
+            Some("--sessions takes what `ceph tell mds.0 session ls` prints")
+        }
+        ClusterFault::BadItem { .. } => Some("a session has a number at id"),
+        ClusterFault::NoMemory => None,
+    }
+}
+
+// Whether more than the line of the fault is shown: with `--more` alone where this line is all that a script may look for.
+fn shows_more(ask: &Ask) -> bool {
     match ask {
         Ask::Explain(inquiry) => matches!(inquiry.form, Form::More),
         Ask::Grants { text: _, more } => *more,

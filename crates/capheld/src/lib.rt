@@ -18,7 +18,7 @@ mod summary;
 mod unjudged;
 
 pub use auditing::audit;
-pub use capcluster::{Tree, TreeFault, TreeReader};
+pub use capcluster::{ClusterFault, Tree, TreeFault, TreeReader};
 pub use clients::ClusterClients;
 pub use fault::HeldFault;
 pub use laws::one_object_for_a_group;
