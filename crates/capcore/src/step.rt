@@ -1,8 +1,9 @@
 //! The core and its steps.
 ghost use Rattle.std.specs.Prelude.{◌≡◌, ◌↔◌, ◌<◌, [], length, Err, IfOk, OnErr};
+ghost use Rattle.std.specs.FinMap as map;
+ghost use Rattle.std.specs.Option.{option_copied};
 ghost use Rattle.capsteps.specs.Caprules.History.{HasNoStray, IsOpening, IsTold};
 ghost use Rattle.capcore.specs.Promised.{IsPromised};
-ghost use Rattle.sessiontab.specs.Calls.{status_of};
 ghost use Rattle.captable.specs.Table.{holder, entry_at};
 ghost use Rattle.capsteps.specs.Lockmachine.Locks.{lock_at};
 ghost use Rattle.capsteps.specs.Capacts.declared.stop.Stop.TheVariants as stop_kind;
@@ -17,7 +18,7 @@ use capsteps::{ChangeList, Event, Reply, Row, ViewChange};
 use captable::Entry;
 use inotree::Tree;
 use locktable::LockState;
-use sessiontab::{Sessions, Status};
+use sessiontab::{Session, Sessions};
 use std::alloc::{AllocError, Global};
 use std::marker::Model;
 use std::mem::replace;
@@ -129,11 +130,11 @@ impl Core {
         &self.world.sessions
     }
 
-    /// A client's session, open or stale, where it has one.
-    pub fn session(&self, client: ClientId) -> Option<Status>
-        ensures { result ≡ status_of self.now.state.scene.sessions client.0 }
+    /// A client's session, with its status, its caller and its grants, where it has one.
+    pub fn session(&self, client: ClientId) -> Option<&Session>
+        ensures { option_copied result ≡ map.get self.now.state.scene.sessions.sessions client.0 }
     {
-        self.world.sessions.status(client)
+        self.world.sessions.session(client)
     }
 
     /// The history: a row for each event that was answered, the first first.
