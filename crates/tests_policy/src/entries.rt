@@ -357,9 +357,10 @@ const DUE: &[Step] = &[
     DueOf(1, &[(ONE_2, true)]),
 ];
 
+// Of an inode whose number has more than 32 bits.
 const ONE_MORE: Holder = Holder {
     client: ClientId(64),
-    ino: Ino(2000),
+    ino: Ino(4294967298),
 };
 
 const ALL_ENTRIES: &[Step] = &[

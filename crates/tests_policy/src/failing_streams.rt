@@ -1,7 +1,7 @@
 //! Readers and writers that fail: what their flags tell, and what a run over them leaves.
 
 use crate::asserting::same;
-use crate::runs::{SNAPSHOTS, SNAPSHOTS_ANSWERED};
+use crate::runs::{ALL_KINDS, ALL_KINDS_ANSWERED};
 use capscript::{ScriptFault, Watched, run};
 use std::alloc::Global;
 use std::io;
@@ -52,30 +52,36 @@ impl Read for Failing<'_> {
     }
 }
 
-// Runs over a reader that may fail: whether the reader's flag is set, whether the run stopped, and whether it wrote nothing.
-fn run_on_reads(alloc: Global, reads: Failing) -> (bool, bool, bool) {
+// Runs over a reader that may fail: whether the reader's flag is set, how the run ended, and whether it wrote nothing.
+fn run_on_reads(alloc: Global, reads: Failing) -> (bool, Result<(), ScriptFault>, bool) {
     let mut text = Vec::new(alloc);
     let mut reader = Watched::new(reads);
     let mut writer = Watched::new(&mut text);
     let ended = run(alloc, &mut reader, &mut writer);
-    (reader.failed(), ended.is_err(), text.is_empty())
+    (reader.failed(), ended, text.is_empty())
 }
-
-const TWO_LINES: &[u8] = b"session 1 10 10 - none\nlookup 1 1 a";
 
 #[test]
 fn a_read_that_fails_writes_nothing(rt: HostRuntime) {
+    let script = ALL_KINDS.as_bytes();
     for at_once in [1, 7] {
-        let wanted = TWO_LINES.len().div_ceil(at_once) + 1;
+        let wanted = script.len().div_ceil(at_once) + 1;
         for reads_left in 0..=wanted {
             let reads = Failing {
-                script: TWO_LINES,
+                script,
                 at_once,
                 reads_left,
             };
-            let found = run_on_reads(rt.alloc(), reads);
+            let (flag, ended, is_silent) = run_on_reads(rt.alloc(), reads);
             let failed = reads_left < wanted;
-            same(&rt, found, (failed, failed, failed), (at_once, reads_left));
+            let fault = failed.then_some(ScriptFault::ReadFault);
+            same(
+                &rt,
+                (flag, is_silent),
+                (failed, failed),
+                (at_once, reads_left),
+            );
+            same(&rt, ended.err(), fault, (at_once, reads_left));
         }
     }
 }
@@ -128,7 +134,7 @@ fn run_in_room(
     fails: bool,
 ) -> (bool, Result<(), ScriptFault>, Vec<u8>) {
     let mut text = Vec::new(alloc);
-    let mut reader = Watched::new(SNAPSHOTS.as_bytes());
+    let mut reader = Watched::new(ALL_KINDS.as_bytes());
     let mut writer = Watched::new(Full {
         text: &mut text,
         room,
@@ -141,13 +147,14 @@ fn run_in_room(
 
 #[test]
 fn a_write_that_fails_leaves_a_beginning(rt: HostRuntime) {
-    let wanted = SNAPSHOTS_ANSWERED.as_bytes();
+    let wanted = ALL_KINDS_ANSWERED.as_bytes();
     for room in 0..=wanted.len() {
         for fails in [false, true] {
             let (failed, ended, text) = run_in_room(rt.alloc(), room, fails);
             let is_short = room < wanted.len();
-            let fault = ended == Err(ScriptFault::WriteFault);
-            same(&rt, (failed, fault), (is_short, is_short), (room, fails));
+            let fault = is_short.then_some(ScriptFault::WriteFault);
+            same(&rt, failed, is_short, (room, fails));
+            same(&rt, ended.err(), fault, (room, fails));
             same(&rt, text.as_slice(), &wanted[..room], (room, fails));
         }
     }

@@ -19,31 +19,61 @@ pub fn transcript(rt: &impl Abort, alloc: Global, script: &[u8]) -> Vec<u8> {
     text
 }
 
-/// Snapshots, and a client without grants. The last line has no line feed.
-pub const SNAPSHOTS: &str = "# snapshots
+/// Lines with each kind of answer and of message. The last line has no line feed.
+pub const ALL_KINDS: &str = "# all kinds
 
 session 1 10 10 - allow rws
-mkdir 1 1 d 0755
-mksnap 1 2 s1
-mksnap 1 2 s1
-rmsnap 1 2 s1
-rmsnap 1 2 s1
 session 2 20 20 - none
-lookup 2 1 d
-lookup 1 1 d
-lookup 1 1 e";
+lookup 2 1 f
+create 2 1 f 0644
+regrant 2 allow rw
+create 1 1 f 0644
+open 1 2 rw
+alter 2 2 size 5
+get 2 2 F
+recall 1
+poll 1 9
+ack 1 2 1
+ack 1 2 2
+poll 2 9
+poll 1 9
+get 1 2 A
+get 1 2 L
+alter 1 2 setx user.a 3130
+get 1 2 X
+mksnap 2 1 s
+recall 0
+mksnap 1 1 s";
 
-/// What is written of the snapshots.
-pub const SNAPSHOTS_ANSWERED: &str = "done
-ino 2
-done
-refused Exists
+/// What is written of them.
+pub const ALL_KINDS_ANSWERED: &str = "done
 done
 refused NoEnt
+denied write -
 done
-denied read -
 ino 2
-refused NoEnt
+caps 1 pFsxcrwb
+waiting 1
+waiting 2
+recalled 1:2
+messages 2
+  caps 2 2 pFc
+  recall 2
+refused OldSeq 2
+done
+messages 2
+  ended 1 done
+  ended 2 attr F 5 0
+messages 2
+  caps 2 3 pFsxcrwb
+  size 2 5
+attr A 10 10 0644
+attr L 1
+done
+attr X 1 user.a=3130
+denied snapshot 1:8
+recalled -
+done
 ";
 
 // Runs over line feeds without end: how it ends, whether the reader's flag and the writer's are set, and what is written.
