@@ -2,9 +2,8 @@
 
 use crate::asserting::{made, same};
 use crate::texts::{attr_of, caller_of, caps, cephfs, grants_of};
-use capbits::{Caller, Cap, CapSet, ClientId, Ino, Part, PassId, Refusal};
+use capbits::{Caller, Cap, CapSet, ClientId, Ino, Part, Refusal};
 use capgrant::{Access, Attr, Verdict, verdict};
-use capscript::{Core, Reply, Stop, file_system, read_line};
 use capspec::{FsName, Grants};
 use captable::{AddError, CapTable};
 use inotree::{ROOT, Tree, TreeError};
@@ -70,25 +69,6 @@ fn given_back(alloc: Global, client: ClientId, ino: Ino) -> Result<CapSet, AddEr
     }
 }
 
-// The core answers the event that a line says.
-fn answer(core: &mut Core, alloc: Global, line: &str) -> Result<Reply, Stop> {
-    match read_line(alloc, 1, line.as_bytes()) {
-        Ok(Some((_client, event))) => core.apply(PassId(1), event),
-        _ => Err(Stop::NoMemory),
-    }
-}
-
-fn makes_a_file(rt: &impl Abort, alloc: Global, core: &mut Core) {
-    let opened = made(
-        rt,
-        answer(core, alloc, "session 1 10 10 - allow rw"),
-        "opened",
-    );
-    same(rt, matches!(opened, Reply::Done), true, "a session");
-    let file = made(rt, answer(core, alloc, "create 1 1 f 0644"), "made");
-    same(rt, matches!(file, Reply::Ino(Ino(2))), true, "a file");
-}
-
 #[test]
 fn grants_are_asked_alone(rt: HostRuntime) {
     let grants = grants_of(&rt, "allow r, allow rw path=/foo");
@@ -121,14 +101,4 @@ fn layers_are_used_alone(rt: HostRuntime) {
         Err(_error) => CapSet::empty(),
     };
     same(&rt, left, caps("pFr"), "the table");
-}
-
-#[test]
-fn a_core_is_asked(rt: HostRuntime) {
-    let (fs, tree) = made(&rt, file_system(rt.alloc()), "a file system");
-    let mut core = made(&rt, Core::new(rt.alloc(), fs, tree, 1000), "a core");
-    makes_a_file(&rt, rt.alloc(), &mut core);
-    let child = core.tree().child(ROOT, b"f");
-    same(&rt, child, Some(Ino(2)), "a name");
-    drop(core);
 }
