@@ -1,9 +1,9 @@
 //! Lines of a script and what is answered to them, where memory may be refused.
 
 use crate::fault::Fault;
-use capscript::{ScriptFault, read_line, reply_lines};
-use capserver::{Event, Reply, Stop};
-use std::alloc::Global;
+use capscript::{ScriptFault, append_audit_line, read_line, reply_lines};
+use capserver::{Event, Reply, Row, Stop};
+use std::alloc::{AllocError, Global};
 use std::io::Write;
 
 /// So often something is tried that finds no memory: more often than memory is refused in a row.
@@ -60,6 +60,25 @@ pub(crate) fn tell_stop(stop: Stop, writer: &mut impl Write) -> Result<Heard, Fa
         Stop::Full => return Err(Fault::Full),
     }
     Ok(Heard::Stopped)
+}
+
+/// Writes the line of each row of a history. Where their text finds no memory it is made again.
+pub(crate) fn tell_rows(alloc: Global, rows: &[Row], writer: &mut impl Write) -> Result<(), Fault> {
+    for _ in 0..TRIES {
+        if let Ok(text) = rows_text(alloc, rows) {
+            return write(writer, text.as_slice());
+        }
+    }
+    Err(Fault::NoMemory)
+}
+
+fn rows_text(alloc: Global, rows: &[Row]) -> Result<Vec<u8>, AllocError> {
+    let mut text = Vec::new(alloc);
+    for row in rows {
+        append_audit_line(&mut text, row)?;
+        text.push(b'\n')?;
+    }
+    Ok(text)
 }
 
 /// Writes all of a text.

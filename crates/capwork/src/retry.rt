@@ -3,7 +3,7 @@
 
 use crate::digest::digest_of;
 use crate::fault::Fault;
-use crate::lines::{Heard, TRIES, event_of, tell, tell_stop};
+use crate::lines::{Heard, TRIES, event_of, tell, tell_rows, tell_stop};
 use capbits::PassId;
 use capscript::file_system;
 use capserver::Core;
@@ -12,8 +12,8 @@ use std::io::Write;
 
 const PASS: PassId = PassId(1);
 
-/// Plays the lines of a script, writes what is answered to each line, and returns the hash of the core in the end. No other function owns a core:
-/// what it keeps is carried through each way out of its owner.
+/// Plays the lines of a script, writes what is answered to each line and then the rows of the history, and returns the hash of the core in the
+/// end. No other function owns a core: what it keeps is carried through each way out of its owner.
 pub(crate) fn retry<W: Write>(
     alloc: Global,
     lines: &[&[u8]],
@@ -35,6 +35,7 @@ fn play<W: Write>(
     for line in lines {
         take_line(alloc, core, line, writer)?;
     }
+    tell_rows(alloc, core.history(), writer)?;
     Ok(digest_of(core))
 }
 

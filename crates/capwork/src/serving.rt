@@ -4,6 +4,7 @@ ghost use Rattle.capserver.specs.Opened.{opened};
 
 use crate::explaining::explain;
 use crate::fault::Fault;
+use crate::lines::tell_rows;
 use crate::publishing::publish;
 use crate::work::ServerWork;
 use capscript::file_system;
@@ -65,23 +66,38 @@ fn served<L: Server + Send + Sync, T: Threads + Wait + Sync, W: Write>(
     let (server, mut passes) = CapServer::<NoGate, L>::start(rt, opening, blank, count, NoGate)?;
     match work {
         ServerWork::Publish => {
-            let published = publish(rt, alloc, &server, passes.as_mut_slice(), lines, writer);
-            let rows = rows_of(rt, alloc, server);
-            published?;
-            Ok(rows)
+            match publish(rt, alloc, &server, passes.as_mut_slice(), lines, writer) {
+                Ok(()) => tell_history(rt, alloc, server, writer),
+                Err(fault) => {
+                    end(rt, alloc, server);
+                    Err(fault)
+                }
+            }
         }
         ServerWork::Explain(asking) => {
             let sum = explain(rt, alloc, &server, passes, asking, lines);
-            rows_of(rt, alloc, server);
+            end(rt, alloc, server);
             sum
         }
     }
 }
 
-// Ends a server, and tells how many rows its history has.
-fn rows_of<L: Server, T: Wait>(rt: &T, alloc: Global, server: CapServer<NoGate, L>) -> u64 {
+// Ends a server.
+fn end<L: Server, T: Wait>(rt: &T, alloc: Global, server: CapServer<NoGate, L>) {
+    drop(server.close(rt, Vec::new(alloc)));
+}
+
+// Ends a server, writes the rows of its history, and tells how many they are.
+fn tell_history<L: Server, T: Wait, W: Write>(
+    rt: &T,
+    alloc: Global,
+    server: CapServer<NoGate, L>,
+    writer: &mut W,
+) -> Result<u64, Fault> {
     let closed = server.close(rt, Vec::new(alloc));
     let rows = closed.core.history().len() as u64;
+    let told = tell_rows(alloc, closed.core.history(), writer);
     drop(closed);
-    rows
+    told?;
+    Ok(rows)
 }
