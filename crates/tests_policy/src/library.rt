@@ -34,10 +34,15 @@ fn one_writes(one: ClientId, two: ClientId) -> (CapSet, CapSet) {
 }
 
 // Makes /a and /a/f, and answers why /a can't be removed.
-fn full_directory(alloc: Global, attr: Attr) -> Result<Option<Refusal>, TreeError> {
-    let mut tree = Tree::new(alloc, attr)?;
-    let dir = tree.mkdir(ROOT, b"a", attr)?;
-    tree.create(dir, b"f", attr)?;
+fn full_directory(
+    alloc: Global,
+    root: Attr,
+    directory: Attr,
+    file: Attr,
+) -> Result<Option<Refusal>, TreeError> {
+    let mut tree = Tree::new(alloc, root)?;
+    let dir = tree.mkdir(ROOT, b"a", directory)?;
+    tree.create(dir, b"f", file)?;
     Ok(tree.rmdir(dir).err())
 }
 
@@ -84,8 +89,9 @@ fn layers_are_used_alone(rt: HostRuntime) {
     let (one, two) = (ClientId(1), ClientId(2));
     let held = (caps("Fsxcrwb"), caps("-"));
     same(&rt, one_writes(one, two), held, "the lock table");
-    let attr = attr_of(&rt, (0, 0, 0o755));
-    let full = match full_directory(rt.alloc(), attr) {
+    let (root, directory) = (attr_of(&rt, (0, 0, 0o755)), attr_of(&rt, (1, 1, 0o755)));
+    let file = attr_of(&rt, (1, 1, 0o644));
+    let full = match full_directory(rt.alloc(), root, directory, file) {
         Ok(refusal) => refusal,
         Err(_error) => None,
     };
