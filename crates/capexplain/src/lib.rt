@@ -31,7 +31,7 @@ pub use comparing::comparison_lines;
 pub use event_text::event_line;
 pub use explaining::{explain_line, print_failures, print_path};
 pub use laws::{one_answer_for_a_line, one_text_for_what_is_shown};
-pub use linting::lint_lines;
+pub use linting::print_finding;
 pub use quoting::print_quoted;
 pub use remarking::remarked_lines;
 pub use reply::reply_lines;
