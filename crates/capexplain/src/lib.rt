@@ -23,7 +23,7 @@ mod standing;
 pub use access::read_access;
 pub use audit::{append_audit_line, audit_line};
 pub use capevents::{Bytes, Change, Event, OpenMode};
-pub use capremarks::{answered_otherwise, gained, left_to_client, lint, lost};
+pub use capremarks::{Finding, answered_otherwise, gained, left_to_client, lint, lost};
 pub use capwho::{Standing, Wanted};
 pub use change_word::ChangeWord;
 pub use command::Command;

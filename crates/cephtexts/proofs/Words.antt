@@ -157,7 +157,7 @@ item_shorter (b ∷ bs) white mark =
     elim (which (starts_with nat_eq (b ∷ bs) (codes "path=\""))) [
       | inl e ↦ rw e (omega (arith, inside_shorter 34 b bs))
       | inr e ↦ rw e (elim (which (starts_with nat_eq (b ∷ bs) (codes "path='"))) [
-          | inl f ↦ rw f (omega (arith, inside_shorter 39 b bs))
-          | inr f ↦ rw f (omega (arith, plain))
-        ])
+        | inl f ↦ rw f (omega (arith, inside_shorter 39 b bs))
+        | inr f ↦ rw f (omega (arith, plain))
+      ])
     ]

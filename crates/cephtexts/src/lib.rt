@@ -6,7 +6,9 @@
 mod bytes;
 mod items;
 mod key;
+mod laws;
 mod unread;
 
 pub use key::Key;
+pub use laws::nothing_is_told_where_it_is_read;
 pub use unread::{Unread, unread_grants};

@@ -19,10 +19,12 @@ shorter : (c : goal.After-behind_item-rest) → length c.behind_item-rest.result
 shorter c = rw (c.behind_item-rest.ensures, c.skip_white-item.ensures) (rest_shorter c.loop-item.rest.now (goes_on c))
 
 pub loop-item-preserved : goal.loop-item-preserved
-loop-item-preserved c = ((λ items tail has.
-    rw (c.behind_item-rest.ensures, c.or-found.ensures, c.wrong_at.ensures, c.key_at.ensures, c.skip_white-item.ensures)
-    (left_behind c.loop-item.rest.now c.loop-item.last c.loop-item.found _ tail (goes_on c) (c.loop-item.invariant.0 items tail has))),
-    omega (arith, shorter c, c.loop-item.invariant.1))
+loop-item-preserved c = (
+  (λ items tail has.
+      rw (c.behind_item-rest.ensures, c.or-found.ensures, c.wrong_at.ensures, c.key_at.ensures, c.skip_white-item.ensures)
+      (left_behind c.loop-item.rest.now c.loop-item.last c.loop-item.found _ tail (goes_on c) (c.loop-item.invariant.0 items tail has))),
+  omega (arith, shorter c, c.loop-item.invariant.1),
+)
 
 pub loop-item-smaller : goal.loop-item-smaller
 loop-item-smaller c = shorter c
