@@ -1,9 +1,9 @@
 -- The grants of a text, one after the other.
-use Rattle.std.proofs.Common.{◌≡◌, ◌⊎◌, ℕ, ◌<◌, ◌≤◌, Bool, true, false, eqb, not, ◌&&◌, ◌||◌, List, [], ◌∷◌, ◌++◌, length, drop, Some, None, Option, map, refl, sym, ap, subst, ◌∙◌, append_assoc, arith, inl, inr}
+use Rattle.std.proofs.Common.{◌≡◌, ℕ, Bool, true, false, eqb, ◌&&◌, ◌||◌, List, [], ◌∷◌, ◌++◌, drop, Some, None, Option, map, refl, sym, ap, subst, ◌∙◌, append_assoc, arith, inl, inr}
 use Rattle.std.specs.Prelude.{codes, if◌then◌else◌}
 use Rattle.std.specs.List.{list_all}
 use Rattle.std.specs.Option.{option_or}
-use Rattle.std.proofs.lemmas.Bool.{and_parts, true≢false}
+use Rattle.std.proofs.lemmas.Bool.{and_parts}
 use Rattle.std.proofs.lemmas.Bool.Decides.{nat_tests}
 use Rattle.std.proofs.lemmas.List.{append-nil}
 use Rattle.std.proofs.lemmas.List.Folds.{list_all-append}
@@ -15,7 +15,7 @@ use Rattle.capspec.specs.Bytes.{begins, is_white, is_mark, ends_grant}
 use Rattle.capspec.specs.Grants.{IsGrant}
 use Rattle.capspec.specs.Separated.{AreSeparated}
 use Rattle.capspec.specs.Words.{next, goes_on, is_digit}
-use Rattle.capspec.proofs.Fronts.{which, not_byte, rest_is}
+use Rattle.capspec.proofs.Fronts.{which, rest_is}
 use Rattle.cephtexts.specs.declared.unread.Unread.{Unread}
 use Rattle.cephtexts.specs.declared.unread.Unread.TheVariants.{WhiteSpace}
 use Rattle.cephtexts.specs.Scanning.{can_end, behind_word, has_spaces, wrong_between, HasItems, Begins}

@@ -210,7 +210,7 @@ in_order g items text are none = by_uid g.uid refl
     by_uid : (uid : Option ℕ) → g.uid ≡ uid → IsInCephOrder items
     by_uid (Some u) uid =
         let plain = user_has_text g u uid text in
-        inr (for_user items (user_only items named (rw (sym plain.0) (rw plain.0 are.fsname)) (rw (sym plain.1) (rw plain.1 are.root_squash))) none)
+        inr (for_user items (user_only items named (rw plain.0 at are.fsname) (rw plain.1 at are.root_squash)) none)
     by_uid None uid =
         let no_user = no_uid items (rw uid at are.uid) in
         inl (for_system items (system_only items named no_user (are.gids_with_uid no_user)) none)

@@ -1,15 +1,14 @@
 -- The items of a grant, one after the other.
-use Rattle.std.proofs.Common.{◌≡◌, ℕ, ◌<◌, ◌≤◌, true, false, List, [], ◌∷◌, ◌++◌, length, Some, None, Option, refl, sym, ap, ◌∙◌, append_assoc, arith}
+use Rattle.std.proofs.Common.{◌≡◌, ℕ, ◌<◌, true, false, List, [], ◌∷◌, ◌++◌, length, Some, None, Option, refl, sym, ap, ◌∙◌, append_assoc, arith}
 use Rattle.std.specs.Option.{option_or}
 use Rattle.std.proofs.lemmas.Bool.{true≢false}
-use Rattle.capspec.specs.Bytes.{begins, is_white, ends_grant}
-use Rattle.capspec.specs.Grants.{AreWordsOf}
+use Rattle.capspec.specs.Bytes.{is_white, ends_grant}
 use Rattle.capspec.specs.Items.{Item}
 use Rattle.capspec.specs.Words.{next}
 use Rattle.capspec.proofs.Fronts.{rest_is, rest_stops}
 use Rattle.cephtexts.specs.declared.key.Key.{Key}
 use Rattle.cephtexts.specs.declared.unread.Unread.{Unread}
-use Rattle.cephtexts.specs.Scanning.{can_end, behind_item, key_at, wrong_at, HasItems}
+use Rattle.cephtexts.specs.Scanning.{behind_item, key_at, wrong_at, HasItems}
 use Rattle.cephtexts.specs.Standing.{key_of, wrong_behind, first_wrong}
 use Rattle.cephtexts.proofs.Words.{words_end, behind_item_is, item_letter, item_goes_on, key_at_is, wrong_at_is, next_shorter, item_shorter}
 

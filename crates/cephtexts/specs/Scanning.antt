@@ -1,5 +1,5 @@
 -- What follows the words of a text that reads.
-use Rattle.std.specs.Prelude.{◌≡◌, ℕ, ◌==◌, ◌&&◌, nat_eq, Bool, true, false, not, Option, Some, None, List, [], ◌∷◌, ◌++◌, drop, codes, IsTrue, IsFalse, if◌then◌else◌}
+use Rattle.std.specs.Prelude.{◌≡◌, ℕ, ◌==◌, ◌&&◌, nat_eq, Bool, true, not, Option, Some, None, List, [], ◌∷◌, ◌++◌, drop, codes, IsTrue, IsFalse, if◌then◌else◌}
 use Rattle.std.specs.List.{starts_with}
 use Rattle.capspec.specs.Bytes.{is_white, ends_word, ends_grant}
 use Rattle.capspec.specs.Grants.{AreWordsOf}

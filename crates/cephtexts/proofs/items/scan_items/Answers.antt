@@ -1,7 +1,6 @@
-use Rattle.std.proofs.Common.{◌≡◌, ◌<◌, false, Some, length, sym, ap, ◌∙◌, arith}
+use Rattle.std.proofs.Common.{◌≡◌, ◌<◌, false, length, sym, ap, ◌∙◌, arith}
 use Rattle.capspec.specs.Bytes.{ends_grant}
 use Rattle.capspec.specs.Words.{next}
-use Rattle.cephtexts.specs.Scanning.{behind_item, key_at, wrong_at}
 use Rattle.cephtexts.proofs.Scanned.{left_all, found_all, left_behind, rest_shorter}
 use Rattle.cephtexts.proofs.items.scan_items.Goals as goal
 
