@@ -81,7 +81,7 @@ wrong_white around = if are_spaces around then None else Some WhiteSpace
 abbrev pub why : List ℕ → List Item → Option Unread
 why around items = option_or (wrong_white around) (first_wrong None items)
 
--- the same of each grant, in their order
+-- the same of each grant, in their order; around: what stands round the separator before the first of them
 abbrev pub why_each : List ℕ → List Standing → List (Option Unread)
 why_each around [] = []
 why_each around (s ∷ []) = why around s.items ∷ []

@@ -1,10 +1,12 @@
 //! The grants of a text, one after the other.
 
-ghost use Rattle.std.specs.Prelude.{◌≡◌, ℕ, List, IfOk};
+ghost use Rattle.std.specs.Prelude.{◌≡◌, List, [], IfOk};
 ghost use Rattle.capspec.specs.declared.grant.Grant.{Grant};
+ghost use Rattle.capspec.specs.Bytes.{is_mark};
 ghost use Rattle.capspec.specs.Grants.{Reads};
+ghost use Rattle.capspec.specs.Separated.{AreSeparated};
 ghost use Rattle.cephtexts.specs.Scanning.{wrong_between};
-ghost use Rattle.cephtexts.specs.Standing.{AreTold};
+ghost use Rattle.cephtexts.specs.Standing.{AreTold, Standing, Stands, why_each};
 
 use crate::bytes::{has_spaces, skip_white};
 use crate::items::scan_grant;
@@ -30,7 +32,9 @@ pub enum Unread {
 /// Of each grant of a text, in their order, why Ceph 16 does not read it as it stands; None where that holds nothing against it.
 /// Whether Ceph 16 reads what the grant says in any text is another question.
 pub fn unread_grants(alloc: Global, text: &[u8]) -> Result<Vec<Option<Unread>>, AllocError>
-    ensures { (grants : List Grant) → Reads text.now grants → IfOk result (λ told. AreTold text.now grants told.items) }
+    ensures told { (grants : List Grant) → Reads text.now grants → IfOk result (λ told. AreTold text.now grants told.items) }
+    // However the text is divided into grants.
+    ensures exact { (standings : List Standing) → AreSeparated is_mark Stands text.now standings → IfOk result (λ told. told.items ≡ why_each [] standings) }
 {
     let mut told = Vec::new(alloc);
     let mut before = None;

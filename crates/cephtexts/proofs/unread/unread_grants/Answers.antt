@@ -19,14 +19,13 @@ loop-told-smaller c =
     let goes_on : next c.scan_grant-found.result.1.now ≡ c.in-Some.field-0-0.now ∷ c.in-Some.more.now = sym c.skip_white.ensures ∙ c.in-Some.ensures.cases.0 in
     omega (arith, next_shorter c.scan_grant-found.result.1.now, ap length goes_on, c.scan_grant-found.ensures.within)
 
-pub returns-in_default : goal.returns-in_default
-returns-in_default c grants reads =
-    let given = standings_of c.args.text.now grants reads.are_grants in
+pub returns-in_default-clause-exact : goal.returns-in_default-clause-exact
+returns-in_default-clause-exact c standings stand =
     let none : next c.scan_grant-found.result.1.now ≡ [] = sym c.skip_white.ensures ∙ nil_from_length _ c.in_default.ensures.cases in
-    record {
-      standings = given.0;
-      stand = given.1;
-      of_grants = given.2;
-      told_are = c.in_ok-push.ensures.items ∙ told_all c.loop-told.rest.now c.loop-told.before c.loop-told.told.items given.0 c.scan_grant-found.result.0 c.scan_grant-found.result.1.now c.scan_grant-found.ensures.told
-          (c.loop-told.invariant given.0 given.1) none;
-    }
+    c.in_ok-push.ensures.items ∙ told_all c.loop-told.rest.now c.loop-told.before c.loop-told.told.items standings c.scan_grant-found.result.0 c.scan_grant-found.result.1.now c.scan_grant-found.ensures.told
+    (c.loop-told.invariant standings stand) none
+
+pub returns-in_default-clause-told : goal.returns-in_default-clause-told
+returns-in_default-clause-told c grants reads =
+    let given = standings_of c.args.text.now grants reads.are_grants in
+    record { standings = given.0; stand = given.1; of_grants = given.2; told_are = returns-in_default-clause-exact c given.0 given.1 }
