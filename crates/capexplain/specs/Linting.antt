@@ -1,8 +1,10 @@
--- The lines that say what is found in a list of grants.
-use Rattle.std.specs.Prelude.{ℕ, Bool, not, is_some, List, [], ◌++◌, codes, if◌then◌else◌}
+-- The lines that say what is found of a grant.
+use Rattle.std.specs.Prelude.{ℕ, Bool, true, not, Option, Some, None, is_some, List, [], ◌++◌, codes, if◌then◌else◌}
 use Rattle.std.specs.Fmt.{decimal}
-use Rattle.std.specs.List.{flat_map}
 use Rattle.capremarks.specs.Capcompare.declared.finding.Finding.{Finding}
+use Rattle.cephtexts.specs.declared.unread.Unread.{Unread}
+use Rattle.cephtexts.specs.declared.unread.Unread.TheVariants.{WhiteSpace, AnyFileSystem, Order}
+use Rattle.cephtexts.specs.Standing.{name}
 use Rattle.capexplain.specs.Comparing.{found_line}
 
 abbrev pub covered_text : List ℕ
@@ -18,15 +20,20 @@ unread_text = codes ": not read by Ceph 16, which takes no uid beside fsname or 
 abbrev pub said_if : Bool → ℕ → List ℕ → List ℕ
 said_if test grant more = if test then codes "grant " ++ (decimal grant ++ more) else []
 
--- what is found of one grant, a line for each
-abbrev pub finding_lines : Finding → List ℕ
-finding_lines f =
+-- why Ceph 16 does not read the grant of this number as it stands in its text
+abbrev pub stands_line : ℕ → Option Unread → List ℕ
+stands_line grant None = []
+stands_line grant (Some WhiteSpace) = said_if true grant (codes ": not read by Ceph 16 as it stands, which takes only spaces round the separator before it\n")
+stands_line grant (Some AnyFileSystem) = said_if true grant (codes ": not read by Ceph 16 as it stands, which takes no * for fsname\n")
+stands_line grant (Some (Order first second)) =
+    said_if true grant (codes ": not read by Ceph 16 as it stands, which takes ") ++ (name first ++ (codes " before " ++ (name second ++ codes "\n")))
+
+-- what is found of one grant, a line for each, and why Ceph 16 does not read it as it stands
+abbrev pub finding_lines : Finding → Option Unread → List ℕ
+finding_lines f unread =
     said_if f.is_redundant f.grant covered_text
     ++ (said_if f.allows_nothing f.grant nothing_text
     ++ (said_if (is_some f.undoing) f.grant (codes ": ")
     ++ (found_line (codes "root_squash undone, ") f.undoing
-    ++ said_if (not f.has_ceph_text) f.grant unread_text)))
-
--- all of it, grant by grant
-abbrev pub lint_lines : List Finding → List ℕ
-lint_lines findings = flat_map finding_lines findings
+    ++ (said_if (not f.has_ceph_text) f.grant unread_text
+    ++ stands_line f.grant unread))))

@@ -1,11 +1,13 @@
-//! The lines that say what is found in a list of grants.
-ghost use Rattle.std.specs.Prelude.{◌≡◌, ◌++◌, IfOk, OnOk};
-ghost use Rattle.capexplain.specs.Linting.{finding_lines, lint_lines, said_if};
+//! The lines that say what is found of a grant.
+
+ghost use Rattle.std.specs.Prelude.{◌≡◌, ◌++◌, OnOk};
+ghost use Rattle.capexplain.specs.Linting.{finding_lines, said_if, stands_line};
 
 use crate::comparing::print_found;
 use capremarks::Finding;
 use captext::{print_numbered, print_str};
-use std::alloc::{AllocError, Global};
+use cephtexts::Unread;
+use std::alloc::AllocError;
 
 const COVERED: &str = ": covered by the others\n";
 
@@ -13,27 +15,30 @@ const NOTHING: &str = ": allows nothing, as no inode has . or .. in its path\n";
 
 const UNREAD: &str = ": not read by Ceph 16, which takes no uid beside fsname or root_squash\n";
 
-/// A line for each thing that is found, grant by grant, and nothing where there is none. Each ends in a line feed. Only memory
-/// can be missing.
-pub fn lint_lines(alloc: Global, findings: &[Finding<'_>]) -> Result<Vec<u8>, AllocError>
-    ensures { IfOk result (λ lines. lines.items ≡ lint_lines findings.now) }
-{
-    let mut lines = Vec::new(alloc);
-    for finding in findings {
-        print_finding(&mut lines, finding)?;
-    }
-    Ok(lines)
-}
+const SPACES: &str =
+    ": not read by Ceph 16 as it stands, which takes only spaces round the separator before it\n";
 
-fn print_finding(text: &mut Vec<u8>, finding: &Finding<'_>) -> Result<(), AllocError>
-    ensures { OnOk result (text.new.items ≡ text.old.items ++ finding_lines finding.now) }
+const STAR: &str = ": not read by Ceph 16 as it stands, which takes no * for fsname\n";
+
+// The keys of the two items follow.
+const ORDER: &str = ": not read by Ceph 16 as it stands, which takes ";
+
+/// Appends a line for each thing that is found of a grant, and nothing where there is none; and one for why Ceph 16 does not read
+/// it as it stands in its text. Each ends in a line feed. Only memory can be missing.
+pub fn print_finding(
+    text: &mut Vec<u8>,
+    finding: &Finding<'_>,
+    unread: Option<Unread>,
+) -> Result<(), AllocError>
+    ensures { OnOk result (text.new.items ≡ text.old.items ++ finding_lines finding.now unread) }
 {
     let number = finding.grant;
     print_if(text, finding.is_redundant, number, COVERED)?;
     print_if(text, finding.allows_nothing, number, NOTHING)?;
     print_if(text, finding.undoing.is_some(), number, ": ")?;
     print_found(text, "root_squash undone, ", &finding.undoing)?;
-    print_if(text, !finding.has_ceph_text, number, UNREAD)
+    print_if(text, !finding.has_ceph_text, number, UNREAD)?;
+    print_as_it_stands(text, number, unread)
 }
 
 // Appends this of the grant, where the test is passed.
@@ -45,4 +50,26 @@ fn print_if(text: &mut Vec<u8>, test: bool, grant: u32, more: &str) -> Result<()
         print_str(text, more)?;
     }
     Ok(())
+}
+
+// Appends why Ceph 16 does not read the grant as it stands, where there is a reason.
+fn print_as_it_stands(
+    text: &mut Vec<u8>,
+    grant: u32,
+    unread: Option<Unread>,
+) -> Result<(), AllocError>
+    ensures { OnOk result (text.new.items ≡ text.old.items ++ stands_line grant unread) }
+{
+    match unread {
+        None => Ok(()),
+        Some(Unread::WhiteSpace) => print_if(text, true, grant, SPACES),
+        Some(Unread::AnyFileSystem) => print_if(text, true, grant, STAR),
+        Some(Unread::Order { first, second }) => {
+            print_if(text, true, grant, ORDER)?;
+            print_str(text, first.name())?;
+            print_str(text, " before ")?;
+            print_str(text, second.name())?;
+            print_str(text, "\n")
+        }
+    }
 }

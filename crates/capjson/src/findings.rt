@@ -1,35 +1,31 @@
-//! What is found in a list of grants.
-ghost use Rattle.std.specs.Prelude.{◌≡◌, ◌++◌, IfOk, OnOk};
+//! What is found of a grant.
+ghost use Rattle.std.specs.Prelude.{◌≡◌, ◌++◌, OnOk};
 ghost use Rattle.serde_json.specs.View.{members_view};
-ghost use Rattle.capjson.specs.Findings.{finding_if, finding_objects, finding_table, lint_objects, undone_line};
+ghost use Rattle.capjson.specs.Findings.{finding_if, finding_objects, finding_table, stands_object, undone_line};
 ghost use Rattle.capjson.specs.Values.{with_all};
 
 use crate::changes::put_witness;
-use crate::table::{Members, Piece, print_object, put_all};
+use crate::table::{Members, Piece, print_object, print_pieces, put_all};
 use capremarks::{Finding, Witness};
+use cephtexts::Unread;
 use serde_json::Map;
 use std::alloc::{AllocError, Global};
 
-/// An object for each thing that is found, grant by grant, and nothing where there is none. Each is a line, with its line feed. Only
-/// memory can be missing.
-pub fn lint_objects(alloc: Global, findings: &[Finding<'_>]) -> Result<Vec<u8>, AllocError>
-    ensures { IfOk result (λ lines. lines.items ≡ lint_objects findings.now) }
-{
-    let mut lines = Vec::new(alloc);
-    for finding in findings {
-        print_finding(&mut lines, finding)?;
-    }
-    Ok(lines)
-}
-
-fn print_finding(lines: &mut Vec<u8>, finding: &Finding<'_>) -> Result<(), AllocError>
-    ensures { OnOk result (lines.new.items ≡ lines.old.items ++ finding_objects finding.now) }
+/// Appends an object for each thing that is found of a grant, and nothing where there is none; and one for why Ceph 16 does not read
+/// it as it stands in its text. Each is a line, with its line feed. Only memory can be missing.
+pub fn print_finding_object(
+    lines: &mut Vec<u8>,
+    finding: &Finding<'_>,
+    unread: Option<Unread>,
+) -> Result<(), AllocError>
+    ensures { OnOk result (lines.new.items ≡ lines.old.items ++ finding_objects finding.now unread) }
 {
     let number = finding.grant;
     print_if(lines, finding.is_redundant, "covered", number)?;
     print_if(lines, finding.allows_nothing, "allows-nothing", number)?;
     print_undone(lines, number, &finding.undoing)?;
-    print_if(lines, !finding.has_ceph_text, "unread-by-ceph-16", number)
+    print_if(lines, !finding.has_ceph_text, "unread-by-ceph-16", number)?;
+    print_as_it_stands(lines, number, unread)
 }
 
 // Appends that this is found of the grant, where the test is passed.
@@ -77,4 +73,33 @@ fn put_finding(
         ("grant", Piece::Number(u64::from(grant))),
     ];
     put_all(members, alloc, &table)
+}
+
+// Appends why Ceph 16 does not read the grant as it stands, where there is a reason.
+fn print_as_it_stands(
+    lines: &mut Vec<u8>,
+    grant: u32,
+    unread: Option<Unread>,
+) -> Result<(), AllocError>
+    ensures { OnOk result (lines.new.items ≡ lines.old.items ++ stands_object grant unread) }
+{
+    let finding = ("finding", Piece::Word("unread-as-it-stands"));
+    let number = ("grant", Piece::Number(u64::from(grant)));
+    match unread {
+        None => Ok(()),
+        Some(Unread::WhiteSpace) => {
+            let reason = ("reason", Piece::Word("white-space"));
+            print_pieces(lines, &[finding, number, reason])
+        }
+        Some(Unread::AnyFileSystem) => {
+            let reason = ("reason", Piece::Word("any-file-system"));
+            print_pieces(lines, &[finding, number, reason])
+        }
+        Some(Unread::Order { first, second }) => {
+            let reason = ("reason", Piece::Word("order"));
+            let first = ("first", Piece::Word(first.name()));
+            let second = ("second", Piece::Word(second.name()));
+            print_pieces(lines, &[finding, number, reason, first, second])
+        }
+    }
 }

@@ -15,7 +15,7 @@ mod verdicts;
 
 pub use answer::answer_object;
 pub use changes::change_objects;
-pub use findings::lint_objects;
+pub use findings::print_finding_object;
 pub use laws::{one_answer_for_an_object, one_spelling_for_bytes, one_value_for_a_line};
 pub use shape::Shape;
 pub use standings::{print_standing_object, print_unread_object};

@@ -3,4 +3,5 @@ pub mod FirstBad
 pub mod Spelling
 pub mod TextFault
 pub mod ClientLines
+pub mod Looked
 pub use Rattle.capauth.proofs as Capauth

@@ -1,0 +1,4 @@
+pub mod Words
+pub mod Scanned
+pub mod Grants
+pub mod InOrder
