@@ -42,8 +42,8 @@ impl Question<'_> {
     ghost use Rattle.capgrant.specs.Access.{is_read};
     ghost use Rattle.capgrant.specs.Question.{class_of};
     ghost use Rattle.capgrant.specs.Failing.{fails_fsname, fails_uid, fails_gids, fails_path, fails_no_write, fails_root_squash, fails_no_p, fails_no_s, fails_not_owner, fails_not_own_group, fails_mode_bits, fails, first_failing};
-    ghost use Rattle.capgrant.specs.Rule.{attr_rules};
-    ghost use Rattle.capgrant.specs.Verdict.{allows, granted, first_failures};
+    ghost use Rattle.capgrant.specs.Rule.{access_rules, attr_rules};
+    ghost use Rattle.capgrant.specs.Verdict.{allows, may_allow, granted, first_failures};
 
     /// The place of the first grant that allows the access, the first at 0. Needs no memory.
     pub fn first_allowing(&self, grants: &[Grant]) -> Option<usize>
@@ -67,29 +67,39 @@ impl Question<'_> {
     }
 
     /// Whether the grant allows the access. Needs no memory.
-    // What most grants fail by is their path, so it is tested first.
     #[inline(always)]
-    #[tactic(auto, unfolding(crate::specs::Failing::first_failing))]
     pub fn allows(&self, grant: &Grant) -> bool
         ensures { result ≡ allows self.now grant.now }
     {
-        self.allows_where(grant, self.is_below(grant))
+        self.allows_where(grant, self.may_allow(grant))
     }
 
-    // The same, where it is known whether the inode lies at or below the grant's path.
+    // Whether the grant fails by none of the rules that look at no access. What most grants fail by is their path, so it is tested
+    // first.
     #[inline(always)]
-    #[tactic(auto, unfolding(crate::specs::Failing::first_failing))]
-    fn allows_where(&self, grant: &Grant, is_below: bool) -> bool
-        requires { is_below ≡ not (fails_path self.now grant.now) }
+    fn may_allow(&self, grant: &Grant) -> bool
+        ensures { result ≡ may_allow self.now grant.now }
+    {
+        self.is_below(grant)
+            && !self.fails_fsname(grant)
+            && !self.fails_uid(grant)
+            && !self.fails_gids(grant)
+    }
+
+    // Whether the grant allows the access, where it is known whether it fails by a rule that looks at no access.
+    #[inline(always)]
+    #[tactic(auto, using(crate::proofs::Parted::allows_parted))]
+    fn allows_where(&self, grant: &Grant, passed: bool) -> bool
+        requires { passed ≡ may_allow self.now grant.now }
         ensures { result ≡ allows self.now grant.now }
     {
-        is_below && self.first_failing(grant, is_below).is_none()
+        passed && self.first_failing_by_access(grant).is_none()
     }
 
-    /// Whether some grant allows what is asked, and whether some grant allows the other access, to the same inode. Each grant's path
-    /// is tested once, up to the grant by which both are known.
+    /// Whether some grant allows what is asked, and whether some grant allows the other access, to the same caller and of the same
+    /// inode. The rules that look at no access are tested once, up to the grant by which both are known.
     pub(crate) fn both_granted(&self, other: &Question<'_>, grants: &[Grant]) -> (bool, bool)
-        requires { other.now.path ≡ self.now.path }
+        requires { other.now ≡ record self.now { access = other.now.access } }
         ensures one { result.0 ≡ granted self.now grants.now }
         ensures other { result.1 ≡ granted other.now grants.now }
     {
@@ -98,16 +108,16 @@ impl Question<'_> {
             if one && two {
                 return (true, true);
             }
-            let is_below = self.is_below(grant);
-            one = one || self.allows_where(grant, is_below);
-            two = two || other.allows_where(grant, is_below);
+            let passed = self.may_allow(grant);
+            one = one || self.allows_where(grant, passed);
+            two = two || other.allows_where(grant, passed);
         }
         (one, two)
     }
 
     // The first rule by which the grant fails, if it does not allow the access. Whether the inode lies at or below its path
     // is known already.
-    #[tactic(auto, unfolding(crate::specs::Failing::first_failing, crate::specs::Failing::fails_not_owner, crate::specs::Failing::fails_not_own_group, crate::specs::Failing::fails_mode_bits))]
+    #[tactic(auto, unfolding(crate::specs::Failing::first_failing))]
     #[inline(always)]
     fn first_failing(&self, grant: &Grant, is_below: bool) -> Option<Rule>
         requires { is_below ≡ not (fails_path self.now grant.now) }
@@ -121,7 +131,18 @@ impl Question<'_> {
             Some(Rule::Gids)
         } else if !is_below {
             Some(Rule::Path)
-        } else if self.fails_no_write(grant) {
+        } else {
+            self.first_failing_by_access(grant)
+        }
+    }
+
+    // The first of the rules that look at the access by which the grant fails.
+    #[tactic(auto, unfolding(crate::specs::Failing::fails_not_owner, crate::specs::Failing::fails_not_own_group, crate::specs::Failing::fails_mode_bits))]
+    #[inline(always)]
+    fn first_failing_by_access(&self, grant: &Grant) -> Option<Rule>
+        ensures { result ≡ find (λ r. fails r self.now grant.now) access_rules }
+    {
+        if self.fails_no_write(grant) {
             Some(Rule::NoWrite)
         } else if self.fails_root_squash(grant) {
             Some(Rule::RootSquash)

@@ -3,6 +3,7 @@
 //! Public source: "CephFS Client Capabilities" in the Ceph documentation.
 #![tactic(auto)]
 
+mod blocks;
 mod flags;
 mod names;
 

@@ -1,13 +1,14 @@
-use Rattle.std.proofs.Common.{◌≡◌, not, ℕ, zero, suc, Bool, true, false, ◌||◌, List, [], ◌∷◌, take, refl, sym, ap, ◌∙◌}
-use Rattle.std.specs.List.{starts_with, list_any}
-use Rattle.std.specs.Str.{bytes_eq}
-use Rattle.capgrant.specs.Failing.{fails_path}
-use Rattle.capgrant.specs.Verdict.{allows}
+use Rattle.std.proofs.Common.{◌≡◌, ℕ, zero, suc, Bool, true, false, ◌||◌, List, [], ◌∷◌, take, refl, sym, ap, ◌∙◌}
+use Rattle.std.specs.List.{list_any}
+use Rattle.capgrant.specs.Question.{Question}
+use Rattle.capgrant.specs.Failing.{fails_fsname, fails_uid, fails_gids, fails_path}
+use Rattle.capgrant.specs.Verdict.{allows, may_allow}
 use Rattle.capgrant.proofs.question.Question.both_granted.Goals as goal
 
+-- the rules that look at no access say the same to both
 pub allows_where-two-requires : goal.allows_where-two-requires
-unfolding fails_path
-allows_where-two-requires c = c.is_below-is_below.ensures ∙ ap (λ path. not (not (starts_with bytes_eq path c.grant-item.result.path))) (sym c.requires)
+unfolding fails_fsname fails_uid fails_gids fails_path
+allows_where-two-requires c = c.may_allow-passed.ensures ∙ ap (λ (q : Question). may_allow q c.grant-item.result) (sym c.requires)
 
 -- what one of the first passes, one of all passes
 among_first : {T : Type 0} (p : T → Bool) (xs : List T) (n : ℕ) → list_any p (take n xs) ≡ true → list_any p xs ≡ true
