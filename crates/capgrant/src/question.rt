@@ -10,7 +10,7 @@ use crate::rule::Rule;
 use crate::rules::{MAX_RULES, Rules};
 use arrayvec::ArrayVec;
 use capbits::Caller;
-use capspec::{FsName, Grant};
+use capspec::{Begun, FsName, Grant};
 use std::marker::Model;
 
 /// What is asked of each grant: whether, on this file system, this caller may make this access to an inode.
@@ -38,7 +38,9 @@ impl<'a> Model for Question<'a> {
 }
 
 impl Question<'_> {
-    ghost use Rattle.std.specs.Prelude.{◌≡◌, ◌≤◌, find, length, not, position};
+    ghost use Rattle.std.specs.Prelude.{◌≡◌, ◌≤◌, find, length, not, position, IfSome};
+    ghost use Rattle.capwords.specs.Paths.{slashed};
+    ghost use Rattle.capspec.specs.Begun.{IsBegun, AreBegun};
     ghost use Rattle.capgrant.specs.Access.{is_read};
     ghost use Rattle.capgrant.specs.Question.{class_of};
     ghost use Rattle.capgrant.specs.Failing.{fails_fsname, fails_uid, fails_gids, fails_path, fails_no_write, fails_root_squash, fails_no_p, fails_no_s, fails_not_owner, fails_not_own_group, fails_mode_bits, fails, first_failing};
@@ -71,16 +73,17 @@ impl Question<'_> {
     pub fn allows(&self, grant: &Grant) -> bool
         ensures { result ≡ allows self.now grant.now }
     {
-        self.allows_where(grant, self.may_allow(grant))
+        self.allows_where(grant, self.may_allow(grant, None))
     }
 
     // Whether the grant fails by none of the rules that look at no access. What most grants fail by is their path, so it is tested
     // first.
     #[inline(always)]
-    fn may_allow(&self, grant: &Grant) -> bool
+    fn may_allow(&self, grant: &Grant, begun: Option<Begun>) -> bool
+        requires { IfSome begun (λ begun. IsBegun self.now.path (slashed grant.now.path) begun) }
         ensures { result ≡ may_allow self.now grant.now }
     {
-        self.is_below(grant)
+        self.is_below_as_begun(grant, begun)
             && !self.fails_fsname(grant)
             && !self.fails_uid(grant)
             && !self.fails_gids(grant)
@@ -97,18 +100,25 @@ impl Question<'_> {
     }
 
     /// Whether some grant allows what is asked, and whether some grant allows the other access, to the same caller and of the same
-    /// inode. The rules that look at no access are tested once, up to the grant by which both are known.
-    pub(crate) fn both_granted(&self, other: &Question<'_>, grants: &[Grant]) -> (bool, bool)
-        requires { other.now ≡ record self.now { access = other.now.access } }
+    /// inode. The rules that look at no access are tested once, up to the grant by which both are known. Of the first grants it may
+    /// be known how far their paths begin with that of the inode.
+    pub(crate) fn both_granted(
+        &self,
+        other: &Question<'_>,
+        grants: &[Grant],
+        begun: &[Begun],
+    ) -> (bool, bool)
+        requires begun { AreBegun self.now.path grants.now begun.now }
+        requires other { other.now ≡ record self.now { access = other.now.access } }
         ensures one { result.0 ≡ granted self.now grants.now }
         ensures other { result.1 ≡ granted other.now grants.now }
     {
         let (mut one, mut two) = (false, false);
-        for grant in grants {
+        for (place, grant) in grants.iter().enumerate() {
             if one && two {
                 return (true, true);
             }
-            let passed = self.may_allow(grant);
+            let passed = self.may_allow(grant, begun.get(place).copied());
             one = one || self.allows_where(grant, passed);
             two = two || other.allows_where(grant, passed);
         }
@@ -198,6 +208,19 @@ impl Question<'_> {
         ensures { result ≡ fails_gids self.now grant.now }
     {
         !grant.gids.as_slice().is_empty() && !has_listed_gid(self.caller, grant)
+    }
+
+    // The same, where it may be known how far the grant's path begins with that of the inode.
+    #[inline(always)]
+    #[tactic(auto, unfolding(crate::specs::Failing::fails_path))]
+    fn is_below_as_begun(&self, grant: &Grant, begun: Option<Begun>) -> bool
+        requires { IfSome begun (λ begun. IsBegun self.now.path (slashed grant.now.path) begun) }
+        ensures { result ≡ not (fails_path self.now grant.now) }
+    {
+        match begun {
+            Some(begun) => grant.path.leads_as_begun(begun),
+            None => self.is_below(grant),
+        }
     }
 
     // Whether the inode lies at or below the grant's path.

@@ -3,7 +3,6 @@
 //! Public source: "CephFS Client Capabilities" in the Ceph documentation.
 #![tactic(auto)]
 
-mod blocks;
 mod flags;
 mod names;
 

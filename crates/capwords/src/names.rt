@@ -3,8 +3,6 @@
 ghost use Rattle.std.specs.Prelude.{◌≡◌, ◌↔◌, ◌+◌, ◌*◌, ◌<◌, ◌≤◌, IsTrue, length, map, slice_index};
 ghost use Rattle.capwords.specs.Paths.{slashed};
 
-use crate::blocks::{BLOCK, is_same_long};
-
 /// Whether a text is these names with a slash before each. It goes from the last name on, by which paths mostly differ.
 #[inline(always)]
 pub fn is_text_of(text: &[u8], names: &[&[u8]]) -> bool
@@ -31,7 +29,7 @@ pub fn is_text_of(text: &[u8], names: &[&[u8]]) -> bool
 }
 
 // Whether two texts of one length are the same. Two to four bytes are compared as two pairs, which costs the least: the
-// pairs may share bytes. Long names are compared by blocks.
+// pairs may share bytes.
 #[inline(always)]
 #[tactic(auto, using(crate::proofs::Pairs::same_by_pairs))]
 fn is_same(one: &[u8], other: &[u8]) -> bool
@@ -41,9 +39,6 @@ fn is_same(one: &[u8], other: &[u8]) -> bool
     let len = other.len();
     if 2 <= len && len <= 4 {
         return is_same_pair(one, other, 0) && is_same_pair(one, other, len - 2);
-    }
-    if BLOCK <= len {
-        return is_same_long(one, other);
     }
     one == other
 }
