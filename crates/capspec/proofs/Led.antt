@@ -76,10 +76,9 @@ led text is count counted names b begun r holds_if if_holds =
       | inr enough ↦
           let few : count ≤ length names = omega (arith, enough) in
           let taken : map (λ (n : Bor (List ℕ)). n.now) (take count (lent names)) ≡ take count names = sym (take-map (λ (n : Bor (List ℕ)). n.now) count (lent names)) ∙ ap (take count) (told names) in
-          leads text is count counted (lent names) (let same : length (lent names) ≡ length names = length-map names _ in omega (arith, few, same)) r
-            (
-              λ holds. whole names text b begun count (holds_if holds).0 (holds_if holds).1 ∙ ap slashed (sym taken),
-              λ e. (let same : text ≡ slashed (take count names) = e ∙ ap slashed taken in if_holds (same_count names text b begun count few same) (same_size names text b begun count few same)),
-            )
+          leads text is count counted (lent names) (let same : length (lent names) ≡ length names = length-map names _ in omega (arith, few, same)) r (
+            λ holds. whole names text b begun count (holds_if holds).0 (holds_if holds).1 ∙ ap slashed (sym taken),
+            λ e. (let same : text ≡ slashed (take count names) = e ∙ ap slashed taken in if_holds (same_count names text b begun count few same) (same_size names text b begun count few same)),
+          )
           ∙ ap (λ (ns : List (List ℕ)). starts_with bytes_eq ns (names_of text)) (told names)
     ]

@@ -51,12 +51,11 @@ module _ (names : List (Bor (List ℕ))) (text : List ℕ) (b : Begun) (d : Bor 
   long = omega (arith, next_size names b.count d inside, begins.1)
 
   pub one_more : take (length name + 1) (drop b.size text) ≡ 47 ∷ name → Begins (texts names) text (record { count = b.count + 1; size = b.size + 1 + length name })
-  one_more here =
-      (
-        omega (arith, inside, length-map names (λ (n : Bor (List ℕ)). n.now)),
-        omega (arith, long),
-        ap (λ n. take n text) long ∙ cut ∙ ap (λ (t : List ℕ). before ++ t) here ∙ sym (next names b.count d inside),
-      )
+  one_more here = (
+    omega (arith, inside, length-map names (λ (n : Bor (List ℕ)). n.now)),
+    omega (arith, long),
+    ap (λ n. take n text) long ∙ cut ∙ ap (λ (t : List ℕ). before ++ t) here ∙ sym (next names b.count d inside),
+  )
 
   pub no_more : (take (length name + 1) (drop b.size text) ≡ 47 ∷ name → ⊥) → IsBegun (texts names) text b
   no_more apart = (begins, λ _ more. apart (append_cancel_left before _ _ (sym cut ∙ ap (λ n. take n text) (sym long) ∙ more ∙ next names b.count d inside)))
@@ -89,28 +88,26 @@ module _ (names : List (List ℕ)) (one other : List ℕ) (known : Begun) (n : �
       let few : take known.count names ≡ take b.count names ++ drop b.count (take known.count names) = sym (take-append-drop b.count (take known.count names)) ∙ ap (λ (l : List (List ℕ)). l ++ drop b.count (take known.count names)) (take-take b.count known.count names fewer) in
       let split : slashed (take known.count names) ≡ slashed (take b.count names) ++ slashed (drop b.count (take known.count names)) = ap slashed few ∙ slashed-append (take b.count names) (drop b.count (take known.count names)) in
       let m : length (slashed (take b.count names)) ≤ n = omega (arith, size, less) in
-      let longer : length (slashed (take b.count names)) ≤ length (slashed (take known.count names)) = omega (arith, ap length split, length-append (slashed (take b.count names)) (slashed (drop b.count (take known.count names)))) in
-      (
+      let longer : length (slashed (take b.count names)) ≤ length (slashed (take known.count names)) = omega (arith, ap length split, length-append (slashed (take b.count names)) (slashed (drop b.count (take known.count names)))) in (
         omega (arith, fewer, is.0.0),
         size,
         sym (shared_take one other n _ shared m) ∙ sym (take-take _ (length (slashed (take known.count names))) one longer) ∙ ap (take (length (slashed (take b.count names)))) (is.0.2 ∙ split)
-        ∙ take-append_seam (slashed (take b.count names)) (slashed (drop b.count (take known.count names))),
+            ∙ take-append_seam (slashed (take b.count names)) (slashed (drop b.count (take known.count names))),
       )
 
 -- where the next name ends before the texts differ, it is in neither
 pub carried_whole : (names : List (Bor (List ℕ))) (one other : List ℕ) (known : Begun) (n : ℕ) (d : Bor (List ℕ)) → IsBegun (texts names) one known → ShareFirst one other n → known.count < length names → known.size ≤ n → length (get_or names known.count d).now < n - known.size → IsBegun (texts names) other known
-carried_whole names one other known n d is shared inside less next_fits =
-    (
-      carried (texts names) one other known n is shared less,
-      λ counted more. is.1 counted (let m : length (slashed (take (known.count + 1) (texts names))) ≤ n = omega (arith, next_size names known.count d inside, is.0.1, less, next_fits) in shared_take one other n _ shared m ∙ more),
-    )
+carried_whole names one other known n d is shared inside less next_fits = (
+  carried (texts names) one other known n is shared less,
+  λ counted more. is.1 counted (let m : length (slashed (take (known.count + 1) (texts names))) ≤ n = omega (arith, next_size names known.count d inside, is.0.1, less, next_fits) in shared_take one other n _ shared m ∙ more),
+)
 
 -- ---- grants
 
 pub alike_at : (grants : List Grant) (place other n : ℕ) (d e : Grant) (first second : List ℕ) → first ≡ slashed (get_or grants other e).path → second ≡ slashed (get_or grants place d).path → ShareFirst first second n → IsAlike grants place (record { other = other; bytes = n })
 alike_at grants place other n d e first second first-is second-is shared g h at_place at_other =
     subst (λ (t : List ℕ). ShareFirst t (slashed g.path) n) (first-is ∙ ap (λ (x : Grant). slashed x.path) (get_or_from_slice_get grants other h e at_other))
-      (subst (λ (t : List ℕ). ShareFirst first t n) (second-is ∙ ap (λ (x : Grant). slashed x.path) (get_or_from_slice_get grants place g d at_place)) shared)
+    (subst (λ (t : List ℕ). ShareFirst first t n) (second-is ∙ ap (λ (x : Grant). slashed x.path) (get_or_from_slice_get grants place g d at_place)) shared)
 
 -- what is read from a list with an element behind it
 pushed : {X : Type 0} (xs : List X) (x y : X) (k : ℕ) → slice_get (xs ++ x ∷ []) k ≡ Some y → (slice_get xs k ≡ Some y) ⊎ ((k ≡ length xs) × (x ≡ y))
@@ -120,11 +117,10 @@ pushed (z ∷ xs) x y zero e = inl e
 pushed (z ∷ xs) x y (suc k) e = elim (pushed xs x y k e) [ inl inside ↦ inl inside | inr last ↦ inr (ap suc last.0, last.1) ]
 
 pub alike_more : (grants : List Grant) (alike : List Alike) (a : Alike) → length alike < length grants → AreAlike grants alike → IsAlike grants (length alike) a → AreAlike grants (alike ++ a ∷ [])
-alike_more grants alike a room so_far here =
-    (
-      omega (arith, room, length-append alike (a ∷ [])),
-      λ place b at. elim (pushed alike a b place at) [ inl inside ↦ so_far.1 place b inside | inr last ↦ subst (λ n. IsAlike grants n b) (sym last.0) (subst (IsAlike grants (length alike)) last.1 here) ],
-    )
+alike_more grants alike a room so_far here = (
+  omega (arith, room, length-append alike (a ∷ [])),
+  λ place b at. elim (pushed alike a b place at) [ inl inside ↦ so_far.1 place b inside | inr last ↦ subst (λ n. IsAlike grants n b) (sym last.0) (subst (IsAlike grants (length alike)) last.1 here) ],
+)
 
 pub begun_more : (names : List (List ℕ)) (grants : List Grant) (begun : List Begun) (b : Begun) (d : Grant) (text : List ℕ) → AreBegun names grants begun → text ≡ slashed (get_or grants (length begun) d).path → IsBegun names text b → AreBegun names grants (begun ++ b ∷ [])
 begun_more names grants begun b d text so_far text-is here place g c at_place at =
@@ -144,8 +140,7 @@ known_of names grants begun slice alike al place d e known text slice-is al-is s
     let here : slice_get grants place ≡ Some (get_or grants place d) = slice_get-get_or grants place d (omega (arith, inside, counts, likes.0)) in
     let there : slice_get grants a.other ≡ Some (get_or grants a.other d) = slice_get-get_or grants a.other d (omega (arith, before, lengths, count, inside, counts, likes.0)) in
     let its : slice_get alike place ≡ Some a = ap (λ (l : List Alike). slice_get l place) (sym al-is) ∙ slice_get-get_or al place e inside in
-    let seen : slice_get begun a.other ≡ Some known = ap (λ (l : List Begun). slice_get l a.other) (sym slice-is) ∙ slice_get-get_or slice a.other known before ∙ ap Some (sym known-is) in
-    (
+    let seen : slice_get begun a.other ≡ Some known = ap (λ (l : List Begun). slice_get l a.other) (sym slice-is) ∙ slice_get-get_or slice a.other known before ∙ ap Some (sym known-is) in (
       slashed (get_or grants a.other d).path,
       so_far a.other (get_or grants a.other d) known there seen,
       subst (λ (t : List ℕ). ShareFirst (slashed (get_or grants a.other d).path) t a.bytes) (sym text-is) (likes.1 place a its (get_or grants place d) (get_or grants a.other d) here there),

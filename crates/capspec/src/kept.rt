@@ -128,10 +128,7 @@ fn most_alike(grants: &[Grant], place: usize) -> Alike
         bytes: 0,
     };
     for other in 0..place {
-        let bytes = count_shared(
-            grants[other].path.as_bytes(),
-            grants[place].path.as_bytes(),
-        );
+        let bytes = count_shared(grants[other].path.as_bytes(), grants[place].path.as_bytes());
         if most.bytes < bytes {
             most = Alike { other, bytes };
         }

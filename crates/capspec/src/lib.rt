@@ -20,11 +20,11 @@ mod tree_path;
 mod values;
 mod writing;
 
+pub use begun::Begun;
 pub use capwords::Flags4;
 pub use fault::{SpecFault, SpecFaultKind};
 pub use fsname::FsName;
 pub use gids::Gids;
-pub use begun::Begun;
 pub use grant::{Grant, Grants};
 pub use kept::KeptGrants;
 pub use laws::{

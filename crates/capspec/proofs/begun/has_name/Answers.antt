@@ -8,4 +8,4 @@ use Rattle.capspec.proofs.begun.has_name.Goals as goal
 pub returns-then-slash-eq47 : goal.returns-then-slash-eq47
 returns-then-slash-eq47 c =
     has_at (drop c.args.at c.args.text.now) c.in-Some.behind.now c.args.name.now c.in-Some.slash.now c.starts_with.result (sym (take_all (length c.args.text.now - c.args.at) (drop c.args.at c.args.text.now) (omega (arith, length-drop c.args.at c.args.text.now))) ∙ c.in-Some.ensures.cases.0) c.if-slash-eq47.true
-      (starts_is Decides-eqb c.in-Some.behind.now c.args.name.now c.starts_with.result c.starts_with.ensures.value)
+    (starts_is Decides-eqb c.in-Some.behind.now c.args.name.now c.starts_with.result c.starts_with.ensures.value)

@@ -8,9 +8,9 @@ use Rattle.capspec.proofs.kept.KeptGrants.begun_by.Goals.{in-Some, in-None}
 pub begun_in-here-requires : goal.begun_in-here-requires
 begun_in-here-requires c =
     known_of (map (λ name. name.now) c.args.names.now) c.as_slice-grants.result.now c.loop-place.begun.items c.deref.result.now c.self.inside.alike.items c.deref-alike-items.result.now c.loop-place.place
-      c.index-grants-place.result (record { other = 0; bytes = 0 }) c.in-Some.known.now c.as_bytes-text.result.now c.deref.ensures.0 c.deref-alike-items.ensures.0 c.loop-place.invariant.1 c.loop-place.invariant.0
-      (omega (arith, c.loop-place-test.true)) (subst (λ grants. AreAlike grants c.self.inside.alike.items) (sym c.as_slice-grants.ensures.same) c.self.invariant)
-      c.as_bytes-text.ensures c.in-Some.ensures.lookup.3.0 (c.in-Some.ensures.lookup.3.1 c.in-Some.known.now)
+    c.index-grants-place.result (record { other = 0; bytes = 0 }) c.in-Some.known.now c.as_bytes-text.result.now c.deref.ensures.0 c.deref-alike-items.ensures.0 c.loop-place.invariant.1 c.loop-place.invariant.0
+    (omega (arith, c.loop-place-test.true)) (subst (λ grants. AreAlike grants c.self.inside.alike.items) (sym c.as_slice-grants.ensures.same) c.self.invariant)
+    c.as_bytes-text.ensures c.in-Some.ensures.lookup.3.0 (c.in-Some.ensures.lookup.3.1 c.in-Some.known.now)
 
 pub loop-place-preserved : goal.loop-place-preserved
 loop-place-preserved c =
@@ -21,8 +21,7 @@ loop-place-preserved c =
     let here : IsBegun names c.as_bytes-text.result.now c.match-get.here = elim c.match-get.branch [
       | in-Some w ↦ subst (IsBegun names c.as_bytes-text.result.now) (sym w.here-is) w.begun_in-here.ensures
       | in-None w ↦ subst (IsBegun names c.as_bytes-text.result.now) (sym w.here-is) w.go_on-here.ensures
-    ] in
-    (
+    ] in (
       omega (arith, c.loop-place.invariant.0, c.push.ensures.len),
       subst (AreBegun names grants) (sym c.push.ensures.items) (begun_more names grants begun c.match-get.here c.index-grants-place.result c.as_bytes-text.result.now c.loop-place.invariant.1 text-is here),
     )
