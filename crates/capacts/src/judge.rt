@@ -52,7 +52,7 @@ fn verdict_on(
     let (Some(path), Some(node)) = (path, tree.node(ino)) else {
         return no_grant();
     };
-    let (grants, caller) = (&session.grants, &session.caller);
+    let (grants, caller) = (session.grants.grants(), &session.caller);
     verdict(grants, fs, caller, path.as_slice(), &node.attr, access)
 }
 

@@ -1,3 +1,4 @@
 pub mod Listed
 pub mod Verdicts
 pub mod Pins
+pub mod Parted

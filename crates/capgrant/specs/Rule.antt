@@ -7,6 +7,10 @@ use Rattle.capgrant.specs.declared.rule.Rule.TheVariants.{FsName, Uid, Gids, Pat
 abbrev pub all_rules : List Rule
 all_rules = FsName ∷ Uid ∷ Gids ∷ Path ∷ NoWrite ∷ RootSquash ∷ NoP ∷ NoS ∷ NotOwner ∷ NotOwnGroup ∷ ModeBits ∷ []
 
+-- those that look at the access
+abbrev pub access_rules : List Rule
+access_rules = NoWrite ∷ RootSquash ∷ NoP ∷ NoS ∷ NotOwner ∷ NotOwnGroup ∷ ModeBits ∷ []
+
 -- the last of them, on the inode's owner, group and mode
 abbrev pub attr_rules : List Rule
 attr_rules = NotOwner ∷ NotOwnGroup ∷ ModeBits ∷ []

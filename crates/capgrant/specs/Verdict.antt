@@ -1,16 +1,20 @@
 -- What a list of grants says to a question.
-use Rattle.std.specs.Prelude.{ℕ, ◌+◌, Bool, true, false, Option, Some, None, is_none, List, position, filter_map}
+use Rattle.std.specs.Prelude.{ℕ, ◌+◌, Bool, true, false, not, ◌&&◌, Option, Some, None, is_none, List, position, filter_map}
 use Rattle.std.specs.List.{list_any}
 use Rattle.capspec.specs.declared.grant.Grant.{Grant}
 use Rattle.capgrant.specs.declared.rule.Rule.{Rule}
 use Rattle.capgrant.specs.declared.answer.Verdict.{Verdict}
 use Rattle.capgrant.specs.declared.answer.Verdict.TheVariants.{Allowed, Denied}
 use Rattle.capgrant.specs.Question.{Question}
-use Rattle.capgrant.specs.Failing.{first_failing}
+use Rattle.capgrant.specs.Failing.{fails_fsname, fails_uid, fails_gids, fails_path, first_failing}
 
 -- no rule fails
 abbrev pub allows : Question → Grant → Bool
 allows q g = is_none (first_failing q g)
+
+-- none of the rules fails that look at no access
+abbrev pub may_allow : Question → Grant → Bool
+may_allow q g = not (fails_path q g) && (not (fails_fsname q g) && (not (fails_uid q g) && not (fails_gids q g)))
 
 -- some grant allows
 abbrev pub granted : Question → List Grant → Bool

@@ -12,7 +12,7 @@ mod rules;
 pub use access::{Access, Attr};
 pub use answer::Verdict;
 pub use class::Class;
-pub use policy::{permitted, verdict};
+pub use policy::{permitted, permitted_by_kept, verdict};
 pub use question::Question;
 pub use rule::Rule;
 pub use rules::Rules;

@@ -10,7 +10,7 @@ use crate::rule::Rule;
 use crate::rules::{MAX_RULES, Rules};
 use arrayvec::ArrayVec;
 use capbits::Caller;
-use capspec::{FsName, Grant};
+use capspec::{Begun, FsName, Grant};
 use std::marker::Model;
 
 /// What is asked of each grant: whether, on this file system, this caller may make this access to an inode.
@@ -38,12 +38,14 @@ impl<'a> Model for Question<'a> {
 }
 
 impl Question<'_> {
-    ghost use Rattle.std.specs.Prelude.{◌≡◌, ◌≤◌, find, length, not, position};
+    ghost use Rattle.std.specs.Prelude.{◌≡◌, ◌≤◌, find, length, not, position, IfSome};
+    ghost use Rattle.capwords.specs.Paths.{slashed};
+    ghost use Rattle.capspec.specs.Begun.{IsBegun, AreBegun};
     ghost use Rattle.capgrant.specs.Access.{is_read};
     ghost use Rattle.capgrant.specs.Question.{class_of};
     ghost use Rattle.capgrant.specs.Failing.{fails_fsname, fails_uid, fails_gids, fails_path, fails_no_write, fails_root_squash, fails_no_p, fails_no_s, fails_not_owner, fails_not_own_group, fails_mode_bits, fails, first_failing};
-    ghost use Rattle.capgrant.specs.Rule.{attr_rules};
-    ghost use Rattle.capgrant.specs.Verdict.{allows, granted, first_failures};
+    ghost use Rattle.capgrant.specs.Rule.{access_rules, attr_rules};
+    ghost use Rattle.capgrant.specs.Verdict.{allows, may_allow, granted, first_failures};
 
     /// The place of the first grant that allows the access, the first at 0. Needs no memory.
     pub fn first_allowing(&self, grants: &[Grant]) -> Option<usize>
@@ -67,47 +69,65 @@ impl Question<'_> {
     }
 
     /// Whether the grant allows the access. Needs no memory.
-    // What most grants fail by is their path, so it is tested first.
     #[inline(always)]
-    #[tactic(auto, unfolding(crate::specs::Failing::first_failing))]
     pub fn allows(&self, grant: &Grant) -> bool
         ensures { result ≡ allows self.now grant.now }
     {
-        self.allows_where(grant, self.is_below(grant))
+        self.allows_where(grant, self.may_allow(grant, None))
     }
 
-    // The same, where it is known whether the inode lies at or below the grant's path.
+    // Whether the grant fails by none of the rules that look at no access. What most grants fail by is their path, so it is tested
+    // first.
     #[inline(always)]
-    #[tactic(auto, unfolding(crate::specs::Failing::first_failing))]
-    fn allows_where(&self, grant: &Grant, is_below: bool) -> bool
-        requires { is_below ≡ not (fails_path self.now grant.now) }
+    fn may_allow(&self, grant: &Grant, begun: Option<Begun>) -> bool
+        requires { IfSome begun (λ begun. IsBegun self.now.path (slashed grant.now.path) begun) }
+        ensures { result ≡ may_allow self.now grant.now }
+    {
+        self.is_below_as_begun(grant, begun)
+            && !self.fails_fsname(grant)
+            && !self.fails_uid(grant)
+            && !self.fails_gids(grant)
+    }
+
+    // Whether the grant allows the access, where it is known whether it fails by a rule that looks at no access.
+    #[inline(always)]
+    #[tactic(auto, using(crate::proofs::Parted::allows_parted))]
+    fn allows_where(&self, grant: &Grant, passed: bool) -> bool
+        requires { passed ≡ may_allow self.now grant.now }
         ensures { result ≡ allows self.now grant.now }
     {
-        is_below && self.first_failing(grant, is_below).is_none()
+        passed && self.first_failing_by_access(grant).is_none()
     }
 
-    /// Whether some grant allows what is asked, and whether some grant allows the other access, to the same inode. Each grant's path
-    /// is tested once, up to the grant by which both are known.
-    pub(crate) fn both_granted(&self, other: &Question<'_>, grants: &[Grant]) -> (bool, bool)
-        requires { other.now.path ≡ self.now.path }
+    /// Whether some grant allows what is asked, and whether some grant allows the other access, to the same caller and of the same
+    /// inode. The rules that look at no access are tested once, up to the grant by which both are known. Of the first grants it may
+    /// be known how far their paths begin with that of the inode.
+    pub(crate) fn both_granted(
+        &self,
+        other: &Question<'_>,
+        grants: &[Grant],
+        begun: &[Begun],
+    ) -> (bool, bool)
+        requires begun { AreBegun self.now.path grants.now begun.now }
+        requires other { other.now ≡ record self.now { access = other.now.access } }
         ensures one { result.0 ≡ granted self.now grants.now }
         ensures other { result.1 ≡ granted other.now grants.now }
     {
         let (mut one, mut two) = (false, false);
-        for grant in grants {
+        for (place, grant) in grants.iter().enumerate() {
             if one && two {
                 return (true, true);
             }
-            let is_below = self.is_below(grant);
-            one = one || self.allows_where(grant, is_below);
-            two = two || other.allows_where(grant, is_below);
+            let passed = self.may_allow(grant, begun.get(place).copied());
+            one = one || self.allows_where(grant, passed);
+            two = two || other.allows_where(grant, passed);
         }
         (one, two)
     }
 
     // The first rule by which the grant fails, if it does not allow the access. Whether the inode lies at or below its path
     // is known already.
-    #[tactic(auto, unfolding(crate::specs::Failing::first_failing, crate::specs::Failing::fails_not_owner, crate::specs::Failing::fails_not_own_group, crate::specs::Failing::fails_mode_bits))]
+    #[tactic(auto, unfolding(crate::specs::Failing::first_failing))]
     #[inline(always)]
     fn first_failing(&self, grant: &Grant, is_below: bool) -> Option<Rule>
         requires { is_below ≡ not (fails_path self.now grant.now) }
@@ -121,7 +141,18 @@ impl Question<'_> {
             Some(Rule::Gids)
         } else if !is_below {
             Some(Rule::Path)
-        } else if self.fails_no_write(grant) {
+        } else {
+            self.first_failing_by_access(grant)
+        }
+    }
+
+    // The first of the rules that look at the access by which the grant fails.
+    #[tactic(auto, unfolding(crate::specs::Failing::fails_not_owner, crate::specs::Failing::fails_not_own_group, crate::specs::Failing::fails_mode_bits))]
+    #[inline(always)]
+    fn first_failing_by_access(&self, grant: &Grant) -> Option<Rule>
+        ensures { result ≡ find (λ r. fails r self.now grant.now) access_rules }
+    {
+        if self.fails_no_write(grant) {
             Some(Rule::NoWrite)
         } else if self.fails_root_squash(grant) {
             Some(Rule::RootSquash)
@@ -177,6 +208,19 @@ impl Question<'_> {
         ensures { result ≡ fails_gids self.now grant.now }
     {
         !grant.gids.as_slice().is_empty() && !has_listed_gid(self.caller, grant)
+    }
+
+    // The same, where it may be known how far the grant's path begins with that of the inode.
+    #[inline(always)]
+    #[tactic(auto, unfolding(crate::specs::Failing::fails_path))]
+    fn is_below_as_begun(&self, grant: &Grant, begun: Option<Begun>) -> bool
+        requires { IfSome begun (λ begun. IsBegun self.now.path (slashed grant.now.path) begun) }
+        ensures { result ≡ not (fails_path self.now grant.now) }
+    {
+        match begun {
+            Some(begun) => grant.path.leads_as_begun(begun),
+            None => self.is_below(grant),
+        }
     }
 
     // Whether the inode lies at or below the grant's path.

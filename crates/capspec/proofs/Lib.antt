@@ -19,3 +19,5 @@ pub mod OneText
 pub mod Counted
 pub mod Measured
 pub mod Numbers
+pub mod Sharing
+pub mod Led

@@ -8,3 +8,4 @@ pub mod Parts
 pub mod Words
 pub mod Faults
 pub mod Written
+pub mod Begun

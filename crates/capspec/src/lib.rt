@@ -3,6 +3,7 @@
 //! Public source: "CephFS Client Capabilities" in the Ceph documentation.
 #![tactic(auto)]
 
+mod begun;
 mod bytes;
 mod draft;
 mod fault;
@@ -10,6 +11,7 @@ mod fsname;
 mod gids;
 mod grant;
 mod items;
+mod kept;
 mod laws;
 mod measure;
 mod path;
@@ -18,11 +20,13 @@ mod tree_path;
 mod values;
 mod writing;
 
+pub use begun::Begun;
 pub use capwords::Flags4;
 pub use fault::{SpecFault, SpecFaultKind};
 pub use fsname::FsName;
 pub use gids::Gids;
 pub use grant::{Grant, Grants};
+pub use kept::KeptGrants;
 pub use laws::{
     fault_where_nothing_reads, no_fault_where_it_reads, one_fault, one_list_of_grants,
     the_written_form_reads,

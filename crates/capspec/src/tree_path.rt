@@ -1,5 +1,6 @@
 //! Paths in the tree.
 
+use crate::begun::Begun;
 use crate::measure::{count_slashes, has_fit_names};
 use crate::path::{is_slashed, split_names, write_names};
 use capwords::is_text_of;
@@ -35,9 +36,10 @@ impl Model for TreePath {
 }
 
 impl TreePath {
-    ghost use Rattle.std.specs.Prelude.{◌≡◌, ◌++◌, IfOk, OnOk, OnErr, All, IsTrue, IsFalse, MatchOption, map};
+    ghost use Rattle.std.specs.Prelude.{◌≡◌, ◌++◌, ℕ, List, IfOk, OnOk, OnErr, All, IsTrue, IsFalse, MatchOption, map};
     ghost use Rattle.std.specs.List.{starts_with};
     ghost use Rattle.std.specs.Str.{bytes_eq};
+    ghost use Rattle.capspec.specs.Begun.{IsBegun};
     ghost use Rattle.capwords.specs.Paths.{names_of, is_name, slashed, are_few_and_short};
 
     /// The path that a text names. Slashes only separate: leading, trailing and doubled ones mean nothing.
@@ -109,6 +111,13 @@ impl TreePath {
         ensures { result ≡ starts_with bytes_eq (map (λ name. name.now) names.now) self.now }
     {
         self.count <= names.len() && is_text_of(self.text.as_slice(), &names[..self.count])
+    }
+
+    /// The same, where it is known how far this path's text begins with the names. Needs no memory.
+    pub fn leads_as_begun(&self, begun: Begun) -> bool
+        ensures { (names : List (List ℕ)) → IsBegun names (slashed self.now) begun → result ≡ starts_with bytes_eq names self.now }
+    {
+        begun.count == self.count && begun.size == self.text.as_slice().len()
     }
 
     // The same path, in memory of its own.

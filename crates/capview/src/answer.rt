@@ -74,7 +74,7 @@ impl View {
             unreachable!()
         };
         verdict(
-            &session.grants,
+            session.grants.grants(),
             fs,
             &session.caller,
             path.as_slice(),

@@ -10,7 +10,7 @@ ghost use Rattle.capview.specs.declared.change.ViewChange.TheVariants as change;
 use crate::change::ViewChange;
 use capbits::{Caller, ClientId, Ino};
 use capgrant::Attr;
-use capspec::Grants;
+use capspec::{Grants, KeptGrants};
 use inotree::{Name, Place, Tree};
 use sessiontab::{Connected, Session, Status};
 use std::alloc::AllocError;
@@ -178,7 +178,7 @@ fn opened(
     let session = Session {
         status: Status::Open,
         caller: caller.copy(),
-        grants,
+        grants: KeptGrants::new(grants),
     };
     sessions.insert(client, session)
 }

@@ -133,7 +133,7 @@ fn permitted_for(
         return CapSet::of(&[Cap::P]);
     };
     let (grants, caller) = (&session.grants, &session.caller);
-    capgrant::permitted(grants, fs, caller, path.as_slice(), &node.attr)
+    capgrant::permitted_by_kept(grants, fs, caller, path.as_slice(), &node.attr)
 }
 
 // Who wants more than the pin, of the clients that a walk came by.

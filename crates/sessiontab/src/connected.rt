@@ -7,7 +7,7 @@ ghost use Rattle.sessiontab.specs.Connected.{change_session};
 
 use crate::session::{Session, Status};
 use capbits::ClientId;
-use capspec::Grants;
+use capspec::{Grants, KeptGrants};
 use numbered::Numbered;
 use std::alloc::{AllocError, Global};
 use std::marker::Model;
@@ -118,7 +118,7 @@ impl Connected {
         ensures { self.new ≡ change_session (λ session. record session { grants = grants }) self.old client.0 }
     {
         if let Some(session) = self.sessions.get_mut(u64::from(client.0)) {
-            session.grants = grants;
+            session.grants = KeptGrants::new(grants);
         }
     }
 }

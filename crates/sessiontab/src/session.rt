@@ -3,7 +3,7 @@
 ghost use Rattle.std.specs.Prelude.{◌≡◌, IfOk};
 
 use capbits::Caller;
-use capspec::Grants;
+use capspec::KeptGrants;
 use std::alloc::AllocError;
 
 /// Whether a client is still heard of.
@@ -27,7 +27,7 @@ pub struct Session {
     /// The user for whom the client asks.
     pub caller: Caller,
     /// What the client may do, and where.
-    pub grants: Grants,
+    pub grants: KeptGrants,
 }
 
 // By hand, so that whoever lets one go has one call to prove.
@@ -46,11 +46,11 @@ impl Session {
     pub(crate) fn copy(&self) -> Result<Session, AllocError>
         ensures { IfOk result (λ copy. copy ≡ self.now) }
     {
-        let grants = self.grants.copy()?;
+        let grants = self.grants.grants().copy()?;
         Ok(Session {
             status: self.status,
             caller: self.caller.copy(),
-            grants,
+            grants: KeptGrants::new(grants),
         })
     }
 }

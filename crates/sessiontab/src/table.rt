@@ -10,7 +10,7 @@ use crate::connected::Connected;
 use crate::error::SessionError;
 use crate::session::{NoSession, Session, Status};
 use capbits::{Caller, ClientId, Refusal};
-use capspec::Grants;
+use capspec::{Grants, KeptGrants};
 use std::alloc::{AllocError, Global};
 use std::marker::Model;
 
@@ -257,7 +257,7 @@ impl Sessions {
         let session = Session {
             status: Status::Open,
             caller,
-            grants,
+            grants: KeptGrants::new(grants),
         };
         self.connected.insert(client, session)
     }
@@ -340,7 +340,7 @@ impl Sessions {
         ensures { option_copied result ≡ option_map (λ s. s.grants) (map.get self.now.sessions client.0) }
     {
         let session = self.connected.get(client)?;
-        Some(&session.grants)
+        Some(session.grants.grants())
     }
 
     /// The session of a client, where it has one.

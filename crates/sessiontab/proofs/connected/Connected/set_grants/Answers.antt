@@ -1,7 +1,8 @@
-use Rattle.std.proofs.Common.{ℕ, sym, ap, ◌∙◌}
+use Rattle.std.proofs.Common.{ℕ, List, sym, ap, ◌∙◌}
 use Rattle.std.specs.Cmp.{nat_cmp_total}
 use Rattle.std.specs.FinMap as map
 use Rattle.numbered.proofs.Maps.{change-is, change-none}
+use Rattle.capspec.specs.declared.grant.Grant.{Grant}
 use Rattle.sessiontab.specs.declared.session.Session.{Session}
 use Rattle.sessiontab.specs.Connected.{SessionMap, change_session}
 use Rattle.sessiontab.proofs.connected.Connected.set_grants.Goals as goal
@@ -15,6 +16,7 @@ returns c =
     elim c.match-get_mut.branch [
       | in-Some w ↦
           ap (λ i. i.sessions) w.self-inside-is
+          ∙ ap (λ (grants : List Grant). map.insert m client (record w.in-Some.session.now { grants = grants })) w.new.ensures
           ∙ sym (change-is nat_cmp_total map.nat_cmp-IsAntisymmetric m client f w.in-Some.session.now (sym w.in-Some.ensures.value))
           ∙ ap (λ (m : SessionMap). change_session f m client) c.self.view_is ∙ ap (change_session f c.args.self.now) c.from.ensures
       | in_default w ↦
