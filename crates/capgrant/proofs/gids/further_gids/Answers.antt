@@ -1,4 +1,4 @@
-use Rattle.std.proofs.Common.{ℕ, Bool, ◌||◌, List, ◌++◌, drop, replicate, ap, ◌∙◌}
+use Rattle.std.proofs.Common.{ℕ, ◌||◌, List, ◌++◌, drop, replicate, ap, ◌∙◌}
 use Rattle.std.specs.List.{list_any}
 use Rattle.capgrant.proofs.Together.{left_to}
 use Rattle.capgrant.proofs.gids.further_gids.Goals as goal
