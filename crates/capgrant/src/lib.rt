@@ -4,6 +4,7 @@
 mod access;
 mod answer;
 mod class;
+mod gids;
 mod policy;
 mod question;
 mod rule;

@@ -1,11 +1,10 @@
 //! The rules of a grant, tested on one question.
 ghost use Rattle.std.specs.Prelude.{◌≡◌};
-ghost use Rattle.std.specs.List.{list_any};
-ghost use Rattle.capbits.specs.Caller.{gids_of};
 ghost use Rattle.capgrant.specs.Question.{listed_gids, contains};
 
 use crate::access::{Access, Attr};
 use crate::class::Class;
+use crate::gids::has_listed_gid;
 use crate::rule::Rule;
 use crate::rules::{MAX_RULES, Rules};
 use arrayvec::ArrayVec;
@@ -316,27 +315,6 @@ impl Question<'_> {
             Class::Other
         }
     }
-}
-
-// Whether the grant lists one of the caller's gids.
-#[inline(never)]
-fn has_listed_gid(caller: &Caller, grant: &Grant) -> bool
-    ensures { result ≡ list_any (contains grant.now.gids) (gids_of caller.now) }
-{
-    let listed = grant.gids.as_slice();
-    listed.contains(&caller.gid) || contains_any(listed, caller.groups.as_slice())
-}
-
-// Whether one of the gids is listed.
-fn contains_any(listed: &[u32], gids: &[u32]) -> bool
-    ensures { result ≡ list_any (contains listed.now) gids.now }
-{
-    for gid in gids {
-        if listed.contains(gid) {
-            return true;
-        }
-    }
-    false
 }
 
 // Whether this is one of the caller's gids that the grant lists.

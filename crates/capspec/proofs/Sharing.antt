@@ -1,6 +1,6 @@
 -- Paths that begin with the names of another, and with each other.
 use Rattle.std.proofs.Common.{◌≡◌, ℕ, ◌+◌, ◌-◌, ◌<◌, ◌≤◌, suc, Bool, true, List, [], ◌∷◌, ◌++◌, length, take, drop, map, get_or, refl, sym, ap, ◌∙◌, arith, inl, inr, ◌⊎◌, Bor, subst, zero, Some, unwrap_or}
-use Rattle.std.proofs.lemmas.List.{take_more, take-take, take-append-drop, length-append, length-take-le, append-nil, append_cancel_left, length-map, take_all}
+use Rattle.std.proofs.lemmas.List.{take_more, take-take, take-append-drop, length-append, append-nil, append_cancel_left, length-map, take_all}
 use Rattle.std.proofs.lemmas.Bool.{cases_lt}
 use Rattle.std.proofs.Math.Seq.{take-add, take-append_seam}
 use Rattle.std.proofs.Math.ListN.{get_or-map}

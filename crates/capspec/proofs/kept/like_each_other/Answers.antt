@@ -1,6 +1,5 @@
-use Rattle.std.proofs.Common.{sym, subst, ap, ◌∙◌, length, arith}
+use Rattle.std.proofs.Common.{sym, subst, ap, length, arith}
 use Rattle.capspec.specs.Begun.{AreAlike, IsAlike}
-use Rattle.std.proofs.lemmas.List.{length-append}
 use Rattle.capspec.proofs.Sharing.{alike_more}
 use Rattle.capspec.proofs.kept.like_each_other.Goals as goal
 

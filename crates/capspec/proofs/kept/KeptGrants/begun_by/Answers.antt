@@ -1,4 +1,4 @@
-use Rattle.std.proofs.Common.{sym, subst, ap, ◌∙◌, List, ℕ, length, map, get_or, arith}
+use Rattle.std.proofs.Common.{sym, subst, ap, ◌∙◌, map, get_or, arith}
 use Rattle.capwords.specs.Paths.{slashed}
 use Rattle.capspec.specs.Begun.{IsBegun, AreAlike, AreBegun}
 use Rattle.capspec.proofs.Sharing.{begun_more, known_of}

@@ -1,4 +1,4 @@
-use Rattle.std.proofs.Common.{sym, ap, ◌∙◌}
+use Rattle.std.proofs.Common.{sym, ◌∙◌}
 use Rattle.capgrant.specs.Question.{question}
 use Rattle.capgrant.specs.Verdict.{verdict_of}
 use Rattle.capview.proofs.Answering.{here-path, judged_by}
@@ -10,4 +10,4 @@ unreachable-requires c = here-path c.args.self.now.tree.nodes c.args.question.no
 pub returns : goal.returns
 returns c =
     judged_by c.args.fs.now c.args.self.now c.args.question.now c.args.session.now c.in-Some.path c.in-Some-node.node.now c.verdict.result c.requires.session (sym c.in-Some.ensures.path) (sym c.in-Some-node.ensures.node)
-    (c.verdict.ensures.exact ∙ ap (λ path. verdict_of (question c.args.fs.now c.args.session.now.caller path c.in-Some-node.node.now.attr c.args.question.now.access) c.args.session.now.grants) c.as_slice.ensures)
+    (c.verdict.ensures.exact ∙ (λ k. verdict_of (question c.args.fs.now c.args.session.now.caller (c.as_slice.ensures k) c.in-Some-node.node.now.attr c.args.question.now.access) (c.grants.ensures k)))
