@@ -4,12 +4,13 @@ use Rattle.serde_json.specs.Data.{Data, string, object, Members, no_members}
 use Rattle.capspec.specs.declared.fault.SpecFault.{SpecFault}
 use Rattle.capgrant.specs.declared.access.Attr.{Attr}
 use Rattle.capgrant.specs.declared.answer.Verdict.TheVariants as verdicts
+use Rattle.capremarks.specs.declared.differences.Otherwise.{Otherwise}
 use Rattle.capexplain.specs.Capwho.declared.standing.Standing.{Standing}
 use Rattle.capexplain.specs.Capwho.declared.standing.Standing.TheVariants.{Allowed, Depends, Denied}
 use Rattle.capexplain.specs.Capwho.Callers.{Wanted}
 use Rattle.capexplain.specs.Standing.{fault_word}
 use Rattle.capjson.specs.Values.{Table, with_all, natural, bytes_value, json_line}
-use Rattle.capjson.specs.Answers.{place_table, attr_table, allowing_table, verdict_table}
+use Rattle.capjson.specs.Answers.{place_table, attr_table, allowing_table, verdict_table, otherwise_table}
 
 -- the owner, the group and the mode, where they are known
 abbrev pub known_table : Option Attr → Table
@@ -26,8 +27,9 @@ standing_table (Allowed grant) = allowing_table (codes "allowed") grant
 standing_table (Depends grant) = allowing_table (codes "depends") grant
 standing_table (Denied rules) = verdict_table (verdicts.Denied rules)
 
-abbrev pub standing_value : List ℕ → Wanted → Option Attr → Standing → Data
-standing_value client w attr standing = object (with_all (standing_table standing) (with_client client w attr no_members))
+-- and what the MDS of Ceph 16 answers somebody, where it answers otherwise
+abbrev pub standing_value : List ℕ → Wanted → Option Attr → Standing → Option Otherwise → Data
+standing_value client w attr standing other = object (with_all (otherwise_table other) (with_all (standing_table standing) (with_client client w attr no_members)))
 
 -- what is wrong with its grants, and how many bytes of their text stand before that
 abbrev pub fault_table : SpecFault → Table
@@ -38,8 +40,8 @@ unread_value client w attr fault = object (with_all (fault_table fault) (with_cl
 
 -- ---- as lines
 
-abbrev pub standing_object : List ℕ → Wanted → Option Attr → Standing → List ℕ
-standing_object client w attr standing = json_line (standing_value client w attr standing)
+abbrev pub standing_object : List ℕ → Wanted → Option Attr → Standing → Option Otherwise → List ℕ
+standing_object client w attr standing other = json_line (standing_value client w attr standing other)
 
 abbrev pub unread_object : List ℕ → Wanted → Option Attr → SpecFault → List ℕ
 unread_object client w attr fault = json_line (unread_value client w attr fault)
