@@ -3,7 +3,6 @@ use Rattle.std.proofs.Common.{◌≡◌, ℕ, ◌+◌, ◌<◌, ◌^◌, ◌/◌
 use Rattle.std.specs.Prelude.{codes, bytes_eq, if◌then◌else◌}
 use Rattle.std.specs.Fmt.{decimal}
 use Rattle.std.specs.List.{enumerate_from}
-use Rattle.std.proofs.lemmas.Fmt.{decimal_digit}
 use Rattle.serde_json.specs.Data.{Data, null, number, unsigned, string, array, object, item, no_items, Members, no_members, member}
 use Rattle.serde_json.specs.View.{items_of}
 use Rattle.capgrant.specs.declared.access.Access.{Access}
@@ -22,6 +21,7 @@ use Rattle.capexplain.specs.Lines.{HasNumber, answer_line}
 use Rattle.capexplain.specs.PartTexts.{mode_text}
 use Rattle.capexplain.specs.Quoting.{quoted}
 use Rattle.capexplain.proofs.Answered as lines
+use Rattle.capexplain.proofs.Compared.{one_mode}
 use Rattle.capexplain.proofs.Quoted.{clash}
 use Rattle.capjson.specs.Values.{natural, numbers_value, bytes_value, or_null}
 use Rattle.capjson.specs.Answers.{rule_value, difference_value, otherwise_value, verdict_word, answer_value, IsAskable, AskTheSame}
@@ -94,22 +94,6 @@ one_row_of_numbers (x ∷ xs) (y ∷ ys) same =
     let here : x ≡ y = ap (λ (d : Data). number_in (head_of d)) same in
     let more : xs ≡ ys = one_row_of_numbers xs ys (ap tail_of same) in
     λ i. here i ∷ more i
-
-abbrev digits_of : ℕ → List ℕ
-digits_of m = (48 + m / 512) ∷ (48 + m / 64 % 8) ∷ (48 + m / 8 % 8) ∷ (48 + m % 8) ∷ []
-
-as_digits : (m : ℕ) → m < 2 ^ 12 → mode_text m ≡ digits_of m
-as_digits m small =
-    rw (decimal_digit (m / 512) (omega arith), decimal_digit (m / 64 % 8) (omega arith), decimal_digit (m / 8 % 8) (omega arith), decimal_digit (m % 8) (omega arith)) refl
-
-one_mode : (m n : ℕ) → m < 2 ^ 12 → n < 2 ^ 12 → mode_text m ≡ mode_text n → m ≡ n
-one_mode m n small also same =
-    let digits : digits_of m ≡ digits_of n = sym (as_digits m small) ∙ same ∙ as_digits n also in
-    let first : 48 + m / 512 ≡ 48 + n / 512 = cc in
-    let second : 48 + m / 64 % 8 ≡ 48 + n / 64 % 8 = cc in
-    let third : 48 + m / 8 % 8 ≡ 48 + n / 8 % 8 = cc in
-    let last : 48 + m % 8 ≡ 48 + n % 8 = cc in
-    omega arith
 
 -- ---- the verdict
 
