@@ -46,13 +46,7 @@ pub fn who(
         access: attempt.access,
     };
     let clients = list.entities();
-    Ok(client_lines(
-        alloc,
-        clients,
-        &wanted,
-        &attempt.attr,
-        telling,
-    )?)
+    Ok(client_lines(alloc, clients, &wanted, &attempt.attr, telling)?)
 }
 
 // The lines of those who are clients.
