@@ -29,19 +29,19 @@ use Rattle.capjson.proofs.Spelling.{one_spelling}
 
 -- ---- what a value has
 
-abbrev value_in : List ℕ → Members → Data
+abbrev pub value_in : List ℕ → Members → Data
 value_in k no_members = null
 value_in k (member l d ms) = if bytes_eq k l then d else value_in k ms
 
-abbrev value_at : List ℕ → Data → Data
+abbrev pub value_at : List ℕ → Data → Data
 value_at k (object ms) = value_in k ms
 value_at k d = null
 
-abbrev text_in : Data → List ℕ
+abbrev pub text_in : Data → List ℕ
 text_in (string text) = text
 text_in d = []
 
-abbrev number_in : Data → ℕ
+abbrev pub number_in : Data → ℕ
 number_in (number (unsigned n)) = n
 number_in d = 0
 
@@ -54,19 +54,19 @@ tail_of (array (item d ds)) = array ds
 tail_of d = null
 
 -- 0 of nothing and of no items
-abbrev some_in : Data → ℕ
+abbrev pub some_in : Data → ℕ
 some_in null = 0
 some_in (array no_items) = 0
 some_in d = 1
 
 -- the first byte of a text
-abbrev byte_in : Data → ℕ
+abbrev pub byte_in : Data → ℕ
 byte_in (string (byte ∷ more)) = byte
 byte_in d = 0
 
 -- ---- accesses and rules: what parts two of them in a line parts them in an object
 
-one_access : (a b : Access) → HasNumber a → HasNumber b → access_word a ≡ access_word b → a ≡ b
+pub one_access : (a b : Access) → HasNumber a → HasNumber b → access_word a ≡ access_word b → a ≡ b
 one_access a b fit fits same =
     let small : 0 < 2 ^ 32 = omega arith in
     (lines.one_answer a b [] [] (Allowed 0) (Allowed 0) fit fits small small (λ i. (codes "allowed " ++ same i ++ codes " ") ++ (quoted [] ++ reason_text (Allowed 0)))).0
@@ -100,7 +100,7 @@ one_row_of_numbers (x ∷ xs) (y ∷ ys) same =
 abbrev row_from : ℕ → List Rule → Data
 row_from n rules = array (items_of (map rule_value (enumerate_from n rules)))
 
-one_row : (n : ℕ) (rs qs : List Rule) → row_from n rs ≡ row_from n qs → rs ≡ qs
+pub one_row : (n : ℕ) (rs qs : List Rule) → row_from n rs ≡ row_from n qs → rs ≡ qs
 one_row n [] [] same = refl
 one_row n [] (q ∷ qs) same = clash 0 1 (omega arith) (ap some_in same)
 one_row n (r ∷ rs) [] same = clash 0 1 (omega arith) (sym (ap some_in same))
@@ -148,7 +148,7 @@ one_word true false same = clash 97 100 (omega arith) (ap byte_in same)
 one_word false true same = clash 97 100 (omega arith) (sym (ap byte_in same))
 one_word false false same = refl
 
-one_otherwise : (a b : Option Otherwise) → or_null otherwise_value a ≡ or_null otherwise_value b → a ≡ b
+pub one_otherwise : (a b : Option Otherwise) → or_null otherwise_value a ≡ or_null otherwise_value b → a ≡ b
 one_otherwise None None same = refl
 one_otherwise None (Some b) same = clash 0 1 (omega arith) (ap some_in same)
 one_otherwise (Some a) None same = clash 0 1 (omega arith) (sym (ap some_in same))

@@ -1,5 +1,6 @@
 -- The object that says of one client whether somebody behind its key may make an access.
-use Rattle.std.specs.Prelude.{ℕ, Option, Some, None, List, [], ◌∷◌, codes}
+use Rattle.std.specs.Prelude.{◌≡◌, ◌<◌, ◌^◌, ℕ, Option, Some, None, IfSome, List, [], ◌∷◌, codes}
+use Rattle.hex.specs.Hex.{IsBytes}
 use Rattle.serde_json.specs.Data.{Data, string, object, Members, no_members}
 use Rattle.capspec.specs.declared.fault.SpecFault.{SpecFault}
 use Rattle.capgrant.specs.declared.access.Attr.{Attr}
@@ -8,6 +9,8 @@ use Rattle.capremarks.specs.declared.differences.Otherwise.{Otherwise}
 use Rattle.capexplain.specs.Capwho.declared.standing.Standing.{Standing}
 use Rattle.capexplain.specs.Capwho.declared.standing.Standing.TheVariants.{Allowed, Depends, Denied}
 use Rattle.capexplain.specs.Capwho.Callers.{Wanted}
+use Rattle.capexplain.specs.Explaining.{path_text}
+use Rattle.capexplain.specs.Lines.{HasNumber}
 use Rattle.capexplain.specs.Standing.{fault_word}
 use Rattle.capjson.specs.Values.{Table, with_all, natural, bytes_value, json_line}
 use Rattle.capjson.specs.Answers.{place_table, attr_table, allowing_table, verdict_table, otherwise_table}
@@ -45,3 +48,22 @@ standing_object client w attr standing other = json_line (standing_value client 
 
 abbrev pub unread_object : List ℕ → Wanted → Option Attr → SpecFault → List ℕ
 unread_object client w attr fault = json_line (unread_value client w attr fault)
+
+-- ---- one answer for an object
+
+-- what is asked has bytes for names and numbers of 32 bits, and a mode of 12 where one is known
+pub record IsWanted (client : List ℕ) (w : Wanted) (attr : Option Attr) : Type 0 where
+  pub client : IsBytes client
+  pub access : HasNumber w.access
+  pub path : IsBytes (path_text w.path)
+  pub fs : IsBytes w.fs
+  pub mode : IfSome attr (λ known. known.mode < 2 ^ 12)
+
+-- the same is asked of the same client; of two paths the text is
+abbrev pub AskAlike : List ℕ → List ℕ → Wanted → Wanted → Option Attr → Option Attr → Type 0
+AskAlike c d w u a b = (c ≡ d) × (w.access ≡ u.access) × (path_text w.path ≡ path_text u.path) × (w.fs ≡ u.fs) × (a ≡ b)
+
+-- what is said of clients and is the same object is the same said of the same client
+abbrev pub OneStanding : Type 0
+OneStanding = (c d : List ℕ) (w u : Wanted) (a b : Option Attr) (s t : Standing) (other further : Option Otherwise) → IsWanted c w a → IsWanted d u b
+    → standing_value c w a s other ≡ standing_value d u b t further → AskAlike c d w u a b × (s ≡ t) × (other ≡ further)
