@@ -1,9 +1,8 @@
 -- What is said of clients and differs are values that differ.
-use Rattle.std.proofs.Common.{◌≡◌, ℕ, ◌<◌, ◌^◌, List, [], ◌∷◌, Option, None, Some, refl, sym, ap, subst, ◌∙◌, arith}
+use Rattle.std.proofs.Common.{◌≡◌, ℕ, ◌<◌, ◌^◌, List, ◌∷◌, Option, None, Some, refl, sym, ap, subst, ◌∙◌, arith}
 use Rattle.std.specs.Prelude.{codes, IfSome}
 use Rattle.serde_json.specs.Data.{Data, null, string}
 use Rattle.capgrant.specs.declared.access.Attr.{Attr}
-use Rattle.capgrant.specs.declared.rule.Rule.{Rule}
 use Rattle.capgrant.specs.Access.{access_word}
 use Rattle.capremarks.specs.declared.differences.Otherwise.{Otherwise}
 use Rattle.capexplain.specs.Capwho.declared.standing.Standing.{Standing}
@@ -44,8 +43,8 @@ if_known part None = null
 if_known part (Some attr) = part attr
 
 -- what stands at the keys
-record Shows (d : Data) (client : List ℕ) (w : Wanted) (attr : Option Attr) (s : Standing) (other : Option Otherwise) : Type 0 where
-  client : value_at (codes "client") d ≡ bytes_value client
+record Shows (d : Data) (name : List ℕ) (w : Wanted) (attr : Option Attr) (s : Standing) (other : Option Otherwise) : Type 0 where
+  client : value_at (codes "client") d ≡ bytes_value name
   access : value_at (codes "access") d ≡ string (access_word w.access)
   path : value_at (codes "path") d ≡ bytes_value (path_text w.path)
   fs : value_at (codes "fs") d ≡ bytes_value w.fs

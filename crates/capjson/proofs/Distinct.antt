@@ -1,5 +1,5 @@
 -- Answers that differ are values that differ.
-use Rattle.std.proofs.Common.{◌≡◌, ℕ, ◌+◌, ◌<◌, ◌^◌, ◌/◌, ◌%◌, Bool, true, false, List, [], ◌∷◌, ◌++◌, map, Option, None, Some, refl, sym, ap, subst, ◌∙◌, arith}
+use Rattle.std.proofs.Common.{◌≡◌, ℕ, ◌+◌, ◌<◌, ◌^◌, Bool, true, false, List, [], ◌∷◌, ◌++◌, map, Option, None, Some, refl, sym, ap, subst, ◌∙◌, arith}
 use Rattle.std.specs.Prelude.{codes, bytes_eq, if◌then◌else◌}
 use Rattle.std.specs.Fmt.{decimal}
 use Rattle.std.specs.List.{enumerate_from}
@@ -16,6 +16,7 @@ use Rattle.capgrant.specs.Rule.{rule_number, rule_word}
 use Rattle.capremarks.specs.declared.differences.Difference.{Difference}
 use Rattle.capremarks.specs.declared.differences.Difference.TheVariants.{OtherFileSystem, AttributeByFlag, ModeByBits, LargeUid}
 use Rattle.capremarks.specs.declared.differences.Otherwise.{Otherwise}
+use Rattle.capremarks.specs.Capcompare.declared.witness.Witness.{Witness}
 use Rattle.capexplain.specs.Explaining.{path_text, outcome_text, reason_text}
 use Rattle.capexplain.specs.Lines.{HasNumber, answer_line}
 use Rattle.capexplain.specs.PartTexts.{mode_text}
@@ -25,6 +26,7 @@ use Rattle.capexplain.proofs.Compared.{one_mode}
 use Rattle.capexplain.proofs.Quoted.{clash}
 use Rattle.capjson.specs.Values.{natural, numbers_value, bytes_value, or_null}
 use Rattle.capjson.specs.Answers.{rule_value, difference_value, otherwise_value, verdict_word, answer_value, IsAskable, AskTheSame}
+use Rattle.capjson.specs.Changes.{asked_by, change_value}
 use Rattle.capjson.proofs.Spelling.{one_spelling}
 
 -- ---- what a value has
@@ -161,8 +163,8 @@ one_otherwise (Some a) (Some b) same =
 
 -- ---- what is asked
 
--- what stands at the keys of a question, and of what is worth a word beside its verdict
-record Shows (d : Data) (q : Question) (left : Option ℕ) (other : Option Otherwise) : Type 0 where
+-- what stands at the keys of a question
+record Asks (d : Data) (q : Question) : Type 0 where
   access : value_at (codes "access") d ≡ string (access_word q.access)
   path : value_at (codes "path") d ≡ bytes_value (path_text q.path)
   fs : value_at (codes "fs") d ≡ bytes_value q.fs
@@ -172,17 +174,21 @@ record Shows (d : Data) (q : Question) (left : Option ℕ) (other : Option Other
   owner : value_at (codes "owner") d ≡ natural q.attr.uid
   group : value_at (codes "group") d ≡ natural q.attr.gid
   mode : value_at (codes "mode") d ≡ string (mode_text q.attr.mode)
+
+-- and at those of what is worth a word beside its verdict
+record Shows (d : Data) (q : Question) (left : Option ℕ) (other : Option Otherwise) : Type 0 where
+  asks : Asks d q
   client : value_at (codes "left_to_client") d ≡ or_null natural left
   ceph : value_at (codes "ceph16") d ≡ or_null otherwise_value other
 
 shows : (q : Question) (v : Verdict) (left : Option ℕ) (other : Option Otherwise) → Shows (answer_value q v left other) q left other
 shows q (Allowed g) left other =
-    record { access = refl; path = refl; fs = refl; uid = refl; gid = refl; groups = refl; owner = refl; group = refl; mode = refl; client = refl; ceph = refl }
+    record { asks = record { access = refl; path = refl; fs = refl; uid = refl; gid = refl; groups = refl; owner = refl; group = refl; mode = refl }; client = refl; ceph = refl }
 shows q (Denied rs) left other =
-    record { access = refl; path = refl; fs = refl; uid = refl; gid = refl; groups = refl; owner = refl; group = refl; mode = refl; client = refl; ceph = refl }
+    record { asks = record { access = refl; path = refl; fs = refl; uid = refl; gid = refl; groups = refl; owner = refl; group = refl; mode = refl }; client = refl; ceph = refl }
 
-one_question : (q r : Question) (left also : Option ℕ) (other further : Option Otherwise) (d : Data) → IsAskable q → IsAskable r → Shows d q left other → Shows d r also further → AskTheSame q r
-one_question q r left also other further d fit fits p s =
+one_question : (q r : Question) (d : Data) → IsAskable q → IsAskable r → Asks d q → Asks d r → AskTheSame q r
+one_question q r d fit fits p s =
     let access : q.access ≡ r.access = one_access q.access r.access fit.access fits.access (ap text_in (sym p.access ∙ s.access)) in
     let path : path_text q.path ≡ path_text r.path = one_spelling (path_text q.path) (path_text r.path) fit.path fits.path (sym p.path ∙ s.path) in
     let fs : q.fs ≡ r.fs = one_spelling q.fs r.fs fit.fs fits.fs (sym p.fs ∙ s.fs) in
@@ -201,8 +207,29 @@ pub one_answer : (q r : Question) (v w : Verdict) (left also : Option ℕ) (othe
 one_answer q r v w left also other further fit fits same =
     let p = shows q v left other in
     let s : Shows (answer_value q v left other) r also further = subst (λ (d : Data). Shows d r also further) (sym same) (shows r w also further) in (
-      one_question q r left also other further (answer_value q v left other) fit fits p s,
+      one_question q r (answer_value q v left other) fit fits p.asks s.asks,
       one_verdict q r v w left also other further same,
       one_left left also (sym p.client ∙ s.client),
       one_otherwise other further (sym p.ceph ∙ s.ceph),
+    )
+
+-- ---- what is gained or lost
+
+-- what stands at the keys of a change
+record Changes (d : Data) (word : List ℕ) (w : Witness) : Type 0 where
+  asks : Asks d (asked_by w)
+  change : value_at (codes "change") d ≡ string word
+  grant : value_at (codes "grant") d ≡ natural w.grant
+
+changes : (change : List ℕ) (w : Witness) → Changes (change_value change w) change w
+changes change w =
+    record { asks = record { access = refl; path = refl; fs = refl; uid = refl; gid = refl; groups = refl; owner = refl; group = refl; mode = refl }; change = refl; grant = refl }
+
+pub one_change : (x y : List ℕ) (v w : Witness) → IsAskable (asked_by v) → IsAskable (asked_by w) → change_value x v ≡ change_value y w → (x ≡ y) × AskTheSame (asked_by v) (asked_by w) × (v.grant ≡ w.grant)
+one_change x y v w fit fits same =
+    let p = changes x v in
+    let s : Changes (change_value x v) y w = subst (λ (d : Data). Changes d y w) (sym same) (changes y w) in (
+      ap text_in (sym p.change ∙ s.change),
+      one_question (asked_by v) (asked_by w) (change_value x v) fit fits p.asks s.asks,
+      ap number_in (sym p.grant ∙ s.grant),
     )

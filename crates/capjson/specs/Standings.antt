@@ -52,8 +52,8 @@ unread_object client w attr fault = json_line (unread_value client w attr fault)
 -- ---- one answer for an object
 
 -- what is asked has bytes for names and numbers of 32 bits, and a mode of 12 where one is known
-pub record IsWanted (client : List ℕ) (w : Wanted) (attr : Option Attr) : Type 0 where
-  pub client : IsBytes client
+pub record IsWanted (name : List ℕ) (w : Wanted) (attr : Option Attr) : Type 0 where
+  pub client : IsBytes name
   pub access : HasNumber w.access
   pub path : IsBytes (path_text w.path)
   pub fs : IsBytes w.fs
