@@ -18,7 +18,7 @@ use Rattle.capanswers.specs.Inquiry.{IsUnreadInput}
 pub record AnswersSurvey (survey : Survey) (input old new : Option (List ℕ)) : Type 0 where
   pub attempt : Attempt
   pub asks : IsAttempt survey.values attempt
-  pub told : IfSome input (λ auth. (length auth ≤ longest_script) × ((lines : List ℕ) × AnswersWho survey.shape (wanted_by attempt) attempt.attr auth lines × Appends old new lines))
+  pub told : IfSome input (λ auth. (length auth ≤ longest_script) × ((lines : List ℕ) × AnswersWho survey.telling (wanted_by attempt) attempt.attr auth lines × Appends old new lines))
 
 -- what is told is the fault of the auth list that was read
 abbrev pub TellsOfAuth : Option (List ℕ) → AnswerFault → Type 0

@@ -8,7 +8,7 @@ use crate::command_line::{
 use crate::inquiry::{Form, Inquiry, Source};
 use crate::survey::Survey;
 use capheld::{Detail, Manner};
-use capquestion::{AttemptValues, AttrValues, Opt, Shape, Values, spelled};
+use capquestion::{AttemptValues, AttrValues, Opt, Shape, Telling, Values, spelled};
 use clap::ArgMatches;
 use clap::error::ErrorKind;
 use std::alloc::Global;
@@ -132,6 +132,16 @@ impl Matched<'_, '_> {
         }
     }
 
+    fn telling(&self) -> Telling {
+        if self.says_more() {
+            Telling::More
+        } else if self.matches.get_flag(JSON) {
+            Telling::Object
+        } else {
+            Telling::Line
+        }
+    }
+
     fn survey(&mut self) -> Survey {
         Survey {
             values: AttemptValues {
@@ -141,7 +151,7 @@ impl Matched<'_, '_> {
                 attr: self.attr(),
             },
             auth: self.value(AUTH),
-            shape: self.shape(),
+            telling: self.telling(),
         }
     }
 

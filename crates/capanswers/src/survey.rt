@@ -6,7 +6,7 @@ ghost use Rattle.capanswers.specs.Survey.{AnswersSurvey, StopsSurvey};
 use crate::commands::write_text;
 use crate::fault::AnswerFault;
 use crate::status::DONE;
-use capquestion::{Attempt, AttemptValues, Shape, who};
+use capquestion::{Attempt, AttemptValues, Telling, who};
 use capstreams::{Watched, read_script};
 use std::alloc::Global;
 use std::io::{Read, Write};
@@ -17,8 +17,8 @@ pub struct Survey {
     pub values: AttemptValues,
     /// The name of the file of the auth list, or `-` for standard input.
     pub auth: Vec<u8>,
-    /// How the answers are written.
-    pub shape: Shape,
+    /// How it is told of each client.
+    pub telling: Telling,
 }
 
 // By hand, so that whoever lets one go has one call to prove.
@@ -27,7 +27,7 @@ impl Drop for Survey {
         let Survey {
             values: _,
             auth: _,
-            shape: _,
+            telling: _,
         } = self;
     }
 }
@@ -51,6 +51,6 @@ pub fn tell_who<R: Read, W: Write>(
 {
     let attempt = Attempt::read(alloc, &survey.values)?;
     let auth = read_script(alloc, reader)?;
-    let lines = who(alloc, auth.as_slice(), &attempt, survey.shape)?;
+    let lines = who(alloc, auth.as_slice(), &attempt, survey.telling)?;
     write_text(lines.as_slice(), DONE, writer)
 }

@@ -343,7 +343,7 @@ const LINT_WORDS: [Word; 2] = [
     PRINTS_JSON,
 ];
 
-const WHO_WORDS: [Word; 8] = [
+const WHO_WORDS: [Word; 9] = [
     Word {
         name: Name::Of(Opt::Access),
         value: "ACCESS",
@@ -393,7 +393,22 @@ const WHO_WORDS: [Word; 8] = [
         needs: Some(Name::Of(Opt::Owner)),
         bars: &[],
     },
-    PRINTS_JSON,
+    Word {
+        name: Name::Own(MORE),
+        value: "",
+        help: "Prints further lines, for where the MDS of Ceph 16 decides otherwise of a client",
+        kind: Kind::Flag,
+        needs: None,
+        bars: &[],
+    },
+    Word {
+        name: Name::Own(JSON),
+        value: "",
+        help: JSON_HELP,
+        kind: Kind::Flag,
+        needs: None,
+        bars: &[Name::Own(MORE)],
+    },
 ];
 
 const AUDIT_WORDS: [Word; 6] = [

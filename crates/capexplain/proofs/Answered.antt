@@ -41,7 +41,7 @@ plain_push (x ∷ ds) d all one =
     let parts = and_parts (is_plain x) (list_all is_plain ds) all in
     rw (parts.0, plain_push ds d parts.1 one) refl
 
-plain_number : (n : ℕ) → n < 2 ^ 64 → list_all is_plain (decimal n) ≡ true
+pub plain_number : (n : ℕ) → n < 2 ^ 64 → list_all is_plain (decimal n) ≡ true
 plain_number =
     decimal_by_steps (λ n ds. list_all is_plain ds ≡ true)
     (λ n below. plain_push [] (48 + n) refl (plain_below 10 n refl below))
@@ -68,7 +68,7 @@ names_it Chmod fits = refl
 names_it (Chown n) fits = ap Chown (decimal_is_IsNumeral n (omega arith)).1
 names_it (Chgrp n) fits = ap Chgrp (decimal_is_IsNumeral n (omega arith)).1
 
-plain_word : (a : Access) → HasNumber a → list_all is_plain (access_word a) ≡ true
+pub plain_word : (a : Access) → HasNumber a → list_all is_plain (access_word a) ≡ true
 plain_word Read fits = refl
 plain_word Write fits = refl
 plain_word SetVxattr fits = refl
@@ -77,7 +77,7 @@ plain_word Chmod fits = refl
 plain_word (Chown n) fits = plain_number n (omega arith)
 plain_word (Chgrp n) fits = plain_number n (omega arith)
 
-one_access : (a b : Access) → HasNumber a → HasNumber b → access_word a ≡ access_word b → a ≡ b
+pub one_access : (a b : Access) → HasNumber a → HasNumber b → access_word a ≡ access_word b → a ≡ b
 one_access a b fits also same = sym (names_it a fits) ∙ ap named same ∙ names_it b also
 
 -- ---- rules
@@ -131,7 +131,7 @@ one_row n (r ∷ rs) (q ∷ qs) same =
     let more : rs ≡ qs = one_row (n + 1) rs qs both.1 in
     cc
 
-one_list : (rs qs : List Rule) → failures_text rs ≡ failures_text qs → rs ≡ qs
+pub one_list : (rs qs : List Rule) → failures_text rs ≡ failures_text qs → rs ≡ qs
 one_list [] [] same = refl
 one_list [] (q ∷ qs) same = clash 103 110 (omega arith) (sym (ap first_byte same))
 one_list (r ∷ rs) [] same = clash 103 110 (omega arith) (ap first_byte same)
@@ -144,7 +144,7 @@ one_list (r ∷ rs) (q ∷ qs) same =
 -- ---- whole lines
 
 -- behind `allowed ` or `denied `
-parted : (a b : Access) (p q s t : List ℕ) → HasNumber a → HasNumber b → access_word a ++ 32 ∷ (quoted p ++ 32 ∷ s) ≡ access_word b ++ 32 ∷ (quoted q ++ 32 ∷ t)
+pub parted : (a b : Access) (p q s t : List ℕ) → HasNumber a → HasNumber b → access_word a ++ 32 ∷ (quoted p ++ 32 ∷ s) ≡ access_word b ++ 32 ∷ (quoted q ++ 32 ∷ t)
     → (a ≡ b) × (p ≡ q) × (s ≡ t)
 parted a b p q s t fits also same =
     let word = bare (access_word a) (access_word b) (quoted p ++ 32 ∷ s) (quoted q ++ 32 ∷ t) (plain_word a fits) (plain_word b also) same in

@@ -3,6 +3,8 @@ pub mod Texts
 pub mod Numbered
 pub mod Quoted
 pub mod Answered
+pub mod Clients
+pub mod Compared
 pub use Rattle.capremarks.proofs.Capcompare
 pub use Rattle.capevents.proofs as Capevents
 pub use Rattle.capremarks.proofs as Capremarks

@@ -3,7 +3,9 @@ use Rattle.std.proofs.Common.{◌≡◌, ◌⊎◌, inl, inr, ℕ, ◌+◌, ◌<
 use Rattle.std.specs.Prelude.{codes}
 use Rattle.std.specs.Fmt.{digit_glyph}
 use Rattle.std.specs.List.{list_all, flat_map}
-use Rattle.std.proofs.lemmas.Bool.{false≢true, ltb-true, ltb-false, and_parts}
+use Rattle.std.proofs.lemmas.Bool.{false≢true, ltb-true, ltb-false, and_parts, and_from}
+use Rattle.std.proofs.lemmas.List.{append_cancel_left, append_cancel_right}
+use Rattle.std.proofs.lemmas.List.Folds.{list_all-append}
 use Rattle.capexplain.specs.PartTexts.{byte_text}
 use Rattle.capexplain.specs.Quoting.{is_control, is_mark, is_plain, escaped, quoted}
 
@@ -142,24 +144,33 @@ shown xs = codes "\"" ++ (flat_map escaped xs ++ codes "\"")
 opened : (xs s : List ℕ) → shown xs ++ s ≡ 34 ∷ (flat_map escaped xs ++ 34 ∷ s)
 opened xs s = ap (λ (t : List ℕ). 34 ∷ t) (append_assoc (flat_map escaped xs) (codes "\"") s)
 
-pub before_a_space : (xs ys s t : List ℕ) → quoted xs ++ 32 ∷ s ≡ quoted ys ++ 32 ∷ t → (xs ≡ ys) × (s ≡ t)
-before_a_space xs ys s t =
-    elim (list_all is_plain xs) as (λ b. list_all is_plain xs ≡ b → cond b xs (shown xs) ++ 32 ∷ s ≡ quoted ys ++ 32 ∷ t → (xs ≡ ys) × (s ≡ t)) [
-      | true ↦ λ p. elim (list_all is_plain ys) as (λ b. list_all is_plain ys ≡ b → xs ++ 32 ∷ s ≡ cond b ys (shown ys) ++ 32 ∷ t → (xs ≡ ys) × (s ≡ t)) [
-        | true ↦ λ q same. bare xs ys s t p q same
-        | false ↦ λ q same. no_opening xs s (flat_map escaped ys ++ 34 ∷ 32 ∷ t) p (same ∙ opened ys (32 ∷ t))
+plain_both : (xs e : List ℕ) → list_all is_plain xs ≡ true → list_all is_plain e ≡ true → list_all is_plain (xs ++ e) ≡ true
+plain_both xs e p q = list_all-append is_plain xs e ∙ and_from (list_all is_plain xs) (list_all is_plain e) p q
+
+-- plain bytes stand behind it, and end at a space
+pub before_word : (e xs ys s t : List ℕ) → list_all is_plain e ≡ true → quoted xs ++ (e ++ 32 ∷ s) ≡ quoted ys ++ (e ++ 32 ∷ t) → (xs ≡ ys) × (s ≡ t)
+before_word e xs ys s t plain =
+    elim (list_all is_plain xs) as (λ b. list_all is_plain xs ≡ b → cond b xs (shown xs) ++ (e ++ 32 ∷ s) ≡ quoted ys ++ (e ++ 32 ∷ t) → (xs ≡ ys) × (s ≡ t)) [
+      | true ↦ λ p. elim (list_all is_plain ys) as (λ b. list_all is_plain ys ≡ b → xs ++ (e ++ 32 ∷ s) ≡ cond b ys (shown ys) ++ (e ++ 32 ∷ t) → (xs ≡ ys) × (s ≡ t)) [
+        | true ↦ λ q same.
+            let both = bare (xs ++ e) (ys ++ e) s t (plain_both xs e p plain) (plain_both ys e q plain) (append_assoc xs e (32 ∷ s) ∙ same ∙ sym (append_assoc ys e (32 ∷ t))) in
+            (append_cancel_right xs ys e both.0, both.1)
+        | false ↦ λ q same. no_opening (xs ++ e) s (flat_map escaped ys ++ 34 ∷ (e ++ 32 ∷ t)) (plain_both xs e p plain) (append_assoc xs e (32 ∷ s) ∙ same ∙ opened ys (e ++ 32 ∷ t))
       ] refl
-      | false ↦ λ p. elim (list_all is_plain ys) as (λ b. list_all is_plain ys ≡ b → shown xs ++ 32 ∷ s ≡ cond b ys (shown ys) ++ 32 ∷ t → (xs ≡ ys) × (s ≡ t)) [
-        | true ↦ λ q same. no_opening ys t (flat_map escaped xs ++ 34 ∷ 32 ∷ s) q (sym same ∙ opened xs (32 ∷ s))
+      | false ↦ λ p. elim (list_all is_plain ys) as (λ b. list_all is_plain ys ≡ b → shown xs ++ (e ++ 32 ∷ s) ≡ cond b ys (shown ys) ++ (e ++ 32 ∷ t) → (xs ≡ ys) × (s ≡ t)) [
+        | true ↦ λ q same. no_opening (ys ++ e) t (flat_map escaped xs ++ 34 ∷ (e ++ 32 ∷ s)) (plain_both ys e q plain) (append_assoc ys e (32 ∷ t) ∙ sym same ∙ opened xs (e ++ 32 ∷ s))
         | false ↦ λ q same.
-            let e : 34 ∷ (flat_map escaped xs ++ 34 ∷ 32 ∷ s) ≡ 34 ∷ (flat_map escaped ys ++ 34 ∷ 32 ∷ t) = sym (opened xs (32 ∷ s)) ∙ same ∙ opened ys (32 ∷ t) in
-            let behind : flat_map escaped xs ++ 34 ∷ 32 ∷ s ≡ flat_map escaped ys ++ 34 ∷ 32 ∷ t = cc in
-            let both = inside xs ys (32 ∷ s) (32 ∷ t) behind in
-            let tails : 32 ∷ s ≡ 32 ∷ t = both.1 in
+            let all : 34 ∷ (flat_map escaped xs ++ 34 ∷ (e ++ 32 ∷ s)) ≡ 34 ∷ (flat_map escaped ys ++ 34 ∷ (e ++ 32 ∷ t)) = sym (opened xs (e ++ 32 ∷ s)) ∙ same ∙ opened ys (e ++ 32 ∷ t) in
+            let behind : flat_map escaped xs ++ 34 ∷ (e ++ 32 ∷ s) ≡ flat_map escaped ys ++ 34 ∷ (e ++ 32 ∷ t) = cc in
+            let both = inside xs ys (e ++ 32 ∷ s) (e ++ 32 ∷ t) behind in
+            let tails : 32 ∷ s ≡ 32 ∷ t = append_cancel_left e (32 ∷ s) (32 ∷ t) both.1 in
             let rest : s ≡ t = cc in
             (both.0, rest)
       ] refl
     ] refl
+
+pub before_a_space : (xs ys s t : List ℕ) → quoted xs ++ 32 ∷ s ≡ quoted ys ++ 32 ∷ t → (xs ≡ ys) × (s ≡ t)
+before_a_space xs ys s t same = before_word [] xs ys s t refl same
 
 pub alone : (xs ys : List ℕ) → quoted xs ≡ quoted ys → xs ≡ ys
 alone xs ys same = (before_a_space xs ys [] [] (ap (λ (w : List ℕ). w ++ 32 ∷ []) same)).0

@@ -31,18 +31,18 @@ abbrev pub there_text : Bool → List ℕ
 there_text true = codes "the MDS of Ceph 16 allows this: "
 there_text false = codes "the MDS of Ceph 16 denies this: "
 
--- one difference, and the number of the grant
-abbrev pub difference_line : Bool → ℕ → Option Difference → List ℕ
-difference_line allows grant None = []
-difference_line allows grant (Some difference) =
-    there_text allows ++ (difference_text difference ++ (codes " (grant " ++ (decimal grant ++ codes ")\n")))
+-- behind this front one difference, and the number of the grant
+abbrev pub difference_line : List ℕ → Bool → ℕ → Option Difference → List ℕ
+difference_line front allows grant None = []
+difference_line front allows grant (Some difference) =
+    front ++ (there_text allows ++ (difference_text difference ++ (codes " (grant " ++ (decimal grant ++ codes ")\n"))))
 
 -- a line for each difference
-abbrev pub otherwise_lines : Option Otherwise → List ℕ
-otherwise_lines None = []
-otherwise_lines (Some other) = difference_line other.allows other.grant other.by_grant ++ difference_line other.allows other.grant other.by_access
+abbrev pub otherwise_lines : List ℕ → Option Otherwise → List ℕ
+otherwise_lines front None = []
+otherwise_lines front (Some other) = difference_line front other.allows other.grant other.by_grant ++ difference_line front other.allows other.grant other.by_access
 
 -- the line for the verdict, with the path in quotes where it has to be, and those behind it
 abbrev pub remarked_text : Question → Verdict → Option ℕ → Option Otherwise → List ℕ
 remarked_text q verdict left other =
-    verdict_text q.access (quoted (path_text q.path)) verdict ++ (codes "\n" ++ (left_line q.attr left ++ otherwise_lines other))
+    verdict_text q.access (quoted (path_text q.path)) verdict ++ (codes "\n" ++ (left_line q.attr left ++ otherwise_lines [] other))

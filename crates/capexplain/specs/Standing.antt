@@ -1,5 +1,5 @@
 -- The line that says of one client whether somebody behind its key may make an access.
-use Rattle.std.specs.Prelude.{ℕ, List, ◌++◌, codes}
+use Rattle.std.specs.Prelude.{ℕ, Option, List, ◌++◌, codes}
 use Rattle.std.specs.Fmt.{decimal}
 use Rattle.capspec.specs.declared.fault.SpecFault.{SpecFault}
 use Rattle.capspec.specs.declared.fault.SpecFaultKind.{SpecFaultKind}
@@ -8,8 +8,10 @@ use Rattle.capgrant.specs.declared.access.Access.{Access}
 use Rattle.capgrant.specs.Access.{access_word}
 use Rattle.capwho.specs.declared.standing.Standing.{Standing}
 use Rattle.capwho.specs.declared.standing.Standing.TheVariants.{Allowed, Depends, Denied}
+use Rattle.capremarks.specs.declared.differences.Otherwise.{Otherwise}
 use Rattle.capexplain.specs.Explaining.{path_text, failures_text}
 use Rattle.capexplain.specs.Quoting.{quoted}
+use Rattle.capexplain.specs.Remarks.{otherwise_lines}
 
 -- what stands before the access
 abbrev pub standing_word : Standing → List ℕ
@@ -27,6 +29,11 @@ standing_reason (Denied rules) = codes " " ++ failures_text rules
 abbrev pub standing_line : List ℕ → Access → List (List ℕ) → Standing → List ℕ
 standing_line client access path standing =
     quoted client ++ (standing_word standing ++ (access_word access ++ (codes " " ++ (quoted (path_text path) ++ (standing_reason standing ++ codes "\n")))))
+
+-- for each difference by which the MDS of Ceph 16 lets in somebody where nobody may here, or nobody where somebody may, a line of the
+-- client's
+abbrev pub standing_otherwise : List ℕ → Option Otherwise → List ℕ
+standing_otherwise client other = otherwise_lines (quoted client ++ codes ": ") other
 
 abbrev pub fault_word : SpecFaultKind → List ℕ
 fault_word Empty = codes "Empty"

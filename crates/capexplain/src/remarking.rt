@@ -30,7 +30,7 @@ pub fn remarked_lines(
     print_reason(&mut lines, verdict)?;
     lines.push(b'\n')?;
     print_left(&mut lines, question.attr, left)?;
-    print_otherwise(&mut lines, other)?;
+    print_otherwise(&mut lines, b"", other)?;
     Ok(lines)
 }
 
@@ -55,29 +55,36 @@ fn print_inode(text: &mut Vec<u8>, word: &str, attr: &Attr) -> Result<(), AllocE
     print_mode(text, mode)
 }
 
-// Appends a line for each difference.
-fn print_otherwise(text: &mut Vec<u8>, other: &Option<Otherwise>) -> Result<(), AllocError>
-    ensures { OnOk result (text.new.items ≡ text.old.items ++ otherwise_lines other.now) }
+/// Appends a line for each difference, each behind this front. `AllocError` where no memory is left for it; some of it may stand in the
+/// text then.
+pub(crate) fn print_otherwise(
+    text: &mut Vec<u8>,
+    front: &[u8],
+    other: &Option<Otherwise>,
+) -> Result<(), AllocError>
+    ensures { OnOk result (text.new.items ≡ text.old.items ++ otherwise_lines front.now other.now) }
 {
     let Some(other) = other else {
         return Ok(());
     };
-    print_difference(text, other.allows, other.grant, other.by_grant)?;
-    print_difference(text, other.allows, other.grant, other.by_access)
+    print_difference(text, front, other.allows, other.grant, other.by_grant)?;
+    print_difference(text, front, other.allows, other.grant, other.by_access)
 }
 
 fn print_difference(
     text: &mut Vec<u8>,
+    front: &[u8],
     allows: bool,
     grant: u32,
     difference: Option<Difference>,
 ) -> Result<(), AllocError>
-    ensures { OnOk result (text.new.items ≡ text.old.items ++ difference_line allows grant difference) }
+    ensures { OnOk result (text.new.items ≡ text.old.items ++ difference_line front.now allows grant difference) }
 {
     let Some(difference) = difference else {
         return Ok(());
     };
     let (there, words) = (there(allows), words(difference));
+    text.extend_from_slice(front)?;
     print(text, format_args!("{there}{words} (grant {grant})\n"))
 }
 

@@ -1,10 +1,12 @@
 //! The line that says of one client whether somebody behind its key may make an access.
 ghost use Rattle.std.specs.Prelude.{◌≡◌, ◌++◌, OnOk, map};
-ghost use Rattle.capexplain.specs.Standing.{fault_word, standing_line, standing_reason, standing_word, unread_line};
+ghost use Rattle.capexplain.specs.Standing.{fault_word, standing_line, standing_otherwise, standing_reason, standing_word, unread_line};
 
 use crate::explaining::{print_failures, print_path};
 use crate::quoting::print_quoted;
+use crate::remarking::print_otherwise;
 use capgrant::Access;
+use capremarks::Otherwise;
 use capspec::{SpecFault, SpecFaultKind};
 use captext::{print, print_numbered, print_str};
 use capwho::Standing;
@@ -29,6 +31,21 @@ pub fn print_standing(
     print_quoted(text, names.as_slice())?;
     print_by(text, standing)?;
     Ok(text.push(b'\n')?)
+}
+
+/// Appends for each difference by which the MDS of Ceph 16 lets in somebody behind the client's key where nobody may, or nobody where
+/// somebody may, a line of the client's. `AllocError` where no memory is left for it; some of it may stand in the text then.
+pub fn print_standing_otherwise(
+    text: &mut Vec<u8>,
+    client: &[u8],
+    other: &Option<Otherwise>,
+) -> Result<(), AllocError>
+    ensures { OnOk result (text.new.items ≡ text.old.items ++ standing_otherwise client.now other.now) }
+{
+    let mut front = Vec::new(*text.allocator());
+    print_quoted(&mut front, client)?;
+    print_str(&mut front, ": ")?;
+    print_otherwise(text, front.as_slice(), other)
 }
 
 // What stands before the access.

@@ -1,9 +1,8 @@
 -- Answers that differ are values that differ.
-use Rattle.std.proofs.Common.{◌≡◌, ℕ, ◌+◌, ◌<◌, ◌^◌, ◌/◌, ◌%◌, Bool, true, false, List, [], ◌∷◌, ◌++◌, map, Option, None, Some, refl, sym, ap, subst, ◌∙◌, arith}
+use Rattle.std.proofs.Common.{◌≡◌, ℕ, ◌+◌, ◌<◌, ◌^◌, Bool, true, false, List, [], ◌∷◌, ◌++◌, map, Option, None, Some, refl, sym, ap, subst, ◌∙◌, arith}
 use Rattle.std.specs.Prelude.{codes, bytes_eq, if◌then◌else◌}
 use Rattle.std.specs.Fmt.{decimal}
 use Rattle.std.specs.List.{enumerate_from}
-use Rattle.std.proofs.lemmas.Fmt.{decimal_digit}
 use Rattle.serde_json.specs.Data.{Data, null, number, unsigned, string, array, object, item, no_items, Members, no_members, member}
 use Rattle.serde_json.specs.View.{items_of}
 use Rattle.capgrant.specs.declared.access.Access.{Access}
@@ -17,31 +16,34 @@ use Rattle.capgrant.specs.Rule.{rule_number, rule_word}
 use Rattle.capremarks.specs.declared.differences.Difference.{Difference}
 use Rattle.capremarks.specs.declared.differences.Difference.TheVariants.{OtherFileSystem, AttributeByFlag, ModeByBits, LargeUid}
 use Rattle.capremarks.specs.declared.differences.Otherwise.{Otherwise}
+use Rattle.capremarks.specs.Capcompare.declared.witness.Witness.{Witness}
 use Rattle.capexplain.specs.Explaining.{path_text, outcome_text, reason_text}
 use Rattle.capexplain.specs.Lines.{HasNumber, answer_line}
 use Rattle.capexplain.specs.PartTexts.{mode_text}
 use Rattle.capexplain.specs.Quoting.{quoted}
 use Rattle.capexplain.proofs.Answered as lines
+use Rattle.capexplain.proofs.Compared.{one_mode}
 use Rattle.capexplain.proofs.Quoted.{clash}
 use Rattle.capjson.specs.Values.{natural, numbers_value, bytes_value, or_null}
 use Rattle.capjson.specs.Answers.{rule_value, difference_value, otherwise_value, verdict_word, answer_value, IsAskable, AskTheSame}
+use Rattle.capjson.specs.Changes.{asked_by, change_value}
 use Rattle.capjson.proofs.Spelling.{one_spelling}
 
 -- ---- what a value has
 
-abbrev value_in : List ℕ → Members → Data
+abbrev pub value_in : List ℕ → Members → Data
 value_in k no_members = null
 value_in k (member l d ms) = if bytes_eq k l then d else value_in k ms
 
-abbrev value_at : List ℕ → Data → Data
+abbrev pub value_at : List ℕ → Data → Data
 value_at k (object ms) = value_in k ms
 value_at k d = null
 
-abbrev text_in : Data → List ℕ
+abbrev pub text_in : Data → List ℕ
 text_in (string text) = text
 text_in d = []
 
-abbrev number_in : Data → ℕ
+abbrev pub number_in : Data → ℕ
 number_in (number (unsigned n)) = n
 number_in d = 0
 
@@ -54,19 +56,19 @@ tail_of (array (item d ds)) = array ds
 tail_of d = null
 
 -- 0 of nothing and of no items
-abbrev some_in : Data → ℕ
+abbrev pub some_in : Data → ℕ
 some_in null = 0
 some_in (array no_items) = 0
 some_in d = 1
 
 -- the first byte of a text
-abbrev byte_in : Data → ℕ
+abbrev pub byte_in : Data → ℕ
 byte_in (string (byte ∷ more)) = byte
 byte_in d = 0
 
 -- ---- accesses and rules: what parts two of them in a line parts them in an object
 
-one_access : (a b : Access) → HasNumber a → HasNumber b → access_word a ≡ access_word b → a ≡ b
+pub one_access : (a b : Access) → HasNumber a → HasNumber b → access_word a ≡ access_word b → a ≡ b
 one_access a b fit fits same =
     let small : 0 < 2 ^ 32 = omega arith in
     (lines.one_answer a b [] [] (Allowed 0) (Allowed 0) fit fits small small (λ i. (codes "allowed " ++ same i ++ codes " ") ++ (quoted [] ++ reason_text (Allowed 0)))).0
@@ -95,28 +97,12 @@ one_row_of_numbers (x ∷ xs) (y ∷ ys) same =
     let more : xs ≡ ys = one_row_of_numbers xs ys (ap tail_of same) in
     λ i. here i ∷ more i
 
-abbrev digits_of : ℕ → List ℕ
-digits_of m = (48 + m / 512) ∷ (48 + m / 64 % 8) ∷ (48 + m / 8 % 8) ∷ (48 + m % 8) ∷ []
-
-as_digits : (m : ℕ) → m < 2 ^ 12 → mode_text m ≡ digits_of m
-as_digits m small =
-    rw (decimal_digit (m / 512) (omega arith), decimal_digit (m / 64 % 8) (omega arith), decimal_digit (m / 8 % 8) (omega arith), decimal_digit (m % 8) (omega arith)) refl
-
-one_mode : (m n : ℕ) → m < 2 ^ 12 → n < 2 ^ 12 → mode_text m ≡ mode_text n → m ≡ n
-one_mode m n small also same =
-    let digits : digits_of m ≡ digits_of n = sym (as_digits m small) ∙ same ∙ as_digits n also in
-    let first : 48 + m / 512 ≡ 48 + n / 512 = cc in
-    let second : 48 + m / 64 % 8 ≡ 48 + n / 64 % 8 = cc in
-    let third : 48 + m / 8 % 8 ≡ 48 + n / 8 % 8 = cc in
-    let last : 48 + m % 8 ≡ 48 + n % 8 = cc in
-    omega arith
-
 -- ---- the verdict
 
 abbrev row_from : ℕ → List Rule → Data
 row_from n rules = array (items_of (map rule_value (enumerate_from n rules)))
 
-one_row : (n : ℕ) (rs qs : List Rule) → row_from n rs ≡ row_from n qs → rs ≡ qs
+pub one_row : (n : ℕ) (rs qs : List Rule) → row_from n rs ≡ row_from n qs → rs ≡ qs
 one_row n [] [] same = refl
 one_row n [] (q ∷ qs) same = clash 0 1 (omega arith) (ap some_in same)
 one_row n (r ∷ rs) [] same = clash 0 1 (omega arith) (sym (ap some_in same))
@@ -164,7 +150,7 @@ one_word true false same = clash 97 100 (omega arith) (ap byte_in same)
 one_word false true same = clash 97 100 (omega arith) (sym (ap byte_in same))
 one_word false false same = refl
 
-one_otherwise : (a b : Option Otherwise) → or_null otherwise_value a ≡ or_null otherwise_value b → a ≡ b
+pub one_otherwise : (a b : Option Otherwise) → or_null otherwise_value a ≡ or_null otherwise_value b → a ≡ b
 one_otherwise None None same = refl
 one_otherwise None (Some b) same = clash 0 1 (omega arith) (ap some_in same)
 one_otherwise (Some a) None same = clash 0 1 (omega arith) (sym (ap some_in same))
@@ -177,8 +163,8 @@ one_otherwise (Some a) (Some b) same =
 
 -- ---- what is asked
 
--- what stands at the keys of a question, and of what is worth a word beside its verdict
-record Shows (d : Data) (q : Question) (left : Option ℕ) (other : Option Otherwise) : Type 0 where
+-- what stands at the keys of a question
+record Asks (d : Data) (q : Question) : Type 0 where
   access : value_at (codes "access") d ≡ string (access_word q.access)
   path : value_at (codes "path") d ≡ bytes_value (path_text q.path)
   fs : value_at (codes "fs") d ≡ bytes_value q.fs
@@ -188,17 +174,21 @@ record Shows (d : Data) (q : Question) (left : Option ℕ) (other : Option Other
   owner : value_at (codes "owner") d ≡ natural q.attr.uid
   group : value_at (codes "group") d ≡ natural q.attr.gid
   mode : value_at (codes "mode") d ≡ string (mode_text q.attr.mode)
+
+-- and at those of what is worth a word beside its verdict
+record Shows (d : Data) (q : Question) (left : Option ℕ) (other : Option Otherwise) : Type 0 where
+  asks : Asks d q
   client : value_at (codes "left_to_client") d ≡ or_null natural left
   ceph : value_at (codes "ceph16") d ≡ or_null otherwise_value other
 
 shows : (q : Question) (v : Verdict) (left : Option ℕ) (other : Option Otherwise) → Shows (answer_value q v left other) q left other
 shows q (Allowed g) left other =
-    record { access = refl; path = refl; fs = refl; uid = refl; gid = refl; groups = refl; owner = refl; group = refl; mode = refl; client = refl; ceph = refl }
+    record { asks = record { access = refl; path = refl; fs = refl; uid = refl; gid = refl; groups = refl; owner = refl; group = refl; mode = refl }; client = refl; ceph = refl }
 shows q (Denied rs) left other =
-    record { access = refl; path = refl; fs = refl; uid = refl; gid = refl; groups = refl; owner = refl; group = refl; mode = refl; client = refl; ceph = refl }
+    record { asks = record { access = refl; path = refl; fs = refl; uid = refl; gid = refl; groups = refl; owner = refl; group = refl; mode = refl }; client = refl; ceph = refl }
 
-one_question : (q r : Question) (left also : Option ℕ) (other further : Option Otherwise) (d : Data) → IsAskable q → IsAskable r → Shows d q left other → Shows d r also further → AskTheSame q r
-one_question q r left also other further d fit fits p s =
+one_question : (q r : Question) (d : Data) → IsAskable q → IsAskable r → Asks d q → Asks d r → AskTheSame q r
+one_question q r d fit fits p s =
     let access : q.access ≡ r.access = one_access q.access r.access fit.access fits.access (ap text_in (sym p.access ∙ s.access)) in
     let path : path_text q.path ≡ path_text r.path = one_spelling (path_text q.path) (path_text r.path) fit.path fits.path (sym p.path ∙ s.path) in
     let fs : q.fs ≡ r.fs = one_spelling q.fs r.fs fit.fs fits.fs (sym p.fs ∙ s.fs) in
@@ -217,8 +207,29 @@ pub one_answer : (q r : Question) (v w : Verdict) (left also : Option ℕ) (othe
 one_answer q r v w left also other further fit fits same =
     let p = shows q v left other in
     let s : Shows (answer_value q v left other) r also further = subst (λ (d : Data). Shows d r also further) (sym same) (shows r w also further) in (
-      one_question q r left also other further (answer_value q v left other) fit fits p s,
+      one_question q r (answer_value q v left other) fit fits p.asks s.asks,
       one_verdict q r v w left also other further same,
       one_left left also (sym p.client ∙ s.client),
       one_otherwise other further (sym p.ceph ∙ s.ceph),
+    )
+
+-- ---- what is gained or lost
+
+-- what stands at the keys of a change
+record Changes (d : Data) (word : List ℕ) (w : Witness) : Type 0 where
+  asks : Asks d (asked_by w)
+  change : value_at (codes "change") d ≡ string word
+  grant : value_at (codes "grant") d ≡ natural w.grant
+
+changes : (change : List ℕ) (w : Witness) → Changes (change_value change w) change w
+changes change w =
+    record { asks = record { access = refl; path = refl; fs = refl; uid = refl; gid = refl; groups = refl; owner = refl; group = refl; mode = refl }; change = refl; grant = refl }
+
+pub one_change : (x y : List ℕ) (v w : Witness) → IsAskable (asked_by v) → IsAskable (asked_by w) → change_value x v ≡ change_value y w → (x ≡ y) × AskTheSame (asked_by v) (asked_by w) × (v.grant ≡ w.grant)
+one_change x y v w fit fits same =
+    let p = changes x v in
+    let s : Changes (change_value x v) y w = subst (λ (d : Data). Changes d y w) (sym same) (changes y w) in (
+      ap text_in (sym p.change ∙ s.change),
+      one_question (asked_by v) (asked_by w) (change_value x v) fit fits p.asks s.asks,
+      ap number_in (sym p.grant ∙ s.grant),
     )

@@ -36,7 +36,7 @@ use Rattle.capjson.specs.declared.table.Piece.TheVariants.{Null, Number, Word, B
 use Rattle.capjson.specs.Pieces.{piece_value, pieces_value}
 use Rattle.capjson.proofs.Tables.{Row, member_of}
 use Rattle.capjson.specs.Values.{Table, with_all, object_of, natural, numbers_value, bytes_value, or_null, IsPlain}
-use Rattle.capjson.specs.Answers.{place_table, caller_table, attr_table, with_question, rule_value, rules_value, allowing_table, verdict_table, difference_value, otherwise_value, remarks_table, answer_value, verdict_word}
+use Rattle.capjson.specs.Answers.{place_table, caller_table, attr_table, with_question, rule_value, rules_value, allowing_table, verdict_table, difference_value, otherwise_value, otherwise_table, remarks_table, answer_value, verdict_word}
 use Rattle.capjson.specs.Changes.{with_witness, change_table, change_value}
 use Rattle.capjson.specs.Findings.{finding_table, undone_value}
 use Rattle.capjson.specs.Standings.{known_table, with_client, standing_table, standing_value, fault_table, unread_value}
@@ -160,8 +160,11 @@ flat-otherwise other =
     ((codes "verdict", string (verdict_word other.allows)) ∷ (codes "grant", natural other.grant) ∷ (codes "by_grant", or_null difference_value other.by_grant) ∷ (codes "by_access", or_null difference_value other.by_access) ∷ [])
     (flat-string 1 (verdict_word other.allows), (flat-natural 1 other.grant, (flat-or_null 1 difference_value flat-difference other.by_grant, (flat-or_null 1 difference_value flat-difference other.by_access, tt))))
 
+flat-other : (other : Option Otherwise) → AllFlat 2 (otherwise_table other)
+flat-other other = (flat-or_null 2 otherwise_value flat-otherwise other, tt)
+
 flat-remarks : (left : Option ℕ) (other : Option Otherwise) → AllFlat 2 (remarks_table left other)
-flat-remarks left other = (flat-or_null 2 natural (flat-natural 2) left, (flat-or_null 2 otherwise_value flat-otherwise other, tt))
+flat-remarks left other = (flat-or_null 2 natural (flat-natural 2) left, flat-other other)
 
 pub plain-answer : (q : Question) (v : Verdict) (left : Option ℕ) (other : Option Otherwise) → IsPlain (answer_value q v left other)
 plain-answer q v left other =
@@ -207,10 +210,11 @@ flat-standing (standings.Allowed grant) = flat-allowing (codes "allowed") grant
 flat-standing (standings.Depends grant) = flat-allowing (codes "depends") grant
 flat-standing (standings.Denied rules) = (flat-string 2 (codes "denied"), (flat-rules rules, tt))
 
-pub plain-standing : (client : List ℕ) (w : Wanted) (attr : Option Attr) (standing : Standing) → IsPlain (standing_value client w attr standing)
-plain-standing client w attr standing =
+pub plain-standing : (client : List ℕ) (w : Wanted) (attr : Option Attr) (standing : Standing) (other : Option Otherwise) → IsPlain (standing_value client w attr standing other)
+plain-standing client w attr standing other =
     let asked = with_client client w attr no_members in
-    plain-object (with_all (standing_table standing) asked) (flat-with_all 2 (standing_table standing) asked (flat-standing standing) (flat-client client w attr))
+    let judged = with_all (standing_table standing) asked in
+    plain-object (with_all (otherwise_table other) judged) (flat-with_all 2 (otherwise_table other) judged (flat-other other) (flat-with_all 2 (standing_table standing) asked (flat-standing standing) (flat-client client w attr)))
 
 pub plain-unread : (client : List ℕ) (w : Wanted) (attr : Option Attr) (fault : SpecFault) → IsPlain (unread_value client w attr fault)
 plain-unread client w attr fault =

@@ -73,9 +73,13 @@ difference_value LargeUid = string (codes "large-uid")
 abbrev pub otherwise_value : Otherwise → Data
 otherwise_value other = object_of ((codes "verdict", string (verdict_word other.allows)) ∷ (codes "grant", natural other.grant) ∷ (codes "by_grant", or_null difference_value other.by_grant) ∷ (codes "by_access", or_null difference_value other.by_access) ∷ [])
 
--- the grant that leaves the inode's owner, group and mode to the client, and what that MDS answers where it is something else
+-- what that MDS answers, where it is something else
+abbrev pub otherwise_table : Option Otherwise → Table
+otherwise_table other = (codes "ceph16", or_null otherwise_value other) ∷ []
+
+-- the grant that leaves the inode's owner, group and mode to the client, and this
 abbrev pub remarks_table : Option ℕ → Option Otherwise → Table
-remarks_table left other = (codes "left_to_client", or_null natural left) ∷ (codes "ceph16", or_null otherwise_value other) ∷ []
+remarks_table left other = (codes "left_to_client", or_null natural left) ∷ otherwise_table other
 
 -- all of it
 abbrev pub answer_value : Question → Verdict → Option ℕ → Option Otherwise → Data

@@ -1,14 +1,18 @@
 -- The objects that say what one list of grants allows and another denies.
-use Rattle.std.specs.Prelude.{ℕ, Option, Some, None, List, [], ◌∷◌, ◌++◌, codes}
+use Rattle.std.specs.Prelude.{◌≡◌, ℕ, Option, Some, None, List, [], ◌∷◌, ◌++◌, codes}
 use Rattle.serde_json.specs.Data.{Data, string, object, Members, no_members}
-use Rattle.capgrant.specs.Question.{question}
+use Rattle.capgrant.specs.Question.{Question, question}
 use Rattle.capremarks.specs.Capcompare.declared.witness.Witness.{Witness}
 use Rattle.capjson.specs.Values.{Table, with_all, object_of, natural, json_line}
-use Rattle.capjson.specs.Answers.{with_question}
+use Rattle.capjson.specs.Answers.{with_question, IsAskable, AskTheSame}
+
+-- the question of a witness
+abbrev pub asked_by : Witness → Question
+asked_by w = question w.fs w.caller w.path.now w.attr w.access
 
 -- the members, and those of a witness: its question, and at this key the grant that allows it
 abbrev pub with_witness : List ℕ → Witness → Members → Members
-with_witness key w ms = with_all ((key, natural w.grant) ∷ []) (with_question (question w.fs w.caller w.path.now w.attr w.access) ms)
+with_witness key w ms = with_all ((key, natural w.grant) ∷ []) (with_question (asked_by w) ms)
 
 abbrev pub change_table : List ℕ → Table
 change_table change = (codes "change", string change) ∷ []
@@ -25,3 +29,7 @@ change_line change (Some w) = json_line (change_value change w)
 abbrev pub change_lines : Option Witness → Option Witness → List ℕ
 change_lines None None = json_line (object_of (change_table (codes "none")))
 change_lines gain loss = change_line (codes "gained") gain ++ change_line (codes "lost") loss
+
+-- changes that are the same object are the same change, shown by the same question and grant
+abbrev pub OneChange : Type 0
+OneChange = (x y : List ℕ) (v w : Witness) → IsAskable (asked_by v) → IsAskable (asked_by w) → change_value x v ≡ change_value y w → (x ≡ y) × AskTheSame (asked_by v) (asked_by w) × (v.grant ≡ w.grant)

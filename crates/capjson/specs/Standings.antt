@@ -1,15 +1,19 @@
 -- The object that says of one client whether somebody behind its key may make an access.
-use Rattle.std.specs.Prelude.{ℕ, Option, Some, None, List, [], ◌∷◌, codes}
+use Rattle.std.specs.Prelude.{◌≡◌, ◌<◌, ◌^◌, ℕ, Option, Some, None, IfSome, List, [], ◌∷◌, codes}
+use Rattle.hex.specs.Hex.{IsBytes}
 use Rattle.serde_json.specs.Data.{Data, string, object, Members, no_members}
 use Rattle.capspec.specs.declared.fault.SpecFault.{SpecFault}
 use Rattle.capgrant.specs.declared.access.Attr.{Attr}
 use Rattle.capgrant.specs.declared.answer.Verdict.TheVariants as verdicts
+use Rattle.capremarks.specs.declared.differences.Otherwise.{Otherwise}
 use Rattle.capexplain.specs.Capwho.declared.standing.Standing.{Standing}
 use Rattle.capexplain.specs.Capwho.declared.standing.Standing.TheVariants.{Allowed, Depends, Denied}
 use Rattle.capexplain.specs.Capwho.Callers.{Wanted}
+use Rattle.capexplain.specs.Explaining.{path_text}
+use Rattle.capexplain.specs.Lines.{HasNumber}
 use Rattle.capexplain.specs.Standing.{fault_word}
 use Rattle.capjson.specs.Values.{Table, with_all, natural, bytes_value, json_line}
-use Rattle.capjson.specs.Answers.{place_table, attr_table, allowing_table, verdict_table}
+use Rattle.capjson.specs.Answers.{place_table, attr_table, allowing_table, verdict_table, otherwise_table}
 
 -- the owner, the group and the mode, where they are known
 abbrev pub known_table : Option Attr → Table
@@ -26,8 +30,9 @@ standing_table (Allowed grant) = allowing_table (codes "allowed") grant
 standing_table (Depends grant) = allowing_table (codes "depends") grant
 standing_table (Denied rules) = verdict_table (verdicts.Denied rules)
 
-abbrev pub standing_value : List ℕ → Wanted → Option Attr → Standing → Data
-standing_value client w attr standing = object (with_all (standing_table standing) (with_client client w attr no_members))
+-- and what the MDS of Ceph 16 answers somebody, where it answers otherwise
+abbrev pub standing_value : List ℕ → Wanted → Option Attr → Standing → Option Otherwise → Data
+standing_value client w attr standing other = object (with_all (otherwise_table other) (with_all (standing_table standing) (with_client client w attr no_members)))
 
 -- what is wrong with its grants, and how many bytes of their text stand before that
 abbrev pub fault_table : SpecFault → Table
@@ -38,8 +43,27 @@ unread_value client w attr fault = object (with_all (fault_table fault) (with_cl
 
 -- ---- as lines
 
-abbrev pub standing_object : List ℕ → Wanted → Option Attr → Standing → List ℕ
-standing_object client w attr standing = json_line (standing_value client w attr standing)
+abbrev pub standing_object : List ℕ → Wanted → Option Attr → Standing → Option Otherwise → List ℕ
+standing_object client w attr standing other = json_line (standing_value client w attr standing other)
 
 abbrev pub unread_object : List ℕ → Wanted → Option Attr → SpecFault → List ℕ
 unread_object client w attr fault = json_line (unread_value client w attr fault)
+
+-- ---- one answer for an object
+
+-- what is asked has bytes for names and numbers of 32 bits, and a mode of 12 where one is known
+pub record IsWanted (name : List ℕ) (w : Wanted) (attr : Option Attr) : Type 0 where
+  pub client : IsBytes name
+  pub access : HasNumber w.access
+  pub path : IsBytes (path_text w.path)
+  pub fs : IsBytes w.fs
+  pub mode : IfSome attr (λ known. known.mode < 2 ^ 12)
+
+-- the same is asked of the same client; of two paths the text is
+abbrev pub AskAlike : List ℕ → List ℕ → Wanted → Wanted → Option Attr → Option Attr → Type 0
+AskAlike c d w u a b = (c ≡ d) × (w.access ≡ u.access) × (path_text w.path ≡ path_text u.path) × (w.fs ≡ u.fs) × (a ≡ b)
+
+-- what is said of clients and is the same object is the same said of the same client
+abbrev pub OneStanding : Type 0
+OneStanding = (c d : List ℕ) (w u : Wanted) (a b : Option Attr) (s t : Standing) (other further : Option Otherwise) → IsWanted c w a → IsWanted d u b
+    → standing_value c w a s other ≡ standing_value d u b t further → AskAlike c d w u a b × (s ≡ t) × (other ≡ further)

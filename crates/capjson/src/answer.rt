@@ -1,7 +1,7 @@
 //! The object that answers a question, with all that is worth a word beside it.
 ghost use Rattle.std.specs.Prelude.{◌≡◌, IfOk, OnOk};
 ghost use Rattle.serde_json.specs.View.{view, members_view};
-ghost use Rattle.capjson.specs.Answers.{answer_object, answer_value, difference_value, otherwise_value, remarks_table, verdict_word};
+ghost use Rattle.capjson.specs.Answers.{answer_object, answer_value, difference_value, otherwise_table, otherwise_value, remarks_table, verdict_word};
 ghost use Rattle.capjson.specs.Pieces.{piece_value};
 ghost use Rattle.capjson.specs.Values.{ReadsBack, natural, or_null, with_all};
 
@@ -44,8 +44,19 @@ fn put_remarks(
 ) -> Result<(), AllocError>
     ensures { OnOk result (members_view members.new.entries ≡ with_all (remarks_table left other.now) (members_view members.old.entries)) }
 {
-    let other = otherwise_if(alloc, other)?;
     put_all(members, alloc, &[("left_to_client", number_if(left))])?;
+    put_otherwise(members, alloc, other)
+}
+
+/// Adds what the MDS of Ceph 16 answers where it answers otherwise, and else null.
+pub(crate) fn put_otherwise(
+    members: &mut Members,
+    alloc: Global,
+    other: &Option<Otherwise>,
+) -> Result<(), AllocError>
+    ensures { OnOk result (members_view members.new.entries ≡ with_all (otherwise_table other.now) (members_view members.old.entries)) }
+{
+    let other = otherwise_if(alloc, other)?;
     put(members, alloc, "ceph16", other)
 }
 

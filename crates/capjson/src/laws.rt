@@ -4,6 +4,8 @@ ghost use Rattle.std.specs.Prelude.{◌≡◌, ℕ, List};
 ghost use Rattle.hex.specs.Hex.{IsBytes};
 ghost use Rattle.serde_json.specs.Data.{Data};
 ghost use Rattle.capjson.specs.Answers.{OneAnswer};
+ghost use Rattle.capjson.specs.Changes.{OneChange};
+ghost use Rattle.capjson.specs.Standings.{OneStanding};
 ghost use Rattle.capjson.specs.Values.{ReadsBack, bytes_value, json_line};
 
 /// Bytes that differ are written as values that differ, whether they are UTF-8 or not.
@@ -17,7 +19,10 @@ pub fn one_value_for_a_line()
 {}
 
 /// Two answers that differ, in what is asked, in the verdict, its grant or its rules, or in what is said beside it, are objects that
-/// differ; so their lines do, by the law above. Of a path its text counts.
+/// differ; so their lines do, by the law above. Of a path its text counts. The same holds of what is said of clients, and of what
+/// grants gain and lose.
 pub fn one_answer_for_an_object()
-    ensures { OneAnswer }
+    ensures answer { OneAnswer }
+    ensures client { OneStanding }
+    ensures change { OneChange }
 {}

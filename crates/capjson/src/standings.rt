@@ -4,31 +4,36 @@ ghost use Rattle.serde_json.specs.View.{members_view};
 ghost use Rattle.capjson.specs.Standings.{fault_table, standing_object, standing_table, standing_value, unread_object, unread_value, with_client};
 ghost use Rattle.capjson.specs.Values.{ReadsBack, with_all};
 
+use crate::answer::put_otherwise;
 use crate::question::{put_attr, put_place};
 use crate::table::{Members, Piece, print_object, put_all};
 use crate::verdicts::{put_allowing, put_denial};
 use capexplain::{Standing, Wanted, fault_word};
 use capgrant::Attr;
+use capremarks::Otherwise;
 use capspec::SpecFault;
 use serde_json::Map;
 use std::alloc::{AllocError, Global};
 
-/// Appends the object that says of a client whether somebody behind its key may do what is wanted, and by which grant or rules. It is a
-/// line, with its line feed. `AllocError` where no memory is left for it; some of it may stand in the text then.
+/// Appends the object that says of a client whether somebody behind its key may do what is wanted, and by which grant or rules, and what
+/// the MDS of Ceph 16 answers somebody where it answers otherwise. It is a line, with its line feed. `AllocError` where no memory is left
+/// for it; some of it may stand in the text then.
 pub fn print_standing_object(
     lines: &mut Vec<u8>,
     client: &[u8],
     wanted: &Wanted<'_>,
     attr: &Option<Attr>,
     standing: &Standing,
+    other: &Option<Otherwise>,
 ) -> Result<(), AllocError>
-    ensures line { OnOk result (lines.new.items ≡ lines.old.items ++ standing_object client.now wanted.now attr.now standing.now) }
-    ensures reads { OnOk result (ReadsBack (standing_value client.now wanted.now attr.now standing.now)) }
+    ensures line { OnOk result (lines.new.items ≡ lines.old.items ++ standing_object client.now wanted.now attr.now standing.now other.now) }
+    ensures reads { OnOk result (ReadsBack (standing_value client.now wanted.now attr.now standing.now other.now)) }
 {
     let alloc = *lines.allocator();
     let mut members = Map::new(alloc);
     put_client(&mut members, alloc, client, wanted, attr)?;
     put_standing(&mut members, alloc, standing)?;
+    put_otherwise(&mut members, alloc, other)?;
     print_object(lines, members)
 }
 

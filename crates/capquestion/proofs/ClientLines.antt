@@ -6,30 +6,30 @@ use Rattle.capauth.specs.Auth.{Named, is_client}
 use Rattle.capexplain.specs.Capwho.Callers.{Wanted}
 use Rattle.capquestion.specs.Clients.{Says, AreLines}
 use Rattle.capquestion.specs.Clients.AreLines.{no_more, client, another}
-use Rattle.capjson.specs.declared.shape.Shape.{Shape}
+use Rattle.capquestion.specs.declared.clients.Telling.{Telling}
 
 -- with the lines of the others behind it the text is that of all
-abbrev pub IsBegun : Shape → Wanted → Option Attr → List Named → ℕ → List ℕ → Type 0
-IsBegun shape w attr es i text = (rest : List ℕ) → AreLines shape w attr (drop i es) rest → AreLines shape w attr es (text ++ rest)
+abbrev pub IsBegun : Telling → Wanted → Option Attr → List Named → ℕ → List ℕ → Type 0
+IsBegun telling w attr es i text = (rest : List ℕ) → AreLines telling w attr (drop i es) rest → AreLines telling w attr es (text ++ rest)
 
-pub nothing_yet : (shape : Shape) (w : Wanted) (attr : Option Attr) (es : List Named) (text : List ℕ) → text ≡ [] → IsBegun shape w attr es 0 text
-nothing_yet shape w attr es text none rest lines = subst (λ (t : List ℕ). AreLines shape w attr es (t ++ rest)) (sym none) lines
+pub nothing_yet : (telling : Telling) (w : Wanted) (attr : Option Attr) (es : List Named) (text : List ℕ) → text ≡ [] → IsBegun telling w attr es 0 text
+nothing_yet telling w attr es text none rest lines = subst (λ (t : List ℕ). AreLines telling w attr es (t ++ rest)) (sym none) lines
 
-module _ (shape : Shape) (w : Wanted) (attr : Option Attr) (es : List Named) (i : ℕ) (e : Named) (text : List ℕ) (inside : i < length es) (is : e ≡ get_or es i e) (begun : IsBegun shape w attr es i text) where
+module _ (telling : Telling) (w : Wanted) (attr : Option Attr) (es : List Named) (i : ℕ) (e : Named) (text : List ℕ) (inside : i < length es) (is : e ≡ get_or es i e) (begun : IsBegun telling w attr es i text) where
   here : drop i es ≡ e ∷ drop (i + 1) es
   here = drop_more es i e inside ∙ ap (λ (x : Named). x ∷ drop (i + 1) es) (sym is)
 
-  pub one_line : (line after : List ℕ) → is_client e ≡ true → Says shape w attr e.name e.caps line → after ≡ text ++ line → IsBegun shape w attr es (i + 1) after
+  pub one_line : (line after : List ℕ) → is_client e ≡ true → Says telling w attr e.name e.caps line → after ≡ text ++ line → IsBegun telling w attr es (i + 1) after
   one_line line after one says now rest lines =
-      subst (λ (t : List ℕ). AreLines shape w attr es t) (sym (ap (λ (t : List ℕ). t ++ rest) now ∙ append_assoc text line rest))
-      (begun (line ++ rest) (subst (λ (xs : List Named). AreLines shape w attr xs (line ++ rest)) (sym here) (client line rest one says lines)))
+      subst (λ (t : List ℕ). AreLines telling w attr es t) (sym (ap (λ (t : List ℕ). t ++ rest) now ∙ append_assoc text line rest))
+      (begun (line ++ rest) (subst (λ (xs : List Named). AreLines telling w attr xs (line ++ rest)) (sym here) (client line rest one says lines)))
 
-  pub no_line : (after : List ℕ) → is_client e ≡ false → after ≡ text → IsBegun shape w attr es (i + 1) after
+  pub no_line : (after : List ℕ) → is_client e ≡ false → after ≡ text → IsBegun telling w attr es (i + 1) after
   no_line after none now rest lines =
-      subst (λ (t : List ℕ). AreLines shape w attr es (t ++ rest)) (sym now)
-      (begun rest (subst (λ (xs : List Named). AreLines shape w attr xs rest) (sym here) (another none lines)))
+      subst (λ (t : List ℕ). AreLines telling w attr es (t ++ rest)) (sym now)
+      (begun rest (subst (λ (xs : List Named). AreLines telling w attr xs rest) (sym here) (another none lines)))
 
-pub all_lines : (shape : Shape) (w : Wanted) (attr : Option Attr) (es : List Named) (i : ℕ) (text : List ℕ) → length es ≤ i → IsBegun shape w attr es i text → AreLines shape w attr es text
-all_lines shape w attr es i text end begun =
-    subst (λ (t : List ℕ). AreLines shape w attr es t) (append-nil text)
-    (begun [] (subst (λ (xs : List Named). AreLines shape w attr xs []) (sym (drop_all i es end)) no_more))
+pub all_lines : (telling : Telling) (w : Wanted) (attr : Option Attr) (es : List Named) (i : ℕ) (text : List ℕ) → length es ≤ i → IsBegun telling w attr es i text → AreLines telling w attr es text
+all_lines telling w attr es i text end begun =
+    subst (λ (t : List ℕ). AreLines telling w attr es t) (append-nil text)
+    (begun [] (subst (λ (xs : List Named). AreLines telling w attr xs []) (sym (drop_all i es end)) no_more))

@@ -7,22 +7,35 @@ ghost use Rattle.capquestion.specs.Clients.{AnswersWho, AreLines, Says, standing
 use crate::attempt::Attempt;
 use crate::texts::read_text;
 use capauth::{AuthFault, Entity, read_auth};
-use capexplain::{Standing, Wanted, print_standing, print_unread};
+use capexplain::{
+    Otherwise, Standing, Wanted, print_standing, print_standing_otherwise, print_unread,
+};
 use capgrant::Attr;
-use capjson::{Shape, print_standing_object, print_unread_object};
+use capjson::{print_standing_object, print_unread_object};
 use capspec::SpecFault;
 use std::alloc::{AllocError, Global};
 
-/// A line of this shape for each client of an auth list, in its order: whether somebody behind its key may do what is asked, by which grant, or
-/// why nobody may; or that it depends on owner, group and mode, where these are not given. Where a client's grants can't be read,
-/// its line says why. The fault is that of the list. `auth` is what `ceph auth ls -f json` prints.
+/// How it is told of a client whether it may.
+#[derive(Clone, Copy)]
+pub enum Telling {
+    /// By a line.
+    Line,
+    /// By that line, and by lines for where the MDS of Ceph 16 answers somebody behind its key otherwise.
+    More,
+    /// By an object of JSON that says all of it, as a line.
+    Object,
+}
+
+/// For each client of an auth list, in its order: whether somebody behind its key may do what is asked, by which grant, or why nobody may;
+/// or that it depends on owner, group and mode, where these are not given. Where a client's grants can't be read, its line says why. The
+/// fault is that of the list. `auth` is what `ceph auth ls -f json` prints.
 pub fn who(
     alloc: Global,
     auth: &[u8],
     attempt: &Attempt,
-    shape: Shape,
+    telling: Telling,
 ) -> Result<Vec<u8>, AuthFault>
-    ensures ok { IfOk result (λ lines. AnswersWho shape (wanted_by attempt.now) attempt.now.attr auth.now lines.items) }
+    ensures ok { IfOk result (λ lines. AnswersWho telling (wanted_by attempt.now) attempt.now.attr auth.now lines.items) }
     ensures err { IfErr result (λ fault. IsFaultOf fault (auth_of auth.now)) }
 {
     let list = read_auth(alloc, auth)?;
@@ -33,7 +46,7 @@ pub fn who(
         access: attempt.access,
     };
     let clients = list.entities();
-    Ok(client_lines(alloc, clients, &wanted, &attempt.attr, shape)?)
+    Ok(client_lines(alloc, clients, &wanted, &attempt.attr, telling)?)
 }
 
 // The lines of those who are clients.
@@ -42,14 +55,14 @@ fn client_lines(
     entities: &[Entity],
     wanted: &Wanted<'_>,
     attr: &Option<Attr>,
-    shape: Shape,
+    telling: Telling,
 ) -> Result<Vec<u8>, AllocError>
-    ensures { IfOk result (λ lines. AreLines shape wanted.now attr.now entities.now lines.items) }
+    ensures { IfOk result (λ lines. AreLines telling wanted.now attr.now entities.now lines.items) }
 {
     let mut lines = Vec::new(alloc);
     for entity in entities {
         if entity.is_client() {
-            print_client(&mut lines, entity, wanted, attr, shape)?;
+            print_client(&mut lines, entity, wanted, attr, telling)?;
         }
     }
     Ok(lines)
@@ -61,10 +74,10 @@ fn print_client(
     client: &Entity,
     wanted: &Wanted<'_>,
     attr: &Option<Attr>,
-    shape: Shape,
+    telling: Telling,
 ) -> Result<(), AllocError>
     ensures { OnOk result ((line : List ℕ) × (lines.new.items ≡ lines.old.items ++ line)
-        × Says shape wanted.now attr.now client.now.name client.now.caps line) }
+        × Says telling wanted.now attr.now client.now.name client.now.caps line) }
 {
     let name = client.name();
     let Some(text) = client.caps() else {
@@ -74,16 +87,18 @@ fn print_client(
             wanted,
             attr,
             &Standing::without_grants(),
-            shape,
+            &None,
+            telling,
         );
     };
     match read_text(*lines.allocator(), text) {
         Ok(Some(grants)) => {
             let standing = wanted.standing(&grants, attr);
-            print_said(lines, name, wanted, attr, &standing, shape)
+            let other = wanted.answered_otherwise(&grants, attr);
+            print_said(lines, name, wanted, attr, &standing, &other, telling)
         }
         Ok(None) => Err(AllocError),
-        Err(fault) => print_fault(lines, name, wanted, attr, &fault, shape),
+        Err(fault) => print_fault(lines, name, wanted, attr, &fault, telling),
     }
 }
 
@@ -94,13 +109,18 @@ fn print_said(
     wanted: &Wanted<'_>,
     attr: &Option<Attr>,
     standing: &Standing,
-    shape: Shape,
+    other: &Option<Otherwise>,
+    telling: Telling,
 ) -> Result<(), AllocError>
-    ensures { OnOk result (lines.new.items ≡ lines.old.items ++ standing_in shape client.now wanted.now attr.now standing.now) }
+    ensures { OnOk result (lines.new.items ≡ lines.old.items ++ standing_in telling client.now wanted.now attr.now standing.now other.now) }
 {
-    match shape {
-        Shape::Lines => print_standing(lines, client, wanted.access, wanted.path, standing),
-        Shape::Objects => print_standing_object(lines, client, wanted, attr, standing),
+    match telling {
+        Telling::Line => print_standing(lines, client, wanted.access, wanted.path, standing),
+        Telling::More => {
+            print_standing(lines, client, wanted.access, wanted.path, standing)?;
+            print_standing_otherwise(lines, client, other)
+        }
+        Telling::Object => print_standing_object(lines, client, wanted, attr, standing, other),
     }
 }
 
@@ -111,12 +131,12 @@ fn print_fault(
     wanted: &Wanted<'_>,
     attr: &Option<Attr>,
     fault: &SpecFault,
-    shape: Shape,
+    telling: Telling,
 ) -> Result<(), AllocError>
-    ensures { OnOk result (lines.new.items ≡ lines.old.items ++ unread_in shape client.now wanted.now attr.now fault.now) }
+    ensures { OnOk result (lines.new.items ≡ lines.old.items ++ unread_in telling client.now wanted.now attr.now fault.now) }
 {
-    match shape {
-        Shape::Lines => print_unread(lines, client, fault),
-        Shape::Objects => print_unread_object(lines, client, wanted, attr, fault),
+    match telling {
+        Telling::Line | Telling::More => print_unread(lines, client, fault),
+        Telling::Object => print_unread_object(lines, client, wanted, attr, fault),
     }
 }

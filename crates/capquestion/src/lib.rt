@@ -22,7 +22,7 @@ mod words;
 pub use attempt::{Attempt, AttemptValues, AttrValues};
 pub use capauth::AuthFault;
 pub use capjson::Shape;
-pub use clients::who;
+pub use clients::{Telling, who};
 pub use comparing::{CompareFault, compare};
 pub use fault::QuestionFault;
 pub use linting::lint_text;

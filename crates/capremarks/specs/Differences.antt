@@ -1,5 +1,5 @@
 -- Where the MDS of Ceph 16 is known to decide otherwise, as far as a question and the grants as they were read tell.
-use Rattle.std.specs.Prelude.{ℕ, ◌+◌, Bool, true, false, not, ◌&&◌, ◌||◌, Option, Some, None, unwrap_or, List, position, slice_get, nat_lt, if◌then◌else◌}
+use Rattle.std.specs.Prelude.{ℕ, ◌+◌, Bool, true, false, not, ◌&&◌, ◌||◌, Option, Some, None, is_some, unwrap_or, List, position, slice_get, nat_lt, if◌then◌else◌}
 use Rattle.capspec.specs.declared.grant.Grant.{Grant}
 use Rattle.capwords.specs.Flags.{has_p}
 use Rattle.capgrant.specs.declared.access.Access.{Access}
@@ -80,3 +80,7 @@ otherwise_at q grants here there = None
 -- what the MDS answers, where it allows what is denied here, or denies what is allowed here
 abbrev pub answered_otherwise : Question → List Grant → Option Otherwise
 answered_otherwise q grants = otherwise_at q grants (position (allows q) grants) (position (allows_there q) grants)
+
+-- one of its differences is named, or both
+abbrev pub has_reason : Otherwise → Bool
+has_reason other = is_some other.by_grant || is_some other.by_access

@@ -65,7 +65,8 @@ fn first_there(question: &Question<'_>, grants: &[Grant]) -> Option<usize>
         .position(|grant| allows_there(question, grant))
 }
 
-fn allows_there(question: &Question<'_>, grant: &Grant) -> bool
+/// Whether the MDS of Ceph 16 allows what is asked by this grant, as far as it is known and a question tells it.
+pub fn allows_there(question: &Question<'_>, grant: &Grant) -> bool
     ensures { result ≡ allows_there question.now grant.now }
 {
     !is_large(grant) && allows_by_bits(question, grant)

@@ -7,6 +7,6 @@ mod laws;
 mod left;
 
 pub use capcompare::{Finding, Witness, gained, lint, lost};
-pub use differences::{Difference, Otherwise, answered_otherwise};
-pub use laws::a_grant_without_uid_looks_at_no_inode;
+pub use differences::{Difference, Otherwise, allows_there, answered_otherwise};
+pub use laws::{a_grant_without_uid_looks_at_no_inode, another_answer_has_a_reason};
 pub use left::left_to_client;

@@ -1,17 +1,17 @@
 -- The first grant that passes a test.
-use Rattle.std.proofs.Common.{◌≡◌, ℕ, ◌+◌, ◌<◌, ◌≤◌, zero, suc, Bool, true, false, List, [], ◌∷◌, ◌++◌, length, take, drop, get_or, refl, sym, ap, ◌∙◌, arith}
+use Rattle.std.proofs.Common.{◌≡◌, ℕ, ◌+◌, ◌<◌, ◌≤◌, List, [], ◌∷◌, ◌++◌, length, take, drop, get_or, sym, ap, subst, ◌∙◌, arith}
 use Rattle.std.specs.Prelude.{All}
 use Rattle.std.proofs.lemmas.List.{drop_more, take_more, take_all, length-take-le, take-append-drop}
 use Rattle.std.proofs.lemmas.List.Elements.{All-nil, All-cons, All-append}
 use Rattle.capspec.specs.declared.grant.Grant.{Grant}
 use Rattle.capwho.specs.Standing.{IsFirst}
 
-module _ (p : Grant → Bool) (grants : List Grant) (i : ℕ) (g : Grant) (inside : i < length grants) (is : g ≡ get_or grants i g) where
-  pub one_fails : All (λ h. p h ≡ false) (take i grants) → p g ≡ false → All (λ h. p h ≡ false) (take (i + 1) grants)
+module _ (Does Not : Grant → Type 0) (grants : List Grant) (i : ℕ) (g : Grant) (inside : i < length grants) (is : g ≡ get_or grants i g) where
+  pub one_fails : All Not (take i grants) → Not g → All Not (take (i + 1) grants)
   one_fails before fails =
-      rw (take_more grants i g inside) (All-append (λ h. p h ≡ false) (take i grants) (get_or grants i g ∷ []) before (All-cons (λ h. p h ≡ false) (get_or grants i g) [] (ap p (sym is) ∙ fails) (All-nil (λ h. p h ≡ false))))
+      rw (take_more grants i g inside) (All-append Not (take i grants) (get_or grants i g ∷ []) before (All-cons Not (get_or grants i g) [] (subst Not is fails) (All-nil Not)))
 
-  pub one_passes : (n : ℕ) → n ≡ i + 1 → All (λ h. p h ≡ false) (take i grants) → p g ≡ true → IsFirst (λ h. p h ≡ true) (λ h. p h ≡ false) grants n
+  pub one_passes : (n : ℕ) → n ≡ i + 1 → All Not (take i grants) → Does g → IsFirst Does Not grants n
   one_passes n counted before passes = record {
     before = take i grants;
     grant = g;
@@ -22,8 +22,8 @@ module _ (p : Grant → Bool) (grants : List Grant) (i : ℕ) (g : Grant) (insid
     others = before;
   }
 
-pub none_passes : (p : Grant → Bool) (grants : List Grant) (i : ℕ) → length grants ≤ i → All (λ h. p h ≡ false) (take i grants) → All (λ h. p h ≡ false) grants
-none_passes p grants i end all = rw (← take_all i grants end) all
+pub none_passes : (Not : Grant → Type 0) (grants : List Grant) (i : ℕ) → length grants ≤ i → All Not (take i grants) → All Not grants
+none_passes Not grants i end all = rw (← take_all i grants end) all
 
 -- in other words
 pub first_said : {Does Not Does' Not' : Grant → Type 0} (grants : List Grant) (n : ℕ) → ((g : Grant) → Does g → Does' g) → ((g : Grant) → Not g → Not' g) → IsFirst Does Not grants n → IsFirst Does' Not' grants n

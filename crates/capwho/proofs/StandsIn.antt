@@ -13,7 +13,7 @@ use Rattle.capgrant.specs.declared.class.Class.{Class}
 use Rattle.capgrant.specs.declared.class.Class.TheVariants.{Owner, Group, Other}
 use Rattle.capgrant.specs.Access.{changes_attr, new_owner, new_group, is_read}
 use Rattle.capgrant.specs.Class.{needed_bit, has_bit}
-use Rattle.capgrant.specs.Question.{Question, contains, listed_gids, class_of}
+use Rattle.capgrant.specs.Question.{contains, listed_gids, class_of}
 use Rattle.capgrant.specs.Failing.{is_some_and, fails_fsname, fails_uid, fails_path, fails_no_write, fails_root_squash, fails_no_p, fails_no_s, fails_not_owner, fails_not_own_group, fails_mode_bits}
 use Rattle.capgrant.specs.Verdict.{allows}
 use Rattle.capgrant.proofs.Listed.{contains_listed}

@@ -1,2 +1,4 @@
 pub mod Callers
 pub mod Standing
+pub mod Otherwise
+pub use Rattle.capremarks.specs as Capremarks

@@ -3,7 +3,9 @@
 
 mod asking;
 mod callers;
+mod otherwise;
 mod standing;
 
 pub use asking::Wanted;
+pub use capremarks::Otherwise;
 pub use standing::Standing;

@@ -1,5 +1,19 @@
 use Rattle.capexplain.proofs.Answered.{one_answer}
+use Rattle.capexplain.proofs.Compared.{one_comparison}
+use Rattle.capexplain.proofs.Clients.{one_standing, one_fault, no_fault}
 use Rattle.capexplain.proofs.laws.one_answer_for_a_line.Goals as goal
 
-pub returns : goal.returns
-returns c = one_answer
+pub returns-clause-answer : goal.returns-clause-answer
+returns-clause-answer c = one_answer
+
+pub returns-clause-client : goal.returns-clause-client
+returns-clause-client c = one_standing
+
+pub returns-clause-unread : goal.returns-clause-unread
+returns-clause-unread c = one_fault
+
+pub returns-clause-either : goal.returns-clause-either
+returns-clause-either c = no_fault
+
+pub returns-clause-comparison : goal.returns-clause-comparison
+returns-clause-comparison c = one_comparison

@@ -1,5 +1,12 @@
-use Rattle.capjson.proofs.Distinct.{one_answer}
+use Rattle.capjson.proofs.Clients.{one_standing}
+use Rattle.capjson.proofs.Distinct.{one_answer, one_change}
 use Rattle.capjson.proofs.laws.one_answer_for_an_object.Goals as goal
 
-pub returns : goal.returns
-returns c = one_answer
+pub returns-clause-answer : goal.returns-clause-answer
+returns-clause-answer c = one_answer
+
+pub returns-clause-client : goal.returns-clause-client
+returns-clause-client c = one_standing
+
+pub returns-clause-change : goal.returns-clause-change
+returns-clause-change c = one_change

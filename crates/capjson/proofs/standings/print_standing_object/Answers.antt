@@ -1,8 +1,9 @@
-use Rattle.std.proofs.Common.{◌≡◌, ap, ◌∙◌}
-use Rattle.serde_json.specs.Data.{object, no_members}
+use Rattle.std.proofs.Common.{◌≡◌, ◌++◌, ap, subst, ◌∙◌}
+use Rattle.serde_json.specs.Data.{Members, object, no_members}
 use Rattle.serde_json.specs.View.{members_view}
+use Rattle.capjson.specs.Answers.{otherwise_table}
 use Rattle.capjson.specs.Standings.{standing_table, standing_value, with_client}
-use Rattle.capjson.specs.Values.{with_all}
+use Rattle.capjson.specs.Values.{ReadsBack, json_line, with_all}
 use Rattle.capjson.proofs.Plain.{plain-as, plain-standing}
 use Rattle.capjson.proofs.standings.print_standing_object.Goals as goal
 
@@ -12,5 +13,7 @@ print_object-requires c =
     let w = c.args.wanted.now in
     let attr = c.args.attr.now in
     let standing = c.args.standing.now in
+    let other = c.args.other.now in
     let asked : members_view c.put_client.new.members.entries ≡ with_client client w attr no_members = c.in_ok-put_client.ensures ∙ ap (with_client client w attr) (ap members_view c.new-members.ensures.empty) in
-    plain-as (members_view c.put_standing.new.members.entries) (standing_value client w attr standing) (ap object (c.in_ok-put_standing.ensures ∙ ap (with_all (standing_table standing)) asked)) (plain-standing client w attr standing)
+    let judged : members_view c.put_standing.new.members.entries ≡ with_all (standing_table standing) (with_client client w attr no_members) = c.in_ok-put_standing.ensures ∙ ap (with_all (standing_table standing)) asked in
+    plain-as (members_view c.put_otherwise.new.members.entries) (standing_value client w attr standing other) (ap object (c.in_ok-put_otherwise.ensures ∙ ap (with_all (otherwise_table other)) judged)) (plain-standing client w attr standing other)

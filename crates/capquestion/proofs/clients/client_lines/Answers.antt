@@ -5,7 +5,7 @@ use Rattle.capquestion.proofs.clients.client_lines.Goals.{then-is_client+in_ok-p
 
 pub loop-entity-preserved : goal.loop-entity-preserved
 loop-entity-preserved c =
-    let shape = c.args.shape in
+    let telling = c.args.telling in
     let w = c.args.wanted.now in
     let attr = c.args.attr.now in
     let es = c.args.entities.now in
@@ -15,9 +15,9 @@ loop-entity-preserved c =
     elim c.if-is_client.branch [
       | then-is_client+in_ok-print_client k ↦
           let told = k.in_ok-print_client.ensures in
-          one_line shape w attr es i e text c.loop-entity-test.true c.entity-item.is c.loop-entity.invariant told.0 _ (sym c.is_client.ensures ∙ k.if-is_client.true) told.2 (ap (λ v. v.items) k.lines-is ∙ told.1)
-      | else-is_client k ↦ no_line shape w attr es i e text c.loop-entity-test.true c.entity-item.is c.loop-entity.invariant _ (sym c.is_client.ensures ∙ k.if-is_client.false) (ap (λ v. v.items) k.lines-is)
+          one_line telling w attr es i e text c.loop-entity-test.true c.entity-item.is c.loop-entity.invariant told.0 _ (sym c.is_client.ensures ∙ k.if-is_client.true) told.2 (ap (λ v. v.items) k.lines-is ∙ told.1)
+      | else-is_client k ↦ no_line telling w attr es i e text c.loop-entity-test.true c.entity-item.is c.loop-entity.invariant _ (sym c.is_client.ensures ∙ k.if-is_client.false) (ap (λ v. v.items) k.lines-is)
     ]
 
 pub returns : goal.returns
-returns c = all_lines c.args.shape c.args.wanted.now c.args.attr.now c.args.entities.now c.loop-entity.entity-index c.loop-entity.lines.items c.loop-entity-test.false c.loop-entity.invariant
+returns c = all_lines c.args.telling c.args.wanted.now c.args.attr.now c.args.entities.now c.loop-entity.entity-index c.loop-entity.lines.items c.loop-entity-test.false c.loop-entity.invariant
