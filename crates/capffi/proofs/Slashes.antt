@@ -1,8 +1,10 @@
 -- Pieces of a path's text, in which two slashes may stand side by side.
-use Rattle.std.proofs.Common.{◌≡◌, ℕ, ◌+◌, ◌-◌, ◌<◌, ◌≤◌, zero, suc, Bool, true, false, List, [], ◌∷◌, get_or, drop, refl, sym, ap, subst, ◌∙◌, true≢false, arith}
+use Rattle.std.proofs.Common.{◌≡◌, ℕ, ◌+◌, ◌-◌, ◌<◌, ◌≤◌, zero, suc, Bool, true, false, cond, List, [], ◌∷◌, length, get_or, drop, refl, sym, ap, subst, ◌∙◌, true≢false, arith}
+use Rattle.std.specs.Prelude.{count_by}
 use Rattle.std.proofs.Math.Bool.{and-false}
 use Rattle.std.proofs.lemmas.Bool.{or_parts}
-use Rattle.std.proofs.lemmas.List.{drop-drop}
+use Rattle.std.proofs.lemmas.List.{drop-drop, length-drop}
+use Rattle.std.proofs.lemmas.List.Sums.{sum_by-drop_more, sum_by-take-drop, count_by-le-length}
 use Rattle.capwords.specs.Paths.{has_double_slash}
 use Rattle.capspec.proofs.Paths.{is_slash}
 
@@ -54,3 +56,24 @@ around text k some other =
     ∙ ap (λ (m : ℕ). has_double_slash (drop m text)) here
     ∙ next_same text k other
     ∙ ap (λ (m : ℕ). has_double_slash (drop m text)) next
+
+-- ---- how many there are
+
+-- whether a byte is a slash, as a number
+abbrev one : ℕ → ℕ
+one b = cond (is_slash b) 1 0
+
+pub count_more : (path : List ℕ) (k d : ℕ) → k < length path → count_by is_slash (drop k path) ≡ cond (is_slash (get_or path k d)) 1 0 + count_by is_slash (drop (k + 1) path)
+count_more path k d within = sum_by-drop_more one path k d within
+
+count_further : (k m : ℕ) (path : List ℕ) → k ≤ m → count_by is_slash (drop m path) ≤ count_by is_slash (drop k path)
+count_further k m path first =
+    let place : k + (m - k) ≡ m = omega arith in
+    let same : drop m path ≡ drop (m - k) (drop k path) = ap (λ (n : ℕ). drop n path) (sym place) ∙ sym (drop-drop (m - k) k path) in
+    omega (arith, ap (count_by is_slash) same, sum_by-take-drop one (drop k path) (m - k))
+
+-- a part of a path is counted up to a place, and another from a place before that on, up to the last byte
+pub counted_twice : (path : List ℕ) (reached last front back : ℕ) → last ≤ reached → length path ≤ last + 65 → front + count_by is_slash (drop reached path) ≡ count_by is_slash path → back + count_by is_slash (drop (last + 64) path) ≡ count_by is_slash (drop last path) → count_by is_slash path ≤ (front + back) + 1
+counted_twice path reached last front back before ends one_part other =
+    let end : count_by is_slash (drop (last + 64) path) ≤ 1 = omega (arith, count_by-le-length is_slash (drop (last + 64) path), length-drop (last + 64) path, ends) in
+    omega (arith, count_further last reached path before, one_part, other, end)

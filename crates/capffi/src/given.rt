@@ -1,8 +1,8 @@
 //! A grant as it stands in a block.
 ghost use Rattle.std.specs.Prelude.{◌≡◌, ◌==◌, ◌↔◌, not, ◌+◌, ◌*◌, ◌<◌, ◌≤◌, IsTrue, length, slice_index, take, drop};
-ghost use Rattle.std.specs.List.{starts_with, slice_split};
+ghost use Rattle.std.specs.List.{starts_with};
 ghost use Rattle.std.specs.Str.{bytes_eq};
-ghost use Rattle.capffi.specs.Blocks.{path_names, grant_of, path_in, fs_in, behind};
+ghost use Rattle.capffi.specs.Blocks.{bare_names, path_names, grant_of, path_in, fs_in, behind};
 
 use crate::block::Entry;
 use std::marker::Model;
@@ -49,7 +49,7 @@ impl Given<'_> {
     ghost use Rattle.std.specs.List.{starts_with};
     ghost use Rattle.capwords.specs.Flags.{has_w, has_p, has_s};
     ghost use Rattle.capgrant.specs.Failing.{is_some_and};
-    ghost use Rattle.capffi.specs.Blocks.{path_names};
+    ghost use Rattle.capffi.specs.Blocks.{bare_names};
 
     /// Whether it is for every caller, and lists no groups.
     pub(crate) fn is_for_all(&self) -> bool
@@ -89,10 +89,10 @@ impl Given<'_> {
         &gids[..(self.entry.gid_count as usize).min(gids.len())]
     }
 
-    /// Whether a path's text leads to its directory, or below it.
+    /// Whether a path, without a slash in front, leads to its directory, or below it.
     #[inline(always)]
     pub(crate) fn is_above(&self, path: &[u8]) -> bool
-        ensures { result ≡ starts_with bytes_eq (path_names path.now) self.now.path }
+        ensures { result ≡ starts_with bytes_eq (bare_names path.now) self.now.path }
     {
         leads(self.path, path)
     }
@@ -137,25 +137,24 @@ fn are_apart(one: &[u8], other: &[u8]) -> bool
     one != other
 }
 
-// Whether the directory of one text is that of the other, or lies above it. What stands in front of each is its first slash.
+// Whether a directory, whose text has a slash in front, is that of a path, whose text has none, or lies above it.
 #[inline(always)]
+#[tactic(auto, using(crate::proofs::Leads::root_above))]
 fn leads(dir: &[u8], path: &[u8]) -> bool
-    ensures { result ≡ starts_with bytes_eq (path_names path.now) (path_names dir.now) }
+    ensures { result ≡ starts_with bytes_eq (bare_names path.now) (path_names dir.now) }
 {
-    let Some((_, dir)) = dir.split_first() else {
+    if dir.len() < 2 {
         return true;
-    };
-    let Some((_, path)) = path.split_first() else {
-        return false;
-    };
-    is_front(dir, path)
+    }
+    is_front(&dir[1..], path)
 }
 
-// Whether the names of one text, with a slash between each two, are the first of another's.
+// Whether the names of one text, with a slash between each two, are the first of another's. The root has none.
 #[inline(always)]
 #[tactic(auto, using(crate::proofs::Leads::begin_past, crate::proofs::Leads::begin_slash, crate::proofs::Leads::begin_other))]
 fn is_front(dir: &[u8], path: &[u8]) -> bool
-    ensures { result ≡ starts_with bytes_eq (slice_split (λ b. b == 47) path.now) (slice_split (λ b. b == 47) dir.now) }
+    requires { 0 < length dir.now }
+    ensures { result ≡ starts_with bytes_eq (bare_names path.now) (bare_names dir.now) }
 {
     if path.len() <= dir.len() {
         return are_equal(dir, path);

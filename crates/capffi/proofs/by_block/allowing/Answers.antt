@@ -7,4 +7,4 @@ use Rattle.capffi.proofs.by_block.allowing.Goals as goal
 pub returns : goal.returns
 returns c =
     λ (groups : List ℕ). λ (few : length groups ≤ 16).
-    said_of_text c.args.block.now c.args.text.now c.args.path.now groups c.args.path.now c.args.question.now (Ok (Allowed c.in_ok-grant.grant)) (c.if-not-is_block.ensures.0 refl) few (c.if-not-is_plain.ensures.fit refl) (c.if-not-is_plain.ensures.slashed refl) (c.in_ok-grant.ensures groups)
+    said_of_text c.args.block.now c.args.text.now c.args.path.now groups c.in_ok-bare.bare.now c.args.question.now (Ok (Allowed c.in_ok-grant.grant)) (c.if-not-is_block.ensures.0 refl) few c.in_ok-bare.ensures.1 c.in_ok-bare.ensures.0 (c.in_ok-grant.ensures groups)
