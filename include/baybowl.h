@@ -274,19 +274,14 @@ uint32_t baybowl_grants_write(const char *grants, size_t grants_len, char *room,
 uint32_t baybowl_grants_read(const char *grants, size_t grants_len, const char *fs, size_t fs_len, struct baybowl_block *block,
                              size_t block_len, uint64_t *needed, struct baybowl_fault *fault);
 
-/* What baybowl_verdict_by and baybowl_verdict_mask call: the grant for every user that allows, where that is soon seen of a short path
- * with a '/' in front, or 0; whether the answer is soon seen, of grants for everybody; and the whole verdict. No calls for a program:
- * those that begin with capffi take what they are given as it is. */
-uint32_t capffi_allowing(const struct baybowl_block *block, const uint8_t *text, size_t text_len, const uint8_t *path, size_t path_len,
-                         const struct baybowl_question *question);
+/* What baybowl_verdict_by and baybowl_verdict_mask call: the answer where it is soon seen, of grants for everybody, and the whole
+ * verdict. No calls for a program: those that begin with capffi take what they are given as it is, and tell the number of the grant that
+ * allows, 17 with the answer of a denial, or 0. */
 uint32_t capffi_soon(const struct baybowl_block *block, const uint8_t *text, size_t text_len, const uint8_t *path, size_t path_len,
                      const struct baybowl_question *question, struct baybowl_answer *answer);
 uint32_t baybowl_whole_verdict_by(const struct baybowl_block *block, size_t block_len, const char *path, size_t path_len,
                                   const uint32_t *groups, size_t groups_len, const struct baybowl_question *question,
                                   struct baybowl_answer *answer);
-uint32_t capffi_verdict_by(const struct baybowl_block *block, const uint8_t *text, size_t text_len, const uint8_t *path,
-                           size_t path_len, const uint32_t *groups, size_t groups_len, const struct baybowl_question *question,
-                           struct baybowl_answer *answer);
 uint32_t capffi_soon_mask(const struct baybowl_block *block, const uint8_t *text, size_t text_len, const uint8_t *path, size_t path_len,
                           const struct baybowl_check *check, struct baybowl_answer *answer);
 uint32_t baybowl_whole_verdict_mask(const struct baybowl_block *block, size_t block_len, const char *path, size_t path_len,
@@ -301,6 +296,21 @@ inline int baybowl_is_sound(const struct baybowl_block *block, size_t block_len,
            block_len >= sizeof *block && block_len <= BAYBOWL_MAX_LEN && path_len <= BAYBOWL_MAX_LEN && groups_len <= BAYBOWL_MAX_LEN;
 }
 
+/* Whether a number tells an answer: that of the grant of this number, or that of a denial. */
+inline int baybowl_is_told(uint32_t told, const struct baybowl_answer *denied, struct baybowl_answer *answer) {
+    if (told - 1 < 16) {
+        answer->grant = told;
+        answer->count = 0;
+        memset(answer->rules, 0, sizeof answer->rules);
+        return 1;
+    }
+    if (told != 0) {
+        *answer = *denied;
+        return 1;
+    }
+    return 0;
+}
+
 /* The verdict of the grants that a block says, on the file system that it says: as baybowl_verdict on the text and the name that
  * baybowl_grants_read was given. `block_len` is how long the room is, at least `needed`.
  * The values are tested in the order block, groups, path, mode, access, and the first bad one is told: BAYBOWL_BLOCK,
@@ -313,26 +323,12 @@ inline uint32_t baybowl_verdict_by(const struct baybowl_block *block, size_t blo
                                    const uint32_t *groups, size_t groups_len, const struct baybowl_question *question,
                                    struct baybowl_answer *answer) {
     if (baybowl_is_sound(block, block_len, path, path_len, groups, groups_len, question, answer) && groups_len <= 16) {
-        const uint8_t *const text = (const uint8_t *)(block + 1);
-        const size_t text_len = block_len - sizeof *block;
-        struct baybowl_answer said;
-        uint32_t status;
-        if (path_len - 2 < 62 && path[0] == '/') {
-            const uint32_t grant = capffi_allowing(block, text, text_len, (const uint8_t *)path, path_len, question);
-            if (grant != 0) {
-                answer->grant = grant;
-                answer->count = 0;
-                memset(answer->rules, 0, sizeof answer->rules);
-                return BAYBOWL_OK;
-            }
-        } else if (capffi_soon(block, text, text_len, (const uint8_t *)path, path_len, question, &said)) {
-            *answer = said;
+        struct baybowl_answer denied;
+        const uint32_t told = capffi_soon(block, (const uint8_t *)(block + 1), block_len - sizeof *block, (const uint8_t *)path, path_len,
+                                          question, &denied);
+        if (baybowl_is_told(told, &denied, answer)) {
             return BAYBOWL_OK;
         }
-        status = capffi_verdict_by(block, text, text_len, (const uint8_t *)path, path_len, groups_len == 0 ? &question->uid : groups,
-                                   groups_len, question, &said);
-        *answer = said;
-        return status;
     }
     return baybowl_whole_verdict_by(block, block_len, path, path_len, groups, groups_len, question, answer);
 }
@@ -348,13 +344,13 @@ inline uint32_t baybowl_verdict_mask(const struct baybowl_block *block, size_t b
                                      struct baybowl_answer *answer, uint32_t *access) {
     if (baybowl_is_sound(block, block_len, path, path_len, groups, groups_len, check, answer) && access != NULL &&
         (uintptr_t)access % 4 == 0) {
-        struct baybowl_answer said;
-        if (capffi_soon_mask(block, (const uint8_t *)(block + 1), block_len - sizeof *block, (const uint8_t *)path, path_len, check,
-                             &said)) {
+        const uint32_t mask = check->mask;
+        struct baybowl_answer denied;
+        const uint32_t told = capffi_soon_mask(block, (const uint8_t *)(block + 1), block_len - sizeof *block, (const uint8_t *)path,
+                                               path_len, check, &denied);
+        if (baybowl_is_told(told, &denied, answer)) {
             /* It answers masks of one bit, to read or to write. */
-            const uint32_t asked = check->mask == BAYBOWL_MAY_READ ? BAYBOWL_READ : BAYBOWL_WRITE;
-            *answer = said;
-            *access = asked;
+            *access = mask == BAYBOWL_MAY_READ ? BAYBOWL_READ : BAYBOWL_WRITE;
             return BAYBOWL_OK;
         }
     }

@@ -1,6 +1,6 @@
 -- The grants of the entries of a block, one by one.
 use Rattle.std.proofs.Common.{◌≡◌, ℕ, ◌+◌, ◌<◌, ◌≤◌, suc, Bool, true, false, ltb, Option, Some, None, List, [], ◌∷◌, ◌++◌, length, take, drop, get_or, refl, sym, ap, ◌∙◌, arith, inl, inr}
-use Rattle.std.specs.Prelude.{position, find, set}
+use Rattle.std.specs.Prelude.{position, find, set, is_none, nat_eq}
 use Rattle.std.specs.List.{list_any, position_or_len}
 use Rattle.std.proofs.lemmas.Bool.{or_parts, lt-ltb}
 use Rattle.std.proofs.lemmas.Bool.Decides.{nat_tests}
@@ -9,6 +9,7 @@ use Rattle.std.proofs.lemmas.List.Elements.{filter_map-append}
 use Rattle.capspec.specs.declared.grant.Grant.{Grant}
 use Rattle.capspec.proofs.Fronts.{which}
 use Rattle.capgrant.specs.declared.rule.Rule.{Rule}
+use Rattle.capgrant.specs.declared.rule.Rule.TheVariants.{FsName, Uid, Gids, Path, NoWrite, RootSquash, NoP, NoS, NotOwner, NotOwnGroup, ModeBits}
 use Rattle.capgrant.specs.Failing.{first_failing, fails, fails_fsname, fails_uid, fails_gids, fails_path, fails_no_write, fails_root_squash, fails_no_p, fails_no_s, fails_not_owner, fails_not_own_group, fails_mode_bits}
 use Rattle.capgrant.specs.Question.{Question}
 use Rattle.capgrant.specs.Rule.{rule_number}
@@ -18,7 +19,7 @@ use Rattle.capgrant.specs.Verdict.{allows, first_failures, verdict_of}
 use Rattle.capffi.specs.declared.block.Entry.{Entry}
 use Rattle.capffi.specs.declared.passed.Answer.{Answer}
 use Rattle.capffi.specs.Answering.{answer_of, rule_numbers}
-use Rattle.capffi.specs.ByBlock.{with_groups, open_rules}
+use Rattle.capffi.specs.ByBlock.{alone, with_groups, open_rules}
 use Rattle.capffi.specs.Blocks.{grant_of, path_in, fs_in, behind, grants_in}
 
 -- what stands behind the texts of entries
@@ -212,3 +213,32 @@ denied_answer q entries i text rules past none are =
     ap (λ (ns : List ℕ). record { grant = 0; count = length entries; rules = ns }) numbers
     ∙ ap (λ (n : ℕ). record { grant = 0; count = n; rules = rule_numbers (first_failures q (grants_in entries text)) }) count
     ∙ ap answer_of (allowed_nowhere q (grants_in entries text) (sym (found_none (allows q) (grants_in entries text) none_of)))
+
+-- ---- a grant that is alone
+
+number_some : (rule : Rule) → nat_eq (rule_number rule) 0 ≡ false
+number_some FsName = refl
+number_some Uid = refl
+number_some Gids = refl
+number_some Path = refl
+number_some NoWrite = refl
+number_some RootSquash = refl
+number_some NoP = refl
+number_some NoS = refl
+number_some NotOwner = refl
+number_some NotOwnGroup = refl
+number_some ModeBits = refl
+
+pub alone_allows : (q : Question) (entries : List Entry) (d : Entry) (text : List ℕ) → length entries ≡ 1 → first_failing q (first_of (at entries 0 d) text) ≡ None → alone 0 ≡ answer_of (verdict_of q (grants_in entries text))
+alone_allows q [] d text one passes = absurd (omega (arith, one))
+alone_allows q (e ∷ []) d text one passes = allowed_answer q (grants_in (e ∷ []) text) 0 (answer_of (Allowed 1)) refl (found (allows q) [] (first_of e text) [] refl (ap (λ (found : Option Rule). is_none found) passes))
+alone_allows q (e ∷ f ∷ entries) d text one passes = absurd (omega (arith, one))
+
+pub alone_fails : (q : Question) (entries : List Entry) (d : Entry) (text : List ℕ) (rule : Rule) (n : ℕ) → length entries ≡ 1 → first_failing q (first_of (at entries 0 d) text) ≡ Some rule → n ≡ rule_number rule → alone n ≡ answer_of (verdict_of q (grants_in entries text))
+alone_fails q [] d text rule n one fails number = absurd (omega (arith, one))
+alone_fails q (e ∷ []) d text rule n one fails number =
+    let none : list_any (allows q) (grants_in (e ∷ []) text) ≡ false = any_more (allows q) [] (first_of e text) refl (ap (λ (found : Option Rule). is_none found) fails) in
+    let are : rule_numbers (rule ∷ []) ≡ rule_numbers (first_failures q (grants_in (e ∷ []) text)) = rw fails refl in
+    let is : alone (rule_number rule) ≡ record { grant = 0; count = 1; rules = rule_numbers (rule ∷ []) } = rw (number_some rule) refl in
+    ap alone number ∙ is ∙ denied_answer q (e ∷ []) 1 text (rule_numbers (rule ∷ [])) (omega arith) none are
+alone_fails q (e ∷ f ∷ entries) d text rule n one fails number = absurd (omega (arith, one))

@@ -1,10 +1,11 @@
 -- Paths as texts: where the names of one are the first of another's.
-use Rattle.std.proofs.Common.{◌≡◌, ℕ, ◌<◌, ◌≤◌, Bool, true, false, ◌&&◌, ◌≢◌, eqb, List, [], ◌∷◌, length, take, get_or, refl, sym, ap, ◌∙◌, inl, inr, arith}
+use Rattle.std.proofs.Common.{◌≡◌, ℕ, ◌<◌, ◌≤◌, Bool, true, false, ◌&&◌, ◌≢◌, eqb, List, [], ◌∷◌, length, take, drop, get_or, ◌+◌, ◌-◌, true≢false, refl, sym, ap, ◌∙◌, inl, inr, arith}
 use Rattle.std.specs.Prelude.{◌↔◌, IsTrue, bytes_eq}
 use Rattle.std.specs.List.{starts_with, slice_split, onto_first}
 use Rattle.std.proofs.lemmas.Bool.{eqb-true, ne_eqb}
 use Rattle.std.proofs.lemmas.Bool.Decides.{same_from_decides}
 use Rattle.std.proofs.lemmas.Slice.Eq.{bytes_eq-Decides}
+use Rattle.std.proofs.lemmas.List.{drop_more, drop_all, drop-drop}
 use Rattle.std.proofs.lemmas.List.Splits.{slice_split-cons_yes, slice_split-cons_no, length-slice_split}
 use Rattle.capspec.proofs.Fronts.{which}
 use Rattle.capspec.proofs.Paths.{is_slash}
@@ -144,5 +145,40 @@ same_is r xs ys told = same_from_decides r (bytes_eq xs ys) told (bytes_eq-Decid
 pub other_length : (xs ys : List ℕ) → length xs ≢ length ys → false ≡ bytes_eq xs ys
 other_length xs ys other = elim (which (bytes_eq xs ys)) [
   | inl e ↦ absurd (other (ap length ((bytes_eq-Decides xs ys).0 e)))
+  | inr e ↦ sym e
+]
+
+-- ---- piece by piece
+
+pub byte_more : (xs ys : List ℕ) (k : ℕ) → length xs ≡ length ys → k < length ys → bytes_eq (drop k xs) (drop k ys) ≡ (eqb (get_or xs k 0) (get_or ys k 0) && bytes_eq (drop (k + 1) xs) (drop (k + 1) ys))
+byte_more xs ys k same within = rw (drop_more xs k 0 (omega (arith, same, within)), drop_more ys k 0 within) refl
+
+-- where the ends of two texts are the same, so are those behind them
+further_same : (k m : ℕ) (xs ys : List ℕ) → k ≤ m → bytes_eq (drop k xs) (drop k ys) ≡ true → bytes_eq (drop m xs) (drop m ys) ≡ true
+further_same k m xs ys before same =
+    let place : k + (m - k) ≡ m = omega arith in
+    let rests : drop k xs ≡ drop k ys = (bytes_eq-Decides (drop k xs) (drop k ys)).0 same in
+    let later : drop m xs ≡ drop m ys = ap (λ (n : ℕ). drop n xs) (sym place) ∙ sym (drop-drop (m - k) k xs) ∙ ap (drop (m - k)) rests ∙ drop-drop (m - k) k ys ∙ ap (λ (n : ℕ). drop n ys) place in
+    (bytes_eq-Decides (drop m xs) (drop m ys)).1 later
+
+and_true : (b : Bool) → (b && true) ≡ b
+and_true true = refl
+and_true false = refl
+
+-- the last piece of two texts is the same where all behind its place is
+pub last_piece : (xs ys : List ℕ) (back : Bool) (k m : ℕ) → length xs ≡ length ys → length ys ≤ m → (back && bytes_eq (drop m xs) (drop m ys)) ≡ bytes_eq (drop k xs) (drop k ys) → back ≡ bytes_eq (drop k xs) (drop k ys)
+last_piece xs ys back k m same past told =
+    let end : bytes_eq (drop m xs) (drop m ys) ≡ true = rw (drop_all m xs (omega (arith, same, past)), drop_all m ys past) refl in
+    sym (and_true back) ∙ ap (λ (t : Bool). back && t) (sym end) ∙ told
+
+-- where it is the same, the first tells of the whole
+pub first_piece : (xs ys : List ℕ) (front : Bool) (k m : ℕ) → k ≤ m → bytes_eq (drop k xs) (drop k ys) ≡ true → (front && bytes_eq (drop m xs) (drop m ys)) ≡ bytes_eq xs ys → front ≡ bytes_eq xs ys
+first_piece xs ys front k m before same told = sym (and_true front) ∙ ap (λ (t : Bool). front && t) (sym (further_same k m xs ys before same)) ∙ told
+
+pub other_end : (xs ys : List ℕ) (k : ℕ) → bytes_eq (drop k xs) (drop k ys) ≡ false → false ≡ bytes_eq xs ys
+other_end xs ys k other = elim (which (bytes_eq xs ys)) [
+  | inl e ↦
+      let rests : drop k xs ≡ drop k ys = ap (drop k) ((bytes_eq-Decides xs ys).0 e) in
+      absurd (true≢false (sym ((bytes_eq-Decides (drop k xs) (drop k ys)).1 rests) ∙ other))
   | inr e ↦ sym e
 ]

@@ -4,3 +4,4 @@ pub mod Entries
 pub mod Filled
 pub mod Slashes
 pub mod Masks
+pub mod Telling

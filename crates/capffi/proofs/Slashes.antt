@@ -1,11 +1,12 @@
 -- Pieces of a path's text, in which two slashes may stand side by side.
-use Rattle.std.proofs.Common.{◌≡◌, ℕ, ◌+◌, ◌-◌, ◌<◌, ◌≤◌, zero, suc, Bool, true, false, cond, List, [], ◌∷◌, length, get_or, drop, refl, sym, ap, subst, ◌∙◌, true≢false, arith}
+use Rattle.std.proofs.Common.{◌≡◌, ℕ, ◌+◌, ◌-◌, ◌<◌, ◌≤◌, zero, suc, Bool, true, false, cond, ◌||◌, List, [], ◌∷◌, length, get_or, drop, refl, sym, ap, subst, ◌∙◌, true≢false, arith}
 use Rattle.std.specs.Prelude.{count_by}
 use Rattle.std.proofs.Math.Bool.{and-false}
 use Rattle.std.proofs.lemmas.Bool.{or_parts}
 use Rattle.std.proofs.lemmas.List.{drop-drop, length-drop}
 use Rattle.std.proofs.lemmas.List.Sums.{sum_by-drop_more, sum_by-take-drop, count_by-le-length}
 use Rattle.capwords.specs.Paths.{has_double_slash}
+use Rattle.capspec.proofs.OneText.{no_pair}
 use Rattle.capspec.proofs.Paths.{is_slash}
 
 behind_first : (b : ℕ) (bytes : List ℕ) → has_double_slash (b ∷ bytes) ≡ false → has_double_slash bytes ≡ false
@@ -77,3 +78,27 @@ pub counted_twice : (path : List ℕ) (reached last front back : ℕ) → last �
 counted_twice path reached last front back before ends one_part other =
     let end : count_by is_slash (drop (last + 64) path) ≤ 1 = omega (arith, count_by-le-length is_slash (drop (last + 64) path), length-drop (last + 64) path, ends) in
     omega (arith, count_further last reached path before, one_part, other, end)
+
+-- ---- a piece at each end
+
+ends_found : (front back whole later : Bool) → (front || later) ≡ whole → (back ≡ false → later ≡ false) → (whole ≡ false → back ≡ false) → (front || back) ≡ whole
+ends_found true back whole later first more fewer = first
+ends_found false true true later first more fewer = refl
+ends_found false true false later first more fewer = fewer refl
+ends_found false false whole later first more fewer = sym (more refl) ∙ first
+
+or_false : (b : Bool) → (b || false) ≡ b
+or_false true = refl
+or_false false = refl
+
+-- no two stand behind the place of the last byte
+last_byte : (k : ℕ) (text : List ℕ) → length text ≤ k + 1 → has_double_slash (drop k text) ≡ false
+last_byte k text ends =
+    let place : k ≡ (k + 1) - 1 = omega arith in
+    ap (λ (n : ℕ). has_double_slash (drop n text)) place ∙ no_pair text (k + 1) ends
+
+pub at_ends : (text : List ℕ) (front back : Bool) (k m end : ℕ) → k ≤ m → length text ≤ end + 1 → (front || has_double_slash (drop m text)) ≡ has_double_slash text → (back || has_double_slash (drop end text)) ≡ has_double_slash (drop k text) → (front || back) ≡ has_double_slash text
+at_ends text front back k m end before ends first last =
+    let none_behind : has_double_slash (drop end text) ≡ false = last_byte end text ends in
+    let tells : back ≡ has_double_slash (drop k text) = sym (or_false back) ∙ ap (λ (t : Bool). back || t) (sym none_behind) ∙ last in
+    ends_found front back (has_double_slash text) (has_double_slash (drop m text)) first (λ none. further k m text before (sym tells ∙ none)) (λ none. tells ∙ behind k text none)

@@ -1,5 +1,5 @@
 -- What the grants of a block say to a question.
-use Rattle.std.specs.Prelude.{◌≡◌, ◌<◌, ◌≤◌, ◌⊎◌, ℕ, List, [], ◌∷◌, length, IsTrue, IsFalse, Some, None, Result, Ok, MatchResult}
+use Rattle.std.specs.Prelude.{◌≡◌, ◌==◌, ◌<◌, ◌≤◌, ◌⊎◌, ℕ, List, [], ◌∷◌, length, IsTrue, IsFalse, Some, None, Result, Ok, MatchResult, if◌then◌else◌}
 use Rattle.capwords.specs.Paths.{names_of, are_few_and_short}
 use Rattle.capgrant.specs.declared.access.Access.{Access}
 use Rattle.capgrant.specs.declared.answer.Verdict.{Verdict}
@@ -56,21 +56,27 @@ IsSaidOn block text path groups q said =
 abbrev pub IsSaid : Block → List ℕ → List ℕ → List ℕ → Question → Result Verdict Trouble → Type 0
 IsSaid block text path groups q said = IsSaidOn block text (names_of path) groups q said
 
--- the verdict is that the grant allows, whatever the groups of the caller
-abbrev pub IsAllowedFor : Block → List ℕ → List ℕ → Question → ℕ → Type 0
-IsAllowedFor block text path q grant = (groups : List ℕ) → length groups ≤ 16 → IsSaid block text path groups q (Ok (Allowed grant))
-
--- the number is that of such a grant, or 0, which says nothing
-abbrev pub IsAllowing : Block → List ℕ → List ℕ → Question → ℕ → Type 0
-IsAllowing block text path q told = (told ≡ 0) ⊎ IsAllowedFor block text path q told
-
 -- the numbers are those of the verdict, whatever the groups of the caller
 abbrev pub IsSoon : Block → List ℕ → List ℕ → Question → Answer → Type 0
 IsSoon block text path q answered = (groups : List ℕ) → length groups ≤ 16 → (verdict : Verdict) × IsSaid block text path groups q (Ok verdict) × (answered ≡ answer_of verdict)
 
--- 1 says that these are the numbers, and 0 nothing
+-- the same of the names of a path that are neither too many nor too long
+abbrev pub IsSoonOf : Block → List ℕ → List (List ℕ) → Question → Answer → Type 0
+IsSoonOf block text path q answered = (groups : List ℕ) → (verdict : Verdict) × IsVerdictOf block text path groups q verdict × (answered ≡ answer_of verdict)
+
+-- 17 says that the answer was written, a number from 1 to 16 that the grant of this number allows, and 0 nothing
+abbrev pub Tells : (Answer → Type 0) → Answer → Answer → ℕ → Type 0
+Tells Is before after told =
+    ((told ≡ 0) × (after ≡ before)) ⊎ ((told ≡ 17) × Is after) ⊎ ((1 ≤ told) × (told ≤ 16) × (after ≡ before) × Is (answer_of (Allowed told)))
+
 abbrev pub TellsSoon : Block → List ℕ → List ℕ → Question → Answer → Answer → ℕ → Type 0
-TellsSoon block text path q before after told = ((told ≡ 0) × (after ≡ before)) ⊎ ((told ≡ 1) × IsSoon block text path q after)
+TellsSoon block text path q before after told = Tells (IsSoon block text path q) before after told
+
+-- the answer of a grant that is alone, by the number of the rule that it fails by, or 0 where it allows
+abbrev pub alone : ℕ → Answer
+alone rule =
+    if rule == 0 then answer_of (Allowed 1)
+    else record { grant = 0; count = 1; rules = rule ∷ 0 ∷ 0 ∷ 0 ∷ 0 ∷ 0 ∷ 0 ∷ 0 ∷ 0 ∷ 0 ∷ 0 ∷ 0 ∷ 0 ∷ 0 ∷ 0 ∷ 0 ∷ [] }
 
 -- the same question of a caller with other groups
 abbrev pub with_groups : Asked → List ℕ → Asked

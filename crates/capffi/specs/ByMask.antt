@@ -13,6 +13,7 @@ use Rattle.capffi.specs.declared.passed.Check.{Check}
 use Rattle.capffi.specs.declared.trouble.Trouble.{Trouble}
 use Rattle.capffi.specs.declared.trouble.Trouble.TheVariants as troubles
 use Rattle.capffi.specs.Answering.{answer_of, no_answer}
+use Rattle.capffi.specs.ByBlock.{Tells}
 use Rattle.capffi.specs.Blocks.{IsBlock, block_fs, block_grants}
 use Rattle.capffi.specs.Trouble.{status_of}
 
@@ -83,9 +84,12 @@ abbrev pub IsSoonToMask : Block → List ℕ → List ℕ → Check → Answer �
 IsSoonToMask block text path c answered =
     (groups : List ℕ) → (told : Told) × (accesses_of c ≡ told.access ∷ []) × IsSaidToMask block text path groups c (Ok told) × (answered ≡ answer_of told.verdict)
 
--- 1 says that these are the numbers, and 0 nothing
+-- the numbers are those of the verdict on an access, whatever the groups of the caller
+abbrev pub IsSoonOn : Block → List ℕ → List (List ℕ) → Check → Access → Answer → Type 0
+IsSoonOn block text path c access answered = (groups : List ℕ) → answered ≡ answer_of (verdict_on block text path groups c access)
+
 abbrev pub TellsSoonToMask : Block → List ℕ → List ℕ → Check → Answer → Answer → ℕ → Type 0
-TellsSoonToMask block text path c before after told = ((told ≡ 0) × (after ≡ before)) ⊎ ((told ≡ 1) × IsSoonToMask block text path c after)
+TellsSoonToMask block text path c before after told = Tells (IsSoonToMask block text path c) before after told
 
 -- the number of an access
 abbrev pub access_number : Access → ℕ

@@ -1,7 +1,9 @@
 //! Verdicts as numbers.
 ghost use Rattle.std.specs.Prelude.{◌≡◌, ◌≤◌, length};
+ghost use Rattle.capgrant.specs.declared.answer.Verdict.{Verdict};
 ghost use Rattle.capgrant.specs.declared.answer.Verdict.TheVariants.{Allowed};
 ghost use Rattle.capffi.specs.Answering.{answer_of, no_answer, rule_at, rule_numbers};
+ghost use Rattle.capffi.specs.ByBlock.{Tells, alone};
 
 use crate::passed::Answer;
 use capgrant::{Rule, Verdict};
@@ -27,6 +29,37 @@ pub(crate) fn allowed(grant: u32) -> Answer
         count: 0,
         rules: [0; 16],
     }
+}
+
+/// Tells an answer: that of a grant that allows by the grant's number alone, and a denial, which is put into `answer`, by 17. An answer
+/// by a grant beyond the sixteenth, which no block has, is not told: 0.
+#[inline(always)]
+#[tactic(auto, using(crate::proofs::Telling::allowed_is))]
+pub(crate) fn tell(found: Answer, answer: &mut Answer) -> u32
+    requires { (verdict : Verdict) × (found ≡ answer_of verdict) }
+    ensures { Tells (λ told. told ≡ found) answer.old answer.new result }
+{
+    if found.grant == 0 {
+        *answer = found;
+        return 17;
+    }
+    if found.grant <= 16 { found.grant } else { 0 }
+}
+
+/// Tells the answer of a grant that is alone, by the number of the rule that it fails by, or 0 where it allows.
+#[inline(always)]
+pub(crate) fn tell_alone(rule: u8, answer: &mut Answer) -> u32
+    ensures { Tells (λ told. told ≡ alone rule) answer.old answer.new result }
+{
+    if rule == 0 {
+        return 1;
+    }
+    *answer = Answer {
+        grant: 0,
+        count: 1,
+        rules: [rule, 0, 0, 0, 0, 0, 0, 0, 0, 0, 0, 0, 0, 0, 0, 0],
+    };
+    17
 }
 
 // The grants fail, each by a rule.

@@ -2,48 +2,58 @@
 ghost use Rattle.std.specs.Prelude.{◌≡◌, ◌≤◌, ◌↔◌, ℕ, List, length, IsTrue, IfSome};
 ghost use Rattle.capwords.specs.Paths.{names_of};
 ghost use Rattle.capffi.specs.Blocks.{IsBlock, bare_names};
-ghost use Rattle.capffi.specs.Answering.{answer_of};
-ghost use Rattle.capffi.specs.ByBlock.{IsSaid, IsSaidOf, IsVerdictOf, IsAllowedFor, IsSoon};
-ghost use Rattle.capgrant.specs.declared.answer.Verdict.{Verdict};
-ghost use Rattle.capgrant.specs.declared.answer.Verdict.TheVariants.{Allowed};
+ghost use Rattle.capffi.specs.ByBlock.{IsSaid, IsSaidOf, IsSoonOf, TellsSoon, Tells, alone};
+ghost use Rattle.capgrant.specs.Question.{question as asked};
 
+use crate::answering::{tell, tell_alone};
 use crate::asking::{read_access, read_mode};
 use crate::block::{BLOCK_VERSION, Block};
 use crate::given::split_front;
 use crate::judging::{Case, verdict_of};
 use crate::passed::{Answer, Question};
-use crate::plain::{plain, short_plain};
+use crate::plain::plain;
 use crate::trouble::Trouble;
-use capgrant::{Attr, Verdict};
+use capbits::Mode;
+use capgrant::{Access, Attr, Verdict};
 use capspec::TreePath;
 use std::alloc::{AllocError, Global};
 
-/// The number of the grant by which a block allows an access whatever the groups of the caller: where the first grant above the inode
-/// and those before it are for every user, and the path is short and has a slash in front. Else the whole verdict has to be asked for.
+/// Tells the answer of a block, whatever the groups of the caller, where that is soon seen: where the grants up to the first that
+/// allows, or all where none does, are for everybody. Else 0, and the whole verdict has to be asked for.
 #[inline(always)]
-pub(crate) fn allowing(block: &Block, text: &[u8], path: &[u8], question: &Question) -> Option<u32>
-    ensures { IfSome result (λ grant. IsAllowedFor block.now text.now path.now question.now grant) }
+pub(crate) fn soon(
+    block: &Block,
+    text: &[u8],
+    path: &[u8],
+    question: &Question,
+    answer: &mut Answer,
+) -> u32
+    ensures { TellsSoon block.now text.now path.now question.now answer.old answer.new result }
 {
-    let bare = short_plain(path)?;
     if !is_block(block, text) {
-        return None;
+        return 0;
     }
-    let grant = first_for_all(block, text, bare, question)?;
-    Some(grant)
+    if is_first_for_one(block) {
+        return 0;
+    }
+    match plain(path) {
+        Some(bare) => soon_of(block, text, bare, question, answer),
+        None => 0,
+    }
 }
 
-/// The answer of a block, whatever the groups of the caller, where that is soon seen: where the grants up to the first that allows, or
-/// all where none does, are for everybody. Else the whole verdict has to be asked for.
+/// Whether the first grant is for one caller, so that it isn't seen soon what it allows.
 #[inline(always)]
-pub(crate) fn soon(block: &Block, text: &[u8], path: &[u8], question: &Question) -> Option<Answer>
-    ensures { IfSome result (λ answer. IsSoon block.now text.now path.now question.now answer) }
+pub(crate) fn is_first_for_one(block: &Block) -> bool {
+    block.entries[0].has_uid != 0
+}
+
+/// Whether there is one grant alone, for every file system, as most clients have it.
+#[inline(always)]
+pub(crate) fn is_one_for_all_fs(block: &Block) -> bool
+    ensures { IsTrue result → block.now.count ≡ 1 }
 {
-    let bare = plain(path)?;
-    if !is_block(block, text) {
-        return None;
-    }
-    let answer = soon_of(block, text, bare, question)?;
-    Some(answer)
+    block.count == 1 && block.entries[0].fs_len == 0
 }
 
 /// What the grants of a block say to a question.
@@ -100,46 +110,90 @@ pub(crate) fn bare_text(path: &TreePath) -> &[u8]
     split_front(path.as_bytes(), 1).1
 }
 
-// The number of the first grant above an inode, where it is for everybody and allows the access.
+// The same for a path without a slash in front.
 #[inline(always)]
-#[tactic(auto, using(capgrant::proofs::Verdicts::allowed_at))]
-fn first_for_all(block: &Block, text: &[u8], path: &[u8], question: &Question) -> Option<u32>
+fn soon_of(
+    block: &Block,
+    text: &[u8],
+    path: &[u8],
+    question: &Question,
+    answer: &mut Answer,
+) -> u32
     requires { IsBlock block.now text.now }
-    ensures { IfSome result (λ grant. (groups : List ℕ) → IsVerdictOf block.now text.now (bare_names path.now) groups question.now (Allowed grant)) }
+    ensures { Tells (IsSoonOf block.now text.now (bare_names path.now) question.now) answer.old answer.new result }
 {
-    let mode = read_mode(question.mode)?;
-    let access = read_access(question.access, question.number)?;
-    let (fs, rest) = split_front(text, block.fs_len as usize);
-    let case = Case {
-        fs,
-        path,
-        groups: &[],
-        uid: question.uid,
-        gid: question.gid,
-        attr: Attr {
-            uid: question.owner,
-            gid: question.group,
-            mode,
-        },
-        access,
-    };
-    let place = case.first_for_all(&block.entries[..block.count as usize], rest)?;
-    Some(place as u32 + 1)
+    if !is_one_for_all_fs(block) {
+        return soon_of_many(block, text, path, question, answer);
+    }
+    match soon_of_one(block, text, path, question) {
+        Some(rule) => tell_alone(rule, answer),
+        None => 0,
+    }
 }
 
-// The answer of the grants that are for everybody, by a path without a slash in front.
+// The same of one grant: the number of the rule that it fails by, or 0 where it allows.
 #[inline(always)]
-fn soon_of(block: &Block, text: &[u8], path: &[u8], question: &Question) -> Option<Answer>
-    requires { IsBlock block.now text.now }
-    ensures { IfSome result (λ answer. (groups : List ℕ) → (verdict : Verdict) × IsVerdictOf block.now text.now (bare_names path.now) groups question.now verdict × (answer ≡ answer_of verdict)) }
+fn soon_of_one(block: &Block, text: &[u8], path: &[u8], question: &Question) -> Option<u8>
+    requires whole { IsBlock block.now text.now }
+    requires one { block.now.count ≡ 1 }
+    ensures { IfSome result (λ rule. IsSoonOf block.now text.now (bare_names path.now) question.now (alone rule)) }
 {
     let mode = read_mode(question.mode)?;
     let access = read_access(question.access, question.number)?;
     let (fs, rest) = split_front(text, block.fs_len as usize);
-    let case = Case {
+    let case = case_of(fs, path, &[], question, mode, access);
+    let rule = case.soon_alone(&block.entries[..block.count as usize], rest)?;
+    Some(rule)
+}
+
+// The same of any number of grants, apart from that of one, which takes fewer registers.
+#[inline(never)]
+fn soon_of_many(
+    block: &Block,
+    text: &[u8],
+    path: &[u8],
+    question: &Question,
+    answer: &mut Answer,
+) -> u32
+    requires { IsBlock block.now text.now }
+    ensures { Tells (IsSoonOf block.now text.now (bare_names path.now) question.now) answer.old answer.new result }
+{
+    match soon_by_all(block, text, path, question) {
+        Some(found) => tell(found, answer),
+        None => 0,
+    }
+}
+
+// The same as an answer.
+#[inline(always)]
+fn soon_by_all(block: &Block, text: &[u8], path: &[u8], question: &Question) -> Option<Answer>
+    requires { IsBlock block.now text.now }
+    ensures { IfSome result (λ answer. IsSoonOf block.now text.now (bare_names path.now) question.now answer) }
+{
+    let mode = read_mode(question.mode)?;
+    let access = read_access(question.access, question.number)?;
+    let (fs, rest) = split_front(text, block.fs_len as usize);
+    let case = case_of(fs, path, &[], question, mode, access);
+    let answer = case.soon(&block.entries[..block.count as usize], rest)?;
+    Some(answer)
+}
+
+// What is asked of each grant.
+#[inline(always)]
+fn case_of<'a>(
+    fs: &'a [u8],
+    path: &'a [u8],
+    groups: &'a [u32],
+    question: &Question,
+    mode: Mode,
+    access: Access,
+) -> Case<'a>
+    ensures { result ≡ asked fs.now (record { uid = question.now.uid; gid = question.now.gid; groups = groups.now }) (bare_names path.now) (record { uid = question.now.owner; gid = question.now.group; mode = mode }) access }
+{
+    Case {
         fs,
         path,
-        groups: &[],
+        groups,
         uid: question.uid,
         gid: question.gid,
         attr: Attr {
@@ -148,9 +202,7 @@ fn soon_of(block: &Block, text: &[u8], path: &[u8], question: &Question) -> Opti
             mode,
         },
         access,
-    };
-    let answer = case.soon(&block.entries[..block.count as usize], rest)?;
-    Some(answer)
+    }
 }
 
 // The same for the names of a path.
@@ -172,19 +224,7 @@ fn judge_plain(
         return Err(Trouble::Access);
     };
     let (fs, rest) = split_front(text, block.fs_len as usize);
-    let case = Case {
-        fs,
-        path,
-        groups,
-        uid: question.uid,
-        gid: question.gid,
-        attr: Attr {
-            uid: question.owner,
-            gid: question.group,
-            mode,
-        },
-        access,
-    };
+    let case = case_of(fs, path, groups, question, mode, access);
     Ok(verdict_of(&case, &block.entries[..block.count as usize], rest))
 }
 

@@ -1,12 +1,13 @@
 //! The verdict of the grants of a block on the mask of a server, which may ask for several accesses.
 ghost use Rattle.std.specs.Prelude.{◌≡◌, ◌<◌, ◌%◌, ℕ, List, [], ◌∷◌, IfSome, IsTrue, fold};
-ghost use Rattle.capffi.specs.Answering.{answer_of};
 ghost use Rattle.capgrant.specs.Question.{question};
 ghost use Rattle.capffi.specs.Blocks.{IsBlock, bare_names};
-ghost use Rattle.capffi.specs.ByMask.{is_known, asked_if, accesses_of, verdict_on, is_denied, told_next, told_of, IsSaidOfMask, IsSaidToMask, IsSoonToMask, access_number};
+ghost use Rattle.capffi.specs.ByBlock.{Tells, alone};
+ghost use Rattle.capffi.specs.ByMask.{is_known, asked_if, accesses_of, verdict_on, is_denied, told_next, told_of, IsSaidOfMask, IsSaidToMask, IsSoonOn, TellsSoonToMask, access_number};
 
+use crate::answering::{tell, tell_alone};
 use crate::block::Block;
-use crate::by_block::{bare_text, is_block};
+use crate::by_block::{bare_text, is_block, is_first_for_one, is_one_for_all_fs};
 use crate::given::split_front;
 use crate::judging::{Case, verdict_of};
 use crate::passed::{Answer, Check};
@@ -35,26 +36,104 @@ struct Asker<'a> {
     check: &'a Check,
 }
 
-/// The answer of a block to a mask that is to read or to write, whatever the groups of the caller, where that is soon seen: where the
-/// grants up to the first that allows, or all where none does, are for everybody. Else the whole verdict has to be asked for.
+/// Tells the answer of a block to a mask that is to read or to write, whatever the groups of the caller, where that is soon seen: where
+/// the grants up to the first that allows, or all where none does, are for everybody. Else 0, and the whole verdict has to be asked for.
 #[inline(always)]
-pub(crate) fn soon_mask(block: &Block, text: &[u8], path: &[u8], check: &Check) -> Option<Answer>
-    ensures { IfSome result (λ answer. IsSoonToMask block.now text.now path.now check.now answer) }
+pub(crate) fn soon_mask(
+    block: &Block,
+    text: &[u8],
+    path: &[u8],
+    check: &Check,
+    answer: &mut Answer,
+) -> u32
+    ensures { TellsSoonToMask block.now text.now path.now check.now answer.old answer.new result }
 {
-    let access = frequent_access(check)?;
-    let bare = plain(path)?;
+    let Some(access) = frequent_access(check) else {
+        return 0;
+    };
     if !is_block(block, text) {
-        return None;
+        return 0;
     }
-    let answer = soon_of(block, text, bare, check, access)?;
-    Some(answer)
+    if is_first_for_one(block) {
+        return 0;
+    }
+    match plain(path) {
+        Some(bare) => soon_of(block, text, bare, check, access, answer),
+        None => 0,
+    }
 }
 
 // The same for a path without a slash in front, and an access.
 #[inline(always)]
-fn soon_of(block: &Block, text: &[u8], path: &[u8], check: &Check, access: Access) -> Option<Answer>
+fn soon_of(
+    block: &Block,
+    text: &[u8],
+    path: &[u8],
+    check: &Check,
+    access: Access,
+    answer: &mut Answer,
+) -> u32
     requires { IsBlock block.now text.now }
-    ensures { IfSome result (λ answer. (groups : List ℕ) → answer ≡ answer_of (verdict_on block.now text.now (bare_names path.now) groups check.now access)) }
+    ensures { Tells (IsSoonOn block.now text.now (bare_names path.now) check.now access) answer.old answer.new result }
+{
+    if !is_one_for_all_fs(block) {
+        return soon_of_many(block, text, path, check, access, answer);
+    }
+    match soon_of_one(block, text, path, check, access) {
+        Some(rule) => tell_alone(rule, answer),
+        None => 0,
+    }
+}
+
+// The same of one grant: the number of the rule that it fails by, or 0 where it allows.
+#[inline(always)]
+fn soon_of_one(
+    block: &Block,
+    text: &[u8],
+    path: &[u8],
+    check: &Check,
+    access: Access,
+) -> Option<u8>
+    requires whole { IsBlock block.now text.now }
+    requires one { block.now.count ≡ 1 }
+    ensures { IfSome result (λ rule. IsSoonOn block.now text.now (bare_names path.now) check.now access (alone rule)) }
+{
+    let (fs, rest) = split_front(text, block.fs_len as usize);
+    let case = case_of(fs, path, &[], check, access);
+    let rule = case.soon_alone(&block.entries[..block.count as usize], rest)?;
+    Some(rule)
+}
+
+// The same of any number of grants, apart from that of one, which takes fewer registers.
+#[inline(never)]
+fn soon_of_many(
+    block: &Block,
+    text: &[u8],
+    path: &[u8],
+    check: &Check,
+    access: Access,
+    answer: &mut Answer,
+) -> u32
+    requires { IsBlock block.now text.now }
+    ensures { Tells (IsSoonOn block.now text.now (bare_names path.now) check.now access) answer.old answer.new result }
+{
+    match soon_by_all(block, text, path, check, access) {
+        Some(found) => tell(found, answer),
+        None => 0,
+    }
+}
+
+// The same as an answer.
+#[inline(always)]
+fn soon_by_all(
+    block: &Block,
+    text: &[u8],
+    path: &[u8],
+    check: &Check,
+    access: Access,
+) -> Option<Answer>
+    requires { IsBlock block.now text.now }
+    ensures { IfSome result (λ answer. IsSoonOn block.now text.now (bare_names path.now) check.now access answer) }
 {
     let (fs, rest) = split_front(text, block.fs_len as usize);
     let case = case_of(fs, path, &[], check, access);

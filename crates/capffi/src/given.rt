@@ -1,5 +1,5 @@
 //! A grant as it stands in a block.
-ghost use Rattle.std.specs.Prelude.{◌≡◌, ◌==◌, ◌↔◌, not, ◌+◌, ◌*◌, ◌<◌, ◌≤◌, IsTrue, length, slice_index, take, drop};
+ghost use Rattle.std.specs.Prelude.{◌≡◌, ◌==◌, ◌↔◌, not, ◌&&◌, ◌+◌, ◌*◌, ◌<◌, ◌≤◌, IsTrue, length, slice_index, take, drop};
 ghost use Rattle.std.specs.List.{starts_with};
 ghost use Rattle.std.specs.Str.{bytes_eq};
 ghost use Rattle.capffi.specs.Blocks.{bare_names, path_names, grant_of, path_in, fs_in, behind};
@@ -186,10 +186,50 @@ fn are_equal(one: &[u8], other: &[u8]) -> bool
     is_same(one, other)
 }
 
-// Whether two texts of one length are the same. Their last bytes, by which paths mostly differ, are compared first.
+// Whether two texts of one length are the same. Those of 16 to 128 bytes are compared by two pieces, which may share bytes.
+#[inline(always)]
+fn is_same(one: &[u8], other: &[u8]) -> bool
+    requires { length one.now ≡ length other.now }
+    ensures { result ≡ bytes_eq one.now other.now }
+{
+    match other.len() {
+        16..=32 => is_same_at_ends(one, other, 16),
+        33..=64 => is_same_at_ends(one, other, 32),
+        65..=128 => is_same_at_ends(one, other, 64),
+        _ => is_same_else(one, other),
+    }
+}
+
+// The same by a piece at each end. The last bytes, by which paths mostly differ, are compared first.
+#[inline(always)]
+fn is_same_at_ends(one: &[u8], other: &[u8], piece: usize) -> bool
+    requires same { length one.now ≡ length other.now }
+    requires within { piece ≤ length other.now }
+    requires whole { length other.now ≤ piece + piece }
+    ensures { result ≡ bytes_eq one.now other.now }
+{
+    is_same_from(one, other, other.len() - piece, piece) && is_same_from(one, other, 0, piece)
+}
+
+// Whether a piece of two texts is the same. There is no way out of the loop, so that it is compiled into a few comparisons of many
+// bytes at once.
+#[inline(always)]
+fn is_same_from(one: &[u8], other: &[u8], start: usize, piece: usize) -> bool
+    requires same { length one.now ≡ length other.now }
+    requires within { start + piece ≤ length other.now }
+    ensures { (result && bytes_eq (drop (start + piece) one.now) (drop (start + piece) other.now)) ≡ bytes_eq (drop start one.now) (drop start other.now) }
+{
+    let mut is_same = true;
+    for step in 0..piece {
+        is_same &= one[start + step] == other[start + step];
+    }
+    is_same
+}
+
+// The same of texts of any length. Their last bytes are compared first.
 #[inline(always)]
 #[tactic(auto, using(crate::proofs::Leads::same_is))]
-fn is_same(one: &[u8], other: &[u8]) -> bool
+fn is_same_else(one: &[u8], other: &[u8]) -> bool
     requires { length one.now ≡ length other.now }
     ensures { result ≡ bytes_eq one.now other.now }
 {

@@ -10,7 +10,7 @@ ghost use Rattle.capgrant.specs.Rule.{attr_rules};
 ghost use Rattle.capgrant.specs.Verdict.{allows, first_failures, verdict_of};
 ghost use Rattle.capffi.specs.Blocks.{grants_in};
 ghost use Rattle.capffi.specs.Answering.{answer_of};
-ghost use Rattle.capffi.specs.ByBlock.{open_rules, with_groups};
+ghost use Rattle.capffi.specs.ByBlock.{alone, open_rules, with_groups};
 
 use crate::answering::allowed;
 use crate::block::{Entry, MAX_ENTRIES};
@@ -74,56 +74,6 @@ fn denial(case: &Case, entries: &[Entry], text: &[u8]) -> Verdict
 }
 
 impl Case<'_> {
-    /// The place of the first grant above the inode, where it and those before it are for everybody, and it allows the access. The
-    /// caller's groups don't matter then.
-    #[inline(always)]
-    pub(crate) fn first_for_all(&self, entries: &[Entry], text: &[u8]) -> Option<usize>
-        ensures within { IfSome result (λ place. place < length entries.now) }
-        ensures exact { IfSome result (λ place. (groups : List ℕ) → Some place ≡ position (allows (with_groups self.now groups)) (grants_in entries.now text.now)) }
-    {
-        let mut rest = text;
-        for (place, entry) in entries.iter().enumerate() {
-            let (grant, behind) = split_grant(entry, rest);
-            if grant.has_uid() {
-                return None;
-            }
-            if self.may_allow(&grant) {
-                return if self.lets_all(&grant) {
-                    Some(place)
-                } else {
-                    None
-                };
-            }
-            rest = behind;
-        }
-        None
-    }
-
-    // Whether the inode lies at or below the grant's path. A grant where it doesn't allows nothing.
-    #[inline(always)]
-    #[tactic(auto, using(crate::proofs::Entries::no_grant_beside_any))]
-    fn may_allow(&self, grant: &Given) -> bool
-        ensures below { result ≡ not (fails_path self.now grant.now) }
-        ensures beside { IsFalse result → (groups : List ℕ) → allows (with_groups self.now groups) grant.now ≡ false }
-    {
-        self.is_below(grant)
-    }
-
-    // Whether a grant above the inode is for everybody, and lets them make the access.
-    #[inline(always)]
-    #[tactic(auto, using(crate::proofs::Entries::grant_for_any))]
-    fn lets_all(&self, grant: &Given) -> bool
-        requires { fails_path self.now grant.now ≡ false }
-        ensures { IsTrue result → (groups : List ℕ) → allows (with_groups self.now groups) grant.now ≡ true }
-    {
-        grant.is_for_all()
-            && !self.fails_no_write(grant)
-            && !self.fails_root_squash(grant)
-            && !self.fails_no_p(grant)
-            && !self.fails_no_s(grant)
-            && !self.fails_fsname(grant)
-    }
-
     /// The answer, whatever the caller's groups, where that is soon seen: where the grants up to the first that allows, or all where
     /// none does, are for everybody.
     #[inline(always)]
@@ -149,6 +99,22 @@ impl Case<'_> {
             count: entries.len() as u32,
             rules,
         })
+    }
+
+    /// The same of a grant that is alone: the number of the rule that it fails by, or 0 where it allows.
+    #[inline(always)]
+    pub(crate) fn soon_alone(&self, entries: &[Entry], text: &[u8]) -> Option<u8>
+        requires { length entries.now ≡ 1 }
+        ensures { IfSome result (λ rule. (groups : List ℕ) → alone rule ≡ answer_of (verdict_of (with_groups self.now groups) (grants_in entries.now text.now))) }
+    {
+        let (grant, _) = split_grant(&entries[0], text);
+        if !grant.is_for_all() {
+            return None;
+        }
+        match self.first_failing_openly(&grant) {
+            Some(rule) => Some(rule.number()),
+            None => Some(0),
+        }
     }
 
     // The first rule by which a grant fails that is for everybody, if it does not allow the access.

@@ -22,13 +22,13 @@ mod trouble;
 ghost use Rattle.std.specs.Prelude.{◌≡◌, ℕ, List};
 ghost use Rattle.capwords.specs.Paths.{names_of};
 ghost use Rattle.capffi.specs.Calls.{TellsVerdict, TellsPermitted, TellsCheck, TellsForm, TellsTarget, TellsVerdictBy, TellsRead, status, caps_bits};
-ghost use Rattle.capffi.specs.ByBlock.{IsAllowing, TellsSoon};
+ghost use Rattle.capffi.specs.ByBlock.{TellsSoon};
 ghost use Rattle.capffi.specs.ByMask.{TellsMask, TellsSoonToMask};
 ghost use Rattle.capffi.specs.Locks.{allowed_by};
 
 use crate::answering::{answer_of, no_answer};
 use crate::asking::{judge, permit, read_text};
-use crate::by_block::{allowing, judge_by, soon};
+use crate::by_block::{judge_by, soon};
 use crate::by_mask::{access_number, judge_mask, soon_mask};
 use crate::filling::{prepare, put_block};
 use crate::locks::{allowed_by, numbers_of, target_of};
@@ -136,27 +136,9 @@ pub extern "C" fn capffi_grants_read(
     }
 }
 
-/// The number of the grant of a block that lets a caller make an access to an inode on the block's file system, whatever the caller's
-/// groups, where that is soon seen of a short path with a slash in front; else 0, and `capffi_verdict_by` has to be asked. It is for a server that asks often: all that it
-/// takes is passed in registers.
-#[unsafe(no_mangle)]
-pub extern "C" fn capffi_allowing(
-    block: &Block,
-    text: &[u8],
-    path: &[u8],
-    question: &Question,
-) -> u32
-    ensures { IsAllowing block.now text.now path.now question.now result }
-{
-    match allowing(block, text, path, question) {
-        Some(grant) => grant,
-        None => 0,
-    }
-}
-
 /// Whether the grants of a block let a caller make an access to an inode on the block's file system, whatever the caller's groups, where
-/// that is soon seen: 1, with the answer; else 0, and `capffi_verdict_by` has to be asked. It is for a server that asks often: most of
-/// what it takes is passed in registers.
+/// that is soon seen: the number of the grant that allows, or 17, with the answer of a denial; else 0, and `capffi_verdict_by` has to be
+/// asked. It is for a server that asks often: most of what it takes is passed in registers.
 #[unsafe(no_mangle)]
 pub extern "C" fn capffi_soon(
     block: &Block,
@@ -167,13 +149,7 @@ pub extern "C" fn capffi_soon(
 ) -> u32
     ensures { TellsSoon block.now text.now path.now question.now answer.old answer.new result }
 {
-    match soon(block, text, path, question) {
-        Some(found) => {
-            *answer = found;
-            1
-        }
-        None => 0,
-    }
+    soon(block, text, path, question, answer)
 }
 
 /// Whether the grants of a block let a caller make an access to an inode on the block's file system.
@@ -204,8 +180,8 @@ pub extern "C" fn capffi_verdict_by(
     }
 }
 
-/// Whether the grants of a block let a caller do what a mask asks for, whatever the caller's groups, where that is soon seen: 1, with the
-/// answer; else 0, and `capffi_verdict_mask` has to be asked.
+/// Whether the grants of a block let a caller do what a mask asks for, whatever the caller's groups, where that is soon seen: told as
+/// `capffi_soon` does, or 0, and `capffi_verdict_mask` has to be asked.
 #[unsafe(no_mangle)]
 pub extern "C" fn capffi_soon_mask(
     block: &Block,
@@ -216,13 +192,7 @@ pub extern "C" fn capffi_soon_mask(
 ) -> u32
     ensures { TellsSoonToMask block.now text.now path.now check.now answer.old answer.new result }
 {
-    match soon_mask(block, text, path, check) {
-        Some(found) => {
-            *answer = found;
-            1
-        }
-        None => 0,
-    }
+    soon_mask(block, text, path, check, answer)
 }
 
 /// Whether the grants of a block let a caller, who may have any number of groups, do all that a mask asks for. `access` is the number of

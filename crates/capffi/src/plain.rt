@@ -3,9 +3,7 @@ ghost use Rattle.std.specs.Prelude.{◌≡◌, ◌≢◌, ◌==◌, ◌<◌, ◌
 ghost use Rattle.capwords.specs.Paths.{names_of, has_double_slash, are_few_and_short};
 ghost use Rattle.capffi.specs.Blocks.{bare_names};
 
-// How many bytes of a path are looked at together, and of a long one.
-const PIECE: usize = 16;
-
+// How many bytes of a long path are looked at together.
 const LONG_PIECE: usize = 64;
 
 // How many names a path may have, and how many bytes a name.
@@ -21,31 +19,6 @@ pub(crate) fn plain(path: &[u8]) -> Option<&[u8]>
 {
     let bare = without_slash(path);
     if is_plain(bare) { Some(bare) } else { None }
-}
-
-/// The same of the paths that are asked of most: with a slash in front and a name, and too short for too many or too long ones. Of
-/// others, nothing.
-#[inline(always)]
-pub(crate) fn short_plain(path: &[u8]) -> Option<&[u8]>
-    ensures { IfSome result (λ bare. (bare_names bare.now ≡ names_of path.now) × IsTrue (are_few_and_short (names_of path.now))) }
-{
-    if path.len() < 2 || !is_short(path) || !is_slashed(path) {
-        return None;
-    }
-    Some(&path[1..])
-}
-
-// Whether a path has a slash before each name, and no others.
-#[inline(always)]
-#[tactic(auto, using(crate::proofs::Bare::slashed_parted))]
-fn is_slashed(path: &[u8]) -> bool
-    requires { 0 < length path.now }
-    ensures { IsTrue result → bare_names (drop 1 path.now) ≡ names_of path.now }
-{
-    if path[0] != b'/' || path[path.len() - 1] == b'/' {
-        return false;
-    }
-    !has_double_slash(path)
 }
 
 // The text of a path without the slash in front. A second one there stays.
@@ -78,6 +51,7 @@ fn is_plain(bare: &[u8]) -> bool
 #[inline(always)]
 #[tactic(auto, using(crate::proofs::Bare::no_bytes, crate::proofs::Bare::parted))]
 fn is_parted(bare: &[u8]) -> bool
+    requires { length bare.now ≤ 64 }
     ensures { IsTrue result → bare_names bare.now ≡ names_of bare.now }
 {
     bare.is_empty() || (bare[0] != b'/' && bare[bare.len() - 1] != b'/' && !has_double_slash(bare))
@@ -86,12 +60,13 @@ fn is_parted(bare: &[u8]) -> bool
 // Whether two slashes stand side by side.
 #[inline(always)]
 fn has_double_slash(path: &[u8]) -> bool
+    requires { length path.now ≤ 64 }
     ensures { result ≡ has_double_slash path.now }
 {
-    if path.len() <= PIECE {
-        has_double_slash_in_few(path)
-    } else {
-        has_double_slash_in_many(path)
+    match path.len() {
+        0..=16 => has_double_slash_in_few(path),
+        17..=32 => has_double_slash_at_ends(path, 16),
+        _ => has_double_slash_at_ends(path, 32),
     }
 }
 
@@ -133,29 +108,26 @@ fn is_double_slash(path: &[u8], place: usize) -> bool
     path[place - 1] == b'/' && path[place] == b'/'
 }
 
-// The same, piece by piece. The last may have places in common with the one before it.
+// The same by a piece at each end. They may have places in common.
 #[inline(always)]
-fn has_double_slash_in_many(path: &[u8]) -> bool
-    requires { 16 < length path.now }
+fn has_double_slash_at_ends(path: &[u8], piece: usize) -> bool
+    requires within { piece < length path.now }
+    requires whole { length path.now ≤ piece + piece + 1 }
     ensures { result ≡ has_double_slash path.now }
 {
-    for piece in 0..(path.len() - 1) / PIECE {
-        if has_double_slash_from(path, PIECE * piece) {
-            return true;
-        }
-    }
-    has_double_slash_from(path, path.len() - 1 - PIECE)
+    let in_front = has_double_slash_from(path, 0, piece);
+    in_front | has_double_slash_from(path, path.len() - 1 - piece, piece)
 }
 
 // Whether one of the slashes of a piece stands before another. There is no way out of the loop, so that it is compiled into a few
 // comparisons of many bytes at once.
 #[inline(always)]
-fn has_double_slash_from(path: &[u8], start: usize) -> bool
-    requires { start + 16 < length path.now }
-    ensures { (result || has_double_slash (drop (start + 16) path.now)) ≡ has_double_slash (drop start path.now) }
+fn has_double_slash_from(path: &[u8], start: usize, piece: usize) -> bool
+    requires { start + piece < length path.now }
+    ensures { (result || has_double_slash (drop (start + piece) path.now)) ≡ has_double_slash (drop start path.now) }
 {
     let mut is_found = false;
-    for step in 0..PIECE {
+    for step in 0..piece {
         let (here, behind) = (path[start + step] == b'/', path[start + step + 1] == b'/');
         is_found |= here & behind;
     }

@@ -1,13 +1,11 @@
-use Rattle.std.proofs.Common.{ℕ, List, refl, rules}
-use Rattle.capgrant.specs.declared.answer.Verdict.{Verdict}
-use Rattle.capgrant.specs.Verdict.{verdict_of}
-use Rattle.capffi.specs.Blocks.{bare_names, block_fs, block_grants}
-use Rattle.capffi.specs.ByBlock.{case_of}
+use Rattle.std.proofs.Common.{◌≡◌, sym, subst}
+use Rattle.capffi.specs.declared.passed.Answer.{Answer}
+use Rattle.capffi.specs.Blocks.{bare_names}
+use Rattle.capffi.specs.ByBlock.{IsSoonOf, alone}
+use Rattle.capffi.proofs.Telling.{tells_more}
 use Rattle.capffi.proofs.by_block.soon_of.Goals as goal
 
-pub returns : goal.returns
-returns c =
-    λ (groups : List ℕ).
-    let found = rw (c.split_front.ensures.front, c.split_front.ensures.behind, c.in_ok-mode.ensures.0) at (c.in_ok-answer.ensures groups) in
-    let verdict : Verdict = verdict_of (case_of (block_fs c.args.block.now c.args.text.now) (bare_names c.args.path.now) groups c.args.question.now c.in_ok-access.access) (block_grants c.args.block.now c.args.text.now) in
-    (verdict, (c.in_ok-access.access, c.in_ok-mode.ensures.1, search rules, refl), found)
+pub returns-in-Some : goal.returns-in-Some
+returns-in-Some c =
+    let Is : Answer → Type 0 = IsSoonOf c.args.block.now c.args.text.now (bare_names c.args.path.now) c.args.question.now in
+    tells_more (λ (a : Answer). a ≡ alone c.in-Some.rule) Is c.args.answer.now c.tell_alone.new.answer c.tell_alone.result (λ (a : Answer). λ (is : a ≡ alone c.in-Some.rule). subst Is (sym is) c.in-Some.ensures) c.tell_alone.ensures
