@@ -182,3 +182,6 @@ other_end xs ys k other = elim (which (bytes_eq xs ys)) [
       absurd (true≢false (sym ((bytes_eq-Decides (drop k xs) (drop k ys)).1 rests) ∙ other))
   | inr e ↦ sym e
 ]
+
+pub all_bytes : (xs ys : List ℕ) (r : Bool) → length xs ≡ length ys → (r && bytes_eq (drop (0 + length ys) xs) (drop (0 + length ys) ys)) ≡ bytes_eq (drop 0 xs) (drop 0 ys) → r ≡ bytes_eq xs ys
+all_bytes xs ys r same told = last_piece xs ys r 0 (0 + length ys) same (omega arith) told

@@ -102,3 +102,7 @@ at_ends text front back k m end before ends first last =
     let none_behind : has_double_slash (drop end text) ≡ false = last_byte end text ends in
     let tells : back ≡ has_double_slash (drop k text) = sym (or_false back) ∙ ap (λ (t : Bool). back || t) (sym none_behind) ∙ last in
     ends_found front back (has_double_slash text) (has_double_slash (drop m text)) first (λ none. further k m text before (sym tells ∙ none)) (λ none. tells ∙ behind k text none)
+
+-- the count of two pieces, of which the second begins within the first or right behind it
+pub counted_at_ends : (path : List ℕ) (first last k : ℕ) → k ≤ 0 + 64 → length path ≤ k + 65 → first + count_by is_slash (drop (0 + 64) path) ≡ count_by is_slash (drop 0 path) → last + count_by is_slash (drop (k + 64) path) ≡ count_by is_slash (drop k path) → count_by is_slash path ≤ (first + last) + 1
+counted_at_ends path first last k before ends one_part other = counted_twice path (0 + 64) k first last before ends one_part other

@@ -11,7 +11,7 @@ use crate::block::{BLOCK_VERSION, Block};
 use crate::given::split_front;
 use crate::judging::{Case, verdict_of};
 use crate::passed::{Answer, Question};
-use crate::plain::plain;
+use crate::plain::{plain, soon_plain};
 use crate::trouble::Trouble;
 use capbits::Mode;
 use capgrant::{Access, Attr, Verdict};
@@ -36,7 +36,7 @@ pub(crate) fn soon(
     if is_first_for_one(block) {
         return 0;
     }
-    match plain(path) {
+    match soon_plain(path) {
         Some(bare) => soon_of(block, text, bare, question, answer),
         None => 0,
     }

@@ -11,7 +11,7 @@ use crate::by_block::{bare_text, is_block, is_first_for_one, is_one_for_all_fs};
 use crate::given::split_front;
 use crate::judging::{Case, verdict_of};
 use crate::passed::{Answer, Check};
-use crate::plain::plain;
+use crate::plain::{plain, soon_plain};
 use crate::trouble::Trouble;
 use capbits::Mode;
 use capgrant::{Access, Attr, Verdict};
@@ -57,7 +57,7 @@ pub(crate) fn soon_mask(
     if is_first_for_one(block) {
         return 0;
     }
-    match plain(path) {
+    match soon_plain(path) {
         Some(bare) => soon_of(block, text, bare, check, access, answer),
         None => 0,
     }

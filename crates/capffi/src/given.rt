@@ -186,18 +186,32 @@ fn are_equal(one: &[u8], other: &[u8]) -> bool
     is_same(one, other)
 }
 
-// Whether two texts of one length are the same. Those of 16 to 128 bytes are compared by two pieces, which may share bytes.
+// Whether two texts of one length are the same: by two pieces, which may share bytes, or byte by byte where they are very short or
+// very long. No call is made, so that what is asked of most keeps all in registers.
 #[inline(always)]
 fn is_same(one: &[u8], other: &[u8]) -> bool
     requires { length one.now ≡ length other.now }
     ensures { result ≡ bytes_eq one.now other.now }
 {
     match other.len() {
-        16..=32 => is_same_at_ends(one, other, 16),
+        2..=4 => is_same_by_pairs(one, other),
+        5..=8 => is_same_at_ends(one, other, 4),
+        9..=16 => is_same_at_ends(one, other, 8),
+        17..=32 => is_same_at_ends(one, other, 16),
         33..=64 => is_same_at_ends(one, other, 32),
         65..=128 => is_same_at_ends(one, other, 64),
-        _ => is_same_else(one, other),
+        _ => is_same_bytewise(one, other),
     }
+}
+
+// The same byte by byte.
+#[inline(always)]
+#[tactic(auto, using(crate::proofs::Leads::all_bytes))]
+fn is_same_bytewise(one: &[u8], other: &[u8]) -> bool
+    requires { length one.now ≡ length other.now }
+    ensures { result ≡ bytes_eq one.now other.now }
+{
+    is_same_from(one, other, 0, other.len())
 }
 
 // The same by a piece at each end. The last bytes, by which paths mostly differ, are compared first.
@@ -226,31 +240,27 @@ fn is_same_from(one: &[u8], other: &[u8], start: usize, piece: usize) -> bool
     is_same
 }
 
-// The same of texts of any length. Their last bytes are compared first.
+// The same of two to four bytes, as two pairs, which may share bytes.
 #[inline(always)]
 #[tactic(auto, using(crate::proofs::Leads::same_is))]
-fn is_same_else(one: &[u8], other: &[u8]) -> bool
-    requires { length one.now ≡ length other.now }
+fn is_same_by_pairs(one: &[u8], other: &[u8]) -> bool
+    requires same { length one.now ≡ length other.now }
+    requires more { 2 ≤ length other.now }
+    requires few { length other.now ≤ 4 }
     ensures { result ≡ bytes_eq one.now other.now }
 {
     are_same(one, other)
 }
 
-// The same. Two to four bytes are compared as two pairs, which may share bytes.
 #[inline(always)]
 #[tactic(auto, using(capwords::proofs::Pairs::same_by_pairs))]
 fn are_same(one: &[u8], other: &[u8]) -> bool
-    requires { length one.now ≡ length other.now }
+    requires same { length one.now ≡ length other.now }
+    requires more { 2 ≤ length other.now }
+    requires few { length other.now ≤ 4 }
     ensures { IsTrue result ↔ (one.now ≡ other.now) }
 {
-    let len = other.len();
-    if len < 2 {
-        return one == other;
-    }
-    if len <= 4 {
-        return is_same_pair(one, other, 0) && is_same_pair(one, other, len - 2);
-    }
-    is_same_pair(one, other, len - 2) && one == other
+    is_same_pair(one, other, 0) && is_same_pair(one, other, other.len() - 2)
 }
 
 // Whether two bytes from a place on are the same.

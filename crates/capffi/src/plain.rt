@@ -21,6 +21,15 @@ pub(crate) fn plain(path: &[u8]) -> Option<&[u8]>
     if is_plain(bare) { Some(bare) } else { None }
 }
 
+/// The same, but for those paths of which this is not soon seen: of 64 bytes, of more than 129, and of 31 names and more.
+#[inline(always)]
+pub(crate) fn soon_plain(path: &[u8]) -> Option<&[u8]>
+    ensures { IfSome result (λ bare. (bare_names bare.now ≡ names_of path.now) × IsTrue (are_few_and_short (names_of path.now))) }
+{
+    let bare = without_slash(path);
+    if is_soon_plain(bare) { Some(bare) } else { None }
+}
+
 // The text of a path without the slash in front. A second one there stays.
 #[inline(always)]
 #[tactic(auto, using(crate::proofs::Bare::names_behind))]
@@ -45,6 +54,48 @@ fn is_plain(bare: &[u8]) -> bool
     } else {
         is_long_plain(bare)
     }
+}
+
+// The same, where it is soon seen.
+#[inline(always)]
+fn is_soon_plain(bare: &[u8]) -> bool
+    ensures names { IsTrue result → bare_names bare.now ≡ names_of bare.now }
+    ensures fit { IsTrue result → IsTrue (are_few_and_short (names_of bare.now)) }
+{
+    match bare.len() {
+        0..64 => is_parted(bare) && is_short(bare),
+        65..=129 => is_plain_at_ends(bare),
+        _ => false,
+    }
+}
+
+// The same of a path that two pieces cover.
+#[inline(always)]
+#[tactic(auto, using(crate::proofs::Bare::parted, crate::proofs::Bare::few_parts))]
+fn is_plain_at_ends(bare: &[u8]) -> bool
+    requires more { 64 < length bare.now }
+    requires few { length bare.now ≤ 129 }
+    ensures names { IsTrue result → bare_names bare.now ≡ names_of bare.now }
+    ensures fit { IsTrue result → IsTrue (are_few_and_short (names_of bare.now)) }
+{
+    if bare[0] == b'/' || bare[bare.len() - 1] == b'/' {
+        return false;
+    }
+    let (is_found, slashes) = look_at_ends(bare);
+    !is_found && slashes < 31
+}
+
+// Whether two slashes stand side by side, and how many there are at most, but for the last byte.
+#[inline(always)]
+fn look_at_ends(path: &[u8]) -> (bool, u8)
+    requires more { 64 < length path.now }
+    requires few { length path.now ≤ 129 }
+    ensures lone { result.0 ≡ has_double_slash path.now }
+    ensures count { count_by (λ b. b == 47) path.now ≤ result.1 + 1 }
+{
+    let (in_front, first) = look_from(path, 0);
+    let (at_back, last) = look_from(path, path.len() - 1 - LONG_PIECE);
+    (in_front | at_back, first + last)
 }
 
 // Whether the names of a path stand between its slashes.
@@ -214,11 +265,15 @@ fn look_from(path: &[u8], start: usize) -> (bool, u8)
     ensures count { result.1 + count_by (λ b. b == 47) (drop (start + 64) path.now) ≡ count_by (λ b. b == 47) (drop start path.now) }
     ensures few { result.1 ≤ 64 }
 {
+    let (here, behind) = (
+        &path[start..start + LONG_PIECE],
+        &path[start + 1..start + 1 + LONG_PIECE],
+    );
     let (mut is_found, mut slashes) = (false, 0);
     for step in 0..LONG_PIECE {
-        let (here, behind) = (path[start + step] == b'/', path[start + step + 1] == b'/');
-        is_found |= here & behind;
-        slashes += u8::from(here);
+        let (one, next) = (here[step] == b'/', behind[step] == b'/');
+        is_found |= one & next;
+        slashes += u8::from(one);
     }
     (is_found, slashes)
 }
