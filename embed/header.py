@@ -12,7 +12,7 @@ from pathlib import Path
 SIZES = {"u8": (1, "uint8_t"), "u32": (4, "uint32_t"), "u64": (8, "uint64_t")}
 # What baybowl.c answers by itself, with no call of the library.
 OF_THE_SHIM = {"BAYBOWL_POINTER", "BAYBOWL_LENGTH"}
-OF_THE_HEADER = {"BAYBOWL_MAX_LEN", "BAYBOWL_FORM_ROOM", "BAYBOWL_BLOCK_ROOM", "BAYBOWL_MODE_BITS", "BAYBOWL_H"}
+OF_THE_HEADER = {"BAYBOWL_MAX_LEN", "BAYBOWL_FORM_ROOM", "BAYBOWL_BLOCK_ROOM", "BAYBOWL_MODE_BITS", "BAYBOWL_INLINE", "BAYBOWL_H"}
 STRUCT_FILES = ("passed", "block")
 
 
@@ -150,7 +150,7 @@ def differences(root):
 def calls(root):
     """The names of the calls that the header declares."""
     header = re.sub(r"/\*.*?\*/", "", (root / "include" / "baybowl.h").read_text(encoding="utf-8"), flags=re.S)
-    return sorted(set(re.findall(r"^(?:inline )?\w[\w ]*[ *]((?:baybowl|capffi)_\w+)\(", header, re.M)))
+    return sorted(set(re.findall(r"^(?:BAYBOWL_INLINE )?\w[\w ]*[ *]((?:baybowl|capffi)_\w+)\(", header, re.M)))
 
 
 def source_of(root, crate, name):

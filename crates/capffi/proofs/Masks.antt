@@ -69,6 +69,9 @@ to_read c is = rw is (refl, refl)
 pub to_write : (c : Check) → c.mask ≡ 2 → IsTrue (is_known c.mask) × (accesses_of c ≡ Write ∷ [])
 to_write c is = rw is (refl, refl)
 
+pub one_told : (judge : Access → Verdict) (c : Check) (access : Access) (verdict : Verdict) → accesses_of c ≡ access ∷ [] → verdict ≡ judge access → Some (record { access = access; verdict = verdict }) ≡ told_of judge (accesses_of c)
+one_told judge c access verdict asked is = ap (λ (v : Verdict). Some (record { access = access; verdict = v })) is ∙ ap (told_of judge) (sym asked)
+
 pub told_one : (block : Block) (text path groups bare : List ℕ) (c : Check) (access : Access) → IsBlock block text → IsTrue (are_few_and_short (names_of path)) → bare_names bare ≡ names_of path → IsTrue (is_known c.mask) → accesses_of c ≡ access ∷ [] → IsSaidToMask block text path groups c (Ok (record { access = access; verdict = verdict_on block text (bare_names bare) groups c access }))
 told_one block text path groups bare c access whole fit same known asked =
     let judge : Access → Verdict = verdict_on block text (bare_names bare) groups c in

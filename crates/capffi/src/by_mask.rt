@@ -205,14 +205,29 @@ fn judge_bare(
         groups,
         check,
     };
-    match asker.ask_all() {
+    match asker.told() {
         Some(told) => Ok(told),
         None => Err(Trouble::Access),
     }
 }
 
 impl Asker<'_> {
-    // What is told of the accesses of the mask.
+    // What is told of the accesses of the mask. Of one alone it is the verdict.
+    #[tactic(auto, using(crate::proofs::Masks::one_told))]
+    fn told(&self) -> Option<Told>
+        requires { IsBlock self.now.block.now self.now.text.now }
+        ensures { result ≡ told_of (verdict_on self.now.block.now self.now.text.now (bare_names self.now.path.now) self.now.groups.now self.now.check.now) (accesses_of self.now.check.now) }
+    {
+        match frequent_access(self.check) {
+            Some(access) => Some(Told {
+                access,
+                verdict: self.verdict(access),
+            }),
+            None => self.ask_all(),
+        }
+    }
+
+    // The same, access by access.
     fn ask_all(&self) -> Option<Told>
         requires { IsBlock self.now.block.now self.now.text.now }
         ensures { result ≡ told_of (verdict_on self.now.block.now self.now.text.now (bare_names self.now.path.now) self.now.groups.now self.now.check.now) (accesses_of self.now.check.now) }

@@ -193,13 +193,33 @@ fn is_same(one: &[u8], other: &[u8]) -> bool
     requires { length one.now ≡ length other.now }
     ensures { result ≡ bytes_eq one.now other.now }
 {
+    let len = other.len();
+    if len > 128 {
+        return is_same_bytewise(one, other);
+    }
+    if len > 64 {
+        return is_same_at_ends(one, other, 64);
+    }
+    if len > 32 {
+        return is_same_at_ends(one, other, 32);
+    }
+    if len > 16 {
+        return is_same_at_ends(one, other, 16);
+    }
+    is_same_of_few(one, other)
+}
+
+// The same of at most 16 bytes.
+#[inline(always)]
+fn is_same_of_few(one: &[u8], other: &[u8]) -> bool
+    requires same { length one.now ≡ length other.now }
+    requires few { length other.now ≤ 16 }
+    ensures { result ≡ bytes_eq one.now other.now }
+{
     match other.len() {
         2..=4 => is_same_by_pairs(one, other),
         5..=8 => is_same_at_ends(one, other, 4),
         9..=16 => is_same_at_ends(one, other, 8),
-        17..=32 => is_same_at_ends(one, other, 16),
-        33..=64 => is_same_at_ends(one, other, 32),
-        65..=128 => is_same_at_ends(one, other, 64),
         _ => is_same_bytewise(one, other),
     }
 }

@@ -62,11 +62,10 @@ fn is_soon_plain(bare: &[u8]) -> bool
     ensures names { IsTrue result → bare_names bare.now ≡ names_of bare.now }
     ensures fit { IsTrue result → IsTrue (are_few_and_short (names_of bare.now)) }
 {
-    match bare.len() {
-        0..64 => is_parted(bare) && is_short(bare),
-        65..=129 => is_plain_at_ends(bare),
-        _ => false,
+    if is_short(bare) {
+        return is_parted(bare);
     }
+    bare.len() > 64 && bare.len() <= 129 && is_plain_at_ends(bare)
 }
 
 // The same of a path that two pieces cover.
@@ -82,7 +81,10 @@ fn is_plain_at_ends(bare: &[u8]) -> bool
         return false;
     }
     let (is_found, slashes) = look_at_ends(bare);
-    !is_found && slashes < 31
+    if is_found {
+        return false;
+    }
+    slashes < 31
 }
 
 // Whether two slashes stand side by side, and how many there are at most, but for the last byte.
@@ -187,7 +189,8 @@ fn has_double_slash_from(path: &[u8], start: usize, piece: usize) -> bool
 
 // Whether a text is too short to have too many names, as each has a slash beside it, or too long a name.
 fn is_short(path: &[u8]) -> bool
-    ensures { IsTrue result → IsTrue (are_few_and_short (names_of path.now)) }
+    ensures fit { IsTrue result → IsTrue (are_few_and_short (names_of path.now)) }
+    ensures less { IsTrue result → length path.now ≤ 64 }
 {
     path.len() < 64
 }
