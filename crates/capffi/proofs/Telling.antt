@@ -1,15 +1,9 @@
 -- What a number tells of an answer.
-use Rattle.std.proofs.Common.{◌≡◌, ◌≢◌, ◌⊎◌, ℕ, ◌≤◌, refl, sym, ap, ◌∙◌, inl, inr}
-use Rattle.capgrant.specs.declared.answer.Verdict.{Verdict}
-use Rattle.capgrant.specs.declared.answer.Verdict.TheVariants.{Allowed, Denied}
+use Rattle.std.proofs.Common.{ℕ, inl, inr}
+use Rattle.capgrant.specs.declared.answer.Verdict.TheVariants.{Allowed}
 use Rattle.capffi.specs.declared.passed.Answer.{Answer}
 use Rattle.capffi.specs.Answering.{answer_of}
 use Rattle.capffi.specs.ByBlock.{Tells}
-
--- an answer with a grant is that of the grant
-pub allowed_is : (found : Answer) (verdict : Verdict) → found ≡ answer_of verdict → found.grant ≢ 0 → answer_of (Allowed found.grant) ≡ found
-allowed_is found (Allowed grant) is some = rw is refl
-allowed_is found (Denied rules) is some = absurd (some (ap (λ (a : Answer). a.grant) is))
 
 -- what is told of an answer is told of all that the answer is
 pub tells_more : (One All : Answer → Type 0) (before after : Answer) (told : ℕ) → ((a : Answer) → One a → All a) → Tells One before after told → Tells All before after told

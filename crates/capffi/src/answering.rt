@@ -1,6 +1,5 @@
 //! Verdicts as numbers.
 ghost use Rattle.std.specs.Prelude.{◌≡◌, ◌≤◌, length};
-ghost use Rattle.capgrant.specs.declared.answer.Verdict.{Verdict};
 ghost use Rattle.capgrant.specs.declared.answer.Verdict.TheVariants.{Allowed};
 ghost use Rattle.capffi.specs.Answering.{answer_of, no_answer, rule_at, rule_numbers};
 ghost use Rattle.capffi.specs.ByBlock.{Tells, alone};
@@ -31,22 +30,8 @@ pub(crate) fn allowed(grant: u32) -> Answer
     }
 }
 
-/// Tells an answer: that of a grant that allows by the grant's number alone, and a denial, which is put into `answer`, by 17. An answer
-/// by a grant beyond the sixteenth, which no block has, is not told: 0.
-#[inline(always)]
-#[tactic(auto, using(crate::proofs::Telling::allowed_is))]
-pub(crate) fn tell(found: Answer, answer: &mut Answer) -> u32
-    requires { (verdict : Verdict) × (found ≡ answer_of verdict) }
-    ensures { Tells (λ told. told ≡ found) answer.old answer.new result }
-{
-    if found.grant == 0 {
-        *answer = found;
-        return 17;
-    }
-    if found.grant <= 16 { found.grant } else { 0 }
-}
-
-/// Tells the answer of a grant that is alone, by the number of the rule that it fails by, or 0 where it allows.
+/// Tells the answer of a grant that is alone, by the number of the rule that it fails by, or 0 where it allows: that the first grant
+/// allows by the number 1, and a denial, which is put into `answer`, by 17.
 #[inline(always)]
 pub(crate) fn tell_alone(rule: u8, answer: &mut Answer) -> u32
     ensures { Tells (λ told. told ≡ alone rule) answer.old answer.new result }

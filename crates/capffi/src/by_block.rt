@@ -5,7 +5,7 @@ ghost use Rattle.capffi.specs.Blocks.{IsBlock, bare_names};
 ghost use Rattle.capffi.specs.ByBlock.{IsSaid, IsSaidOf, IsSoonOf, TellsSoon, Tells, alone};
 ghost use Rattle.capgrant.specs.Question.{question as asked};
 
-use crate::answering::{tell, tell_alone};
+use crate::answering::tell_alone;
 use crate::asking::{read_access, read_mode};
 use crate::block::{BLOCK_VERSION, Block};
 use crate::given::split_front;
@@ -158,24 +158,15 @@ fn soon_of_many(
     requires { IsBlock block.now text.now }
     ensures { Tells (IsSoonOf block.now text.now (bare_names path.now) question.now) answer.old answer.new result }
 {
-    match soon_by_all(block, text, path, question) {
-        Some(found) => tell(found, answer),
-        None => 0,
-    }
-}
-
-// The same as an answer.
-#[inline(always)]
-fn soon_by_all(block: &Block, text: &[u8], path: &[u8], question: &Question) -> Option<Answer>
-    requires { IsBlock block.now text.now }
-    ensures { IfSome result (λ answer. IsSoonOf block.now text.now (bare_names path.now) question.now answer) }
-{
-    let mode = read_mode(question.mode)?;
-    let access = read_access(question.access, question.number)?;
+    let Some(mode) = read_mode(question.mode) else {
+        return 0;
+    };
+    let Some(access) = read_access(question.access, question.number) else {
+        return 0;
+    };
     let (fs, rest) = split_front(text, block.fs_len as usize);
     let case = case_of(fs, path, &[], question, mode, access);
-    let answer = case.soon(&block.entries[..block.count as usize], rest)?;
-    Some(answer)
+    case.soon(&block.entries[..block.count as usize], rest, answer)
 }
 
 // What is asked of each grant.

@@ -5,7 +5,7 @@ ghost use Rattle.capffi.specs.Blocks.{IsBlock, bare_names};
 ghost use Rattle.capffi.specs.ByBlock.{Tells, alone};
 ghost use Rattle.capffi.specs.ByMask.{is_known, asked_if, accesses_of, verdict_on, is_denied, told_next, told_of, IsSaidOfMask, IsSaidToMask, IsSoonOn, TellsSoonToMask, access_number};
 
-use crate::answering::{tell, tell_alone};
+use crate::answering::tell_alone;
 use crate::block::Block;
 use crate::by_block::{bare_text, is_block, is_first_for_one, is_one_for_all_fs};
 use crate::given::split_front;
@@ -117,28 +117,9 @@ fn soon_of_many(
     requires { IsBlock block.now text.now }
     ensures { Tells (IsSoonOn block.now text.now (bare_names path.now) check.now access) answer.old answer.new result }
 {
-    match soon_by_all(block, text, path, check, access) {
-        Some(found) => tell(found, answer),
-        None => 0,
-    }
-}
-
-// The same as an answer.
-#[inline(always)]
-fn soon_by_all(
-    block: &Block,
-    text: &[u8],
-    path: &[u8],
-    check: &Check,
-    access: Access,
-) -> Option<Answer>
-    requires { IsBlock block.now text.now }
-    ensures { IfSome result (λ answer. IsSoonOn block.now text.now (bare_names path.now) check.now access answer) }
-{
     let (fs, rest) = split_front(text, block.fs_len as usize);
     let case = case_of(fs, path, &[], check, access);
-    let answer = case.soon(&block.entries[..block.count as usize], rest)?;
-    Some(answer)
+    case.soon(&block.entries[..block.count as usize], rest, answer)
 }
 
 /// What the grants of a block say to a mask: the first of its accesses that is denied, or else the last.

@@ -194,19 +194,19 @@ fn is_same(one: &[u8], other: &[u8]) -> bool
     ensures { result ≡ bytes_eq one.now other.now }
 {
     let len = other.len();
-    if len > 128 {
-        return is_same_bytewise(one, other);
+    if len <= 16 {
+        return is_same_of_few(one, other);
     }
-    if len > 64 {
-        return is_same_at_ends(one, other, 64);
-    }
-    if len > 32 {
-        return is_same_at_ends(one, other, 32);
-    }
-    if len > 16 {
+    if len <= 32 {
         return is_same_at_ends(one, other, 16);
     }
-    is_same_of_few(one, other)
+    if len <= 64 {
+        return is_same_at_ends(one, other, 32);
+    }
+    if len <= 128 {
+        return is_same_at_ends(one, other, 64);
+    }
+    is_same_bytewise(one, other)
 }
 
 // The same of at most 16 bytes.

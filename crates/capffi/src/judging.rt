@@ -10,9 +10,8 @@ ghost use Rattle.capgrant.specs.Rule.{attr_rules};
 ghost use Rattle.capgrant.specs.Verdict.{allows, first_failures, verdict_of};
 ghost use Rattle.capffi.specs.Blocks.{grants_in};
 ghost use Rattle.capffi.specs.Answering.{answer_of};
-ghost use Rattle.capffi.specs.ByBlock.{alone, open_rules, with_groups};
+ghost use Rattle.capffi.specs.ByBlock.{Tells, alone, open_rules, with_groups};
 
-use crate::answering::allowed;
 use crate::block::{Entry, MAX_ENTRIES};
 use crate::given::{Given, split_grant};
 use crate::passed::Answer;
@@ -74,31 +73,32 @@ fn denial(case: &Case, entries: &[Entry], text: &[u8]) -> Verdict
 }
 
 impl Case<'_> {
-    /// The answer, whatever the caller's groups, where that is soon seen: where the grants up to the first that allows, or all where
-    /// none does, are for everybody.
+    /// Tells the answer, whatever the caller's groups, where that is soon seen: where the grants up to the first that allows, or all
+    /// where none does, are for everybody.
     #[inline(always)]
-    pub(crate) fn soon(&self, entries: &[Entry], text: &[u8]) -> Option<Answer>
+    pub(crate) fn soon(&self, entries: &[Entry], text: &[u8], answer: &mut Answer) -> u32
         requires { length entries.now ≤ 16 }
-        ensures { IfSome result (λ answer. (groups : List ℕ) → answer ≡ answer_of (verdict_of (with_groups self.now groups) (grants_in entries.now text.now))) }
+        ensures { Tells (λ told. (groups : List ℕ) → told ≡ answer_of (verdict_of (with_groups self.now groups) (grants_in entries.now text.now))) answer.old answer.new result }
     {
         let mut rules = [0; MAX_ENTRIES];
         let mut rest = text;
         for (place, entry) in entries.iter().enumerate() {
             let (grant, behind) = split_grant(entry, rest);
             if !grant.is_for_all() {
-                return None;
+                return 0;
             }
             let Some(rule) = self.first_failing_openly(&grant) else {
-                return Some(allowed(place as u32 + 1));
+                return place as u32 + 1;
             };
             rules[place] = rule.number();
             rest = behind;
         }
-        Some(Answer {
+        *answer = Answer {
             grant: 0,
             count: entries.len() as u32,
             rules,
-        })
+        };
+        17
     }
 
     /// The same of a grant that is alone: the number of the rule that it fails by, or 0 where it allows.
