@@ -150,7 +150,7 @@ def differences(root):
 def calls(root):
     """The names of the calls that the header declares."""
     header = re.sub(r"/\*.*?\*/", "", (root / "include" / "baybowl.h").read_text(encoding="utf-8"), flags=re.S)
-    return sorted(set(re.findall(r"^(?:BAYBOWL_INLINE )?\w[\w ]*[ *]((?:baybowl|capffi)_\w+)\(", header, re.M)))
+    return sorted(set(re.findall(r"^(?:inline |BAYBOWL_INLINE )?\w[\w ]*[ *]((?:baybowl|capffi)_\w+)\(", header, re.M)))
 
 
 def source_of(root, crate, name):

@@ -288,7 +288,7 @@ uint32_t baybowl_whole_verdict_mask(const struct baybowl_block *block, size_t bl
                                     const uint32_t *groups, size_t groups_len, const struct baybowl_check *check,
                                     struct baybowl_answer *answer, uint32_t *access);
 
-/* What stands inline for a server that asks often. Without this gcc calls what takes nine values, which takes as long as half a verdict. */
+/* gcc calls an inline call that takes nine values, unless it is told not to. That takes half as long as a verdict. */
 #ifdef __GNUC__
 #define BAYBOWL_INLINE inline __attribute__((always_inline))
 #else
@@ -296,7 +296,7 @@ uint32_t baybowl_whole_verdict_mask(const struct baybowl_block *block, size_t bl
 #endif
 
 /* Whether these are pointers and lengths that need no further test: `question` and `answer` are of structs of 32-bit numbers. */
-BAYBOWL_INLINE int baybowl_is_sound(const struct baybowl_block *block, size_t block_len, const char *path, size_t path_len,
+inline int baybowl_is_sound(const struct baybowl_block *block, size_t block_len, const char *path, size_t path_len,
                             const uint32_t *groups, size_t groups_len, const void *question, const void *answer) {
     return block != NULL && path != NULL && question != NULL && answer != NULL && (groups != NULL || groups_len == 0) &&
            (uintptr_t)block % 8 == 0 && ((uintptr_t)groups | (uintptr_t)question | (uintptr_t)answer) % 4 == 0 &&
@@ -304,7 +304,7 @@ BAYBOWL_INLINE int baybowl_is_sound(const struct baybowl_block *block, size_t bl
 }
 
 /* Whether a number tells an answer: that of the grant of this number, or that of a denial. */
-BAYBOWL_INLINE int baybowl_is_told(uint32_t told, const struct baybowl_answer *denied, struct baybowl_answer *answer) {
+inline int baybowl_is_told(uint32_t told, const struct baybowl_answer *denied, struct baybowl_answer *answer) {
     if (told - 1 < 16) {
         answer->grant = told;
         answer->count = 0;
@@ -326,7 +326,7 @@ BAYBOWL_INLINE int baybowl_is_told(uint32_t told, const struct baybowl_answer *d
  * there or not. Any number of threads may ask one block, as long as none writes it. A block that was overwritten gets BAYBOWL_BLOCK, or the verdict of the
  * grants that it then says: what is read of it stays within `block_len`.
  * It is inline, since a server asks often: what a compiler sees of the pointers need not be tested. */
-BAYBOWL_INLINE uint32_t baybowl_verdict_by(const struct baybowl_block *block, size_t block_len, const char *path, size_t path_len,
+inline uint32_t baybowl_verdict_by(const struct baybowl_block *block, size_t block_len, const char *path, size_t path_len,
                                    const uint32_t *groups, size_t groups_len, const struct baybowl_question *question,
                                    struct baybowl_answer *answer) {
     if (baybowl_is_sound(block, block_len, path, path_len, groups, groups_len, question, answer) && groups_len <= 16) {
