@@ -112,13 +112,7 @@ pub(crate) fn bare_text(path: &TreePath) -> &[u8]
 
 // The same for a path without a slash in front.
 #[inline(always)]
-fn soon_of(
-    block: &Block,
-    text: &[u8],
-    path: &[u8],
-    question: &Question,
-    answer: &mut Answer,
-) -> u32
+fn soon_of(block: &Block, text: &[u8], path: &[u8], question: &Question, answer: &mut Answer) -> u32
     requires { IsBlock block.now text.now }
     ensures { Tells (IsSoonOf block.now text.now (bare_names path.now) question.now) answer.old answer.new result }
 {

@@ -87,13 +87,7 @@ fn soon_of(
 
 // The same of one grant: the number of the rule that it fails by, or 0 where it allows.
 #[inline(always)]
-fn soon_of_one(
-    block: &Block,
-    text: &[u8],
-    path: &[u8],
-    check: &Check,
-    access: Access,
-) -> Option<u8>
+fn soon_of_one(block: &Block, text: &[u8], path: &[u8], check: &Check, access: Access) -> Option<u8>
     requires whole { IsBlock block.now text.now }
     requires one { block.now.count ≡ 1 }
     ensures { IfSome result (λ rule. IsSoonOn block.now text.now (bare_names path.now) check.now access (alone rule)) }

@@ -27,7 +27,11 @@ pub(crate) fn soon_plain(path: &[u8]) -> Option<&[u8]>
     ensures { IfSome result (λ bare. (bare_names bare.now ≡ names_of path.now) × IsTrue (are_few_and_short (names_of path.now))) }
 {
     let bare = without_slash(path);
-    if is_soon_plain(bare) { Some(bare) } else { None }
+    if is_soon_plain(bare) {
+        Some(bare)
+    } else {
+        None
+    }
 }
 
 // The text of a path without the slash in front. A second one there stays.

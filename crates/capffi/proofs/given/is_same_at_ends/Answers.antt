@@ -1,4 +1,4 @@
-use Rattle.std.proofs.Common.{◌≡◌, ◌+◌, ◌-◌, ◌≤◌, ℕ, length, sym, ◌∙◌, arith}
+use Rattle.std.proofs.Common.{◌+◌, ◌-◌, ◌≤◌, ℕ, length, sym, ◌∙◌, arith}
 use Rattle.capffi.proofs.Leads.{last_piece, first_piece, other_end}
 use Rattle.capffi.proofs.given.is_same_at_ends.Goals as goal
 

@@ -1,4 +1,4 @@
-use Rattle.std.proofs.Common.{◌≡◌, ◌+◌, ◌-◌, ◌≤◌, ℕ, length, arith}
+use Rattle.std.proofs.Common.{◌+◌, ◌-◌, ◌≤◌, ℕ, length, arith}
 use Rattle.capffi.proofs.Slashes.{at_ends}
 use Rattle.capffi.proofs.plain.has_double_slash_at_ends.Goals as goal
 

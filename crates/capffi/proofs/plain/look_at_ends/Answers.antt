@@ -1,4 +1,4 @@
-use Rattle.std.proofs.Common.{◌≡◌, ◌+◌, ◌-◌, ◌≤◌, ℕ, length, arith}
+use Rattle.std.proofs.Common.{◌+◌, ◌-◌, ◌≤◌, ℕ, length, arith}
 use Rattle.capffi.proofs.Slashes.{at_ends, counted_at_ends}
 use Rattle.capffi.proofs.plain.look_at_ends.Goals as goal
 

@@ -17,8 +17,13 @@ pub returns-in_default : goal.returns-in_default
 returns-in_default c =
     let is_open : c.is_for_all.result ≡ true = search rules in
     let fails = openly _ _ _ c.first_failing_openly.ensures (c.is_for_all.ensures.uid is_open) (c.is_for_all.ensures.gids is_open) in
-    inr (inr (omega arith, omega (arith, c.loop-place-test.true, c.requires), refl, λ (groups : List ℕ).
-    allowed_answer _ _ _ _ refl (found_here _ _ _ _ _ _ _ c.loop-place-test.true c.loop-place.invariant.0 c.split_grant-grant.ensures.grant (c.loop-place.invariant.1 groups) (ap (λ (found : Option Rule). is_none found) (fails groups ∙ c.in_default.is)))))
+    inr (inr (
+      omega arith,
+      omega (arith, c.loop-place-test.true, c.requires),
+      refl,
+      λ (groups : List ℕ).
+          allowed_answer _ _ _ _ refl (found_here _ _ _ _ _ _ _ c.loop-place-test.true c.loop-place.invariant.0 c.split_grant-grant.ensures.grant (c.loop-place.invariant.1 groups) (ap (λ (found : Option Rule). is_none found) (fails groups ∙ c.in_default.is))),
+    ))
 
 pub returns : goal.returns
 returns c = inr (inl (refl, λ (groups : List ℕ). denied_answer _ _ _ _ _ c.loop-place-test.false (c.loop-place.invariant.1 groups) (c.loop-place.invariant.2 groups)))
