@@ -81,11 +81,8 @@ fn is_plain_at_ends(bare: &[u8]) -> bool
     ensures names { IsTrue result → bare_names bare.now ≡ names_of bare.now }
     ensures fit { IsTrue result → IsTrue (are_few_and_short (names_of bare.now)) }
 {
-    if bare[0] == b'/' || bare[bare.len() - 1] == b'/' {
-        return false;
-    }
     let (is_found, slashes) = look_at_ends(bare);
-    if is_found {
+    if is_found || bare[0] == b'/' || bare[bare.len() - 1] == b'/' {
         return false;
     }
     slashes < 31
