@@ -54,7 +54,7 @@ fn is_plain(bare: &[u8]) -> bool
     ensures fit { IsTrue result → IsTrue (are_few_and_short (names_of bare.now)) }
 {
     if bare.len() <= LONG_PIECE {
-        is_parted(bare) && (is_short(bare) || has_fit_names(bare))
+        is_parted(bare) && has_few_names(bare)
     } else {
         is_long_plain(bare)
     }
@@ -194,6 +194,22 @@ fn is_short(path: &[u8]) -> bool
     ensures less { IsTrue result → length path.now ≤ 64 }
 {
     path.len() < 64
+}
+
+// Whether a text of one piece has neither too many nor too long names.
+#[inline(always)]
+#[tactic(auto, using(crate::proofs::Bare::few_parts))]
+fn has_few_names(bare: &[u8]) -> bool
+    requires { length bare.now ≤ 64 }
+    ensures { IsTrue result → IsTrue (are_few_and_short (names_of bare.now)) }
+{
+    if is_short(bare) {
+        return true;
+    }
+    if bare.is_empty() || bare[0] == b'/' {
+        return false;
+    }
+    usize::from(count_slashes(bare)) < MAX_NAMES
 }
 
 // The same as `is_plain`, of a path that is too long for its length to tell how many names it has.
